@@ -1,0 +1,14 @@
+pub mod Bits
+pub mod Bounds
+pub mod Law
+pub mod Loops
+pub mod Noted
+pub mod Rows
+pub mod Shapes
+pub mod Shown
+pub mod Slots
+pub mod StandardFacts
+pub mod StandardFrames
+pub mod Tables
+pub mod Told
+pub mod Whole

@@ -1,0 +1,11 @@
+pub mod Decoding
+pub mod Digits
+pub mod Encoding
+pub mod Fields
+pub mod Format
+pub mod Layout
+pub mod Parts
+pub mod Slots
+pub mod Sums
+pub mod Width
+pub mod Wrong

@@ -1,0 +1,116 @@
+//! The fields of a frame, and what is noted of them.
+
+ghost use Rattle.std.specs.Prelude.{◌≡◌};
+ghost use Rattle.irig_codes.specs.Decoding.{decoded, note_of, sbs_disagrees};
+ghost use Rattle.irig_codes.specs.Slots.{slots_at};
+ghost use Rattle.irig_codes.specs.Wrong.{first_wrong_field, is_stray_at, over, stray_from};
+
+use crate::digits::{digit, fields_from, read_digits};
+use crate::fields::Fields;
+use crate::format::Format;
+use crate::layout::{Digit, Slot, carried};
+use crate::note::{Name, Note};
+use crate::width::Element;
+
+/// The fields that a frame carries, and what is noted of them.
+///
+/// The order of the notes is this project's own choice.
+pub fn decode(format: Format, frame: &[Element; 100]) -> (Fields, Note)
+    ensures { result ≡ decoded format frame.now }
+{
+    let digits = read_digits(format, frame);
+    let fields = fields_from(format, &digits);
+    let wrong = first_wrong(&digits, &fields);
+    (
+        fields,
+        note(wrong, disagrees(&fields), first_stray(format, frame)),
+    )
+}
+
+/// The note of what was found.
+fn note(wrong: Option<Name>, disagrees: bool, stray: Option<u8>) -> Note
+    ensures { result ≡ note_of wrong disagrees stray }
+{
+    match (wrong, disagrees, stray) {
+        (Some(name), _, _) => Note::Field(name),
+        (None, true, _) => Note::SbsDisagrees,
+        (None, false, Some(element)) => Note::Stray(element),
+        (None, false, None) => Note::Fine,
+    }
+}
+
+/// Whether a decimal digit is above 9.
+fn is_over(digits: &[u64; 15], number: Digit) -> bool
+    ensures { result ≡ over digits.now number }
+{
+    digit(digits, number) > 9
+}
+
+/// The first field with a digit above 9, or out of its range.
+fn first_wrong(digits: &[u64; 15], fields: &Fields) -> Option<Name>
+    ensures { result ≡ first_wrong_field digits.now fields.now }
+{
+    if is_over(digits, Digit::HundredthsUnits) || is_over(digits, Digit::HundredthsTens) {
+        Some(Name::Hundredths)
+    } else if is_over(digits, Digit::SecondsUnits)
+        || is_over(digits, Digit::SecondsTens)
+        || fields.seconds > 60
+    {
+        Some(Name::Seconds)
+    } else if is_over(digits, Digit::MinutesUnits)
+        || is_over(digits, Digit::MinutesTens)
+        || fields.minutes > 59
+    {
+        Some(Name::Minutes)
+    } else if is_over(digits, Digit::HoursUnits)
+        || is_over(digits, Digit::HoursTens)
+        || fields.hours > 23
+    {
+        Some(Name::Hours)
+    } else if is_over(digits, Digit::DaysUnits)
+        || is_over(digits, Digit::DaysTens)
+        || is_over(digits, Digit::DaysHundreds)
+        || fields.days == 0
+        || fields.days > 366
+    {
+        Some(Name::Days)
+    } else if is_over(digits, Digit::YearUnits) || is_over(digits, Digit::YearTens) {
+        Some(Name::Year)
+    } else {
+        None
+    }
+}
+
+/// Whether the straight binary seconds are there and are not those of the time of day.
+fn disagrees(fields: &Fields) -> bool
+    ensures { result ≡ sbs_disagrees fields.now }
+{
+    match fields.sbs {
+        Some(sbs) => {
+            let time = 3_600 * fields.hours as u64
+                + 60 * fields.minutes as u64
+                + fields.seconds as u64;
+            sbs as u64 != time
+        }
+        None => false,
+    }
+}
+
+/// The first element, from 0, that is One and carries no bit.
+fn first_stray(format: Format, frame: &[Element; 100]) -> Option<u8>
+    ensures { result ≡ stray_from 0 (slots_at format) frame.now }
+{
+    for element in 0..100 {
+        if is_stray(carried(format, element), frame[element]) {
+            return Some(element as u8);
+        }
+    }
+    None
+}
+
+/// Whether an element is One and carries no bit.
+fn is_stray(slot: Slot, element: Element) -> bool
+    ensures { result ≡ is_stray_at slot element }
+{
+    element == Element::One && !matches!(slot, Slot::Bit(..))
+}

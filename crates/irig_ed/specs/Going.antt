@@ -1,0 +1,61 @@
+-- How far a part of a script has been obeyed, and what a line buffer holds of it. This project's
+-- own.
+use Rattle.std.specs.Prelude.{◌≡◌, ℕ, Bool, true, false, List, [], ◌∷◌, ◌++◌, length, take, min, nat_lt, Option, Some, None}
+use Rattle.irig_ed.specs.Machine.{Machine}
+use Rattle.irig_ed.specs.Script.{is_quit}
+use Rattle.irig_ed.specs.Answer.{Step, printed, reply_text}
+use Rattle.irig_ed.specs.Desk.{Desk, Tells, Puts, status_after}
+use Rattle.irig_ed.specs.Run.{Goes, IsPlain}
+use Rattle.irig_ed.specs.declared.reply.Reply.{Reply}
+use Rattle.irig_ed.specs.declared.status.Status.{Status}
+use Rattle.irig_ed.specs.declared.line.Line.{Line}
+
+-- the line buffer holds the text, as far as it has room
+pub record Holds (text : List ℕ) (line : Line) : Type 0 where
+  pub plain : IsPlain text
+  pub long : line.long ≡ nat_lt 1000 (length text)
+  pub len : line.len ≡ min 1000 (length text)
+  pub kept : take line.len line.bytes ≡ take line.len text
+
+-- the bytes were obeyed to a line that ends the script, or up to the front of a line, which the
+-- buffer holds
+abbrev pub Ends : Bool → List ℕ → Machine → List Reply → List (List ℕ) → Machine → Line → Type 0
+Ends true bytes old replies texts new line =
+    (quit : List ℕ) × (after : List ℕ) × IsPlain quit × (is_quit quit ≡ true)
+    × Goes bytes old replies texts new (quit ++ 10 ∷ after)
+Ends false bytes old replies texts new line =
+    (left : List ℕ) × Goes bytes old replies texts new left × Holds left line
+
+-- the replies to them were printed
+pub record Obeyed (ended : Bool) (from to : Desk) (before after : Status) (old new : Machine) (bytes : List ℕ) (line : Line) : Type 0 where
+  pub replies : List Reply
+  pub texts : List (List ℕ)
+  pub status : after ≡ status_after before replies
+  pub told : Tells from to (printed replies) replies texts
+  pub ends : Ends ended bytes old replies texts new line
+
+-- the last reply was not printed whole
+pub record BrokeIn (from to : Desk) (old new : Machine) (bytes : List ℕ) : Type 0 where
+  pub replies : List Reply
+  pub last : Reply
+  pub front : List ℕ
+  pub back : List ℕ
+  pub rest : List ℕ
+  pub texts : List (List ℕ)
+  pub part : reply_text last ≡ front ++ back
+  pub told : Tells from to (printed replies ++ front) (replies ++ last ∷ []) texts
+  pub goes : Goes bytes old (replies ++ last ∷ []) texts new rest
+
+-- a line was answered, or it ends the script and nothing has changed
+abbrev pub Answers : Option Reply → Machine → Machine → Line → Type 0
+Answers None old new line = ((text : List ℕ) → Holds text line → is_quit text ≡ true) × (new ≡ old)
+Answers (Some reply) old new line =
+    (text : List ℕ) → Holds text line → (is_quit text ≡ false) × Step old text reply new
+
+-- what was put for the answer
+abbrev pub PutsFor : Option Reply → Option (List (List ℕ)) → Option (List (List ℕ)) → ℕ → ℕ
+    → Machine → Type 0
+PutsFor None texts texts_new failures failures_new m =
+    (texts_new ≡ texts) × (failures_new ≡ failures)
+PutsFor (Some reply) texts texts_new failures failures_new m =
+    Puts texts texts_new failures failures_new m reply

@@ -1,0 +1,15 @@
+pub mod Edges
+pub mod Machine
+pub mod Outcome
+pub mod Kept
+pub mod Script
+pub mod Words
+pub mod Answer
+pub mod Desk
+pub mod Run
+pub mod Going
+pub mod ShelfView
+pub mod Front
+pub mod CommandLine
+pub mod Editing
+pub mod Laws

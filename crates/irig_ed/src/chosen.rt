@@ -1,0 +1,27 @@
+//! What a command line asks for.
+
+use std::alloc::AllocError;
+
+/// What a command line asks for.
+#[derive(Drop)]
+pub struct Settings<'a> {
+    /// The path of the dump.
+    pub track: &'a str,
+    /// The name of the wire in the dump, where one is given.
+    pub wire: Option<&'a str>,
+    /// The path that `write` writes: that of the dump, where none is given.
+    pub out: &'a str,
+}
+
+/// Why there are no settings.
+#[derive(Drop)]
+pub enum UsageFault {
+    /// The words are not those of the command line, or ask for help.
+    Words(clap::Error),
+}
+
+impl From<AllocError> for UsageFault {
+    fn from(error: AllocError) -> UsageFault {
+        UsageFault::Words(error.into())
+    }
+}

@@ -1,0 +1,55 @@
+//! A dump edited by a script.
+
+ghost use Rattle.std.specs.Prelude.{◌≡◌, ◌≤◌, ◌^◌, Err, IfOk, IfSome, length};
+ghost use Rattle.irig_vcd.specs.Dump.{dump};
+ghost use Rattle.irig_vcd.specs.Choices.{name_of};
+ghost use Rattle.irig_vcd.specs.Plays.{Fails};
+ghost use Rattle.irig_ed.specs.Desk.{desk};
+ghost use Rattle.irig_ed.specs.Editing.{Edited};
+ghost use Rattle.irig_vcd.specs.declared.fault.VcdFault.{VcdFault};
+
+use crate::engine;
+use crate::plain::Plain;
+use crate::shelf::Shelf;
+use crate::status::{RunFault, Status};
+use irig_vcd::VcdFault;
+use std::alloc::Global;
+use std::io::{Read, Write};
+
+/// Why a dump was not edited to the end of a script.
+#[derive(Clone, Copy, Debug, PartialEq, Eq)]
+pub enum EditFault {
+    /// The dump is no recording: no line of the script was read.
+    Dump(VcdFault),
+    /// The run of the script was broken off.
+    Run(RunFault),
+}
+
+/// Reads a dump and obeys a script on its recording, from the bytes that come in to those that go
+/// out. The wire is chosen by its name, where one is given.
+pub fn edit<R: Read, W: Write, S: Shelf>(
+    alloc: Global,
+    source: &[u8],
+    wire: Option<&[u8]>,
+    script: &mut R,
+    out: &mut W,
+    shelf: &mut S,
+) -> Result<Status, EditFault>
+    requires { length source.now ≤ 2 ^ 28 }
+    ensures ok { IfOk result (λ status. IfSome (R.remaining script.old) (Edited
+        (name_of wire.entry) source.now
+        (desk (W.contents out.old) (S.texts shelf.old) (S.failures shelf.old))
+        (desk (W.contents out.new) (S.texts shelf.new) (S.failures shelf.new)) status)) }
+    ensures fault { (e : VcdFault) → result ≡ Err (EditFault.Dump e)
+        → Fails e (dump (name_of wire.entry) source.now) }
+{
+    let recording = match irig_vcd::read(alloc, source, wire) {
+        Ok(recording) => recording,
+        Err(fault) => return Err(EditFault::Dump(fault)),
+    };
+    let mut session = Plain::open(alloc, recording);
+    match engine::run(&mut session, script, out, shelf) {
+        Ok(status) => Ok(status),
+        Err(fault) => Err(EditFault::Run(fault)),
+    }
+}

@@ -1,0 +1,8 @@
+//! A gap buffer: a list with a place where items come and go, and a capacity.
+#![tactic(auto)]
+
+mod gap;
+#[cfg(test)]
+mod tests;
+
+pub use gap::Gap;

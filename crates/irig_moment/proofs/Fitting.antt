@@ -1,0 +1,67 @@
+-- The fields of a generated frame fit its format.
+use Rattle.std.proofs.Common.{◌≡◌, ℕ, ◌+◌, ◌*◌, ◌/◌, ◌%◌, ◌^◌, ◌<◌, ◌≤◌, ◌==◌, ◌&&◌, nat_le, nat_lt, Bool, true, false, Option, refl, ap, mul-le-mul, arith}
+use Rattle.std.proofs.lemmas.Bool.Decides.{nat_tests}
+use Rattle.std.specs.Bool.{then_some}
+use Rattle.irig_codes.specs.Format.{FormatView, frame_period_of, has_hundredths, has_control, has_year, carries_sbs, control_count_of}
+use Rattle.irig_codes.specs.Fields.{fits_in, fits_part, is_in_range}
+use Rattle.irig_codes.specs.Decoding.{part}
+use Rattle.irig_codes.specs.declared.format.Kind.{Kind}
+use Rattle.irig_codes.specs.declared.format.Kind.TheVariants.{A, B, E, G}
+use Rattle.irig_codes.specs.declared.note.Name.TheVariants.{Hundredths, Seconds}
+use Rattle.irig_codes.specs.declared.fields.Fields.{Fields}
+use Rattle.irig_moment.specs.Generated.{period_of}
+
+at-most : (a b : ℕ) → a ≤ b → nat_le a b ≡ true
+at-most a b h = grind (arith, nat_tests)
+
+under : (a b : ℕ) → a < b → nat_lt a b ≡ true
+under a b h = grind (arith, nat_tests)
+
+is-zero : (v : ℕ) → v ≡ 0 → (v == 0) ≡ true
+is-zero v h = ap (λ n. n == 0) h
+
+pub both-true : (a b : Bool) → a ≡ true → b ≡ true → (a && b) ≡ true
+both-true a b p q = rw (p, q) refl
+
+hundredths-fit : (k : Kind) (t : ℕ) → t % 6000 % (frame_period_of k / 10000) ≡ 0 → fits_part (has_hundredths k) (is_in_range k Hundredths) (part (has_hundredths k) (t % 100)) ≡ true
+hundredths-fit A t h = both-true _ _ (at-most (t % 100) 99 (omega arith)) (is-zero (t % 100 % 10) (omega arith))
+hundredths-fit B t h = refl
+hundredths-fit E t h = refl
+hundredths-fit G t h = both-true _ _ (at-most (t % 100) 99 (omega arith)) (is-zero (t % 100 % 1) (omega arith))
+
+seconds-fit : (k : Kind) (t : ℕ) → t % 6000 % (frame_period_of k / 10000) ≡ 0 → is_in_range k Seconds (t / 100 % 60) ≡ true
+seconds-fit A t h = both-true _ _ (at-most (t / 100 % 60) 60 (omega arith)) (is-zero (t / 100 % 60 % 1) (omega arith))
+seconds-fit B t h = both-true _ _ (at-most (t / 100 % 60) 60 (omega arith)) (is-zero (t / 100 % 60 % 1) (omega arith))
+seconds-fit E t h = both-true _ _ (at-most (t / 100 % 60) 60 (omega arith)) (is-zero (t / 100 % 60 % 10) (omega arith))
+seconds-fit G t h = both-true _ _ (at-most (t / 100 % 60) 60 (omega arith)) (is-zero (t / 100 % 60 % 1) (omega arith))
+
+part-fit : (b : Bool) (p : ℕ → Bool) (v : ℕ) → p v ≡ true → fits_part b p (part b v) ≡ true
+part-fit true p v h = h
+part-fit false p v h = refl
+
+pub fields-fit : (f : FormatView) (t place year control : ℕ) → t < 8640000 → t % 6000 % period_of f ≡ 0 → 1 ≤ place → place ≤ 366 → control < 2 ^ control_count_of f →
+    (let g : Fields = record { hundredths = part (has_hundredths f.kind) (t % 100); seconds = t / 100 % 60; minutes = t / 6000 % 60; hours = t / 360000; days = place; year = part (has_year f.expression) (year % 100); sbs = part (carries_sbs f.kind f.expression) (t / 100); control = part (has_control f.expression) control } in fits_in f g ≡ true)
+fields-fit f t place year control h s p q c =
+    both-true _ _ (hundredths-fit f.kind t s)
+    (both-true _ _ (seconds-fit f.kind t s)
+    (both-true _ _ (at-most (t / 6000 % 60) 59 (omega arith))
+    (both-true _ _ (at-most (t / 360000) 23 (omega arith))
+    (both-true _ _ (both-true _ _ (at-most 1 place p) (at-most place 366 q))
+    (both-true _ _ (part-fit (has_year f.expression) (λ v. nat_le v 99) (year % 100) (at-most (year % 100) 99 (omega arith)))
+    (both-true _ _ (part-fit (carries_sbs f.kind f.expression) (λ v. nat_le v 86400) (t / 100) (at-most (t / 100) 86400 (omega arith)))
+    (part-fit (has_control f.expression) (λ v. nat_lt v (2 ^ control_count_of f)) control (under control (2 ^ control_count_of f) c))))))))
+
+pub parts-fit : (f : FormatView) (t place year control : ℕ) (h y b o : Option ℕ) → t < 8640000 → t % 6000 % period_of f ≡ 0 → 1 ≤ place → place ≤ 366 → control < 2 ^ control_count_of f →
+    h ≡ part (has_hundredths f.kind) (t % 100) → y ≡ part (has_year f.expression) (year % 100) → b ≡ part (carries_sbs f.kind f.expression) (t / 100) → o ≡ part (has_control f.expression) control →
+    (let g : Fields = record { hundredths = h; seconds = t / 100 % 60; minutes = t / 6000 % 60; hours = t / 360000; days = place; year = y; sbs = b; control = o } in fits_in f g ≡ true)
+parts-fit f t place year control h y b o s p q r c eh ey eb eo = rw (eh, ey, eb, eo) (fields-fit f t place year control s p q r c)
+
+-- how far a frame can lie from midnight
+pub elapsed-small : (h k p : ℕ) → h < 8640000 → k < 10000 → p ≤ 1000 → h + k * p < 18640000
+elapsed-small h k p a b c =
+    let most : k * p ≤ 9999 * 1000 = mul-le-mul {n₁ = k} {m₁ = p} {n₂ = 9999} {m₂ = 1000} (omega arith) c in
+    omega (arith, a, most)
+
+pub then-part : (b : Bool) (v : ℕ) → then_some b v ≡ part b v
+then-part true v = refl
+then-part false v = refl

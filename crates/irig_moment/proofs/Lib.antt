@@ -1,0 +1,5 @@
+pub mod Days
+pub mod Fitting
+pub mod Forms
+pub mod StandardFacts
+pub mod StandardFrames

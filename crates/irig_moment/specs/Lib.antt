@@ -1,0 +1,4 @@
+pub mod Calendar
+pub mod Generated
+pub mod Moment
+pub mod Written

@@ -1,0 +1,12 @@
+//! Moments in time, and the fields of the frames that tell them.
+#![tactic(auto)]
+
+mod calendar;
+mod generated;
+mod moment;
+mod written;
+
+pub use moment::Moment;
+
+#[cfg(test)]
+mod tests;

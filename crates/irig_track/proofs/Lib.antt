@@ -1,0 +1,16 @@
+pub mod Allowed
+pub mod Below
+pub mod Carried
+pub mod Finding
+pub mod Inverses
+pub mod Laws
+pub mod Meaning
+pub mod Moving
+pub mod Pairs
+pub mod Places
+pub mod Recordings
+pub mod Rising
+pub mod Sets
+pub mod Spans
+pub mod Standing
+pub mod Turns

@@ -1,0 +1,171 @@
+-- Laws of a rising list of edges.
+use Rattle.std.proofs.Common.{◌≡◌, ℕ, suc, zero, ◌+◌, ◌*◌, ◌<◌, ◌≤◌, ◌≢◌, ◌==◌, nat_lt, true, false, cond, not, List, [], ◌∷◌, ◌++◌, length, get_or, refl, sym, ap, ◌∙◌, subst, ◌⊎◌, inl, inr, arith}
+use Rattle.std.proofs.lemmas.Bool.Decides.{nat_tests}
+use Rattle.irig_vcd.specs.Recording.{RisesFrom, UpTo}
+use Rattle.irig_track.specs.Edges.{Under, has, edges_of}
+use Rattle.irig_track.specs.Toggles.{flipped, toggled}
+use Rattle.irig_track.specs.declared.pulse.Pulse.{Pulse}
+
+pub rises_low : (low : ℕ) (xs : List ℕ) (j : ℕ) → RisesFrom low xs → j < length xs → low ≤ get_or xs j 0
+rises_low low [] j h lt = absurd (omega arith)
+rises_low low (x ∷ xs) zero h lt = h.0
+rises_low low (x ∷ xs) (suc j) h lt = omega (arith, h.0, rises_low (x + 1) xs j h.1 (omega arith))
+
+pub rises_pairs : (low : ℕ) (xs : List ℕ) → RisesFrom low xs → (i j : ℕ) → i ≤ j → j < length xs → get_or xs i 0 ≤ get_or xs j 0
+rises_pairs low [] h i j le lt = absurd (omega arith)
+rises_pairs low (x ∷ xs) h zero zero le lt = omega arith
+rises_pairs low (x ∷ xs) h zero (suc j) le lt = omega (arith, rises_low (x + 1) xs j h.1 (omega arith))
+rises_pairs low (x ∷ xs) h (suc i) zero le lt = absurd (omega arith)
+rises_pairs low (x ∷ xs) h (suc i) (suc j) le lt = rises_pairs (x + 1) xs h.1 i j (omega arith) (omega arith)
+
+pub three : (a b : ℕ) → (a < b) ⊎ ((a ≡ b) ⊎ (b < a))
+three zero zero = inr (inl refl)
+three zero (suc b) = inl (omega arith)
+three (suc a) zero = inr (inr (omega arith))
+three (suc a) (suc b) = elim (three a b) [ inl h ↦ inl (omega arith) | inr r ↦ elim r [ inl h ↦ inr (inl (ap suc h)) | inr h ↦ inr (inr (omega arith)) ] ]
+
+pub flip_low : (t x : ℕ) (xs : List ℕ) → t < x → flipped t (x ∷ xs) ≡ t ∷ x ∷ xs
+flip_low t x xs h = grind (arith, nat_tests)
+
+pub flip_same : (t x : ℕ) (xs : List ℕ) → t ≡ x → flipped t (x ∷ xs) ≡ xs
+flip_same t x xs h = grind (arith, nat_tests)
+
+pub flip_high : (t x : ℕ) (xs : List ℕ) → x < t → flipped t (x ∷ xs) ≡ x ∷ flipped t xs
+flip_high t x xs h = grind (arith, nat_tests)
+
+pub rises_more : (low high : ℕ) (xs : List ℕ) → high ≤ low → RisesFrom low xs → RisesFrom high xs
+rises_more low high [] le h = tt
+rises_more low high (x ∷ xs) le h = (omega (arith, h.0), h.1)
+
+put_back : (t x : ℕ) (xs : List ℕ) → t ≡ x → RisesFrom (x + 1) xs → flipped t xs ≡ x ∷ xs
+put_back t x [] e h = ap (λ k. k ∷ []) e
+put_back t x (y ∷ ys) e h = flip_low t y ys (omega (arith, h.0)) ∙ ap (λ k. k ∷ y ∷ ys) e
+
+-- the order is kept
+pub RisesFrom-flipped : (low t : ℕ) (xs : List ℕ) → low ≤ t → RisesFrom low xs → RisesFrom low (flipped t xs)
+RisesFrom-flipped low t [] le h = (le, tt)
+RisesFrom-flipped low t (x ∷ xs) le h = elim (three t x) [
+  | inl lt ↦ rw (flip_low t x xs lt) (le, (omega arith, h.1))
+  | inr r ↦ elim r [
+    | inl e ↦ rw (flip_same t x xs e) (rises_more (x + 1) low xs (omega (arith, h.0)) h.1)
+    | inr gt ↦ rw (flip_high t x xs gt) (h.0, RisesFrom-flipped (x + 1) t xs (omega arith) h.1)
+  ]
+]
+
+-- a number twice flipped is as it was
+pub flipped-flipped : (low t : ℕ) (xs : List ℕ) → RisesFrom low xs → flipped t (flipped t xs) ≡ xs
+flipped-flipped low t [] h = flip_same t t [] refl
+flipped-flipped low t (x ∷ xs) h = elim (three t x) [
+  | inl lt ↦ ap (flipped t) (flip_low t x xs lt) ∙ flip_same t t (x ∷ xs) refl
+  | inr r ↦ elim r [
+    | inl e ↦ ap (flipped t) (flip_same t x xs e) ∙ put_back t x xs e h.1
+    | inr gt ↦ ap (flipped t) (flip_high t x xs gt) ∙ flip_high t x (flipped t xs) gt ∙ ap (λ ys. x ∷ ys) (flipped-flipped (x + 1) t xs h.1)
+  ]
+]
+
+pub has_here : (x u : ℕ) (xs : List ℕ) → x ≡ u → has u (x ∷ xs) ≡ true
+has_here x u xs e = grind (arith, nat_tests)
+
+pub has_there : (x u : ℕ) (xs : List ℕ) → x ≢ u → has u (x ∷ xs) ≡ has u xs
+has_there x u xs e = grind (arith, nat_tests)
+
+pub has_none : (low u : ℕ) (xs : List ℕ) → RisesFrom low xs → u < low → has u xs ≡ false
+has_none low u [] h lt = refl
+has_none low u (x ∷ xs) h lt = has_there x u xs (omega (arith, h.0)) ∙ has_none (x + 1) u xs h.1 (omega (arith, h.0))
+
+-- the membership of t alone is turned
+pub has-flipped_same : (low t : ℕ) (xs : List ℕ) → RisesFrom low xs → has t (flipped t xs) ≡ not (has t xs)
+has-flipped_same low t [] h = has_here t t [] refl
+has-flipped_same low t (x ∷ xs) h = elim (three t x) [
+  | inl lt ↦ ap (has t) (flip_low t x xs lt) ∙ has_here t t (x ∷ xs) refl ∙ ap not (sym (has_none (t + 1) t (x ∷ xs) (omega arith, h.1) (omega arith)))
+  | inr r ↦ elim r [
+    | inl e ↦ ap (has t) (flip_same t x xs e) ∙ has_none (x + 1) t xs h.1 (omega arith) ∙ ap not (sym (has_here x t xs (sym e)))
+    | inr gt ↦ ap (has t) (flip_high t x xs gt) ∙ has_there x t (flipped t xs) (omega arith) ∙ has-flipped_same (x + 1) t xs h.1 ∙ ap not (sym (has_there x t xs (omega arith)))
+  ]
+]
+
+pub has-flipped_other : (t u : ℕ) (xs : List ℕ) → t ≢ u → has u (flipped t xs) ≡ has u xs
+has-flipped_other t u [] ne = has_there t u [] ne
+has-flipped_other t u (x ∷ xs) ne = elim (three t x) [
+  | inl lt ↦ ap (has u) (flip_low t x xs lt) ∙ has_there t u (x ∷ xs) ne
+  | inr r ↦ elim r [
+    | inl e ↦ ap (has u) (flip_same t x xs e) ∙ sym (has_there x u xs (subst (λ k. k ≢ u) e ne))
+    | inr gt ↦ ap (has u) (flip_high t x xs gt) ∙ ap (λ b. cond (x == u) true b) (has-flipped_other t u xs ne)
+  ]
+]
+
+-- what lies above t stays
+pub flipped-before : (t : ℕ) (xs ys : List ℕ) → ((k : ℕ) → k < length ys → t < get_or ys k 0) → flipped t (xs ++ ys) ≡ flipped t xs ++ ys
+flipped-before t [] [] h = refl
+flipped-before t [] (y ∷ ys) h = flip_low t y ys (h 0 (omega arith))
+flipped-before t (x ∷ xs) ys h = elim (three t x) [
+  | inl lt ↦ flip_low t x (xs ++ ys) lt ∙ ap (λ zs. zs ++ ys) (sym (flip_low t x xs lt))
+  | inr r ↦ elim r [
+    | inl e ↦ flip_same t x (xs ++ ys) e ∙ ap (λ zs. zs ++ ys) (sym (flip_same t x xs e))
+    | inr gt ↦ flip_high t x (xs ++ ys) gt ∙ ap (λ zs. x ∷ zs) (flipped-before t xs ys h) ∙ ap (λ zs. zs ++ ys) (sym (flip_high t x xs gt))
+  ]
+]
+
+pub rises_strict : (low : ℕ) (xs : List ℕ) → RisesFrom low xs → (i j : ℕ) → i < j → j < length xs → get_or xs i 0 < get_or xs j 0
+rises_strict low [] h i j le lt = absurd (omega arith)
+rises_strict low (x ∷ xs) h i zero le lt = absurd (omega arith)
+rises_strict low (x ∷ xs) h zero (suc j) le lt = omega (arith, rises_low (x + 1) xs j h.1 (omega arith))
+rises_strict low (x ∷ xs) h (suc i) (suc j) le lt = rises_strict (x + 1) xs h.1 i j (omega arith) (omega arith)
+
+pub test_lt : (x y : ℕ) → x < y → nat_lt x y ≡ true
+test_lt x y h = grind (arith, nat_tests)
+
+pub test_ge : (x y : ℕ) → y ≤ x → nat_lt x y ≡ false
+test_ge x y h = grind (arith, nat_tests)
+
+pub test_eq : (x y : ℕ) → x ≡ y → (x == y) ≡ true
+test_eq x y h = grind (arith, nat_tests)
+
+pub test_ne : (x y : ℕ) → x ≢ y → (x == y) ≡ false
+test_ne x y h = grind (arith, nat_tests)
+
+-- flipped among edges that all lie above it
+pub above_all : (t low : ℕ) (xs : List ℕ) → t < low → RisesFrom low xs → flipped t xs ≡ t ∷ xs
+above_all t low [] h r = refl
+above_all t low (x ∷ xs) h r = flip_low t x xs (omega (arith, r.0))
+
+pub UpTo-flipped : (high t : ℕ) (xs : List ℕ) → t ≤ high → UpTo high xs → UpTo high (flipped t xs)
+UpTo-flipped high t [] le h = (le, tt)
+UpTo-flipped high t (x ∷ xs) le h = elim (three t x) [
+  | inl lt ↦ rw (flip_low t x xs lt) (le, h)
+  | inr r ↦ elim r [
+    | inl e ↦ rw (flip_same t x xs e) h.1
+    | inr gt ↦ rw (flip_high t x xs gt) (h.0, UpTo-flipped high t xs le h.1)
+  ]
+]
+
+pub flipped-past : (t : ℕ) (l ys : List ℕ) → Under t l → flipped t (l ++ ys) ≡ l ++ flipped t ys
+flipped-past t [] ys h = refl
+flipped-past t (x ∷ l) ys h = flip_high t x (l ++ ys) h.0 ∙ ap (λ zs. x ∷ zs) (flipped-past t l ys h.1)
+
+pub Under-more : (t u : ℕ) (l : List ℕ) → t ≤ u → Under t l → Under u l
+Under-more t u [] le h = tt
+Under-more t u (x ∷ l) le h = (omega (arith, h.0), Under-more t u l le h.1)
+
+pub toggled-past : (a b : ℕ) (l ys : List ℕ) → a < b → Under a l → toggled a b (l ++ ys) ≡ l ++ toggled a b ys
+toggled-past a b l ys lt h = ap (flipped b) (flipped-past a l ys h) ∙ flipped-past b l (flipped a ys) (Under-more a b l (omega arith) h)
+
+pub edges_of-append : (ps qs : List Pulse) → edges_of (ps ++ qs) ≡ edges_of ps ++ edges_of qs
+edges_of-append [] qs = refl
+edges_of-append (p ∷ ps) qs = ap (λ xs. p.rise ∷ p.fall ∷ xs) (edges_of-append ps qs)
+
+pub length-edges_of : (ps : List Pulse) → length (edges_of ps) ≡ 2 * length ps
+length-edges_of [] = refl
+length-edges_of (p ∷ ps) = omega (arith, length-edges_of ps)
+
+pub rises_left : (low : ℕ) (xs ys : List ℕ) → RisesFrom low (xs ++ ys) → RisesFrom low xs
+rises_left low [] ys h = tt
+rises_left low (x ∷ xs) ys h = (h.0, rises_left (x + 1) xs ys h.1)
+
+pub rises_right : (low : ℕ) (xs ys : List ℕ) → RisesFrom low (xs ++ ys) → RisesFrom low ys
+rises_right low [] ys h = h
+rises_right low (x ∷ xs) ys h = rises_more (x + 1) low ys (omega (arith, h.0)) (rises_right (x + 1) xs ys h.1)
+
+pub under_next : (low y : ℕ) (xs ys : List ℕ) → RisesFrom low (xs ++ (y ∷ ys)) → Under y xs
+under_next low y [] ys h = tt
+under_next low y (x ∷ xs) ys h = (omega (arith, (rises_right (x + 1) xs (y ∷ ys) h.1).0), under_next (x + 1) y xs ys h.1)

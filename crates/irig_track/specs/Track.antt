@@ -1,0 +1,22 @@
+-- A track: a length in microseconds, pulses in order, and a spare. This project's own.
+use Rattle.std.specs.Prelude.{ℕ, ◌≤◌, ◌^◌, List, length}
+use Rattle.irig_vcd.specs.Recording.{RisesFrom, UpTo}
+use Rattle.irig_track.specs.declared.pulse.Pulse.{Pulse}
+use Rattle.irig_track.specs.Edges.{edges_of}
+
+-- what a contract sees: the length, the pulses from 0, and how many more fit without a growth
+pub record TrackView : Type 0 where
+  pub micros : ℕ
+  pub pulses : List Pulse
+  pub spare : ℕ
+
+-- the three parts put together
+abbrev pub track_view : ℕ → List Pulse → ℕ → TrackView
+track_view n ps s = record { micros = n; pulses = ps; spare = s }
+
+-- a length and pulses within the limits, whose edges rise strictly and lie within the length
+pub record IsTrack (micros : ℕ) (pulses : List Pulse) : Type 0 where
+  pub short : micros ≤ 2 ^ 40
+  pub few : length pulses ≤ 2 ^ 22
+  pub rises : RisesFrom 0 (edges_of pulses)
+  pub within : UpTo micros (edges_of pulses)

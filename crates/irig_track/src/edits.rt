@@ -1,0 +1,184 @@
+//! The edits of a track: splice, shift and toggle, each with the test that it may be made.
+//!
+//! None of them takes memory or can fail: the test and the room come before.
+
+ghost use Rattle.std.specs.Prelude.{◌≡◌, ◌+◌, ◌-◌, ◌^◌, ◌<◌, ◌≤◌, ◌↔◌, ℕ, length, take, drop, [], IsTrue};
+ghost use Rattle.irig_track.specs.Edges.{edges_of, is_edge, replaced, inverted};
+ghost use Rattle.irig_track.specs.Free.{following, first_or};
+ghost use Rattle.irig_track.specs.Shifts.{shifted, moved, count_to, CanShift};
+ghost use Rattle.irig_track.specs.Splices.{spliced, piece, CanSplice, IsSpan};
+ghost use Rattle.irig_track.specs.Splices.{risen_by, ended_before};
+ghost use Rattle.irig_track.specs.Toggles.{toggled, CanToggle};
+ghost use Rattle.irig_track.specs.Track.{IsTrack};
+
+use crate::pulse::Pulse;
+use crate::shift::{ahead_of, back_of, move_pulses};
+use crate::span::Span;
+use crate::splice::carry;
+use crate::stands::stands;
+use crate::toggle::toggle_right;
+use crate::track::Track;
+use irig_gap::Gap;
+
+impl Track {
+    /// Whether a splice leaves a track within the limits: false too where the pulses that would
+    /// go are not there. `at` counts from 0.
+    pub fn can_splice(&self, at: usize, count: usize, put: &Gap<Pulse>) -> bool
+        ensures { IsTrue result ↔ CanSplice self.now.micros at count put.now.items self.now.pulses }
+    {
+        let len = self.len();
+        if at > len || count > len - at {
+            return false;
+        }
+        if put.len() > self.room() + count {
+            return false;
+        }
+        stands(put, self.free_from(at), self.free_to(at + count))
+    }
+
+    /// Puts the pulses of `put` in the stead of the `count` pulses from `at` on, which go to
+    /// `taken`. `at` counts from 0.
+    pub fn splice(
+        &mut self,
+        at: usize,
+        count: usize,
+        put: &mut Gap<Pulse>,
+        taken: &mut Gap<Pulse>,
+    ) -> Span
+        requires can { CanSplice self.old.micros at count put.old.items self.old.pulses }
+        requires spare { length put.old.items ≤ self.old.spare + count }
+        requires empty { taken.old.items ≡ [] }
+        requires room { count ≤ taken.old.capacity }
+        ensures pulses { self.new.pulses ≡ spliced at count put.old.items self.old.pulses }
+        ensures edges { (t : ℕ) →
+            is_edge t self.new.pulses ≡
+            replaced (edges_of taken.new.items) (edges_of put.old.items) t
+            (is_edge t self.old.pulses) }
+        ensures moved { (taken.new.items ≡ piece at count self.old.pulses) × (put.new.items ≡ []) }
+        ensures rest { (self.new.micros ≡ self.old.micros)
+            × (length self.new.pulses + self.new.spare ≡ length self.old.pulses + self.old.spare)
+            × (put.new.capacity ≡ put.old.capacity) × (taken.new.capacity ≡ taken.old.capacity) }
+        ensures span { (result.at ≡ at) × (result.old ≡ count)
+            × (result.new ≡ length put.old.items) }
+        ensures spanned { IsSpan result.at result.old result.new self.old.pulses self.new.pulses }
+    {
+        let _count = self.pulses.len();
+        self.pulses.move_to(at);
+        taken.move_to(0);
+        carry(&mut self.pulses, count, taken);
+        put.move_to(0);
+        let come = put.len();
+        carry(put, come, &mut self.pulses);
+        Span {
+            at,
+            old: count,
+            new: come,
+        }
+    }
+
+    /// Whether moving the pulses `i` to `j` by `by` microseconds leaves a track within the
+    /// limits: false too where one of them is not there. Pulses count from 0.
+    pub fn can_shift(&self, i: usize, j: usize, by: i64) -> bool
+        ensures { IsTrue result ↔ CanShift self.now.micros i j by self.now.pulses }
+    {
+        if i > j || j >= self.len() {
+            return false;
+        }
+        let first = self.pulse(i).rise + ahead_of(by);
+        let last = self.pulse(j).fall + ahead_of(by);
+        let back = back_of(by);
+        self.free_from(i) + back <= first && last < self.free_to(j + 1) + back
+    }
+
+    /// Moves the pulses `i` to `j`, both included and from 0, by `by` microseconds.
+    pub fn shift(&mut self, i: usize, j: usize, by: i64) -> Span
+        requires { CanShift self.old.micros i j by self.old.pulses }
+        ensures pulses { self.new.pulses ≡ shifted i j by self.old.pulses }
+        ensures edges { (t : ℕ) →
+            is_edge t self.new.pulses ≡
+            replaced (edges_of (piece i (count_to i j) self.old.pulses))
+            (edges_of (moved by (piece i (count_to i j) self.old.pulses))) t
+            (is_edge t self.old.pulses) }
+        ensures rest { (self.new.micros ≡ self.old.micros) × (self.new.spare ≡ self.old.spare) }
+        ensures span { (result.at ≡ i) × (result.old ≡ count_to i j) × (result.new ≡ count_to i j) }
+        ensures spanned { IsSpan result.at result.old result.new self.old.pulses self.new.pulses }
+    {
+        let count = j - i + 1;
+        move_pulses(&mut self.pulses, i, count, ahead_of(by), back_of(by));
+        Span {
+            at: i,
+            old: count,
+            new: count,
+        }
+    }
+
+    /// Whether toggling the edges `a` and `b`, in microseconds, leaves a track within the
+    /// limits: false too unless `a` is before `b` and `b` within the length.
+    pub fn can_toggle(&self, a: u64, b: u64) -> bool
+        ensures { IsTrue result ↔ CanToggle self.now.micros a b self.now.pulses }
+    {
+        if a >= b || b > self.length() {
+            return false;
+        }
+        self.room() > 0 || self.is_edge_at(a) || self.is_edge_at(b)
+    }
+
+    /// Makes the edges their symmetric difference with `a` and `b`, in microseconds: where an
+    /// edge stands it goes, and where none stands one comes.
+    ///
+    /// The Span holds the pulses that rise at or before `b` and fall at or after `a`, before and
+    /// afterwards.
+    pub fn toggle(&mut self, a: u64, b: u64) -> Span
+        requires can { CanToggle self.old.micros a b self.old.pulses }
+        requires spare { 0 < self.old.spare }
+        ensures pulses { edges_of self.new.pulses ≡ toggled a b (edges_of self.old.pulses) }
+        ensures edges { (t : ℕ) →
+            is_edge t self.new.pulses ≡ inverted a b t (is_edge t self.old.pulses) }
+        ensures rest { (self.new.micros ≡ self.old.micros)
+            × (length self.new.pulses + self.new.spare ≡ length self.old.pulses + self.old.spare) }
+        ensures old { (result.at ≡ ended_before a self.old.pulses)
+            × (result.at + result.old ≡ risen_by b self.old.pulses) }
+        ensures new { (result.at ≡ ended_before a self.new.pulses)
+            × (result.at + result.new ≡ risen_by b self.new.pulses) }
+        ensures spanned { IsSpan result.at result.old result.new self.old.pulses self.new.pulses }
+    {
+        let at = self.first_reaching(a);
+        let before = self.find(b);
+        self.pulses.move_to(at);
+        toggle_right(&mut self.pulses, a, b);
+        let end = self.pulses.gap_at();
+        let _count = self.pulses.len();
+        Span {
+            at,
+            old: before - at,
+            new: end - at,
+        }
+    }
+
+    /// The least time, in microseconds, at which a pulse may rise that comes before pulse `at`.
+    fn free_from(&self, at: usize) -> u64
+        requires { at ≤ length self.now.pulses }
+        ensures time { result ≡ following 0 (edges_of (take at self.now.pulses)) }
+        ensures within { result ≤ 2 ^ 40 + 1 }
+    {
+        if at == 0 {
+            0
+        } else {
+            self.pulse(at - 1).fall + 1
+        }
+    }
+
+    /// The time, in microseconds, before which a pulse has to fall that comes before pulse `at`.
+    fn free_to(&self, at: usize) -> u64
+        requires { at ≤ length self.now.pulses }
+        ensures time { result ≡
+            first_or (self.now.micros + 1) (edges_of (drop at self.now.pulses)) }
+        ensures within { result ≤ 2 ^ 40 + 1 }
+    {
+        if at < self.len() {
+            self.pulse(at).rise
+        } else {
+            self.length() + 1
+        }
+    }
+}

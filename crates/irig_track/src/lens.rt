@@ -1,0 +1,76 @@
+//! A track that counts the looks at its pulses.
+
+ghost use Rattle.std.specs.Prelude.{◌≡◌, ◌<◌, ◌≤◌, length, slice_get, Some};
+ghost use Rattle.irig_track.specs.Looks.{lens_view, counted};
+ghost use Rattle.irig_track.specs.Track.{IsTrack};
+
+use crate::pulse::Pulse;
+use crate::track::Track;
+use std::marker::Model;
+
+impl Track {
+    /// A lens on the track, which has counted no look.
+    pub fn lens(&self) -> Lens<'_>
+        ensures { result ≡ lens_view self.now 0 }
+    {
+        Lens {
+            track: self,
+            looks: 0,
+        }
+    }
+}
+
+/// Shows a track, and counts how often a pulse was looked at.
+///
+/// Who is handed a lens reaches the pulses through `pulse` alone, so its looks bound its work.
+#[derive(Drop)]
+pub struct Lens<'a> {
+    track: &'a Track,
+    looks: u64,
+}
+
+impl<'a> Model for Lens<'a> {
+    ghost use Rattle.irig_track.specs.Looks.{LensView, lens_view};
+
+    ghost Value = { LensView };
+
+    ghost view = { λ l. lens_view l.track.now l.looks };
+}
+
+impl<'a> Lens<'a> {
+    /// How many pulses the track has.
+    pub fn len(&self) -> usize
+        ensures len { result ≡ length self.now.track.pulses }
+        ensures track { IsTrack self.now.track.micros self.now.track.pulses }
+    {
+        self.track.len()
+    }
+
+    /// How long the track is, in microseconds.
+    pub fn length(&self) -> u64
+        ensures length { result ≡ self.now.track.micros }
+        ensures track { IsTrack self.now.track.micros self.now.track.pulses }
+    {
+        self.track.length()
+    }
+
+    /// The pulse at `index`, from 0. It is counted as a look.
+    pub fn pulse(&mut self, index: usize) -> Pulse
+        requires { index < length self.old.track.pulses }
+        ensures value { slice_get self.old.track.pulses index ≡ Some result }
+        ensures order { (result.rise < result.fall) × (result.fall ≤ self.old.track.micros) }
+        ensures track { IsTrack self.old.track.micros self.old.track.pulses }
+        ensures counted { self.new ≡ lens_view self.old.track (counted self.old.looks 1) }
+    {
+        let looks = &mut self.looks;
+        *looks = looks.saturating_add(1);
+        self.track.pulse(index)
+    }
+
+    /// How often `pulse` was called. The count stays at 2^64 - 1 once it is there.
+    pub fn looks(&self) -> u64
+        ensures { result ≡ self.now.looks }
+    {
+        self.looks
+    }
+}

@@ -1,0 +1,20 @@
+//! A track of pulses: a length and times of rise and fall, and its edits.
+#![tactic(auto)]
+
+mod edits;
+mod lens;
+mod pulse;
+mod shift;
+mod sides;
+mod span;
+mod splice;
+mod stands;
+#[cfg(test)]
+mod tests;
+mod toggle;
+mod track;
+
+pub use lens::Lens;
+pub use pulse::Pulse;
+pub use span::Span;
+pub use track::Track;

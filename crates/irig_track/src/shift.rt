@@ -1,0 +1,49 @@
+//! Moves pulses in time.
+
+ghost use Rattle.std.specs.Prelude.{◌≡◌, ◌+◌, ◌-◌, ◌^◌, ◌<◌, ◌≤◌, length, map};
+ghost use Rattle.irig_gap.specs.Items.{gap_view};
+ghost use Rattle.irig_vcd.specs.Recording.{UpTo};
+ghost use Rattle.irig_track.specs.Edges.{edges_of};
+ghost use Rattle.irig_track.specs.Shifts.{moved_pulse, ahead, back};
+ghost use Rattle.irig_track.specs.Splices.{spliced, piece};
+
+use crate::pulse::Pulse;
+use irig_gap::Gap;
+
+/// By how many microseconds a distance goes on: 0 where it goes back.
+pub(crate) fn ahead_of(by: i64) -> u64
+    ensures distance { result ≡ ahead by }
+    ensures within { result < 2 ^ 63 }
+{
+    if by < 0 { 0 } else { by.unsigned_abs() }
+}
+
+/// By how many microseconds a distance goes back: 0 where it goes on.
+pub(crate) fn back_of(by: i64) -> u64
+    ensures distance { result ≡ back by }
+    ensures within { result ≤ 2 ^ 63 }
+{
+    if by < 0 { by.unsigned_abs() } else { 0 }
+}
+
+/// Moves `count` pulses from `at` on by `on` microseconds, and then back by `off`.
+pub(crate) fn move_pulses(pulses: &mut Gap<Pulse>, at: usize, count: usize, on: u64, off: u64)
+    requires there { at + count ≤ length pulses.old.items }
+    requires short { UpTo (2 ^ 40) (edges_of pulses.old.items) }
+    requires within { on < 2 ^ 63 }
+    ensures { pulses.new ≡
+        gap_view
+        (spliced at count (map (moved_pulse on off) (piece at count pulses.old.items))
+        pulses.old.items)
+        pulses.old.place pulses.old.capacity }
+{
+    let _count = pulses.len();
+    let mut moved = 0;
+    while moved < count {
+        let pulse = pulses.get(at + moved);
+        let rise = (pulse.rise + on).saturating_sub(off);
+        let fall = (pulse.fall + on).saturating_sub(off);
+        pulses.set(at + moved, Pulse { rise, fall });
+        moved += 1;
+    }
+}

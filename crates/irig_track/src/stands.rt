@@ -1,0 +1,25 @@
+//! Whether pulses can stand between two times.
+
+ghost use Rattle.std.specs.Prelude.{◌≡◌, ◌+◌, ◌<◌, ◌≤◌, ◌++◌, ◌∷◌, [], length, IsTrue, ◌↔◌};
+ghost use Rattle.irig_vcd.specs.Recording.{RisesFrom};
+ghost use Rattle.irig_track.specs.Edges.{edges_of};
+
+use crate::pulse::Pulse;
+use irig_gap::Gap;
+
+/// Whether the pulses rise in order from `start` on, and end before `high`.
+pub(crate) fn stands(put: &Gap<Pulse>, start: u64, high: u64) -> bool
+    ensures { IsTrue result ↔ RisesFrom start (edges_of put.now.items ++ high ∷ []) }
+{
+    let mut low = start;
+    let mut index = 0;
+    while index < put.len() {
+        let pulse = put.get(index);
+        if pulse.rise < low || pulse.fall <= pulse.rise || pulse.fall >= high {
+            return false;
+        }
+        low = pulse.fall + 1;
+        index += 1;
+    }
+    low <= high
+}

@@ -1,0 +1,179 @@
+//! A length and pulses in order.
+
+ghost use Rattle.std.specs.Prelude.{◌≡◌, ◌+◌, ◌-◌, ◌^◌, ◌/◌, ◌<◌, ◌≤◌, ℕ, length, [], slice_get, Some};
+ghost use Rattle.std.specs.Prelude.{Bool, true, IfOk, OnOk, OnErr};
+ghost use Rattle.irig_vcd.specs.Recording.{recording_view, is_even_long};
+ghost use Rattle.irig_gap.specs.Items.{gap_view};
+ghost use Rattle.irig_track.specs.Edges.{edges_of, is_edge};
+ghost use Rattle.irig_track.specs.Splices.{risen_by, ended_before};
+ghost use Rattle.irig_track.specs.Track.{IsTrack};
+
+use crate::pulse::Pulse;
+use irig_gap::Gap;
+use irig_vcd::Recording;
+use std::alloc::{AllocError, Global};
+use std::marker::Model;
+
+/// The most pulses of a track.
+const PULSES_LIMIT: usize = 1 << 22;
+
+/// A length and pulses, in microseconds. The edges rise strictly and lie within the length.
+///
+/// The limits are a length of 2^40 microseconds and 2^22 pulses.
+#[derive(Drop)]
+pub struct Track {
+    pub(crate) micros: u64,
+    pub(crate) pulses: Gap<Pulse>,
+}
+
+impl Model for Track {
+    ghost use Rattle.std.specs.Prelude.{◌-◌, length};
+    ghost use Rattle.irig_track.specs.Track.{TrackView, track_view, IsTrack};
+
+    ghost Value = { TrackView };
+
+    ghost view = { λ t. track_view t.micros t.pulses.items
+        (t.pulses.capacity - length t.pulses.items) };
+
+    ghost invariant = { λ t. IsTrack t.micros t.pulses.items };
+}
+
+impl Track {
+    /// The track with the recording's length and edges. A refusal drops the recording.
+    pub fn new(alloc: Global, recording: Recording) -> Result<Track, AllocError>
+        ensures length { IfOk result (λ t. t.micros ≡ recording.micros) }
+        ensures edges { IfOk result (λ t. edges_of t.pulses ≡ recording.edges) }
+    {
+        let edges = recording.edges();
+        let mut pulses = Gap::new(alloc);
+        pulses.reserve(edges.len() / 2)?;
+        put_pairs(&mut pulses, edges);
+        Ok(Track {
+            micros: recording.length(),
+            pulses,
+        })
+    }
+
+    /// The recording with the track's length and edges.
+    pub fn recording(&self, alloc: Global) -> Result<Recording, AllocError>
+        ensures { IfOk result (λ r. r ≡ recording_view self.now.micros (edges_of self.now.pulses)) }
+    {
+        let mut edges = Vec::with_capacity(alloc, 2 * self.pulses.len())?;
+        for index in 0..self.pulses.len() {
+            let pulse = self.pulses.get(index);
+            edges.push(pulse.rise)?;
+            edges.push(pulse.fall)?;
+        }
+        match Recording::new(self.micros, edges) {
+            Ok(recording) => Ok(recording),
+            Err(_) => unreachable!(),
+        }
+    }
+
+    /// Makes the spare at least `more`: so many further pulses then fit without a growth.
+    pub fn reserve(&mut self, more: usize) -> Result<(), AllocError>
+        ensures stays { (self.new.micros ≡ self.old.micros) × (self.new.pulses ≡ self.old.pulses) }
+        ensures room { OnOk result (more ≤ self.new.spare) }
+        ensures grows { self.old.spare ≤ self.new.spare }
+        ensures enough { more ≤ self.old.spare → self.new ≡ self.old }
+        ensures unchanged { OnErr result (self.new ≡ self.old) }
+        ensures refused { OnErr result (self.old.spare < more) }
+    {
+        let _count = self.pulses.len();
+        self.pulses.reserve(more)
+    }
+
+    /// How many pulses there are.
+    pub fn len(&self) -> usize
+        ensures len { result ≡ length self.now.pulses }
+        ensures track { IsTrack self.now.micros self.now.pulses }
+    {
+        self.pulses.len()
+    }
+
+    /// How long the track is, in microseconds.
+    pub fn length(&self) -> u64
+        ensures length { result ≡ self.now.micros }
+        ensures track { IsTrack self.now.micros self.now.pulses }
+    {
+        self.micros
+    }
+
+    /// How many more pulses the limit of 2^22 lets in.
+    pub fn room(&self) -> usize
+        ensures { result + length self.now.pulses ≡ 2 ^ 22 }
+    {
+        PULSES_LIMIT - self.pulses.len()
+    }
+
+    /// The pulse at `index`, from 0.
+    pub fn pulse(&self, index: usize) -> Pulse
+        requires { index < length self.now.pulses }
+        ensures value { slice_get self.now.pulses index ≡ Some result }
+        ensures order { (result.rise < result.fall) × (result.fall ≤ self.now.micros) }
+        ensures track { IsTrack self.now.micros self.now.pulses }
+    {
+        self.pulses.get(index)
+    }
+
+    /// How many pulses rise at or before `time`, in microseconds.
+    pub fn find(&self, time: u64) -> usize
+        ensures count { result ≡ risen_by time self.now.pulses }
+        ensures within { result ≤ length self.now.pulses }
+        ensures track { IsTrack self.now.micros self.now.pulses }
+    {
+        let mut low = 0;
+        let mut high = self.pulses.len();
+        while low < high {
+            let middle = low + (high - low) / 2;
+            if self.pulses.get(middle).rise <= time {
+                low = middle + 1;
+            } else {
+                high = middle;
+            }
+        }
+        low
+    }
+
+    /// How many pulses end before `time`, in microseconds.
+    pub(crate) fn first_reaching(&self, time: u64) -> usize
+        ensures { result ≡ ended_before time self.now.pulses }
+    {
+        let risen = self.find(time);
+        if risen > 0 && self.pulse(risen - 1).fall >= time {
+            risen - 1
+        } else {
+            risen
+        }
+    }
+
+    /// Whether a pulse rises or falls at `time`, in microseconds.
+    pub(crate) fn is_edge_at(&self, time: u64) -> bool
+        ensures { result ≡ is_edge time self.now.pulses }
+    {
+        let risen = self.find(time);
+        if risen == 0 {
+            return false;
+        }
+        let last = self.pulse(risen - 1);
+        last.rise == time || last.fall == time
+    }
+}
+
+/// Puts a pulse for each two edges, all in order.
+fn put_pairs(pulses: &mut Gap<Pulse>, edges: &[u64])
+    requires empty { pulses.old.items ≡ [] }
+    requires even { is_even_long edges.now ≡ true }
+    requires room { length edges.now / 2 ≤ pulses.old.capacity }
+    ensures { edges_of pulses.new.items ≡ edges.now }
+{
+    let mut index = 0;
+    while edges.len() - index > 1 {
+        pulses.move_to(pulses.len());
+        pulses.put(Pulse {
+            rise: edges[index],
+            fall: edges[index + 1],
+        });
+        index += 2;
+    }
+}

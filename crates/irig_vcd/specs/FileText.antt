@@ -1,0 +1,47 @@
+-- The dump that is written of a recording. The form is IEEE 1364-2005, clause 18; that it is this one is this project's own.
+use Rattle.std.specs.Prelude.{◌≡◌, ◌==◌, ◌&&◌, ◌++◌, ℕ, Bool, true, false, not, List, [], ◌∷◌, codes, decimal, nat_lt, if◌then◌else◌}
+use Rattle.std.specs.List.{list_any}
+use Rattle.irig_vcd.specs.Recording.{RecordingView}
+
+-- the lines before the first level
+unfoldable pub head_text : List ℕ
+head_text = codes "$timescale 1 us $end\n$scope module irig $end\n$var wire 1 ! code $end\n$upscope $end\n$enddefinitions $end\n#0\n$dumpvars\n"
+
+-- the line that sets a time in microseconds
+abbrev pub time_line : ℕ → List ℕ
+time_line time = 35 ∷ decimal time ++ 10 ∷ []
+
+-- the line 1! or 0!
+abbrev pub level_line : Bool → List ℕ
+level_line high = (if high then 49 else 48) ∷ 33 ∷ 10 ∷ []
+
+-- each edge with its level, the first of them high or low
+abbrev pub edge_lines : Bool → List ℕ → List ℕ
+edge_lines high [] = []
+edge_lines high (edge ∷ edges) = time_line edge ++ level_line high ++ edge_lines (not high) edges
+
+-- whether the level is high from 0 on
+abbrev pub begins_high : List ℕ → Bool
+begins_high [] = false
+begins_high (edge ∷ edges) = edge == 0
+
+-- the edges above 0
+abbrev pub later_edges : List ℕ → List ℕ
+later_edges [] = []
+later_edges (edge ∷ edges) = if edge == 0 then edges else edge ∷ edges
+
+-- the line that sets the length, unless an edge stands there or it is 0
+abbrev pub end_line : RecordingView → List ℕ
+end_line r =
+    if nat_lt 0 r.micros && not (list_any (λ edge. edge == r.micros) r.edges) then time_line r.micros else []
+
+-- the lines before the first edge above 0
+abbrev pub header_text : Bool → List ℕ
+header_text high = head_text ++ level_line high ++ codes "$end\n"
+
+-- all lines
+unfoldable pub file_text : RecordingView → List ℕ
+file_text r =
+    header_text (begins_high r.edges)
+    ++ edge_lines (not (begins_high r.edges)) (later_edges r.edges)
+    ++ end_line r

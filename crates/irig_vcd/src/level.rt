@@ -1,0 +1,102 @@
+//! The edges of a level that is told by its changes.
+
+ghost use Rattle.std.specs.Prelude.{◌≡◌, ◌≤◌, ◌∷◌, [], ◌++◌, ℕ, List, All, AllPairs, OnOk, OnErr, IfOk, map, length, take, if◌then◌else◌};
+ghost use Rattle.irig_vcd.specs.Level.{edges_of, edges_kept, differs, Follows};
+ghost use Rattle.irig_vcd.specs.declared.level.Change.{Change};
+
+use crate::recording::EDGES_LIMIT;
+use std::alloc::{AllocError, Global};
+
+/// The level from a time on.
+#[derive(Clone, Copy, Debug, PartialEq, Eq)]
+pub struct Change {
+    pub time: u64,
+    pub high: bool,
+}
+
+/// The edges before a time, and the levels there.
+#[derive(Drop)]
+pub struct Reader {
+    time: u64,
+    before: bool,
+    now: bool,
+    edges: Vec<u64>,
+}
+
+impl Reader {
+    pub fn new(alloc: Global) -> Reader
+        ensures start { result.time ≡ 0 }
+        ensures follows { Follows [] result }
+    {
+        Reader {
+            time: 0,
+            before: false,
+            now: false,
+            edges: Vec::new(alloc),
+        }
+    }
+
+    /// Goes on to a time.
+    fn advance(&mut self, time: u64) -> Result<(), AllocError>
+        requires { self.old.time ≤ time }
+        ensures ok { OnOk result
+            ((changes : List Change) → Follows changes self.old → Follows changes self.new) }
+        ensures time { OnOk result (self.new.time ≡ time) }
+    {
+        if time <= self.time {
+            return Ok(());
+        }
+        keep(&mut self.edges, differ(self.now, self.before), self.time)?;
+        self.before = self.now;
+        self.time = time;
+        Ok(())
+    }
+
+    /// Takes the next change.
+    pub fn put(&mut self, change: Change) -> Result<(), AllocError>
+        requires { self.old.time ≤ change.time }
+        ensures ok { OnOk result
+            ((changes : List Change) → Follows changes self.old
+            → Follows (changes ++ change ∷ []) self.new) }
+        ensures time { OnOk result (self.new.time ≡ change.time) }
+    {
+        self.advance(change.time)?;
+        self.now = change.high;
+        Ok(())
+    }
+
+    /// The edges of a recording that ends at a time.
+    pub fn finish(mut self, end: u64) -> Result<Vec<u64>, AllocError>
+        requires { self.time ≤ end }
+        ensures { IfOk result
+            (λ edges. (changes : List Change) → Follows changes self
+            → edges.items ≡ take edges_kept (edges_of changes end)) }
+    {
+        self.advance(end)?;
+        keep(&mut self.edges, self.before, end)?;
+        Ok(self.edges)
+    }
+}
+
+/// Whether two levels differ.
+pub fn differ(level: bool, other: bool) -> bool
+    ensures { result ≡ differs level other }
+{
+    level != other
+}
+
+/// Puts an edge, where there is one, behind the others, unless there is one too many already.
+fn keep(edges: &mut Vec<u64>, is_edge: bool, edge: u64) -> Result<(), AllocError>
+    ensures { OnOk result
+        ((all : List ℕ) → edges.old.items ≡ take edges_kept all
+        → edges.new.items ≡ take edges_kept (all ++ (if is_edge then edge ∷ [] else []))) }
+{
+    if !is_edge {
+        return Ok(());
+    }
+    if edges.len() > EDGES_LIMIT {
+        return Ok(());
+    }
+    edges.push(edge)?;
+    Ok(())
+}

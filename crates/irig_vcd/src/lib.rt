@@ -1,0 +1,28 @@
+//! Dumps of a digital wire: what a value change dump says of one wire, read and written.
+#![tactic(auto)]
+
+mod changes;
+mod event;
+mod fault;
+mod header;
+mod law;
+mod level;
+#[cfg(test)]
+mod plain;
+mod reader;
+mod recording;
+mod section;
+#[cfg(test)]
+mod tests;
+mod time;
+mod timescale;
+mod token;
+mod variable;
+mod writer;
+
+pub use fault::VcdFault;
+pub use law::read_back;
+pub use reader::read;
+pub use recording::Recording;
+pub use token::{Kind, Token, Tokens};
+pub use writer::text;
