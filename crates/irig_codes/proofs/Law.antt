@@ -7,7 +7,8 @@ use Rattle.std.proofs.lemmas.Nat.{pow_pos}
 use Rattle.irig_codes.specs.Format.{FormatView, has_hundredths, has_control, has_sbs, has_year, carries_sbs, control_count_of}
 use Rattle.irig_codes.specs.Encoding.{run}
 use Rattle.irig_codes.specs.Fields.{fits_part, hundredths_step, seconds_step, fits_in}
-use Rattle.irig_codes.specs.Decoding.{part, sbs_disagrees, note_of}
+use Rattle.irig_codes.specs.Fields.{part}
+use Rattle.irig_codes.specs.Notes.{sbs_disagrees, note_of}
 use Rattle.irig_codes.specs.Slots.{slots_at}
 use Rattle.irig_codes.specs.Digits.{digits_of, fields_of, value_at, digits_read, element_of}
 use Rattle.irig_codes.specs.Wrong.{first_wrong_field, is_stray_at, stray_from}

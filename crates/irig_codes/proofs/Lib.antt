@@ -3,6 +3,7 @@ pub mod Bounds
 pub mod Law
 pub mod Loops
 pub mod Noted
+pub mod Presence
 pub mod Rows
 pub mod Shapes
 pub mod Shown

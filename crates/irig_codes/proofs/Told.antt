@@ -5,7 +5,8 @@ use Rattle.std.proofs.lemmas.List.{drop_more, get_or-map}
 use Rattle.irig_codes.specs.Format.{FormatView, has_hundredths, has_control, has_sbs, has_year, carries_sbs}
 use Rattle.irig_codes.specs.Layout.{decimal, sbs, control, Row, rows_of}
 use Rattle.irig_codes.specs.Encoding.{run}
-use Rattle.irig_codes.specs.Decoding.{counts, is_one, sum_of, value_of, part, fields_read}
+use Rattle.irig_codes.specs.Fields.{part}
+use Rattle.irig_codes.specs.Reading.{counts, is_one, sum_of, value_of, fields_read}
 use Rattle.irig_codes.specs.Slots.{slots_at, number_of}
 use Rattle.irig_codes.specs.Digits.{fields_of, weight_at, value_at, digits_read}
 use Rattle.irig_codes.proofs.Slots.{get-run, length-run, length-slots}

@@ -1,6 +1,6 @@
--- The fields of a frame and their ranges, after IRIG Standard 200-04; which parts are there in which
--- format, and that second 60 is carried, is this project's own choice.
-use Rattle.std.specs.Prelude.{ℕ, ◌%◌, ◌^◌, ◌==◌, ◌&&◌, nat_lt, nat_le, Bool, true, false, Option, Some, None, unwrap_or}
+-- The fields of a frame and their ranges, after IRIG Standard 200-04; that second 60 is carried, and
+-- the range of the straight binary seconds, are this project's own choice.
+use Rattle.std.specs.Prelude.{ℕ, ◌%◌, ◌^◌, ◌==◌, ◌&&◌, nat_lt, nat_le, Bool, true, false, if◌then◌else◌, Option, Some, None, unwrap_or}
 use Rattle.irig_codes.specs.declared.format.Kind.{Kind}
 use Rattle.irig_codes.specs.declared.format.Kind.TheVariants.{A, E}
 use Rattle.irig_codes.specs.declared.note.Name.{Name}
@@ -34,6 +34,10 @@ fits_part true p (Some v) = p v
 fits_part true p None = false
 fits_part false p (Some v) = false
 fits_part false p None = true
+
+-- a part, where it is there
+abbrev pub part : Bool → ℕ → Option ℕ
+part there v = if there then Some v else None
 
 -- whether a frame of the format can carry the fields
 abbrev pub fits_in : FormatView → Fields → Bool

@@ -4,7 +4,9 @@ pub mod Encoding
 pub mod Fields
 pub mod Format
 pub mod Layout
+pub mod Notes
 pub mod Parts
+pub mod Reading
 pub mod Slots
 pub mod Sums
 pub mod Width

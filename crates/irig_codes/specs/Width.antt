@@ -18,11 +18,13 @@ band_of Position = record { from = 13; to = 19 }
 
 -- whether a width lies in a band, at an interval
 abbrev pub is_in_band : ℕ → ℕ → Band → Bool
-is_in_band interval width b = nat_le (b.from * interval) (20 * width) && nat_lt (20 * width) (b.to * interval)
+is_in_band interval width b =
+    nat_le (b.from * interval) (20 * width) && nat_lt (20 * width) (b.to * interval)
 
 -- the element in whose band a width lies
 abbrev pub class_of : FormatView → ℕ → Option Element
-class_of f width = find (λ e. is_in_band (interval_of f.kind) width (band_of e)) (Zero ∷ One ∷ Position ∷ [])
+class_of f width =
+    find (λ e. is_in_band (interval_of f.kind) width (band_of e)) (Zero ∷ One ∷ Position ∷ [])
 
 -- how far two numbers are apart
 abbrev pub gap_of : ℕ → ℕ → ℕ

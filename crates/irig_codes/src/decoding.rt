@@ -1,7 +1,8 @@
 //! The fields of a frame, and what is noted of them.
 
 ghost use Rattle.std.specs.Prelude.{◌≡◌};
-ghost use Rattle.irig_codes.specs.Decoding.{decoded, note_of, sbs_disagrees};
+ghost use Rattle.irig_codes.specs.Decoding.{decoded};
+ghost use Rattle.irig_codes.specs.Notes.{note_of, sbs_disagrees};
 ghost use Rattle.irig_codes.specs.Slots.{slots_at};
 ghost use Rattle.irig_codes.specs.Wrong.{first_wrong_field, is_stray_at, over, stray_from};
 

@@ -1,6 +1,7 @@
 //! Formats: a kind of time code with an expression that it permits.
 
 ghost use Rattle.std.specs.Prelude.{IsTrue, ◌≡◌, IfOk, IsOk, ◌↔◌};
+ghost use Rattle.irig_codes.specs.Width.{is_in_step};
 ghost use Rattle.irig_codes.specs.Format.{is_permitted, interval_of, frame_period_of, has_hundredths, has_control, has_sbs, has_year, carries_sbs};
 
 use std::marker::Model;
@@ -75,7 +76,8 @@ impl Format {
     /// The index count interval, from the rise of one element to that of the next, in
     /// microseconds.
     pub fn interval(&self) -> u64
-        ensures { result ≡ interval_of self.now.kind }
+        ensures value { result ≡ interval_of self.now.kind }
+        ensures in_step { IsTrue (is_in_step self.now result) }
     {
         match self.kind {
             Kind::A => 1_000,

@@ -1,6 +1,7 @@
 //! Elements of a frame, told by the widths of pulses and the steps between them.
 
-ghost use Rattle.std.specs.Prelude.{◌≡◌};
+ghost use Rattle.std.specs.Prelude.{◌≡◌, ◌<◌};
+ghost use Rattle.irig_codes.specs.Format.{interval_of};
 ghost use Rattle.irig_codes.specs.Width.{class_of, is_in_step, nominal_of};
 
 use crate::format::Format;
@@ -43,9 +44,11 @@ pub fn in_step(format: Format, distance: u64) -> bool
     9 * tenth <= distance && distance <= 11 * tenth
 }
 
-/// The width in microseconds that a pulse of this element is made with.
+/// The width in microseconds that a pulse of this element is made with; it is told as the element.
 pub fn nominal(format: Format, element: Element) -> u64
-    ensures { result ≡ nominal_of format element }
+    ensures value { result ≡ nominal_of format element }
+    ensures told { class_of format result ≡ Some element }
+    ensures narrow { result < interval_of format.kind }
 {
     let tenth = format.interval() / 10;
     match element {

@@ -1,19 +1,57 @@
 -- Undo and redo over whole runs.
-use Rattle.std.proofs.Common.{◌≡◌, ◌==◌, ◌∷◌, [], ℕ, zero, suc, Some, Bool, true, false, List, length, codes, refl, ap, sym, ◌∙◌, subst}
+use Rattle.std.proofs.Common.{◌≡◌, ◌==◌, ◌∷◌, [], ℕ, zero, suc, Some, Bool, true, false, if◌then◌else◌, List, length, codes, eqb-true, refl, ap, sym, ◌∙◌, subst}
 use Rattle.irig_vcd.specs.Recording.{recording_view}
 use Rattle.irig_ed.specs.Machine.{State, Machine, machine, back, undone, redone}
 use Rattle.irig_ed.specs.Outcome.{Inverts, RefusesInvert, Undoes, RefusesUndo, Redoes, RefusesRedo}
-use Rattle.irig_ed.specs.Script.{Means, words_of}
+use Rattle.irig_ed.specs.Script.{Means, words_of, number_after}
 use Rattle.irig_ed.specs.Answer.{Step, Obeys, Edits}
 use Rattle.irig_ed.specs.Desk.{is_refusal}
 use Rattle.irig_ed.specs.Run.{Runs}
-use Rattle.irig_ed.specs.Laws.{OneInverted, EditUndone, GivesBack, AllAsk, accepted}
+use Rattle.irig_ed.specs.Laws.{OneCommand, OneInverted, EditUndone, GivesBack, AllAsk, accepted}
 use Rattle.irig_ed.specs.declared.command.Command.{Command}
 use Rattle.irig_ed.specs.declared.command.Command.TheVariants.{Nothing, Write, Quit, Invert, Undo, Redo}
 use Rattle.irig_ed.specs.declared.refusal.Refusal.{Refusal}
 use Rattle.irig_ed.specs.declared.reply.Reply.{Reply}
 use Rattle.irig_ed.specs.declared.reply.Reply.TheVariants.{Silent, Written, Refused, BadLine, LineTooLong, WriteFailed}
 use Rattle.irig_ed.proofs.EdgeLemmas.{only_list}
+
+-- the first byte of the first word
+abbrev first_byte : List (List ℕ) → ℕ
+first_byte [] = 0
+first_byte ([] ∷ words) = 0
+first_byte ((b ∷ bs) ∷ words) = b
+
+-- the numbers of the second and third word
+abbrev second_number : List (List ℕ) → ℕ
+second_number (word ∷ x ∷ words) = number_after 0 x
+second_number _ = 0
+
+abbrev third_number : List (List ℕ) → ℕ
+third_number (word ∷ x ∷ y ∷ words) = number_after 0 y
+third_number _ = 0
+
+-- the command that begins with a byte
+abbrev of_byte : ℕ → ℕ → ℕ → Command
+of_byte b x y =
+    if b == 119 then Write
+    else (if b == 113 then Quit
+    else (if b == 105 then Invert x y else (if b == 117 then Undo else (if b == 114 then Redo else Nothing))))
+
+abbrev meant : List (List ℕ) → Command
+meant words = of_byte (first_byte words) (second_number words) (third_number words)
+
+only_meant : (c : Command) (words : List (List ℕ)) → Means c words → c ≡ meant words
+only_meant Nothing [] h = refl
+only_meant Nothing ([] ∷ words) h = absurd (cc)
+only_meant Nothing ((b ∷ bs) ∷ words) h = sym (ap (λ k. of_byte k (second_number ((b ∷ bs) ∷ words)) (third_number ((b ∷ bs) ∷ words))) (eqb-true b 35 h))
+only_meant Write words h = sym (ap meant h)
+only_meant Quit words h = sym (ap meant h)
+only_meant (Invert a b) words h = (λ j. Invert (h.3.value j) (h.4.value j)) ∙ sym (ap meant h.2)
+only_meant Undo words h = sym (ap meant h)
+only_meant Redo words h = sym (ap meant h)
+
+pub one_command : OneCommand
+one_command one other words h k = only_meant one words h ∙ sym (only_meant other words k)
 
 pub one_inverted : OneInverted
 one_inverted a b old one other h k =
@@ -83,12 +121,6 @@ refused_stays old new line (Refused why) e h = stays h.1.0 old new (Refused why)
 refused_stays old new line BadLine e h = h.2
 refused_stays old new line LineTooLong e h = h.1
 refused_stays old new line WriteFailed e h = stays h.1.0 old new WriteFailed e h.1.2
-
--- the first byte of the first word
-abbrev first_byte : List (List ℕ) → ℕ
-first_byte [] = 0
-first_byte ([] ∷ words) = 0
-first_byte ((b ∷ bs) ∷ words) = b
 
 redo_or_undo : codes "redo" ∷ [] ≡ codes "undo" ∷ [] → ⊥
 redo_or_undo e = let bad : false ≡ true = ap (λ l. first_byte l == 117) e in absurd (cc)

@@ -10,6 +10,12 @@ use Rattle.irig_ed.specs.declared.command.Command.{Command}
 use Rattle.irig_ed.specs.declared.command.Command.TheVariants.{Undo, Redo}
 use Rattle.irig_ed.specs.declared.reply.Reply.{Reply}
 
+-- words ask for one command at most
+abbrev pub OneCommand : Type 0
+OneCommand =
+    (one other : Command) (words : List (List ℕ)) → Means one words → Means other words
+    → one ≡ other
+
 -- the edges that an `invert` leaves are determined by their membership
 abbrev pub OneInverted : Type 0
 OneInverted =

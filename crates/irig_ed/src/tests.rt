@@ -2,4 +2,5 @@
 
 mod command_lines;
 mod failing_ends;
+mod refused_growths;
 mod rows;

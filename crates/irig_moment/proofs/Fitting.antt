@@ -4,7 +4,7 @@ use Rattle.std.proofs.lemmas.Bool.Decides.{nat_tests}
 use Rattle.std.specs.Bool.{then_some}
 use Rattle.irig_codes.specs.Format.{FormatView, frame_period_of, has_hundredths, has_control, has_year, carries_sbs, control_count_of}
 use Rattle.irig_codes.specs.Fields.{fits_in, fits_part, is_in_range}
-use Rattle.irig_codes.specs.Decoding.{part}
+use Rattle.irig_codes.specs.Fields.{part}
 use Rattle.irig_codes.specs.declared.format.Kind.{Kind}
 use Rattle.irig_codes.specs.declared.format.Kind.TheVariants.{A, B, E, G}
 use Rattle.irig_codes.specs.declared.note.Name.TheVariants.{Hundredths, Seconds}

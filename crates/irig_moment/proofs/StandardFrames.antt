@@ -2,7 +2,7 @@
 use Rattle.std.proofs.Common.{◌≡◌, ℕ, ◌+◌, ◌/◌, ◌%◌, ◌<◌, ◌≤◌, Some, None, pos, ap, ◌∙◌, arith}
 use Rattle.jiff_core.specs.Calendar.{days_in_year}
 use Rattle.irig_codes.specs.Format.{FormatView, has_hundredths, has_control, has_year, carries_sbs}
-use Rattle.irig_codes.specs.Decoding.{part}
+use Rattle.irig_codes.specs.Fields.{part}
 use Rattle.irig_codes.specs.declared.format.Kind.{Kind}
 use Rattle.irig_codes.specs.declared.format.Kind.TheVariants.{A, B, E, G}
 use Rattle.irig_codes.specs.declared.fields.Fields.{Fields}

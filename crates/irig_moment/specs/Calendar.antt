@@ -30,13 +30,15 @@ is_year y = nat_le 1 y && nat_le y 9998
 
 -- the number of a day told by its place in the year, where there is such a day
 abbrev pub ordinal_day_of : ℕ → ℕ → Option ℕ
-ordinal_day_of y d = if is_year y && (nat_le 1 d && nat_le d (days_in_year (pos y))) then Some (new_year_of y + (d - 1)) else None
+ordinal_day_of y d =
+    if is_year y && (nat_le 1 d && nat_le d (days_in_year (pos y)))
+    then Some (new_year_of y + (d - 1)) else None
 
 -- the number of a day told by month and day, where there is such a day
 abbrev pub civil_day_of : ℕ → ℕ → ℕ → Option ℕ
 civil_day_of y m d =
-    if is_year y && (nat_le 1 m && nat_le m 12) && (nat_le 1 d && nat_le d (days_in_month (pos y) m)) then Some (day_number y m d)
-    else None
+    if is_year y && (nat_le 1 m && nat_le m 12) && (nat_le 1 d && nat_le d (days_in_month (pos y) m))
+    then Some (day_number y m d) else None
 
 -- a day from the year 1 to the year 9998
 pub record IsDay (day : ℕ) : Type 0 where

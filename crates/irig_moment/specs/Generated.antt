@@ -1,8 +1,8 @@
--- The fields of the frames that are generated from a moment on: this project's own, for the frames of
--- IRIG Standard 200-04. No second is inserted or left out.
+-- The fields of the frames that are generated from a moment on: this project's own, for the frames
+-- of IRIG Standard 200-04. No second is inserted or left out.
 use Rattle.std.specs.Prelude.{ℕ, ◌+◌, ◌*◌, ◌/◌, ◌%◌, ◌==◌, Bool}
 use Rattle.irig_codes.specs.Format.{FormatView, frame_period_of, has_hundredths, has_control, has_year, carries_sbs}
-use Rattle.irig_codes.specs.Decoding.{part}
+use Rattle.irig_codes.specs.Fields.{part}
 use Rattle.irig_codes.specs.declared.fields.Fields.{Fields}
 use Rattle.irig_moment.specs.Calendar.{year_of, place_of}
 use Rattle.irig_moment.specs.Moment.{MomentView}
@@ -34,4 +34,6 @@ fields_at f day time control = record {
 
 -- the fields of frame k from a moment on
 abbrev pub frame_fields : FormatView → MomentView → ℕ → ℕ → Fields
-frame_fields f m k control = fields_at f (m.day + elapsed f m k / 8640000) (elapsed f m k % 8640000) control
+frame_fields f m k control =
+    let time = elapsed f m k in
+    fields_at f (m.day + time / 8640000) (time % 8640000) control

@@ -26,7 +26,8 @@ number_at text i n = digits_after 0 (take n (drop i text))
 -- the hundredths of a second from midnight to a time, where there is such a time
 abbrev pub hundredths_of : ℕ → ℕ → ℕ → ℕ → Option ℕ
 hundredths_of h m s c =
-    if (nat_le h 23 && nat_le m 59) && (nat_le s 59 && nat_le c 99) then Some (360000 * h + 6000 * m + 100 * s + c) else None
+    if (nat_le h 23 && nat_le m 59) && (nat_le s 59 && nat_le c 99)
+    then Some (360000 * h + 6000 * m + 100 * s + c) else None
 
 -- the moment of a day and a time, where both are there
 abbrev pub both : Option ℕ → Option ℕ → Option MomentView
@@ -34,25 +35,34 @@ both (Some day) (Some hundredths) = Some (record { day = day; hundredths = hundr
 both (Some _) None = None
 both None _ = None
 
--- the day of YYYY-DDD, and of YYYY-MM-DD
+-- the day that a text begins with as YYYY-DDD
 abbrev pub ordinal_date : List ℕ → Option ℕ
 ordinal_date text = ordinal_day_of (number_at text 0 4) (number_at text 5 3)
 
+-- the day that a text begins with as YYYY-MM-DD
 abbrev pub civil_date : List ℕ → Option ℕ
 civil_date text = civil_day_of (number_at text 0 4) (number_at text 5 2) (number_at text 8 2)
 
--- the time hh:mm:ss, or hh:mm:ss.ff, that begins at a place of a text
+-- the time that stands at a place of a text as hh:mm:ss
 abbrev pub time_at : List ℕ → ℕ → Option ℕ
-time_at text i = hundredths_of (number_at text i 2) (number_at text (i + 3) 2) (number_at text (i + 6) 2) 0
+time_at text i =
+    hundredths_of (number_at text i 2) (number_at text (i + 3) 2) (number_at text (i + 6) 2) 0
 
+-- the time that stands at a place of a text as hh:mm:ss.ff
 abbrev pub fine_time_at : List ℕ → ℕ → Option ℕ
-fine_time_at text i = hundredths_of (number_at text i 2) (number_at text (i + 3) 2) (number_at text (i + 6) 2) (number_at text (i + 9) 2)
+fine_time_at text i =
+    hundredths_of (number_at text i 2) (number_at text (i + 3) 2) (number_at text (i + 6) 2)
+    (number_at text (i + 9) 2)
 
--- the moment that a text is, if it is one of the four forms
+-- the moment that a text tells, if it has one of the four forms
 abbrev pub moment_of : List ℕ → Option MomentView
 moment_of text =
-    if has_form_of (codes "0000-000T00:00:00") text then both (ordinal_date text) (time_at text 9)
-    else if has_form_of (codes "0000-000T00:00:00.00") text then both (ordinal_date text) (fine_time_at text 9)
-    else if has_form_of (codes "0000-00-00T00:00:00") text then both (civil_date text) (time_at text 11)
-    else if has_form_of (codes "0000-00-00T00:00:00.00") text then both (civil_date text) (fine_time_at text 11)
+    if has_form_of (codes "0000-000T00:00:00") text
+    then both (ordinal_date text) (time_at text 9)
+    else if has_form_of (codes "0000-000T00:00:00.00") text
+    then both (ordinal_date text) (fine_time_at text 9)
+    else if has_form_of (codes "0000-00-00T00:00:00") text
+    then both (civil_date text) (time_at text 11)
+    else if has_form_of (codes "0000-00-00T00:00:00.00") text
+    then both (civil_date text) (fine_time_at text 11)
     else None

@@ -6,6 +6,9 @@ ghost use Rattle.irig_moment.specs.Calendar.{new_year_of, year_of, place_of, ord
 use jiff::civil::date;
 use jiff_core::civil::{Date, days_in_month, days_in_year};
 
+/// The last year of a moment; the first is 1.
+const LAST_YEAR: u32 = 9_998;
+
 /// The number of 1 January of a year.
 fn new_year(year: u32) -> u32
     requires low { 1 ≤ year }
@@ -20,7 +23,7 @@ pub fn ordinal_day(year: u32, day: u32) -> Option<u32>
     ensures value { result ≡ ordinal_day_of year day }
     ensures range { IfSome result IsDay }
 {
-    if year < 1 || year > 9998 {
+    if year < 1 || year > LAST_YEAR {
         return None;
     }
     if day < 1 || day > days_in_year(year as i16) as u32 {
@@ -34,7 +37,7 @@ pub fn civil_day(year: u32, month: u32, day: u32) -> Option<u32>
     ensures value { result ≡ civil_day_of year month day }
     ensures range { IfSome result IsDay }
 {
-    if year < 1 || year > 9998 || month < 1 || month > 12 {
+    if year < 1 || year > LAST_YEAR || month < 1 || month > 12 {
         return None;
     }
     if day < 1 || day > days_in_month(year as i16, month as u8) as u32 {

@@ -89,7 +89,8 @@ pub fn time(text: &[u8], place: usize) -> Option<u32>
     )
 }
 
-/// The hundredths of a second to the time `hh:mm:ss.ff` at a place of a text, if there is such a time.
+/// The hundredths of a second to the time `hh:mm:ss.ff` at a place of a text, if there is such a
+/// time.
 pub fn fine_time(text: &[u8], place: usize) -> Option<u32>
     requires { place + 11 ≤ length text.now }
     ensures value { result ≡ fine_time_at text.now place }

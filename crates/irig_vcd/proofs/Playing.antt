@@ -1,5 +1,5 @@
 -- The changes, a token at a time.
-use Rattle.std.proofs.Common.{◌≡◌, ◌≤◌, ◌<◌, ◌+◌, ◌++◌, ◌∷◌, [], ℕ, zero, suc, Bool, true, false, cond, List, length, Result, Ok, Err, refl, ap, sym, ◌∙◌, arith, append_assoc}
+use Rattle.std.proofs.Common.{◌≡◌, ◌≤◌, ◌++◌, ◌∷◌, [], ℕ, zero, suc, Bool, true, false, List, length, Result, Ok, Err, refl, ap, sym, arith, append_assoc}
 use Rattle.irig_vcd.specs.Words.{Word}
 use Rattle.irig_vcd.specs.Answer.{◌>>=◌}
 use Rattle.irig_vcd.specs.Times.{micros_of, time_of}

@@ -1,24 +1,22 @@
 -- What is written is read back.
-use Rattle.std.proofs.Common.{◌≡◌, ◌⊎◌, ◌<◌, ◌≤◌, ◌+◌, ◌++◌, ◌∷◌, ◌==◌, ◌^◌, [], ℕ, zero, suc, Bool, true, false, not, List, length, cond, codes, Option, None, Result, Ok, Err, refl, ap, sym, ◌∙◌, arith, inl, inr, append_assoc, subst}
+use Rattle.std.proofs.Common.{◌≡◌, ◌≤◌, ◌+◌, ◌++◌, ◌∷◌, ◌==◌, [], ℕ, Bool, true, false, not, List, length, codes, None, Ok, refl, ap, sym, ◌∙◌, arith, inl, inr, append_assoc, subst}
 use Rattle.std.specs.List.{list_any}
 use Rattle.std.proofs.lemmas.Bool.{le-ltb, cases_eq, eq-eqb, ne_eqb}
 use Rattle.std.proofs.lemmas.List.{append-nil}
-use Rattle.irig_vcd.specs.Answer.{◌>>=◌}
 use Rattle.irig_vcd.specs.Words.{Word, words_from}
 use Rattle.irig_vcd.specs.Sections.{head_of}
 use Rattle.irig_vcd.specs.Scales.{exponent_of}
 use Rattle.irig_vcd.specs.Variables.{declared_by, variable_of}
 use Rattle.irig_vcd.specs.Declarations.{declarations_of}
-use Rattle.irig_vcd.specs.Event.{is_mark, pair_of}
+use Rattle.irig_vcd.specs.Event.{is_mark}
 use Rattle.irig_vcd.specs.Times.{time_of, micros_of}
 use Rattle.irig_vcd.specs.Changes.{played}
 use Rattle.irig_vcd.specs.Level.{edges_of}
 use Rattle.irig_vcd.specs.Dump.{dump, words_of, recorded}
 use Rattle.irig_vcd.specs.FileText.{file_text, head_text, header_text, edge_lines, begins_high, later_edges, end_line}
-use Rattle.irig_vcd.specs.Recording.{RisesFrom, UpTo, is_even_long, RecordingView, recording_view, IsRecording}
+use Rattle.irig_vcd.specs.Recording.{RisesFrom, UpTo, RecordingView, recording_view, IsRecording}
 use Rattle.irig_vcd.specs.declared.level.Change.{Change}
-use Rattle.irig_vcd.specs.declared.fault.VcdFault.{VcdFault}
-use Rattle.irig_vcd.specs.declared.token.Kind.TheVariants.{Dollar, Hash, Scalar}
+use Rattle.irig_vcd.specs.declared.token.Kind.TheVariants.{Dollar, Hash}
 use Rattle.irig_vcd.proofs.Playing.{behind}
 use Rattle.irig_vcd.proofs.Reading.{behind_start}
 use Rattle.irig_vcd.proofs.WrittenEdges.{turns, high_edges, low_edges}

@@ -1,7 +1,7 @@
 -- Words, a byte at a time.
 use Rattle.std.proofs.Common.{◌≡◌, ◌<◌, ◌≤◌, ◌+◌, ◌-◌, ◌++◌, ◌∷◌, [], ℕ, suc, Bool, true, false, cond, List, length, drop, take, get_or, refl, ap, sym, ◌∙◌, add-one, arith, drop-cons}
-use Rattle.std.proofs.lemmas.List.{append-nil, append_assoc, length-drop, get_or-drop}
-use Rattle.std.proofs.Math.Seq.{take-suc, take-length}
+use Rattle.std.proofs.lemmas.List.{append_assoc, length-drop, get_or-drop}
+use Rattle.std.proofs.Math.Seq.{take-suc}
 use Rattle.std.proofs.Math.ListN.{drop_of_length-le}
 use Rattle.std.proofs.lemmas.Bool.{cases_lt}
 use Rattle.std.proofs.Common.{inl, inr}

@@ -1,14 +1,14 @@
 -- Times in two parts, against the number of units that they show.
-use Rattle.std.proofs.Common.{◌≡◌, ◌≤◌, ◌<◌, ◌+◌, ◌-◌, ◌*◌, ◌/◌, ◌%◌, ◌^◌, ◌==◌, ◌&&◌, ◌||◌, ℕ, zero, suc, List, [], ◌∷◌, length, take, drop, min, Bool, true, false, nat_lt, not, None, Some, refl, ap, sym, ◌∙◌, arith, lit<, lit≤, inl, inr, ◌⊎◌, subst}
+use Rattle.std.proofs.Common.{◌≡◌, ◌≤◌, ◌<◌, ◌+◌, ◌-◌, ◌*◌, ◌/◌, ◌%◌, ◌^◌, ◌==◌, ◌&&◌, ℕ, List, length, take, drop, min, true, false, nat_lt, not, None, Some, refl, ap, sym, ◌∙◌, arith, lit<, inl, inr, subst}
 use Rattle.std.specs.List.{list_all}
-use Rattle.std.proofs.Math.Nat.{mul-le-mul_right, pow-le-pow_right, div-lt_iff_lt-mul, div-mul-le_self, div-le_self, lt-div-mul-add, add-mul}
+use Rattle.std.proofs.Math.Nat.{mul-le-mul_right, pow-le-pow_right, div-lt_iff_lt-mul, div-mul-le_self, div-le_self, add-mul}
 use Rattle.std.proofs.lemmas.Nat.{div-mul-add, div-add-mod', mod_below}
-use Rattle.std.proofs.lemmas.Bool.{cases_lt, lt-ltb, le-ltb, ltb-true, ltb-false, eqb-true, eqb-false, or_cases, or_parts, and_parts, and_cases, eq-eqb, and_left, and_right, and_from, not_from_false, ne_eqb, cases_Bool}
+use Rattle.std.proofs.lemmas.Bool.{cases_lt, lt-ltb, le-ltb, ltb-true, ltb-false, eqb-true, eqb-false, or_cases, or_parts, and_parts, and_cases, and_left, and_right, and_from, not_from_false, ne_eqb, cases_Bool}
 use Rattle.std.proofs.lemmas.List.{length-drop, take-append-drop}
 use Rattle.std.proofs.lemmas.List.Folds.{list_all-append}
 use Rattle.irig_vcd.specs.Digits.{is_digit, number_from}
 use Rattle.irig_vcd.specs.Digits.{is_number}
-use Rattle.irig_vcd.specs.Times.{micros_of, units_of, factor_of, limit_of, capped_from, IsTime, Shows, precedes}
+use Rattle.irig_vcd.specs.Times.{micros_of, units_of, limit_of, capped_from, IsTime, Shows, precedes}
 use Rattle.irig_vcd.specs.declared.time.Clock.{Clock}
 use Rattle.irig_vcd.proofs.Digits.{cut_number, bounded}
 use Rattle.irig_vcd.proofs.Clocks.{ten_power}

@@ -1,16 +1,14 @@
 -- The changes of the lines that are written.
-use Rattle.std.proofs.Common.{◌≡◌, ◌⊎◌, ◌<◌, ◌≤◌, ◌+◌, ◌-◌, ◌*◌, ◌/◌, ◌^◌, ◌++◌, ◌∷◌, ◌&&◌, ◌==◌, [], ℕ, zero, suc, Bool, true, false, not, List, length, cond, nat_lt, decimal, codes, Result, Ok, Err, refl, ap, sym, ◌∙◌, arith, inl, inr, append_assoc}
+use Rattle.std.proofs.Common.{◌≡◌, ◌≤◌, ◌+◌, ◌++◌, ◌∷◌, ◌&&◌, ◌==◌, [], ℕ, zero, suc, Bool, true, false, not, List, length, nat_lt, decimal, Result, Ok, Err, refl, ap, sym, ◌∙◌, arith, inl, inr, append_assoc}
 use Rattle.std.specs.List.{list_any}
 use Rattle.std.proofs.lemmas.List.{append-nil}
-use Rattle.std.proofs.lemmas.Bool.{le-ltb, ltb-false, and_cases, cases_Bool, eqb-true, eqb-false, or_cases, not-false, false≢true}
-use Rattle.irig_vcd.specs.Answer.{◌>>=◌}
+use Rattle.std.proofs.lemmas.Bool.{le-ltb, ltb-false, and_cases, cases_Bool, eqb-true, or_cases, not-false, false≢true}
 use Rattle.irig_vcd.specs.Words.{Word, words_from, rest_of}
-use Rattle.irig_vcd.specs.Digits.{number_from}
 use Rattle.irig_vcd.specs.Times.{time_of, micros_of}
 use Rattle.irig_vcd.specs.Event.{event_by, pair_of}
 use Rattle.irig_vcd.specs.Changes.{played, is_hash}
 use Rattle.irig_vcd.specs.FileText.{time_line, level_line, edge_lines, end_line}
-use Rattle.irig_vcd.specs.Recording.{RisesFrom, UpTo, RecordingView, recording_view}
+use Rattle.irig_vcd.specs.Recording.{RisesFrom, UpTo, recording_view}
 use Rattle.irig_vcd.specs.declared.fault.VcdFault.{VcdFault}
 use Rattle.irig_vcd.specs.declared.level.Change.{Change}
 use Rattle.irig_vcd.specs.declared.event.Event.TheVariants as event
@@ -18,7 +16,7 @@ use Rattle.irig_vcd.specs.declared.token.Kind.TheVariants.{Scalar}
 use Rattle.irig_vcd.proofs.DecimalLemmas.{spells, decimal_is_number}
 use Rattle.irig_vcd.proofs.Playing.{behind, on_time, on_event, behind_none}
 use Rattle.irig_vcd.proofs.WrittenEdges.{turns}
-use Rattle.irig_vcd.proofs.WrittenWords.{TimeWord, time_word, level_word, level_words}
+use Rattle.irig_vcd.proofs.WrittenWords.{time_word, level_word, level_words}
 
 -- a unit of ten to the nine femtoseconds is a microsecond
 pub same_micros : (t : ℕ) → micros_of 9 t ≡ t

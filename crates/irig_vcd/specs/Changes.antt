@@ -1,5 +1,5 @@
 -- The changes of a wire, one after the other: IEEE 1364-2005, clause 18.
-use Rattle.std.specs.Prelude.{◌≡◌, ℕ, zero, suc, Bool, true, false, List, [], ◌∷◌, Result, Ok, Err, if◌then◌else◌}
+use Rattle.std.specs.Prelude.{ℕ, zero, suc, Bool, true, false, List, [], ◌∷◌, Result, Ok, Err, if◌then◌else◌}
 use Rattle.irig_vcd.specs.Answer.{◌>>=◌}
 use Rattle.irig_vcd.specs.Event.{event_by, pair_of}
 use Rattle.irig_vcd.specs.Times.{time_of, micros_of}
@@ -12,6 +12,7 @@ use Rattle.irig_vcd.specs.declared.level.Change.{Change}
 use Rattle.irig_vcd.specs.declared.token.Kind.{Kind}
 use Rattle.irig_vcd.specs.declared.token.Kind.TheVariants.{Hash}
 
+-- a word that sets a time
 abbrev pub is_hash : Kind → Bool
 is_hash Hash = true
 is_hash _ = false

@@ -1,5 +1,5 @@
 -- What a dump says of a wire: IEEE 1364-2005, clause 18; the wire, the levels and the limits are this project's own.
-use Rattle.std.specs.Prelude.{◌≡◌, ℕ, false, List, length, Option, Result, Ok, Err, nat_lt, if◌then◌else◌}
+use Rattle.std.specs.Prelude.{ℕ, false, List, length, Option, Result, Ok, Err, nat_lt, if◌then◌else◌}
 use Rattle.irig_vcd.specs.Words.{Word, words_from}
 use Rattle.irig_vcd.specs.Answer.{◌>>=◌}
 use Rattle.irig_vcd.specs.Declarations.{declarations_of}

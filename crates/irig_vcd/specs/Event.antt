@@ -1,5 +1,5 @@
 -- What a token of the changes says: IEEE 1364-2005, clause 18; the levels are this project's own.
-use Rattle.std.specs.Prelude.{◌≡◌, ◌-◌, ◌==◌, ◌||◌, ℕ, Bool, not, List, [], ◌∷◌, length, Result, Ok, Err, if◌then◌else◌, codes, nat_lt, slice_index}
+use Rattle.std.specs.Prelude.{◌-◌, ◌==◌, ◌||◌, ℕ, Bool, not, List, [], ◌∷◌, length, Result, Ok, Err, if◌then◌else◌, codes, nat_lt, slice_index}
 use Rattle.std.specs.Str.{bytes_eq}
 use Rattle.irig_vcd.specs.Answer.{◌>>=◌}
 use Rattle.irig_vcd.specs.Sections.{after_end}
@@ -15,6 +15,7 @@ use Rattle.irig_vcd.specs.declared.token.Kind.TheVariants.{Dollar, Hash, Scalar,
 abbrev pub is_high : ℕ → Bool
 is_high b = b == 49
 
+-- the first byte
 abbrev pub first_of : List ℕ → ℕ
 first_of [] = 0
 first_of (b ∷ bs) = b
@@ -51,9 +52,11 @@ is_mark word =
     bytes_eq word (codes "$dumpvars") || bytes_eq word (codes "$dumpall") || bytes_eq word (codes "$dumpon")
     || bytes_eq word (codes "$dumpoff") || bytes_eq word (codes "$end")
 
+-- a word that begins a comment
 abbrev pub is_comment : List ℕ → Bool
 is_comment word = bytes_eq word (codes "$comment")
 
+-- two values, read
 abbrev pub pair_of : {A B : Type 0} → A → B → Result (A × B) VcdFault
 pair_of a b = Ok (a, b)
 

@@ -7,9 +7,11 @@ use Rattle.irig_vcd.specs.declared.token.Tokens.{Tokens}
 use Rattle.irig_vcd.specs.Words.{Word, words_from, rest_of}
 use Rattle.irig_vcd.specs.Digits.{is_number, number_from}
 
+-- the words that are left
 abbrev pub words_left : Tokens → List Word
 words_left t = words_from t.at false (drop t.at t.source.now)
 
+-- a token without where it lies in memory
 abbrev pub word_of : Token → Word
 word_of t = record { kind = t.kind; bytes = t.slice.now; offset = t.offset }
 

@@ -4,6 +4,7 @@ pub mod Digits
 pub mod Left
 pub mod Answer
 pub mod Sections
+pub mod Cut
 pub mod Variables
 pub mod Scales
 pub mod Wire

@@ -1,5 +1,5 @@
 -- The times of a dump: IEEE 1364-2005, clause 18. That they are floored to microseconds is this project's own.
-use Rattle.std.specs.Prelude.{◌≡◌, ◌+◌, ◌-◌, ◌*◌, ◌/◌, ◌^◌, ◌==◌, ◌&&◌, ◌||◌, ◌≤◌, ◌<◌, ℕ, Bool, true, false, not, List, [], ◌∷◌, length, Option, Some, None, Result, Ok, Err, if◌then◌else◌, nat_lt, min}
+use Rattle.std.specs.Prelude.{◌≡◌, ◌+◌, ◌-◌, ◌*◌, ◌/◌, ◌^◌, ◌==◌, ◌&&◌, ◌||◌, ◌≤◌, ◌<◌, ℕ, Bool, true, not, List, Option, Some, None, Result, Ok, Err, if◌then◌else◌, nat_lt, min}
 use Rattle.std.specs.List.{list_all}
 use Rattle.irig_vcd.specs.Digits.{is_digit, is_number, number_from}
 use Rattle.irig_vcd.specs.declared.time.Clock.{Clock}
@@ -47,5 +47,6 @@ pub record Shows (exponent : ℕ) (digits : List ℕ) (c : Clock) : Type 0 where
       ≡ whole * 10 ^ (9 - exponent) + c.rest)
   pub rest : c.rest < 10 ^ (9 - exponent)
 
+-- one clock shows an earlier time
 abbrev pub precedes : Clock → Clock → Bool
 precedes c d = nat_lt c.whole d.whole || (c.whole == d.whole && nat_lt c.rest d.rest)

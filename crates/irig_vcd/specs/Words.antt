@@ -1,5 +1,5 @@
 -- The runs of bytes that are no white space: IEEE 1364-2005, clause 18; text values are this project's own.
-use Rattle.std.specs.Prelude.{◌≡◌, ◌+◌, ◌==◌, ◌&&◌, ◌||◌, ℕ, Bool, true, false, List, [], ◌∷◌, nat_le, if◌then◌else◌, slice_index}
+use Rattle.std.specs.Prelude.{◌+◌, ◌==◌, ◌&&◌, ◌||◌, ℕ, Bool, true, false, List, [], ◌∷◌, nat_le, if◌then◌else◌}
 use Rattle.std.specs.List.{list_all}
 use Rattle.irig_vcd.specs.declared.token.Kind.{Kind}
 use Rattle.irig_vcd.specs.declared.token.Kind.TheVariants.{Dollar, Hash, Scalar, Vector, Real, Text, Other}

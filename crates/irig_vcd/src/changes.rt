@@ -56,14 +56,14 @@ pub fn changes(
     let mut reader = Reader::new(alloc);
     let mut clock = Clock { whole: 0, rest: 0 };
     'tokens: loop {
-        if let Some(number) = tokens.next_number() {
-            let read = clock_at(start.exponent, number.value);
-            clock = later(start.exponent, clock, read, number.offset)?;
-            continue;
-        }
         if let Some(high) = tokens.next_bit(start.code, is_plain) {
             let time = micros(start.exponent, clock);
             reader.put(Change { time, high })?;
+            continue;
+        }
+        if let Some(number) = tokens.next_number() {
+            let read = clock_at(start.exponent, number.value);
+            clock = later(start.exponent, clock, read, number.offset)?;
             continue;
         }
         let Some(token) = tokens.next() else {

@@ -98,6 +98,7 @@ pub fn later(exponent: u8, last: Clock, clock: Clock, offset: usize) -> Result<C
 }
 
 /// The time that the digits at an offset set, behind the last one.
+#[inline(never)]
 pub fn time(exponent: u8, last: Clock, digits: &[u8], offset: usize) -> Result<Clock, VcdFault>
     requires exponent { exponent ≤ 17 }
     requires last { IsTime exponent last }

@@ -6,17 +6,26 @@ ghost use Rattle.irig_vcd.specs.Digits.{is_digit, number_from};
 ghost use Rattle.irig_vcd.specs.Words.{is_code};
 ghost use Rattle.irig_vcd.specs.Words.{is_space, words_from, before_space, kind_of_byte};
 
+/// What a token is, by its first byte.
 #[derive(Clone, Copy, Debug, PartialEq, Eq)]
 pub enum Kind {
+    /// `$`: a word that begins or ends a section.
     Dollar,
+    /// `#`: a time.
     Hash,
+    /// One of `0 1 x X z Z`: a value, with its code behind it.
     Scalar,
+    /// `b` or `B`: a value of several bits.
     Vector,
+    /// `r` or `R`: a real value.
     Real,
+    /// `s` or `S`: a text value.
     Text,
+    /// Any other byte.
     Other,
 }
 
+/// A run of bytes that are no white space, with the place of its first byte, from 0.
 #[derive(Clone, Copy, Debug)]
 pub struct Token<'a> {
     pub kind: Kind,
@@ -24,7 +33,7 @@ pub struct Token<'a> {
     pub offset: usize,
 }
 
-/// The tokens from a place in a source on.
+/// The tokens of a text, in order, as an iterator that borrows the text.
 #[derive(Drop)]
 pub struct Tokens<'a> {
     source: &'a [u8],
@@ -64,6 +73,9 @@ fn word_start(source: &[u8], from: usize) -> usize
         ≡ words_from from false (drop from source.now) }
     ensures stops { result < length source.now → is_space (slice_index source.now result) ≡ false }
 {
+    if from < source.len() && source[from] > 32 {
+        return from;
+    }
     let mut at = from;
     while at < source.len() && is_space(source[at]) {
         at += 1;
@@ -164,6 +176,7 @@ fn is_word_end(source: &[u8], at: usize) -> bool
 impl<'a> Tokens<'a> {
     ghost use Rattle.irig_vcd.specs.Left.{words_left, TakesNumber, TakesBit};
 
+    /// All tokens of a text.
     pub fn new(source: &'a [u8]) -> Tokens<'a>
         ensures { words_left result ≡ words_from 0 false source.entry.now }
     {
@@ -235,7 +248,7 @@ impl<'a> Iterator for Tokens<'a> {
 
     ghost remaining = { item_count words_left };
 
-    #[inline(always)]
+    #[inline(never)]
     fn next(&mut self) -> Option<Token<'a>> {
         let start = word_start(self.source, self.at);
         self.at = start;

@@ -67,14 +67,17 @@ fn put_edges(text: &mut Vec<u8>, edges: &[u64], first: bool) -> Result<(), Alloc
     Ok(())
 }
 
-/// The two lines of an edge, in one write.
+/// The two lines of an edge. A fixed number of bytes is written, which is fast, and what is too
+/// much is taken away.
 fn put_edge(text: &mut Vec<u8>, edge: u64, high: bool) -> Result<(), AllocError>
     ensures { OnOk result (text.new.items ≡ text.old.items ++ (time_line edge ++ level_line high)) }
 {
-    let mut line = *b"                     \n0!\n";
+    let mut line = *b"                     \n0!\n                       ";
     line[22] = b'0' + high as u8;
     let start = put_digits(&mut line, edge);
-    text.extend_from_slice(&line[start..])?;
+    let len = text.len();
+    text.extend_from_slice(&line[start..start + 25])?;
+    text.truncate(len + (25 - start));
     Ok(())
 }
 
@@ -82,6 +85,7 @@ fn put_edge(text: &mut Vec<u8>, edge: u64, high: bool) -> Result<(), AllocError>
 fn put_digits(line: &mut [u8], time: u64) -> usize
     requires room { 21 ≤ length line.old }
     ensures within { result ≤ length line.new }
+    ensures start { result + 1 + length (decimal time) ≡ 21 }
     ensures written { drop result line.new ≡ 35 ∷ decimal time ++ drop 21 line.old }
 {
     let start = write_digits(time, line, 21) - 1;

@@ -1,5 +1,8 @@
-use Rattle.irig_ed.proofs.LawLemmas.{one_inverted, edit_undone, gives_back}
+use Rattle.irig_ed.proofs.LawLemmas.{one_command, one_inverted, edit_undone, gives_back}
 use Rattle.irig_ed.proofs.laws.laws.Goals as goal
+
+pub returns-clause-one_command : goal.returns-clause-one_command
+returns-clause-one_command c = one_command
 
 pub returns-clause-one_inverted : goal.returns-clause-one_inverted
 returns-clause-one_inverted c = one_inverted

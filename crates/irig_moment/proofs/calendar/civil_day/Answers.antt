@@ -18,8 +18,8 @@ within c =
 
 pub returns-clause-value : goal.returns-clause-value
 returns-clause-value c =
-    civil-there c.args.year c.args.month c.args.day c.days_since_min.result c.if-year-lt1.false c.if-year-gt9998.false c.if-month-lt1.false c.if-month-gt12.false c.if-day-lt1.false (within c) (number c)
+    civil-there c.args.year c.args.month c.args.day c.days_since_min.result c.if-year-lt1.false c.if-year-gt-LAST_YEAR.false c.if-month-lt1.false c.if-month-gt12.false c.if-day-lt1.false (within c) (number c)
 
 pub returns-clause-range : goal.returns-clause-range
 returns-clause-range c =
-    civil-in-years c.args.year c.args.month c.args.day c.days_since_min.result c.if-year-lt1.false c.if-year-gt9998.false c.if-month-lt1.false c.if-month-gt12.false c.if-day-lt1.false (within c) (number c)
+    civil-in-years c.args.year c.args.month c.args.day c.days_since_min.result c.if-year-lt1.false c.if-year-gt-LAST_YEAR.false c.if-month-lt1.false c.if-month-gt12.false c.if-day-lt1.false (within c) (number c)

@@ -11,4 +11,4 @@ overflow_add-result c = record { fits = omega (arith, c.new_year.ensures, januar
 pub returns-clause-range : goal.returns-clause-range
 returns-clause-range c =
     let long : c.days_in_year.result ≡ days_in_year (pos c.args.year) = c.days_in_year.ensures ∙ ap days_in_year (to_z_pos w16 c.args.year (omega arith)) in
-    day-in-years c.args.year _ c.if-year-lt1.false c.if-year-gt9998.false (omega (arith, c.new_year.ensures)) (omega (arith, c.new_year.ensures, long, c.if-day-lt1.false, c.if-day-days_in_year.false))
+    day-in-years c.args.year _ c.if-year-lt1.false c.if-year-gt-LAST_YEAR.false (omega (arith, c.new_year.ensures)) (omega (arith, c.new_year.ensures, long, c.if-day-lt1.false, c.if-day-days_in_year.false))

@@ -1,5 +1,4 @@
-use Rattle.std.proofs.Common.{◌≡◌, ◌≤◌, ◌++◌, ℕ, List, Result, Ok, length}
-use Rattle.irig_vcd.specs.Answer.{◌>>=◌}
+use Rattle.std.proofs.Common.{◌≡◌, ◌≤◌, ℕ, List, length}
 use Rattle.irig_vcd.specs.Left.{words_left}
 use Rattle.irig_vcd.specs.Times.{IsTime, units_of, micros_of}
 use Rattle.irig_vcd.specs.Level.{Follows}

@@ -1,4 +1,4 @@
-use Rattle.std.proofs.Common.{◌≡◌, ◌<◌, ◌≤◌, ◌+◌, ◌*◌, ◌-◌, ◌∙◌, length, get_or, arith}
+use Rattle.std.proofs.Common.{◌<◌, ◌∙◌, length, get_or, arith}
 use Rattle.irig_vcd.proofs.Runs.{runs, more_front}
 use Rattle.irig_vcd.proofs.DigitRuns.{dark_digit, more_digits, more_value, more_small, small_enough}
 use Rattle.irig_vcd.proofs.token.digits_end.Goals as goal

@@ -1,4 +1,4 @@
-use Rattle.std.proofs.Common.{◌≡◌, ◌<◌, ◌≤◌, ◌+◌, ◌-◌, ◌∷◌, ◌∙◌, true, List, length, get_or, ap, sym, refl, arith, rules}
+use Rattle.std.proofs.Common.{◌≡◌, ◌<◌, ◌+◌, ◌-◌, ◌∷◌, ◌∙◌, true, List, length, ap, sym, refl, arith, rules}
 use Rattle.irig_vcd.specs.Words.{Word}
 use Rattle.irig_vcd.specs.declared.token.Kind.TheVariants.{Scalar}
 use Rattle.irig_vcd.proofs.CodeRuns.{bit_word}

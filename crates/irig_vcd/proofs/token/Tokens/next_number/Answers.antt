@@ -1,4 +1,4 @@
-use Rattle.std.proofs.Common.{◌≡◌, ◌<◌, ◌≤◌, ◌+◌, ◌-◌, drop, take, true, refl, sym, ap, ◌∙◌, ◌∷◌, List, arith, rules}
+use Rattle.std.proofs.Common.{◌≡◌, ◌-◌, drop, take, true, refl, sym, ap, ◌∙◌, ◌∷◌, List, arith, rules}
 use Rattle.irig_vcd.specs.Words.{Word}
 use Rattle.irig_vcd.specs.declared.token.Kind.TheVariants.{Hash}
 use Rattle.irig_vcd.proofs.DigitRuns.{hash_word}
