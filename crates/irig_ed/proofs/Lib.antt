@@ -1,8 +1,8 @@
-pub mod EdgeLemmas
-pub mod PlainLemmas
 pub mod WordLemmas
 pub mod Known
 pub mod Lines
 pub mod Runs
-pub mod LawLemmas
 pub mod TrackLemmas
+pub mod RowLemmas
+pub mod Blocks
+pub mod FrameLines

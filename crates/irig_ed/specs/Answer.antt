@@ -1,28 +1,30 @@
 -- What the session answers to a line: one step of the machine of whole states, in which memory may
 -- be wanting and the shelf may fail. This project's own.
-use Rattle.std.specs.Prelude.{◌≡◌, ◌<◌, ◌≤◌, ℕ, List, [], ◌∷◌, ◌++◌, length, codes, decimal, Result, Ok, Err}
-use Rattle.std.specs.List.{flat_map}
+use Rattle.std.specs.Prelude.{◌≡◌, ◌<◌, ◌≤◌, ℕ, List, [], ◌∷◌, length, Result, Ok, Err}
 use Rattle.irig_vcd.specs.FileText.{file_text}
+use Rattle.irig_edit.specs.State.{recording_of}
+use Rattle.irig_edit.specs.Calls.{Call}
+use Rattle.irig_edit.specs.Machine.{Steps}
 use Rattle.irig_ed.specs.Machine.{Machine}
-use Rattle.irig_ed.specs.Outcome.{Inverts, RefusesInvert, Undoes, RefusesUndo, Redoes, RefusesRedo}
 use Rattle.irig_ed.specs.Script.{Means, words_of}
 use Rattle.irig_ed.specs.declared.command.Command.{Command}
-use Rattle.irig_ed.specs.declared.command.Command.TheVariants.{Nothing, Write, Quit, Invert, Undo, Redo}
-use Rattle.irig_ed.specs.declared.refusal.Refusal.{Refusal}
-use Rattle.irig_ed.specs.declared.refusal.Refusal.TheVariants as refusal
+use Rattle.irig_ed.specs.declared.command.Command.TheVariants.{Nothing, Write, Frames, Quit, Invert, Undo, Redo}
+use Rattle.irig_edit.specs.declared.refusal.Refusal.{Refusal}
+use Rattle.irig_edit.specs.declared.refusal.Refusal.TheVariants as refusal
 use Rattle.irig_ed.specs.declared.reply.Reply.{Reply}
 use Rattle.irig_ed.specs.declared.reply.Reply.TheVariants.{Silent, Written, Refused, BadLine, LineTooLong, WriteFailed}
+use Rattle.irig_ed.specs.declared.reply.Reply.TheVariants as told
+use Rattle.irig_ed.specs.Printed.{Answer, reply_text}
 
--- an edit was accepted in silence, or refused, and then everything stayed
-abbrev pub Edits : (Machine → Machine → Type 0) → (Machine → Refusal → Type 0)
-    → Machine → Reply → Machine → Type 0
-Edits Accepts Refuses old Silent new = Accepts old new
-Edits Accepts Refuses old (Refused why) new = Refuses old why × (new ≡ old)
-Edits Accepts Refuses old _ new = ⊥
+-- a call of the session was accepted in silence, or refused
+abbrev pub Calls : Call → Machine → Reply → Machine → Type 0
+Calls call old Silent new = Steps call old (Ok tt) new
+Calls call old (Refused why) new = Steps call old (Err why) new
+Calls call old _ new = ⊥
 
 -- the text was put and its bytes are told, or its memory was wanting, or the shelf failed
 abbrev pub Writes : Machine → Reply → Type 0
-Writes m (Written count) = count ≡ length (file_text m.present)
+Writes m (Written count) = count ≡ length (file_text (recording_of m.present.state))
 Writes m (Refused why) = why ≡ refusal.OutOfMemory
 Writes m WriteFailed = Unit {0}
 Writes m _ = ⊥
@@ -36,10 +38,11 @@ reply_to (Err why) = Refused why
 abbrev pub Obeys : Command → Machine → Reply → Machine → Type 0
 Obeys Nothing old reply new = (reply ≡ Silent) × (new ≡ old)
 Obeys Write old reply new = Writes old reply × (new ≡ old)
+Obeys Frames old reply new = (reply ≡ told.Frames) × (new ≡ old)
 Obeys Quit old reply new = ⊥
-Obeys (Invert a b) old reply new = Edits (Inverts a b) (RefusesInvert a b) old reply new
-Obeys Undo old reply new = Edits Undoes RefusesUndo old reply new
-Obeys Redo old reply new = Edits Redoes RefusesRedo old reply new
+Obeys (Invert a b) old reply new = Calls (Call.Invert a b) old reply new
+Obeys Undo old reply new = Calls Call.Undo old reply new
+Obeys Redo old reply new = Calls Call.Redo old reply new
 
 -- the session may give this reply to this line: that it is too long, before that it is none of the
 -- language, before all that a command can meet
@@ -51,27 +54,12 @@ Step old line reply new =
     (length line ≤ 1000)
     × ((command : Command) × Means command (words_of line) × Obeys command old reply new)
 
+-- the session may give this answer to this line: it prints what its reply does as all stands then
+abbrev pub Answered : Machine → List ℕ → Answer → Machine → Type 0
+Answered old line answer new =
+    Step old line answer.reply new × (answer.text ≡ reply_text new answer.reply)
+
 -- the texts that a line puts
 abbrev pub texts_put : Machine → Reply → List (List ℕ)
-texts_put m (Written count) = file_text m.present ∷ []
+texts_put m (Written count) = file_text (recording_of m.present.state) ∷ []
 texts_put m _ = []
-
--- why a command is refused, as a line
-abbrev pub refusal_text : Refusal → List ℕ
-refusal_text refusal.OutOfRange = codes "? E1 OutOfRange\n"
-refusal_text refusal.TooMany = codes "? E5 TooMany\n"
-refusal_text refusal.NothingToUndo = codes "? E9 NothingToUndo\n"
-refusal_text refusal.NothingToRedo = codes "? E10 NothingToRedo\n"
-refusal_text refusal.OutOfMemory = codes "? E11 OutOfMemory\n"
-
--- what a reply prints
-abbrev pub reply_text : Reply → List ℕ
-reply_text Silent = []
-reply_text (Written count) = decimal count ++ 10 ∷ []
-reply_text (Refused why) = refusal_text why
-reply_text BadLine = codes "? S1 BadLine\n"
-reply_text LineTooLong = codes "? S2 LineTooLong\n"
-reply_text WriteFailed = codes "? S3 WriteFailed\n"
-
-abbrev pub printed : List Reply → List ℕ
-printed replies = flat_map reply_text replies

@@ -1,33 +1,53 @@
--- The command line: two options and the track. This project's own.
-use Rattle.std.specs.Prelude.{◌≡◌, true, List, codes, Some, unwrap_or, option_map}
-use Rattle.clap.specs.Words.{App, Rule, Text, new_app, new_rule, with_rule, HasMatchesOf, first_value, found_of}
+-- The command line: four options and the track. This project's own.
+use Rattle.std.specs.Prelude.{◌≡◌, true, List, [], ◌∷◌, map, codes, Option, Some, None}
+use Rattle.clap.specs.Words.{App, Rule, Text, new_app, new_rule, with_rule, HasMatchesOf}
 use Rattle.clap.specs.declared.builder.ArgAction.TheVariants.{Set}
-use Rattle.clap.specs.declared.parser.matches.Found.{Found}
+use Rattle.clap.specs.declared.builder.value_parser.ValueParser.{ValueParser}
+use Rattle.clap.specs.declared.builder.value_parser.ValueParser.TheVariants.{Names}
 use Rattle.clap.specs.declared.parser.matches.ArgMatches.{ArgMatches}
-use Rattle.irig_ed.specs.declared.chosen.Settings.{Settings}
+
+-- the parser takes just these texts
+abbrev pub TakesJust : List Text → ValueParser → Type 0
+TakesJust texts (Names names) = map (λ n. n.now) names.now ≡ texts
+TakesJust texts _ = ⊥
+
+-- the kinds of time code, and the numbers of expressions
+abbrev pub letters : List Text
+letters = codes "A" ∷ codes "B" ∷ codes "E" ∷ codes "G" ∷ []
+
+abbrev pub digits : List Text
+digits =
+    codes "0" ∷ codes "1" ∷ codes "2" ∷ codes "3" ∷ codes "4" ∷ codes "5" ∷ codes "6" ∷ codes "7" ∷ []
 
 -- an option with a value
-abbrev pub option : Text → Rule
-option name = record (new_rule name) { long = Some name; action = Some Set; value_names = 1 }
+abbrev pub option : Text → Option ValueParser → Rule
+option name parser =
+    record (new_rule name) { long = Some name; action = Some Set; value_names = 1; parser = parser }
+
+-- an option with one of these values
+abbrev pub IsChoice : Text → List Text → Rule → Type 0
+IsChoice name values rule =
+    (parser : ValueParser) × TakesJust values parser × (rule ≡ option name (Some parser))
 
 -- the track, which has to be there
 abbrev pub track : Rule
 track = record (new_rule (codes "TRACK")) { action = Some Set; required = true }
 
--- the command: the wire's name, the path to write, and the track
-abbrev pub command_line : App
-command_line =
-    with_rule (with_rule (with_rule (new_app (codes "irig_ed"))
-    (option (codes "wire"))) (option (codes "out"))) track
+-- the command: the wire's name, the format and its expression, the path to write, and the track
+abbrev pub command_with : Rule → Rule → App
+command_with format expression =
+    with_rule (with_rule (with_rule (with_rule (with_rule (new_app (codes "irig_ed"))
+    (option (codes "wire") None)) format) expression) (option (codes "out") None)) track
 
--- the settings are the values of the matches; what is written is the track, where no path is given
-pub record AreValues (f : Found) (s : Settings) : Type 0 where
-  pub track : first_value f (codes "TRACK") ≡ Some s.track.now
-  pub wire : first_value f (codes "wire") ≡ option_map (λ w. w.now) s.wire
-  pub out : s.out.now ≡ unwrap_or (first_value f (codes "out")) s.track.now
+pub record IsCommand (app : App) : Type 0 where
+  pub format : Rule
+  pub expression : Rule
+  pub is_letter : IsChoice (codes "format") letters format
+  pub is_digit : IsChoice (codes "expression") digits expression
+  pub shape : app ≡ command_with format expression
 
--- there are matches that a parse of the words by the command may give, and the settings are theirs
-pub record AreSettings (words : List Text) (s : Settings) : Type 0 where
-  pub matches : ArgMatches
-  pub promised : HasMatchesOf command_line words matches
-  pub values : AreValues (found_of matches) s
+-- matches that a parse of the words by the command may give
+pub record IsParsed (words : List Text) (matches : ArgMatches) : Type 0 where
+  pub app : App
+  pub is_command : IsCommand app
+  pub promised : HasMatchesOf app words matches

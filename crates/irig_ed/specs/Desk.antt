@@ -1,11 +1,12 @@
 -- What lies round a session: what was printed, the texts put on the shelf, and how often the shelf
--- failed. And the status that replies make. This project's own.
+-- failed. And the status that answers make. This project's own.
 use Rattle.std.specs.Prelude.{◌≡◌, ◌≤◌, ◌+◌, ◌-◌, ◌^◌, ℕ, Bool, true, false, List, [], ◌∷◌, ◌++◌, Option, Some, None, min, if◌then◌else◌}
 use Rattle.std.specs.Io.KnownBytes.{Appends}
 use Rattle.irig_ed.specs.Machine.{Machine}
 use Rattle.irig_ed.specs.Answer.{texts_put}
+use Rattle.irig_ed.specs.Printed.{Answer}
 use Rattle.irig_ed.specs.declared.reply.Reply.{Reply}
-use Rattle.irig_ed.specs.declared.reply.Reply.TheVariants.{Silent, Written, WriteFailed}
+use Rattle.irig_ed.specs.declared.reply.Reply.TheVariants.{Silent, Written, Frames, WriteFailed}
 use Rattle.irig_ed.specs.declared.status.Status.{Status}
 use Rattle.irig_ed.specs.declared.status.Status.TheVariants.{SomeRefused}
 
@@ -19,23 +20,28 @@ GrowsBy (Some xs) (Some ys) texts = ys ≡ xs ++ texts
 abbrev pub Fails : ℕ → ℕ → ℕ → Type 0
 Fails old new count = min (old + count) (2 ^ 64 - 1) ≤ new
 
--- how many replies tell of a failure of the shelf
-abbrev pub failures_in : List Reply → ℕ
+-- whether a reply tells of a failure of the shelf
+abbrev pub failures_of : Reply → ℕ
+failures_of WriteFailed = 1
+failures_of _ = 0
+
+-- how many answers do
+abbrev pub failures_in : List Answer → ℕ
 failures_in [] = 0
-failures_in (WriteFailed ∷ replies) = 1 + failures_in replies
-failures_in (_ ∷ replies) = failures_in replies
+failures_in (answer ∷ answers) = failures_of answer.reply + failures_in answers
 
 -- a reply that begins with a question mark
 abbrev pub is_refusal : Reply → Bool
 is_refusal Silent = false
 is_refusal (Written count) = false
+is_refusal Frames = false
 is_refusal _ = true
 
--- the status after these replies
-abbrev pub status_after : Status → List Reply → Status
+-- the status after these answers
+abbrev pub status_after : Status → List Answer → Status
 status_after status [] = status
-status_after status (reply ∷ replies) =
-    status_after (if is_refusal reply then SomeRefused else status) replies
+status_after status (answer ∷ answers) =
+    status_after (if is_refusal answer.reply then SomeRefused else status) answers
 
 -- what is known of the output, and of the shelf
 pub record Desk : Type 0 where
@@ -46,13 +52,13 @@ pub record Desk : Type 0 where
 abbrev pub desk : Option (List ℕ) → Option (List (List ℕ)) → ℕ → Desk
 desk out texts failures = record { out = out; texts = texts; failures = failures }
 
--- this was printed, and while these replies were given these texts were put
-pub record Tells (old new : Desk) (text : List ℕ) (replies : List Reply) (texts : List (List ℕ)) : Type 0 where
+-- this was printed, and while these answers were given these texts were put
+pub record Tells (old new : Desk) (text : List ℕ) (answers : List Answer) (texts : List (List ℕ)) : Type 0 where
   pub printed : Appends old.out new.out text
   pub put : GrowsBy old.texts new.texts texts
-  pub failed : Fails old.failures new.failures (failures_in replies)
+  pub failed : Fails old.failures new.failures (failures_in answers)
 
 -- what one line puts, and whether the shelf failed in it
 pub record Puts (texts texts_new : Option (List (List ℕ))) (failures failures_new : ℕ) (m : Machine) (reply : Reply) : Type 0 where
   pub put : GrowsBy texts texts_new (texts_put m reply)
-  pub failed : Fails failures failures_new (failures_in (reply ∷ []))
+  pub failed : Fails failures failures_new (failures_of reply)

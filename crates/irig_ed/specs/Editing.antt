@@ -1,7 +1,10 @@
 -- From the bytes that come in to the bytes that go out. This project's own.
 use Rattle.std.specs.Prelude.{◌≡◌, ℕ, List, Option, Result, Ok, Err}
 use Rattle.irig_vcd.specs.Dump.{dump}
-use Rattle.irig_ed.specs.Machine.{State, Machine, started}
+use Rattle.irig_codes.specs.Format.{FormatView}
+use Rattle.irig_edit.specs.State.{State, recording_of}
+use Rattle.irig_edit.specs.Machine.{NoMarks, started}
+use Rattle.irig_ed.specs.Machine.{Machine}
 use Rattle.irig_ed.specs.Desk.{Desk}
 use Rattle.irig_ed.specs.Run.{Ran}
 use Rattle.irig_ed.specs.declared.status.Status.{Status}
@@ -9,12 +12,15 @@ use Rattle.irig_ed.specs.declared.status.Status.TheVariants.{AllAccepted, SomeRe
 use Rattle.irig_ed.specs.declared.editing.EditFault.{EditFault}
 use Rattle.irig_ed.specs.declared.editing.EditFault.TheVariants.{Dump, Run}
 
--- the dump was read, and the whole script was obeyed from its track on
-pub record Edited (wire : Option (List ℕ)) (source : List ℕ) (from to : Desk) (status : Status) (script : List ℕ) : Type 0 where
-  pub track : State
+-- the dump was read, and the whole script was obeyed from its track on, which has this format and
+-- no marks
+pub record Edited (wire : Option (List ℕ)) (chosen : FormatView) (source : List ℕ) (from to : Desk) (status : Status) (script : List ℕ) : Type 0 where
+  pub first : State
   pub last : Machine
-  pub read : dump wire source ≡ Ok track
-  pub ran : Ran from to AllAccepted status (started track) last script
+  pub read : dump wire source ≡ Ok (recording_of first)
+  pub format : first.format ≡ chosen
+  pub marks : NoMarks first.marks
+  pub ran : Ran from to AllAccepted status (started first) last script
 
 -- the status of the program for how an edit ended
 abbrev pub status_number : Result Status EditFault → ℕ

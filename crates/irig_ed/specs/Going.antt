@@ -3,7 +3,8 @@
 use Rattle.std.specs.Prelude.{◌≡◌, ℕ, Bool, true, false, List, [], ◌∷◌, ◌++◌, length, take, min, nat_lt, Option, Some, None}
 use Rattle.irig_ed.specs.Machine.{Machine}
 use Rattle.irig_ed.specs.Script.{is_quit}
-use Rattle.irig_ed.specs.Answer.{Step, printed, reply_text}
+use Rattle.irig_ed.specs.Answer.{Step}
+use Rattle.irig_ed.specs.Printed.{Answer, printed}
 use Rattle.irig_ed.specs.Desk.{Desk, Tells, Puts, status_after}
 use Rattle.irig_ed.specs.Run.{Goes, IsPlain}
 use Rattle.irig_ed.specs.declared.reply.Reply.{Reply}
@@ -19,32 +20,32 @@ pub record Holds (text : List ℕ) (line : Line) : Type 0 where
 
 -- the bytes were obeyed to a line that ends the script, or up to the front of a line, which the
 -- buffer holds
-abbrev pub Ends : Bool → List ℕ → Machine → List Reply → List (List ℕ) → Machine → Line → Type 0
-Ends true bytes old replies texts new line =
+abbrev pub Ends : Bool → List ℕ → Machine → List Answer → List (List ℕ) → Machine → Line → Type 0
+Ends true bytes old answers texts new line =
     (quit : List ℕ) × (after : List ℕ) × IsPlain quit × (is_quit quit ≡ true)
-    × Goes bytes old replies texts new (quit ++ 10 ∷ after)
-Ends false bytes old replies texts new line =
-    (left : List ℕ) × Goes bytes old replies texts new left × Holds left line
+    × Goes bytes old answers texts new (quit ++ 10 ∷ after)
+Ends false bytes old answers texts new line =
+    (left : List ℕ) × Goes bytes old answers texts new left × Holds left line
 
--- the replies to them were printed
+-- the answers to them were printed
 pub record Obeyed (ended : Bool) (from to : Desk) (before after : Status) (old new : Machine) (bytes : List ℕ) (line : Line) : Type 0 where
-  pub replies : List Reply
+  pub answers : List Answer
   pub texts : List (List ℕ)
-  pub status : after ≡ status_after before replies
-  pub told : Tells from to (printed replies) replies texts
-  pub ends : Ends ended bytes old replies texts new line
+  pub status : after ≡ status_after before answers
+  pub told : Tells from to (printed answers) answers texts
+  pub ends : Ends ended bytes old answers texts new line
 
--- the last reply was not printed whole
+-- the last answer was not printed whole
 pub record BrokeIn (from to : Desk) (old new : Machine) (bytes : List ℕ) : Type 0 where
-  pub replies : List Reply
-  pub last : Reply
+  pub answers : List Answer
+  pub last : Answer
   pub front : List ℕ
   pub back : List ℕ
   pub rest : List ℕ
   pub texts : List (List ℕ)
-  pub part : reply_text last ≡ front ++ back
-  pub told : Tells from to (printed replies ++ front) (replies ++ last ∷ []) texts
-  pub goes : Goes bytes old (replies ++ last ∷ []) texts new rest
+  pub part : last.text ≡ front ++ back
+  pub told : Tells from to (printed answers ++ front) (answers ++ last ∷ []) texts
+  pub goes : Goes bytes old (answers ++ last ∷ []) texts new rest
 
 -- a line was answered, or it ends the script and nothing has changed
 abbrev pub Answers : Option Reply → Machine → Machine → Line → Type 0

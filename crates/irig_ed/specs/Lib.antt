@@ -1,9 +1,10 @@
-pub mod Edges
 pub mod Machine
-pub mod Outcome
-pub mod Kept
 pub mod Script
 pub mod Words
+pub mod Row
+pub mod FrameLine
+pub mod Blocks
+pub mod Printed
 pub mod Answer
 pub mod Desk
 pub mod Run
@@ -11,5 +12,5 @@ pub mod Going
 pub mod ShelfView
 pub mod Front
 pub mod CommandLine
+pub mod Settings
 pub mod Editing
-pub mod Laws

@@ -5,42 +5,42 @@ use Rattle.std.specs.List.{list_all, flat_map, AllByRecursion}
 use Rattle.std.specs.Io.KnownBytes.{Consumes}
 use Rattle.irig_ed.specs.Machine.{Machine}
 use Rattle.irig_ed.specs.Script.{is_quit, script_lines}
-use Rattle.irig_ed.specs.Answer.{Step, texts_put, printed, reply_text}
+use Rattle.irig_ed.specs.Answer.{Answered, texts_put}
+use Rattle.irig_ed.specs.Printed.{Answer, printed}
 use Rattle.irig_ed.specs.Desk.{Desk, Tells, status_after}
-use Rattle.irig_ed.specs.declared.reply.Reply.{Reply}
 use Rattle.irig_ed.specs.declared.status.Status.{Status}
 
--- the session may give these replies to these lines and put these texts
-abbrev pub Runs : Machine → List (List ℕ) → List Reply → List (List ℕ) → Machine → Type 0
+-- the session may give these answers to these lines and put these texts
+abbrev pub Runs : Machine → List (List ℕ) → List Answer → List (List ℕ) → Machine → Type 0
 Runs old [] [] texts new = (texts ≡ []) × (new ≡ old)
-Runs old (line ∷ lines) (reply ∷ replies) texts new =
-    (mid : Machine) × Step old line reply mid
-    × ((others : List (List ℕ)) × (texts ≡ texts_put old reply ++ others)
-    × Runs mid lines replies others new)
-Runs old [] (reply ∷ replies) texts new = ⊥
+Runs old (line ∷ lines) (answer ∷ answers) texts new =
+    (mid : Machine) × Answered old line answer mid
+    × ((others : List (List ℕ)) × (texts ≡ texts_put old answer.reply ++ others)
+    × Runs mid lines answers others new)
+Runs old [] (answer ∷ answers) texts new = ⊥
 Runs old (line ∷ lines) [] texts new = ⊥
 
--- the whole script was obeyed, all its replies were printed, and its texts were put
+-- the whole script was obeyed, all its answers were printed, and its texts were put
 pub record Ran (from to : Desk) (before after : Status) (old new : Machine) (script : List ℕ) : Type 0 where
-  pub replies : List Reply
+  pub answers : List Answer
   pub texts : List (List ℕ)
-  pub status : after ≡ status_after before replies
-  pub told : Tells from to (printed replies) replies texts
-  pub runs : Runs old (script_lines script) replies texts new
+  pub status : after ≡ status_after before answers
+  pub told : Tells from to (printed answers) answers texts
+  pub runs : Runs old (script_lines script) answers texts new
 
--- some lines of the script were obeyed; of the last reply only a front was printed
+-- some lines of the script were obeyed; of the last answer only a front was printed
 pub record Broke (from to : Desk) (old new : Machine) (script : List ℕ) : Type 0 where
   pub lines : List (List ℕ)
   pub others : List (List ℕ)
-  pub replies : List Reply
-  pub last : Reply
+  pub answers : List Answer
+  pub last : Answer
   pub front : List ℕ
   pub back : List ℕ
   pub texts : List (List ℕ)
   pub cut : script_lines script ≡ lines ++ others
-  pub part : reply_text last ≡ front ++ back
-  pub told : Tells from to (printed replies ++ front) (replies ++ last ∷ []) texts
-  pub runs : Runs old lines (replies ++ last ∷ []) texts new
+  pub part : last.text ≡ front ++ back
+  pub told : Tells from to (printed answers ++ front) (answers ++ last ∷ []) texts
+  pub runs : Runs old lines (answers ++ last ∷ []) texts new
 
 -- a line that is obeyed has no newline in it, and does not end the script
 abbrev pub IsPlain : List ℕ → Type 0
@@ -54,20 +54,20 @@ abbrev pub unlines : List (List ℕ) → List ℕ
 unlines lines = flat_map (λ line. line ++ 10 ∷ []) lines
 
 -- these bytes are whole lines and a rest, and just the lines were obeyed
-pub record Goes (bytes : List ℕ) (old : Machine) (replies : List Reply) (texts : List (List ℕ)) (new : Machine) (rest : List ℕ) : Type 0 where
+pub record Goes (bytes : List ℕ) (old : Machine) (answers : List Answer) (texts : List (List ℕ)) (new : Machine) (rest : List ℕ) : Type 0 where
   pub lines : List (List ℕ)
   pub each : AllByRecursion IsObeyed lines
   pub cut : bytes ≡ unlines lines ++ rest
-  pub runs : Runs old lines replies texts new
+  pub runs : Runs old lines answers texts new
 
 -- just the whole lines that were read were obeyed, and all that they print was printed
 pub record Stopped (from to : Desk) (script script_left : Option (List ℕ)) (old new : Machine) (least : ℕ) : Type 0 where
   pub bytes : List ℕ
   pub read : Consumes script script_left bytes
   pub many : least ≤ length bytes
-  pub replies : List Reply
+  pub answers : List Answer
   pub texts : List (List ℕ)
   pub rest : List ℕ
   pub begun : IsPlain rest
-  pub told : Tells from to (printed replies) replies texts
-  pub goes : Goes bytes old replies texts new rest
+  pub told : Tells from to (printed answers) answers texts
+  pub goes : Goes bytes old answers texts new rest

@@ -3,7 +3,7 @@ use Rattle.std.specs.Prelude.{◌≡◌, ◌==◌, ◌+◌, ◌-◌, ◌*◌, �
 use Rattle.std.specs.List.{list_all}
 use Rattle.std.specs.Str.{bytes_eq}
 use Rattle.irig_ed.specs.declared.command.Command.{Command}
-use Rattle.irig_ed.specs.declared.command.Command.TheVariants.{Nothing, Write, Quit, Invert, Undo, Redo}
+use Rattle.irig_ed.specs.declared.command.Command.TheVariants.{Nothing, Write, Frames, Quit, Invert, Undo, Redo}
 
 -- the lines with a byte more at the front of the first
 abbrev pub onto_first : ℕ → List (List ℕ) → List (List ℕ)
@@ -56,6 +56,7 @@ is_nothing ([] ∷ words) = false
 abbrev pub Means : Command → List (List ℕ) → Type 0
 Means Nothing words = is_nothing words ≡ true
 Means Write words = words ≡ codes "write" ∷ []
+Means Frames words = words ≡ codes "frames" ∷ []
 Means Quit words = words ≡ codes "quit" ∷ []
 Means (Invert a b) words =
     (x : List ℕ) × (y : List ℕ) × (words ≡ codes "invert" ∷ x ∷ y ∷ []) × IsNumber x a × IsNumber y b

@@ -1,5 +1,6 @@
 //! What a command line asks for.
 
+use irig_codes::Format;
 use std::alloc::AllocError;
 
 /// What a command line asks for.
@@ -11,6 +12,8 @@ pub struct Settings<'a> {
     pub wire: Option<&'a str>,
     /// The path that `write` writes: that of the dump, where none is given.
     pub out: &'a str,
+    /// The format in which frames are read: B with expression 2, where none is given.
+    pub format: Format,
 }
 
 /// Why there are no settings.
@@ -18,6 +21,8 @@ pub struct Settings<'a> {
 pub enum UsageFault {
     /// The words are not those of the command line, or ask for help.
     Words(clap::Error),
+    /// E6: the format does not permit the expression.
+    BadExpression,
 }
 
 impl From<AllocError> for UsageFault {

@@ -7,6 +7,8 @@ pub enum Command {
     Nothing,
     /// Put the track's dump on the shelf.
     Write,
+    /// List the frames.
+    Frames,
     /// End the script.
     Quit,
     /// Turn the level between two times.

@@ -9,9 +9,10 @@ ghost use Rattle.irig_ed.specs.Editing.{Edited};
 ghost use Rattle.irig_vcd.specs.declared.fault.VcdFault.{VcdFault};
 
 use crate::engine;
-use crate::plain::Plain;
 use crate::shelf::Shelf;
 use crate::status::{RunFault, Status};
+use irig_codes::Format;
+use irig_edit::Session;
 use irig_vcd::VcdFault;
 use std::alloc::Global;
 use std::io::{Read, Write};
@@ -26,18 +27,19 @@ pub enum EditFault {
 }
 
 /// Reads a dump and obeys a script on its recording, from the bytes that come in to those that go
-/// out. The wire is chosen by its name, where one is given.
+/// out. The wire is chosen by its name, where one is given, and frames are read in the format.
 pub fn edit<R: Read, W: Write, S: Shelf>(
     alloc: Global,
     source: &[u8],
     wire: Option<&[u8]>,
+    format: Format,
     script: &mut R,
     out: &mut W,
     shelf: &mut S,
 ) -> Result<Status, EditFault>
     requires { length source.now ≤ 2 ^ 28 }
     ensures ok { IfOk result (λ status. IfSome (R.remaining script.old) (Edited
-        (name_of wire.entry) source.now
+        (name_of wire.entry) format source.now
         (desk (W.contents out.old) (S.texts shelf.old) (S.failures shelf.old))
         (desk (W.contents out.new) (S.texts shelf.new) (S.failures shelf.new)) status)) }
     ensures fault { (e : VcdFault) → result ≡ Err (EditFault.Dump e)
@@ -47,7 +49,10 @@ pub fn edit<R: Read, W: Write, S: Shelf>(
         Ok(recording) => recording,
         Err(fault) => return Err(EditFault::Dump(fault)),
     };
-    let mut session = Plain::open(alloc, recording);
+    let mut session = match Session::open(alloc, recording, format) {
+        Ok(session) => session,
+        Err(_) => return Err(EditFault::Dump(VcdFault::OutOfMemory)),
+    };
     match engine::run(&mut session, script, out, shelf) {
         Ok(status) => Ok(status),
         Err(fault) => Err(EditFault::Run(fault)),

@@ -3,7 +3,8 @@
 ghost use Rattle.std.specs.Prelude.{◌≡◌, ◌≢◌, ◌++◌, ◌∷◌, [], ◌^◌, ℕ, List, IfOk, IfSome, OnOk, OnErr, IsErrOf};
 ghost use Rattle.std.specs.Io.KnownBytes.{Appends};
 ghost use Rattle.irig_ed.specs.Script.{Means, is_quit, words_of};
-ghost use Rattle.irig_ed.specs.Answer.{Obeys, Writes, reply_text, reply_to};
+ghost use Rattle.irig_ed.specs.Answer.{Obeys, Writes, reply_to};
+ghost use Rattle.irig_ed.specs.Printed.{answer_with, reply_text};
 ghost use Rattle.irig_ed.specs.Desk.{desk, status_after, Puts};
 ghost use Rattle.irig_ed.specs.Run.{Ran, Broke, Stopped};
 ghost use Rattle.irig_ed.specs.Going.{Answers, BrokeIn, Holds, Obeyed, PutsFor};
@@ -11,12 +12,12 @@ ghost use Rattle.irig_ed.specs.Front.{AppendsFront};
 
 use crate::command::{BadLine, Command};
 use crate::line::Line;
+use crate::output::PrintFault;
 use crate::parsing::parse_line;
-use crate::plain::Plain;
-use crate::refusal::Refusal;
-use crate::reply::{PrintFault, Reply, print};
+use crate::reply::{Reply, print};
 use crate::shelf::Shelf;
 use crate::status::{RunFault, Status};
+use irig_edit::{Refusal, Session};
 use std::io::{Read, Write};
 
 /// The most reads of a script, each for at most 4,096 bytes.
@@ -25,7 +26,7 @@ const READS_LIMIT: u64 = 4_294_967_296;
 /// Obeys a script to its end, or to its line `quit`. Each line is answered before the next is
 /// read.
 pub fn run<R: Read, W: Write, S: Shelf>(
-    session: &mut Plain,
+    session: &mut Session,
     script: &mut R,
     out: &mut W,
     shelf: &mut S,
@@ -73,7 +74,7 @@ pub fn run<R: Read, W: Write, S: Shelf>(
 fn obey_part<W: Write, S: Shelf>(
     line: &mut Line,
     bytes: &[u8],
-    session: &mut Plain,
+    session: &mut Session,
     out: &mut W,
     shelf: &mut S,
     status: &mut Status,
@@ -99,7 +100,7 @@ fn obey_part<W: Write, S: Shelf>(
 fn obey_byte<W: Write, S: Shelf>(
     line: &mut Line,
     byte: u8,
-    session: &mut Plain,
+    session: &mut Session,
     out: &mut W,
     shelf: &mut S,
     status: &mut Status,
@@ -120,7 +121,7 @@ fn obey_byte<W: Write, S: Shelf>(
     let Some(reply) = obey_line(line, session, shelf) else {
         return Ok(true);
     };
-    answer(reply, out, status)?;
+    answer(reply, session, out, status)?;
     line.clear();
     Ok(false)
 }
@@ -128,7 +129,7 @@ fn obey_byte<W: Write, S: Shelf>(
 /// Obeys what is left of a script at its end, a line without a newline.
 fn finish<W: Write, S: Shelf>(
     line: &Line,
-    session: &mut Plain,
+    session: &mut Session,
     out: &mut W,
     shelf: &mut S,
     status: &mut Status,
@@ -148,25 +149,30 @@ fn finish<W: Write, S: Shelf>(
     let Some(reply) = obey_line(line, session, shelf) else {
         return Ok(());
     };
-    answer(reply, out, status)
+    answer(reply, session, out, status)
 }
 
 /// Prints a reply, and notes a refusal in the status.
-fn answer<W: Write>(reply: Reply, out: &mut W, status: &mut Status) -> Result<(), PrintFault>
+fn answer<W: Write>(
+    reply: Reply,
+    session: &Session,
+    out: &mut W,
+    status: &mut Status,
+) -> Result<(), PrintFault>
     ensures ok { OnOk result (Appends
-        (W.contents out.old) (W.contents out.new) (reply_text reply)) }
+        (W.contents out.old) (W.contents out.new) (reply_text session.now reply)) }
     ensures err { OnErr result (AppendsFront
-        (W.contents out.old) (W.contents out.new) (reply_text reply)) }
-    ensures status { status.new ≡ status_after status.old (reply ∷ []) }
+        (W.contents out.old) (W.contents out.new) (reply_text session.now reply)) }
+    ensures status { status.new ≡ status_after status.old (answer_with session.now reply ∷ []) }
 {
     if reply.is_refusal() {
         *status = Status::SomeRefused;
     }
-    print(reply, out)
+    print(reply, session, out)
 }
 
 /// Obeys a line; `None` where it ends the script.
-fn obey_line<S: Shelf>(line: &Line, session: &mut Plain, shelf: &mut S) -> Option<Reply>
+fn obey_line<S: Shelf>(line: &Line, session: &mut Session, shelf: &mut S) -> Option<Reply>
     ensures answer { Answers result session.old session.new line.now }
     ensures put { PutsFor result (S.texts shelf.old) (S.texts shelf.new)
         (S.failures shelf.old) (S.failures shelf.new) session.old }
@@ -182,7 +188,7 @@ fn obey_line<S: Shelf>(line: &Line, session: &mut Plain, shelf: &mut S) -> Optio
 }
 
 /// Obeys a command that does not end the script.
-fn obey<S: Shelf>(command: Command, session: &mut Plain, shelf: &mut S) -> Reply
+fn obey<S: Shelf>(command: Command, session: &mut Session, shelf: &mut S) -> Reply
     requires { command ≢ Command.Quit }
     ensures answer { Obeys command session.old result session.new }
     ensures put { Puts (S.texts shelf.old) (S.texts shelf.new)
@@ -191,6 +197,7 @@ fn obey<S: Shelf>(command: Command, session: &mut Plain, shelf: &mut S) -> Reply
     match command {
         Command::Nothing | Command::Quit => Reply::Silent,
         Command::Write => write(session, shelf),
+        Command::Frames => Reply::Frames,
         Command::Invert(a, b) => edited(session.invert(a, b)),
         Command::Undo => edited(session.undo()),
         Command::Redo => edited(session.redo()),
@@ -208,7 +215,7 @@ fn edited(outcome: Result<(), Refusal>) -> Reply
 }
 
 /// Puts the text of the track.
-fn write<S: Shelf>(session: &Plain, shelf: &mut S) -> Reply
+fn write<S: Shelf>(session: &Session, shelf: &mut S) -> Reply
     ensures answer { Writes session.now result }
     ensures put { Puts (S.texts shelf.old) (S.texts shelf.new)
         (S.failures shelf.old) (S.failures shelf.new) session.now result }

@@ -5,24 +5,23 @@ ghost use Rattle.std.specs.Prelude.{◌≡◌};
 ghost use Rattle.std.specs.Process.{exit_status};
 ghost use Rattle.irig_ed.specs.Editing.{status_number};
 
+mod block;
 mod chosen;
 mod command;
 mod command_line;
-mod edges;
 mod editing;
 mod engine;
 mod file_shelf;
-mod laws;
+mod frame_line;
 mod line;
+mod listing;
 mod memory_shelf;
-mod pair;
+mod output;
 mod parsing;
-mod plain;
-mod refusal;
 mod reply;
+mod row;
 mod shelf;
 mod status;
-mod steps;
 mod track;
 
 use chosen::{Settings, UsageFault};
@@ -62,6 +61,10 @@ fn started<R: Runtime + AllocGlobal>(rt: &R) -> io::Result<ExitCode> {
     Ok(match settings(rt.alloc(), words.as_slice()) {
         Ok(chosen) => edited(rt, &chosen),
         Err(UsageFault::Words(error)) => explained(rt, &error),
+        Err(UsageFault::BadExpression) => {
+            let _ = eprintln!(rt; "irig_ed: E6 BadExpression");
+            ExitCode::from(2)
+        }
     })
 }
 
@@ -89,6 +92,7 @@ fn edited<R: Runtime + AllocGlobal>(rt: &R, chosen: &Settings<'_>) -> ExitCode {
         rt.alloc(),
         source.as_slice(),
         wire,
+        chosen.format,
         &mut script,
         &mut out,
         &mut shelf,

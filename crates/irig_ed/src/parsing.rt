@@ -20,6 +20,7 @@ pub fn parse_line(line: &[u8]) -> Result<Command, BadLine>
     match word {
         [] | [b'#', ..] => Ok(Command::Nothing),
         b"write" => alone(arguments, Command::Write),
+        b"frames" => alone(arguments, Command::Frames),
         b"quit" => alone(arguments, Command::Quit),
         b"undo" => alone(arguments, Command::Undo),
         b"redo" => alone(arguments, Command::Redo),

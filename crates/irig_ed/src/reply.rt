@@ -2,11 +2,13 @@
 
 ghost use Rattle.std.specs.Prelude.{◌≡◌, ◌++◌, ◌∷◌, [], decimal, OnOk, OnErr};
 ghost use Rattle.std.specs.Io.KnownBytes.{Appends};
-ghost use Rattle.irig_ed.specs.Answer.{refusal_text, reply_text};
+ghost use Rattle.irig_ed.specs.Printed.{refusal_text, reply_text};
 ghost use Rattle.irig_ed.specs.Desk.{is_refusal};
 ghost use Rattle.irig_ed.specs.Front.{AppendsFront};
 
-use crate::refusal::Refusal;
+use crate::listing::print_frames;
+use crate::output::{PrintFault, put_all};
+use irig_edit::{Refusal, Session};
 use std::io::Write;
 
 /// What is answered to a line of a script.
@@ -16,6 +18,8 @@ pub enum Reply {
     Silent,
     /// A text of this many bytes was put.
     Written(u64),
+    /// The frames of the track are listed.
+    Frames,
     /// The session refuses the command.
     Refused(Refusal),
     /// S1: the line is none of the language.
@@ -26,29 +30,27 @@ pub enum Reply {
     WriteFailed,
 }
 
-/// The output failed.
-#[derive(Clone, Copy, Debug, PartialEq, Eq)]
-pub struct PrintFault;
-
 impl Reply {
     /// Whether the line was refused.
     pub fn is_refusal(&self) -> bool
         ensures { result ≡ is_refusal self.now }
     {
-        !matches!(self, Reply::Silent | Reply::Written(_))
+        !matches!(self, Reply::Silent | Reply::Written(_) | Reply::Frames)
     }
 }
 
-/// Prints a reply as its line, by one write where the output takes it.
-pub fn print<W: Write>(reply: Reply, out: &mut W) -> Result<(), PrintFault>
+/// Prints what a reply does as the session stands: a line by one write, where the output takes
+/// it, and a listing in blocks.
+pub fn print<W: Write>(reply: Reply, session: &Session, out: &mut W) -> Result<(), PrintFault>
     ensures ok { OnOk result (Appends
-        (W.contents out.old) (W.contents out.new) (reply_text reply)) }
+        (W.contents out.old) (W.contents out.new) (reply_text session.now reply)) }
     ensures err { OnErr result (AppendsFront
-        (W.contents out.old) (W.contents out.new) (reply_text reply)) }
+        (W.contents out.old) (W.contents out.new) (reply_text session.now reply)) }
 {
     match reply {
         Reply::Silent => Ok(()),
         Reply::Written(count) => put_number(out, count),
+        Reply::Frames => print_frames(session, out),
         Reply::Refused(why) => put_all(out, refusal_line(why)),
         Reply::BadLine => put_all(out, b"? S1 BadLine\n"),
         Reply::LineTooLong => put_all(out, b"? S2 LineTooLong\n"),
@@ -62,7 +64,13 @@ fn refusal_line(why: Refusal) -> &'static [u8]
 {
     match why {
         Refusal::OutOfRange => b"? E1 OutOfRange\n",
+        Refusal::NoPulse => b"? E2 NoPulse\n",
+        Refusal::Touching => b"? E3 Touching\n",
+        Refusal::NotInside => b"? E4 NotInside\n",
         Refusal::TooMany => b"? E5 TooMany\n",
+        Refusal::BadExpression => b"? E6 BadExpression\n",
+        Refusal::BadTime => b"? E7 BadTime\n",
+        Refusal::BadControl => b"? E8 BadControl\n",
         Refusal::NothingToUndo => b"? E9 NothingToUndo\n",
         Refusal::NothingToRedo => b"? E10 NothingToRedo\n",
         Refusal::OutOfMemory => b"? E11 OutOfMemory\n",
@@ -79,20 +87,4 @@ fn put_number<W: Write>(out: &mut W, number: u64) -> Result<(), PrintFault>
     let mut buffer = [b'\n'; 24];
     let start = itoa::write_digits(number, &mut buffer, 23);
     put_all(out, &buffer[start..])
-}
-
-/// Writes all of the bytes. A write that fails or takes none ends it.
-fn put_all<W: Write>(out: &mut W, bytes: &[u8]) -> Result<(), PrintFault>
-    ensures ok { OnOk result (Appends (W.contents out.old) (W.contents out.new) bytes.now) }
-    ensures err { OnErr result (AppendsFront (W.contents out.old) (W.contents out.new) bytes.now) }
-{
-    let mut done = 0;
-    while done < bytes.len() {
-        match out.write(&bytes[done..]) {
-            Ok(0) => return Err(PrintFault),
-            Ok(count) => done += count,
-            Err(_) => return Err(PrintFault),
-        }
-    }
-    Ok(())
 }

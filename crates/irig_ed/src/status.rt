@@ -3,7 +3,7 @@
 ghost use Rattle.std.specs.Prelude.{◌≡◌};
 ghost use Rattle.irig_ed.specs.declared.status.RunFault.TheVariants.{PrintFailed};
 
-use crate::reply::PrintFault;
+use crate::output::PrintFault;
 use thiserror::Error;
 
 /// How a run ended that came to its end.

@@ -2,5 +2,5 @@
 
 mod command_lines;
 mod failing_ends;
-mod refused_growths;
+mod frames;
 mod rows;

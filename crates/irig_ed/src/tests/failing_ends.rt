@@ -2,8 +2,9 @@
 
 use crate::engine::run;
 use crate::memory_shelf::MemoryShelf;
-use crate::plain::Plain;
 use crate::status::RunFault;
+use irig_codes::{Format, Kind};
+use irig_edit::Session;
 use irig_vcd::Recording;
 use std::io::{self, ErrorKind, Read, Write};
 use std::process::Abort;
@@ -60,17 +61,18 @@ impl Write for Full {
     }
 }
 
-fn session<R: Abort + AllocGlobal>(rt: &R) -> Result<Plain, Fail> {
+fn opened<R: Abort + AllocGlobal>(rt: &R) -> Result<Session, Fail> {
     let edges = Vec::from_slice(rt.alloc(), &[100, 120, 200, 280])?;
     let recording = Recording::new(1000, edges).ok().ok_or("no recording")?;
-    Ok(Plain::open(rt.alloc(), recording))
+    let format = Format::new(Kind::B, 2).ok().ok_or("no format")?;
+    Ok(Session::open(rt.alloc(), recording, format)?)
 }
 
 // The whole lines before the failure are obeyed and answered, and the rest is not.
 #[test]
 fn a_failed_read_ends_the_run(rt: HostRuntime) -> Result<(), Fail> {
     for kind in [ErrorKind::Other, ErrorKind::Interrupted] {
-        let mut plain = session(&rt)?;
+        let mut session = opened(&rt)?;
         let mut script = Broken {
             text: b"invert 100 120\nwrite\nundo",
             step: 3,
@@ -78,11 +80,11 @@ fn a_failed_read_ends_the_run(rt: HostRuntime) -> Result<(), Fail> {
         };
         let mut out = Vec::new(rt.alloc());
         let mut shelf = MemoryShelf::new(rt.alloc(), None);
-        let outcome = run(&mut plain, &mut script, &mut out, &mut shelf);
+        let outcome = run(&mut session, &mut script, &mut out, &mut shelf);
         assert!(rt; outcome == Err(RunFault::ReadFailed));
         assert!(rt; out.as_slice() == b"147\n".as_slice());
-        assert!(rt; shelf.texts().len() == 1 && plain.pulses() == 1);
-        assert!(rt; plain.undo() == Ok(()) && plain.pulses() == 2);
+        assert!(rt; shelf.texts().len() == 1 && session.len() == 1);
+        assert!(rt; session.undo() == Ok(()) && session.len() == 2);
     }
     Ok(())
 }
@@ -91,7 +93,7 @@ fn a_failed_read_ends_the_run(rt: HostRuntime) -> Result<(), Fail> {
 #[test]
 fn a_failed_write_ends_the_run(rt: HostRuntime) -> Result<(), Fail> {
     for fails in [false, true] {
-        let mut plain = session(&rt)?;
+        let mut session = opened(&rt)?;
         let mut script = b"invert 100 120\nwrite\nwrite\nundo\n".as_slice();
         let mut out = Full {
             bytes: [0; 16],
@@ -100,10 +102,10 @@ fn a_failed_write_ends_the_run(rt: HostRuntime) -> Result<(), Fail> {
             fails,
         };
         let mut shelf = MemoryShelf::new(rt.alloc(), None);
-        let outcome = run(&mut plain, &mut script, &mut out, &mut shelf);
+        let outcome = run(&mut session, &mut script, &mut out, &mut shelf);
         assert!(rt; outcome == Err(RunFault::PrintFailed));
         assert!(rt; out.len == 6 && &out.bytes[..6] == b"147\n14".as_slice());
-        assert!(rt; shelf.texts().len() == 2 && plain.pulses() == 1);
+        assert!(rt; shelf.texts().len() == 2 && session.len() == 1);
     }
     Ok(())
 }

@@ -2,9 +2,9 @@
 
 use crate::editing::{EditFault, edit};
 use crate::memory_shelf::MemoryShelf;
-use crate::plain::Plain;
-use crate::refusal::Refusal;
 use crate::status::Status;
+use irig_codes::{Format, Kind};
+use irig_edit::{Refusal, Session};
 use irig_vcd::{Recording, VcdFault};
 use std::process::Abort;
 use std::test::Fail;
@@ -39,6 +39,11 @@ struct Row<'a> {
     status: Status,
 }
 
+/// Format B with expression 2.
+fn plain_format<R: Abort>(rt: &R) -> Format {
+    Format::new(Kind::B, 2).ok().expect(rt, "B permits 2")
+}
+
 fn check<R: Abort + AllocGlobal>(rt: &R, row: &Row<'_>) {
     assert!(rt; row.dump.len() < 1000);
     let mut script = row.script;
@@ -48,6 +53,7 @@ fn check<R: Abort + AllocGlobal>(rt: &R, row: &Row<'_>) {
         rt.alloc(),
         row.dump,
         None,
+        plain_format(rt),
         &mut script,
         &mut out,
         &mut shelf,
@@ -263,6 +269,7 @@ fn the_text_put_is_the_dump_of_the_track(rt: HostRuntime) -> Result<(), Fail> {
         rt.alloc(),
         PULSES,
         Some(b"code"),
+        plain_format(&rt),
         &mut script,
         &mut out,
         &mut shelf,
@@ -278,7 +285,15 @@ fn a_dump_that_is_none_is_told(rt: HostRuntime) {
     let mut script = b"write\n".as_slice();
     let mut out = Vec::new(rt.alloc());
     let mut shelf = MemoryShelf::new(rt.alloc(), None);
-    let outcome = edit(rt.alloc(), b"", None, &mut script, &mut out, &mut shelf);
+    let outcome = edit(
+        rt.alloc(),
+        b"",
+        None,
+        plain_format(&rt),
+        &mut script,
+        &mut out,
+        &mut shelf,
+    );
     assert!(rt; outcome == Err(EditFault::Dump(VcdFault::NoEndDefinitions)));
     assert!(rt; out.is_empty() && shelf.texts().is_empty());
 }
@@ -291,19 +306,15 @@ fn no_more_pulses_than_the_limit(rt: HostRuntime) -> Result<(), Fail> {
         edges.push(edge)?;
     }
     let recording = Recording::new(8_388_618, edges).ok().ok_or("no recording")?;
-    let mut session = Plain::open(rt.alloc(), recording);
+    let format = plain_format(&rt);
+    let mut session = Session::open(rt.alloc(), recording, format)?;
     assert!(rt; session.invert(8_388_610, 8_388_611) == Err(Refusal::TooMany));
     assert!(rt; session.invert(8_388_607, 8_388_611) == Ok(()));
     assert!(rt; session.undo() == Ok(()));
     assert!(rt; session.invert(0, 1) == Ok(()));
     assert!(rt; session.invert(8_388_610, 8_388_611) == Ok(()));
     assert!(rt; session.redo() == Err(Refusal::NothingToRedo));
-    assert!(rt; session.pulses() == 4_194_304 && session.length() == 8_388_618);
-    assert!(rt; session.edges().first() == Some(&2));
+    assert!(rt; session.len() == 4_194_304 && session.length() == 8_388_618);
+    assert!(rt; session.pulse(1).rise == 2);
     Ok(())
-}
-
-#[test]
-fn laws_hold(_rt: HostRuntime) {
-    crate::laws::laws();
 }

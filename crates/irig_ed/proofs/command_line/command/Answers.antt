@@ -1,0 +1,22 @@
+use Rattle.std.proofs.Common.{rules, ap, ap₂, refl, codes, true, map, List, Some, None, [], ◌∷◌, ◌≡◌, ◌∙◌, subst, sym}
+use Rattle.std.proofs.lemmas.Result.{IfOk-weaker}
+use Rattle.clap.specs.Words.{App, Rule, Text, app_of, new_app, new_rule, rule_of, with_rule}
+use Rattle.irig_ed.specs.CommandLine.{IsCommand, IsChoice, letters, digits, option, track, command_with}
+use Rattle.irig_ed.proofs.command_line.command.Goals as goal
+
+pub returns : goal.returns
+returns c =
+    let four = c.in_ok-arg-4.ensures.shape c.option_arg-2.ensures.local
+    ∙ ap₂ with_rule (c.in_ok-arg-3.ensures.shape c.choice_arg-2.ensures.local
+    ∙ ap₂ with_rule (c.in_ok-arg-2.ensures.shape c.choice_arg.ensures.local
+    ∙ ap₂ with_rule (c.in_ok-arg.ensures.shape c.option_arg.ensures.local
+    ∙ ap₂ with_rule c.new.ensures.app c.option_arg.ensures.rule) refl) refl) c.option_arg-2.ensures.rule in
+    let is_letter : IsChoice (codes "format") letters (rule_of c.choice_arg.result) = subst (λ (t : List Text). IsChoice (codes "format") t (rule_of c.choice_arg.result)) (search rules) c.choice_arg.ensures.rule in
+    let is_digit : IsChoice (codes "expression") digits (rule_of c.choice_arg-2.result) = subst (λ (t : List Text). IsChoice (codes "expression") t (rule_of c.choice_arg-2.result)) (search rules) c.choice_arg-2.ensures.rule in
+    IfOk-weaker c.arg-5.result _ _ (λ cmd added. record {
+      format = rule_of c.choice_arg.result;
+      expression = rule_of c.choice_arg-2.result;
+      is_letter = is_letter;
+      is_digit = is_digit;
+      shape = added.shape c.track_arg.ensures.local ∙ ap₂ with_rule four c.track_arg.ensures.rule;
+    }) c.arg-5.ensures

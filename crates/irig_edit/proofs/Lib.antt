@@ -1,0 +1,14 @@
+mod Changing
+mod Deleting
+mod Framing
+mod Inserting
+mod Machines
+mod Pulses
+mod Replacing
+mod Running
+mod Marking
+mod Shifting
+mod Moving
+mod Stepping
+mod Toggling
+mod Touching

@@ -1,0 +1,9 @@
+pub mod Becoming
+pub mod Calls
+pub mod Edits
+pub mod Machine
+pub mod Present
+pub mod Refusals
+pub mod Runs
+pub mod State
+pub mod Turning

@@ -1,0 +1,44 @@
+//! Pulses are taken out.
+
+ghost use Rattle.std.specs.Prelude.{◌≡◌, ◌+◌, ◌-◌, ◌≤◌, [], None, Some, IfOk, IfErr, OnOk};
+ghost use Rattle.irig_track.specs.Splices.{spliced, CanSplice};
+ghost use Rattle.irig_edit.specs.Becoming.{Becomes, judgement_of};
+ghost use Rattle.irig_edit.specs.Calls.Call.{Delete};
+ghost use Rattle.irig_edit.specs.Machine.{Steps};
+ghost use Rattle.irig_edit.specs.State.{with_pulses};
+
+use crate::refusal::Refusal;
+use crate::session::Session;
+use crate::whole::Whole;
+use irig_gap::Gap;
+
+/// The cursor after the pulses `i` to `j` are taken out, if they are there.
+fn place(whole: &Whole, i: usize, j: usize) -> Result<usize, Refusal>
+    ensures refused { IfErr result (λ e. judgement_of (Delete i j) whole.now ≡ Some e) }
+    ensures allowed { OnOk result (judgement_of (Delete i j) whole.now ≡ None) }
+    ensures there { OnOk result ((1 ≤ i) × (i ≤ j)) }
+    ensures can { OnOk result (CanSplice whole.now.micros (i - 1) (j + 1 - i) [] whole.now.pulses) }
+    ensures becomes { IfOk result (λ cursor. Becomes (Delete i j) whole.now
+        (with_pulses (spliced (i - 1) (j + 1 - i) [] whole.now.pulses) whole.now) cursor) }
+{
+    let len = whole.len();
+    if i == 0 || i > j || j > len {
+        return Err(Refusal::NoPulse);
+    }
+    let left = len - (j - i + 1);
+    Ok(i.min(left))
+}
+
+impl Session {
+    /// Takes out the pulses `i` to `j`, from 1. The cursor goes to the pulse behind them, or else
+    /// to the last one.
+    ///
+    /// E2 unless the pulses are there.
+    pub fn delete(&mut self, i: usize, j: usize) -> Result<(), Refusal>
+        ensures step { Steps (Delete i j) self.old result self.new }
+    {
+        let cursor = place(self.present.whole(), i, j)?;
+        let mut put = Gap::new(self.alloc);
+        self.splice(i - 1, j + 1 - i, &mut put, cursor)
+    }
+}

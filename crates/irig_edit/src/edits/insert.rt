@@ -1,0 +1,48 @@
+//! A pulse is put in.
+
+ghost use Rattle.std.specs.Prelude.{◌≡◌, ◌+◌, [], ◌∷◌, None, Some, IfOk, IfErr, OnOk};
+ghost use Rattle.irig_track.specs.Edges.{pulse};
+ghost use Rattle.irig_track.specs.Splices.{spliced, CanSplice};
+ghost use Rattle.irig_edit.specs.Calls.Call.{Insert};
+ghost use Rattle.irig_edit.specs.Becoming.{Becomes, judgement_of};
+ghost use Rattle.irig_edit.specs.Machine.{Steps};
+ghost use Rattle.irig_edit.specs.State.{with_pulses};
+
+use crate::refusal::Refusal;
+use crate::session::Session;
+use crate::whole::{Whole, one};
+use irig_track::Pulse;
+
+/// How many pulses stand before a pulse from `a` to `b`, if it can be put in.
+fn place(whole: &Whole, a: u64, b: u64) -> Result<usize, Refusal>
+    ensures refused { IfErr result (λ e. judgement_of (Insert a b) whole.now ≡ Some e) }
+    ensures allowed { OnOk result (judgement_of (Insert a b) whole.now ≡ None) }
+    ensures can { IfOk result (λ at. CanSplice whole.now.micros at 0 (pulse a b ∷ []) whole.now.pulses) }
+    ensures becomes { IfOk result (λ at. Becomes (Insert a b) whole.now
+        (with_pulses (spliced at 0 (pulse a b ∷ []) whole.now.pulses) whole.now) (at + 1)) }
+{
+    if a >= b || b > whole.length() {
+        return Err(Refusal::OutOfRange);
+    }
+    if whole.is_touched(a, b) {
+        return Err(Refusal::Touching);
+    }
+    if whole.room() == 0 {
+        return Err(Refusal::TooMany);
+    }
+    Ok(whole.find(b))
+}
+
+impl Session {
+    /// Puts in a pulse from `a` to `b`, in microseconds. The cursor goes to it.
+    ///
+    /// E1 unless `a < b` and `b` is within the length; E3 where an edge lies from `a` to `b` or the
+    /// level at `a` is high; E5 where there are 2^22 pulses.
+    pub fn insert(&mut self, a: u64, b: u64) -> Result<(), Refusal>
+        ensures step { Steps (Insert a b) self.old result self.new }
+    {
+        let at = place(self.present.whole(), a, b)?;
+        let mut put = one(self.alloc, Pulse { rise: a, fall: b })?;
+        self.splice(at, 0, &mut put, at + 1)
+    }
+}

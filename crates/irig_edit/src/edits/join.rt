@@ -1,0 +1,47 @@
+//! Pulses are joined into one.
+
+ghost use Rattle.std.specs.Prelude.{◌≡◌, ◌+◌, ◌-◌, ◌≤◌, ◌<◌, [], ◌∷◌, None, Some, IfOk, IfErr, OnOk};
+ghost use Rattle.irig_track.specs.Splices.{spliced, CanSplice};
+ghost use Rattle.irig_edit.specs.Becoming.{Becomes, judgement_of};
+ghost use Rattle.irig_edit.specs.Calls.Call.{Join};
+ghost use Rattle.irig_edit.specs.Machine.{Steps};
+ghost use Rattle.irig_edit.specs.State.{with_pulses};
+
+use crate::refusal::Refusal;
+use crate::session::Session;
+use crate::whole::{Whole, one};
+use irig_track::Pulse;
+
+/// The pulse that pulses `i` to `j` are joined into, if they are there.
+fn place(whole: &Whole, i: usize, j: usize) -> Result<Pulse, Refusal>
+    ensures refused { IfErr result (λ e. judgement_of (Join i j) whole.now ≡ Some e) }
+    ensures allowed { OnOk result (judgement_of (Join i j) whole.now ≡ None) }
+    ensures there { OnOk result ((1 ≤ i) × (i < j)) }
+    ensures can { IfOk result (λ p. CanSplice whole.now.micros (i - 1) (j + 1 - i) (p ∷ []) whole.now.pulses) }
+    ensures becomes { IfOk result (λ p. Becomes (Join i j) whole.now
+        (with_pulses (spliced (i - 1) (j + 1 - i) (p ∷ []) whole.now.pulses) whole.now) i) }
+{
+    if i == 0 || i >= j || j > whole.len() {
+        return Err(Refusal::NoPulse);
+    }
+    let first = whole.pulse(i);
+    let last = whole.pulse(j);
+    Ok(Pulse {
+        rise: first.rise,
+        fall: last.fall,
+    })
+}
+
+impl Session {
+    /// Makes one pulse of the pulses `i` to `j`, from 1, from the rise of the first to the fall of
+    /// the last. The cursor goes to it.
+    ///
+    /// E2 unless the pulses are there and `i` is before `j`.
+    pub fn join(&mut self, i: usize, j: usize) -> Result<(), Refusal>
+        ensures step { Steps (Join i j) self.old result self.new }
+    {
+        let pulse = place(self.present.whole(), i, j)?;
+        let mut put = one(self.alloc, pulse)?;
+        self.splice(i - 1, j + 1 - i, &mut put, i)
+    }
+}

@@ -1,0 +1,16 @@
+//! A session: a track under edit, in which every edit can be taken back.
+#![tactic(auto)]
+
+mod edits;
+mod law;
+mod marks;
+mod present;
+mod refusal;
+mod session;
+mod whole;
+
+pub use irig_index::{Cause, Record, Verdict};
+pub use irig_track::Pulse;
+pub use law::calls_give_back;
+pub use refusal::Refusal;
+pub use session::Session;
