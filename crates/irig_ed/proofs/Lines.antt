@@ -11,7 +11,7 @@ use Rattle.irig_ed.specs.Machine.{Machine}
 use Rattle.irig_ed.specs.Script.{lines_of, until_quit, script_lines, is_quit}
 use Rattle.irig_ed.specs.Answer.{Answered, texts_put}
 use Rattle.irig_ed.specs.Printed.{Answer, printed}
-use Rattle.irig_ed.specs.Desk.{Desk, desk, Tells, Puts, GrowsBy, Fails, failures_in, failures_of, status_after}
+use Rattle.irig_ed.specs.Desk.{Desk, desk, Tells, Puts, GrowsBy, Fails, failures_in, status_after}
 use Rattle.irig_ed.specs.Run.{Runs, Ran, Broke, Goes, IsPlain, IsObeyed, unlines}
 use Rattle.irig_ed.specs.Going.{Holds, Obeyed, BrokeIn}
 use Rattle.irig_ed.specs.declared.status.Status.{Status}

@@ -8,7 +8,7 @@ use Rattle.irig_edit.specs.Machine.{Steps}
 use Rattle.irig_ed.specs.Machine.{Machine}
 use Rattle.irig_ed.specs.Script.{Means, words_of}
 use Rattle.irig_ed.specs.declared.command.Command.{Command}
-use Rattle.irig_ed.specs.declared.command.Command.TheVariants.{Nothing, Write, Frames, Quit, Invert, Undo, Redo}
+use Rattle.irig_ed.specs.declared.command.Command.TheVariants.{Nothing, Write, Frames, Quit, Insert, Invert, Undo, Redo}
 use Rattle.irig_edit.specs.declared.refusal.Refusal.{Refusal}
 use Rattle.irig_edit.specs.declared.refusal.Refusal.TheVariants as refusal
 use Rattle.irig_ed.specs.declared.reply.Reply.{Reply}
@@ -40,6 +40,7 @@ Obeys Nothing old reply new = (reply ≡ Silent) × (new ≡ old)
 Obeys Write old reply new = Writes old reply × (new ≡ old)
 Obeys Frames old reply new = (reply ≡ told.Frames) × (new ≡ old)
 Obeys Quit old reply new = ⊥
+Obeys (Insert a b) old reply new = Calls (Call.Insert a b) old reply new
 Obeys (Invert a b) old reply new = Calls (Call.Invert a b) old reply new
 Obeys Undo old reply new = Calls Call.Undo old reply new
 Obeys Redo old reply new = Calls Call.Redo old reply new

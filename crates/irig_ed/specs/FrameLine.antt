@@ -1,5 +1,5 @@
 -- The line that the command `frames` prints of a record. This project's own.
-use Rattle.std.specs.Prelude.{ℕ, List, [], ◌∷◌, ◌++◌, Option, Some, None, codes, decimal}
+use Rattle.std.specs.Prelude.{ℕ, List, [], ◌++◌, Option, Some, None, codes, decimal}
 use Rattle.irig_codes.specs.declared.fields.Fields.{Fields}
 use Rattle.irig_codes.specs.declared.note.Name.{Name}
 use Rattle.irig_codes.specs.declared.note.Name.TheVariants.{Hundredths, Seconds, Minutes, Hours, Days, Year}

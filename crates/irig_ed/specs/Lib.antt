@@ -1,4 +1,5 @@
 pub mod Machine
+pub mod Numbers
 pub mod Script
 pub mod Words
 pub mod Row

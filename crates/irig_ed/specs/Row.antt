@@ -1,5 +1,5 @@
 -- The numbers of printed lines. This project's own.
-use Rattle.std.specs.Prelude.{◌≡◌, ◌-◌, ℕ, List, ◌++◌, length, decimal, replicate, false}
+use Rattle.std.specs.Prelude.{◌-◌, ℕ, List, ◌++◌, length, decimal, replicate, false}
 use Rattle.std.specs.Fmt.{digits}
 
 -- a number in decimal with at least this many digits, by leading zeros

@@ -1,9 +1,9 @@
 -- The script language: lines, their words, and what a line asks for. This project's own.
-use Rattle.std.specs.Prelude.{◌≡◌, ◌==◌, ◌+◌, ◌-◌, ◌*◌, ◌≤◌, ℕ, Bool, true, false, not, ◌&&◌, ◌||◌, List, [], ◌∷◌, length, nat_le, nat_lt, codes, if◌then◌else◌}
-use Rattle.std.specs.List.{list_all}
+use Rattle.std.specs.Prelude.{◌≡◌, ◌==◌, ℕ, Bool, true, false, not, ◌&&◌, ◌||◌, List, [], ◌∷◌, length, nat_lt, codes, if◌then◌else◌}
 use Rattle.std.specs.Str.{bytes_eq}
+pub use Rattle.irig_ed.specs.Numbers.{IsNumber, is_digit, number_after}
 use Rattle.irig_ed.specs.declared.command.Command.{Command}
-use Rattle.irig_ed.specs.declared.command.Command.TheVariants.{Nothing, Write, Frames, Quit, Invert, Undo, Redo}
+use Rattle.irig_ed.specs.declared.command.Command.TheVariants.{Nothing, Write, Frames, Quit, Insert, Invert, Undo, Redo}
 
 -- the lines with a byte more at the front of the first
 abbrev pub onto_first : ℕ → List (List ℕ) → List (List ℕ)
@@ -31,21 +31,6 @@ words_of (b ∷ bs) =
     if is_space b then words_of bs
     else (if begins_word bs then onto_first b (words_of bs) else (b ∷ []) ∷ words_of bs)
 
-abbrev pub is_digit : ℕ → Bool
-is_digit b = nat_le 48 b && nat_le b 57
-
--- the number that digits are, after the number that those before them are
-abbrev pub number_after : ℕ → List ℕ → ℕ
-number_after n [] = n
-number_after n (d ∷ ds) = number_after (10 * n + (d - 48)) ds
-
--- the word is a number of 1 to 18 digits
-pub record IsNumber (word : List ℕ) (n : ℕ) : Type 0 where
-  pub digits : list_all is_digit word ≡ true
-  pub some : 1 ≤ length word
-  pub few : length word ≤ 18
-  pub value : n ≡ number_after 0 word
-
 -- the words are nothing, or a comment
 abbrev pub is_nothing : List (List ℕ) → Bool
 is_nothing [] = true
@@ -58,6 +43,8 @@ Means Nothing words = is_nothing words ≡ true
 Means Write words = words ≡ codes "write" ∷ []
 Means Frames words = words ≡ codes "frames" ∷ []
 Means Quit words = words ≡ codes "quit" ∷ []
+Means (Insert a b) words =
+    (x : List ℕ) × (y : List ℕ) × (words ≡ codes "insert" ∷ x ∷ y ∷ []) × IsNumber x a × IsNumber y b
 Means (Invert a b) words =
     (x : List ℕ) × (y : List ℕ) × (words ≡ codes "invert" ∷ x ∷ y ∷ []) × IsNumber x a × IsNumber y b
 Means Undo words = words ≡ codes "undo" ∷ []

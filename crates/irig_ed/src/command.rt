@@ -11,6 +11,8 @@ pub enum Command {
     Frames,
     /// End the script.
     Quit,
+    /// Put a pulse from the first time to the second.
+    Insert(u64, u64),
     /// Turn the level between two times.
     Invert(u64, u64),
     /// Take the newest step back.

@@ -198,6 +198,7 @@ fn obey<S: Shelf>(command: Command, session: &mut Session, shelf: &mut S) -> Rep
         Command::Nothing | Command::Quit => Reply::Silent,
         Command::Write => write(session, shelf),
         Command::Frames => Reply::Frames,
+        Command::Insert(a, b) => edited(session.insert(a, b)),
         Command::Invert(a, b) => edited(session.invert(a, b)),
         Command::Undo => edited(session.undo()),
         Command::Redo => edited(session.redo()),

@@ -24,6 +24,10 @@ pub fn parse_line(line: &[u8]) -> Result<Command, BadLine>
         b"quit" => alone(arguments, Command::Quit),
         b"undo" => alone(arguments, Command::Undo),
         b"redo" => alone(arguments, Command::Redo),
+        b"insert" => {
+            let (a, b) = two_numbers(arguments)?;
+            Ok(Command::Insert(a, b))
+        }
         b"invert" => {
             let (a, b) = two_numbers(arguments)?;
             Ok(Command::Invert(a, b))

@@ -1,12 +1,12 @@
 -- What the session's journal stands for.
-use Rattle.std.proofs.Common.{◌≡◌, ◌≤◌, ◌+◌, ℕ, suc, List, [], ◌∷◌, length, refl, ap, sym, ◌∙◌, subst}
+use Rattle.std.proofs.Common.{◌≡◌, ◌≤◌, ℕ, suc, List, [], ◌∷◌, length, refl, ap, sym, subst}
 use Rattle.irig_journal.specs.declared.step.Step.{Step}
-use Rattle.irig_journal.specs.Machine.{Machine, Kept, recorded}
+use Rattle.irig_journal.specs.Machine.{Machine, recorded}
 use Rattle.irig_journal.specs.History.{states_along, machine}
 use Rattle.irig_journal.specs.Journal.{Steps, machine_of, past_of, future_of}
 use Rattle.irig_edit.specs.State.{State, IsState}
 use Rattle.irig_edit.specs.Turning.{swapped, same}
-use Rattle.irig_edit.specs.Machine.{IsMachine, IsKept, kept}
+use Rattle.irig_edit.specs.Machine.{IsMachine, kept}
 
 -- a state for each step
 pub length-states_along : (s : State) (steps : List (Step State)) → length (states_along swapped s steps) ≡ length steps

@@ -1,17 +1,17 @@
 -- The state after a shift.
-use Rattle.std.proofs.Common.{◌≡◌, ◌≤◌, ◌<◌, ◌+◌, ◌-◌, ℕ, ℤ, suc, zero, List, [], ◌∷◌, length, map, take, drop, Option, refl, ap, ap₂, sym, ◌∙◌, subst, arith}
+use Rattle.std.proofs.Common.{◌≡◌, ◌≤◌, ◌<◌, ◌+◌, ◌-◌, ℕ, ℤ, suc, zero, List, [], ◌∷◌, length, map, take, drop, Option, refl, ap, sym, ◌∙◌, subst, arith}
 use Rattle.std.proofs.lemmas.List.{length-map}
 use Rattle.irig_track.specs.declared.pulse.Pulse.{Pulse}
-use Rattle.irig_track.specs.Edges.{edges_of, pulse, is_edge, replaced}
+use Rattle.irig_track.specs.Edges.{edges_of, is_edge, replaced}
 use Rattle.irig_track.specs.Shifts.{CanShift, ahead, back, moved, moved_pulse, shifted, count_to}
-use Rattle.irig_track.specs.Splices.{spliced, piece}
+use Rattle.irig_track.specs.Splices.{piece}
 use Rattle.irig_track.specs.Free.{following, first_or}
 use Rattle.irig_vcd.specs.Recording.{UpTo}
 use Rattle.irig_track.proofs.Allowed.{shift_stands}
 use Rattle.irig_track.proofs.Carried.{length-spliced, length-piece}
 use Rattle.irig_track.proofs.Laws.{is_edge-spliced}
 use Rattle.irig_edit.specs.State.{State, IsState, IsMark, state}
-use Rattle.irig_edit.specs.Edits.{IsAfter, pulse_of, edges_from, moved_time, moved_mark}
+use Rattle.irig_edit.specs.Edits.{IsAfter, pulse_of, moved_time, moved_mark}
 use Rattle.irig_edit.specs.Calls.Call.{Shift}
 use Rattle.std.specs.List.{AllByRecursion}
 use Rattle.irig_edit.proofs.Marking.{marks_moved}

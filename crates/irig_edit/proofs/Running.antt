@@ -1,5 +1,5 @@
 -- What calls one after the other come to.
-use Rattle.std.proofs.Common.{◌≡◌, ℕ, suc, zero, List, [], ◌∷◌, Option, Some, None, Result, Ok, Err, refl, ap, sym, ◌∙◌, subst, if◌then◌else◌}
+use Rattle.std.proofs.Common.{◌≡◌, ℕ, suc, zero, List, [], ◌∷◌, Option, Some, Result, Ok, Err, refl, ap, sym, ◌∙◌, subst, if◌then◌else◌}
 use Rattle.std.specs.Prelude.{replicate, is_ok}
 use Rattle.std.specs.Option.{option_and_then}
 use Rattle.irig_journal.specs.Machine.{Machine, Kept, recorded, undone, redone}

@@ -1,7 +1,6 @@
 -- An edit that is made or refused is a step of the machine.
-use Rattle.std.proofs.Common.{◌≡◌, ℕ, List, Option, Some, None, Result, Ok, Err, OnOk, OnErr, IsErrOf, refl, ap, sym, ◌∙◌, subst}
-use Rattle.irig_journal.specs.Machine.{Machine, Kept, recorded}
-use Rattle.irig_track.specs.declared.pulse.Pulse.{Pulse}
+use Rattle.std.proofs.Common.{◌≡◌, ℕ, None, Result, Ok, Err, OnOk, OnErr, IsErrOf, refl, sym, ◌∙◌, subst}
+use Rattle.irig_journal.specs.Machine.{Machine, recorded}
 use Rattle.irig_edit.specs.State.{State}
 use Rattle.irig_edit.specs.Calls.{Call}
 use Rattle.irig_edit.specs.Calls.Call.{Insert, Delete, Split, Join, Shift, Invert, Force, SetFormat, SetMark, Undo, Redo, Go}

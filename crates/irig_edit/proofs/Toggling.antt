@@ -1,11 +1,11 @@
 -- When the level can be turned over.
-use Rattle.std.proofs.Common.{◌≡◌, ◌≤◌, ◌<◌, ◌+◌, ◌-◌, ◌^◌, ℕ, Bool, true, false, not, ◌&&◌, ◌||◌, nat_le, length, refl, ap, sym, ◌∙◌, arith, IsTrue}
+use Rattle.std.proofs.Common.{◌≡◌, ◌≤◌, ◌<◌, ◌-◌, ◌^◌, ℕ, Bool, true, false, length, refl, arith}
 use Rattle.std.proofs.lemmas.Bool.Decides.{nat_tests}
 use Rattle.irig_track.specs.Edges.{is_edge}
 use Rattle.irig_track.specs.Toggles.{CanToggle}
 use Rattle.irig_track.proofs.Recordings.{can_toggle_room, can_toggle_first, can_toggle_second, cannot_toggle}
 use Rattle.irig_edit.specs.State.{State, IsState}
-use Rattle.irig_edit.specs.Refusals.{is_overfull, is_full}
+use Rattle.irig_edit.specs.Conditions.{is_overfull, is_full}
 
 -- what can be turned over is not overfull
 pub overfull_not : (a b : ℕ) (s : State) → IsState s → CanToggle s.micros a b s.pulses → is_overfull a b s ≡ false

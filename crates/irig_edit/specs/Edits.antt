@@ -12,7 +12,7 @@ use Rattle.irig_track.specs.Splices.{piece, risen_by}
 use Rattle.irig_track.specs.Track.{IsTrack}
 use Rattle.irig_edit.specs.State.{State}
 use Rattle.irig_edit.specs.Calls.{Call}
-use Rattle.irig_edit.specs.Calls.Call.{Insert, Delete, Split, Join, Shift, Invert, Force, SetFormat, SetMark, Undo, Redo, Go}
+use Rattle.irig_edit.specs.Calls.Call.{Insert, Delete, Split, Join, Shift, Invert, Force, SetFormat, SetMark}
 
 -- pulse i, from 1
 abbrev pub pulse_of : ℕ → State → Pulse

@@ -1,5 +1,6 @@
 pub mod Becoming
 pub mod Calls
+pub mod Conditions
 pub mod Edits
 pub mod Machine
 pub mod Present

@@ -1,12 +1,11 @@
 -- The main statement: a call of the session is one step of the machine that keeps every former state whole. This
 -- project's own.
-use Rattle.std.specs.Prelude.{◌≡◌, ◌≤◌, ℕ, List, [], ◌∷◌, Option, Some, None, Result, Ok, Err, length, replicate}
+use Rattle.std.specs.Prelude.{◌≡◌, ◌≤◌, ℕ, List, [], Option, Some, None, Result, Ok, Err, length, replicate}
 use Rattle.std.specs.List.{AllByRecursion}
-use Rattle.irig_codes.specs.Format.{FormatView}
 use Rattle.irig_journal.specs.Machine.{Kept, Machine, recorded, undone, redone}
 use Rattle.irig_edit.specs.State.{State, IsState}
 use Rattle.irig_edit.specs.Calls.{Call}
-use Rattle.irig_edit.specs.Calls.Call.{Insert, Delete, Split, Join, Shift, Invert, Force, SetFormat, SetMark, Undo, Redo, Go}
+use Rattle.irig_edit.specs.Calls.Call.{Undo, Redo, Go}
 use Rattle.irig_edit.specs.Edits.{IsAfter, cursor_after}
 use Rattle.irig_edit.specs.Refusals.{refusal_of}
 use Rattle.irig_edit.specs.declared.refusal.Refusal.{Refusal}

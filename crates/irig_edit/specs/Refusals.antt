@@ -1,60 +1,14 @@
 -- When a call is refused: the tests of each call in their order, the first that holds being answered. Want of memory
 -- may be answered where none of them holds. This project's own.
-use Rattle.std.specs.Prelude.{◌≡◌, ◌+◌, ◌-◌, ◌^◌, ◌==◌, ℕ, ℤ, Bool, true, false, not, ◌&&◌, ◌||◌, nat_lt, nat_le, List, [], ◌∷◌, length, Option, Some, None, if◌then◌else◌, get_or}
-use Rattle.std.specs.List.{list_any}
+use Rattle.std.specs.Prelude.{Bool, true, false, not, ◌&&◌, nat_lt, List, [], ◌∷◌, Option, Some, None, if◌then◌else◌}
 use Rattle.irig_codes.specs.Width.{nominal_of}
-use Rattle.irig_journal.specs.Machine.{Kept, Machine}
-use Rattle.irig_track.specs.declared.pulse.Pulse.{Pulse}
-use Rattle.irig_track.specs.Edges.{edges_of, is_edge}
-use Rattle.irig_track.specs.Shifts.{ahead, back}
-use Rattle.irig_edit.specs.State.{State, level_at}
-use Rattle.irig_edit.specs.Edits.{pulse_of, moved_time}
+use Rattle.irig_journal.specs.Machine.{Machine}
+use Rattle.irig_edit.specs.State.{State}
+use Rattle.irig_edit.specs.Conditions.{is_range, are_pulses, is_touched, is_inside, is_full, is_overfull, meets_next, leaves, meets, fall_at}
 use Rattle.irig_edit.specs.Calls.{Call}
-use Rattle.irig_edit.specs.Calls.Call.{Insert, Delete, Split, Join, Shift, Invert, Force, SetFormat, SetMark, Undo, Redo, Go}
+use Rattle.irig_edit.specs.Calls.Call.{Insert, Delete, Split, Join, Shift, Invert, Force, SetMark, Undo, Redo, Go}
 use Rattle.irig_edit.specs.declared.refusal.Refusal.{Refusal}
 use Rattle.irig_edit.specs.declared.refusal.Refusal.TheVariants.{OutOfRange, NoPulse, Touching, NotInside, TooMany, NothingToUndo, NothingToRedo}
-
--- two times in order, none above the length
-abbrev pub is_range : ℕ → ℕ → State → Bool
-is_range a b s = nat_lt a b && nat_le b s.micros
-
--- pulses i to j are there, from 1
-abbrev pub are_pulses : ℕ → ℕ → State → Bool
-are_pulses i j s = nat_le 1 i && (nat_le i j && nat_le j (length s.pulses))
-
--- an edge lies in a to b, both included, or the level at a is high
-abbrev pub is_touched : ℕ → ℕ → State → Bool
-is_touched a b s = list_any (λ e. nat_le a e && nat_le e b) (edges_of s.pulses) || level_at a (edges_of s.pulses)
-
--- a and b lie inside of pulse i
-abbrev pub is_inside : ℕ → ℕ → ℕ → State → Bool
-is_inside i a b s = nat_lt (pulse_of i s).rise a && nat_lt b (pulse_of i s).fall
-
--- one pulse more would be too many
-abbrev pub is_full : State → Bool
-is_full s = nat_le (2 ^ 22) (length s.pulses)
-
--- turning the level between a and b makes one pulse more where neither is an edge
-abbrev pub is_overfull : ℕ → ℕ → State → Bool
-is_overfull a b s = is_full s && not (is_edge a s.pulses || is_edge b s.pulses)
-
--- the pulse behind pulse i rises at or before a time
-abbrev pub meets_next : ℕ → ℕ → State → Bool
-meets_next i time s = nat_lt i (length s.pulses) && nat_le (pulse_of (i + 1) s).rise time
-
--- pulses i to j, moved by d, leave the track
-abbrev pub leaves : ℕ → ℕ → ℤ → State → Bool
-leaves i j d s = nat_lt ((pulse_of i s).rise + ahead d) (back d) || nat_lt s.micros (moved_time d (pulse_of j s).fall)
-
--- pulses i to j, moved by d, meet the pulse before them or the one behind
-abbrev pub meets : ℕ → ℕ → ℤ → State → Bool
-meets i j d s =
-    (nat_lt 1 i && nat_le (moved_time d (pulse_of i s).rise) (pulse_of (i - 1) s).fall)
-    || meets_next j (moved_time d (pulse_of j s).fall) s
-
--- the fall of pulse i with the nominal width of an element
-abbrev pub fall_at : ℕ → ℕ → State → ℕ
-fall_at i width s = (pulse_of i s).rise + width
 
 -- the first whose test holds
 abbrev pub first_of : List (Bool × Refusal) → Option Refusal

@@ -1,5 +1,4 @@
 -- How the state that stands changes places with a whole state. This project's own.
-use Rattle.std.specs.Prelude.{◌≡◌}
 use Rattle.irig_edit.specs.State.{State, IsState}
 
 -- any state can come to stand

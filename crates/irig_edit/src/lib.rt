@@ -1,12 +1,16 @@
 //! A session: a track under edit, in which every edit can be taken back.
 #![tactic(auto)]
 
+mod edited;
 mod edits;
+mod getters;
 mod law;
 mod marks;
 mod present;
 mod refusal;
 mod session;
+#[cfg(test)]
+mod tests;
 mod whole;
 
 pub use irig_index::{Cause, Record, Verdict};

@@ -32,8 +32,8 @@ use std::marker::Model;
 pub struct Session {
     pub(crate) alloc: Global,
     pub(crate) present: Present,
-    cursor: usize,
-    journal: Journal<Present>,
+    pub(crate) cursor: usize,
+    pub(crate) journal: Journal<Present>,
 }
 
 impl Model for Session {
@@ -139,7 +139,8 @@ impl Session {
         put: &mut Gap<Pulse>,
         cursor: usize,
     ) -> Result<(), Refusal>
-        requires can { CanSplice self.old.present.state.micros at count put.old.items self.old.present.state.pulses }
+        requires can { CanSplice self.old.present.state.micros at count put.old.items
+            self.old.present.state.pulses }
         requires cursor { cursor ≤ length (spliced at count put.old.items self.old.present.state.pulses) }
         ensures step { (call : Call) → IsEdit call → judgement_of call self.old.present.state ≡ None
             → Becomes call self.old.present.state (with_pulses
@@ -171,100 +172,5 @@ impl Session {
             }
             Err(_) => Err(Refusal::OutOfMemory),
         }
-    }
-}
-
-/// What stands.
-impl Session {
-    /// How long the track is, in microseconds.
-    pub fn length(&self) -> u64
-        ensures { result ≡ self.now.present.state.micros }
-    {
-        self.present.whole().length()
-    }
-
-    /// How many pulses the track has.
-    pub fn len(&self) -> usize
-        ensures { result ≡ length self.now.present.state.pulses }
-    {
-        self.present.whole().len()
-    }
-
-    /// A pulse, from 1.
-    pub fn pulse(&self, number: usize) -> Pulse
-        requires { (1 ≤ number) × (number ≤ length self.now.present.state.pulses) }
-        ensures { slice_get self.now.present.state.pulses (number - 1) ≡ Some result }
-    {
-        self.present.whole().pulse(number)
-    }
-
-    /// How many pulses rise at or before a time, in microseconds.
-    pub fn find(&self, time: u64) -> usize
-        ensures { result ≡ risen_by time self.now.present.state.pulses }
-    {
-        self.present.whole().find(time)
-    }
-
-    /// The format.
-    pub fn current_format(&self) -> Format
-        ensures { result ≡ self.now.present.state.format }
-    {
-        self.present.whole().format()
-    }
-
-    /// The time of a mark in microseconds, where it is set. The letter is one of a to z.
-    pub fn mark_time(&self, letter: u8) -> Option<u64>
-        requires { (97 ≤ letter) × (letter ≤ 122) }
-        ensures { slice_get self.now.present.state.marks (letter - 97) ≡ Some result }
-    {
-        self.present.whole().mark((letter - b'a') as usize)
-    }
-
-    /// The cursor: the number of a pulse, from 1, or 0 before the first.
-    pub fn cursor(&self) -> usize
-        ensures { result ≡ self.now.present.cursor }
-    {
-        self.cursor
-    }
-
-    /// How many steps can be taken back.
-    pub fn steps_back(&self) -> usize
-        ensures { result ≡ length self.now.past }
-    {
-        self.journal.steps_back()
-    }
-
-    /// How many steps can be made again.
-    pub fn steps_forward(&self) -> usize
-        ensures { result ≡ length self.now.future }
-    {
-        self.journal.steps_forward()
-    }
-
-    /// How many frames the track has, in its format.
-    pub fn frames(&self) -> usize
-        ensures { result ≡ length (frames_of self.now.present.state) }
-    {
-        self.present.frames()
-    }
-
-    /// A frame, from 1: its marker's pulse, from 1, and its verdict.
-    pub fn frame(&self, number: usize) -> Record
-        requires { (1 ≤ number) × (number ≤ length (frames_of self.now.present.state)) }
-        ensures { IfSome (slice_get (frames_of self.now.present.state) (number - 1))
-            (λ r. (result.marker ≡ r.marker + 1) × (result.verdict ≡ r.verdict)) }
-    {
-        let record = self.present.frame(number - 1);
-        Record {
-            marker: record.marker + 1,
-            verdict: record.verdict,
-        }
-    }
-
-    /// The text of the track's dump.
-    pub fn text(&self) -> Result<Vec<u8>, AllocError>
-        ensures { IfOk result (λ text. text.items ≡ file_text (recording_of self.now.present.state)) }
-    {
-        self.present.whole().text(self.alloc)
     }
 }

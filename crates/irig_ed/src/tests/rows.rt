@@ -94,6 +94,15 @@ fn scripts_print(rt: HostRuntime) {
             status: Status::AllAccepted,
         },
         Row {
+            name: "a pulse is put where it touches none",
+            dump: PULSES,
+            fail: None,
+            script: b"insert 121 199\nwrite\ninsert 280 290\ninsert 290 290\nundo\nwrite\n",
+            printed: b"179\n? E3 Touching\n? E1 OutOfRange\n163\n",
+            puts: 2,
+            status: Status::SomeRefused,
+        },
+        Row {
             name: "an undo gives the dump back",
             dump: PULSES,
             fail: None,

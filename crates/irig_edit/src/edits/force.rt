@@ -5,7 +5,7 @@ ghost use Rattle.irig_track.specs.Splices.{spliced, CanSplice};
 ghost use Rattle.irig_edit.specs.Becoming.{Becomes, judgement_of};
 ghost use Rattle.irig_edit.specs.Calls.Call.{Force};
 ghost use Rattle.irig_edit.specs.Machine.{Steps};
-ghost use Rattle.irig_edit.specs.Refusals.{meets_next};
+ghost use Rattle.irig_edit.specs.Conditions.{meets_next};
 ghost use Rattle.irig_edit.specs.State.{with_pulses};
 
 use crate::refusal::Refusal;

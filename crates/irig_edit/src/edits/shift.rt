@@ -5,7 +5,7 @@ ghost use Rattle.irig_track.specs.Shifts.{CanShift};
 ghost use Rattle.irig_edit.specs.Becoming.{judgement_of};
 ghost use Rattle.irig_edit.specs.Calls.Call.{Shift};
 ghost use Rattle.irig_edit.specs.Machine.{Steps};
-ghost use Rattle.irig_edit.specs.Refusals.{leaves};
+ghost use Rattle.irig_edit.specs.Conditions.{leaves};
 
 use crate::refusal::Refusal;
 use crate::session::Session;

@@ -1,7 +1,7 @@
-use Rattle.std.proofs.Common.{rules, ap, ap₂, refl, codes, true, map, List, Some, None, [], ◌∷◌, ◌≡◌, ◌∙◌, subst, sym}
+use Rattle.std.proofs.Common.{rules, ap₂, refl, codes, List, ◌∙◌, subst}
 use Rattle.std.proofs.lemmas.Result.{IfOk-weaker}
-use Rattle.clap.specs.Words.{App, Rule, Text, app_of, new_app, new_rule, rule_of, with_rule}
-use Rattle.irig_ed.specs.CommandLine.{IsCommand, IsChoice, letters, digits, option, track, command_with}
+use Rattle.clap.specs.Words.{Text, rule_of, with_rule}
+use Rattle.irig_ed.specs.CommandLine.{IsChoice, letters, digits}
 use Rattle.irig_ed.proofs.command_line.command.Goals as goal
 
 pub returns : goal.returns

@@ -1,8 +1,7 @@
-use Rattle.std.proofs.Common.{rules, ◌≡◌, ◌<◌, ◌≤◌, ◌+◌, ◌++◌, [], List, ℕ, sym, ◌∙◌, subst, take, length, get_or, arith}
+use Rattle.std.proofs.Common.{rules, ◌≡◌, ◌<◌, ◌+◌, [], List, ℕ, sym, ◌∙◌, subst, take, length, get_or}
 use Rattle.std.proofs.Math.Seq.{take-length}
 use Rattle.std.proofs.lemmas.Result.{on_ok_weaker, on_err_weaker}
 use Rattle.irig_edit.specs.State.{frames_of}
-use Rattle.irig_ed.specs.Blocks.{Sends}
 use Rattle.irig_ed.specs.Front.{AppendsFront}
 use Rattle.irig_ed.specs.Printed.{record_line, record_lines}
 use Rattle.irig_ed.proofs.Blocks.{front_longer, sends_all, sends_end, sends_front, sends_more}

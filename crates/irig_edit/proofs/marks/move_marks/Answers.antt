@@ -1,4 +1,4 @@
-use Rattle.std.proofs.Common.{◌≡◌, ◌≤◌, ◌<◌, ℤ, ap, arith, sym, ◌∙◌, length, map, to_z, of_z, w64}
+use Rattle.std.proofs.Common.{ℤ, ap, arith, ◌∙◌, map, to_z, of_z, w64}
 use Rattle.std.proofs.lemmas.Int.{to_z-of_z}
 use Rattle.irig_edit.specs.Edits.{moved_mark}
 use Rattle.irig_edit.proofs.Marking.{moved_first-step, moved_first-all}

@@ -1,4 +1,4 @@
-use Rattle.std.proofs.Common.{arith, sym, ap, ◌∙◌, ◌-◌, ◌+◌, ℕ, min, length}
+use Rattle.std.proofs.Common.{arith, ap, ◌∙◌, ◌-◌, ◌+◌, min}
 use Rattle.irig_edit.proofs.Deleting.{deleted}
 use Rattle.irig_edit.proofs.edits.delete.place.Goals as goal
 

@@ -1,4 +1,4 @@
-use Rattle.std.proofs.Common.{arith, ◌+◌, ◌<◌, ◌≡◌, ℕ, ap, sym, ◌∙◌, subst}
+use Rattle.std.proofs.Common.{arith, ◌+◌, ap, sym, ◌∙◌}
 use Rattle.irig_codes.specs.Format.{FormatView}
 use Rattle.irig_codes.specs.Width.{nominal_of}
 use Rattle.irig_edit.proofs.Changing.{forced, nominal-some, next_free}

@@ -1,6 +1,6 @@
-use Rattle.std.proofs.Common.{◌≡◌, ◌≤◌, ap, arith, sym, ◌∙◌, refl, true, false, IsTrue, rules, not}
+use Rattle.std.proofs.Common.{◌≡◌, ◌≤◌, arith, refl, true, false}
 use Rattle.std.proofs.lemmas.Bool.Decides.{nat_tests}
-use Rattle.irig_edit.specs.Refusals.{is_range, is_overfull}
+use Rattle.irig_edit.specs.Conditions.{is_range}
 use Rattle.irig_edit.proofs.Toggling.{overfull_not, overfull}
 use Rattle.irig_edit.proofs.edits.invert.judge.Goals as goal
 

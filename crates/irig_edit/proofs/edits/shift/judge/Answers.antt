@@ -1,8 +1,8 @@
-use Rattle.std.proofs.Common.{◌≡◌, ◌≤◌, ◌-◌, ◌<◌, ◌+◌, ℕ, ℤ, ap, arith, sym, subst, ◌∙◌, refl, true, false, length, w64}
+use Rattle.std.proofs.Common.{◌≡◌, ◌≤◌, ◌-◌, ℤ, ap, arith, sym, subst, ◌∙◌, refl, true, false, length, w64}
 use Rattle.std.proofs.lemmas.Bool.Decides.{nat_tests}
 use Rattle.std.proofs.lemmas.Int.{to_z-of_z}
 use Rattle.irig_track.specs.Shifts.{CanShift}
-use Rattle.irig_edit.specs.Refusals.{are_pulses, leaves}
+use Rattle.irig_edit.specs.Conditions.{are_pulses, leaves}
 use Rattle.irig_edit.proofs.Shifting.{meets_not, meets_some}
 use Rattle.irig_edit.proofs.edits.shift.judge.Goals as goal
 

@@ -1,6 +1,6 @@
-use Rattle.std.proofs.Common.{rules, ◌≡◌, Ok, ap, sym, ◌∙◌, refl, subst}
+use Rattle.std.proofs.Common.{Ok, ap, sym, ◌∙◌, subst}
 use Rattle.irig_journal.specs.Machine.{Machine, recorded}
-use Rattle.irig_edit.specs.State.{State, IsState}
+use Rattle.irig_edit.specs.State.{State}
 use Rattle.irig_edit.specs.Machine.{kept, IsMachine}
 use Rattle.irig_edit.proofs.Machines.{IsMachine-recorded, machine_of-same}
 use Rattle.irig_edit.proofs.Stepping.{steps_becomes}

@@ -1,4 +1,4 @@
-use Rattle.std.proofs.Common.{◌≡◌, ap, sym, ◌∙◌, OnOk}
+use Rattle.std.proofs.Common.{◌≡◌, ap, ◌∙◌}
 use Rattle.irig_journal.specs.Machine.{Machine, recorded}
 use Rattle.irig_track.specs.Splices.{spliced}
 use Rattle.irig_edit.specs.State.{State, state, with_pulses}

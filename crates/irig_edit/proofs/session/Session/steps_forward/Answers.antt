@@ -1,6 +1,6 @@
-use Rattle.std.proofs.Common.{rules, ◌≡◌, ap, sym, ◌∙◌, length}
+use Rattle.std.proofs.Common.{ap, sym, ◌∙◌, length}
 use Rattle.irig_journal.specs.Machine.{Machine}
-use Rattle.irig_journal.specs.Journal.{past_of, future_of}
+use Rattle.irig_journal.specs.Journal.{future_of}
 use Rattle.irig_edit.specs.State.{State}
 use Rattle.irig_edit.specs.Turning.{same}
 use Rattle.irig_edit.proofs.Machines.{length-states_along}

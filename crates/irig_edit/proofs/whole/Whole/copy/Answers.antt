@@ -1,6 +1,5 @@
-use Rattle.std.proofs.Common.{rules, ◌≡◌, ap, sym, ◌∙◌, refl}
+use Rattle.std.proofs.Common.{◌≡◌, ap, ◌∙◌}
 use Rattle.irig_vcd.specs.Recording.{RecordingView}
-use Rattle.irig_track.specs.Edges.{edges_of}
 use Rattle.irig_edit.specs.State.{state}
 use Rattle.irig_edit.proofs.Pulses.{edges_of-injective}
 use Rattle.irig_edit.proofs.whole.Whole.copy.Goals as goal

@@ -1,4 +1,4 @@
-use Rattle.std.proofs.Common.{◌≡◌, ◌∙◌, sym, arith}
+use Rattle.std.proofs.Common.{sym}
 use Rattle.irig_edit.proofs.Touching.{is_touched-last, is_touched-none}
 use Rattle.irig_edit.proofs.whole.Whole.is_touched.Goals as goal
 
