@@ -1,6 +1,7 @@
-//! Scripts and their answers, and what failing ends leave.
+//! Scripts and their answers, and what failing ends and refused growths leave.
 
 mod command_lines;
 mod failing_ends;
 mod frames;
+mod refused_growths;
 mod rows;
