@@ -15,19 +15,20 @@ use crate::record::{Cause, Record, Verdict};
 use irig_codes::{Element, Format, decode};
 use irig_track::{Lens, Pulse};
 
-/// The record of the pulse after place `at`, from 0, if it is a marker. 101 looks at most.
+/// The record of the pulse after place `at`, from 0, if it is a marker. 100 looks at most.
 pub fn record_after(
     lens: &mut Lens<'_>,
     looks: &mut u64,
     format: Format,
     at: usize,
+    pulse: Pulse,
 ) -> Option<Record>
     requires track { IsTrack lens.old.track.micros lens.old.track.pulses }
-    requires within { at + 1 < length lens.old.track.pulses }
+    requires pulse { slice_get lens.old.track.pulses (at + 1) ≡ Some pulse }
     ensures record { option_to_list result ≡ record_after format lens.old.track.pulses at }
-    ensures looked { Looked lens.old lens.new looks.old looks.new 101 }
+    ensures looked { Looked lens.old lens.new looks.old looks.new 100 }
 {
-    let first = marker_after(lens, looks, format, at)?;
+    let first = marker_after(lens, looks, format, at, pulse)?;
     let verdict = verdict(lens, looks, format, at + 1, first);
     Some(Record {
         marker: at + 1,

@@ -6,7 +6,8 @@ ghost use Rattle.irig_index.specs.Frames.{frames};
 ghost use Rattle.irig_index.specs.Looked.{Looked, LookedThrough};
 
 use crate::frame::record_after;
-use crate::marker::marker_after;
+use crate::look::look;
+use crate::marker::{is_position, marker_after};
 use crate::record::Record;
 use irig_codes::Format;
 use irig_track::Lens;
@@ -120,10 +121,19 @@ fn count_markers(lens: &mut Lens<'_>, looks: &mut u64, format: Format) -> usize
         (2 * (length lens.old.track.pulses - 1)) }
 {
     let mut count = 0;
-    for at in 1..lens.len() {
-        if marker_after(lens, looks, format, at - 1).is_some() {
+    let len = lens.len();
+    let mut at = 0;
+    while at + 1 < len {
+        let pulse = look(lens, looks, at + 1);
+        if !is_position(format, pulse) {
+            // Neither it nor the pulse after it is a marker.
+            at += 2;
+            continue;
+        }
+        if marker_after(lens, looks, format, at, pulse).is_some() {
             count += 1;
         }
+        at += 1;
     }
     count
 }
@@ -137,9 +147,18 @@ fn fill(records: &mut Vec<Record>, lens: &mut Lens<'_>, looks: &mut u64, format:
     ensures looked { Looked lens.old lens.new looks.old looks.new
         (101 * (length lens.old.track.pulses - 1)) }
 {
-    for at in 1..lens.len() {
-        let found = record_after(lens, looks, format, at - 1);
+    let len = lens.len();
+    let mut at = 0;
+    while at + 1 < len {
+        let pulse = look(lens, looks, at + 1);
+        if !is_position(format, pulse) {
+            // Neither it nor the pulse after it is a marker.
+            at += 2;
+            continue;
+        }
+        let found = record_after(lens, looks, format, at, pulse);
         put(records, found);
+        at += 1;
     }
 }
 

@@ -64,10 +64,7 @@ impl Track {
             edges.push(pulse.rise)?;
             edges.push(pulse.fall)?;
         }
-        match Recording::new(self.micros, edges) {
-            Ok(recording) => Ok(recording),
-            Err(_) => unreachable!(),
-        }
+        Ok(Recording::from_parts(self.micros, edges))
     }
 
     /// Makes the spare at least `more`: so many further pulses then fit without a growth.

@@ -1,5 +1,5 @@
 -- The dump that is written of a recording. The form is IEEE 1364-2005, clause 18; that it is this one is this project's own.
-use Rattle.std.specs.Prelude.{◌==◌, ◌&&◌, ◌++◌, ℕ, Bool, false, not, List, [], ◌∷◌, codes, decimal, nat_lt, if◌then◌else◌}
+use Rattle.std.specs.Prelude.{◌≡◌, ◌==◌, ◌&&◌, ◌++◌, ℕ, Bool, false, not, List, [], ◌∷◌, codes, decimal, drop, nat_lt, if◌then◌else◌}
 use Rattle.std.specs.List.{list_any}
 use Rattle.irig_vcd.specs.Recording.{RecordingView}
 
@@ -19,6 +19,12 @@ level_line high = (if high then 49 else 48) ∷ 33 ∷ 10 ∷ []
 abbrev pub edge_lines : Bool → List ℕ → List ℕ
 edge_lines high [] = []
 edge_lines high (edge ∷ edges) = time_line edge ++ level_line high ++ edge_lines (not high) edges
+
+-- in a buffer, what stands behind the digits of an edge's time, which end at 21
+pub record EndsLines (line : List ℕ) : Type 0 where
+  pub level : ℕ
+  pub pad : List ℕ
+  pub ends : drop 21 line ≡ 10 ∷ level ∷ 33 ∷ 10 ∷ pad
 
 -- whether the level is high from 0 on
 abbrev pub begins_high : List ℕ → Bool

@@ -11,7 +11,8 @@ use crate::event::{Event, take_event};
 use crate::fault::VcdFault;
 use crate::header::Start;
 use crate::level::{Change, Reader};
-use crate::time::{Clock, clock_at, later, micros, time};
+use crate::short::{LONGEST_CODE, Short};
+use crate::time::{Clock, micros, number_time, time};
 use crate::token::{Kind, Tokens};
 use crate::variable::is_code;
 use std::alloc::Global;
@@ -22,12 +23,13 @@ fn is_hash(kind: Kind) -> bool
     matches!(kind, Kind::Hash)
 }
 
-/// Whether a code is of printable bytes.
+/// Whether a code is of a few printable bytes.
 fn is_plain(code: &[u8]) -> bool
     ensures some { result ≡ true → 0 < length code.now }
+    ensures few { result ≡ true → length code.now ≤ 18 }
     ensures dark { result ≡ true → is_code code.now ≡ true }
 {
-    !code.is_empty() && is_code(code)
+    !code.is_empty() && code.len() <= LONGEST_CODE && is_code(code)
 }
 
 /// What stands behind the first byte.
@@ -40,7 +42,9 @@ fn digits_of(word: &[u8]) -> &[u8]
     }
 }
 
-/// The last time and the edges that the changes make.
+/// The last time and the edges that the changes make. A function of its own for the machine too:
+/// what it is called from would take its registers.
+#[inline(never)]
 pub fn changes(
     alloc: Global,
     tokens: &mut Tokens,
@@ -56,15 +60,17 @@ pub fn changes(
     let mut reader = Reader::new(alloc);
     let mut clock = Clock { whole: 0, rest: 0 };
     'tokens: loop {
-        if let Some(high) = tokens.next_bit(start.code, is_plain) {
-            let time = micros(start.exponent, clock);
-            reader.put(Change { time, high })?;
-            continue;
-        }
-        if let Some(number) = tokens.next_number() {
-            let read = clock_at(start.exponent, number.value);
-            clock = later(start.exponent, clock, read, number.offset)?;
-            continue;
+        match tokens.next_short(start.code, is_plain) {
+            Short::Time(number) => {
+                clock = number_time(start.exponent, clock, number.value, number.offset)?;
+                continue;
+            }
+            Short::Bit(high) => {
+                let time = micros(start.exponent, clock);
+                reader.put(Change { time, high })?;
+                continue;
+            }
+            Short::Other => {}
         }
         let Some(token) = tokens.next() else {
             break;

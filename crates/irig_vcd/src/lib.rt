@@ -12,6 +12,7 @@ mod plain;
 mod reader;
 mod recording;
 mod section;
+mod short;
 #[cfg(test)]
 mod tests;
 mod time;

@@ -26,21 +26,21 @@ tokens-init c = (
 pub tokens-preserved-then-is_hash : goal.tokens-preserved-then-is_hash
 tokens-preserved-then-is_hash c =
     let i = c.tokens.invariant.2 in
-    let next : words_left c.next_number.new.self ≡ word_of c.in-Some-next.token ∷ words_left c.next.new.self = search rules in
-    let left = sym c.in_default.ensures.left ∙ (sym c.in_default-next_number.ensures.left ∙ next) in
-    let hash : is_hash c.in-Some-next.token.kind ≡ true = search rules in
-    let k = on_time c.tokens.invariant.1 _ _ _ _ (word_of c.in-Some-next.token) _ _ left i.count hash (rw (← c.digits_of.ensures) c.in_ok-clock-2.ensures.exact) in
-    (c.tokens.invariant.0, k.0, record { time = c.in_ok-clock-2.ensures.time; late = let up = later c.args.start.exponent c.tokens.clock c.in_ok-clock-2.clock i.time c.in_ok-clock-2.ensures.time c.in_ok-clock-2.ensures.forward in omega (arith, up, i.late); follows = i.follows; count = k.1; rest = ap (behind c.tokens.invariant.0) (sym k.2) ∙ i.rest })
+    let next : words_left c.next_short.new.self ≡ word_of c.in-Some.token ∷ words_left c.next.new.self = search rules in
+    let left = sym c.in-Other.ensures ∙ next in
+    let hash : is_hash c.in-Some.token.kind ≡ true = search rules in
+    let k = on_time c.tokens.invariant.1 _ _ _ _ (word_of c.in-Some.token) _ _ left i.count hash (rw (← c.digits_of.ensures) c.in_ok-clock.ensures.exact) in
+    (c.tokens.invariant.0, k.0, record { time = c.in_ok-clock.ensures.time; late = let up = later c.args.start.exponent c.tokens.clock c.in_ok-clock.clock i.time c.in_ok-clock.ensures.time c.in_ok-clock.ensures.forward in omega (arith, up, i.late); follows = i.follows; count = k.1; rest = ap (behind c.tokens.invariant.0) (sym k.2) ∙ i.rest })
 
 pub tokens-preserved : goal.tokens-preserved
 tokens-preserved c =
     let i = c.tokens.invariant.2 in
-    let next : words_left c.next_number.new.self ≡ word_of c.in-Some-next.token ∷ words_left c.next.new.self = search rules in
-    let left = sym c.in_default.ensures.left ∙ (sym c.in_default-next_number.ensures.left ∙ next) in
-    let hash : is_hash c.in-Some-next.token.kind ≡ false = search rules in
+    let next : words_left c.next_short.new.self ≡ word_of c.in-Some.token ∷ words_left c.next.new.self = search rules in
+    let left = sym c.in-Other.ensures ∙ next in
+    let hash : is_hash c.in-Some.token.kind ≡ false = search rules in
     let is : c.in_ok-take_event.field-0 ≡ event.Level c.in-Level.high = search rules in
-    let ev : event_by c.in-Some-next.token.kind c.args.start.code.now (word_of c.in-Some-next.token) (words_left c.next.new.self) ≡ Ok (event.Level c.in-Level.high, words_left c.take_event.new.tokens) = rw (← is) c.in_ok-take_event.ensures.exact in
-    let k = on_event c.tokens.invariant.1 _ _ _ _ (word_of c.in-Some-next.token) _ _ (event.Level c.in-Level.high) left i.count hash ev c.in_ok-take_event.ensures.fewer in (
+    let ev : event_by c.in-Some.token.kind c.args.start.code.now (word_of c.in-Some.token) (words_left c.next.new.self) ≡ Ok (event.Level c.in-Level.high, words_left c.take_event.new.tokens) = rw (← is) c.in_ok-take_event.ensures.exact in
+    let k = on_event c.tokens.invariant.1 _ _ _ _ (word_of c.in-Some.token) _ _ (event.Level c.in-Level.high) left i.count hash ev c.in_ok-take_event.ensures.fewer in (
       c.tokens.invariant.0 ++ record { time = micros_of c.args.start.exponent (units_of c.args.start.exponent c.tokens.clock); high = c.in-Level.high } ∷ [],
       k.0,
       record {
@@ -52,42 +52,41 @@ tokens-preserved c =
       },
     )
 
-pub tokens-preserved-in-Some-next_number : goal.tokens-preserved-in-Some-next_number
-tokens-preserved-in-Some-next_number c =
+pub tokens-preserved-in-Time : goal.tokens-preserved-in-Time
+tokens-preserved-in-Time c =
     let i = c.tokens.invariant.2 in
-    let n = c.in-Some-next_number.ensures.taken in
-    let left = sym c.in_default.ensures.left ∙ n.left in
-    let shown = c.clock_at-read.ensures.shown (rest_of n.word.bytes) n.digits n.value in
+    let n = c.in-Time.ensures in
+    let left = n.left in
     let hash : is_hash n.word.kind ≡ true = ap is_hash n.kind in
-    let read : time_of c.args.start.exponent (units_of c.args.start.exponent c.tokens.clock) (rest_of n.word.bytes) n.word.offset ≡ Ok (units_of c.args.start.exponent c.in_ok-clock.clock) = rw n.offset (c.in_ok-clock.ensures.exact (rest_of n.word.bytes) shown) in
+    let read : time_of c.args.start.exponent (units_of c.args.start.exponent c.tokens.clock) (rest_of n.word.bytes) n.word.offset ≡ Ok (units_of c.args.start.exponent c.in_ok-clock-in-Time.clock) = rw n.offset (c.in_ok-clock-in-Time.ensures.exact (rest_of n.word.bytes) n.digits n.value) in
     let k = on_time c.tokens.invariant.1 _ _ _ _ n.word _ _ left i.count hash read in (
       c.tokens.invariant.0,
       k.0,
       record {
-        time = c.in_ok-clock.ensures.time;
-        late = let up = later c.args.start.exponent c.tokens.clock c.in_ok-clock.clock i.time c.in_ok-clock.ensures.time c.in_ok-clock.ensures.forward in omega (arith, up, i.late);
+        time = c.in_ok-clock-in-Time.ensures.time;
+        late = let up = later c.args.start.exponent c.tokens.clock c.in_ok-clock-in-Time.clock i.time c.in_ok-clock-in-Time.ensures.time c.in_ok-clock-in-Time.ensures.forward in omega (arith, up, i.late);
         follows = i.follows;
         count = k.1;
         rest = ap (behind c.tokens.invariant.0) (sym k.2) ∙ i.rest;
       },
     )
 
-pub tokens-preserved-in-Some : goal.tokens-preserved-in-Some
-tokens-preserved-in-Some c =
+pub tokens-preserved-in-Bit : goal.tokens-preserved-in-Bit
+tokens-preserved-in-Bit c =
     let i = c.tokens.invariant.2 in
-    let b = c.in-Some.ensures.taken in
-    let some = c.is_plain-is_plain.ensures.some c.in-Some.ensures.plain in
+    let b = c.in-Bit.ensures.1 in
+    let some = c.is_plain-is_plain.ensures.some c.in-Bit.ensures.0 in
     let left = b.left in
     let hash : is_hash b.word.kind ≡ false = ap is_hash b.kind in
-    let says = bit_event c.in-Some.high c.args.start.code.now b.word (words_left c.next_bit.new.self) some b.kind b.bytes in
-    let k = on_event c.tokens.invariant.1 _ _ _ _ b.word _ _ (event.Level c.in-Some.high) left i.count hash says (omega arith) in (
-      c.tokens.invariant.0 ++ record { time = micros_of c.args.start.exponent (units_of c.args.start.exponent c.tokens.clock); high = c.in-Some.high } ∷ [],
+    let says = bit_event c.in-Bit.high c.args.start.code.now b.word (words_left c.next_short.new.self) some b.kind b.bytes in
+    let k = on_event c.tokens.invariant.1 _ _ _ _ b.word _ _ (event.Level c.in-Bit.high) left i.count hash says (omega arith) in (
+      c.tokens.invariant.0 ++ record { time = micros_of c.args.start.exponent (units_of c.args.start.exponent c.tokens.clock); high = c.in-Bit.high } ∷ [],
       k.0,
       record {
         time = i.time;
-        late = rw (c.in_ok-put.ensures.time, c.micros-time.ensures.value) (omega arith);
-        follows = rw (← c.micros-time.ensures.value) (c.in_ok-put.ensures.ok c.tokens.invariant.0 i.follows);
+        late = rw (c.in_ok-put-in-Bit.ensures.time, c.micros-time.ensures.value) (omega arith);
+        follows = rw (← c.micros-time.ensures.value) (c.in_ok-put-in-Bit.ensures.ok c.tokens.invariant.0 i.follows);
         count = k.1;
-        rest = (sym (one_change c.tokens.invariant.0 (micros_of c.args.start.exponent (units_of c.args.start.exponent c.tokens.clock)) c.in-Some.high (played k.0 c.args.start.code.now c.args.start.exponent (units_of c.args.start.exponent c.tokens.clock) (words_left c.next_bit.new.self))) ∙ (ap (behind c.tokens.invariant.0) (sym k.2) ∙ i.rest));
+        rest = (sym (one_change c.tokens.invariant.0 (micros_of c.args.start.exponent (units_of c.args.start.exponent c.tokens.clock)) c.in-Bit.high (played k.0 c.args.start.code.now c.args.start.exponent (units_of c.args.start.exponent c.tokens.clock) (words_left c.next_short.new.self))) ∙ (ap (behind c.tokens.invariant.0) (sym k.2) ∙ i.rest));
       },
     )

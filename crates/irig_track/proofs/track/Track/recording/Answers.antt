@@ -11,9 +11,8 @@ loop-index-preserved c =
     ∙ ap (λ es. es ++ c.get-pulse.result.fall ∷ []) (c.in_ok-push.ensures.items ∙ ap (λ es. es ++ c.get-pulse.result.rise ∷ []) c.loop-index.invariant)
     ∙ edges_more c.loop-index.index c.get-pulse.result c.self.inside.pulses.items c.get-pulse.ensures
 
-pub unreachable-requires : goal.unreachable-requires
-unreachable-requires c =
+pub from_parts-requires : goal.from_parts-requires
+from_parts-requires c =
     let all : edges_of c.self.inside.pulses.items ≡ c.loop-index.edges.items =
     sym (c.loop-index.invariant ∙ edges_all c.loop-index.index c.self.inside.pulses.items (omega arith)) in
-    let bad = c.in-Err.ensures.accepted.1 (subst (IsRecording c.self.inside.micros) all (recording_of c.self.inside.micros c.self.inside.pulses.items c.self.invariant)) in
-    cc
+    record { lawful = subst (IsRecording c.self.inside.micros) all (recording_of c.self.inside.micros c.self.inside.pulses.items c.self.invariant) }
