@@ -1,6 +1,8 @@
 mod Changing
 mod Deleting
 mod Framing
+mod Generating
+mod Regenerating
 mod Inserting
 mod Machines
 mod Pulses

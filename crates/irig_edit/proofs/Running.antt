@@ -10,7 +10,7 @@ use Rattle.irig_track.specs.declared.pulse.Pulse.{Pulse}
 use Rattle.irig_track.proofs.Sets.{only_pulses}
 use Rattle.irig_edit.specs.Becoming.{IsEdit}
 use Rattle.irig_edit.specs.Calls.{Call}
-use Rattle.irig_edit.specs.Calls.Call.{Insert, Delete, Split, Join, Shift, Invert, Force, SetFormat, SetMark, Undo, Redo, Go}
+use Rattle.irig_edit.specs.Calls.Call.{Insert, Delete, Split, Join, Shift, Invert, Force, Regen, SetFormat, SetMark, Undo, Redo, Go}
 use Rattle.irig_edit.specs.Edits.{cursor_after}
 use Rattle.irig_edit.specs.Machine.{Steps, Accepts, Edits, kept}
 use Rattle.irig_edit.specs.Runs.{Answered, Runs, accepted_of, OneOutcome, EditIsTakenBack, UndosAreMadeAgain}
@@ -58,6 +58,8 @@ accepts_one (Join i j) old new other h g = edits_one (Join i j) old new other h 
 accepts_one (Shift i j d) old new other h g = edits_one (Shift i j d) old new other h g
 accepts_one (Invert a b) old new other h g = edits_one (Invert a b) old new other h g
 accepts_one (Force i e) old new other h g = edits_one (Force i e) old new other h g
+accepts_one (Regen start frames moment control) old new other h g =
+    edits_one (Regen start frames moment control) old new other h g
 accepts_one (SetFormat f) old new other h g = edits_one (SetFormat f) old new other h g
 accepts_one (SetMark l t) old new other h g = edits_one (SetMark l t) old new other h g
 accepts_one Undo old new other h g = some_one (undone old) new other h g
@@ -84,6 +86,7 @@ edit_of (Join i j) old new edit h = h
 edit_of (Shift i j d) old new edit h = h
 edit_of (Invert a b) old new edit h = h
 edit_of (Force i e) old new edit h = h
+edit_of (Regen start frames moment control) old new edit h = h
 edit_of (SetFormat f) old new edit h = h
 edit_of (SetMark l t) old new edit h = h
 edit_of Undo old new edit h = absurd edit

@@ -3,7 +3,7 @@ use Rattle.std.proofs.Common.{◌≡◌, ℕ, None, Result, Ok, Err, OnOk, OnErr
 use Rattle.irig_journal.specs.Machine.{Machine, recorded}
 use Rattle.irig_edit.specs.State.{State}
 use Rattle.irig_edit.specs.Calls.{Call}
-use Rattle.irig_edit.specs.Calls.Call.{Insert, Delete, Split, Join, Shift, Invert, Force, SetFormat, SetMark, Undo, Redo, Go}
+use Rattle.irig_edit.specs.Calls.Call.{Insert, Delete, Split, Join, Shift, Invert, Force, Regen, SetFormat, SetMark, Undo, Redo, Go}
 use Rattle.irig_edit.specs.Machine.{Steps, Accepts, Edits, kept}
 use Rattle.irig_edit.specs.Becoming.{Becomes, IsEdit, judgement_of}
 use Rattle.irig_edit.specs.Refusals.{refusal_of}
@@ -19,6 +19,7 @@ refusal_of-edit (Join i j) m edit = refl
 refusal_of-edit (Shift i j d) m edit = refl
 refusal_of-edit (Invert a b) m edit = refl
 refusal_of-edit (Force i e) m edit = refl
+refusal_of-edit (Regen start frames moment control) m edit = refl
 refusal_of-edit (SetFormat f) m edit = refl
 refusal_of-edit (SetMark l t) m edit = refl
 refusal_of-edit Undo m edit = absurd edit
@@ -34,6 +35,7 @@ Accepts-edit (Join i j) old new edit h = h
 Accepts-edit (Shift i j d) old new edit h = h
 Accepts-edit (Invert a b) old new edit h = h
 Accepts-edit (Force i e) old new edit h = h
+Accepts-edit (Regen start frames moment control) old new edit h = h
 Accepts-edit (SetFormat f) old new edit h = h
 Accepts-edit (SetMark l t) old new edit h = h
 Accepts-edit Undo old new edit h = absurd edit

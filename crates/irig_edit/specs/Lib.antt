@@ -5,6 +5,7 @@ pub mod Edits
 pub mod Machine
 pub mod Present
 pub mod Refusals
+pub mod Regenerated
 pub mod Runs
 pub mod State
 pub mod Turning

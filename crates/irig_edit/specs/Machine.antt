@@ -1,5 +1,5 @@
--- The main statement: a call of the session is one step of the machine that keeps every former state whole. This
--- project's own.
+-- The main statement: a call of the session is one step of the machine that keeps every former
+-- state whole. This project's own.
 use Rattle.std.specs.Prelude.{◌≡◌, ◌≤◌, ℕ, List, [], Option, Some, None, Result, Ok, Err, length, replicate}
 use Rattle.std.specs.List.{AllByRecursion}
 use Rattle.irig_journal.specs.Machine.{Kept, Machine, recorded, undone, redone}
@@ -23,7 +23,8 @@ NoMarks marks = marks ≡ replicate 26 None
 abbrev pub started : State → Machine State
 started s = record { past = []; present = kept s (length s.pulses); future = [] }
 
--- an accepted edit: the present goes to the past, the state after the edit becomes the present, the future is empty
+-- an accepted edit: the present goes to the past, the state after the edit becomes the present, and
+-- the future is empty
 pub record Edits (call : Call) (old new : Machine State) : Type 0 where
   pub after : IsAfter call old.present.state new.present.state
   pub cursor : new.present.cursor ≡ cursor_after call old.present.cursor new.present.state.pulses
@@ -40,7 +41,8 @@ Accepts Redo old new = redone old ≡ Some new
 Accepts (Go i) old new = new ≡ with_cursor i old
 Accepts call old new = Edits call old new
 
--- one step: accepted where no refusal holds; else the first refusal, or want of memory where none holds, and nothing moved
+-- one step: accepted where no refusal holds; else the first refusal, or want of memory where none
+-- holds, and nothing moved
 abbrev pub Steps : Call → Machine State → Result Unit Refusal → Machine State → Type 0
 Steps call old (Ok _) new = (refusal_of call old ≡ None) × Accepts call old new
 Steps call old (Err OutOfMemory) new = (refusal_of call old ≡ None) × (new ≡ old)

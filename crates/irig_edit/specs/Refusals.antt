@@ -1,14 +1,15 @@
--- When a call is refused: the tests of each call in their order, the first that holds being answered. Want of memory
--- may be answered where none of them holds. This project's own.
+-- When a call is refused: the tests of each call in their order, the first that holds being
+-- answered. Want of memory may be answered where none of them holds. This project's own.
 use Rattle.std.specs.Prelude.{Bool, true, false, not, ◌&&◌, nat_lt, List, [], ◌∷◌, Option, Some, None, if◌then◌else◌}
 use Rattle.irig_codes.specs.Width.{nominal_of}
 use Rattle.irig_journal.specs.Machine.{Machine}
+use Rattle.irig_moment.specs.Generated.{starts_in}
 use Rattle.irig_edit.specs.State.{State}
-use Rattle.irig_edit.specs.Conditions.{is_range, are_pulses, is_touched, is_inside, is_full, is_overfull, meets_next, leaves, meets, fall_at}
+use Rattle.irig_edit.specs.Conditions.{is_range, are_pulses, is_touched, is_inside, is_full, is_overfull, meets_next, leaves, meets, fall_at, are_frames, is_met, are_too_many, is_wide}
 use Rattle.irig_edit.specs.Calls.{Call}
-use Rattle.irig_edit.specs.Calls.Call.{Insert, Delete, Split, Join, Shift, Invert, Force, SetMark, Undo, Redo, Go}
+use Rattle.irig_edit.specs.Calls.Call.{Insert, Delete, Split, Join, Shift, Invert, Force, Regen, SetMark, Undo, Redo, Go}
 use Rattle.irig_edit.specs.declared.refusal.Refusal.{Refusal}
-use Rattle.irig_edit.specs.declared.refusal.Refusal.TheVariants.{OutOfRange, NoPulse, Touching, NotInside, TooMany, NothingToUndo, NothingToRedo}
+use Rattle.irig_edit.specs.declared.refusal.Refusal.TheVariants.{OutOfRange, NoPulse, Touching, NotInside, TooMany, BadTime, BadControl, NothingToUndo, NothingToRedo}
 
 -- the first whose test holds
 abbrev pub first_of : List (Bool × Refusal) → Option Refusal
@@ -32,6 +33,10 @@ tests_of (Force i e) s =
     (are_pulses i i s && nat_lt s.micros (fall_at i (nominal_of s.format e) s), OutOfRange)
     ∷ (not (are_pulses i i s), NoPulse)
     ∷ (meets_next i (fall_at i (nominal_of s.format e) s) s, Touching) ∷ []
+tests_of (Regen start frames moment control) s =
+    (not (are_frames start frames s), OutOfRange) ∷ (is_met start s, Touching)
+    ∷ (are_too_many start frames s, TooMany) ∷ (not (starts_in s.format moment), BadTime)
+    ∷ (is_wide control s, BadControl) ∷ []
 tests_of (SetMark letter (Some t)) s = (nat_lt s.micros t, OutOfRange) ∷ []
 tests_of (Go i) s = (not (are_pulses i i s), NoPulse) ∷ []
 tests_of _ s = []

@@ -1,4 +1,5 @@
--- Calls one after the other, over the machine that keeps every former state whole. This project's own.
+-- Calls one after the other, over the machine that keeps every former state whole. This project's
+-- own.
 use Rattle.std.specs.Prelude.{◌≡◌, ℕ, List, [], ◌∷◌, Result, Ok, is_ok, replicate, if◌then◌else◌}
 use Rattle.irig_journal.specs.Machine.{Machine}
 use Rattle.irig_edit.specs.Becoming.{IsEdit}
@@ -30,13 +31,15 @@ abbrev pub OneOutcome : Type 0
 OneOutcome = (calls : List Answered) (old new other : Machine State)
     → Runs calls old new → Runs calls old other → new ≡ other
 
--- an accepted edit and then an accepted undo: past and present are as before, and the edit can be made again
+-- an accepted edit and then an accepted undo: past and present are as before, and the edit can be
+-- made again
 abbrev pub EditIsTakenBack : Type 0
 EditIsTakenBack = (call : Call) (old between new : Machine State) → IsEdit call
     → Steps call old (Ok tt) between → Steps Undo between (Ok tt) new
     → (new.past ≡ old.past) × (new.present ≡ old.present) × (new.future ≡ between.present ∷ [])
 
--- k accepted undos and then k accepted redos, refused calls among them, give back past, present and future
+-- k accepted undos and then k accepted redos, refused calls among them, give back past, present and
+-- future
 abbrev pub UndosAreMadeAgain : Type 0
 UndosAreMadeAgain = (k : ℕ) (undos redos : List Answered) (old between new : Machine State)
     → accepted_of undos ≡ replicate k Undo → accepted_of redos ≡ replicate k Redo

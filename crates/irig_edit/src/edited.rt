@@ -24,8 +24,8 @@ impl Whole {
         put: &mut Gap<Pulse>,
     ) -> Result<Whole, AllocError>
         requires can { CanSplice self.micros at count put.old.items self.pulses }
-        ensures { IfOk result (λ w. w ≡ state self.micros (spliced at count put.old.items self.pulses)
-            self.format self.marks) }
+        ensures { IfOk result (λ w. w ≡ state self.micros
+            (spliced at count put.old.items self.pulses) self.format self.marks) }
     {
         let mut taken = Gap::new(alloc);
         taken.reserve(count)?;

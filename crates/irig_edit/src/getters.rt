@@ -100,7 +100,8 @@ impl Session {
 
     /// The text of the track's dump.
     pub fn text(&self) -> Result<Vec<u8>, AllocError>
-        ensures { IfOk result (λ text. text.items ≡ file_text (recording_of self.now.present.state)) }
+        ensures { IfOk result (λ text.
+            text.items ≡ file_text (recording_of self.now.present.state)) }
     {
         self.present.whole().text(self.alloc)
     }

@@ -3,6 +3,7 @@
 
 mod edited;
 mod edits;
+mod frames;
 mod getters;
 mod law;
 mod marks;

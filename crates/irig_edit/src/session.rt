@@ -141,10 +141,12 @@ impl Session {
     ) -> Result<(), Refusal>
         requires can { CanSplice self.old.present.state.micros at count put.old.items
             self.old.present.state.pulses }
-        requires cursor { cursor ≤ length (spliced at count put.old.items self.old.present.state.pulses) }
+        requires cursor { cursor ≤
+            length (spliced at count put.old.items self.old.present.state.pulses) }
         ensures step { (call : Call) → IsEdit call → judgement_of call self.old.present.state ≡ None
             → Becomes call self.old.present.state (with_pulses
-            (spliced at count put.old.items self.old.present.state.pulses) self.old.present.state) cursor
+            (spliced at count put.old.items self.old.present.state.pulses)
+            self.old.present.state) cursor
             → Steps call self.old result self.new }
     {
         let whole = self
@@ -159,7 +161,8 @@ impl Session {
     pub(crate) fn change(&mut self, whole: Whole, cursor: usize) -> Result<(), Refusal>
         requires cursor { cursor ≤ length whole.pulses }
         ensures step { (call : Call) → IsEdit call → judgement_of call self.old.present.state ≡ None
-            → Becomes call self.old.present.state whole cursor → Steps call self.old result self.new }
+            → Becomes call self.old.present.state whole cursor
+            → Steps call self.old result self.new }
         ensures ok { OnOk result (self.new ≡ recorded self.old (kept whole cursor)) }
         ensures err { OnErr result ((self.new ≡ self.old) × IsErrOf result Refusal.OutOfMemory) }
     {

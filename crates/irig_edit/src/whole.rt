@@ -42,7 +42,8 @@ impl Whole {
         recording: Recording,
         format: Format,
     ) -> Result<Whole, AllocError>
-        ensures { IfOk result (λ w. (recording_of w ≡ recording) × (w.format ≡ format) × NoMarks w.marks) }
+        ensures { IfOk result (λ w. (recording_of w ≡ recording) × (w.format ≡ format)
+            × NoMarks w.marks) }
     {
         let track = Track::new(alloc, recording)?;
         Ok(Whole {
@@ -96,7 +97,8 @@ impl Whole {
     pub(crate) fn with_mark(mut self, letter: usize, time: Option<u64>) -> Whole
         requires letter { letter < 26 }
         requires within { IsMark self.micros time }
-        ensures { result ≡ state self.micros self.pulses self.format (slice_set self.marks letter time) }
+        ensures { result ≡
+            state self.micros self.pulses self.format (slice_set self.marks letter time) }
     {
         self.marks[letter] = time;
         self

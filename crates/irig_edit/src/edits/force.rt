@@ -19,7 +19,8 @@ fn place(whole: &Whole, i: usize, element: Element) -> Result<Pulse, Refusal>
     ensures refused { IfErr result (λ e. judgement_of (Force i element) whole.now ≡ Some e) }
     ensures allowed { OnOk result (judgement_of (Force i element) whole.now ≡ None) }
     ensures there { OnOk result (1 ≤ i) }
-    ensures can { IfOk result (λ p. CanSplice whole.now.micros (i - 1) 1 (p ∷ []) whole.now.pulses) }
+    ensures can { IfOk result (λ p.
+        CanSplice whole.now.micros (i - 1) 1 (p ∷ []) whole.now.pulses) }
     ensures becomes { IfOk result (λ p. Becomes (Force i element) whole.now
         (with_pulses (spliced (i - 1) 1 (p ∷ []) whole.now.pulses) whole.now) i) }
 {

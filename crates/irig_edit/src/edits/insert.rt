@@ -17,7 +17,8 @@ use irig_track::Pulse;
 fn place(whole: &Whole, a: u64, b: u64) -> Result<usize, Refusal>
     ensures refused { IfErr result (λ e. judgement_of (Insert a b) whole.now ≡ Some e) }
     ensures allowed { OnOk result (judgement_of (Insert a b) whole.now ≡ None) }
-    ensures can { IfOk result (λ at. CanSplice whole.now.micros at 0 (pulse a b ∷ []) whole.now.pulses) }
+    ensures can { IfOk result (λ at.
+        CanSplice whole.now.micros at 0 (pulse a b ∷ []) whole.now.pulses) }
     ensures becomes { IfOk result (λ at. Becomes (Insert a b) whole.now
         (with_pulses (spliced at 0 (pulse a b ∷ []) whole.now.pulses) whole.now) (at + 1)) }
 {

@@ -17,7 +17,8 @@ fn place(whole: &Whole, i: usize, j: usize) -> Result<Pulse, Refusal>
     ensures refused { IfErr result (λ e. judgement_of (Join i j) whole.now ≡ Some e) }
     ensures allowed { OnOk result (judgement_of (Join i j) whole.now ≡ None) }
     ensures there { OnOk result ((1 ≤ i) × (i < j)) }
-    ensures can { IfOk result (λ p. CanSplice whole.now.micros (i - 1) (j + 1 - i) (p ∷ []) whole.now.pulses) }
+    ensures can { IfOk result (λ p.
+        CanSplice whole.now.micros (i - 1) (j + 1 - i) (p ∷ []) whole.now.pulses) }
     ensures becomes { IfOk result (λ p. Becomes (Join i j) whole.now
         (with_pulses (spliced (i - 1) (j + 1 - i) (p ∷ []) whole.now.pulses) whole.now) i) }
 {

@@ -20,7 +20,8 @@ fn place(whole: &Whole, i: usize, a: u64, b: u64) -> Result<Pulse, Refusal>
     ensures there { OnOk result (1 ≤ i) }
     ensures can { IfOk result (λ p. CanSplice whole.now.micros (i - 1) 1
         (pulse p.rise a ∷ pulse b p.fall ∷ []) whole.now.pulses) }
-    ensures becomes { IfOk result (λ p. Becomes (Split i a b) whole.now (with_pulses (spliced (i - 1) 1
+    ensures becomes { IfOk result (λ p. Becomes (Split i a b) whole.now
+        (with_pulses (spliced (i - 1) 1
         (pulse p.rise a ∷ pulse b p.fall ∷ []) whole.now.pulses) whole.now) (i + 1)) }
 {
     if a >= b || b > whole.length() {

@@ -1,0 +1,134 @@
+//! A stretch of time is filled with frames.
+
+ghost use Rattle.std.specs.Prelude.{◌≡◌, ◌+◌, ◌*◌, ◌^◌, ◌<◌, ◌≤◌, None, Some, IfOk, IfErr, OnOk, IsTrue, length, if◌then◌else◌};
+ghost use Rattle.irig_codes.specs.Format.{control_count_of};
+ghost use Rattle.irig_moment.specs.Generated.{starts_in};
+ghost use Rattle.irig_track.specs.Splices.{spliced, CanSplice};
+ghost use Rattle.irig_edit.specs.Becoming.{Becomes, judgement_of};
+ghost use Rattle.irig_edit.specs.Calls.Call.{Regen};
+ghost use Rattle.irig_edit.specs.Conditions.{are_frames, is_met};
+ghost use Rattle.irig_edit.specs.Machine.{Steps};
+ghost use Rattle.irig_edit.specs.Regenerated.{frames_end, frames_pulses, rising_before};
+ghost use Rattle.irig_edit.specs.State.{IsState, with_pulses};
+
+use crate::frames::{pulses_of, span};
+use crate::refusal::Refusal;
+use crate::session::Session;
+use crate::whole::Whole;
+use irig_codes::control_count;
+use irig_moment::Moment;
+
+/// The pulses that rise in a stretch of time: how many stand before them, and how many they are.
+#[derive(Clone, Copy)]
+struct Stretch {
+    at: usize,
+    count: usize,
+}
+
+/// The time at which frames end that begin at a start, if there are 1 to 10,000 of them and they
+/// end within the length; in microseconds.
+fn end_of(whole: &Whole, start: u64, frames: u64) -> Option<u64>
+    ensures { result ≡ (if are_frames start frames whole.now
+        then Some (frames_end whole.now.format start frames) else None) }
+{
+    if frames == 0 || frames > 10_000 {
+        return None;
+    }
+    let length = whole.length();
+    let span = span(whole.format(), frames);
+    if start > length || span > length - start {
+        return None;
+    }
+    Some(start + span)
+}
+
+/// How many pulses rise before a time, in microseconds.
+fn rising_before(whole: &Whole, time: u64) -> usize
+    ensures count { result ≡ length (rising_before time whole.now.pulses) }
+    ensures within { result ≤ length whole.now.pulses }
+    ensures state { IsState whole.now }
+{
+    let _len = whole.len();
+    if time == 0 { 0 } else { whole.find(time - 1) }
+}
+
+/// Whether the last of the pulses that rise before a time falls at it or after it.
+fn is_met(whole: &Whole, risen: usize, time: u64) -> bool
+    requires count { risen ≡ length (rising_before time whole.now.pulses) }
+    requires within { risen ≤ length whole.now.pulses }
+    ensures { result ≡ is_met time whole.now }
+{
+    let _len = whole.len();
+    risen > 0 && whole.pulse(risen).fall >= time
+}
+
+/// The pulses that frames from a start on take the stead of, if the frames can be made.
+fn place(
+    whole: &Whole,
+    start: u64,
+    frames: u64,
+    moment: Moment,
+    control: u64,
+) -> Result<Stretch, Refusal>
+    ensures refused { IfErr result (λ e.
+        judgement_of (Regen start frames moment control) whole.now ≡ Some e) }
+    ensures allowed { OnOk result
+        (judgement_of (Regen start frames moment control) whole.now ≡ None) }
+    ensures frames { OnOk result ((frames ≤ 10000)
+        × (frames_end whole.now.format start frames ≤ 2 ^ 40)
+        × IsTrue (starts_in whole.now.format moment)
+        × (control < 2 ^ control_count_of whole.now.format)) }
+    ensures can { IfOk result (λ p. CanSplice whole.now.micros p.at p.count
+        (frames_pulses whole.now.format start frames moment control) whole.now.pulses) }
+    ensures becomes { IfOk result (λ p. Becomes (Regen start frames moment control) whole.now
+        (with_pulses (spliced p.at p.count
+        (frames_pulses whole.now.format start frames moment control) whole.now.pulses) whole.now)
+        (p.at + 100 * frames)) }
+    ensures few { IfOk result (λ p. p.at ≤ 2 ^ 22) }
+{
+    let Some(end) = end_of(whole, start, frames) else {
+        return Err(Refusal::OutOfRange);
+    };
+    let at = rising_before(whole, start);
+    if is_met(whole, at, start) {
+        return Err(Refusal::Touching);
+    }
+    let count = rising_before(whole, end) - at;
+    if 100 * frames as usize > whole.room() + count {
+        return Err(Refusal::TooMany);
+    }
+    let format = whole.format();
+    if !moment.starts(format) {
+        return Err(Refusal::BadTime);
+    }
+    if control >> control_count(format) > 0 {
+        return Err(Refusal::BadControl);
+    }
+    Ok(Stretch { at, count })
+}
+
+impl Session {
+    /// Fills the time from a start on, in microseconds, with frames of nominal pulses: the pulses
+    /// that rise in it go. The first frame tells the moment, each further one a frame period more,
+    /// and all have the control functions, the first control element as the lowest bit. The cursor
+    /// goes to the last new pulse.
+    ///
+    /// E1 unless there are 1 to 10,000 frames, which end within the length; E3 where a pulse rises
+    /// before the start and falls at it or after it; E5 where there would be more than 2^22 pulses;
+    /// E7 where no frame begins at the moment; E8 where the format has too few control elements.
+    pub fn regen(
+        &mut self,
+        start: u64,
+        frames: u64,
+        moment: Moment,
+        control: u64,
+    ) -> Result<(), Refusal>
+        ensures step { Steps (Regen start frames moment control) self.old result self.new }
+    {
+        let stretch = place(self.present.whole(), start, frames, moment, control)?;
+        let format = self.present.whole().format();
+        let mut put = pulses_of(self.alloc, format, start, frames, moment, control)?;
+        let cursor = stretch.at + 100 * frames as usize;
+        self.splice(stretch.at, stretch.count, &mut put, cursor)
+    }
+}
