@@ -1,8 +1,15 @@
 pub mod WordLemmas
+pub mod NumberLemmas
 pub mod Known
 pub mod Lines
 pub mod Runs
+pub mod Quits
+pub mod Steps
+pub mod Arguments
 pub mod TrackLemmas
 pub mod RowLemmas
 pub mod Blocks
+pub mod Pieces
+pub mod Numbered
+pub mod MarkLines
 pub mod FrameLines

@@ -1,19 +1,15 @@
 -- A script from its start to what ends its run.
-use Rattle.std.proofs.Common.{◌≡◌, ◌++◌, ◌∷◌, ◌≤◌, ◌&&◌, [], ℕ, Option, Some, None, Bool, true, false, List, length, codes, refl, ap, sym, ◌∙◌, subst, append_assoc}
+use Rattle.std.proofs.Common.{◌≡◌, ◌++◌, ◌∷◌, ◌≤◌, [], ℕ, Option, Some, None, true, false, List, length, ap, sym, ◌∙◌, subst, append_assoc}
 use Rattle.std.specs.Prelude.{IfSome}
 use Rattle.std.specs.Io.KnownBytes.{Consumes, IsAtEnd}
-use Rattle.std.specs.Str.{bytes_eq}
-use Rattle.std.proofs.lemmas.Slice.Eq.{bytes_eq-Decides}
 use Rattle.std.proofs.lemmas.List.{append-nil}
 use Rattle.std.proofs.lemmas.Grind.{flat_map-append}
 use Rattle.irig_ed.specs.Machine.{Machine}
-use Rattle.irig_ed.specs.Script.{until_quit, script_lines, lines_of, is_quit, are_quit, words_of, Means}
+use Rattle.irig_ed.specs.Script.{until_quit, script_lines, lines_of, is_quit}
 use Rattle.irig_ed.specs.Printed.{Answer, printed}
 use Rattle.irig_ed.specs.Desk.{Desk, Tells, status_after}
 use Rattle.irig_ed.specs.Run.{Runs, Ran, Broke, Stopped, unlines}
 use Rattle.irig_ed.specs.Going.{Holds, Obeyed, BrokeIn}
-use Rattle.irig_ed.specs.declared.command.Command.{Command}
-use Rattle.irig_ed.specs.declared.command.Command.TheVariants.{Quit}
 use Rattle.irig_ed.specs.declared.status.Status.{Status}
 use Rattle.irig_ed.specs.declared.line.Line.{Line}
 use Rattle.irig_ed.proofs.Lines.{first_line, lines_and, until_ended, runs-runs, tells-tells, tells-answers, status_after-append, answers_assoc}
@@ -102,26 +98,3 @@ run_broken (Some input) (Some ys) a b c st su s t u read line p e h f =
 pub run_stopped : (from to : Option (List ℕ)) (a b : Desk) (st su : Status) (s t : Machine) (read : List ℕ) (line : Line) (least : ℕ) → Consumes from to read → least ≤ length read → Obeyed false a b st su s t read line
     → Stopped a b from to s t least
 run_stopped from to a b st su s t read line least p n h = record { bytes = read; read = p; many = n; answers = h.answers; texts = h.texts; rest = h.ends.0; begun = h.ends.2.plain; told = h.told; goes = h.ends.1 }
-
-same_bytes : (xs ys : List ℕ) → bytes_eq xs ys ≡ true → xs ≡ ys
-same_bytes xs ys e = (bytes_eq-Decides xs ys).0 e
-
--- a line that is none of the language does not end the script
-pub line_bad : (text bytes : List ℕ) → bytes ≡ text → ((command : Command) → Means command (words_of bytes) → ⊥) → (command : Command) → Means command (words_of text) → ⊥
-line_bad text bytes e h = subst (λ (l : List ℕ). (command : Command) → Means command (words_of l) → ⊥) e h
-
-pub not_quit : (text : List ℕ) → ((command : Command) → Means command (words_of text) → ⊥) → is_quit text ≡ false
-not_quit text h = go (is_quit text) refl
-  where
-    both : (x y : Bool) → (x && y) ≡ true → y ≡ true
-    both true y e = e
-    both false y e = absurd (cc)
-
-    word : (words : List (List ℕ)) → are_quit words ≡ true → words ≡ codes "quit" ∷ []
-    word [] e = absurd (cc)
-    word (w ∷ []) e = ap (λ v. v ∷ []) (same_bytes w (codes "quit") e)
-    word (w ∷ v ∷ ws) e = absurd (cc)
-
-    go : (v : Bool) → is_quit text ≡ v → is_quit text ≡ false
-    go true e = absurd (h Quit (word (words_of text) (both _ _ e)))
-    go false e = e

@@ -1,38 +1,67 @@
--- Words of a line, and numbers.
-use Rattle.std.proofs.Common.{◌≡◌, ℕ, suc, ◌+◌, ◌-◌, ◌*◌, ◌<◌, ◌≤◌, ◌^◌, Bool, true, false, not, if◌then◌else◌, List, [], ◌∷◌, length, take, drop, get_or, refl, sym, ap, ◌∙◌, arith, add-one, drop-cons, pow-suc}
-use Rattle.std.proofs.Math.Nat.{pow-le-pow_right}
+-- A text cut at a byte, and the words of a line.
+use Rattle.std.proofs.Common.{◌≡◌, ◌==◌, ℕ, zero, suc, ◌+◌, ◌-◌, ◌<◌, ◌≤◌, ◌++◌, Bool, true, false, not, ◌&&◌, ◌||◌, if◌then◌else◌, List, [], ◌∷◌, length, take, drop, get_or, refl, sym, ap, ◌∙◌, arith, add-one, drop-cons, append_assoc}
 use Rattle.std.proofs.Math.Seq.{take-length}
-use Rattle.std.proofs.lemmas.List.{length-drop}
-use Rattle.std.proofs.lemmas.Bool.Decides.{nat_tests}
-use Rattle.std.specs.List.{list_all}
-use Rattle.irig_ed.specs.Script.{is_space, begins_word, onto_first, words_of, is_digit, number_after}
-use Rattle.irig_ed.specs.Words.{word_and, is_kind, run_length}
+use Rattle.std.proofs.lemmas.List.{append-nil, length-drop, take_more}
+use Rattle.irig_ed.specs.Grammar.{ends_range, range_length}
+use Rattle.irig_ed.specs.Words.{is_space, is_stop, before, onward, begins_word, onto_first, words_of, word_and}
+use Rattle.irig_ed.specs.declared.cutting.Stop.{Stop}
+use Rattle.irig_ed.specs.declared.cutting.Stop.TheVariants.{Blank, Text}
 
 opened : (s : List ℕ) (i : ℕ) → i < length s → drop i s ≡ get_or s i 0 ∷ drop (i + 1) s
 opened s i h = rw (add-one, drop-cons s i 0) refl
 
--- one byte more of a run
-pub run_more : (space : Bool) (s : List ℕ) (i : ℕ) → i < length s → is_kind space (get_or s i 0) ≡ true
-    → i + run_length space (drop i s) ≡ i + 1 + run_length space (drop (i + 1) s)
-run_more space s i h k = rw (opened s i h, k) (omega arith)
+-- what is left of a text is all that is behind a place
+pub rest_whole : (l : List ℕ) (done : ℕ) → take (length l - done) (drop done l) ≡ drop done l
+rest_whole l done = ap (λ n. take n (drop done l)) (sym (length-drop done l)) ∙ take-length (drop done l)
 
--- a run's end
-pub run_stops : (space : Bool) (s : List ℕ) (i : ℕ) → i < length s → is_kind space (get_or s i 0) ≡ false → run_length space (drop i s) ≡ 0
-run_stops space s i h k = rw (opened s i h, k) refl
+nothing_left : (s : List ℕ) (i : ℕ) → length s ≤ i → drop i s ≡ []
+nothing_left [] zero h = refl
+nothing_left [] (suc i) h = refl
+nothing_left (b ∷ s) zero h = absurd (omega (arith, h))
+nothing_left (b ∷ s) (suc i) h = nothing_left s i (omega (arith, h))
 
-pub kind_of : (space : Bool) (b : ℕ) (t : Bool) → is_space b ≡ t → (t ≡ space) → is_kind space b ≡ true
-kind_of true b t e k = e ∙ k
-kind_of false b t e k = ap not (e ∙ k)
+-- how far a text is cut
+abbrev pub IsCut : Stop → List ℕ → ℕ → Type 0
+IsCut stop s i = (before stop s ≡ take i s ++ before stop (drop i s)) × (onward stop s ≡ onward stop (drop i s))
 
-pub other_kind : (space : Bool) (b : ℕ) (t : Bool) → is_space b ≡ t → (t ≡ space → ⊥) → is_kind space b ≡ false
-other_kind true b true e k = absurd (k refl)
-other_kind true b false e k = e
-other_kind false b true e k = ap not e
-other_kind false b false e k = absurd (k refl)
+before_on : (stop : Stop) (b : ℕ) (s : List ℕ) → is_stop stop b ≡ false → before stop (b ∷ s) ≡ b ∷ before stop s
+before_on stop b s e = rw e refl
 
-pub run_most : (space : Bool) (s : List ℕ) → run_length space s ≤ length s
-run_most space [] = omega arith
-run_most space (b ∷ s) = elim (is_kind space b) as (λ v. (if v then suc (run_length space s) else 0) ≤ suc (length s)) [ true ↦ omega (arith, run_most space s) | false ↦ omega arith ]
+onward_on : (stop : Stop) (b : ℕ) (s : List ℕ) → is_stop stop b ≡ false → onward stop (b ∷ s) ≡ onward stop s
+onward_on stop b s e = rw e refl
+
+before_at : (stop : Stop) (b : ℕ) (s : List ℕ) → is_stop stop b ≡ true → before stop (b ∷ s) ≡ []
+before_at stop b s e = rw e refl
+
+onward_at : (stop : Stop) (b : ℕ) (s : List ℕ) → is_stop stop b ≡ true → onward stop (b ∷ s) ≡ b ∷ s
+onward_at stop b s e = rw e refl
+
+-- a byte more before the cut
+pub cut_more : (stop : Stop) (s : List ℕ) (i : ℕ) → i < length s → is_stop stop (get_or s i 0) ≡ false → IsCut stop s i → IsCut stop s (i + 1)
+cut_more stop s i h e c =
+    let b = get_or s i 0 in
+    let rest = drop (i + 1) s in
+    let front : before stop (drop i s) ≡ b ∷ before stop rest = ap (before stop) (opened s i h) ∙ before_on stop b rest e in
+    let back : onward stop (drop i s) ≡ onward stop rest = ap (onward stop) (opened s i h) ∙ onward_on stop b rest e in (
+      c.0 ∙ ap (λ l. take i s ++ l) front ∙ sym (append_assoc (take i s) (b ∷ []) (before stop rest)) ∙ ap (λ l. l ++ before stop rest) (sym (take_more s i 0 h)),
+      c.1 ∙ back,
+    )
+
+-- the cut
+pub cut_here : (stop : Stop) (s : List ℕ) (i : ℕ) → i < length s → is_stop stop (get_or s i 0) ≡ true → IsCut stop s i → (before stop s ≡ take i s) × (onward stop s ≡ drop i s)
+cut_here stop s i h e c =
+    let b = get_or s i 0 in
+    let rest = drop (i + 1) s in (
+      c.0 ∙ ap (λ l. take i s ++ l) (ap (before stop) (opened s i h) ∙ before_at stop b rest e) ∙ append-nil (take i s),
+      c.1 ∙ ap (onward stop) (opened s i h) ∙ onward_at stop b rest e ∙ sym (opened s i h),
+    )
+
+pub cut_end : (stop : Stop) (s : List ℕ) (i : ℕ) → length s ≤ i → IsCut stop s i → (before stop s ≡ take i s) × (onward stop s ≡ drop i s)
+cut_end stop s i h c =
+    let none = nothing_left s i h in (
+      c.0 ∙ ap (λ l. take i s ++ l) (ap (before stop) none) ∙ append-nil (take i s),
+      c.1 ∙ ap (onward stop) none ∙ sym none,
+    )
 
 -- what a byte at the front does
 words_blank : (b : ℕ) (s : List ℕ) → is_space b ≡ true → words_of (b ∷ s) ≡ words_of s
@@ -44,81 +73,37 @@ words_alone b s e k = rw (e, k) refl
 words_joined : (b : ℕ) (s : List ℕ) → is_space b ≡ false → begins_word s ≡ true → words_of (b ∷ s) ≡ onto_first b (words_of s)
 words_joined b s e k = rw (e, k) refl
 
-run_some : (space : Bool) (b : ℕ) (s : List ℕ) → is_kind space b ≡ true → run_length space (b ∷ s) ≡ suc (run_length space s)
-run_some space b s e = rw e refl
-
-run_none : (space : Bool) (b : ℕ) (s : List ℕ) → is_kind space b ≡ false → run_length space (b ∷ s) ≡ 0
-run_none space b s e = rw e refl
-
--- white space at the front is no word
-pub words_skipped : (s : List ℕ) → words_of (drop (run_length true s) s) ≡ words_of s
-words_skipped [] = refl
-words_skipped (b ∷ s) = go (is_space b) refl (words_skipped s)
-  where
-    go : (v : Bool) → is_space b ≡ v → words_of (drop (run_length true s) s) ≡ words_of s → words_of (drop (run_length true (b ∷ s)) (b ∷ s)) ≡ words_of (b ∷ s)
-    go true e h = ap (λ n. words_of (drop n (b ∷ s))) (run_some true b s e) ∙ h ∙ sym (words_blank b s e)
-    go false e h = ap (λ n. words_of (drop n (b ∷ s))) (run_none true b s e)
-
-pub run_over : (s : List ℕ) → run_length true (drop (run_length true s) s) ≡ 0
-run_over [] = refl
-run_over (b ∷ s) = go (is_space b) refl (run_over s)
-  where
-    go : (v : Bool) → is_space b ≡ v → run_length true (drop (run_length true s) s) ≡ 0 → run_length true (drop (run_length true (b ∷ s)) (b ∷ s)) ≡ 0
-    go true e h = ap (λ n. run_length true (drop n (b ∷ s))) (run_some true b s e) ∙ h
-    go false e h = ap (λ n. run_length true (drop n (b ∷ s))) (run_none true b s e) ∙ run_none true b s e
-
--- a word is the run at the front
-words_begun : (b : ℕ) (s : List ℕ) → is_space b ≡ false → words_of (b ∷ s) ≡ (b ∷ take (run_length false s) s) ∷ words_of (drop (run_length false s) s)
+-- a word goes on to the next white space
+words_begun : (b : ℕ) (s : List ℕ) → is_space b ≡ false → words_of (b ∷ s) ≡ (b ∷ before Blank s) ∷ words_of (onward Blank s)
 words_begun b [] e = words_alone b [] e refl
 words_begun b (c ∷ s) e = go (is_space c) refl (λ k. words_begun c s k)
   where
-    go : (v : Bool) → is_space c ≡ v → (is_space c ≡ false → words_of (c ∷ s) ≡ (c ∷ take (run_length false s) s) ∷ words_of (drop (run_length false s) s))
-        → words_of (b ∷ c ∷ s) ≡ (b ∷ take (run_length false (c ∷ s)) (c ∷ s)) ∷ words_of (drop (run_length false (c ∷ s)) (c ∷ s))
-    go true k h = words_alone b (c ∷ s) e (ap not k) ∙ sym (ap (λ n. (b ∷ take n (c ∷ s)) ∷ words_of (drop n (c ∷ s))) (run_none false c s (ap not k)))
-    go false k h = words_joined b (c ∷ s) e (ap not k) ∙ ap (onto_first b) (h k) ∙ sym (ap (λ n. (b ∷ take n (c ∷ s)) ∷ words_of (drop n (c ∷ s))) (run_some false c s (ap not k)))
+    go : (v : Bool) → is_space c ≡ v → (is_space c ≡ false → words_of (c ∷ s) ≡ (c ∷ before Blank s) ∷ words_of (onward Blank s))
+        → words_of (b ∷ c ∷ s) ≡ (b ∷ before Blank (c ∷ s)) ∷ words_of (onward Blank (c ∷ s))
+    go true k h = words_alone b (c ∷ s) e (ap not k) ∙ sym (ap (λ l. (b ∷ l) ∷ words_of (onward Blank (c ∷ s))) (before_at Blank c s k) ∙ ap (λ l. (b ∷ []) ∷ words_of l) (onward_at Blank c s k))
+    go false k h = words_joined b (c ∷ s) e (ap not k) ∙ ap (onto_first b) (h k) ∙ sym (ap (λ l. (b ∷ l) ∷ words_of (onward Blank (c ∷ s))) (before_on Blank c s k) ∙ ap (λ l. (b ∷ c ∷ before Blank s) ∷ words_of l) (onward_on Blank c s k))
 
-pub words_taken : (s : List ℕ) → run_length true s ≡ 0 → words_of s ≡ word_and (take (run_length false s) s) (words_of (drop (run_length false s) s))
-words_taken [] e = refl
-words_taken (b ∷ s) e = go (is_space b) refl
+-- the first word of a text, and the others
+pub words_split : (s : List ℕ) → words_of s ≡ word_and (before Blank (onward Text s)) (words_of (onward Blank (onward Text s)))
+words_split [] = refl
+words_split (b ∷ s) = go (is_space b) refl (words_split s)
   where
-    go : (v : Bool) → is_space b ≡ v → words_of (b ∷ s) ≡ word_and (take (run_length false (b ∷ s)) (b ∷ s)) (words_of (drop (run_length false (b ∷ s)) (b ∷ s)))
-    go true k = absurd (omega (arith, e, run_some true b s k))
-    go false k = words_begun b s k ∙ sym (ap (λ n. word_and (take n (b ∷ s)) (words_of (drop n (b ∷ s)))) (run_some false b s (ap not k)))
+    go : (v : Bool) → is_space b ≡ v → words_of s ≡ word_and (before Blank (onward Text s)) (words_of (onward Blank (onward Text s)))
+        → words_of (b ∷ s) ≡ word_and (before Blank (onward Text (b ∷ s))) (words_of (onward Blank (onward Text (b ∷ s))))
+    go true e h = words_blank b s e ∙ h ∙ sym (ap (λ t. word_and (before Blank t) (words_of (onward Blank t))) (onward_on Text b s (ap not e)))
+    go false e h =
+        words_begun b s e
+        ∙ sym (ap (λ t. word_and (before Blank t) (words_of (onward Blank t))) (onward_at Text b s (ap not e))
+        ∙ ap (λ l. word_and l (words_of (onward Blank (b ∷ s)))) (before_on Blank b s e)
+        ∙ ap (λ l. (b ∷ before Blank s) ∷ words_of l) (onward_on Blank b s e))
 
--- what is left of a text is all that is behind a place
-rest_whole : (l : List ℕ) (done : ℕ) → take (length l - done) (drop done l) ≡ drop done l
-rest_whole l done = ap (λ n. take n (drop done l)) (sym (length-drop done l)) ∙ take-length (drop done l)
+-- a byte more of a range
+pub range_more : (quoted : Bool) (s : List ℕ) (i : ℕ) → i < length s → ends_range quoted (get_or s i 0) ≡ false
+    → i + range_length quoted (drop i s) ≡ i + 1 + range_length (get_or s i 0 == 39) (drop (i + 1) s)
+range_more quoted s i h k = rw (opened s i h, k) (omega arith)
 
--- the first word of a line
-pub words_split : (s : List ℕ) (start end : ℕ) → start ≡ run_length true s → end ≡ run_length false (take (length s - start) (drop start s))
-    → words_of s ≡ word_and (take end (take (length s - start) (drop start s)))
-    (words_of (take (length (take (length s - start) (drop start s)) - end) (drop end (take (length s - start) (drop start s)))))
-words_split s start end e f = go (take (length s - start) (drop start s)) (rest_whole s start) f
-  where
-    go : (text : List ℕ) → text ≡ drop start s → end ≡ run_length false text → words_of s ≡ word_and (take end text) (words_of (take (length text - end) (drop end text)))
-    go text t k =
-        let over : run_length true text ≡ 0 = ap (run_length true) t ∙ ap (λ n. run_length true (drop n s)) e ∙ run_over s in
-        sym (words_skipped s) ∙ ap (λ n. words_of (drop n s)) (sym e) ∙ ap words_of (sym t)
-        ∙ words_taken text over
-        ∙ ap (λ n. word_and (take n text) (words_of (drop n text))) (sym k)
-        ∙ ap (λ l. word_and (take end text) (words_of l)) (sym (rest_whole text end))
+pub range_stops : (quoted : Bool) (s : List ℕ) (i : ℕ) → i < length s → ends_range quoted (get_or s i 0) ≡ true → range_length quoted (drop i s) ≡ 0
+range_stops quoted s i h k = rw (opened s i h, k) refl
 
--- a number of few digits is small
-pub small_number : (i n : ℕ) → i ≤ 17 → n < 10 ^ i → n < 100000000000000000
-small_number i n le lt = omega (arith, pow-le-pow_right {n = 10} (omega arith) {i = i} {j = 17} le)
-
-pub next_small : (i n d : ℕ) → n < 10 ^ i → d ≤ 9 → 10 * n + d < 10 ^ (i + 1)
-next_small i n d lt le = rw (add-one, pow-suc) (omega arith)
-
-pub digit_most : (b : ℕ) → is_digit b ≡ true → (48 ≤ b) × (b ≤ 57)
-digit_most b h = (grind (arith, nat_tests), grind (arith, nat_tests))
-
--- a digit more
-pub digits_more : (s : List ℕ) (i : ℕ) → i < length s → is_digit (get_or s i 0) ≡ true → list_all is_digit (drop i s) ≡ list_all is_digit (drop (i + 1) s)
-digits_more s i h k = rw (opened s i h, k) refl
-
-pub digits_stop : (s : List ℕ) (i : ℕ) → i < length s → is_digit (get_or s i 0) ≡ false → list_all is_digit (drop i s) ≡ false
-digits_stop s i h k = rw (opened s i h, k) refl
-
-pub number_more : (n : ℕ) (s : List ℕ) (i : ℕ) → i < length s → number_after n (drop i s) ≡ number_after (10 * n + (get_or s i 0 - 48)) (drop (i + 1) s)
-number_more n s i h = rw (opened s i h) refl
+pub range_done : (quoted : Bool) (s : List ℕ) (i : ℕ) → length s ≤ i → range_length quoted (drop i s) ≡ 0
+range_done quoted s i h = rw (nothing_left s i h) refl

@@ -6,7 +6,7 @@ use Rattle.irig_ed.specs.Machine.{Machine}
 use Rattle.irig_ed.specs.Answer.{texts_put}
 use Rattle.irig_ed.specs.Printed.{Answer}
 use Rattle.irig_ed.specs.declared.reply.Reply.{Reply}
-use Rattle.irig_ed.specs.declared.reply.Reply.TheVariants.{Silent, Written, Frames, WriteFailed}
+use Rattle.irig_ed.specs.declared.reply.Reply.TheVariants.{Refused, BadLine, LineTooLong, WriteFailed}
 use Rattle.irig_ed.specs.declared.status.Status.{Status}
 use Rattle.irig_ed.specs.declared.status.Status.TheVariants.{SomeRefused}
 
@@ -32,10 +32,11 @@ failures_in (answer ∷ answers) = failures_of answer.reply + failures_in answer
 
 -- a reply that begins with a question mark
 abbrev pub is_refusal : Reply → Bool
-is_refusal Silent = false
-is_refusal (Written count) = false
-is_refusal Frames = false
-is_refusal _ = true
+is_refusal (Refused why) = true
+is_refusal BadLine = true
+is_refusal LineTooLong = true
+is_refusal WriteFailed = true
+is_refusal _ = false
 
 -- the status after these answers
 abbrev pub status_after : Status → List Answer → Status

@@ -1,5 +1,5 @@
 -- What answers print. This project's own.
-use Rattle.std.specs.Prelude.{ℕ, suc, List, [], ◌∷◌, ◌++◌, ◌+◌, codes, decimal, get_or}
+use Rattle.std.specs.Prelude.{ℕ, List, [], ◌∷◌, ◌++◌, ◌+◌, codes, decimal, get_or}
 use Rattle.std.specs.List.{flat_map}
 use Rattle.irig_track.specs.Edges.{pulse}
 use Rattle.irig_index.specs.declared.record.Record.{Record}
@@ -7,9 +7,11 @@ use Rattle.irig_edit.specs.State.{State, frames_of}
 use Rattle.irig_edit.specs.declared.refusal.Refusal.{Refusal}
 use Rattle.irig_edit.specs.declared.refusal.Refusal.TheVariants as refusal
 use Rattle.irig_ed.specs.FrameLine.{frame_line}
+use Rattle.irig_ed.specs.Listings.{list_text, marks_text, info_text}
 use Rattle.irig_ed.specs.Machine.{Machine}
+use Rattle.irig_ed.specs.Numbered.{numbered}
 use Rattle.irig_ed.specs.declared.reply.Reply.{Reply}
-use Rattle.irig_ed.specs.declared.reply.Reply.TheVariants.{Silent, Written, Frames, Refused, BadLine, LineTooLong, WriteFailed}
+use Rattle.irig_ed.specs.declared.reply.Reply.TheVariants.{Silent, Written, Listed, Frames, Marks, Info, Refused, BadLine, LineTooLong, WriteFailed}
 
 -- why a command is refused, as a line
 abbrev pub refusal_text : Refusal → List ℕ
@@ -30,20 +32,18 @@ abbrev pub record_line : State → ℕ → Record → List ℕ
 record_line s number r =
     frame_line number (r.marker + 1) (get_or s.pulses r.marker (pulse 0 0)).rise r.verdict
 
--- the lines of frames that are numbered from here on
-abbrev pub record_lines : State → ℕ → List Record → List ℕ
-record_lines s number [] = []
-record_lines s number (r ∷ rs) = record_line s number r ++ record_lines s (suc number) rs
-
 -- a line for each frame of a state, numbered from 1
 abbrev pub frames_text : State → List ℕ
-frames_text s = record_lines s 1 (frames_of s)
+frames_text s = numbered (record_line s) 1 (frames_of s)
 
 -- what a reply prints, as the machine stands with which it is given
 abbrev pub reply_text : Machine → Reply → List ℕ
 reply_text m Silent = []
 reply_text m (Written count) = decimal count ++ 10 ∷ []
+reply_text m (Listed before count) = list_text before count m.present.state
 reply_text m Frames = frames_text m.present.state
+reply_text m Marks = marks_text m.present.state
+reply_text m Info = info_text m
 reply_text m (Refused why) = refusal_text why
 reply_text m BadLine = codes "? S1 BadLine\n"
 reply_text m LineTooLong = codes "? S2 LineTooLong\n"

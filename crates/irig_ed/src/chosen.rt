@@ -1,7 +1,6 @@
 //! What a command line asks for.
 
 use irig_codes::Format;
-use std::alloc::AllocError;
 
 /// What a command line asks for.
 #[derive(Drop)]
@@ -23,10 +22,4 @@ pub enum UsageFault {
     Words(clap::Error),
     /// E6: the format does not permit the expression.
     BadExpression,
-}
-
-impl From<AllocError> for UsageFault {
-    fn from(error: AllocError) -> UsageFault {
-        UsageFault::Words(error.into())
-    }
 }

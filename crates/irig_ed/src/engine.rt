@@ -2,22 +2,20 @@
 
 ghost use Rattle.std.specs.Prelude.{◌≡◌, ◌≢◌, ◌++◌, ◌∷◌, [], ◌^◌, ℕ, List, IfOk, IfSome, OnOk, OnErr, IsErrOf};
 ghost use Rattle.std.specs.Io.KnownBytes.{Appends};
-ghost use Rattle.irig_ed.specs.Script.{Means, is_quit, words_of};
-ghost use Rattle.irig_ed.specs.Answer.{Obeys, Writes, reply_to};
+ghost use Rattle.irig_ed.specs.Script.{is_quit};
 ghost use Rattle.irig_ed.specs.Printed.{answer_with, reply_text};
-ghost use Rattle.irig_ed.specs.Desk.{desk, status_after, Puts};
+ghost use Rattle.irig_ed.specs.Desk.{desk, status_after};
 ghost use Rattle.irig_ed.specs.Run.{Ran, Broke, Stopped};
 ghost use Rattle.irig_ed.specs.Going.{Answers, BrokeIn, Holds, Obeyed, PutsFor};
 ghost use Rattle.irig_ed.specs.Front.{AppendsFront};
 
-use crate::command::{BadLine, Command};
 use crate::line::Line;
+use crate::obeying::obey_line;
 use crate::output::PrintFault;
-use crate::parsing::parse_line;
 use crate::reply::{Reply, print};
 use crate::shelf::Shelf;
 use crate::status::{RunFault, Status};
-use irig_edit::{Refusal, Session};
+use irig_edit::Session;
 use std::io::{Read, Write};
 
 /// The most reads of a script, each for at most 4,096 bytes.
@@ -169,63 +167,4 @@ fn answer<W: Write>(
         *status = Status::SomeRefused;
     }
     print(reply, session, out)
-}
-
-/// Obeys a line; `None` where it ends the script.
-fn obey_line<S: Shelf>(line: &Line, session: &mut Session, shelf: &mut S) -> Option<Reply>
-    ensures answer { Answers result session.old session.new line.now }
-    ensures put { PutsFor result (S.texts shelf.old) (S.texts shelf.new)
-        (S.failures shelf.old) (S.failures shelf.new) session.old }
-{
-    let Some(text) = line.text() else {
-        return Some(Reply::LineTooLong);
-    };
-    match parse_line(text) {
-        Ok(Command::Quit) => None,
-        Ok(command) => Some(obey(command, session, shelf)),
-        Err(BadLine) => Some(Reply::BadLine),
-    }
-}
-
-/// Obeys a command that does not end the script.
-fn obey<S: Shelf>(command: Command, session: &mut Session, shelf: &mut S) -> Reply
-    requires { command ≢ Command.Quit }
-    ensures answer { Obeys command session.old result session.new }
-    ensures put { Puts (S.texts shelf.old) (S.texts shelf.new)
-        (S.failures shelf.old) (S.failures shelf.new) session.old result }
-{
-    match command {
-        Command::Nothing | Command::Quit => Reply::Silent,
-        Command::Write => write(session, shelf),
-        Command::Frames => Reply::Frames,
-        Command::Insert(a, b) => edited(session.insert(a, b)),
-        Command::Invert(a, b) => edited(session.invert(a, b)),
-        Command::Undo => edited(session.undo()),
-        Command::Redo => edited(session.redo()),
-    }
-}
-
-/// The reply to an edit.
-fn edited(outcome: Result<(), Refusal>) -> Reply
-    ensures { result ≡ reply_to outcome }
-{
-    match outcome {
-        Ok(()) => Reply::Silent,
-        Err(why) => Reply::Refused(why),
-    }
-}
-
-/// Puts the text of the track.
-fn write<S: Shelf>(session: &Session, shelf: &mut S) -> Reply
-    ensures answer { Writes session.now result }
-    ensures put { Puts (S.texts shelf.old) (S.texts shelf.new)
-        (S.failures shelf.old) (S.failures shelf.new) session.now result }
-{
-    let Ok(text) = session.text() else {
-        return Reply::Refused(Refusal::OutOfMemory);
-    };
-    match shelf.put(text.as_slice()) {
-        Ok(()) => Reply::Written(text.len() as u64),
-        Err(_) => Reply::WriteFailed,
-    }
 }

@@ -7,7 +7,7 @@ use crate::shelf::{Shelf, ShelfFault};
 use std::alloc::Global;
 use std::marker::Model;
 
-/// A shelf that keeps its texts, of which one put may be told to fail.
+/// A shelf that keeps its texts, for tests: one put may be told to fail.
 #[derive(Drop)]
 pub struct MemoryShelf {
     alloc: Global,
@@ -23,13 +23,13 @@ impl Model for MemoryShelf {
 
     ghost Value = { ShelfView };
 
-    ghost view = { λ s. shelf_view (map (λ t. t.items) s.texts.items) s.failures };
+    ghost view = { λ s. shelf_view (map (λ t. t.items) s.texts.items) s.failures s.fail };
 }
 
 impl MemoryShelf {
     /// An empty shelf. The put of this number, from 1, fails.
     pub fn new(alloc: Global, fail: Option<u64>) -> MemoryShelf
-        ensures { result ≡ shelf_view [] 0 }
+        ensures { result ≡ shelf_view [] 0 fail }
     {
         MemoryShelf {
             alloc,

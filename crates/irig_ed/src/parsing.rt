@@ -1,120 +1,300 @@
 //! Lines of a script as commands.
 
-ghost use Rattle.std.specs.Prelude.{◌≡◌, ◌≤◌, ◌<◌, ◌^◌, ◌↔◌, ◌+◌, ◌*◌, ℕ, List, [], ◌∷◌, length, take, drop, IfOk, IfSome, IfNone, IfErr, OnErr, OnOk, IsTrue, true, false, not};
-ghost use Rattle.std.specs.List.{list_all};
-ghost use Rattle.irig_ed.specs.Script.{IsNumber, Means, is_space, is_digit, words_of, number_after};
-ghost use Rattle.irig_ed.specs.Words.{word_and, run_length};
+ghost use Rattle.std.specs.Prelude.{◌≡◌, ◌≤◌, ℕ, List, [], ◌∷◌, Some, take, drop, length, true, false, IfOk, OnOk, OnErr};
+ghost use Rattle.irig_codes.specs.declared.format.Kind.{Kind};
+ghost use Rattle.irig_codes.specs.declared.width.Element.{Element};
+ghost use Rattle.irig_moment.specs.Moment.{MomentView};
+ghost use Rattle.irig_moment.specs.Written.{moment_of};
+ghost use Rattle.irig_ed.specs.Addresses.{IsRange};
+ghost use Rattle.irig_ed.specs.Words.{words_of};
+ghost use Rattle.irig_ed.specs.declared.keyword.Keyword.{Keyword};
+ghost use Rattle.irig_ed.specs.declared.range.Range.{Range};
+ghost use Rattle.irig_ed.specs.declared.time.Time.{Time};
+ghost use Rattle.irig_ed.specs.Grammar.{Means, Asks, AsksIn, AreControls, AreTimes, IsExpression, element_word, ends_range, kind_word, parts_in, range_length};
+ghost use Rattle.irig_ed.specs.Letters.{is_letter};
 ghost use Rattle.irig_ed.specs.declared.command.Command.{Command};
 
+use crate::addresses::{address, letter, place, range, time};
 use crate::command::{BadLine, Command};
-
-/// The most digits of a number in a script.
-const DIGITS_LIMIT: usize = 18;
+use crate::cutting::{Stop, cut, is_space};
+use crate::keyword::{Keyword, keyword_of};
+use crate::letter::Letter;
+use crate::numbers::{control, distance, number};
+use crate::range::Range;
+use crate::time::Time;
+use crate::words::{no_word, one_word, split_word, two_words};
+use irig_codes::{Element, Kind};
+use irig_moment::Moment;
 
 /// What a line asks for, its newline left out; `BadLine` where it is none of the language.
 pub fn parse_line(line: &[u8]) -> Result<Command, BadLine>
-    ensures meant { IfOk result (λ command. Means command (words_of line.now)) }
-    ensures bad { OnErr result ((command : Command) → Means command (words_of line.now) → ⊥) }
+    ensures meant { IfOk result (λ command. Means command line.now) }
+    ensures bad { OnErr result ((command : Command) → Means command line.now → ⊥) }
 {
-    let (word, arguments) = split_word(line);
-    match word {
+    let (_, text) = cut(line, Stop::Text);
+    match text {
         [] | [b'#', ..] => Ok(Command::Nothing),
-        b"write" => alone(arguments, Command::Write),
-        b"frames" => alone(arguments, Command::Frames),
-        b"quit" => alone(arguments, Command::Quit),
-        b"undo" => alone(arguments, Command::Undo),
-        b"redo" => alone(arguments, Command::Redo),
-        b"insert" => {
-            let (a, b) = two_numbers(arguments)?;
-            Ok(Command::Insert(a, b))
-        }
-        b"invert" => {
-            let (a, b) = two_numbers(arguments)?;
-            Ok(Command::Invert(a, b))
-        }
-        _ => Err(BadLine),
+        _ => in_text(text),
     }
 }
 
-/// The command, where no argument stands.
-fn alone(arguments: &[u8], command: Command) -> Result<Command, BadLine>
-    ensures ok { IfOk result (λ c. (c ≡ command) × (words_of arguments.now ≡ [])) }
-    ensures err { OnErr result (words_of arguments.now ≡ [] → ⊥) }
+/// What a text asks for that begins with no white space.
+fn in_text(text: &[u8]) -> Result<Command, BadLine>
+    ensures ok { IfOk result (AsksIn (parts_in text.now)) }
+    ensures err { OnErr result ((c : Command) → AsksIn (parts_in text.now) c → ⊥) }
 {
-    let (word, _) = split_word(arguments);
-    if word.is_empty() {
-        Ok(command)
+    let (range, rest) = split_range(text);
+    let (word, arguments) = split_word(rest);
+    asked(range, keyword_of(word), arguments)
+}
+
+/// The range at the front of a text, and what stands behind it.
+fn split_range(text: &[u8]) -> (&[u8], &[u8])
+    ensures range { result.0.now ≡ take (range_length false text.now) text.now }
+    ensures rest { result.1.now ≡ drop (range_length false text.now) text.now }
+{
+    let mut at = 0;
+    let mut quoted = false;
+    while at < text.len() && !ends_range(quoted, text[at]) {
+        quoted = text[at] == b'\'';
+        at += 1;
+    }
+    (&text[..at], &text[at..])
+}
+
+/// Whether a byte ends a range, behind an apostrophe or not.
+fn ends_range(quoted: bool, byte: u8) -> bool
+    ensures { result ≡ ends_range quoted byte }
+{
+    is_space(byte) || !quoted && byte.is_ascii_lowercase()
+}
+
+/// What a range, a word and arguments ask for.
+fn asked(front: &[u8], word: Keyword, arguments: &[u8]) -> Result<Command, BadLine>
+    ensures ok { IfOk result (Asks word front.now (words_of arguments.now)) }
+    ensures err { OnErr result ((c : Command) → Asks word front.now (words_of arguments.now) c → ⊥) }
+{
+    match word {
+        Keyword::Missing => Ok(Command::Show(address(front)?)),
+        Keyword::List => Ok(Command::List(ranged(front, arguments)?)),
+        Keyword::Delete => Ok(Command::Delete(ranged(front, arguments)?)),
+        Keyword::Shift => shift(front, arguments),
+        Keyword::Join => Ok(Command::Join(ranged(front, arguments)?)),
+        Keyword::Split => split(front, arguments),
+        Keyword::Force => force(front, arguments),
+        Keyword::Insert => {
+            let (a, b) = bare_times(front, arguments)?;
+            Ok(Command::Insert(a, b))
+        }
+        Keyword::Invert => {
+            let (a, b) = bare_times(front, arguments)?;
+            Ok(Command::Invert(a, b))
+        }
+        Keyword::Regen => regen(front, arguments),
+        Keyword::Format => format(front, arguments),
+        Keyword::Mark => set_mark(front, arguments),
+        Keyword::Unmark => unmark(front, arguments),
+        Keyword::Undo => alone(front, arguments, Command::Undo),
+        Keyword::Redo => alone(front, arguments, Command::Redo),
+        Keyword::Frames => alone(front, arguments, Command::Frames),
+        Keyword::Marks => alone(front, arguments, Command::Marks),
+        Keyword::Info => alone(front, arguments, Command::Info),
+        Keyword::Write => alone(front, arguments, Command::Write),
+        Keyword::Quit => alone(front, arguments, Command::Quit),
+        Keyword::Unknown => Err(BadLine),
+    }
+}
+
+/// The command, where neither a range nor an argument stands.
+fn alone(front: &[u8], arguments: &[u8], command: Command) -> Result<Command, BadLine>
+    ensures ok { IfOk result (λ c. (c ≡ command) × (front.now ≡ []) × (words_of arguments.now ≡ [])) }
+    ensures err { OnErr result (front.now ≡ [] → words_of arguments.now ≡ [] → ⊥) }
+{
+    no_range(front)?;
+    no_word(arguments)?;
+    Ok(command)
+}
+
+/// Nothing, where no range stands.
+fn no_range(front: &[u8]) -> Result<(), BadLine>
+    ensures ok { OnOk result (front.now ≡ []) }
+    ensures err { OnErr result (front.now ≡ [] → ⊥) }
+{
+    if front.is_empty() {
+        Ok(())
     } else {
         Err(BadLine)
     }
 }
 
-/// Two numbers, where just these stand.
-fn two_numbers(arguments: &[u8]) -> Result<(u64, u64), BadLine>
-    ensures ok { IfOk result (λ n. (x : List ℕ) × (y : List ℕ)
-        × (words_of arguments.now ≡ x ∷ y ∷ []) × IsNumber x n.0 × IsNumber y n.1) }
-    ensures err { OnErr result ((x : List ℕ) → (y : List ℕ) → (m : ℕ) → (n : ℕ)
-        → words_of arguments.now ≡ x ∷ y ∷ [] → IsNumber x m → IsNumber y n → ⊥) }
+/// A range, where no argument stands.
+fn ranged(front: &[u8], arguments: &[u8]) -> Result<Range, BadLine>
+    ensures ok { IfOk result (λ r. IsRange front.now r × (words_of arguments.now ≡ [])) }
+    ensures err { OnErr result ((r : Range) → IsRange front.now r → words_of arguments.now ≡ [] → ⊥) }
 {
-    let (first, others) = split_word(arguments);
-    let (second, rest) = split_word(others);
-    let (third, _) = split_word(rest);
-    if !third.is_empty() {
-        return Err(BadLine);
+    no_word(arguments)?;
+    range(front)
+}
+
+/// Two times.
+fn times(arguments: &[u8]) -> Result<(Time, Time), BadLine>
+    ensures ok { IfOk result (λ t. AreTimes (words_of arguments.now) t.0 t.1) }
+    ensures err { OnErr result ((s : Time) → (t : Time) → AreTimes (words_of arguments.now) s t → ⊥) }
+{
+    let (a, b) = two_words(arguments)?;
+    Ok((time(a)?, time(b)?))
+}
+
+/// Two times, where no range stands.
+fn bare_times(front: &[u8], arguments: &[u8]) -> Result<(Time, Time), BadLine>
+    ensures ok { IfOk result (λ t. (front.now ≡ []) × AreTimes (words_of arguments.now) t.0 t.1) }
+    ensures err { OnErr result ((s : Time) → (t : Time) → front.now ≡ []
+        → AreTimes (words_of arguments.now) s t → ⊥) }
+{
+    no_range(front)?;
+    times(arguments)
+}
+
+/// What a range and the arguments of `shift` ask for.
+fn shift(front: &[u8], arguments: &[u8]) -> Result<Command, BadLine>
+    ensures ok { IfOk result (Asks Keyword.Shift front.now (words_of arguments.now)) }
+    ensures err { OnErr result ((c : Command) → Asks Keyword.Shift front.now (words_of arguments.now) c → ⊥) }
+{
+    let by = one_word(arguments)?;
+    Ok(Command::Shift(range(front)?, distance(by)?))
+}
+
+/// What an address and the arguments of `split` ask for.
+fn split(front: &[u8], arguments: &[u8]) -> Result<Command, BadLine>
+    ensures ok { IfOk result (Asks Keyword.Split front.now (words_of arguments.now)) }
+    ensures err { OnErr result ((c : Command) → Asks Keyword.Split front.now (words_of arguments.now) c → ⊥) }
+{
+    let (a, b) = times(arguments)?;
+    Ok(Command::Split(place(front)?, a, b))
+}
+
+/// What an address and the arguments of `force` ask for.
+fn force(front: &[u8], arguments: &[u8]) -> Result<Command, BadLine>
+    ensures ok { IfOk result (Asks Keyword.Force front.now (words_of arguments.now)) }
+    ensures err { OnErr result ((c : Command) → Asks Keyword.Force front.now (words_of arguments.now) c → ⊥) }
+{
+    let name = one_word(arguments)?;
+    Ok(Command::Force(place(front)?, element(name)?))
+}
+
+/// What the arguments of `format` ask for, where no range stands.
+fn format(front: &[u8], arguments: &[u8]) -> Result<Command, BadLine>
+    ensures ok { IfOk result (Asks Keyword.Format front.now (words_of arguments.now)) }
+    ensures err { OnErr result ((c : Command) → Asks Keyword.Format front.now (words_of arguments.now) c → ⊥) }
+{
+    no_range(front)?;
+    let (name, digit) = two_words(arguments)?;
+    Ok(Command::Format(kind(name)?, expression(digit)?))
+}
+
+/// What the arguments of `mark` ask for, where no range stands.
+fn set_mark(front: &[u8], arguments: &[u8]) -> Result<Command, BadLine>
+    ensures ok { IfOk result (Asks Keyword.Mark front.now (words_of arguments.now)) }
+    ensures err { OnErr result ((c : Command) → Asks Keyword.Mark front.now (words_of arguments.now) c → ⊥) }
+{
+    no_range(front)?;
+    let (name, at) = two_words(arguments)?;
+    Ok(Command::Mark(mark(name)?, time(at)?))
+}
+
+/// What the argument of `unmark` asks for, where no range stands.
+fn unmark(front: &[u8], arguments: &[u8]) -> Result<Command, BadLine>
+    ensures ok { IfOk result (Asks Keyword.Unmark front.now (words_of arguments.now)) }
+    ensures err { OnErr result ((c : Command) → Asks Keyword.Unmark front.now (words_of arguments.now) c → ⊥) }
+{
+    no_range(front)?;
+    let name = one_word(arguments)?;
+    Ok(Command::Unmark(mark(name)?))
+}
+
+/// What the arguments of `regen` ask for, where no range stands.
+fn regen(front: &[u8], arguments: &[u8]) -> Result<Command, BadLine>
+    ensures ok { IfOk result (Asks Keyword.Regen front.now (words_of arguments.now)) }
+    ensures err { OnErr result ((c : Command) → Asks Keyword.Regen front.now (words_of arguments.now) c → ⊥) }
+{
+    no_range(front)?;
+    let (start, rest) = split_word(arguments);
+    let (frames, rest) = split_word(rest);
+    let (written, rest) = split_word(rest);
+    let (start, frames) = (time(start)?, number(frames)?);
+    let from = moment(written)?;
+    Ok(Command::Regen(start, frames, from, controls(rest)?))
+}
+
+/// The moment that a word tells.
+fn moment(word: &[u8]) -> Result<Moment, BadLine>
+    ensures ok { IfOk result (λ m. moment_of word.now ≡ Some m) }
+    ensures err { OnErr result ((m : MomentView) → moment_of word.now ≡ Some m → ⊥) }
+{
+    match Moment::parse(word) {
+        Some(moment) => Ok(moment),
+        None => Err(BadLine),
     }
-    Ok((number(first)?, number(second)?))
 }
 
-/// The first word of a line, and what stands after it; an empty word where there is none.
-fn split_word(line: &[u8]) -> (&[u8], &[u8])
-    ensures { words_of line.now ≡ word_and result.0.now (words_of result.1.now) }
+/// The control functions at the end of a line; 0 where none stand.
+fn controls(text: &[u8]) -> Result<u64, BadLine>
+    ensures ok { IfOk result (AreControls (words_of text.now)) }
+    ensures err { OnErr result ((n : ℕ) → AreControls (words_of text.now) n → ⊥) }
 {
-    let start = run(line, true);
-    let text = &line[start..];
-    let end = run(text, false);
-    (&text[..end], &text[end..])
-}
-
-/// How many bytes at the front of a text are all white space, or all none.
-fn run(text: &[u8], space: bool) -> usize
-    ensures longest { result ≡ run_length space text.now }
-    ensures within { result ≤ length text.now }
-{
-    let mut at = 0;
-    while at < text.len() && is_space(text[at]) == space {
-        at += 1;
+    let (word, rest) = split_word(text);
+    if word.is_empty() {
+        return Ok(0);
     }
-    at
+    no_word(rest)?;
+    control(word)
 }
 
-/// Whether a byte is white space in a line.
-fn is_space(byte: u8) -> bool
-    ensures { result ≡ is_space byte }
+/// The element that a word names.
+fn element(word: &[u8]) -> Result<Element, BadLine>
+    ensures ok { IfOk result (λ e. word.now ≡ element_word e) }
+    ensures err { OnErr result ((e : Element) → word.now ≡ element_word e → ⊥) }
 {
-    matches!(byte, b' ' | b'\t' | b'\r')
-}
-
-/// The number that a word of 1 to 18 digits is.
-fn number(word: &[u8]) -> Result<u64, BadLine>
-    ensures ok { IfOk result (IsNumber word.now) }
-    ensures err { OnErr result ((n : ℕ) → IsNumber word.now n → ⊥) }
-{
-    if word.is_empty() || word.len() > DIGITS_LIMIT {
-        return Err(BadLine);
+    match word {
+        b"zero" => Ok(Element::Zero),
+        b"one" => Ok(Element::One),
+        b"position" => Ok(Element::Position),
+        _ => Err(BadLine),
     }
-    let mut number = 0;
-    for digit in word {
-        if !is_digit(*digit) {
-            return Err(BadLine);
-        }
-        number = 10 * number + u64::from(*digit - b'0');
-    }
-    Ok(number)
 }
 
-/// Whether a byte is a decimal digit.
-fn is_digit(byte: u8) -> bool
-    ensures { result ≡ is_digit byte }
+/// The kind of time code that a word names.
+fn kind(word: &[u8]) -> Result<Kind, BadLine>
+    ensures ok { IfOk result (λ k. word.now ≡ kind_word k) }
+    ensures err { OnErr result ((k : Kind) → word.now ≡ kind_word k → ⊥) }
 {
-    matches!(byte, b'0'..=b'9')
+    match word {
+        b"A" => Ok(Kind::A),
+        b"B" => Ok(Kind::B),
+        b"E" => Ok(Kind::E),
+        b"G" => Ok(Kind::G),
+        _ => Err(BadLine),
+    }
+}
+
+/// The number of an expression: one digit 0 to 7.
+fn expression(word: &[u8]) -> Result<u8, BadLine>
+    ensures ok { IfOk result (IsExpression word.now) }
+    ensures err { OnErr result ((n : ℕ) → IsExpression word.now n → ⊥) }
+{
+    match word {
+        [digit @ b'0'..=b'7'] => Ok(*digit - b'0'),
+        _ => Err(BadLine),
+    }
+}
+
+/// The letter of a mark, alone in a word.
+fn mark(word: &[u8]) -> Result<Letter, BadLine>
+    ensures ok { IfOk result (λ l. (word.now ≡ l ∷ []) × (is_letter l ≡ true)) }
+    ensures err { OnErr result ((l : ℕ) → word.now ≡ l ∷ [] → is_letter l ≡ true → ⊥) }
+{
+    match word {
+        [byte] => letter(*byte),
+        _ => Err(BadLine),
+    }
 }

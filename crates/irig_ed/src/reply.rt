@@ -6,8 +6,11 @@ ghost use Rattle.irig_ed.specs.Printed.{refusal_text, reply_text};
 ghost use Rattle.irig_ed.specs.Desk.{is_refusal};
 ghost use Rattle.irig_ed.specs.Front.{AppendsFront};
 
+use crate::info_line::print_info;
 use crate::listing::print_frames;
+use crate::mark_lines::print_marks;
 use crate::output::{PrintFault, put_all};
+use crate::pulse_lines::print_pulses;
 use irig_edit::{Refusal, Session};
 use std::io::Write;
 
@@ -18,8 +21,14 @@ pub enum Reply {
     Silent,
     /// A text of this many bytes was put.
     Written(u64),
+    /// So many pulses are listed, behind so many others.
+    Listed(usize, usize),
     /// The frames of the track are listed.
     Frames,
+    /// The marks are listed.
+    Marks,
+    /// Counts, format and cursor are told.
+    Info,
     /// The session refuses the command.
     Refused(Refusal),
     /// S1: the line is none of the language.
@@ -35,7 +44,10 @@ impl Reply {
     pub fn is_refusal(&self) -> bool
         ensures { result ≡ is_refusal self.now }
     {
-        !matches!(self, Reply::Silent | Reply::Written(_) | Reply::Frames)
+        matches!(
+            self,
+            Reply::Refused(_) | Reply::BadLine | Reply::LineTooLong | Reply::WriteFailed
+        )
     }
 }
 
@@ -50,7 +62,10 @@ pub fn print<W: Write>(reply: Reply, session: &Session, out: &mut W) -> Result<(
     match reply {
         Reply::Silent => Ok(()),
         Reply::Written(count) => put_number(out, count),
+        Reply::Listed(before, count) => print_pulses(session, before, count, out),
         Reply::Frames => print_frames(session, out),
+        Reply::Marks => print_marks(session, out),
+        Reply::Info => print_info(session, out),
         Reply::Refused(why) => put_all(out, refusal_line(why)),
         Reply::BadLine => put_all(out, b"? S1 BadLine\n"),
         Reply::LineTooLong => put_all(out, b"? S2 LineTooLong\n"),

@@ -1,11 +1,10 @@
-//! Scripts over memory: what each prints, how it ends, and how many texts it puts.
+//! Scripts over memory: what each prints, and how it ends.
 
 use crate::editing::{EditFault, edit};
 use crate::memory_shelf::MemoryShelf;
 use crate::status::Status;
 use irig_codes::{Format, Kind};
-use irig_edit::{Refusal, Session};
-use irig_vcd::{Recording, VcdFault};
+use irig_vcd::VcdFault;
 use std::process::Abort;
 use std::test::Fail;
 
@@ -28,39 +27,48 @@ const SIMULATED: &[u8] =
 const INVERTED: &[u8] =
     b"$timescale 1 us $end\n$scope module irig $end\n$var wire 1 ! code $end\n$upscope $end\n$enddefinitions $end\n#0\n$dumpvars\n0!\n$end\n#100\n1!\n#110\n0!\n#120\n1!\n#200\n0!\n#250\n1!\n#280\n0!\n#1000\n";
 
+/// A dump of 20,000 microseconds without a pulse.
+const SHORT: &[u8] =
+    b"$timescale 1 us $end\n$var wire 1 ! code $end\n$enddefinitions $end\n#20000\n";
+
+/// A dump of 2,000,000 microseconds without a pulse.
+const LONG: &[u8] =
+    b"$timescale 1 us $end\n$var wire 1 ! code $end\n$enddefinitions $end\n#2000000\n";
+
 #[derive(Clone, Copy)]
 struct Row<'a> {
     name: &'a str,
     dump: &'a [u8],
-    fail: Option<u64>,
+    kind: Kind,
+    expression: u8,
     script: &'a [u8],
     printed: &'a [u8],
-    puts: usize,
     status: Status,
 }
 
-/// Format B with expression 2.
-fn plain_format<R: Abort>(rt: &R) -> Format {
-    Format::new(Kind::B, 2).ok().expect(rt, "B permits 2")
+/// The format of a kind and the number of an expression.
+fn format_of<R: Abort>(rt: &R, kind: Kind, expression: u8) -> Format {
+    Format::new(kind, expression)
+        .ok()
+        .expect(rt, "the kind permits the expression")
 }
 
 fn check<R: Abort + AllocGlobal>(rt: &R, row: &Row<'_>) {
     assert!(rt; row.dump.len() < 1000);
     let mut script = row.script;
     let mut out = Vec::new(rt.alloc());
-    let mut shelf = MemoryShelf::new(rt.alloc(), row.fail);
+    let mut shelf = MemoryShelf::new(rt.alloc(), None);
     let outcome = edit(
         rt.alloc(),
         row.dump,
         None,
-        plain_format(rt),
+        format_of(rt, row.kind, row.expression),
         &mut script,
         &mut out,
         &mut shelf,
     );
     assert!(rt; out.as_slice() == row.printed, "{}", row.name);
     assert!(rt; outcome == Ok(row.status), "{}", row.name);
-    assert!(rt; shelf.texts().len() == row.puts, "{}", row.name);
 }
 
 #[test]
@@ -69,172 +77,361 @@ fn scripts_print(rt: HostRuntime) {
         Row {
             name: "a dump is read and written",
             dump: EMPTY,
-            fail: None,
+            kind: Kind::B,
+            expression: 2,
             script: b"write\nquit\nwrite\n",
             printed: b"125\n",
-            puts: 1,
             status: Status::AllAccepted,
         },
         Row {
             name: "nanoseconds are floored",
             dump: NANOSECONDS,
-            fail: None,
-            script: b"write\n",
-            printed: b"137\n",
-            puts: 1,
+            kind: Kind::B,
+            expression: 2,
+            script: b"write\n,list\n",
+            printed: b"137\n1 1 9 bad\n",
             status: Status::AllAccepted,
         },
         Row {
             name: "a real dump names one wire",
             dump: SIMULATED,
-            fail: None,
-            script: b"write\n",
-            printed: b"140\n",
-            puts: 1,
+            kind: Kind::B,
+            expression: 2,
+            script: b"write\n,list\n",
+            printed: b"140\n1 2 4 bad\n",
             status: Status::AllAccepted,
         },
         Row {
-            name: "a pulse is put where it touches none",
+            name: "an invert is taken back",
             dump: PULSES,
-            fail: None,
-            script: b"insert 121 199\nwrite\ninsert 280 290\ninsert 290 290\nundo\nwrite\n",
-            printed: b"179\n? E3 Touching\n? E1 OutOfRange\n163\n",
-            puts: 2,
-            status: Status::SomeRefused,
+            kind: Kind::G,
+            expression: 2,
+            script: b"invert 110 250\n,list\nwrite\nundo\n,list\nwrite\n",
+            printed: b"1 100 110 zero\n2 120 200 position\n3 250 280 zero\n179\n1 100 120 zero\n2 200 280 position\n163\n",
+            status: Status::AllAccepted,
         },
         Row {
-            name: "an undo gives the dump back",
+            name: "an invert at both edges of a pulse takes it out",
             dump: PULSES,
-            fail: None,
-            script: b"invert 110 250\nwrite\nundo\nwrite\n",
-            printed: b"179\n163\n",
-            puts: 2,
+            kind: Kind::G,
+            expression: 2,
+            script: b"invert 100 120\n,list\ninfo\n",
+            printed: b"1 200 280 position\nlength 1000 pulses 1 frames 0 format G 2 cursor 0 past 1 future 0\n",
+            status: Status::AllAccepted,
+        },
+        Row {
+            name: "an invert of the whole track turns every level",
+            dump: PULSES,
+            kind: Kind::G,
+            expression: 2,
+            script: b"invert 0 1000\n,list\nwrite\n",
+            printed: b"1 0 100 bad\n2 120 200 position\n3 280 1000 bad\n166\n",
+            status: Status::AllAccepted,
+        },
+        Row {
+            name: "a shift moves the marks on its pulses, and an undo gives them back",
+            dump: PULSES,
+            kind: Kind::G,
+            expression: 2,
+            script: b"mark a 110\nmark b 130\n1 shift 20\nmarks\nundo\nmarks\n",
+            printed: b"a 130\nb 130\na 110\nb 130\n",
+            status: Status::AllAccepted,
+        },
+        Row {
+            name: "a redo gives the cursor that stood at the undo",
+            dump: PULSES,
+            kind: Kind::G,
+            expression: 2,
+            script: b"insert 400 450\ninfo\n1\nundo\ninfo\nredo\ninfo\n",
+            printed: b"length 1000 pulses 3 frames 0 format G 2 cursor 3 past 1 future 0\n1 100 120 zero\nlength 1000 pulses 2 frames 0 format G 2 cursor 2 past 0 future 1\nlength 1000 pulses 3 frames 0 format G 2 cursor 1 past 1 future 0\n",
+            status: Status::AllAccepted,
+        },
+        Row {
+            name: "two frames of format G are regenerated",
+            dump: SHORT,
+            kind: Kind::G,
+            expression: 2,
+            script: b"regen 0 2 2024-001T00:00:00\nframes\n100 force one\nframes\nundo\nframes\n",
+            printed: b"1 101 10000 001 00:00:00.01 fine\n1 101 10000 001 00:00:00.01 fine\n",
+            status: Status::AllAccepted,
+        },
+        Row {
+            name: "the last element of a frame is no position identifier",
+            dump: SHORT,
+            kind: Kind::G,
+            expression: 2,
+            script: b"regen 0 2 2024-001T00:00:00\n200 force zero\nframes\n",
+            printed: b"1 101 10000 broken 99 class\n",
+            status: Status::AllAccepted,
+        },
+        Row {
+            name: "two frames of format B are regenerated, and the second is looked at",
+            dump: LONG,
+            kind: Kind::B,
+            expression: 4,
+            script: b"regen 0 2 2024-061T12:34:55\nframes\n101,103 list\n",
+            printed: b"1 101 1000000 061 12:34:56 year 24 sbs 45296 control 0 fine\n101 1000000 1008000 position\n102 1010000 1012000 zero\n103 1020000 1025000 one\n",
+            status: Status::AllAccepted,
+        },
+        Row {
+            name: "a date by month and day is the same moment",
+            dump: LONG,
+            kind: Kind::B,
+            expression: 4,
+            script: b"regen 0 2 2024-03-01T12:34:55\nframes\n",
+            printed: b"1 101 1000000 061 12:34:56 year 24 sbs 45296 control 0 fine\n",
+            status: Status::AllAccepted,
+        },
+        Row {
+            name: "a year ends between two frames",
+            dump: LONG,
+            kind: Kind::B,
+            expression: 4,
+            script: b"regen 0 2 2023-365T23:59:59\nframes\n",
+            printed: b"1 101 1000000 001 00:00:00 year 24 sbs 0 control 0 fine\n",
             status: Status::AllAccepted,
         },
         Row {
             name: "a refused edit keeps what can be redone",
             dump: PULSES,
-            fail: None,
-            script: b"invert 100 120\nwrite\nundo\ninvert 250 250\nredo\nwrite\nredo\n",
-            printed: b"147\n? E1 OutOfRange\n147\n? E10 NothingToRedo\n",
-            puts: 2,
+            kind: Kind::G,
+            expression: 2,
+            script: b"insert 400 450\nundo\ninsert 130 200\nredo\n3\n",
+            printed: b"? E3 Touching\n3 400 450 one\n",
+            status: Status::SomeRefused,
+        },
+        Row {
+            name: "a format that permits no such expression is refused, another one changes the frames",
+            dump: LONG,
+            kind: Kind::B,
+            expression: 4,
+            script: b"regen 0 2 2024-061T12:34:55\nformat E 4\nformat E 5\nframes\nundo\nframes\n",
+            printed: b"? E6 BadExpression\n1 101 1000000 061 12:34:56 year 24 sbs 45296 control 0 fine\n",
+            status: Status::SomeRefused,
+        },
+        Row {
+            name: "no more steps are taken back or made again than there are",
+            dump: PULSES,
+            kind: Kind::G,
+            expression: 2,
+            script: b"undo\nredo\n1 delete\nundo\nundo\nredo\nredo\ninfo\n",
+            printed: b"? E9 NothingToUndo\n? E10 NothingToRedo\n? E9 NothingToUndo\n? E10 NothingToRedo\nlength 1000 pulses 1 frames 0 format G 2 cursor 1 past 1 future 0\n",
+            status: Status::SomeRefused,
+        },
+        Row {
+            name: "a shift stops at its neighbours and at the ends of the track",
+            dump: PULSES,
+            kind: Kind::G,
+            expression: 2,
+            script: b"1 shift 80\n1 shift 79\nundo\n2 shift 721\n2 shift 720\n2\n1 shift -100\n1\n1 shift -1\n",
+            printed: b"? E3 Touching\n? E1 OutOfRange\n2 920 1000 position\n1 0 20 zero\n? E1 OutOfRange\n",
+            status: Status::SomeRefused,
+        },
+        Row {
+            name: "a pulse is split and joined again, and forced",
+            dump: PULSES,
+            kind: Kind::G,
+            expression: 2,
+            script: b"2 split 220 230\n,list\n2,3 join\n2 split 200 230\n1 force position\n1\n9 split 5 5\n9 split 5 6\n",
+            printed: b"1 100 120 zero\n2 200 220 zero\n3 230 280 one\n? E4 NotInside\n1 100 180 position\n? E1 OutOfRange\n? E2 NoPulse\n",
+            status: Status::SomeRefused,
+        },
+        Row {
+            name: "an empty track has no pulse to list, and takes one of its whole length",
+            dump: PULSES,
+            kind: Kind::G,
+            expression: 2,
+            script: b",delete\n,list\ninsert 0 1000\n1\n",
+            printed: b"? E2 NoPulse\n1 0 1000 bad\n",
+            status: Status::SomeRefused,
+        },
+        Row {
+            name: "a regeneration is refused that has no room",
+            dump: LONG,
+            kind: Kind::B,
+            expression: 4,
+            script: b"regen 1 2 2024-061T12:34:55\n",
+            printed: b"? E1 OutOfRange\n",
+            status: Status::SomeRefused,
+        },
+        Row {
+            name: "a regeneration is refused that begins within a frame",
+            dump: LONG,
+            kind: Kind::B,
+            expression: 4,
+            script: b"regen 0 2 2024-061T12:34:55.50\n",
+            printed: b"? E7 BadTime\n",
+            status: Status::SomeRefused,
+        },
+        Row {
+            name: "a regeneration is refused whose control functions are too many",
+            dump: LONG,
+            kind: Kind::B,
+            expression: 4,
+            script: b"regen 0 2 2024-061T12:34:55 40000\n",
+            printed: b"? E8 BadControl\n",
+            status: Status::SomeRefused,
+        },
+        Row {
+            name: "a moment that there is not is none of the language",
+            dump: LONG,
+            kind: Kind::B,
+            expression: 4,
+            script: b"regen 0 2 2023-366T00:00:00\n",
+            printed: b"? S1 BadLine\n",
+            status: Status::SomeRefused,
+        },
+        Row {
+            name: "control functions are carried, in hexadecimal",
+            dump: LONG,
+            kind: Kind::B,
+            expression: 4,
+            script: b"regen 0 2 2024-061T12:34:55 3ffff\nframes\n",
+            printed: b"1 101 1000000 061 12:34:56 year 24 sbs 45296 control 3ffff fine\n",
+            status: Status::AllAccepted,
+        },
+        Row {
+            name: "an unset mark names no pulse and no time, and words stand in their places",
+            dump: PULSES,
+            kind: Kind::G,
+            expression: 2,
+            script: b"'a list\ninsert 'a 5\n5 list\nlist 3\n1,2 split 1 2\n,\n",
+            printed: b"? E2 NoPulse\n? E1 OutOfRange\n? E2 NoPulse\n? S1 BadLine\n? S1 BadLine\n? S1 BadLine\n",
+            status: Status::SomeRefused,
+        },
+        Row {
+            name: "addresses count from the cursor, the last pulse and marks",
+            dump: PULSES,
+            kind: Kind::G,
+            expression: 2,
+            script: b"mark c 150\n'clist\n'c+list\n$-list\n$\n.-1\n.,+list\n 'c , $\n'c,$list\n-9\n",
+            printed: b"1 100 120 zero\n2 200 280 position\n1 100 120 zero\n2 200 280 position\n1 100 120 zero\n1 100 120 zero\n2 200 280 position\n? S1 BadLine\n1 100 120 zero\n2 200 280 position\n? E2 NoPulse\n",
+            status: Status::SomeRefused,
+        },
+        Row {
+            name: "a mark before the first pulse and an offset are the first pulse",
+            dump: PULSES,
+            kind: Kind::G,
+            expression: 2,
+            script: b"mark a 5\n'a\n'a+1\nunmark a\n'a+1\nmarks\n",
+            printed: b"? E2 NoPulse\n1 100 120 zero\n? E2 NoPulse\n",
+            status: Status::SomeRefused,
+        },
+        Row {
+            name: "marks are times of edits",
+            dump: PULSES,
+            kind: Kind::G,
+            expression: 2,
+            script: b"mark a 110\nmark b 250\ninvert 'a 'b\n,list\nmark c 'b\nmarks\nmark d 1001\nmark e 'z\n",
+            printed: b"1 100 110 zero\n2 120 200 position\n3 250 280 zero\na 110\nb 250\nc 250\n? E1 OutOfRange\n? E1 OutOfRange\n",
+            status: Status::SomeRefused,
+        },
+        Row {
+            name: "one address of join is that pulse and the next, and a missing one the cursor",
+            dump: PULSES,
+            kind: Kind::G,
+            expression: 2,
+            script: b"1 join\n,list\nundo\njoin\n1\njoin\n,list\n",
+            printed: b"1 100 280 bad\n? E2 NoPulse\n1 100 120 zero\n1 100 280 bad\n",
+            status: Status::SomeRefused,
+        },
+        Row {
+            name: "a pulse is put where it touches none",
+            dump: PULSES,
+            kind: Kind::G,
+            expression: 2,
+            script: b"insert 121 199\nwrite\ninsert 280 290\ninsert 290 290\nundo\nwrite\n",
+            printed: b"179\n? E3 Touching\n? E1 OutOfRange\n163\n",
             status: Status::SomeRefused,
         },
         Row {
             name: "an accepted edit empties what can be redone",
             dump: PULSES,
-            fail: None,
+            kind: Kind::G,
+            expression: 2,
             script: b"invert 100 120\nundo\ninvert 1 2\nredo\nundo\nundo\n",
             printed: b"? E10 NothingToRedo\n? E9 NothingToUndo\n",
-            puts: 0,
-            status: Status::SomeRefused,
-        },
-        Row {
-            name: "no more steps are taken back than were made",
-            dump: PULSES,
-            fail: None,
-            script: b"invert 0 1000\nwrite\nundo\nundo\n",
-            printed: b"166\n? E9 NothingToUndo\n",
-            puts: 1,
-            status: Status::SomeRefused,
-        },
-        Row {
-            name: "no step is there at first",
-            dump: PULSES,
-            fail: None,
-            script: b"undo\nredo\n",
-            printed: b"? E9 NothingToUndo\n? E10 NothingToRedo\n",
-            puts: 0,
             status: Status::SomeRefused,
         },
         Row {
             name: "a time above the length is refused",
             dump: PULSES,
-            fail: None,
+            kind: Kind::G,
+            expression: 2,
             script: b"invert 5 1001\n",
             printed: b"? E1 OutOfRange\n",
-            puts: 0,
             status: Status::SomeRefused,
         },
         Row {
-            name: "a word of no command is refused, and the run goes on",
+            name: "a word of no line is refused, and the run goes on",
             dump: PULSES,
-            fail: None,
-            script: b"list\nwrite\n",
+            kind: Kind::G,
+            expression: 2,
+            script: b"lists\nwrite\n",
             printed: b"? S1 BadLine\n163\n",
-            puts: 1,
-            status: Status::SomeRefused,
-        },
-        Row {
-            name: "a put that fails is refused, and the next one is not",
-            dump: PULSES,
-            fail: Some(1),
-            script: b"write\nwrite\n",
-            printed: b"? S3 WriteFailed\n163\n",
-            puts: 1,
             status: Status::SomeRefused,
         },
         Row {
             name: "blank lines and comments do nothing",
             dump: PULSES,
-            fail: None,
+            kind: Kind::G,
+            expression: 2,
             script: b"\n \t\r\n# write\n  #\n",
             printed: b"",
-            puts: 0,
             status: Status::AllAccepted,
         },
         Row {
             name: "white space stands round words",
             dump: PULSES,
-            fail: None,
-            script: b" \tinvert\t100  120 \r\nwrite\r\n",
-            printed: b"147\n",
-            puts: 1,
-            status: Status::AllAccepted,
+            kind: Kind::G,
+            expression: 2,
+            script: b" \tinvert\t100  120 \r\nwrite\r\n\t1 , 2\n 1 list \n",
+            printed: b"147\n? S1 BadLine\n1 200 280 position\n",
+            status: Status::SomeRefused,
         },
         Row {
             name: "a last line without its newline counts",
             dump: PULSES,
-            fail: None,
+            kind: Kind::G,
+            expression: 2,
             script: b"write",
             printed: b"163\n",
-            puts: 1,
             status: Status::AllAccepted,
         },
         Row {
             name: "nothing after quit is read",
             dump: PULSES,
-            fail: None,
+            kind: Kind::G,
+            expression: 2,
             script: b" quit\r\nlist\n",
             printed: b"",
-            puts: 0,
             status: Status::AllAccepted,
         },
         Row {
             name: "eighteen digits are a number, nineteen are none",
             dump: PULSES,
-            fail: None,
+            kind: Kind::G,
+            expression: 2,
             script: b"invert 000000000000000100 120\ninvert 0000000000000000100 120\nwrite\n",
             printed: b"? S1 BadLine\n147\n",
-            puts: 1,
             status: Status::SomeRefused,
         },
         Row {
             name: "missing, surplus and wrong words are refused",
             dump: PULSES,
-            fail: None,
-            script: b"invert\ninvert 1\ninvert 1 2 3\ninvert 1 b\nundo 1\nwrite x\nquit 1\nWRITE\n",
-            printed: b"? S1 BadLine\n? S1 BadLine\n? S1 BadLine\n? S1 BadLine\n? S1 BadLine\n? S1 BadLine\n? S1 BadLine\n? S1 BadLine\n",
-            puts: 0,
+            kind: Kind::G,
+            expression: 2,
+            script: b"invert\ninvert 1\ninvert 1 2 3\ninvert 1 b\nundo 1\nwrite x\nquit 1\nWRITE\n1 undo\nformat B\nformat C 2\nformat B 8\nformat B 12\nmark A 5\nmark a\nunmark ab\n1 force two\n1 shift 5x\n1 shift --5\n1,list\n,1 list\nregen 0 2\n",
+            printed: b"? S1 BadLine\n? S1 BadLine\n? S1 BadLine\n? S1 BadLine\n? S1 BadLine\n? S1 BadLine\n? S1 BadLine\n? S1 BadLine\n? S1 BadLine\n? S1 BadLine\n? S1 BadLine\n? S1 BadLine\n? S1 BadLine\n? S1 BadLine\n? S1 BadLine\n? S1 BadLine\n? S1 BadLine\n? S1 BadLine\n? S1 BadLine\n? S1 BadLine\n? S1 BadLine\n? S1 BadLine\n",
             status: Status::SomeRefused,
         },
         Row {
             name: "bytes that are no text are refused",
             dump: PULSES,
-            fail: None,
+            kind: Kind::G,
+            expression: 2,
             script: b"\xff\xfe\n\0\nwrite \x80\nwrite\n",
             printed: b"? S1 BadLine\n? S1 BadLine\n? S1 BadLine\n163\n",
-            puts: 1,
             status: Status::SomeRefused,
         },
     ];
@@ -259,14 +456,34 @@ fn long_lines_are_refused(rt: HostRuntime) -> Result<(), Fail> {
     let row = Row {
         name: "a long line is refused",
         dump: PULSES,
-        fail: None,
+        kind: Kind::G,
+        expression: 2,
         script: script.as_slice(),
         printed: b"163\n? S2 LineTooLong\n",
-        puts: 1,
         status: Status::SomeRefused,
     };
     check(&rt, &row);
     Ok(())
+}
+
+// A put that fails is refused, and the next one is not.
+#[test]
+fn a_failed_put_is_refused(rt: HostRuntime) {
+    let mut script = b"write\nwrite\n".as_slice();
+    let mut out = Vec::new(rt.alloc());
+    let mut shelf = MemoryShelf::new(rt.alloc(), Some(1));
+    let outcome = edit(
+        rt.alloc(),
+        PULSES,
+        None,
+        format_of(&rt, Kind::B, 2),
+        &mut script,
+        &mut out,
+        &mut shelf,
+    );
+    assert!(rt; out.as_slice() == b"? S3 WriteFailed\n163\n".as_slice());
+    assert!(rt; outcome == Ok(Status::SomeRefused));
+    assert!(rt; shelf.texts().len() == 1);
 }
 
 #[test]
@@ -278,7 +495,7 @@ fn the_text_put_is_the_dump_of_the_track(rt: HostRuntime) -> Result<(), Fail> {
         rt.alloc(),
         PULSES,
         Some(b"code"),
-        plain_format(&rt),
+        format_of(&rt, Kind::B, 2),
         &mut script,
         &mut out,
         &mut shelf,
@@ -298,32 +515,11 @@ fn a_dump_that_is_none_is_told(rt: HostRuntime) {
         rt.alloc(),
         b"",
         None,
-        plain_format(&rt),
+        format_of(&rt, Kind::B, 2),
         &mut script,
         &mut out,
         &mut shelf,
     );
     assert!(rt; outcome == Err(EditFault::Dump(VcdFault::NoEndDefinitions)));
     assert!(rt; out.is_empty() && shelf.texts().is_empty());
-}
-
-// 2^22 pulses are the limit: one more is refused, until one is gone.
-#[test]
-fn no_more_pulses_than_the_limit(rt: HostRuntime) -> Result<(), Fail> {
-    let mut edges = Vec::with_capacity(rt.alloc(), 8_388_608)?;
-    for edge in 0..8_388_608 {
-        edges.push(edge)?;
-    }
-    let recording = Recording::new(8_388_618, edges).ok().ok_or("no recording")?;
-    let format = plain_format(&rt);
-    let mut session = Session::open(rt.alloc(), recording, format)?;
-    assert!(rt; session.invert(8_388_610, 8_388_611) == Err(Refusal::TooMany));
-    assert!(rt; session.invert(8_388_607, 8_388_611) == Ok(()));
-    assert!(rt; session.undo() == Ok(()));
-    assert!(rt; session.invert(0, 1) == Ok(()));
-    assert!(rt; session.invert(8_388_610, 8_388_611) == Ok(()));
-    assert!(rt; session.redo() == Err(Refusal::NothingToRedo));
-    assert!(rt; session.len() == 4_194_304 && session.length() == 8_388_618);
-    assert!(rt; session.pulse(1).rise == 2);
-    Ok(())
 }

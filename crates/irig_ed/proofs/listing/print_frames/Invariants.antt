@@ -1,9 +1,10 @@
 use Rattle.std.proofs.Common.{[], take}
 use Rattle.irig_edit.specs.State.{frames_of}
 use Rattle.irig_ed.specs.Blocks.{Sends}
-use Rattle.irig_ed.specs.Printed.{record_lines}
+use Rattle.irig_ed.specs.Numbered.{numbered}
+use Rattle.irig_ed.specs.Printed.{record_line}
 use Rattle.irig_ed.proofs.listing.print_frames.Given as goal
 
 abbrev pub invariant-loop-place : goal.invariant-loop-place
 invariant-loop-place g l = Sends (g.W.Write.contents l.fn.out) (g.W.Write.contents l.out) [] l.block
-    (record_lines l.session.present.state 1 (take l.place (frames_of l.session.present.state)))
+    (numbered (record_line l.session.present.state) 1 (take l.place (frames_of l.session.present.state)))

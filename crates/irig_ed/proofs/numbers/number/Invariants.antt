@@ -1,7 +1,7 @@
 use Rattle.std.proofs.Common.{◌≡◌, ◌<◌, ◌^◌, drop}
 use Rattle.std.specs.List.{list_all}
-use Rattle.irig_ed.specs.Script.{is_digit, number_after}
-use Rattle.irig_ed.proofs.parsing.number.Given as goal
+use Rattle.irig_ed.specs.Numbers.{is_digit, number_after}
+use Rattle.irig_ed.proofs.numbers.number.Given as goal
 
 abbrev pub invariant-loop-digit : goal.invariant-loop-digit
 invariant-loop-digit l = record {
