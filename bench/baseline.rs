@@ -3,10 +3,12 @@
 //!
 //! `baseline [--wire NAME] TRACK OUT`: reads TRACK and writes the canonical dump of its pulses to OUT.
 //! Where OUT is `-`, it reads alone.
+//!
+//! `baseline [--wire NAME] --list A|B|E|G TRACK`: reads TRACK and prints its pulses with their classes in that format.
 
 use std::env;
 use std::fs;
-use std::io::Write;
+use std::io::{self, BufWriter, Write};
 use std::process::exit;
 
 const LONGEST: u64 = 1 << 40;
@@ -330,13 +332,63 @@ fn text(length: u64, edges: &[u64]) -> Vec<u8> {
     out
 }
 
+/// The index count interval of a format in microseconds.
+fn interval(format: &str) -> u64 {
+    match format {
+        "A" => 1_000,
+        "B" => 10_000,
+        "E" => 100_000,
+        _ => 100,
+    }
+}
+
+/// What a pulse of this width stands for, both in microseconds.
+fn class(interval: u64, width: u64) -> &'static [u8] {
+    let twentieths = 20 * width;
+    if twentieths < interval {
+        b"bad"
+    } else if twentieths < 7 * interval {
+        b"zero"
+    } else if twentieths < 13 * interval {
+        b"one"
+    } else if twentieths < 19 * interval {
+        b"position"
+    } else {
+        b"bad"
+    }
+}
+
+/// A line for each pulse: its number from 1, rise, fall and class.
+fn list(interval: u64, edges: &[u64], out: &mut impl Write) -> io::Result<()> {
+    let mut line = Vec::with_capacity(80);
+    for (index, pulse) in edges.chunks_exact(2).enumerate() {
+        line.clear();
+        put_decimal(&mut line, index as u64 + 1);
+        line.push(b' ');
+        put_decimal(&mut line, pulse[0]);
+        line.push(b' ');
+        put_decimal(&mut line, pulse[1]);
+        line.push(b' ');
+        line.extend_from_slice(class(interval, pulse[1] - pulse[0]));
+        line.push(b'\n');
+        out.write_all(&line)?;
+    }
+    out.flush()
+}
+
+/// The value of an option, where the arguments begin with it.
+fn option(arguments: &mut Vec<String>, name: &str) -> Option<String> {
+    if arguments.first().is_some_and(|word| word == name) {
+        arguments.remove(0);
+        return Some(arguments.remove(0));
+    }
+    None
+}
+
 fn main() {
     let mut arguments: Vec<String> = env::args().skip(1).collect();
-    let mut wire = None;
-    if arguments.first().is_some_and(|word| word == "--wire") {
-        arguments.remove(0);
-        wire = Some(arguments.remove(0).into_bytes());
-    }
+    let wire = option(&mut arguments, "--wire").map(String::into_bytes);
+    let listed = option(&mut arguments, "--list");
     let source = fs::read(&arguments[0]).unwrap();
     match read(&source, wire.as_deref()) {
         Err(fault) => {
@@ -344,6 +396,11 @@ fn main() {
             exit(3);
         }
         Ok((length, edges)) => {
+            if let Some(format) = listed {
+                let mut out = BufWriter::with_capacity(8192, io::stdout().lock());
+                list(interval(&format), &edges, &mut out).unwrap();
+                return;
+            }
             if arguments[1] == "-" {
                 return;
             }

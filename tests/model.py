@@ -1,0 +1,149 @@
+#!/usr/bin/env python3
+"""A reference model: tests/model.py [--wire NAME] [--format X] [--expression N] [--out PATH] TRACK < SCRIPT
+
+It prints, writes and ends as irig_ed does where nothing outside of it fails, in the plainest way: every former state is
+kept whole, and all frames are told anew from the whole track. It was written from the documents and not from the
+program; tests/scripts compares the two.
+"""
+import argparse
+import os
+import sys
+
+sys.dont_write_bytecode = True
+
+from reference import dump, language, listing, machine, timecode  # noqa: E402
+
+LONGEST_LINE = 1000  # bytes, the newline not counted
+EDITS = {
+    "insert": machine.insert, "delete": machine.delete, "split": machine.split, "join": machine.join,
+    "shift": machine.shift, "invert": machine.invert, "force": machine.force, "regen": machine.regen,
+    "format": machine.set_format, "mark": machine.mark, "unmark": machine.unmark,
+}
+
+
+class Run:
+    """A script obeyed line by line. Each word that is no edit has a method, which answers the lines that it prints."""
+
+    def __init__(self, length, edges, kind, expression, put):
+        """`put` takes a text and answers whether it was put."""
+        self.machine = machine.Machine(length, edges, kind, expression)
+        self.put = put
+        self.is_over = False
+        self.some_refused = False
+
+    def script(self, text):
+        """All that a script prints."""
+        return b"".join(self.line(line) for line in text.split(b"\n"))
+
+    def line(self, line):
+        """What one line prints; nothing behind a `quit`."""
+        if self.is_over:
+            return b""
+        try:
+            printed = self.obey(line)
+        except machine.Refused as refusal:
+            self.some_refused = True
+            printed = ["? %s" % refusal]
+        return "".join(text + "\n" for text in printed).encode()
+
+    def obey(self, line):
+        machine.need(len(line) <= LONGEST_LINE, "S2")
+        word, values = language.parse(self.machine.present, line)
+        if word is None:
+            return []
+        if word in EDITS:
+            self.machine.edit(EDITS[word], *values)
+            return []
+        return getattr(self, word)(*values)
+
+    def go(self, i):
+        self.machine.go(i)
+        return self.list(i, i)
+
+    def list(self, i, j):
+        machine.need(self.machine.present.has_pulses(i, j), "E2")
+        return listing.pulses(self.machine.present, i, j)
+
+    def frames(self):
+        return listing.frames(self.machine.present)
+
+    def marks(self):
+        return listing.marks(self.machine.present)
+
+    def info(self):
+        return listing.info(self.machine)
+
+    def undo(self):
+        self.machine.undo()
+        return []
+
+    def redo(self):
+        self.machine.redo()
+        return []
+
+    def write(self):
+        text = dump.text(self.machine.present.length, self.machine.present.edges)
+        machine.need(self.put(text), "S3")
+        return [str(len(text))]
+
+    def quit(self):
+        self.is_over = True
+        return []
+
+
+def settings(words):
+    parser = argparse.ArgumentParser(prog="irig_ed", allow_abbrev=False)
+    parser.add_argument("--wire")
+    parser.add_argument("--format", default="B", choices=list("ABEG"))
+    parser.add_argument("--expression", default="2", choices=list("01234567"))
+    parser.add_argument("--out")
+    parser.add_argument("track", metavar="TRACK")
+    return parser.parse_args(words)
+
+
+def opened(chosen):
+    """The length and the edges of the track, or what is said of it instead."""
+    try:
+        with open(chosen.track, "rb") as track:
+            source = track.read(dump.MOST_BYTES + 1)
+        if len(source) > dump.MOST_BYTES:
+            return None, "too long"
+        return dump.read(source, None if chosen.wire is None else os.fsencode(chosen.wire)), None
+    except OSError:
+        return None, "cannot be read"
+    except dump.Fault as fault:
+        return None, str(fault)
+
+
+def put_at(path):
+    def put(text):
+        try:
+            with open(path, "wb") as file:
+                file.write(text)
+            return True
+        except OSError:
+            return False
+    return put
+
+
+def main(words):
+    chosen = settings(words)
+    kind, expression = chosen.format, int(chosen.expression)
+    if expression not in timecode.EXPRESSIONS[kind]:
+        print("irig_ed: E6 BadExpression", file=sys.stderr)
+        return 2
+    track, said = opened(chosen)
+    if said:
+        print("irig_ed: %s: %s" % (chosen.track, said), file=sys.stderr)
+        return 3
+    run = Run(*track, kind, expression, put_at(chosen.out or chosen.track))
+    for line in sys.stdin.buffer:
+        sys.stdout.buffer.write(run.line(line.removesuffix(b"\n")))
+        sys.stdout.buffer.flush()
+        if run.is_over:
+            break
+    return 1 if run.some_refused else 0
+
+
+if __name__ == "__main__":
+    sys.exit(main(sys.argv[1:]))
