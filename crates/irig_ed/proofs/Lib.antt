@@ -5,7 +5,7 @@ pub mod Lines
 pub mod Runs
 pub mod Quits
 pub mod Steps
-pub mod Arguments
+pub mod KnownWords
 pub mod TrackLemmas
 pub mod RowLemmas
 pub mod Blocks

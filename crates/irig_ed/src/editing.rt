@@ -1,6 +1,6 @@
 //! A dump edited by a script.
 
-ghost use Rattle.std.specs.Prelude.{◌≡◌, ◌≤◌, ◌^◌, Err, IfOk, IfSome, length};
+ghost use Rattle.std.specs.Prelude.{◌≡◌, ◌≤◌, ◌^◌, Err, Ok, IfErr, IfOk, IfSome, length};
 ghost use Rattle.irig_vcd.specs.Dump.{dump};
 ghost use Rattle.irig_vcd.specs.Choices.{name_of};
 ghost use Rattle.irig_vcd.specs.Plays.{Fails};
@@ -13,7 +13,7 @@ use crate::shelf::Shelf;
 use crate::status::{RunFault, Status};
 use irig_codes::Format;
 use irig_edit::Session;
-use irig_vcd::VcdFault;
+use irig_vcd::{Recording, VcdFault};
 use std::alloc::Global;
 use std::io::{Read, Write};
 
@@ -27,25 +27,26 @@ pub enum EditFault {
 }
 
 /// Reads a dump and obeys a script on its recording, from the bytes that come in to those that go
-/// out. The wire is chosen by its name, where one is given, and frames are read in the format.
+/// out. The wire is chosen by its name, where one is given, and frames are read in the format. The
+/// bytes of the dump are dropped before the script is read.
 pub fn edit<R: Read, W: Write, S: Shelf>(
     alloc: Global,
-    source: &[u8],
+    source: Vec<u8>,
     wire: Option<&[u8]>,
     format: Format,
     script: &mut R,
     out: &mut W,
     shelf: &mut S,
 ) -> Result<Status, EditFault>
-    requires { length source.now ≤ 2 ^ 28 }
+    requires { length source.items ≤ 2 ^ 28 }
     ensures ok { IfOk result (λ status. IfSome (R.remaining script.old) (Edited
-        (name_of wire.entry) format source.now
+        (name_of wire.entry) format source.items
         (desk (W.contents out.old) (S.texts shelf.old) (S.failures shelf.old))
         (desk (W.contents out.new) (S.texts shelf.new) (S.failures shelf.new)) status)) }
     ensures fault { (e : VcdFault) → result ≡ Err (EditFault.Dump e)
-        → Fails e (dump (name_of wire.entry) source.now) }
+        → Fails e (dump (name_of wire.entry) source.items) }
 {
-    let recording = match irig_vcd::read(alloc, source, wire) {
+    let recording = match recorded(alloc, source, wire) {
         Ok(recording) => recording,
         Err(fault) => return Err(EditFault::Dump(fault)),
     };
@@ -57,4 +58,13 @@ pub fn edit<R: Read, W: Write, S: Shelf>(
         Ok(status) => Ok(status),
         Err(fault) => Err(EditFault::Run(fault)),
     }
+}
+
+/// The recording that a dump tells. The bytes of the dump are dropped.
+fn recorded(alloc: Global, source: Vec<u8>, wire: Option<&[u8]>) -> Result<Recording, VcdFault>
+    requires { length source.items ≤ 2 ^ 28 }
+    ensures read { IfOk result (λ r. dump (name_of wire.entry) source.items ≡ Ok r) }
+    ensures fault { IfErr result (λ e. Fails e (dump (name_of wire.entry) source.items)) }
+{
+    irig_vcd::read(alloc, source.as_slice(), wire)
 }

@@ -7,6 +7,7 @@ ghost use Rattle.irig_ed.specs.Editing.{status_number};
 
 mod address;
 mod addresses;
+mod arguments;
 mod block;
 mod calls;
 mod chosen;
@@ -105,7 +106,7 @@ fn edited<R: Runtime + AllocGlobal>(rt: &R, chosen: &Settings<'_>) -> ExitCode {
     let mut out = io::writer(rt);
     let outcome = editing::edit(
         rt.alloc(),
-        source.as_slice(),
+        source,
         wire,
         chosen.format,
         &mut script,

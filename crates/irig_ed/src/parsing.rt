@@ -1,30 +1,23 @@
 //! Lines of a script as commands.
 
-ghost use Rattle.std.specs.Prelude.{◌≡◌, ◌≤◌, ℕ, List, [], ◌∷◌, Some, take, drop, length, true, false, IfOk, OnOk, OnErr};
-ghost use Rattle.irig_codes.specs.declared.format.Kind.{Kind};
-ghost use Rattle.irig_codes.specs.declared.width.Element.{Element};
-ghost use Rattle.irig_moment.specs.Moment.{MomentView};
-ghost use Rattle.irig_moment.specs.Written.{moment_of};
+ghost use Rattle.std.specs.Prelude.{◌≡◌, ◌≤◌, List, [], take, drop, length, false, IfOk, OnOk, OnErr};
 ghost use Rattle.irig_ed.specs.Addresses.{IsRange};
 ghost use Rattle.irig_ed.specs.Words.{words_of};
 ghost use Rattle.irig_ed.specs.declared.keyword.Keyword.{Keyword};
 ghost use Rattle.irig_ed.specs.declared.range.Range.{Range};
 ghost use Rattle.irig_ed.specs.declared.time.Time.{Time};
-ghost use Rattle.irig_ed.specs.Grammar.{Means, Asks, AsksIn, AreControls, AreTimes, IsExpression, element_word, ends_range, kind_word, parts_in, range_length};
-ghost use Rattle.irig_ed.specs.Letters.{is_letter};
+ghost use Rattle.irig_ed.specs.Grammar.{Means, Asks, AsksIn, AreTimes, ends_range, parts_in, range_length};
 ghost use Rattle.irig_ed.specs.declared.command.Command.{Command};
 
-use crate::addresses::{address, letter, place, range, time};
+use crate::addresses::{address, place, range, time};
+use crate::arguments::{controls, element, expression, kind, mark, moment, times};
 use crate::command::{BadLine, Command};
 use crate::cutting::{Stop, cut, is_space};
 use crate::keyword::{Keyword, keyword_of};
-use crate::letter::Letter;
-use crate::numbers::{control, distance, number};
+use crate::numbers::{distance, number};
 use crate::range::Range;
 use crate::time::Time;
 use crate::words::{no_word, one_word, split_word, two_words};
-use irig_codes::{Element, Kind};
-use irig_moment::Moment;
 
 /// What a line asks for, its newline left out; `BadLine` where it is none of the language.
 pub fn parse_line(line: &[u8]) -> Result<Command, BadLine>
@@ -136,15 +129,6 @@ fn ranged(front: &[u8], arguments: &[u8]) -> Result<Range, BadLine>
     range(front)
 }
 
-/// Two times.
-fn times(arguments: &[u8]) -> Result<(Time, Time), BadLine>
-    ensures ok { IfOk result (λ t. AreTimes (words_of arguments.now) t.0 t.1) }
-    ensures err { OnErr result ((s : Time) → (t : Time) → AreTimes (words_of arguments.now) s t → ⊥) }
-{
-    let (a, b) = two_words(arguments)?;
-    Ok((time(a)?, time(b)?))
-}
-
 /// Two times, where no range stands.
 fn bare_times(front: &[u8], arguments: &[u8]) -> Result<(Time, Time), BadLine>
     ensures ok { IfOk result (λ t. (front.now ≡ []) × AreTimes (words_of arguments.now) t.0 t.1) }
@@ -224,77 +208,4 @@ fn regen(front: &[u8], arguments: &[u8]) -> Result<Command, BadLine>
     let (start, frames) = (time(start)?, number(frames)?);
     let from = moment(written)?;
     Ok(Command::Regen(start, frames, from, controls(rest)?))
-}
-
-/// The moment that a word tells.
-fn moment(word: &[u8]) -> Result<Moment, BadLine>
-    ensures ok { IfOk result (λ m. moment_of word.now ≡ Some m) }
-    ensures err { OnErr result ((m : MomentView) → moment_of word.now ≡ Some m → ⊥) }
-{
-    match Moment::parse(word) {
-        Some(moment) => Ok(moment),
-        None => Err(BadLine),
-    }
-}
-
-/// The control functions at the end of a line; 0 where none stand.
-fn controls(text: &[u8]) -> Result<u64, BadLine>
-    ensures ok { IfOk result (AreControls (words_of text.now)) }
-    ensures err { OnErr result ((n : ℕ) → AreControls (words_of text.now) n → ⊥) }
-{
-    let (word, rest) = split_word(text);
-    if word.is_empty() {
-        return Ok(0);
-    }
-    no_word(rest)?;
-    control(word)
-}
-
-/// The element that a word names.
-fn element(word: &[u8]) -> Result<Element, BadLine>
-    ensures ok { IfOk result (λ e. word.now ≡ element_word e) }
-    ensures err { OnErr result ((e : Element) → word.now ≡ element_word e → ⊥) }
-{
-    match word {
-        b"zero" => Ok(Element::Zero),
-        b"one" => Ok(Element::One),
-        b"position" => Ok(Element::Position),
-        _ => Err(BadLine),
-    }
-}
-
-/// The kind of time code that a word names.
-fn kind(word: &[u8]) -> Result<Kind, BadLine>
-    ensures ok { IfOk result (λ k. word.now ≡ kind_word k) }
-    ensures err { OnErr result ((k : Kind) → word.now ≡ kind_word k → ⊥) }
-{
-    match word {
-        b"A" => Ok(Kind::A),
-        b"B" => Ok(Kind::B),
-        b"E" => Ok(Kind::E),
-        b"G" => Ok(Kind::G),
-        _ => Err(BadLine),
-    }
-}
-
-/// The number of an expression: one digit 0 to 7.
-fn expression(word: &[u8]) -> Result<u8, BadLine>
-    ensures ok { IfOk result (IsExpression word.now) }
-    ensures err { OnErr result ((n : ℕ) → IsExpression word.now n → ⊥) }
-{
-    match word {
-        [digit @ b'0'..=b'7'] => Ok(*digit - b'0'),
-        _ => Err(BadLine),
-    }
-}
-
-/// The letter of a mark, alone in a word.
-fn mark(word: &[u8]) -> Result<Letter, BadLine>
-    ensures ok { IfOk result (λ l. (word.now ≡ l ∷ []) × (is_letter l ≡ true)) }
-    ensures err { OnErr result ((l : ℕ) → word.now ≡ l ∷ [] → is_letter l ≡ true → ⊥) }
-{
-    match word {
-        [byte] => letter(*byte),
-        _ => Err(BadLine),
-    }
 }

@@ -7,6 +7,10 @@ use irig_edit::{Refusal, Session};
 use irig_vcd::{Recording, VcdFault};
 use std::process::Abort;
 
+/// A dump of 1,000 microseconds with pulses 100-120 and 200-280.
+const DUMP: &[u8] =
+    b"$timescale 1 us $end $var wire 1 ! c $end $enddefinitions $end #100 1! #120 0! #200 1! #280 0! #1000";
+
 fn session<R: Abort + AllocGlobal>(rt: &R) -> Option<Session> {
     let edges = Vec::from_slice(rt.alloc(), &[100, 120, 200, 280]).ok()?;
     let recording = Recording::new(1000, edges).ok()?;
@@ -51,8 +55,9 @@ fn a_refused_line_leaves_the_rest(rt: HostRuntime) {
     let Ok(format) = Format::new(Kind::G, 2) else {
         return;
     };
-    let dump =
-        b"$timescale 1 us $end $var wire 1 ! c $end $enddefinitions $end #100 1! #120 0! #200 1! #280 0! #1000";
+    let Ok(dump) = Vec::from_slice(rt.alloc(), DUMP) else {
+        return;
+    };
     let mut script = b"invert 100 120\nwrite\nundo\nwrite\n".as_slice();
     let mut shelf = MemoryShelf::new(rt.alloc(), None);
     let outcome = edit(

@@ -1,5 +1,7 @@
 //! Scripts over memory: what each prints, and how it ends.
 
+ghost use Rattle.std.specs.Prelude.{◌≡◌, length};
+
 use crate::editing::{EditFault, edit};
 use crate::memory_shelf::MemoryShelf;
 use crate::status::Status;
@@ -53,6 +55,15 @@ fn format_of<R: Abort>(rt: &R, kind: Kind, expression: u8) -> Format {
         .expect(rt, "the kind permits the expression")
 }
 
+/// The bytes of a dump, on the heap.
+fn dump_of<R: Abort + AllocGlobal>(rt: &R, bytes: &[u8]) -> Vec<u8>
+    ensures { length result.items ≡ length bytes.now }
+{
+    Vec::from_slice(rt.alloc(), bytes)
+        .ok()
+        .expect(rt, "the dump finds room")
+}
+
 fn check<R: Abort + AllocGlobal>(rt: &R, row: &Row<'_>) {
     assert!(rt; row.dump.len() < 1000);
     let mut script = row.script;
@@ -60,7 +71,7 @@ fn check<R: Abort + AllocGlobal>(rt: &R, row: &Row<'_>) {
     let mut shelf = MemoryShelf::new(rt.alloc(), None);
     let outcome = edit(
         rt.alloc(),
-        row.dump,
+        dump_of(rt, row.dump),
         None,
         format_of(rt, row.kind, row.expression),
         &mut script,
@@ -474,7 +485,7 @@ fn a_failed_put_is_refused(rt: HostRuntime) {
     let mut shelf = MemoryShelf::new(rt.alloc(), Some(1));
     let outcome = edit(
         rt.alloc(),
-        PULSES,
+        dump_of(&rt, PULSES),
         None,
         format_of(&rt, Kind::B, 2),
         &mut script,
@@ -493,7 +504,7 @@ fn the_text_put_is_the_dump_of_the_track(rt: HostRuntime) -> Result<(), Fail> {
     let mut shelf = MemoryShelf::new(rt.alloc(), None);
     let outcome = edit(
         rt.alloc(),
-        PULSES,
+        dump_of(&rt, PULSES),
         Some(b"code"),
         format_of(&rt, Kind::B, 2),
         &mut script,
@@ -513,7 +524,7 @@ fn a_dump_that_is_none_is_told(rt: HostRuntime) {
     let mut shelf = MemoryShelf::new(rt.alloc(), None);
     let outcome = edit(
         rt.alloc(),
-        b"",
+        Vec::new(rt.alloc()),
         None,
         format_of(&rt, Kind::B, 2),
         &mut script,

@@ -3,7 +3,7 @@ use Rattle.irig_ed.specs.Grammar.{Asks}
 use Rattle.irig_ed.specs.Words.{words_of}
 use Rattle.irig_ed.specs.declared.command.Command.{Command}
 use Rattle.irig_ed.specs.declared.keyword.Keyword.TheVariants as word
-use Rattle.irig_ed.proofs.Arguments.{refused}
+use Rattle.irig_ed.proofs.KnownWords.{refused}
 use Rattle.irig_ed.proofs.Lines.{given}
 use Rattle.irig_ed.proofs.parsing.asked.Goals as goal
 

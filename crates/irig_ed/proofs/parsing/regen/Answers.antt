@@ -6,7 +6,7 @@ use Rattle.irig_ed.specs.Numbers.{IsNumber}
 use Rattle.irig_ed.specs.Words.{words_of}
 use Rattle.irig_ed.specs.declared.command.Command.{Command}
 use Rattle.irig_ed.specs.declared.keyword.Keyword.TheVariants as word
-use Rattle.irig_ed.proofs.Arguments.{full_word, moment_some, next_word, time_some}
+use Rattle.irig_ed.proofs.KnownWords.{full_word, moment_some, next_word, time_some}
 use Rattle.irig_ed.proofs.Lines.{given}
 use Rattle.irig_ed.proofs.parsing.regen.Goals as goal
 
