@@ -6,6 +6,10 @@ mod Regenerating
 mod Inserting
 mod Machines
 mod Pulses
+mod ReadingBack
+mod ReadingBackEdit
+mod ReadingBackFields
+mod ReadingBackFrames
 mod Replacing
 mod Running
 mod Marking

@@ -4,6 +4,7 @@ pub mod Conditions
 pub mod Edits
 pub mod Machine
 pub mod Present
+pub mod ReadBack
 pub mod Refusals
 pub mod Regenerated
 pub mod Runs
