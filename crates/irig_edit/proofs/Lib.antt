@@ -10,6 +10,7 @@ mod ReadingBack
 mod ReadingBackEdit
 mod ReadingBackFields
 mod ReadingBackFrames
+mod ReadingBackLaws
 mod Replacing
 mod Running
 mod Marking

@@ -1,12 +1,14 @@
 -- What is read from frames that were generated. The frames are those of IRIG Standard 200-04; that
 -- they are read back as what was asked for is this project's own promise.
-use Rattle.std.specs.Prelude.{◌≡◌, ◌+◌, ◌*◌, ◌^◌, ◌<◌, ◌≤◌, ℕ, true, List, ◌++◌, length, Ok, Contains}
-use Rattle.irig_codes.specs.declared.fields.Fields.{Fields}
+use Rattle.std.specs.Prelude.{◌≡◌, ◌↔◌, ◌+◌, ◌-◌, ◌*◌, ◌^◌, ◌<◌, ◌≤◌, ℕ, true, List, [], ◌∷◌, ◌++◌, length, slice_get, Ok, Some, Contains}
 use Rattle.irig_codes.specs.declared.note.Note.TheVariants.{Fine}
+use Rattle.irig_codes.specs.declared.width.Element.TheVariants.{Position}
 use Rattle.irig_codes.specs.Format.{FormatView, control_count_of}
+use Rattle.irig_codes.specs.Width.{is_in_step}
 use Rattle.irig_index.specs.declared.record.Record.{Record}
 use Rattle.irig_index.specs.declared.record.Verdict.TheVariants.{Read}
 use Rattle.irig_index.specs.Frames.{frames}
+use Rattle.irig_index.specs.Marker.{class_at}
 use Rattle.irig_journal.specs.Machine.{Machine}
 use Rattle.irig_moment.specs.Generated.{starts_in, frame_fields}
 use Rattle.irig_moment.specs.Moment.{MomentView, IsMoment}
@@ -16,25 +18,66 @@ use Rattle.irig_edit.specs.Machine.{Steps, IsMachine}
 use Rattle.irig_edit.specs.Regenerated.{frames_pulses, rising_before}
 use Rattle.irig_edit.specs.State.{State, frames_of}
 
--- a frame that reads as fields, with nothing to note; its marker counts from 0
-abbrev pub read_as : ℕ → Fields → Record
-read_as marker fields = record { marker = marker; verdict = Read fields Fine }
+-- frames can be made: one begins at the moment, the control functions fit, and there are not too
+-- many
+pub record CanMake (f : FormatView) (moment : MomentView) (count control : ℕ) : Type 0 where
+  pub is_moment : IsMoment moment.day moment.hundredths
+  pub starts : starts_in f moment ≡ true
+  pub narrow : control < 2 ^ control_count_of f
+  pub few : count ≤ 10000
 
--- each frame from a moment on reads as what it was made to tell, wherever its pulses stand; but the
--- first one, since its marker rests on the pulse before it
-abbrev pub GeneratedFramesReadBack : Type 0
-GeneratedFramesReadBack = (f : FormatView) (moment : MomentView) (start count control k : ℕ)
-    (before after : List Pulse) → IsMoment moment.day moment.hundredths
-    → starts_in f moment ≡ true → control < 2 ^ control_count_of f
-    → count ≤ 10000 → 1 ≤ k → k < count
+-- frame k from a moment on, from 0, as it is read: its fields, with nothing to note. The frames
+-- begin with the pulse at a place, from 0
+abbrev pub frame_read : FormatView → MomentView → ℕ → ℕ → ℕ → Record
+frame_read f moment control place k =
+    record { marker = place + 100 * k; verdict = Read (frame_fields f moment k control) Fine }
+
+-- each frame but the first is read as what it was made to tell, wherever the pulses stand
+abbrev pub MadeFramesReadBack : Type 0
+MadeFramesReadBack = (f : FormatView) (moment : MomentView) (start count control k : ℕ)
+    (before after : List Pulse) → CanMake f moment count control → 1 ≤ k → k < count
     → Contains (frames f (before ++ (frames_pulses f start count moment control ++ after)))
-    (read_as (length before + 100 * k) (frame_fields f moment k control))
+    (frame_read f moment control (length before) k)
 
--- so does each frame but the first that an accepted regeneration leaves
+-- the first one too, where the pulse before it is a position identifier, in step
+abbrev pub FirstFrameReadsBack : Type 0
+FirstFrameReadsBack = (f : FormatView) (moment : MomentView) (start count control : ℕ) (p : Pulse)
+    (before after : List Pulse) → CanMake f moment count control → 1 ≤ count
+    → class_at f p ≡ Some Position → is_in_step f (start - p.rise) ≡ true
+    → Contains
+    (frames f ((before ++ p ∷ []) ++ (frames_pulses f start count moment control ++ after)))
+    (frame_read f moment control (length before + 1) 0)
+
+-- no other frame begins among their pulses
+abbrev pub NoOtherFrameIsRead : Type 0
+NoOtherFrameIsRead = (f : FormatView) (moment : MomentView) (start count control : ℕ)
+    (before after : List Pulse) (r : Record) → CanMake f moment count control
+    → Contains (frames f (before ++ (frames_pulses f start count moment control ++ after))) r
+    → length before < r.marker → r.marker < length before + 100 * count
+    → (k : ℕ) × (1 ≤ k) × (k < count) × (r ≡ frame_read f moment control (length before) k)
+
+-- how many pulses stand before those of a regeneration
+abbrev pub pulses_before : ℕ → Machine State → ℕ
+pulses_before start m = length (rising_before start m.present.state.pulses)
+
+-- after an accepted regeneration the frames that begin among its pulses, behind the first of these,
+-- are those that were asked for, but for the first
 abbrev pub RegenReadsBack : Type 0
-RegenReadsBack = (start count control k : ℕ) (moment : MomentView) (old new : Machine State)
-    → IsMachine old → IsMoment moment.day moment.hundredths
-    → Steps (Regen start count moment control) old (Ok tt) new → 1 ≤ k → k < count
+RegenReadsBack = (start count control : ℕ) (moment : MomentView) (old new : Machine State)
+    (r : Record) → IsMachine old → IsMoment moment.day moment.hundredths
+    → Steps (Regen start count moment control) old (Ok tt) new
+    → pulses_before start old < r.marker → r.marker < pulses_before start old + 100 * count
+    → Contains (frames_of new.present.state) r
+    ↔ ((k : ℕ) × (1 ≤ k) × (k < count)
+    × (r ≡ frame_read old.present.state.format moment control (pulses_before start old) k))
+
+-- and the first one too, where the pulse before it is a position identifier, in step
+abbrev pub RegenReadsFirstBack : Type 0
+RegenReadsFirstBack = (start count control n : ℕ) (moment : MomentView) (old new : Machine State)
+    (p : Pulse) → IsMachine old → IsMoment moment.day moment.hundredths
+    → Steps (Regen start count moment control) old (Ok tt) new
+    → pulses_before start old ≡ n + 1 → slice_get old.present.state.pulses n ≡ Some p
+    → class_at old.present.state.format p ≡ Some Position
+    → is_in_step old.present.state.format (start - p.rise) ≡ true
     → Contains (frames_of new.present.state)
-    (read_as (length (rising_before start old.present.state.pulses) + 100 * k)
-    (frame_fields old.present.state.format moment k control))
+    (frame_read old.present.state.format moment control (n + 1) 0)
