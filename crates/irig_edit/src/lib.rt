@@ -16,6 +16,6 @@ mod whole;
 
 pub use irig_index::{Cause, Record, Verdict};
 pub use irig_track::Pulse;
-pub use law::calls_give_back;
+pub use law::{calls_give_back, generated_frames_read_back};
 pub use refusal::Refusal;
 pub use session::Session;
