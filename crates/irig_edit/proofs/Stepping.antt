@@ -4,7 +4,7 @@ use Rattle.irig_journal.specs.Machine.{Machine, recorded}
 use Rattle.irig_edit.specs.State.{State}
 use Rattle.irig_edit.specs.Calls.{Call}
 use Rattle.irig_edit.specs.Calls.Call.{Insert, Delete, Split, Join, Shift, Invert, Force, Regen, SetFormat, SetMark, Undo, Redo, Go}
-use Rattle.irig_edit.specs.Machine.{Steps, Accepts, Edits, kept}
+use Rattle.irig_edit.specs.Machine.{Steps, Accepts, Edits, MayWantMemory, kept}
 use Rattle.irig_edit.specs.Becoming.{Becomes, IsEdit, judgement_of}
 use Rattle.irig_edit.specs.Refusals.{refusal_of}
 use Rattle.irig_edit.specs.declared.refusal.Refusal.{Refusal}
@@ -42,13 +42,29 @@ Accepts-edit Undo old new edit h = absurd edit
 Accepts-edit Redo old new edit h = absurd edit
 Accepts-edit (Go i) old new edit h = absurd edit
 
+-- an edit may want memory
+pub MayWantMemory-edit : (call : Call) → IsEdit call → MayWantMemory call
+MayWantMemory-edit (Insert a b) edit = tt
+MayWantMemory-edit (Delete i j) edit = tt
+MayWantMemory-edit (Split i a b) edit = tt
+MayWantMemory-edit (Join i j) edit = tt
+MayWantMemory-edit (Shift i j d) edit = tt
+MayWantMemory-edit (Invert a b) edit = tt
+MayWantMemory-edit (Force i e) edit = tt
+MayWantMemory-edit (Regen start frames moment control) edit = tt
+MayWantMemory-edit (SetFormat f) edit = tt
+MayWantMemory-edit (SetMark l t) edit = tt
+MayWantMemory-edit Undo edit = tt
+MayWantMemory-edit Redo edit = tt
+MayWantMemory-edit (Go i) edit = edit
+
 -- accepted, or refused for want of memory alone
-steps_allowed : (call : Call) (old new : Machine State) (r : Result Unit Refusal) → refusal_of call old ≡ None
+steps_allowed : (call : Call) (old new : Machine State) (r : Result Unit Refusal) → refusal_of call old ≡ None → MayWantMemory call
     → OnOk r (Accepts call old new) → OnErr r ((new ≡ old) × IsErrOf r OutOfMemory) → Steps call old r new
-steps_allowed call old new (Ok u) none accepted same = (none, accepted)
-steps_allowed call old new (Err e) none accepted same =
+steps_allowed call old new (Ok u) none may accepted same = (none, accepted)
+steps_allowed call old new (Err e) none may accepted same =
     let P : Result Unit Refusal → Type 0 = λ x. Steps call old x new in
-    subst P (sym same.1) (none, same.0)
+    subst P (sym same.1) (none, same.0, may)
 
 -- a step to another state
 edits_becomes : (call : Call) (old new : Machine State) (s : State) (place : ℕ)
@@ -66,5 +82,5 @@ pub steps_becomes : (call : Call) (old new : Machine State) (r : Result Unit Ref
     → judgement_of call old.present.state ≡ None → Becomes call old.present.state s place
     → OnOk r (new ≡ recorded old (kept s place)) → OnErr r ((new ≡ old) × IsErrOf r OutOfMemory) → Steps call old r new
 steps_becomes call old new r s place edit none becomes ok err =
-    steps_allowed call old new r (refusal_of-edit call old edit ∙ none)
+    steps_allowed call old new r (refusal_of-edit call old edit ∙ none) (MayWantMemory-edit call edit)
     (map_ok r (λ step. Accepts-edit call old new edit (edits_becomes call old new s place step becomes)) ok) err

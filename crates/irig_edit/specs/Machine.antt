@@ -41,11 +41,17 @@ Accepts Redo old new = redone old ≡ Some new
 Accepts (Go i) old new = new ≡ with_cursor i old
 Accepts call old new = Edits call old new
 
+-- memory can be wanting at each call but one: going to a pulse takes none
+abbrev pub MayWantMemory : Call → Type 0
+MayWantMemory (Go i) = ⊥
+MayWantMemory _ = Unit {0}
+
 -- one step: accepted where no refusal holds; else the first refusal, or want of memory where none
--- holds, and nothing moved
+-- holds and the call takes memory, and nothing moved
 abbrev pub Steps : Call → Machine State → Result Unit Refusal → Machine State → Type 0
 Steps call old (Ok _) new = (refusal_of call old ≡ None) × Accepts call old new
-Steps call old (Err OutOfMemory) new = (refusal_of call old ≡ None) × (new ≡ old)
+Steps call old (Err OutOfMemory) new =
+    (refusal_of call old ≡ None) × (new ≡ old) × MayWantMemory call
 Steps call old (Err refusal) new = (refusal_of call old ≡ Some refusal) × (new ≡ old)
 
 -- a state and its cursor are within their limits

@@ -120,7 +120,9 @@ impl Session {
         }
     }
 
-    /// Puts the cursor at a pulse, from 1.
+    /// Puts the cursor at a pulse, from 1. This takes no memory, and is no step.
+    ///
+    /// E2 unless the pulse is there.
     pub fn go(&mut self, pulse: usize) -> Result<(), Refusal>
         ensures step { Steps (Go pulse) self.old result self.new }
     {
