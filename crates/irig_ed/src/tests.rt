@@ -5,3 +5,4 @@ mod failing_ends;
 mod frames;
 mod refused_growths;
 mod rows;
+mod table;
