@@ -33,18 +33,28 @@ IsChoice name values rule =
 abbrev pub track : Rule
 track = record (new_rule (codes "TRACK")) { action = Some Set; required = true }
 
--- the command: the wire's name, the format and its expression, the path to write, and the track
-abbrev pub command_with : Rule → Rule → App
-command_with format expression =
-    with_rule (with_rule (with_rule (with_rule (with_rule (new_app (codes "irig_ed"))
-    (option (codes "wire") None)) format) expression) (option (codes "out") None)) track
+-- how the track is read: the wire's name, the format and its expression
+abbrev pub reading_with : Rule → Rule → App
+reading_with format expression =
+    with_rule (with_rule (with_rule (new_app (codes "irig_ed")) (option (codes "wire") None)) format) expression
 
-pub record IsCommand (app : App) : Type 0 where
+-- the command: how the track is read, the path to write, and the track
+abbrev pub command_with : Rule → Rule → App
+command_with format expression = with_rule (with_rule (reading_with format expression) (option (codes "out") None)) track
+
+-- it has the choices of a letter and of a digit
+pub record HasChoices (with_choices : Rule → Rule → App) (app : App) : Type 0 where
   pub format : Rule
   pub expression : Rule
   pub is_letter : IsChoice (codes "format") letters format
   pub is_digit : IsChoice (codes "expression") digits expression
-  pub shape : app ≡ command_with format expression
+  pub shape : app ≡ with_choices format expression
+
+abbrev pub IsReading : App → Type 0
+IsReading app = HasChoices reading_with app
+
+abbrev pub IsCommand : App → Type 0
+IsCommand app = HasChoices command_with app
 
 -- matches that a parse of the words by the command may give
 pub record IsParsed (words : List Text) (matches : ArgMatches) : Type 0 where

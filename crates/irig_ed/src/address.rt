@@ -3,7 +3,7 @@
 use crate::letter::Letter;
 
 /// What an address counts from.
-#[derive(Clone, Copy, Debug, PartialEq, Eq)]
+#[derive(Clone, Copy)]
 pub enum Base {
     /// A number: pulses count from 1.
     Number(u64),
@@ -16,7 +16,7 @@ pub enum Base {
 }
 
 /// An address of a pulse: so many pulses behind what it counts from, or before.
-#[derive(Clone, Copy, Debug, PartialEq, Eq)]
+#[derive(Clone, Copy)]
 pub struct Address {
     pub base: Base,
     pub offset: i64,

@@ -8,7 +8,7 @@ use irig_codes::{Element, Kind};
 use irig_moment::Moment;
 
 /// What a line of a script asks for.
-#[derive(Clone, Copy, Debug, PartialEq, Eq)]
+#[derive(Clone, Copy)]
 pub enum Command {
     /// Nothing: a blank line, or a comment.
     Nothing,

@@ -2,7 +2,7 @@
 
 ghost use Rattle.std.specs.Prelude.{◌≡◌, IfOk, None, false, map, codes};
 ghost use Rattle.clap.specs.Words.{app_of, found_of, rule_of};
-ghost use Rattle.irig_ed.specs.CommandLine.{IsCommand, IsChoice, IsParsed, option, track};
+ghost use Rattle.irig_ed.specs.CommandLine.{IsCommand, IsReading, IsChoice, IsParsed, option, track};
 ghost use Rattle.irig_ed.specs.Settings.{Chooses, Reads, digit_named, kind_named};
 
 use crate::chosen::{Settings, UsageFault};
@@ -88,8 +88,18 @@ fn parsed<'a>(alloc: Global, words: &'a [&'a str]) -> Result<ArgMatches<'a>, Err
     command(alloc)?.try_get_matches_from(words)
 }
 
+/// The command line of the program.
 fn command<'a>(alloc: Global) -> Result<Command<'a>, AllocError>
     ensures { IfOk result (λ c. IsCommand (app_of c)) }
+{
+    reading(alloc)?
+        .arg(option_arg(alloc, "out", "PATH", "what `write` writes, if not TRACK"))?
+        .arg(track_arg(alloc))
+}
+
+/// Its options that say how the track is read.
+fn reading<'a>(alloc: Global) -> Result<Command<'a>, AllocError>
+    ensures { IfOk result (λ c. IsReading (app_of c)) }
 {
     Command::new(alloc, "irig_ed")
         .arg(option_arg(alloc, "wire", "NAME", "the wire of the dump"))?
@@ -106,9 +116,7 @@ fn command<'a>(alloc: Global) -> Result<Command<'a>, AllocError>
             "NUMBER",
             "2, if not given",
             DIGITS.as_slice(),
-        ))?
-        .arg(option_arg(alloc, "out", "PATH", "what `write` writes, if not TRACK"))?
-        .arg(track_arg(alloc))
+        ))
 }
 
 /// An option `--name` with a value.

@@ -5,7 +5,7 @@ ghost use Rattle.irig_ed.specs.Words.{is_space, is_stop, before, onward};
 ghost use Rattle.irig_ed.specs.Numbers.{is_sign};
 
 /// Before which bytes a text is cut.
-#[derive(Clone, Copy, Debug, PartialEq, Eq)]
+#[derive(Clone, Copy)]
 pub enum Stop {
     /// White space.
     Blank,

@@ -1,10 +1,10 @@
 //! The words that lines begin with.
 
 ghost use Rattle.std.specs.Prelude.{◌≡◌};
-ghost use Rattle.irig_ed.specs.Keywords.{keyword_of};
+ghost use Rattle.irig_ed.specs.Keywords.{bare_word, keyword_of, lone_word};
 
 /// The word of a line.
-#[derive(Clone, Copy, Debug, PartialEq, Eq)]
+#[derive(Clone, Copy)]
 pub enum Keyword {
     /// None stands.
     Missing,
@@ -49,7 +49,16 @@ pub fn keyword_of(text: &[u8]) -> Keyword
         Keyword::Split
     } else if text == b"force".as_slice() {
         Keyword::Force
-    } else if text == b"insert".as_slice() {
+    } else {
+        bare_word(text)
+    }
+}
+
+/// The word that a text is, of those with no range before them.
+fn bare_word(text: &[u8]) -> Keyword
+    ensures { result ≡ bare_word text.now }
+{
+    if text == b"insert".as_slice() {
         Keyword::Insert
     } else if text == b"invert".as_slice() {
         Keyword::Invert
@@ -61,7 +70,16 @@ pub fn keyword_of(text: &[u8]) -> Keyword
         Keyword::Mark
     } else if text == b"unmark".as_slice() {
         Keyword::Unmark
-    } else if text == b"undo".as_slice() {
+    } else {
+        lone_word(text)
+    }
+}
+
+/// The word that a text is, of those that stand alone in their line.
+fn lone_word(text: &[u8]) -> Keyword
+    ensures { result ≡ lone_word text.now }
+{
+    if text == b"undo".as_slice() {
         Keyword::Undo
     } else if text == b"redo".as_slice() {
         Keyword::Redo

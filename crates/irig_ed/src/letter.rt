@@ -6,7 +6,7 @@ ghost use Rattle.irig_ed.specs.Letters.{letter_of};
 use std::marker::Model;
 
 /// The letter of a mark: one of a to z.
-#[derive(Clone, Copy, Debug, PartialEq, Eq)]
+#[derive(Clone, Copy)]
 pub struct Letter {
     code: u8,
 }

@@ -3,7 +3,7 @@
 use crate::address::Address;
 
 /// A range of pulses. A missing one is the address `.`, and `,` alone is `1,$`.
-#[derive(Clone, Copy, Debug, PartialEq, Eq)]
+#[derive(Clone, Copy)]
 pub enum Range {
     /// One address: that pulse alone; for `join` that pulse and the next.
     One(Address),

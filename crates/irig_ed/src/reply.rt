@@ -15,7 +15,7 @@ use irig_edit::{Refusal, Session};
 use std::io::Write;
 
 /// What is answered to a line of a script.
-#[derive(Clone, Copy, Debug, PartialEq, Eq)]
+#[derive(Clone, Copy)]
 pub enum Reply {
     /// The line was obeyed, and prints nothing.
     Silent,

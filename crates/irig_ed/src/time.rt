@@ -3,7 +3,7 @@
 use crate::letter::Letter;
 
 /// A time as a script writes it.
-#[derive(Clone, Copy, Debug, PartialEq, Eq)]
+#[derive(Clone, Copy)]
 pub enum Time {
     /// In microseconds.
     At(u64),

@@ -1,22 +1,16 @@
-use Rattle.std.proofs.Common.{rules, ap₂, refl, codes, List, ◌∙◌, subst}
+use Rattle.std.proofs.Common.{ap₂, ◌∙◌}
 use Rattle.std.proofs.lemmas.Result.{IfOk-weaker}
-use Rattle.clap.specs.Words.{Text, rule_of, with_rule}
-use Rattle.irig_ed.specs.CommandLine.{IsChoice, letters, digits}
+use Rattle.clap.specs.Words.{with_rule}
 use Rattle.irig_ed.proofs.command_line.command.Goals as goal
 
 pub returns : goal.returns
 returns c =
-    let four = c.in_ok-arg-4.ensures.shape c.option_arg-2.ensures.local
-    ∙ ap₂ with_rule (c.in_ok-arg-3.ensures.shape c.choice_arg-2.ensures.local
-    ∙ ap₂ with_rule (c.in_ok-arg-2.ensures.shape c.choice_arg.ensures.local
-    ∙ ap₂ with_rule (c.in_ok-arg.ensures.shape c.option_arg.ensures.local
-    ∙ ap₂ with_rule c.new.ensures.app c.option_arg.ensures.rule) refl) refl) c.option_arg-2.ensures.rule in
-    let is_letter : IsChoice (codes "format") letters (rule_of c.choice_arg.result) = subst (λ (t : List Text). IsChoice (codes "format") t (rule_of c.choice_arg.result)) (search rules) c.choice_arg.ensures.rule in
-    let is_digit : IsChoice (codes "expression") digits (rule_of c.choice_arg-2.result) = subst (λ (t : List Text). IsChoice (codes "expression") t (rule_of c.choice_arg-2.result)) (search rules) c.choice_arg-2.ensures.rule in
-    IfOk-weaker c.arg-5.result _ _ (λ cmd added. record {
-      format = rule_of c.choice_arg.result;
-      expression = rule_of c.choice_arg-2.result;
-      is_letter = is_letter;
-      is_digit = is_digit;
-      shape = added.shape c.track_arg.ensures.local ∙ ap₂ with_rule four c.track_arg.ensures.rule;
-    }) c.arg-5.ensures
+    let read = c.in_ok-reading.ensures in
+    let out = c.in_ok-arg.ensures.shape c.option_arg.ensures.local ∙ ap₂ with_rule read.shape c.option_arg.ensures.rule in
+    IfOk-weaker c.arg-2.result _ _ (λ cmd added. record {
+      format = read.format;
+      expression = read.expression;
+      is_letter = read.is_letter;
+      is_digit = read.is_digit;
+      shape = added.shape c.track_arg.ensures.local ∙ ap₂ with_rule out c.track_arg.ensures.rule;
+    }) c.arg-2.ensures
