@@ -68,46 +68,54 @@ fn opened<R: Abort + AllocGlobal>(rt: &R) -> Result<Session, Fail> {
     Ok(Session::open(rt.alloc(), recording, format)?)
 }
 
+/// A script whose last read fails in such a way.
+fn check_read<R: Abort + AllocGlobal>(rt: &R, kind: ErrorKind) -> Result<(), Fail> {
+    let mut session = opened(rt)?;
+    let mut script = Broken {
+        text: b"invert 100 120\nwrite\nundo",
+        step: 3,
+        kind,
+    };
+    let mut out = Vec::new(rt.alloc());
+    let mut shelf = MemoryShelf::new(rt.alloc(), None);
+    let outcome = run(&mut session, &mut script, &mut out, &mut shelf);
+    assert!(rt; outcome == Err(RunFault::ReadFailed));
+    assert!(rt; out.as_slice() == b"147\n".as_slice());
+    assert!(rt; shelf.texts().len() == 1 && session.len() == 1);
+    assert!(rt; session.undo() == Ok(()) && session.len() == 2);
+    Ok(())
+}
+
 // The whole lines before the failure are obeyed and answered, and the rest is not.
 #[test]
 fn a_failed_read_ends_the_run(rt: HostRuntime) -> Result<(), Fail> {
-    for kind in [ErrorKind::Other, ErrorKind::Interrupted] {
-        let mut session = opened(&rt)?;
-        let mut script = Broken {
-            text: b"invert 100 120\nwrite\nundo",
-            step: 3,
-            kind,
-        };
-        let mut out = Vec::new(rt.alloc());
-        let mut shelf = MemoryShelf::new(rt.alloc(), None);
-        let outcome = run(&mut session, &mut script, &mut out, &mut shelf);
-        assert!(rt; outcome == Err(RunFault::ReadFailed));
-        assert!(rt; out.as_slice() == b"147\n".as_slice());
-        assert!(rt; shelf.texts().len() == 1 && session.len() == 1);
-        assert!(rt; session.undo() == Ok(()) && session.len() == 2);
-    }
+    check_read(&rt, ErrorKind::Other)?;
+    check_read(&rt, ErrorKind::Interrupted)
+}
+
+/// An output that takes six bytes, and then fails or takes none.
+fn check_write<R: Abort + AllocGlobal>(rt: &R, fails: bool) -> Result<(), Fail> {
+    let mut session = opened(rt)?;
+    let mut script = b"invert 100 120\nwrite\nwrite\nundo\n".as_slice();
+    let mut out = Full {
+        bytes: [0; 16],
+        len: 0,
+        room: 6,
+        fails,
+    };
+    let mut shelf = MemoryShelf::new(rt.alloc(), None);
+    let outcome = run(&mut session, &mut script, &mut out, &mut shelf);
+    assert!(rt; outcome == Err(RunFault::PrintFailed));
+    assert!(rt; out.len == 6 && &out.bytes[..6] == b"147\n14".as_slice());
+    assert!(rt; shelf.texts().len() == 2 && session.len() == 1);
     Ok(())
 }
 
 // The line whose answer was not printed whole is obeyed, and none after it.
 #[test]
 fn a_failed_write_ends_the_run(rt: HostRuntime) -> Result<(), Fail> {
-    for fails in [false, true] {
-        let mut session = opened(&rt)?;
-        let mut script = b"invert 100 120\nwrite\nwrite\nundo\n".as_slice();
-        let mut out = Full {
-            bytes: [0; 16],
-            len: 0,
-            room: 6,
-            fails,
-        };
-        let mut shelf = MemoryShelf::new(rt.alloc(), None);
-        let outcome = run(&mut session, &mut script, &mut out, &mut shelf);
-        assert!(rt; outcome == Err(RunFault::PrintFailed));
-        assert!(rt; out.len == 6 && &out.bytes[..6] == b"147\n14".as_slice());
-        assert!(rt; shelf.texts().len() == 2 && session.len() == 1);
-    }
-    Ok(())
+    check_write(&rt, false)?;
+    check_write(&rt, true)
 }
 
 #[test]

@@ -37,6 +37,17 @@ fn two_frames<R: Abort + AllocGlobal>(rt: &R) -> Result<Session, Fail> {
     Ok(Session::open(rt.alloc(), recording, format)?)
 }
 
+fn check<R: Abort + AllocGlobal>(rt: &R, script: &[u8], printed: &[u8]) -> Result<(), Fail> {
+    let mut session = two_frames(rt)?;
+    let mut script = script;
+    let mut out = Vec::new(rt.alloc());
+    let mut shelf = MemoryShelf::new(rt.alloc(), None);
+    let outcome = run(&mut session, &mut script, &mut out, &mut shelf);
+    assert!(rt; outcome == Ok(Status::AllAccepted));
+    assert!(rt; out.as_slice() == printed);
+    Ok(())
+}
+
 #[test]
 fn frames_are_listed(rt: HostRuntime) -> Result<(), Fail> {
     let rows = [
@@ -62,13 +73,7 @@ fn frames_are_listed(rt: HostRuntime) -> Result<(), Fail> {
         ),
     ];
     for row in rows.iter() {
-        let mut session = two_frames(&rt)?;
-        let mut script = row.0;
-        let mut out = Vec::new(rt.alloc());
-        let mut shelf = MemoryShelf::new(rt.alloc(), None);
-        let outcome = run(&mut session, &mut script, &mut out, &mut shelf);
-        assert!(rt; outcome == Ok(Status::AllAccepted));
-        assert!(rt; out.as_slice() == row.1);
+        check(&rt, row.0, row.1)?;
     }
     Ok(())
 }

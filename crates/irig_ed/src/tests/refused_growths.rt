@@ -18,32 +18,52 @@ fn session<R: Abort + AllocGlobal>(rt: &R) -> Option<Session> {
     Session::open(rt.alloc(), recording, format).ok()
 }
 
+/// Puts a pulse in; a refusal leaves pulses and steps, and the next call succeeds.
+fn insert<R: Abort>(rt: &R, session: &mut Session) {
+    if session.insert(400, 450) == Err(Refusal::OutOfMemory) {
+        assert!(rt; session.len() == 2 && session.steps_back() == 0);
+        assert!(rt; session.insert(400, 450) == Ok(()));
+    }
+    assert!(rt; session.len() == 3 && session.cursor() == 3);
+}
+
+/// Takes the pulse back; a refusal leaves pulses and steps, and the next call succeeds.
+fn undo<R: Abort>(rt: &R, session: &mut Session) {
+    if session.undo() == Err(Refusal::OutOfMemory) {
+        assert!(rt; session.len() == 3 && session.steps_back() == 1);
+        assert!(rt; session.undo() == Ok(()));
+    }
+    assert!(rt; session.len() == 2 && session.steps_forward() == 1);
+}
+
+/// Puts another pulse in and takes it back; a refusal leaves what can be redone.
+fn insert_another<R: Abort>(rt: &R, session: &mut Session) {
+    if session.insert(500, 510) == Err(Refusal::OutOfMemory) {
+        assert!(rt; session.len() == 2 && session.steps_forward() == 1);
+    } else {
+        assert!(rt; session.undo() == Ok(()));
+    }
+}
+
+/// Puts the pulse in again; a refusal leaves pulses and steps, and the next call succeeds.
+fn redo<R: Abort>(rt: &R, session: &mut Session) {
+    if session.redo() == Err(Refusal::OutOfMemory) {
+        assert!(rt; session.len() == 2 && session.steps_forward() == 1);
+        assert!(rt; session.redo() == Ok(()));
+    }
+    assert!(rt; session.len() == 3 && session.steps_forward() == 0);
+}
+
 // A call that is refused for want of memory leaves pulses and steps, and then succeeds.
 #[test]
 fn a_refused_call_leaves_the_session(rt: HostRuntime) {
     let Some(mut session) = session(&rt) else {
         return;
     };
-    if session.insert(400, 450) == Err(Refusal::OutOfMemory) {
-        assert!(rt; session.len() == 2 && session.steps_back() == 0);
-        assert!(rt; session.insert(400, 450) == Ok(()));
-    }
-    assert!(rt; session.len() == 3 && session.cursor() == 3);
-    if session.undo() == Err(Refusal::OutOfMemory) {
-        assert!(rt; session.len() == 3 && session.steps_back() == 1);
-        assert!(rt; session.undo() == Ok(()));
-    }
-    assert!(rt; session.len() == 2 && session.steps_forward() == 1);
-    if session.insert(500, 510) == Err(Refusal::OutOfMemory) {
-        assert!(rt; session.len() == 2 && session.steps_forward() == 1);
-    } else {
-        assert!(rt; session.undo() == Ok(()));
-    }
-    if session.redo() == Err(Refusal::OutOfMemory) {
-        assert!(rt; session.len() == 2 && session.steps_forward() == 1);
-        assert!(rt; session.redo() == Ok(()));
-    }
-    assert!(rt; session.len() == 3 && session.steps_forward() == 0);
+    insert(&rt, &mut session);
+    undo(&rt, &mut session);
+    insert_another(&rt, &mut session);
+    redo(&rt, &mut session);
 }
 
 // In a script just the line that wants memory is refused, and the next ones are obeyed.
