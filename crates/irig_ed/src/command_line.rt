@@ -27,16 +27,18 @@ pub fn settings<'a>(alloc: Global, words: &'a [&'a str]) -> Result<Settings<'a>,
 
 /// What `clap` says of an argument that is not UTF-8.
 pub fn not_text(alloc: Global) -> Error {
-    match command(alloc) {
-        Ok(mut command) => match command.error(
-            ErrorKind::InvalidValue,
-            "invalid UTF-8 was detected in one or more arguments",
-        ) {
-            Ok(error) => error,
-            Err(error) => error.into(),
-        },
+    match said_of_bytes(alloc) {
+        Ok(error) => error,
         Err(error) => error.into(),
     }
+}
+
+/// The same, where memory suffices.
+fn said_of_bytes(alloc: Global) -> Result<Error, AllocError> {
+    command(alloc)?.error(
+        ErrorKind::InvalidValue,
+        "invalid UTF-8 was detected in one or more arguments",
+    )
 }
 
 /// What the matches ask for.

@@ -74,14 +74,19 @@ fn started<R: Runtime + AllocGlobal>(rt: &R) -> io::Result<ExitCode> {
     for argument in owned.iter() {
         words.push(argument.as_str())?;
     }
-    Ok(match settings(rt.alloc(), words.as_slice()) {
+    Ok(obeyed(rt, words.as_slice()))
+}
+
+/// Edits the track that the words of a command line name.
+fn obeyed<R: Runtime + AllocGlobal>(rt: &R, words: &[&str]) -> ExitCode {
+    match settings(rt.alloc(), words) {
         Ok(chosen) => edited(rt, &chosen),
         Err(UsageFault::Words(error)) => explained(rt, &error),
         Err(UsageFault::BadExpression) => {
             let _ = eprintln!(rt; "irig_ed: E6 BadExpression");
             ExitCode::from(2)
         }
-    })
+    }
 }
 
 /// Prints what `clap` says: help on the standard output, a mistake on the standard error.
