@@ -17,7 +17,8 @@ letters = codes "A" ∷ codes "B" ∷ codes "E" ∷ codes "G" ∷ []
 
 abbrev pub digits : List Text
 digits =
-    codes "0" ∷ codes "1" ∷ codes "2" ∷ codes "3" ∷ codes "4" ∷ codes "5" ∷ codes "6" ∷ codes "7" ∷ []
+    codes "0" ∷ codes "1" ∷ codes "2" ∷ codes "3" ∷ codes "4" ∷ codes "5" ∷ codes "6"
+    ∷ codes "7" ∷ []
 
 -- an option with a value
 abbrev pub option : Text → Option ValueParser → Rule
@@ -36,11 +37,14 @@ track = record (new_rule (codes "TRACK")) { action = Some Set; required = true }
 -- how the track is read: the wire's name, the format and its expression
 abbrev pub reading_with : Rule → Rule → App
 reading_with format expression =
-    with_rule (with_rule (with_rule (new_app (codes "irig_ed")) (option (codes "wire") None)) format) expression
+    with_rule
+    (with_rule (with_rule (new_app (codes "irig_ed")) (option (codes "wire") None)) format)
+    expression
 
 -- the command: how the track is read, the path to write, and the track
 abbrev pub command_with : Rule → Rule → App
-command_with format expression = with_rule (with_rule (reading_with format expression) (option (codes "out") None)) track
+command_with format expression =
+    with_rule (with_rule (reading_with format expression) (option (codes "out") None)) track
 
 -- it has the choices of a letter and of a digit
 pub record HasChoices (with_choices : Rule → Rule → App) (app : App) : Type 0 where

@@ -54,12 +54,14 @@ abbrev pub desk : Option (List ℕ) → Option (List (List ℕ)) → ℕ → Des
 desk out texts failures = record { out = out; texts = texts; failures = failures }
 
 -- this was printed, and while these answers were given these texts were put
-pub record Tells (old new : Desk) (text : List ℕ) (answers : List Answer) (texts : List (List ℕ)) : Type 0 where
+pub record Tells (old new : Desk) (text : List ℕ) (answers : List Answer) (texts : List (List ℕ))
+    : Type 0 where
   pub printed : Appends old.out new.out text
   pub put : GrowsBy old.texts new.texts texts
   pub failed : Fails old.failures new.failures (failures_in answers)
 
 -- what one line puts, and whether the shelf failed in it
-pub record Puts (texts texts_new : Option (List (List ℕ))) (failures failures_new : ℕ) (m : Machine) (reply : Reply) : Type 0 where
+pub record Puts (texts texts_new : Option (List (List ℕ))) (failures failures_new : ℕ)
+    (m : Machine) (reply : Reply) : Type 0 where
   pub put : GrowsBy texts texts_new (texts_put m reply)
   pub failed : Fails failures failures_new (failures_of reply)

@@ -14,7 +14,8 @@ use Rattle.irig_ed.specs.declared.editing.EditFault.TheVariants.{Dump, Run}
 
 -- the dump was read, and the whole script was obeyed from its track on, which has this format and
 -- no marks
-pub record Edited (wire : Option (List ℕ)) (chosen : FormatView) (source : List ℕ) (from to : Desk) (status : Status) (script : List ℕ) : Type 0 where
+pub record Edited (wire : Option (List ℕ)) (chosen : FormatView) (source : List ℕ)
+    (from to : Desk) (status : Status) (script : List ℕ) : Type 0 where
   pub first : State
   pub last : Machine
   pub read : dump wire source ≡ Ok (recording_of first)

@@ -44,7 +44,8 @@ hundredths_text = part_text (λ v. codes "." ++ padded 2 v)
 
 -- hours, minutes and seconds
 abbrev pub clock_text : Fields → List ℕ
-clock_text f = padded 2 f.hours ++ codes ":" ++ padded 2 f.minutes ++ codes ":" ++ padded 2 f.seconds
+clock_text f =
+    padded 2 f.hours ++ codes ":" ++ padded 2 f.minutes ++ codes ":" ++ padded 2 f.seconds
 
 -- the day and the time of day, as far as the format tells it
 abbrev pub time_text : Fields → List ℕ
@@ -58,10 +59,13 @@ parts_text f = part_text (λ v. codes " year " ++ padded 2 v) f.year
 
 -- a frame that is broken at an element, or the fields that were read and what is noted of them
 abbrev pub verdict_text : Verdict → List ℕ
-verdict_text (Broken element cause) = codes "broken " ++ decimal element ++ codes " " ++ cause_word cause
+verdict_text (Broken element cause) =
+    codes "broken " ++ decimal element ++ codes " " ++ cause_word cause
 verdict_text (Read fields note) = time_text fields ++ parts_text fields ++ note_text note
 
--- the number of the record and of its marker's pulse, both from 1, the marker's rise in microseconds, and the verdict
+-- the number of the record and of its marker's pulse, both from 1, the marker's rise in
+-- microseconds, and the verdict
 abbrev pub frame_line : ℕ → ℕ → ℕ → Verdict → List ℕ
 frame_line number marker rise verdict =
-    decimal number ++ codes " " ++ decimal marker ++ codes " " ++ decimal rise ++ codes " " ++ verdict_text verdict ++ codes "\n"
+    decimal number ++ codes " " ++ decimal marker ++ codes " " ++ decimal rise ++ codes " "
+    ++ verdict_text verdict ++ codes "\n"

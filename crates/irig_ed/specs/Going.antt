@@ -28,7 +28,8 @@ Ends false bytes old answers texts new line =
     (left : List ℕ) × Goes bytes old answers texts new left × Holds left line
 
 -- the answers to them were printed
-pub record Obeyed (ended : Bool) (from to : Desk) (before after : Status) (old new : Machine) (bytes : List ℕ) (line : Line) : Type 0 where
+pub record Obeyed (ended : Bool) (from to : Desk) (before after : Status) (old new : Machine)
+    (bytes : List ℕ) (line : Line) : Type 0 where
   pub answers : List Answer
   pub texts : List (List ℕ)
   pub status : after ≡ status_after before answers

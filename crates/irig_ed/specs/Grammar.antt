@@ -20,8 +20,8 @@ use Rattle.irig_ed.specs.declared.cutting.Stop.TheVariants.{Blank, Text}
 use Rattle.irig_ed.specs.declared.command.Command.{Command}
 use Rattle.irig_ed.specs.declared.command.Command.TheVariants as command
 
--- white space ends the range of a line, and so does the first letter of a word, which is one that stands behind no
--- apostrophe
+-- white space ends the range of a line, and so does the first letter of a word, which is one that
+-- stands behind no apostrophe
 abbrev pub ends_range : Bool → ℕ → Bool
 ends_range quoted b = is_space b || (not quoted && is_letter b)
 
@@ -46,7 +46,8 @@ parts_with range rest = record {
 
 -- those of a text that begins with no white space
 abbrev pub parts_in : List ℕ → Parts
-parts_in text = parts_with (take (range_length false text) text) (drop (range_length false text) text)
+parts_in text =
+    parts_with (take (range_length false text) text) (drop (range_length false text) text)
 
 abbrev pub parts_of : List ℕ → Parts
 parts_of line = parts_in (onward Text line)
@@ -84,18 +85,22 @@ AreTimes args s t = (x : List ℕ) × (y : List ℕ) × (args ≡ x ∷ y ∷ []
 -- a time, a number of frames, a moment, and control functions
 abbrev pub AreFrames : List (List ℕ) → Time → ℕ → MomentView → ℕ → Type 0
 AreFrames args s f m c = (x : List ℕ) × (y : List ℕ) × (z : List ℕ) × (rest : List (List ℕ))
-    × (args ≡ x ∷ y ∷ z ∷ rest) × IsTime x s × IsNumber y f × (moment_of z ≡ Some m) × AreControls rest c
+    × (args ≡ x ∷ y ∷ z ∷ rest) × IsTime x s × IsNumber y f × (moment_of z ≡ Some m)
+    × AreControls rest c
 
 -- what a word asks for, with the range before it and the words behind it
 abbrev pub Asks : Keyword → List ℕ → List (List ℕ) → Command → Type 0
 Asks word.Missing range args asked = (a : Address) × (asked ≡ command.Show a) × IsAddress range a
-Asks word.List range args asked = (r : Range) × (asked ≡ command.List r) × IsRange range r × (args ≡ [])
-Asks word.Delete range args asked = (r : Range) × (asked ≡ command.Delete r) × IsRange range r × (args ≡ [])
-Asks word.Join range args asked = (r : Range) × (asked ≡ command.Join r) × IsRange range r × (args ≡ [])
-Asks word.Shift range args asked = (r : Range) × (d : ℤ) × (x : List ℕ) × (asked ≡ command.Shift r d)
-    × IsRange range r × (args ≡ x ∷ []) × IsDistance x d
-Asks word.Split range args asked = (a : Address) × (s : Time) × (t : Time) × (asked ≡ command.Split a s t)
-    × IsPlace range a × AreTimes args s t
+Asks word.List range args asked = (r : Range) × (asked ≡ command.List r)
+    × IsRange range r × (args ≡ [])
+Asks word.Delete range args asked = (r : Range) × (asked ≡ command.Delete r)
+    × IsRange range r × (args ≡ [])
+Asks word.Join range args asked = (r : Range) × (asked ≡ command.Join r)
+    × IsRange range r × (args ≡ [])
+Asks word.Shift range args asked = (r : Range) × (d : ℤ) × (x : List ℕ)
+    × (asked ≡ command.Shift r d) × IsRange range r × (args ≡ x ∷ []) × IsDistance x d
+Asks word.Split range args asked = (a : Address) × (s : Time) × (t : Time)
+    × (asked ≡ command.Split a s t) × IsPlace range a × AreTimes args s t
 Asks word.Force range args asked = (a : Address) × (e : Element) × (asked ≡ command.Force a e)
     × IsPlace range a × (args ≡ element_word e ∷ [])
 Asks word.Insert range args asked = (s : Time) × (t : Time) × (asked ≡ command.Insert s t)
@@ -104,8 +109,8 @@ Asks word.Invert range args asked = (s : Time) × (t : Time) × (asked ≡ comma
     × (range ≡ []) × AreTimes args s t
 Asks word.Regen range args asked = (s : Time) × (f : ℕ) × (m : MomentView) × (c : ℕ)
     × (asked ≡ command.Regen s f m c) × (range ≡ []) × AreFrames args s f m c
-Asks word.Format range args asked = (k : Kind) × (n : ℕ) × (x : List ℕ) × (asked ≡ command.Format k n)
-    × (range ≡ []) × (args ≡ kind_word k ∷ x ∷ []) × IsExpression x n
+Asks word.Format range args asked = (k : Kind) × (n : ℕ) × (x : List ℕ)
+    × (asked ≡ command.Format k n) × (range ≡ []) × (args ≡ kind_word k ∷ x ∷ []) × IsExpression x n
 Asks word.Mark range args asked = (l : ℕ) × (t : Time) × (x : List ℕ) × (asked ≡ command.Mark l t)
     × (range ≡ []) × (args ≡ (l ∷ []) ∷ x ∷ []) × (is_letter l ≡ true) × IsTime x t
 Asks word.Unmark range args asked = (l : ℕ) × (asked ≡ command.Unmark l)

@@ -1,5 +1,5 @@
--- What the session replies to a command: one step of the machine of whole states, in which memory may be wanting and the
--- shelf may fail. This project's own.
+-- What the session replies to a command: one step of the machine of whole states, in which memory
+-- may be wanting and the shelf may fail. This project's own.
 use Rattle.std.specs.Prelude.{◌≡◌, ◌+◌, ◌-◌, ℕ, Bool, true, false, length, Some, None, Result, Ok, Err}
 use Rattle.irig_vcd.specs.FileText.{file_text}
 use Rattle.irig_codes.specs.Format.{FormatView, is_permitted}
@@ -45,7 +45,8 @@ Lists i j m _ = ⊥
 
 -- the cursor goes to pulse i, which is listed, or there is no such pulse
 abbrev pub Shows : ℕ → Machine → Reply → Machine → Type 0
-Shows i old (Listed before count) new = Steps (Call.Go i) old (Ok tt) new × (before ≡ i - 1) × (count ≡ 1)
+Shows i old (Listed before count) new =
+    Steps (Call.Go i) old (Ok tt) new × (before ≡ i - 1) × (count ≡ 1)
 Shows i old (Refused why) new = Steps (Call.Go i) old (Err why) new
 Shows i old _ new = ⊥
 
@@ -61,18 +62,25 @@ Formats false f old reply new = (reply ≡ Refused refusal.BadExpression) × (ne
 abbrev pub Obeys : Command → Machine → Reply → Machine → Type 0
 Obeys command.Nothing old reply new = (reply ≡ Silent) × (new ≡ old)
 Obeys (command.Show a) old reply new = Shows (place_of a old) old reply new
-Obeys (command.List r) old reply new = Lists (first_of r old) (last_of r old) old reply × (new ≡ old)
-Obeys (command.Delete r) old reply new = Calls (Call.Delete (first_of r old) (last_of r old)) old reply new
-Obeys (command.Shift r d) old reply new = Calls (Call.Shift (first_of r old) (last_of r old) d) old reply new
-Obeys (command.Join r) old reply new = Calls (Call.Join (first_of r old) (join_last_of r old)) old reply new
+Obeys (command.List r) old reply new =
+    Lists (first_of r old) (last_of r old) old reply × (new ≡ old)
+Obeys (command.Delete r) old reply new =
+    Calls (Call.Delete (first_of r old) (last_of r old)) old reply new
+Obeys (command.Shift r d) old reply new =
+    Calls (Call.Shift (first_of r old) (last_of r old) d) old reply new
+Obeys (command.Join r) old reply new =
+    Calls (Call.Join (first_of r old) (join_last_of r old)) old reply new
 Obeys (command.Split a s t) old reply new =
     Calls (Call.Split (place_of a old) (time_of s old) (time_of t old)) old reply new
 Obeys (command.Force a e) old reply new = Calls (Call.Force (place_of a old) e) old reply new
-Obeys (command.Insert s t) old reply new = Calls (Call.Insert (time_of s old) (time_of t old)) old reply new
-Obeys (command.Invert s t) old reply new = Calls (Call.Invert (time_of s old) (time_of t old)) old reply new
+Obeys (command.Insert s t) old reply new =
+    Calls (Call.Insert (time_of s old) (time_of t old)) old reply new
+Obeys (command.Invert s t) old reply new =
+    Calls (Call.Invert (time_of s old) (time_of t old)) old reply new
 Obeys (command.Regen s frames moment control) old reply new =
     Calls (Call.Regen (time_of s old) frames moment control) old reply new
-Obeys (command.Format kind n) old reply new = Formats (is_permitted kind n) (format kind n) old reply new
+Obeys (command.Format kind n) old reply new =
+    Formats (is_permitted kind n) (format kind n) old reply new
 Obeys (command.Mark letter t) old reply new =
     Calls (Call.SetMark (letter - 97) (Some (time_of t old))) old reply new
 Obeys (command.Unmark letter) old reply new = Calls (Call.SetMark (letter - 97) None) old reply new

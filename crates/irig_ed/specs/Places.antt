@@ -22,11 +22,13 @@ base_of Current m = Some m.present.cursor
 base_of Last m = Some (length m.present.state.pulses)
 base_of (Mark letter) m = option_map (λ t. risen_by t m.present.state.pulses) (mark_of letter m)
 
--- the number that is so far behind another, or before it, where it is that of a pulse; else 0, which every call refuses
+-- the number that is so far behind another, or before it, where it is that of a pulse; else 0,
+-- which every call refuses
 abbrev pub counted : Option ℕ → ℕ → ℤ → ℕ → ℕ
 counted None by offset count = 0
 counted (Some n) by offset count =
-    if nat_le (n + by + ahead offset - back offset) count then n + by + ahead offset - back offset else 0
+    if nat_le (n + by + ahead offset - back offset) count
+    then n + by + ahead offset - back offset else 0
 
 -- the pulse that is `by` pulses behind an address
 abbrev pub pulse_at : ℕ → Address → Machine → ℕ

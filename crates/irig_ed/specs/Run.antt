@@ -21,7 +21,8 @@ Runs old [] (answer ∷ answers) texts new = ⊥
 Runs old (line ∷ lines) [] texts new = ⊥
 
 -- the whole script was obeyed, all its answers were printed, and its texts were put
-pub record Ran (from to : Desk) (before after : Status) (old new : Machine) (script : List ℕ) : Type 0 where
+pub record Ran (from to : Desk) (before after : Status) (old new : Machine) (script : List ℕ)
+    : Type 0 where
   pub answers : List Answer
   pub texts : List (List ℕ)
   pub status : after ≡ status_after before answers
@@ -54,14 +55,16 @@ abbrev pub unlines : List (List ℕ) → List ℕ
 unlines lines = flat_map (λ line. line ++ 10 ∷ []) lines
 
 -- these bytes are whole lines and a rest, and just the lines were obeyed
-pub record Goes (bytes : List ℕ) (old : Machine) (answers : List Answer) (texts : List (List ℕ)) (new : Machine) (rest : List ℕ) : Type 0 where
+pub record Goes (bytes : List ℕ) (old : Machine) (answers : List Answer) (texts : List (List ℕ))
+    (new : Machine) (rest : List ℕ) : Type 0 where
   pub lines : List (List ℕ)
   pub each : AllByRecursion IsObeyed lines
   pub cut : bytes ≡ unlines lines ++ rest
   pub runs : Runs old lines answers texts new
 
 -- just the whole lines that were read were obeyed, and all that they print was printed
-pub record Stopped (from to : Desk) (script script_left : Option (List ℕ)) (old new : Machine) (least : ℕ) : Type 0 where
+pub record Stopped (from to : Desk) (script script_left : Option (List ℕ)) (old new : Machine)
+    (least : ℕ) : Type 0 where
   pub bytes : List ℕ
   pub read : Consumes script script_left bytes
   pub many : least ≤ length bytes

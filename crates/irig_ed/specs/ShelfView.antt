@@ -1,5 +1,5 @@
--- What a shelf in memory is: its texts in order, how often it failed, and the number of the put that it was told to fail,
--- from 1. This project's own.
+-- What a shelf in memory is: its texts in order, how often it failed, and the number of the put
+-- that it was told to fail, from 1. This project's own.
 use Rattle.std.specs.Prelude.{ℕ, List, Option}
 
 pub record ShelfView : Type 0 where

@@ -22,7 +22,8 @@ use irig_moment::Moment;
 /// Two times.
 pub fn times(arguments: &[u8]) -> Result<(Time, Time), BadLine>
     ensures ok { IfOk result (λ t. AreTimes (words_of arguments.now) t.0 t.1) }
-    ensures err { OnErr result ((s : Time) → (t : Time) → AreTimes (words_of arguments.now) s t → ⊥) }
+    ensures err { OnErr result ((s : Time) → (t : Time)
+        → AreTimes (words_of arguments.now) s t → ⊥) }
 {
     let (a, b) = two_words(arguments)?;
     Ok((time(a)?, time(b)?))

@@ -65,7 +65,8 @@ fn ends_range(quoted: bool, byte: u8) -> bool
 /// What a range, a word and arguments ask for.
 fn asked(front: &[u8], word: Keyword, arguments: &[u8]) -> Result<Command, BadLine>
     ensures ok { IfOk result (Asks word front.now (words_of arguments.now)) }
-    ensures err { OnErr result ((c : Command) → Asks word front.now (words_of arguments.now) c → ⊥) }
+    ensures err { OnErr result ((c : Command)
+        → Asks word front.now (words_of arguments.now) c → ⊥) }
 {
     match word {
         Keyword::Missing => Ok(Command::Show(address(front)?)),
@@ -100,7 +101,8 @@ fn asked(front: &[u8], word: Keyword, arguments: &[u8]) -> Result<Command, BadLi
 
 /// The command, where neither a range nor an argument stands.
 fn alone(front: &[u8], arguments: &[u8], command: Command) -> Result<Command, BadLine>
-    ensures ok { IfOk result (λ c. (c ≡ command) × (front.now ≡ []) × (words_of arguments.now ≡ [])) }
+    ensures ok { IfOk result (λ c. (c ≡ command) × (front.now ≡ [])
+        × (words_of arguments.now ≡ [])) }
     ensures err { OnErr result (front.now ≡ [] → words_of arguments.now ≡ [] → ⊥) }
 {
     no_range(front)?;
@@ -123,7 +125,8 @@ fn no_range(front: &[u8]) -> Result<(), BadLine>
 /// A range, where no argument stands.
 fn ranged(front: &[u8], arguments: &[u8]) -> Result<Range, BadLine>
     ensures ok { IfOk result (λ r. IsRange front.now r × (words_of arguments.now ≡ [])) }
-    ensures err { OnErr result ((r : Range) → IsRange front.now r → words_of arguments.now ≡ [] → ⊥) }
+    ensures err { OnErr result ((r : Range) → IsRange front.now r
+        → words_of arguments.now ≡ [] → ⊥) }
 {
     no_word(arguments)?;
     range(front)
@@ -142,7 +145,8 @@ fn bare_times(front: &[u8], arguments: &[u8]) -> Result<(Time, Time), BadLine>
 /// What a range and the arguments of `shift` ask for.
 fn shift(front: &[u8], arguments: &[u8]) -> Result<Command, BadLine>
     ensures ok { IfOk result (Asks Keyword.Shift front.now (words_of arguments.now)) }
-    ensures err { OnErr result ((c : Command) → Asks Keyword.Shift front.now (words_of arguments.now) c → ⊥) }
+    ensures err { OnErr result ((c : Command)
+        → Asks Keyword.Shift front.now (words_of arguments.now) c → ⊥) }
 {
     let by = one_word(arguments)?;
     Ok(Command::Shift(range(front)?, distance(by)?))
@@ -151,7 +155,8 @@ fn shift(front: &[u8], arguments: &[u8]) -> Result<Command, BadLine>
 /// What an address and the arguments of `split` ask for.
 fn split(front: &[u8], arguments: &[u8]) -> Result<Command, BadLine>
     ensures ok { IfOk result (Asks Keyword.Split front.now (words_of arguments.now)) }
-    ensures err { OnErr result ((c : Command) → Asks Keyword.Split front.now (words_of arguments.now) c → ⊥) }
+    ensures err { OnErr result ((c : Command)
+        → Asks Keyword.Split front.now (words_of arguments.now) c → ⊥) }
 {
     let (a, b) = times(arguments)?;
     Ok(Command::Split(place(front)?, a, b))
@@ -160,7 +165,8 @@ fn split(front: &[u8], arguments: &[u8]) -> Result<Command, BadLine>
 /// What an address and the arguments of `force` ask for.
 fn force(front: &[u8], arguments: &[u8]) -> Result<Command, BadLine>
     ensures ok { IfOk result (Asks Keyword.Force front.now (words_of arguments.now)) }
-    ensures err { OnErr result ((c : Command) → Asks Keyword.Force front.now (words_of arguments.now) c → ⊥) }
+    ensures err { OnErr result ((c : Command)
+        → Asks Keyword.Force front.now (words_of arguments.now) c → ⊥) }
 {
     let name = one_word(arguments)?;
     Ok(Command::Force(place(front)?, element(name)?))
@@ -169,7 +175,8 @@ fn force(front: &[u8], arguments: &[u8]) -> Result<Command, BadLine>
 /// What the arguments of `format` ask for, where no range stands.
 fn format(front: &[u8], arguments: &[u8]) -> Result<Command, BadLine>
     ensures ok { IfOk result (Asks Keyword.Format front.now (words_of arguments.now)) }
-    ensures err { OnErr result ((c : Command) → Asks Keyword.Format front.now (words_of arguments.now) c → ⊥) }
+    ensures err { OnErr result ((c : Command)
+        → Asks Keyword.Format front.now (words_of arguments.now) c → ⊥) }
 {
     no_range(front)?;
     let (name, digit) = two_words(arguments)?;
@@ -179,7 +186,8 @@ fn format(front: &[u8], arguments: &[u8]) -> Result<Command, BadLine>
 /// What the arguments of `mark` ask for, where no range stands.
 fn set_mark(front: &[u8], arguments: &[u8]) -> Result<Command, BadLine>
     ensures ok { IfOk result (Asks Keyword.Mark front.now (words_of arguments.now)) }
-    ensures err { OnErr result ((c : Command) → Asks Keyword.Mark front.now (words_of arguments.now) c → ⊥) }
+    ensures err { OnErr result ((c : Command)
+        → Asks Keyword.Mark front.now (words_of arguments.now) c → ⊥) }
 {
     no_range(front)?;
     let (name, at) = two_words(arguments)?;
@@ -189,7 +197,8 @@ fn set_mark(front: &[u8], arguments: &[u8]) -> Result<Command, BadLine>
 /// What the argument of `unmark` asks for, where no range stands.
 fn unmark(front: &[u8], arguments: &[u8]) -> Result<Command, BadLine>
     ensures ok { IfOk result (Asks Keyword.Unmark front.now (words_of arguments.now)) }
-    ensures err { OnErr result ((c : Command) → Asks Keyword.Unmark front.now (words_of arguments.now) c → ⊥) }
+    ensures err { OnErr result ((c : Command)
+        → Asks Keyword.Unmark front.now (words_of arguments.now) c → ⊥) }
 {
     no_range(front)?;
     let name = one_word(arguments)?;
@@ -199,7 +208,8 @@ fn unmark(front: &[u8], arguments: &[u8]) -> Result<Command, BadLine>
 /// What the arguments of `regen` ask for, where no range stands.
 fn regen(front: &[u8], arguments: &[u8]) -> Result<Command, BadLine>
     ensures ok { IfOk result (Asks Keyword.Regen front.now (words_of arguments.now)) }
-    ensures err { OnErr result ((c : Command) → Asks Keyword.Regen front.now (words_of arguments.now) c → ⊥) }
+    ensures err { OnErr result ((c : Command)
+        → Asks Keyword.Regen front.now (words_of arguments.now) c → ⊥) }
 {
     no_range(front)?;
     let (start, rest) = split_word(arguments);

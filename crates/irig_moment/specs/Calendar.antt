@@ -37,7 +37,8 @@ ordinal_day_of y d =
 -- the number of a day told by month and day, where there is such a day
 abbrev pub civil_day_of : ℕ → ℕ → ℕ → Option ℕ
 civil_day_of y m d =
-    if is_year y && (nat_le 1 m && nat_le m 12) && (nat_le 1 d && nat_le d (days_in_month (pos y) m))
+    if is_year y && (nat_le 1 m && nat_le m 12)
+    && (nat_le 1 d && nat_le d (days_in_month (pos y) m))
     then Some (day_number y m d) else None
 
 -- a day from the year 1 to the year 9998
