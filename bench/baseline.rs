@@ -1,7 +1,7 @@
 //! The twin: a plain Rust program that reads a value change dump and writes it again, by the rules of
 //! docs/FORMATS.md and with no crate. It is what irig_ed is measured against, and proves nothing.
 //!
-//! `baseline [--wire NAME] TRACK OUT`: reads TRACK and writes the canonical dump of its pulses to OUT.
+//! `baseline [--wire NAME] TRACK OUT`: reads TRACK and writes the canonical dump of its pulses to OUT, durably.
 //! Where OUT is `-`, it reads alone.
 //!
 //! `baseline [--wire NAME] --list A|B|E|G TRACK`: reads TRACK and prints its pulses with their classes in that format.
@@ -376,6 +376,15 @@ fn list(interval: u64, edges: &[u64], out: &mut impl Write) -> io::Result<()> {
     out.flush()
 }
 
+/// Puts the bytes at a path: in a new file beside it, which is made durable and then renamed over it.
+fn put(path: &str, bytes: &[u8]) -> io::Result<()> {
+    let new = format!("{path}.new");
+    let mut file = fs::File::create(&new)?;
+    file.write_all(bytes)?;
+    file.sync_all()?;
+    fs::rename(&new, path)
+}
+
 /// The value of an option, where the arguments begin with it.
 fn option(arguments: &mut Vec<String>, name: &str) -> Option<String> {
     if arguments.first().is_some_and(|word| word == name) {
@@ -405,8 +414,7 @@ fn main() {
                 return;
             }
             let bytes = text(length, &edges);
-            let mut file = fs::File::create(&arguments[1]).unwrap();
-            file.write_all(&bytes).unwrap();
+            put(&arguments[1], &bytes).unwrap();
             println!("{}", bytes.len());
         }
     }
