@@ -1,10 +1,10 @@
 //! A list that is edited at one place.
 //!
 //! The slots left of `gap` hold the items before the place, and those from `after` on hold the
-//! rest. What lies between is free.
+//! rest. What lies between is free, and so is the room for more slots up to the capacity.
 
 ghost use Rattle.std.specs.Prelude.{◌≡◌, ◌+◌, ◌-◌, ◌^◌, ◌<◌, ◌≤◌, length};
-ghost use Rattle.std.specs.Prelude.{[], slice_get, slice_set, insert, remove, OnOk, OnErr};
+ghost use Rattle.std.specs.Prelude.{[], ◌++◌, slice_get, slice_set, insert, remove, take, drop, replicate, vec_capacity, OnOk, OnErr};
 ghost use Rattle.irig_gap.specs.Items.{gap_view};
 
 use std::alloc::{AllocError, Global};
@@ -16,9 +16,10 @@ use std::marker::Model;
 /// and it alone changes the capacity.
 #[derive(Drop)]
 pub struct Gap<T: Copy> {
-    slots: Vec<Option<T>>,
+    slots: Vec<T>,
     gap: usize,
     after: usize,
+    capacity: usize,
 }
 
 impl<T: Copy> Model for Gap<T> {
@@ -28,11 +29,13 @@ impl<T: Copy> Model for Gap<T> {
 
     ghost coded = { gap_code T.code };
 
+    ghost use Rattle.std.specs.Prelude.{◌≤◌, vec_capacity};
     ghost use Rattle.irig_gap.specs.Slots.{view_of, IsGap};
 
-    ghost view = { λ g. view_of g.slots.items g.gap g.after };
+    ghost view = { λ g. view_of g.slots.items g.gap g.after g.capacity };
 
-    ghost invariant = { λ g. IsGap g.slots.items g.gap g.after };
+    ghost invariant = { λ g. IsGap g.slots.items g.gap g.after g.capacity
+        × (g.capacity ≤ vec_capacity g.slots) };
 }
 
 impl<T: Copy> Gap<T> {
@@ -44,6 +47,7 @@ impl<T: Copy> Gap<T> {
             slots: Vec::new(alloc),
             gap: 0,
             after: 0,
+            capacity: 0,
         }
     }
 
@@ -66,12 +70,8 @@ impl<T: Copy> Gap<T> {
         match len.checked_add(more) {
             None => Err(AllocError),
             Some(wanted) => {
-                let place = self.gap_at();
-                self.move_to(len);
                 let generous = self.capacity().saturating_add(self.capacity() / 2);
-                let grown = self.grow(wanted.max(generous));
-                self.move_to(place);
-                grown
+                self.grow(wanted.max(generous))
             }
         }
     }
@@ -81,14 +81,15 @@ impl<T: Copy> Gap<T> {
         ensures len { result ≡ length self.now.items }
         ensures within { result ≤ self.now.capacity }
     {
-        self.gap + (self.capacity() - self.after)
+        self.gap + (self.slots.len() - self.after)
     }
 
     /// How many items there may be before a growth.
     pub fn capacity(&self) -> usize
         ensures { result ≡ self.now.capacity }
     {
-        self.slots.len()
+        let capacity = self.capacity;
+        capacity
     }
 
     /// The place: how many items stand left of it.
@@ -106,10 +107,8 @@ impl<T: Copy> Gap<T> {
         ensures { slice_get self.now.items index ≡ Some result }
     {
         let slot = slot_of(index, self.gap, self.after);
-        match self.slots[slot] {
-            Some(item) => item,
-            None => unreachable!(),
-        }
+        let item = self.slots[slot];
+        item
     }
 
     /// Puts `item` in the stead of the one at `index`, from 0.
@@ -119,7 +118,7 @@ impl<T: Copy> Gap<T> {
             gap_view (slice_set self.old.items index item) self.old.place self.old.capacity }
     {
         let slot = slot_of(index, self.gap, self.after);
-        self.slots[slot] = Some(item);
+        self.slots[slot] = item;
     }
 
     /// Moves the place over the item left of it.
@@ -162,8 +161,20 @@ impl<T: Copy> Gap<T> {
             gap_view (insert self.old.items self.old.place item)
             (self.old.place + 1) self.old.capacity }
     {
+        if self.gap == self.slots.len() {
+            // Nothing stands right of the place, and no slot is free.
+            self.slots.push(item).unwrap();
+            self.gap += 1;
+            self.after = self.gap;
+            return;
+        }
+        if self.gap == self.after {
+            let more = self.capacity - self.slots.len();
+            add_slots(&mut self.slots, self.gap, more, item);
+            self.after += more;
+        }
         let free = self.gap;
-        self.slots[free] = Some(item);
+        self.slots[free] = item;
         self.gap = free + 1;
     }
 
@@ -180,7 +191,7 @@ impl<T: Copy> Gap<T> {
         }
         let last = self.gap - 1;
         self.gap = last;
-        self.slots[last]
+        Some(self.slots[last])
     }
 
     /// Takes the item right of the place out, and is None where none stands there.
@@ -193,25 +204,38 @@ impl<T: Copy> Gap<T> {
             self.new ≡ gap_view (remove self.old.items self.old.place) self.old.place
             self.old.capacity }
     {
-        if self.after == self.capacity() {
+        if self.after == self.slots.len() {
             return None;
         }
         let first = self.after;
         self.after = first + 1;
-        self.slots[first]
+        Some(self.slots[first])
     }
 
-    /// Makes the capacity `wanted`, where no item stands right of the place.
+    /// Makes the capacity `wanted`.
     fn grow(&mut self, wanted: usize) -> Result<(), AllocError>
-        requires end { self.old.place ≡ length self.old.items }
-        requires more { self.old.capacity < wanted }
+        requires { self.old.capacity < wanted }
         ensures ok { OnOk result (self.new ≡ gap_view self.old.items self.old.place wanted) }
         ensures err { OnErr result (self.new ≡ self.old) }
     {
-        self.slots.resize(wanted, None)?;
-        self.after = wanted;
+        self.slots.reserve_exact(wanted - self.slots.len())?;
+        self.capacity = wanted;
         Ok(())
     }
+}
+
+/// Adds slots at a place. They hold `filler`, which counts for nothing. It is a function of its own
+/// for the machine too: `put` is short without it.
+#[inline(never)]
+fn add_slots<T: Copy>(slots: &mut Vec<T>, place: usize, more: usize, filler: T)
+    requires place { place ≤ length slots.old.items }
+    requires room { length slots.old.items + more ≤ vec_capacity slots.old }
+    ensures items { slots.new.items ≡ take place slots.old.items ++ replicate more filler
+        ++ drop place slots.old.items }
+    ensures capacity { vec_capacity slots.old ≤ vec_capacity slots.new }
+{
+    slots.resize(slots.len() + more, filler).unwrap();
+    slots[place..].rotate_right(more);
 }
 
 /// The slot of the item at `index`, both from 0.
