@@ -5,6 +5,11 @@
 //! Where OUT is `-`, it reads alone.
 //!
 //! `baseline [--wire NAME] --list A|B|E|G TRACK`: reads TRACK and prints its pulses with their classes in that format.
+//!
+//! `baseline [--wire NAME] --edit A|B|E|G --expression N TRACK`: reads TRACK, tells its frames and obeys the script on
+//! standard input (editor.rs).
+
+mod editor;
 
 use std::env;
 use std::fs;
@@ -398,6 +403,8 @@ fn main() {
     let mut arguments: Vec<String> = env::args().skip(1).collect();
     let wire = option(&mut arguments, "--wire").map(String::into_bytes);
     let listed = option(&mut arguments, "--list");
+    let edited = option(&mut arguments, "--edit");
+    let expression = option(&mut arguments, "--expression").map_or(2, |number| number.parse().unwrap());
     let source = fs::read(&arguments[0]).unwrap();
     match read(&source, wire.as_deref()) {
         Err(fault) => {
@@ -408,6 +415,13 @@ fn main() {
             if let Some(format) = listed {
                 let mut out = BufWriter::with_capacity(8192, io::stdout().lock());
                 list(interval(&format), &edges, &mut out).unwrap();
+                return;
+            }
+            if let Some(format) = edited {
+                let mut editor = editor::Editor::open(interval(&format), &format, expression, &edges);
+                drop(edges);
+                let mut out = BufWriter::with_capacity(8192, io::stdout().lock());
+                editor.obey(&mut io::stdin().lock(), &mut out).unwrap();
                 return;
             }
             if arguments[1] == "-" {
