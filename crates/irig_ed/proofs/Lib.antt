@@ -1,15 +1,1 @@
-pub mod WordLemmas
-pub mod NumberLemmas
-pub mod Known
-pub mod Lines
-pub mod Runs
-pub mod Quits
-pub mod Steps
-pub mod KnownWords
 pub mod TrackLemmas
-pub mod RowLemmas
-pub mod Blocks
-pub mod Pieces
-pub mod Numbered
-pub mod MarkLines
-pub mod FrameLines

@@ -3,52 +3,21 @@
 
 ghost use Rattle.std.specs.Prelude.{◌≡◌};
 ghost use Rattle.std.specs.Process.{exit_status};
-ghost use Rattle.irig_ed.specs.Editing.{status_number};
+ghost use Rattle.irig_ed.specs.Statuses.{status_number};
 
-mod address;
-mod addresses;
-mod arguments;
-mod block;
-mod calls;
-mod chosen;
-mod command;
 mod command_line;
-mod cutting;
-mod editing;
-mod engine;
-mod file_shelf;
-mod frame_line;
-mod info_line;
-mod keyword;
-mod letter;
-mod line;
-mod listing;
-mod mark_lines;
-mod memory_shelf;
-mod numbers;
-mod obeying;
-mod output;
-mod parsing;
-mod places;
-mod pulse_lines;
-mod range;
-mod reply;
-mod row;
-mod shelf;
-mod status;
-mod time;
-mod track;
-mod words;
+mod files;
+#[cfg(test)]
+mod tests;
 
-use chosen::{Settings, UsageFault};
-use command_line::{not_text, settings};
-use editing::EditFault;
-use file_shelf::FileShelf;
-use status::{RunFault, Status};
+use command_line::chosen::{Settings, UsageFault};
+use command_line::command_line::{not_text, settings};
+use files::file_shelf::FileShelf;
+use files::track::{TrackFault, read_track};
+use irig_script::{EditFault, RunFault, Status, edit};
 use std::process::ExitCode;
 use std::rt::Runtime;
 use std::{env, io};
-use track::{TrackFault, read_track};
 
 fn main(rt: HostRuntime) -> ExitCode {
     match started(&rt) {
@@ -109,7 +78,7 @@ fn edited<R: Runtime + AllocGlobal>(rt: &R, chosen: &Settings<'_>) -> ExitCode {
     let mut shelf = FileShelf::new(rt, chosen.out);
     let mut script = rt.reader();
     let mut out = io::writer(rt);
-    let outcome = editing::edit(
+    let outcome = edit(
         rt.alloc(),
         source,
         wire,
@@ -151,6 +120,3 @@ fn ended<R: Eprint>(rt: &R, name: &str, outcome: Result<Status, EditFault>) -> E
         }
     }
 }
-
-#[cfg(test)]
-mod tests;

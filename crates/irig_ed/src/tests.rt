@@ -1,8 +1,3 @@
-//! Scripts and their answers, and what failing ends and refused growths leave.
+//! Command lines, and what they ask for.
 
 mod command_lines;
-mod failing_ends;
-mod frames;
-mod refused_growths;
-mod rows;
-mod table;

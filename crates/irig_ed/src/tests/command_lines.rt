@@ -1,7 +1,7 @@
 //! Command lines, and what they ask for.
 
-use crate::chosen::UsageFault;
-use crate::command_line::{not_text, settings};
+use crate::command_line::chosen::UsageFault;
+use crate::command_line::command_line::{not_text, settings};
 use irig_codes::Kind;
 use std::alloc::Global;
 use std::test::Fail;

@@ -1,8 +1,0 @@
-use Rattle.std.proofs.Common.{rules}
-use Rattle.irig_ed.proofs.Blocks.{front_longer}
-use Rattle.irig_ed.proofs.block.Block.put.Goals as goal
-
-pub returns-in_err-flush-clause-err : goal.returns-in_err-flush-clause-err
-returns-in_err-flush-clause-err g c =
-    let p = front_longer _ _ _ c.args.text.now c.in_err-flush.ensures.err in
-    search (rules, p)

@@ -1,0 +1,67 @@
+-- The command line: four options and the track. This project's own.
+use Rattle.std.specs.Prelude.{◌≡◌, true, List, [], ◌∷◌, map, codes, Option, Some, None}
+use Rattle.clap.specs.Words.{App, Rule, Text, new_app, new_rule, with_rule, HasMatchesOf}
+use Rattle.clap.specs.declared.builder.ArgAction.TheVariants.{Set}
+use Rattle.clap.specs.declared.builder.value_parser.ValueParser.{ValueParser}
+use Rattle.clap.specs.declared.builder.value_parser.ValueParser.TheVariants.{Names}
+use Rattle.clap.specs.declared.parser.matches.ArgMatches.{ArgMatches}
+
+-- the parser takes just these texts
+abbrev pub TakesJust : List Text → ValueParser → Type 0
+TakesJust texts (Names names) = map (λ n. n.now) names.now ≡ texts
+TakesJust texts _ = ⊥
+
+-- the kinds of time code, and the numbers of expressions
+abbrev pub letters : List Text
+letters = codes "A" ∷ codes "B" ∷ codes "E" ∷ codes "G" ∷ []
+
+abbrev pub digits : List Text
+digits =
+    codes "0" ∷ codes "1" ∷ codes "2" ∷ codes "3" ∷ codes "4" ∷ codes "5" ∷ codes "6"
+    ∷ codes "7" ∷ []
+
+-- an option with a value
+abbrev pub option : Text → Option ValueParser → Rule
+option name parser =
+    record (new_rule name) { long = Some name; action = Some Set; value_names = 1; parser = parser }
+
+-- an option with one of these values
+abbrev pub IsChoice : Text → List Text → Rule → Type 0
+IsChoice name values rule =
+    (parser : ValueParser) × TakesJust values parser × (rule ≡ option name (Some parser))
+
+-- the track, which has to be there
+abbrev pub track : Rule
+track = record (new_rule (codes "TRACK")) { action = Some Set; required = true }
+
+-- how the track is read: the wire's name, the format and its expression
+abbrev pub reading_with : Rule → Rule → App
+reading_with format expression =
+    with_rule
+    (with_rule (with_rule (new_app (codes "irig_ed")) (option (codes "wire") None)) format)
+    expression
+
+-- the command: how the track is read, the path to write, and the track
+abbrev pub command_with : Rule → Rule → App
+command_with format expression =
+    with_rule (with_rule (reading_with format expression) (option (codes "out") None)) track
+
+-- it has the choices of a letter and of a digit
+pub record HasChoices (with_choices : Rule → Rule → App) (app : App) : Type 0 where
+  pub format : Rule
+  pub expression : Rule
+  pub is_letter : IsChoice (codes "format") letters format
+  pub is_digit : IsChoice (codes "expression") digits expression
+  pub shape : app ≡ with_choices format expression
+
+abbrev pub IsReading : App → Type 0
+IsReading app = HasChoices reading_with app
+
+abbrev pub IsCommand : App → Type 0
+IsCommand app = HasChoices command_with app
+
+-- matches that a parse of the words by the command may give
+pub record IsParsed (words : List Text) (matches : ArgMatches) : Type 0 where
+  pub app : App
+  pub is_command : IsCommand app
+  pub promised : HasMatchesOf app words matches

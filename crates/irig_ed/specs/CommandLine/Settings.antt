@@ -1,0 +1,55 @@
+-- What a command line asks for. This project's own.
+use Rattle.std.specs.Prelude.{◌≡◌, ◌-◌, ℕ, Bool, true, false, List, codes, Some, Result, Ok, Err, unwrap_or, option_map, slice_index, if◌then◌else◌}
+use Rattle.std.specs.Str.{bytes_eq}
+use Rattle.clap.specs.Words.{Text, first_value, found_of}
+use Rattle.clap.specs.declared.parser.matches.Found.{Found}
+use Rattle.clap.specs.declared.parser.matches.ArgMatches.{ArgMatches}
+use Rattle.irig_codes.specs.Format.{is_permitted}
+use Rattle.irig_codes.specs.declared.format.Kind.{Kind}
+use Rattle.irig_codes.specs.declared.format.Kind.TheVariants as kind
+use Rattle.irig_ed.specs.CommandLine.Options.{IsParsed}
+use Rattle.irig_ed.specs.declared.command_line.chosen.Settings.{Settings}
+use Rattle.irig_ed.specs.declared.command_line.chosen.UsageFault.{UsageFault}
+use Rattle.irig_ed.specs.declared.command_line.chosen.UsageFault.TheVariants as fault
+
+-- the kind of time code with this letter; B for any other text
+abbrev pub kind_named : Text → Kind
+kind_named text = if bytes_eq text (codes "A") then kind.A
+    else (if bytes_eq text (codes "E") then kind.E
+    else (if bytes_eq text (codes "G") then kind.G else kind.B))
+
+-- the number of a digit
+abbrev pub digit_named : Text → ℕ
+digit_named text = slice_index text 0 - 48
+
+-- the kind and the expression that matches ask for: B and 2 where none is given
+abbrev pub kind_of : Found → Kind
+kind_of f = kind_named (unwrap_or (first_value f (codes "format")) (codes "B"))
+
+abbrev pub expression_of : Found → ℕ
+expression_of f = digit_named (unwrap_or (first_value f (codes "expression")) (codes "2"))
+
+-- the settings are the values of the matches; what is written is the track, where no path is given
+pub record AreValues (f : Found) (s : Settings) : Type 0 where
+  pub track : first_value f (codes "TRACK") ≡ Some s.track.now
+  pub wire : first_value f (codes "wire") ≡ option_map (λ w. w.now) s.wire
+  pub out : s.out.now ≡ unwrap_or (first_value f (codes "out")) s.track.now
+  pub kind : s.format.kind ≡ kind_of f
+  pub expression : s.format.expression ≡ expression_of f
+
+-- the kind permits the expression
+abbrev pub is_chosen_format : Found → Bool
+is_chosen_format f = is_permitted (kind_of f) (expression_of f)
+
+-- the answer is that of the matches
+abbrev pub Chooses : Found → Result Settings UsageFault → Type 0
+Chooses f (Ok s) = AreValues f s × (is_chosen_format f ≡ true)
+Chooses f (Err fault.BadExpression) = is_chosen_format f ≡ false
+Chooses f (Err (fault.Words error)) = Unit {0}
+
+-- there are matches that a parse of the words may give, and the answer is theirs; or the error is
+-- one of the parse
+abbrev pub Reads : List Text → Result Settings UsageFault → Type 0
+Reads words (Err (fault.Words error)) = Unit {0}
+Reads words result =
+    (matches : ArgMatches) × IsParsed words matches × Chooses (found_of matches) result

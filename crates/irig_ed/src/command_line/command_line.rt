@@ -1,0 +1,159 @@
+//! The command line, read by `clap`.
+
+ghost use Rattle.std.specs.Prelude.{◌≡◌, IfOk, None, false, map, codes};
+ghost use Rattle.clap.specs.Words.{app_of, found_of, rule_of};
+ghost use Rattle.irig_ed.specs.CommandLine.Options.{IsCommand, IsReading, IsChoice, IsParsed, option, track};
+ghost use Rattle.irig_ed.specs.CommandLine.Settings.{Chooses, Reads, digit_named, kind_named};
+
+use crate::command_line::chosen::{Settings, UsageFault};
+use clap::error::ErrorKind;
+use clap::{Arg, ArgAction, ArgMatches, Command, Error};
+use irig_codes::{Format, Kind};
+use std::alloc::{AllocError, Global};
+
+static LETTERS: [&str; 4] = ["A", "B", "E", "G"];
+
+static DIGITS: [&str; 8] = ["0", "1", "2", "3", "4", "5", "6", "7"];
+
+/// What the words of a command line ask for, the program's name being the first.
+pub fn settings<'a>(alloc: Global, words: &'a [&'a str]) -> Result<Settings<'a>, UsageFault>
+    ensures { Reads (map (λ w. w.now) words.entry.now) result }
+{
+    match parsed(alloc, words) {
+        Ok(matches) => chosen_of(&matches),
+        Err(error) => Err(UsageFault::Words(error)),
+    }
+}
+
+/// What `clap` says of an argument that is not UTF-8.
+pub fn not_text(alloc: Global) -> Error {
+    match said_of_bytes(alloc) {
+        Ok(error) => error,
+        Err(error) => error.into(),
+    }
+}
+
+/// The same, where memory suffices.
+fn said_of_bytes(alloc: Global) -> Result<Error, AllocError> {
+    command(alloc)?.error(
+        ErrorKind::InvalidValue,
+        "invalid UTF-8 was detected in one or more arguments",
+    )
+}
+
+/// What the matches ask for.
+fn chosen_of<'a>(matches: &ArgMatches<'a>) -> Result<Settings<'a>, UsageFault>
+    ensures { Chooses (found_of matches.now) result }
+{
+    let kind = kind_named(matches.get_str("format").unwrap_or("B"));
+    let expression = digit_named(matches.get_str("expression").unwrap_or("2"));
+    let Ok(format) = Format::new(kind, expression) else {
+        return Err(UsageFault::BadExpression);
+    };
+    let Some(track) = matches.get_str("TRACK") else {
+        return Err(UsageFault::Words(AllocError.into()));
+    };
+    Ok(Settings {
+        track,
+        wire: matches.get_str("wire"),
+        out: matches.get_str("out").unwrap_or(track),
+        format,
+    })
+}
+
+/// The kind of time code with this letter; B for any other text.
+fn kind_named(text: &str) -> Kind
+    ensures { result ≡ kind_named text.now }
+{
+    match text.as_bytes() {
+        b"A" => Kind::A,
+        b"E" => Kind::E,
+        b"G" => Kind::G,
+        _ => Kind::B,
+    }
+}
+
+/// The number that the first byte of a text is as a digit.
+fn digit_named(text: &str) -> u8
+    ensures { result ≡ digit_named text.now }
+{
+    match text.as_bytes() {
+        [first, ..] => first.saturating_sub(b'0'),
+        [] => 0,
+    }
+}
+
+/// The matches of a command line that is accepted.
+fn parsed<'a>(alloc: Global, words: &'a [&'a str]) -> Result<ArgMatches<'a>, Error>
+    ensures { IfOk result (IsParsed (map (λ w. w.now) words.entry.now)) }
+{
+    command(alloc)?.try_get_matches_from(words)
+}
+
+/// The command line of the program.
+fn command<'a>(alloc: Global) -> Result<Command<'a>, AllocError>
+    ensures { IfOk result (λ c. IsCommand (app_of c)) }
+{
+    reading(alloc)?
+        .arg(option_arg(alloc, "out", "PATH", "what `write` writes, if not TRACK"))?
+        .arg(track_arg(alloc))
+}
+
+/// Its options that say how the track is read.
+fn reading<'a>(alloc: Global) -> Result<Command<'a>, AllocError>
+    ensures { IfOk result (λ c. IsReading (app_of c)) }
+{
+    Command::new(alloc, "irig_ed")
+        .arg(option_arg(alloc, "wire", "NAME", "the wire of the dump"))?
+        .arg(choice_arg(
+            alloc,
+            "format",
+            "FORMAT",
+            "B, if not given",
+            LETTERS.as_slice(),
+        ))?
+        .arg(choice_arg(
+            alloc,
+            "expression",
+            "NUMBER",
+            "2, if not given",
+            DIGITS.as_slice(),
+        ))
+}
+
+/// An option `--name` with a value.
+fn option_arg<'a>(alloc: Global, name: &'a str, value: &'a str, help: &'a str) -> Arg<'a>
+    ensures rule { rule_of result ≡ option name.entry.now None }
+    ensures local { result.global ≡ false }
+{
+    Arg::new(alloc, name)
+        .long(name)
+        .value_name(value)
+        .help(help)
+        .action(ArgAction::Set)
+}
+
+/// An option `--name` with one of these values.
+fn choice_arg<'a>(
+    alloc: Global,
+    name: &'a str,
+    value: &'a str,
+    help: &'a str,
+    values: &'a [&'a str],
+) -> Arg<'a>
+    ensures rule { IsChoice name.entry.now (map (λ v. v.now) values.entry.now) (rule_of result) }
+    ensures local { result.global ≡ false }
+{
+    option_arg(alloc, name, value, help).value_parser(values)
+}
+
+/// The track, which has to be there.
+fn track_arg<'a>(alloc: Global) -> Arg<'a>
+    ensures rule { rule_of result ≡ track }
+    ensures local { result.global ≡ false }
+{
+    Arg::new(alloc, "TRACK")
+        .required(true)
+        .help("the dump; commands come on standard input")
+        .action(ArgAction::Set)
+}

@@ -1,0 +1,4 @@
+//! Files: the dump that is read, and the shelf that is written.
+
+pub mod file_shelf;
+pub mod track;

@@ -1,0 +1,57 @@
+-- Texts sent through a block.
+use Rattle.std.proofs.Common.{[], ◌≡◌, ◌++◌, ℕ, List, Option, None, Some, sym, ap, ◌∙◌, append_assoc, subst}
+use Rattle.std.proofs.lemmas.List.{append-nil}
+use Rattle.std.specs.Io.KnownBytes.{Appends}
+use Rattle.irig_script.specs.Print.Blocks.{Sends}
+use Rattle.irig_script.specs.Print.Front.{AppendsFront}
+use Rattle.irig_script.proofs.Known.{appends-appends}
+
+-- some of a text's front is some of a longer text's front
+pub front_longer : (a b : Option (List ℕ)) (x y : List ℕ) → AppendsFront a b x → AppendsFront a b (x ++ y)
+front_longer a b x y p = record { front = p.front; back = p.back ++ y; part = ap (λ l. l ++ y) p.part ∙ append_assoc p.front p.back y; appends = p.appends }
+
+appends_nothing : (a : Option (List ℕ)) → Appends a a []
+appends_nothing None = tt
+appends_nothing (Some s) = sym (append-nil s)
+
+-- nothing was sent yet
+pub sends_nothing : (a : Option (List ℕ)) → Sends a a [] [] []
+sends_nothing a = ([], appends_nothing a, λ j. [])
+
+-- a text that the block had room for
+pub sends_none : (a : Option (List ℕ)) (x y z : List ℕ) → z ≡ x ++ y → Sends a a x z y
+sends_none a x y z e = ([], appends_nothing a, sym e)
+
+-- a text after the block was sent
+pub sends_held : (a b : Option (List ℕ)) (x y z : List ℕ) → Appends a b x → z ≡ y → Sends a b x z y
+sends_held a b x y z p e = (x, p, ap (λ l. x ++ l) (sym e))
+
+-- a text after another
+pub sends_more : (a b c : Option (List ℕ)) (w x z t u : List ℕ) → Sends a b w x t → Sends b c x z u → Sends a c w z (t ++ u)
+sends_more a b c w x z t u p q = (
+  p.0 ++ q.0,
+  appends-appends a b c p.0 q.0 p.1 q.1,
+  sym (append_assoc w t u) ∙ ap (λ l. l ++ u) p.2 ∙ append_assoc p.0 x u ∙ ap (λ l. p.0 ++ l) q.2 ∙ sym (append_assoc p.0 q.0 z),
+)
+
+-- the same, where the sending failed
+pub sends_front : (a b c : Option (List ℕ)) (x t u : List ℕ) → Sends a b [] x t → AppendsFront b c (x ++ u) → AppendsFront a c (t ++ u)
+sends_front a b c x t u p q = record {
+  front = p.0 ++ q.front;
+  back = q.back;
+  part = ap (λ l. l ++ u) p.2 ∙ append_assoc p.0 x u ∙ ap (λ l. p.0 ++ l) q.part ∙ sym (append_assoc p.0 q.front q.back);
+  appends = appends-appends a b c p.0 q.front p.1 q.appends;
+}
+
+-- the same, where what was held back is sent
+pub sends_end : (a b c : Option (List ℕ)) (x t : List ℕ) → Sends a b [] x t → AppendsFront b c x → AppendsFront a c t
+sends_end a b c x t p q = record {
+  front = p.0 ++ q.front;
+  back = q.back;
+  part = p.2 ∙ ap (λ l. p.0 ++ l) q.part ∙ sym (append_assoc p.0 q.front q.back);
+  appends = appends-appends a b c p.0 q.front p.1 q.appends;
+}
+
+-- all was sent
+pub sends_all : (a b c : Option (List ℕ)) (x t : List ℕ) → Sends a b [] x t → Appends b c x → Appends a c t
+sends_all a b c x t p q = subst (λ l. Appends a c l) (sym p.2) (appends-appends a b c p.0 x p.1 q)

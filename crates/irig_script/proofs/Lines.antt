@@ -1,0 +1,320 @@
+-- A script by its lines, and what they make of a desk and a machine.
+use Rattle.std.proofs.Common.{◌≡◌, ◌==◌, ◌+◌, ◌<◌, ◌++◌, ◌∷◌, [], ℕ, Option, Some, None, Bool, true, false, List, length, take, drop, get_or, refl, ap, sym, ◌∙◌, subst, append_assoc, add-one, arith}
+use Rattle.std.specs.Prelude.{Result, Ok, Err, OnErr, ◌≤◌}
+use Rattle.std.specs.List.{AllByRecursion}
+use Rattle.std.specs.Io.KnownBytes.{Appends}
+use Rattle.std.proofs.lemmas.List.{append-nil, take-append-drop}
+use Rattle.std.proofs.lemmas.Grind.{flat_map-append}
+use Rattle.std.proofs.Math.Seq.{take-suc, take-length}
+use Rattle.std.proofs.lemmas.Bool.Decides.{nat_tests}
+use Rattle.irig_script.specs.Obey.Machine.{Machine}
+use Rattle.irig_script.specs.Script.Lines.{lines_of, until_quit, script_lines, is_quit}
+use Rattle.irig_script.specs.Obey.Answer.{Answered, texts_put}
+use Rattle.irig_script.specs.Print.Printed.{Answer, printed}
+use Rattle.irig_script.specs.Obey.Desk.{Desk, desk, Tells, Puts, GrowsBy, Fails, failures_in, status_after}
+use Rattle.irig_script.specs.Obey.Run.{Runs, Ran, Broke, Goes, IsPlain, IsObeyed, unlines}
+use Rattle.irig_script.specs.Obey.Going.{Holds, Obeyed, BrokeIn}
+use Rattle.irig_script.specs.declared.obey.status.Status.{Status}
+use Rattle.irig_script.specs.declared.script.line.Line.{Line}
+use Rattle.irig_script.proofs.Known.{appends-appends}
+
+-- a byte before a text that has no newline
+plain_first : (b : ℕ) (text : List ℕ) → IsPlain (b ∷ text) → ((b == 10) ≡ false) × IsPlain text
+plain_first b text h = go (b == 10) refl
+  where
+    go : (t : Bool) → (b == 10) ≡ t → ((b == 10) ≡ false) × IsPlain text
+    go true t = let bad : false ≡ true = rw t at h in cc
+    go false t = (t, rw t at h)
+
+pub first_line : (text rest : List ℕ) → IsPlain text → lines_of (text ++ 10 ∷ rest) ≡ text ∷ lines_of rest
+first_line [] rest h = refl
+first_line (b ∷ text) rest h =
+    let p = plain_first b text h in
+    rw (p.0, first_line text rest p.1) refl
+
+pub last_line : (b : ℕ) (text : List ℕ) → IsPlain (b ∷ text) → lines_of (b ∷ text) ≡ (b ∷ text) ∷ []
+last_line b [] h = rw (plain_first b [] h).0 refl
+last_line b (c ∷ text) h =
+    let p = plain_first b (c ∷ text) h in
+    rw (p.0, last_line c text p.1) refl
+
+-- the lines before one that is obeyed, or that ends the script
+until_obeyed : (line : List ℕ) (lines : List (List ℕ)) → is_quit line ≡ false → until_quit (line ∷ lines) ≡ line ∷ until_quit lines
+until_obeyed line lines e = rw e refl
+
+pub until_ended : (line : List ℕ) (lines : List (List ℕ)) → is_quit line ≡ true → until_quit (line ∷ lines) ≡ []
+until_ended line lines e = rw e refl
+
+-- lines that are obeyed, and what comes after them
+pub lines_and : (lines : List (List ℕ)) (rest : List ℕ) → AllByRecursion IsObeyed lines → script_lines (unlines lines ++ rest) ≡ lines ++ script_lines rest
+lines_and [] rest h = refl
+lines_and (line ∷ lines) rest h =
+    let cut : unlines (line ∷ lines) ++ rest ≡ line ++ 10 ∷ (unlines lines ++ rest) = append_assoc (line ++ 10 ∷ []) (unlines lines) rest ∙ append_assoc line (10 ∷ []) (unlines lines ++ rest) in
+    ap script_lines cut ∙ ap until_quit (first_line line (unlines lines ++ rest) h.0.0) ∙ until_obeyed line (lines_of (unlines lines ++ rest)) h.0.1
+    ∙ ap (λ l. line ∷ l) (lines_and lines rest h.1)
+
+-- runs in turn
+pub runs-runs : (a b c : Machine) (xs ys : List (List ℕ)) (rs qs : List Answer) (ts us : List (List ℕ)) → Runs a xs rs ts b → Runs b ys qs us c → Runs a (xs ++ ys) (rs ++ qs) (ts ++ us) c
+runs-runs a b c [] ys [] qs ts us h k =
+    let from_a : Runs a ys qs us c = subst (λ (s : Machine). Runs s ys qs us c) h.1 k in
+    let e : ts ++ us ≡ us = ap (λ l. l ++ us) h.0 in
+    subst (λ (l : List (List ℕ)). Runs a ys qs l c) (sym e) from_a
+runs-runs a b c [] ys (r ∷ rs) qs ts us h k = absurd h
+runs-runs a b c (x ∷ xs) ys [] qs ts us h k = absurd h
+runs-runs a b c (x ∷ xs) ys (r ∷ rs) qs ts us h k =
+    (h.0, h.1, (h.2.0 ++ us, ap (λ l. l ++ us) h.2.1 ∙ append_assoc (texts_put a r.reply) h.2.0 us, runs-runs h.0 b c xs ys rs qs h.2.0 us h.2.2 k))
+
+pub runs_one : (a b : Machine) (line : List ℕ) (answer : Answer) → Answered a line answer b → Runs a (line ∷ []) (answer ∷ []) (texts_put a answer.reply) b
+runs_one a b line answer h = (b, h, ([], sym (append-nil (texts_put a answer.reply)), (refl, refl)))
+
+each-append : (xs ys : List (List ℕ)) → AllByRecursion IsObeyed xs → AllByRecursion IsObeyed ys → AllByRecursion IsObeyed (xs ++ ys)
+each-append [] ys h k = k
+each-append (x ∷ xs) ys h k = (h.0, each-append xs ys h.1 k)
+
+-- two parts of a script in turn: the second begins with what the first left
+pub goes-goes : (one two : List ℕ) (a b c : Machine) (left rest : List ℕ) (rs qs : List Answer) (ts us : List (List ℕ)) → Goes one a rs ts b left → Goes (left ++ two) b qs us c rest → Goes (one ++ two) a (rs ++ qs) (ts ++ us) c rest
+goes-goes one two a b c left rest rs qs ts us h k = record {
+  lines = h.lines ++ k.lines;
+  each = each-append h.lines k.lines h.each k.each;
+  cut = ap (λ l. l ++ two) h.cut ∙ (append_assoc (unlines h.lines) left two ∙ (ap (λ l. unlines h.lines ++ l) k.cut
+      ∙ (sym (append_assoc (unlines h.lines) (unlines k.lines) rest) ∙ ap (λ l. l ++ rest) (sym (flat_map-append (λ line. line ++ 10 ∷ []) h.lines k.lines)))));
+  runs = runs-runs a b c h.lines k.lines rs qs ts us h.runs k.runs;
+}
+
+pub goes_none : (text : List ℕ) (s : Machine) → Goes text s [] [] s text
+goes_none text s = record { lines = []; each = tt; cut = refl; runs = (refl, refl) }
+
+-- a line that is obeyed
+pub goes_line : (text : List ℕ) (a b : Machine) (answer : Answer) → IsObeyed text → Answered a text answer b → Goes (text ++ 10 ∷ []) a (answer ∷ []) (texts_put a answer.reply) b []
+goes_line text a b answer each h = record {
+  lines = text ∷ [];
+  each = (each, tt);
+  cut = sym (append-nil _ ∙ append-nil (text ++ 10 ∷ []));
+  runs = runs_one a b text answer h;
+}
+
+pub goes_rest : (one more : List ℕ) (s t : Machine) (rest : List ℕ) (rs : List Answer) (ts : List (List ℕ)) → Goes one s rs ts t rest → Goes (one ++ more) s rs ts t (rest ++ more)
+goes_rest one more s t rest rs ts h = record { lines = h.lines; each = h.each; cut = ap (λ l. l ++ more) h.cut ∙ append_assoc (unlines h.lines) rest more; runs = h.runs }
+
+-- what is told
+pub appends_none : (a : Option (List ℕ)) → Appends a a []
+appends_none None = tt
+appends_none (Some s) = sym (append-nil s)
+
+pub grows_none : (a : Option (List (List ℕ))) → GrowsBy a a []
+grows_none None = tt
+grows_none (Some s) = sym (append-nil s)
+
+pub grows-grows : (a b c : Option (List (List ℕ))) (ts us : List (List ℕ)) → GrowsBy a b ts → GrowsBy b c us → GrowsBy a c (ts ++ us)
+grows-grows None b c ts us p q = tt
+grows-grows (Some s) None c ts us p q = absurd p
+grows-grows (Some s) (Some t) None ts us p q = absurd q
+grows-grows (Some s) (Some t) (Some u) ts us p q = q ∙ ap (λ l. l ++ us) p ∙ append_assoc s ts us
+
+failures_in-append : (rs qs : List Answer) → failures_in (rs ++ qs) ≡ failures_in rs + failures_in qs
+failures_in-append [] qs = omega arith
+failures_in-append (r ∷ rs) qs = omega (arith, failures_in-append rs qs)
+
+fails-fails : (a b c : ℕ) (rs qs : List Answer) → Fails a b (failures_in rs) → Fails b c (failures_in qs) → Fails a c (failures_in (rs ++ qs))
+fails-fails a b c rs qs p q = rw failures_in-append (omega arith)
+
+pub status_after-append : (s : Status) (rs qs : List Answer) → status_after s (rs ++ qs) ≡ status_after (status_after s rs) qs
+status_after-append s [] qs = refl
+status_after-append s (r ∷ rs) qs = status_after-append _ rs qs
+
+pub tells_none : (a : Desk) → Tells a a [] [] []
+tells_none a = record { printed = appends_none a.out; put = grows_none a.texts; failed = omega arith }
+
+pub tells-tells : (a b c : Desk) (x y : List ℕ) (rs qs : List Answer) (ts us : List (List ℕ)) → Tells a b x rs ts → Tells b c y qs us → Tells a c (x ++ y) (rs ++ qs) (ts ++ us)
+tells-tells a b c x y rs qs ts us h k = record {
+  printed = appends-appends a.out b.out c.out x y h.printed k.printed;
+  put = grows-grows a.texts b.texts c.texts ts us h.put k.put;
+  failed = fails-fails a.failures b.failures c.failures rs qs h.failed k.failed;
+}
+
+-- answers that were printed whole
+pub tells-answers : (a b c : Desk) (rs qs : List Answer) (ts us : List (List ℕ)) → Tells a b (printed rs) rs ts → Tells b c (printed qs) qs us → Tells a c (printed (rs ++ qs)) (rs ++ qs) (ts ++ us)
+tells-answers a b c rs qs ts us h k =
+    subst (λ (l : List ℕ). Tells a c l (rs ++ qs) (ts ++ us)) (sym (flat_map-append (λ (answer : Answer). answer.text) rs qs)) (tells-tells a b c (printed rs) (printed qs) rs qs ts us h k)
+
+pub tells_one : (a b : Desk) (m : Machine) (r : Answer) → Appends a.out b.out r.text → Puts a.texts b.texts a.failures b.failures m r.reply → Tells a b (printed (r ∷ [])) (r ∷ []) (texts_put m r.reply)
+tells_one a b m r p h = record { printed = rw append-nil p; put = h.put; failed = omega (arith, h.failed) }
+
+pub tells_front : (a b : Desk) (m : Machine) (r : Answer) (front : List ℕ) → Appends a.out b.out front → Puts a.texts b.texts a.failures b.failures m r.reply → Tells a b front (r ∷ []) (texts_put m r.reply)
+tells_front a b m r front p h = record { printed = p; put = h.put; failed = omega (arith, h.failed) }
+
+-- what is kept over the bytes so far: all were obeyed from the empty line on
+pub obeyed_none : (a : Desk) (st : Status) (text : List ℕ) (s : Machine) (line : Line) → Holds text line → Obeyed false a a st st s s text line
+obeyed_none a st text s line h = record { answers = []; texts = []; status = refl; told = tells_none a; ends = (text, goes_none text s, h) }
+
+-- a part more, given what the next part makes of the line left
+pub obeyed_more : (last : Bool) (a b c : Desk) (st su sv : Status) (s t u : Machine) (one two : List ℕ) (mid line : Line) → Obeyed false a b st su s t one mid
+    → ((left : List ℕ) → Holds left mid → Obeyed last b c su sv t u (left ++ two) line) → Obeyed last a c st sv s u (one ++ two) line
+obeyed_more false a b c st su sv s t u one two mid line h k =
+    let left = h.ends.0 in
+    let more = k left h.ends.2 in
+    record {
+      answers = h.answers ++ more.answers;
+      texts = h.texts ++ more.texts;
+      status = more.status ∙ ap (λ x. status_after x more.answers) h.status ∙ sym (status_after-append st h.answers more.answers);
+      told = tells-answers a b c h.answers more.answers h.texts more.texts h.told more.told;
+      ends = (more.ends.0, goes-goes one two s t u left more.ends.0 h.answers more.answers h.texts more.texts h.ends.1 more.ends.1, more.ends.2);
+    }
+obeyed_more true a b c st su sv s t u one two mid line h k =
+    let left = h.ends.0 in
+    let more = k left h.ends.2 in
+    let q = more.ends in
+    record {
+      answers = h.answers ++ more.answers;
+      texts = h.texts ++ more.texts;
+      status = more.status ∙ ap (λ x. status_after x more.answers) h.status ∙ sym (status_after-append st h.answers more.answers);
+      told = tells-answers a b c h.answers more.answers h.texts more.texts h.told more.told;
+      ends = (q.0, q.1, q.2, q.3, goes-goes one two s t u left (q.0 ++ 10 ∷ q.1) h.answers more.answers h.texts more.texts h.ends.1 q.4);
+    }
+
+-- what comes after the end is not obeyed
+pub obeyed_rest : (a b : Desk) (st su : Status) (s t : Machine) (one more : List ℕ) (line : Line) → Obeyed true a b st su s t one line → Obeyed true a b st su s t (one ++ more) line
+obeyed_rest a b st su s t one more line h =
+    let q = h.ends in
+    record {
+      answers = h.answers;
+      texts = h.texts;
+      status = h.status;
+      told = h.told;
+      ends = (
+        q.0,
+        q.1 ++ more,
+        q.2,
+        q.3,
+        subst (λ (l : List ℕ). Goes (one ++ more) s h.answers h.texts t l) (append_assoc q.0 (10 ∷ q.1) more) (goes_rest one more s t (q.0 ++ 10 ∷ q.1) h.answers h.texts q.4),
+      );
+    }
+
+pub answers_assoc : (x y z : List Answer) → (x ++ y) ++ z ≡ x ++ (y ++ z)
+answers_assoc x y z = append_assoc x y z
+
+-- a print that failed, after a part that was obeyed
+pub broke_more : (a b c : Desk) (st su : Status) (s t u : Machine) (one two : List ℕ) (mid : Line) → Obeyed false a b st su s t one mid
+    → ((left : List ℕ) → Holds left mid → BrokeIn b c t u (left ++ two)) → BrokeIn a c s u (one ++ two)
+broke_more a b c st su s t u one two mid h k =
+    let left = h.ends.0 in
+    let m = k left h.ends.2 in
+    let back = sym (answers_assoc h.answers m.answers (m.last ∷ [])) in
+    let text : printed h.answers ++ (printed m.answers ++ m.front) ≡ printed (h.answers ++ m.answers) ++ m.front = sym (append_assoc (printed h.answers) (printed m.answers) m.front) ∙ ap (λ l. l ++ m.front) (sym (flat_map-append (λ (answer : Answer). answer.text) h.answers m.answers)) in
+    let all : Tells a c (printed h.answers ++ (printed m.answers ++ m.front)) (h.answers ++ (m.answers ++ m.last ∷ [])) (h.texts ++ m.texts) = tells-tells a b c _ _ _ _ _ _ h.told m.told in
+    let some : Tells a c (printed (h.answers ++ m.answers) ++ m.front) (h.answers ++ (m.answers ++ m.last ∷ [])) (h.texts ++ m.texts) = subst (λ (l : List ℕ). Tells a c l (h.answers ++ (m.answers ++ m.last ∷ [])) (h.texts ++ m.texts)) text all in
+    record {
+      answers = h.answers ++ m.answers;
+      last = m.last;
+      front = m.front;
+      back = m.back;
+      rest = m.rest;
+      texts = h.texts ++ m.texts;
+      part = m.part;
+      told = subst (λ (l : List Answer). Tells a c (printed (h.answers ++ m.answers) ++ m.front) l (h.texts ++ m.texts)) back some;
+      goes = subst (λ (l : List Answer). Goes (one ++ two) s l (h.texts ++ m.texts) u m.rest) back (goes-goes one two s t u left m.rest h.answers (m.answers ++ m.last ∷ []) h.texts m.texts h.ends.1 m.goes);
+    }
+
+pub broke_rest : (a b : Desk) (s t : Machine) (one more : List ℕ) → BrokeIn a b s t one → BrokeIn a b s t (one ++ more)
+broke_rest a b s t one more m = record {
+  answers = m.answers;
+  last = m.last;
+  front = m.front;
+  back = m.back;
+  rest = m.rest ++ more;
+  texts = m.texts;
+  part = m.part;
+  told = m.told;
+  goes = goes_rest one more s t m.rest (m.answers ++ m.last ∷ []) m.texts m.goes;
+}
+
+-- an element more, and all of them
+one_more : (l : List ℕ) (i : ℕ) → i < length l → take i l ++ get_or l i 0 ∷ [] ≡ take (i + 1) l
+one_more l i h = sym (ap (λ n. take n l) (add-one i) ∙ take-suc l i 0 h)
+
+pub next_text : (text l : List ℕ) (i : ℕ) → i < length l → (text ++ take i l) ++ get_or l i 0 ∷ [] ≡ text ++ take (i + 1) l
+next_text text l i h = append_assoc text (take i l) (get_or l i 0 ∷ []) ∙ ap (λ t. text ++ t) (one_more l i h)
+
+pub whole_text : (text l : List ℕ) (i : ℕ) → i < length l → ((text ++ take i l) ++ get_or l i 0 ∷ []) ++ drop (i + 1) l ≡ text ++ l
+whole_text text l i h = ap (λ t. t ++ drop (i + 1) l) (next_text text l i h) ∙ (append_assoc text (take (i + 1) l) (drop (i + 1) l) ∙ ap (λ t. text ++ t) (take-append-drop (i + 1) l))
+
+pub all_taken : (l : List ℕ) (i : ℕ) → length l ≤ i → i ≤ length l → take i l ≡ l
+all_taken l i h k = let same : i ≡ length l = omega arith in ap (λ n. take n l) same ∙ take-length l
+
+-- a line that was answered whole, or in front
+pub obeyed_line : (a b : Desk) (st su : Status) (text : List ℕ) (s t : Machine) (answer : Answer) (line : Line) → IsPlain text → is_quit text ≡ false → Answered s text answer t
+    → Tells a b (printed (answer ∷ [])) (answer ∷ []) (texts_put s answer.reply) → su ≡ status_after st (answer ∷ []) → Holds [] line → Obeyed false a b st su s t (text ++ 10 ∷ []) line
+obeyed_line a b st su text s t answer line plain q h p e l =
+    record { answers = answer ∷ []; texts = texts_put s answer.reply; status = e; told = p; ends = ([], goes_line text s t answer (plain, q) h, l) }
+
+pub obeyed_quit : (a : Desk) (st : Status) (text : List ℕ) (s : Machine) (line : Line) → IsPlain text → is_quit text ≡ true → Obeyed true a a st st s s (text ++ 10 ∷ []) line
+obeyed_quit a st text s line plain q = record { answers = []; texts = []; status = refl; told = tells_none a; ends = (text, [], plain, q, goes_none (text ++ 10 ∷ []) s) }
+
+same_desk : (out : Option (List ℕ)) (t u : Option (List (List ℕ))) (f n : ℕ) → u ≡ t → n ≡ f → desk out u n ≡ desk out t f
+same_desk out t u f n p q = λ j. desk out (p j) (q j)
+
+-- a line that ends the script leaves all as it was
+pub obeyed_end : (out : Option (List ℕ)) (t u : Option (List (List ℕ))) (f n : ℕ) (st : Status) (text : List ℕ) (s m : Machine) (line : Line) → IsPlain text → is_quit text ≡ true
+    → m ≡ s → (u ≡ t) × (n ≡ f) → Obeyed true (desk out t f) (desk out u n) st st s m (text ++ 10 ∷ []) line
+obeyed_end out t u f n st text s m line plain q e p =
+    subst (λ (b : Desk). Obeyed true (desk out t f) b st st s m (text ++ 10 ∷ []) line) (sym (same_desk out t u f n p.0 p.1))
+    (subst (λ (k : Machine). Obeyed true (desk out t f) (desk out t f) st st s k (text ++ 10 ∷ []) line) (sym e) (obeyed_quit (desk out t f) st text s line plain q))
+
+pub broke_line : (a b : Desk) (text : List ℕ) (s t : Machine) (front back : List ℕ) (answer : Answer) → IsPlain text → is_quit text ≡ false → Answered s text answer t
+    → answer.text ≡ front ++ back → Tells a b front (answer ∷ []) (texts_put s answer.reply) → BrokeIn a b s t (text ++ 10 ∷ [])
+broke_line a b text s t front back answer plain q h e p =
+    record { answers = []; last = answer; front = front; back = back; rest = []; texts = texts_put s answer.reply; part = e; told = p; goes = goes_line text s t answer (plain, q) h }
+
+pub given : {T E P : Type 0} (r : Result T E) → P → OnErr r P
+given (Ok x) p = tt
+given (Err e) p = p
+
+-- the end of a script in a line
+at_nothing : (text : List ℕ) → (length text == 0) ≡ true → script_lines text ≡ []
+at_nothing [] e = refl
+at_nothing (b ∷ text) e = absurd (grind (arith, nat_tests))
+
+at_quit : (text : List ℕ) → IsPlain text → is_quit text ≡ true → script_lines text ≡ []
+at_quit [] h q = refl
+at_quit (b ∷ text) h q = ap until_quit (last_line b text h) ∙ until_ended (b ∷ text) [] q
+
+at_end : (text : List ℕ) → IsPlain text → is_quit text ≡ false → (length text == 0) ≡ false → script_lines text ≡ text ∷ []
+at_end [] h q e = let bad : true ≡ false = e in cc
+at_end (b ∷ text) h q e = ap until_quit (last_line b text h) ∙ until_obeyed (b ∷ text) [] q
+
+ran_none : (a : Desk) (st : Status) (s : Machine) (text : List ℕ) → script_lines text ≡ [] → Ran a a st st s s text
+ran_none a st s text e = record { answers = []; texts = []; status = refl; told = tells_none a; runs = rw e (refl, refl) }
+
+pub ran_nothing : (a : Desk) (st : Status) (s : Machine) (text : List ℕ) → (length text == 0) ≡ true → Ran a a st st s s text
+ran_nothing a st s text e = ran_none a st s text (at_nothing text e)
+
+pub ran_quit : (a : Desk) (st : Status) (s : Machine) (text : List ℕ) → IsPlain text → is_quit text ≡ true → Ran a a st st s s text
+ran_quit a st s text h q = ran_none a st s text (at_quit text h q)
+
+pub ran_end : (out : Option (List ℕ)) (t u : Option (List (List ℕ))) (f n : ℕ) (st : Status) (s m : Machine) (text : List ℕ) → IsPlain text → is_quit text ≡ true
+    → m ≡ s → (u ≡ t) × (n ≡ f) → Ran (desk out t f) (desk out u n) st st s m text
+ran_end out t u f n st s m text plain q e p =
+    subst (λ (b : Desk). Ran (desk out t f) b st st s m text) (sym (same_desk out t u f n p.0 p.1))
+    (subst (λ (k : Machine). Ran (desk out t f) (desk out t f) st st s k text) (sym e) (ran_quit (desk out t f) st s text plain q))
+
+pub ran_line : (a b : Desk) (st su : Status) (s t : Machine) (text : List ℕ) (answer : Answer) → IsPlain text → is_quit text ≡ false → (length text == 0) ≡ false → Answered s text answer t
+    → Tells a b (printed (answer ∷ [])) (answer ∷ []) (texts_put s answer.reply) → su ≡ status_after st (answer ∷ []) → Ran a b st su s t text
+ran_line a b st su s t text answer plain q some h p e =
+    record { answers = answer ∷ []; texts = texts_put s answer.reply; status = e; told = p; runs = rw (at_end text plain q some) (runs_one s t text answer h) }
+
+pub broken_line : (a b : Desk) (s t : Machine) (text front back : List ℕ) (answer : Answer) → IsPlain text → is_quit text ≡ false → (length text == 0) ≡ false → Answered s text answer t
+    → answer.text ≡ front ++ back → Tells a b front (answer ∷ []) (texts_put s answer.reply) → Broke a b s t text
+broken_line a b s t text front back answer plain q some h e p =
+    record {
+      lines = text ∷ [];
+      others = [];
+      answers = [];
+      last = answer;
+      front = front;
+      back = back;
+      texts = texts_put s answer.reply;
+      cut = at_end text plain q some;
+      part = e;
+      told = p;
+      runs = runs_one s t text answer h;
+    }

@@ -1,0 +1,109 @@
+-- A text cut at a byte, and the words of a line.
+use Rattle.std.proofs.Common.{◌≡◌, ◌==◌, ℕ, zero, suc, ◌+◌, ◌-◌, ◌<◌, ◌≤◌, ◌++◌, Bool, true, false, not, ◌&&◌, ◌||◌, if◌then◌else◌, List, [], ◌∷◌, length, take, drop, get_or, refl, sym, ap, ◌∙◌, arith, add-one, drop-cons, append_assoc}
+use Rattle.std.proofs.Math.Seq.{take-length}
+use Rattle.std.proofs.lemmas.List.{append-nil, length-drop, take_more}
+use Rattle.irig_script.specs.Script.Grammar.{ends_range, range_length}
+use Rattle.irig_script.specs.Script.Words.{is_space, is_stop, before, onward, begins_word, onto_first, words_of, word_and}
+use Rattle.irig_script.specs.declared.script.cutting.Stop.{Stop}
+use Rattle.irig_script.specs.declared.script.cutting.Stop.TheVariants.{Blank, Text}
+
+opened : (s : List ℕ) (i : ℕ) → i < length s → drop i s ≡ get_or s i 0 ∷ drop (i + 1) s
+opened s i h = rw (add-one, drop-cons s i 0) refl
+
+-- what is left of a text is all that is behind a place
+pub rest_whole : (l : List ℕ) (done : ℕ) → take (length l - done) (drop done l) ≡ drop done l
+rest_whole l done = ap (λ n. take n (drop done l)) (sym (length-drop done l)) ∙ take-length (drop done l)
+
+nothing_left : (s : List ℕ) (i : ℕ) → length s ≤ i → drop i s ≡ []
+nothing_left [] zero h = refl
+nothing_left [] (suc i) h = refl
+nothing_left (b ∷ s) zero h = absurd (omega (arith, h))
+nothing_left (b ∷ s) (suc i) h = nothing_left s i (omega (arith, h))
+
+-- how far a text is cut
+abbrev pub IsCut : Stop → List ℕ → ℕ → Type 0
+IsCut stop s i = (before stop s ≡ take i s ++ before stop (drop i s)) × (onward stop s ≡ onward stop (drop i s))
+
+before_on : (stop : Stop) (b : ℕ) (s : List ℕ) → is_stop stop b ≡ false → before stop (b ∷ s) ≡ b ∷ before stop s
+before_on stop b s e = rw e refl
+
+onward_on : (stop : Stop) (b : ℕ) (s : List ℕ) → is_stop stop b ≡ false → onward stop (b ∷ s) ≡ onward stop s
+onward_on stop b s e = rw e refl
+
+before_at : (stop : Stop) (b : ℕ) (s : List ℕ) → is_stop stop b ≡ true → before stop (b ∷ s) ≡ []
+before_at stop b s e = rw e refl
+
+onward_at : (stop : Stop) (b : ℕ) (s : List ℕ) → is_stop stop b ≡ true → onward stop (b ∷ s) ≡ b ∷ s
+onward_at stop b s e = rw e refl
+
+-- a byte more before the cut
+pub cut_more : (stop : Stop) (s : List ℕ) (i : ℕ) → i < length s → is_stop stop (get_or s i 0) ≡ false → IsCut stop s i → IsCut stop s (i + 1)
+cut_more stop s i h e c =
+    let b = get_or s i 0 in
+    let rest = drop (i + 1) s in
+    let front : before stop (drop i s) ≡ b ∷ before stop rest = ap (before stop) (opened s i h) ∙ before_on stop b rest e in
+    let back : onward stop (drop i s) ≡ onward stop rest = ap (onward stop) (opened s i h) ∙ onward_on stop b rest e in (
+      c.0 ∙ ap (λ l. take i s ++ l) front ∙ sym (append_assoc (take i s) (b ∷ []) (before stop rest)) ∙ ap (λ l. l ++ before stop rest) (sym (take_more s i 0 h)),
+      c.1 ∙ back,
+    )
+
+-- the cut
+pub cut_here : (stop : Stop) (s : List ℕ) (i : ℕ) → i < length s → is_stop stop (get_or s i 0) ≡ true → IsCut stop s i → (before stop s ≡ take i s) × (onward stop s ≡ drop i s)
+cut_here stop s i h e c =
+    let b = get_or s i 0 in
+    let rest = drop (i + 1) s in (
+      c.0 ∙ ap (λ l. take i s ++ l) (ap (before stop) (opened s i h) ∙ before_at stop b rest e) ∙ append-nil (take i s),
+      c.1 ∙ ap (onward stop) (opened s i h) ∙ onward_at stop b rest e ∙ sym (opened s i h),
+    )
+
+pub cut_end : (stop : Stop) (s : List ℕ) (i : ℕ) → length s ≤ i → IsCut stop s i → (before stop s ≡ take i s) × (onward stop s ≡ drop i s)
+cut_end stop s i h c =
+    let none = nothing_left s i h in (
+      c.0 ∙ ap (λ l. take i s ++ l) (ap (before stop) none) ∙ append-nil (take i s),
+      c.1 ∙ ap (onward stop) none ∙ sym none,
+    )
+
+-- what a byte at the front does
+words_blank : (b : ℕ) (s : List ℕ) → is_space b ≡ true → words_of (b ∷ s) ≡ words_of s
+words_blank b s e = rw e refl
+
+words_alone : (b : ℕ) (s : List ℕ) → is_space b ≡ false → begins_word s ≡ false → words_of (b ∷ s) ≡ (b ∷ []) ∷ words_of s
+words_alone b s e k = rw (e, k) refl
+
+words_joined : (b : ℕ) (s : List ℕ) → is_space b ≡ false → begins_word s ≡ true → words_of (b ∷ s) ≡ onto_first b (words_of s)
+words_joined b s e k = rw (e, k) refl
+
+-- a word goes on to the next white space
+words_begun : (b : ℕ) (s : List ℕ) → is_space b ≡ false → words_of (b ∷ s) ≡ (b ∷ before Blank s) ∷ words_of (onward Blank s)
+words_begun b [] e = words_alone b [] e refl
+words_begun b (c ∷ s) e = go (is_space c) refl (λ k. words_begun c s k)
+  where
+    go : (v : Bool) → is_space c ≡ v → (is_space c ≡ false → words_of (c ∷ s) ≡ (c ∷ before Blank s) ∷ words_of (onward Blank s))
+        → words_of (b ∷ c ∷ s) ≡ (b ∷ before Blank (c ∷ s)) ∷ words_of (onward Blank (c ∷ s))
+    go true k h = words_alone b (c ∷ s) e (ap not k) ∙ sym (ap (λ l. (b ∷ l) ∷ words_of (onward Blank (c ∷ s))) (before_at Blank c s k) ∙ ap (λ l. (b ∷ []) ∷ words_of l) (onward_at Blank c s k))
+    go false k h = words_joined b (c ∷ s) e (ap not k) ∙ ap (onto_first b) (h k) ∙ sym (ap (λ l. (b ∷ l) ∷ words_of (onward Blank (c ∷ s))) (before_on Blank c s k) ∙ ap (λ l. (b ∷ c ∷ before Blank s) ∷ words_of l) (onward_on Blank c s k))
+
+-- the first word of a text, and the others
+pub words_split : (s : List ℕ) → words_of s ≡ word_and (before Blank (onward Text s)) (words_of (onward Blank (onward Text s)))
+words_split [] = refl
+words_split (b ∷ s) = go (is_space b) refl (words_split s)
+  where
+    go : (v : Bool) → is_space b ≡ v → words_of s ≡ word_and (before Blank (onward Text s)) (words_of (onward Blank (onward Text s)))
+        → words_of (b ∷ s) ≡ word_and (before Blank (onward Text (b ∷ s))) (words_of (onward Blank (onward Text (b ∷ s))))
+    go true e h = words_blank b s e ∙ h ∙ sym (ap (λ t. word_and (before Blank t) (words_of (onward Blank t))) (onward_on Text b s (ap not e)))
+    go false e h =
+        words_begun b s e
+        ∙ sym (ap (λ t. word_and (before Blank t) (words_of (onward Blank t))) (onward_at Text b s (ap not e))
+        ∙ ap (λ l. word_and l (words_of (onward Blank (b ∷ s)))) (before_on Blank b s e)
+        ∙ ap (λ l. (b ∷ before Blank s) ∷ words_of l) (onward_on Blank b s e))
+
+-- a byte more of a range
+pub range_more : (quoted : Bool) (s : List ℕ) (i : ℕ) → i < length s → ends_range quoted (get_or s i 0) ≡ false
+    → i + range_length quoted (drop i s) ≡ i + 1 + range_length (get_or s i 0 == 39) (drop (i + 1) s)
+range_more quoted s i h k = rw (opened s i h, k) (omega arith)
+
+pub range_stops : (quoted : Bool) (s : List ℕ) (i : ℕ) → i < length s → ends_range quoted (get_or s i 0) ≡ true → range_length quoted (drop i s) ≡ 0
+range_stops quoted s i h k = rw (opened s i h, k) refl
+
+pub range_done : (quoted : Bool) (s : List ℕ) (i : ℕ) → length s ≤ i → range_length quoted (drop i s) ≡ 0
+range_done quoted s i h = rw (nothing_left s i h) refl

@@ -1,0 +1,10 @@
+use Rattle.std.proofs.Common.{List, ℕ, take, false, ◌++◌}
+use Rattle.irig_script.specs.Obey.Desk.{desk}
+use Rattle.irig_script.specs.Obey.Going.{Holds, Obeyed}
+use Rattle.irig_script.proofs.obey.engine.obey_part.Given as goal
+
+abbrev pub invariant-loop-byte : goal.invariant-loop-byte
+invariant-loop-byte g l = (text : List ℕ) → Holds text l.fn.line → Obeyed false
+    (desk (g.W.Write.contents l.fn.out) (g.S.Shelf.texts l.fn.shelf) (g.S.Shelf.failures l.fn.shelf))
+    (desk (g.W.Write.contents l.out) (g.S.Shelf.texts l.shelf) (g.S.Shelf.failures l.shelf))
+    l.fn.status l.status l.fn.session l.session (text ++ take l.byte-index l.bytes) l.line

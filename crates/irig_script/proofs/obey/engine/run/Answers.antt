@@ -1,0 +1,54 @@
+use Rattle.std.proofs.Common.{rules, ◌<◌, ◌++◌, [], take, true, false, length, arith, length-append, length-take}
+use Rattle.std.proofs.lemmas.List.{append-nil}
+use Rattle.irig_script.proofs.Lines.{obeyed_none, obeyed_more, broke_more}
+use Rattle.irig_script.proofs.Runs.{run_ended, run_quit, run_broke, run_broken}
+use Rattle.irig_script.proofs.Known.{consumes-consumes, consumes_none}
+use Rattle.irig_script.proofs.obey.engine.run.Goals as goal
+
+pub loop-reads-init : goal.loop-reads-init
+loop-reads-init g c = record { bytes = []; read = consumes_none _; many = omega arith; obeyed = obeyed_none _ _ [] _ _ c.new-line.ensures }
+
+pub returns-in_err-finish-in-Ok-eq0-clause-print_failed : goal.returns-in_err-finish-in-Ok-eq0-clause-print_failed
+returns-in_err-finish-in-Ok-eq0-clause-print_failed g c = λ _.
+    let i = c.loop-reads.invariant in
+    let room : 0 < length c.read.new.buf = search rules in
+    let at_end = c.in-Ok-eq0.ensures.bytes.1 c.in-Ok-eq0.field-0-test room in
+    let none = rw c.in-Ok-eq0.field-0-test at c.in-Ok-eq0.ensures.bytes.0 in
+    let all = rw append-nil at (consumes-consumes _ _ _ i.bytes [] i.read none) in
+    run_broken _ _ _ _ _ _ _ _ _ _ i.bytes c.loop-reads.line all at_end i.obeyed c.in_err-finish-in-Ok-eq0.ensures.err
+
+pub returns-in-Ok-eq0-clause-ok : goal.returns-in-Ok-eq0-clause-ok
+returns-in-Ok-eq0-clause-ok g c =
+    let i = c.loop-reads.invariant in
+    let room : 0 < length c.read.new.buf = search rules in
+    let at_end = c.in-Ok-eq0.ensures.bytes.1 c.in-Ok-eq0.field-0-test room in
+    let none = rw c.in-Ok-eq0.field-0-test at c.in-Ok-eq0.ensures.bytes.0 in
+    let all = rw append-nil at (consumes-consumes _ _ _ i.bytes [] i.read none) in
+    run_ended _ _ _ _ _ _ _ _ _ _ _ i.bytes c.loop-reads.line all at_end i.obeyed c.in_ok-finish-in-Ok-eq0.ensures.ok
+
+pub returns-in_err-obey_part-in-Ok-clause-print_failed : goal.returns-in_err-obey_part-in-Ok-clause-print_failed
+returns-in_err-obey_part-in-Ok-clause-print_failed g c = λ _.
+    let i = c.loop-reads.invariant in
+    let n = c.in-Ok.count in
+    let all = consumes-consumes _ _ _ i.bytes (take n c.read.new.buf) i.read c.in-Ok.ensures.bytes.0 in
+    run_broke _ _ _ _ _ _ (i.bytes ++ take n c.read.new.buf) all (broke_more _ _ _ _ _ _ _ _ i.bytes (take n c.read.new.buf) c.loop-reads.line i.obeyed c.in_err-obey_part-in-Ok.ensures.err)
+
+pub returns-then-branch-clause-ok : goal.returns-then-branch-clause-ok
+returns-then-branch-clause-ok g c =
+    let i = c.loop-reads.invariant in
+    let step = rw c.if-branch.true at c.in_ok-obey_part-in-Ok.ensures.ok in
+    let n = c.in-Ok.count in
+    let all = consumes-consumes _ _ _ i.bytes (take n c.read.new.buf) i.read c.in-Ok.ensures.bytes.0 in
+    run_quit _ _ _ _ _ _ _ _ (i.bytes ++ take n c.read.new.buf) c.obey_part.new.line all (obeyed_more true _ _ _ _ _ _ _ _ _ i.bytes (take n c.read.new.buf) c.loop-reads.line c.obey_part.new.line i.obeyed step)
+
+pub loop-reads-preserved : goal.loop-reads-preserved
+loop-reads-preserved g c =
+    let i = c.loop-reads.invariant in
+    let step = rw c.if-branch.false at c.in_ok-obey_part-in-Ok.ensures.ok in
+    let n = c.in-Ok.count in
+    record {
+      bytes = i.bytes ++ take n c.read.new.buf;
+      read = consumes-consumes _ _ _ i.bytes (take n c.read.new.buf) i.read c.in-Ok.ensures.bytes.0;
+      many = omega (arith, i.many, length-append i.bytes (take n c.read.new.buf), length-take n c.read.new.buf, c.in-Ok.ensures.bound, c.in-Ok.count-test);
+      obeyed = obeyed_more false _ _ _ _ _ _ _ _ _ i.bytes (take n c.read.new.buf) c.loop-reads.line c.obey_part.new.line i.obeyed step;
+    }

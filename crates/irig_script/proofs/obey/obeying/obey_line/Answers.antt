@@ -1,0 +1,33 @@
+use Rattle.std.proofs.Common.{rules, ◌≢◌, refl, List, ℕ, subst}
+use Rattle.irig_script.specs.Script.Grammar.{Means}
+use Rattle.irig_script.specs.declared.script.command.Command.{Command}
+use Rattle.irig_script.specs.declared.script.command.Command.TheVariants as command
+use Rattle.irig_script.proofs.Quits.{bad_goes_on, other_goes_on, quit_ends}
+use Rattle.irig_script.proofs.Steps.{obeyed_step}
+use Rattle.irig_script.proofs.obey.obeying.obey_line.Goals as goal
+
+pub returns-in-Ok-Quit-clause-answer : goal.returns-in-Ok-Quit-clause-answer
+returns-in-Ok-Quit-clause-answer g c =
+    let meant : Means command.Quit c.in-Some.text.now = search rules in (
+      λ text h.
+          (let whole = c.in-Some.ensures.whole text h in
+          quit_ends text whole.1 (subst (λ (l : List ℕ). Means command.Quit l) whole.0 meant)),
+      refl,
+    )
+
+pub returns-in-Ok : goal.returns-in-Ok
+returns-in-Ok g c =
+    let more : c.in-Ok.command ≢ command.Quit = search rules in
+    record {
+      answer = λ text h.
+          (let whole = c.in-Some.ensures.whole text h in
+          let meant : Means c.in-Ok.command text = subst (λ (l : List ℕ). Means c.in-Ok.command l) whole.0 c.in-Ok.ensures.meant in
+          (other_goes_on c.in-Ok.command text meant more, obeyed_step c.in-Ok.command c.args.session.now c.obey.new.session text c.obey.result whole.1 meant c.obey.ensures.answer));
+      put = c.obey.ensures.put;
+    }
+
+pub returns-in-Err-clause-answer : goal.returns-in-Err-clause-answer
+returns-in-Err-clause-answer g c = λ text h.
+    let whole = c.in-Some.ensures.whole text h in
+    let bad : (asked : Command) → Means asked text → ⊥ = subst (λ (l : List ℕ). (asked : Command) → Means asked l → ⊥) whole.0 c.in-Err.ensures.bad in
+    (bad_goes_on text bad, (whole.1, bad, refl))

@@ -1,0 +1,10 @@
+use Rattle.std.proofs.Common.{[], take}
+use Rattle.irig_edit.specs.State.{frames_of}
+use Rattle.irig_script.specs.Print.Blocks.{Sends}
+use Rattle.irig_script.specs.Print.Numbered.{numbered}
+use Rattle.irig_script.specs.Print.Printed.{record_line}
+use Rattle.irig_script.proofs.print.listing.print_frames.Given as goal
+
+abbrev pub invariant-loop-place : goal.invariant-loop-place
+invariant-loop-place g l = Sends (g.W.Write.contents l.fn.out) (g.W.Write.contents l.out) [] l.block
+    (numbered (record_line l.session.present.state) 1 (take l.place (frames_of l.session.present.state)))

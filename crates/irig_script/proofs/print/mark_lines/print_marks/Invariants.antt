@@ -1,0 +1,9 @@
+use Rattle.std.proofs.Common.{[], take}
+use Rattle.irig_script.specs.Print.Blocks.{Sends}
+use Rattle.irig_script.specs.Print.Listings.{mark_line}
+use Rattle.irig_script.specs.Print.Numbered.{numbered}
+use Rattle.irig_script.proofs.print.mark_lines.print_marks.Given as goal
+
+abbrev pub invariant-loop-index : goal.invariant-loop-index
+invariant-loop-index g l = Sends (g.W.Write.contents l.fn.out) (g.W.Write.contents l.out) [] l.block
+    (numbered mark_line 97 (take l.index (take 26 l.session.present.state.marks)))

@@ -1,0 +1,26 @@
+use Rattle.std.proofs.Common.{take, drop, ◌+◌, sym, arith, length-drop}
+use Rattle.std.proofs.lemmas.List.{take-append-drop}
+use Rattle.irig_script.proofs.Known.{appends-keeps, wrote_more, rest_whole}
+use Rattle.irig_script.proofs.print.output.put_all.Goals as goal
+
+pub loop-done-preserved : goal.loop-done-preserved
+loop-done-preserved g c = (
+  (let within = rw (rest_whole, length-drop) at c.in-Ok.ensures.bound in omega (arith, within)),
+  wrote_more _ _ _ c.args.bytes.now c.loop-done.done c.in-Ok.count c.loop-done.invariant.1 c.in-Ok.ensures.bytes,
+)
+
+pub returns-in-Ok-eq0-clause-err : goal.returns-in-Ok-eq0-clause-err
+returns-in-Ok-eq0-clause-err g c = record {
+  front = take (c.loop-done.done + c.in-Ok-eq0.field-0) c.args.bytes.now;
+  back = drop (c.loop-done.done + c.in-Ok-eq0.field-0) c.args.bytes.now;
+  part = sym (take-append-drop _ _);
+  appends = wrote_more _ _ _ c.args.bytes.now c.loop-done.done c.in-Ok-eq0.field-0 c.loop-done.invariant.1 c.in-Ok-eq0.ensures.bytes;
+}
+
+pub returns-in-Err-clause-err : goal.returns-in-Err-clause-err
+returns-in-Err-clause-err g c = record {
+  front = take c.loop-done.done c.args.bytes.now;
+  back = drop c.loop-done.done c.args.bytes.now;
+  part = sym (take-append-drop _ _);
+  appends = appends-keeps _ _ _ _ c.loop-done.invariant.1 c.in-Err.ensures.bytes;
+}

@@ -1,0 +1,56 @@
+use Rattle.std.proofs.Common.{◌≡◌, ◌∷◌, refl, ap, sym, ◌∙◌, subst, List, ℕ, Some}
+use Rattle.irig_moment.specs.Written.{moment_of}
+use Rattle.irig_script.specs.Script.Addresses.{IsTime}
+use Rattle.irig_script.specs.Script.Grammar.{AreControls, Asks}
+use Rattle.irig_script.specs.Script.Numbers.{IsNumber}
+use Rattle.irig_script.specs.Script.Words.{words_of}
+use Rattle.irig_script.specs.declared.script.command.Command.{Command}
+use Rattle.irig_script.specs.declared.script.keyword.Keyword.TheVariants as word
+use Rattle.irig_script.proofs.KnownWords.{full_word, moment_some, next_word, time_some}
+use Rattle.irig_script.proofs.Lines.{given}
+use Rattle.irig_script.proofs.script.parsing.regen.Goals as goal
+
+pub returns-in_err-start-clause-err : goal.returns-in_err-start-clause-err
+returns-in_err-start-clause-err c =
+    let no : (asked : Command) → Asks word.Regen c.args.front.now (words_of c.args.arguments.now) asked → ⊥ = λ asked a. (
+    let f = a.6 in
+    let one = next_word _ _ _ _ _ c.split_word.ensures.words f.4 in
+    c.in_err-start.ensures.err a.0 (subst (λ (w : List ℕ). IsTime w a.0) (sym one.0) f.5)) in
+    given _ no
+
+pub returns-in_err-frames-clause-err : goal.returns-in_err-frames-clause-err
+returns-in_err-frames-clause-err c =
+    let no : (asked : Command) → Asks word.Regen c.args.front.now (words_of c.args.arguments.now) asked → ⊥ = λ asked a. (
+    let f = a.6 in
+    let one = next_word _ _ _ _ _ c.split_word.ensures.words f.4 in
+    let two = next_word _ _ _ _ _ c.split_word-2.ensures.words one.1 in
+    c.in_err-frames.ensures.err a.1 (subst (λ (w : List ℕ). IsNumber w a.1) (sym two.0) f.6)) in
+    given _ no
+
+pub returns-in_err-from-clause-err : goal.returns-in_err-from-clause-err
+returns-in_err-from-clause-err c =
+    let no : (asked : Command) → Asks word.Regen c.args.front.now (words_of c.args.arguments.now) asked → ⊥ = λ asked a. (
+    let f = a.6 in
+    let one = next_word _ _ _ _ _ c.split_word.ensures.words f.4 in
+    let two = next_word _ _ _ _ _ c.split_word-2.ensures.words one.1 in
+    let three = next_word _ _ _ _ _ c.split_word-3.ensures.words two.1 in
+    c.in_err-from.ensures.err a.2 (ap moment_of three.0 ∙ f.7)) in
+    given _ no
+
+pub returns-in_err-controls-clause-err : goal.returns-in_err-controls-clause-err
+returns-in_err-controls-clause-err c =
+    let no : (asked : Command) → Asks word.Regen c.args.front.now (words_of c.args.arguments.now) asked → ⊥ = λ asked a. (
+    let f = a.6 in
+    let one = next_word _ _ _ _ _ c.split_word.ensures.words f.4 in
+    let two = next_word _ _ _ _ _ c.split_word-2.ensures.words one.1 in
+    let three = next_word _ _ _ _ _ c.split_word-3.ensures.words two.1 in
+    c.in_err-controls.ensures.err a.3 (subst (λ (ws : List (List ℕ)). AreControls ws a.3) (sym three.1) f.8)) in
+    given _ no
+
+pub returns-clause-ok : goal.returns-clause-ok
+returns-clause-ok c =
+    let one = full_word _ _ _ (time_some _ _ c.in_ok-start.ensures.ok) c.split_word.ensures.words in
+    let two = full_word _ _ _ c.in_ok-frames.ensures.ok.some c.split_word-2.ensures.words in
+    let three = full_word _ _ _ (moment_some _ _ c.in_ok-from.ensures.ok) c.split_word-3.ensures.words in
+    let all = one ∙ ap (λ ws. c.split_word.result.0.now ∷ ws) (two ∙ ap (λ ws. c.split_word-2.result.0.now ∷ ws) three) in
+    (_, _, _, _, refl, c.in_ok-no_range.ensures.ok, (_, _, _, _, all, c.in_ok-start.ensures.ok, c.in_ok-frames.ensures.ok, c.in_ok-from.ensures.ok, c.in_ok-controls.ensures.ok))

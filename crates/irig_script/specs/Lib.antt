@@ -1,0 +1,4 @@
+pub mod Script
+pub mod Obey
+pub mod Print
+pub mod Shelf

@@ -1,0 +1,9 @@
+-- What is done for the lines of a script.
+pub mod Machine
+pub mod Places
+pub mod Obeying
+pub mod Answer
+pub mod Desk
+pub mod Run
+pub mod Going
+pub mod Editing

@@ -1,0 +1,31 @@
+-- What the session answers to a line of a script. This project's own.
+use Rattle.std.specs.Prelude.{◌≡◌, ◌<◌, ◌≤◌, ℕ, List, [], ◌∷◌, length}
+use Rattle.irig_vcd.specs.FileText.{file_text}
+use Rattle.irig_edit.specs.State.{recording_of}
+use Rattle.irig_script.specs.Obey.Machine.{Machine}
+use Rattle.irig_script.specs.Script.Grammar.{Means}
+use Rattle.irig_script.specs.Obey.Obeying.{Obeys}
+use Rattle.irig_script.specs.Print.Printed.{Answer, reply_text}
+use Rattle.irig_script.specs.declared.script.command.Command.{Command}
+use Rattle.irig_script.specs.declared.print.reply.Reply.{Reply}
+use Rattle.irig_script.specs.declared.print.reply.Reply.TheVariants.{Written, BadLine, LineTooLong}
+
+-- the session may give this reply to this line: that it is too long, before that it is none of the
+-- language, before all that a command can meet
+abbrev pub Step : Machine → List ℕ → Reply → Machine → Type 0
+Step old line LineTooLong new = (1000 < length line) × (new ≡ old)
+Step old line BadLine new =
+    (length line ≤ 1000) × ((command : Command) → Means command line → ⊥) × (new ≡ old)
+Step old line reply new =
+    (length line ≤ 1000)
+    × ((command : Command) × Means command line × Obeys command old reply new)
+
+-- the session may give this answer to this line: it prints what its reply does as all stands then
+abbrev pub Answered : Machine → List ℕ → Answer → Machine → Type 0
+Answered old line answer new =
+    Step old line answer.reply new × (answer.text ≡ reply_text new answer.reply)
+
+-- the texts that a line puts
+abbrev pub texts_put : Machine → Reply → List (List ℕ)
+texts_put m (Written count) = file_text (recording_of m.present.state) ∷ []
+texts_put m _ = []

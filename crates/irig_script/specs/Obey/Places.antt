@@ -1,0 +1,58 @@
+-- What addresses, ranges and times stand for, in the machine before their line. This project's own.
+use Rattle.std.specs.Prelude.{◌+◌, ◌-◌, ◌^◌, ℕ, ℤ, nat_le, length, Option, Some, None, option_map, unwrap_or, get_or, if◌then◌else◌}
+use Rattle.irig_track.specs.Shifts.{ahead, back}
+use Rattle.irig_track.specs.Splices.{risen_by}
+use Rattle.irig_script.specs.Obey.Machine.{Machine}
+use Rattle.irig_script.specs.declared.script.address.Base.{Base}
+use Rattle.irig_script.specs.declared.script.address.Base.TheVariants.{Number, Current, Last, Mark}
+use Rattle.irig_script.specs.declared.script.address.Address.{Address}
+use Rattle.irig_script.specs.declared.script.range.Range.{Range}
+use Rattle.irig_script.specs.declared.script.range.Range.TheVariants.{One, Two}
+use Rattle.irig_script.specs.declared.script.time.Time.{Time}
+use Rattle.irig_script.specs.declared.script.time.Time.TheVariants as time
+
+-- the time of a mark, where it is set
+abbrev pub mark_of : ℕ → Machine → Option ℕ
+mark_of letter m = get_or m.present.state.marks (letter - 97) None
+
+-- the number that an address counts from; none where its mark is not set
+abbrev pub base_of : Base → Machine → Option ℕ
+base_of (Number n) m = Some n
+base_of Current m = Some m.present.cursor
+base_of Last m = Some (length m.present.state.pulses)
+base_of (Mark letter) m = option_map (λ t. risen_by t m.present.state.pulses) (mark_of letter m)
+
+-- the number that is so far behind another, or before it, where it is that of a pulse; else 0,
+-- which every call refuses
+abbrev pub counted : Option ℕ → ℕ → ℤ → ℕ → ℕ
+counted None by offset count = 0
+counted (Some n) by offset count =
+    if nat_le (n + by + ahead offset - back offset) count
+    then n + by + ahead offset - back offset else 0
+
+-- the pulse that is `by` pulses behind an address
+abbrev pub pulse_at : ℕ → Address → Machine → ℕ
+pulse_at by a m = counted (base_of a.base m) by a.offset (length m.present.state.pulses)
+
+-- the pulse of an address
+abbrev pub place_of : Address → Machine → ℕ
+place_of a m = pulse_at 0 a m
+
+-- the first pulse of a range
+abbrev pub first_of : Range → Machine → ℕ
+first_of (One a) m = place_of a m
+first_of (Two a b) m = place_of a m
+
+-- its last pulse; for `join` one address stands for a pulse and the next
+abbrev pub last_of : Range → Machine → ℕ
+last_of (One a) m = place_of a m
+last_of (Two a b) m = place_of b m
+
+abbrev pub join_last_of : Range → Machine → ℕ
+join_last_of (One a) m = pulse_at 1 a m
+join_last_of (Two a b) m = place_of b m
+
+-- a time; that of a mark which is not set is beyond every length
+abbrev pub time_of : Time → Machine → ℕ
+time_of (time.At t) m = t
+time_of (time.Mark letter) m = unwrap_or (mark_of letter m) (2 ^ 64 - 1)

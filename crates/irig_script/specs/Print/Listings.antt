@@ -1,0 +1,47 @@
+-- The lines that `list`, `marks` and `info` print. This project's own.
+use Rattle.std.specs.Prelude.{ℕ, ◌+◌, ◌-◌, List, [], ◌∷◌, ◌++◌, Option, Some, None, codes, decimal, length, take}
+use Rattle.irig_codes.specs.Width.{class_of}
+use Rattle.irig_codes.specs.Format.{FormatView}
+use Rattle.irig_codes.specs.declared.width.Element.{Element}
+use Rattle.irig_track.specs.declared.pulse.Pulse.{Pulse}
+use Rattle.irig_track.specs.Splices.{piece}
+use Rattle.irig_edit.specs.State.{State, frames_of}
+use Rattle.irig_script.specs.Script.Grammar.{element_word, kind_word}
+use Rattle.irig_script.specs.Obey.Machine.{Machine}
+use Rattle.irig_script.specs.Print.Numbered.{numbered}
+
+-- what a pulse stands for, in a word
+abbrev pub class_word : Option Element → List ℕ
+class_word None = codes "bad"
+class_word (Some e) = element_word e
+
+-- a pulse with its number, from 1
+abbrev pub pulse_line : FormatView → ℕ → Pulse → List ℕ
+pulse_line f number p =
+    decimal number ++ codes " " ++ decimal p.rise ++ codes " " ++ decimal p.fall ++ codes " "
+    ++ class_word (class_of f (p.fall - p.rise)) ++ codes "\n"
+
+-- a line for each of so many pulses behind the first `before`
+abbrev pub list_text : ℕ → ℕ → State → List ℕ
+list_text before count s = numbered (pulse_line s.format) (before + 1) (piece before count s.pulses)
+
+-- the mark of a letter, where it is set
+abbrev pub mark_line : ℕ → Option ℕ → List ℕ
+mark_line letter None = []
+mark_line letter (Some t) = (letter ∷ []) ++ codes " " ++ decimal t ++ codes "\n"
+
+-- a line for each of the marks a to z that is set
+abbrev pub marks_text : State → List ℕ
+marks_text s = numbered mark_line 97 (take 26 s.marks)
+
+-- counts, format and cursor
+abbrev pub info_text : Machine → List ℕ
+info_text m =
+    codes "length " ++ decimal m.present.state.micros
+    ++ codes " pulses " ++ decimal (length m.present.state.pulses)
+    ++ codes " frames " ++ decimal (length (frames_of m.present.state))
+    ++ codes " format " ++ kind_word m.present.state.format.kind
+    ++ codes " " ++ decimal m.present.state.format.expression
+    ++ codes " cursor " ++ decimal m.present.cursor
+    ++ codes " past " ++ decimal (length m.past)
+    ++ codes " future " ++ decimal (length m.future) ++ codes "\n"

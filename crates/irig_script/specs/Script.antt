@@ -1,0 +1,8 @@
+-- The language of a script.
+pub mod Letters
+pub mod Numbers
+pub mod Words
+pub mod Addresses
+pub mod Keywords
+pub mod Grammar
+pub mod Lines

@@ -1,0 +1,66 @@
+-- Addresses, ranges and times as a script writes them. This project's own, after those of ed.
+use Rattle.std.specs.Prelude.{◌≡◌, ◌≢◌, ◌==◌, ℕ, ℤ, pos, Bool, true, false, List, [], ◌∷◌}
+use Rattle.irig_script.specs.Script.Letters.{is_letter}
+use Rattle.irig_script.specs.Script.Numbers.{IsNumber, IsSigned, size}
+use Rattle.irig_script.specs.Script.Words.{before, onward}
+use Rattle.irig_script.specs.declared.script.cutting.Stop.TheVariants.{Sign, Comma}
+use Rattle.irig_script.specs.declared.script.address.Base.{Base}
+use Rattle.irig_script.specs.declared.script.address.Base.TheVariants.{Number, Current, Last, Mark}
+use Rattle.irig_script.specs.declared.script.address.Address.{Address}
+use Rattle.irig_script.specs.declared.script.range.Range.{Range}
+use Rattle.irig_script.specs.declared.script.range.Range.TheVariants.{One, Two}
+use Rattle.irig_script.specs.declared.script.time.Time.{Time}
+use Rattle.irig_script.specs.declared.script.time.Time.TheVariants as time
+
+-- an apostrophe and the letter of a mark
+abbrev pub IsMark : List ℕ → ℕ → Type 0
+IsMark text letter = (text ≡ 39 ∷ letter ∷ []) × (is_letter letter ≡ true)
+
+-- nothing, or a dot
+abbrev pub is_here : List ℕ → Bool
+is_here [] = true
+is_here (b ∷ []) = b == 46
+is_here _ = false
+
+-- what an address counts from; where nothing stands it counts from the cursor
+abbrev pub IsBase : List ℕ → Base → Type 0
+IsBase text (Number n) = IsNumber text n
+IsBase text Current = is_here text ≡ true
+IsBase text Last = text ≡ 36 ∷ []
+IsBase text (Mark letter) = IsMark text letter
+
+-- a sign and a number, which is 1 where it is missing; or nothing
+abbrev pub IsOffset : List ℕ → ℤ → Type 0
+IsOffset [] d = d ≡ pos 0
+IsOffset (sign ∷ []) d = IsSigned sign d × (size d ≡ 1)
+IsOffset (sign ∷ digits) d = IsSigned sign d × IsNumber digits (size d)
+
+-- an address: a base, an offset, or both
+pub record IsAddress (text : List ℕ) (a : Address) : Type 0 where
+  pub some : text ≢ []
+  pub base : IsBase (before Sign text) a.base
+  pub offset : IsOffset (onward Sign text) a.offset
+
+abbrev pub at : Base → Address
+at base = record { base = base; offset = pos 0 }
+
+-- an address; where nothing stands it is that of the cursor
+abbrev pub IsPlace : List ℕ → Address → Type 0
+IsPlace [] a = a ≡ at Current
+IsPlace text a = IsAddress text a
+
+-- two addresses round a comma; a comma alone is 1,$
+abbrev pub IsPair : List ℕ → List ℕ → Address → Address → Type 0
+IsPair first [] a b = ⊥
+IsPair [] (comma ∷ []) a b = (a ≡ at (Number 1)) × (b ≡ at Last)
+IsPair first (comma ∷ second) a b = IsAddress first a × IsAddress second b
+
+-- a range: nothing, an address, or two round a comma
+abbrev pub IsRange : List ℕ → Range → Type 0
+IsRange text (One a) = (onward Comma text ≡ []) × IsPlace text a
+IsRange text (Two a b) = IsPair (before Comma text) (onward Comma text) a b
+
+-- a time in microseconds, or that of a mark
+abbrev pub IsTime : List ℕ → Time → Type 0
+IsTime text (time.At n) = IsNumber text n
+IsTime text (time.Mark letter) = IsMark text letter

@@ -1,0 +1,2 @@
+-- Where texts are put.
+pub mod ShelfView

@@ -1,0 +1,21 @@
+//! Scripts of edits: what their lines ask for, what is done for them and what is printed.
+#![tactic(auto)]
+
+mod obey;
+mod print;
+mod script;
+mod shelf;
+#[cfg(test)]
+mod tests;
+
+pub use obey::editing::{EditFault, edit};
+pub use obey::engine::run;
+pub use obey::status::{RunFault, Status};
+pub use script::address::{Address, Base};
+pub use script::command::{BadLine, Command};
+pub use script::letter::Letter;
+pub use script::parsing::parse_line;
+pub use script::range::Range;
+pub use script::time::Time;
+pub use shelf::memory_shelf::MemoryShelf;
+pub use shelf::shelf::{Shelf, ShelfFault};

@@ -1,0 +1,8 @@
+//! Commands as calls of a session, and the run of a script.
+
+pub mod calls;
+pub mod editing;
+pub mod engine;
+pub mod obeying;
+pub mod places;
+pub mod status;

@@ -1,0 +1,164 @@
+//! Commands as calls of the session: addresses and times are taken as it stands before them.
+
+ghost use Rattle.std.specs.Prelude.{◌≡◌, ◌-◌, Some, None};
+ghost use Rattle.irig_codes.specs.Format.{is_permitted};
+ghost use Rattle.irig_edit.specs.Calls.{Call};
+ghost use Rattle.irig_script.specs.Obey.Obeying.{Calls, Formats, Lists, Shows, format, reply_to};
+ghost use Rattle.irig_script.specs.Obey.Places.{place_of, first_of, last_of, join_last_of, time_of};
+
+use crate::obey::places::{ends, join_ends, place, time};
+use crate::print::reply::Reply;
+use crate::script::address::Address;
+use crate::script::letter::Letter;
+use crate::script::range::Range;
+use crate::script::time::Time;
+use irig_codes::{Element, Format, Kind};
+use irig_edit::{Refusal, Session};
+use irig_moment::Moment;
+
+/// The reply to an edit.
+fn edited(outcome: Result<(), Refusal>) -> Reply
+    ensures { result ≡ reply_to outcome }
+{
+    match outcome {
+        Ok(()) => Reply::Silent,
+        Err(why) => Reply::Refused(why),
+    }
+}
+
+/// Puts the cursor at a pulse, and lists it.
+pub fn show(session: &mut Session, address: Address) -> Reply
+    ensures { Shows (place_of address session.old) session.old result session.new }
+{
+    let place = place(session, &address);
+    match session.go(place) {
+        Ok(()) => Reply::Listed(place.saturating_sub(1), 1),
+        Err(why) => Reply::Refused(why),
+    }
+}
+
+/// Lists pulses.
+pub fn list(session: &Session, range: Range) -> Reply
+    ensures { Lists (first_of range session.now) (last_of range session.now) session.now result }
+{
+    let (i, j) = ends(session, &range);
+    if i == 0 || i > j || j > session.len() {
+        Reply::Refused(Refusal::NoPulse)
+    } else {
+        Reply::Listed(i - 1, j - i + 1)
+    }
+}
+
+/// Takes pulses out.
+pub fn delete(session: &mut Session, range: Range) -> Reply
+    ensures { Calls (Call.Delete (first_of range session.old) (last_of range session.old))
+        session.old result session.new }
+{
+    let (i, j) = ends(session, &range);
+    edited(session.delete(i, j))
+}
+
+/// Moves pulses.
+pub fn shift(session: &mut Session, range: Range, by: i64) -> Reply
+    ensures { Calls (Call.Shift (first_of range session.old) (last_of range session.old) by)
+        session.old result session.new }
+{
+    let (i, j) = ends(session, &range);
+    edited(session.shift(i, j, by))
+}
+
+/// Makes one pulse of several.
+pub fn join(session: &mut Session, range: Range) -> Reply
+    ensures { Calls (Call.Join (first_of range session.old) (join_last_of range session.old))
+        session.old result session.new }
+{
+    let (i, j) = join_ends(session, &range);
+    edited(session.join(i, j))
+}
+
+/// Makes the level low inside of a pulse.
+pub fn split(session: &mut Session, address: Address, from: Time, to: Time) -> Reply
+    ensures { Calls (Call.Split (place_of address session.old) (time_of from session.old)
+        (time_of to session.old)) session.old result session.new }
+{
+    let i = place(session, &address);
+    let (a, b) = (time(session, &from), time(session, &to));
+    edited(session.split(i, a, b))
+}
+
+/// Gives a pulse the width of an element.
+pub fn force(session: &mut Session, address: Address, element: Element) -> Reply
+    ensures { Calls (Call.Force (place_of address session.old) element)
+        session.old result session.new }
+{
+    let i = place(session, &address);
+    edited(session.force(i, element))
+}
+
+/// Puts a pulse in.
+pub fn insert(session: &mut Session, from: Time, to: Time) -> Reply
+    ensures { Calls (Call.Insert (time_of from session.old) (time_of to session.old))
+        session.old result session.new }
+{
+    let (a, b) = (time(session, &from), time(session, &to));
+    edited(session.insert(a, b))
+}
+
+/// Turns the level between two times.
+pub fn invert(session: &mut Session, from: Time, to: Time) -> Reply
+    ensures { Calls (Call.Invert (time_of from session.old) (time_of to session.old))
+        session.old result session.new }
+{
+    let (a, b) = (time(session, &from), time(session, &to));
+    edited(session.invert(a, b))
+}
+
+/// Writes frames anew.
+pub fn regen(session: &mut Session, start: Time, frames: u64, from: Moment, control: u64) -> Reply
+    ensures { Calls (Call.Regen (time_of start session.old) frames from control)
+        session.old result session.new }
+{
+    let start = time(session, &start);
+    edited(session.regen(start, frames, from, control))
+}
+
+/// Reads frames in another format.
+pub fn set_format(session: &mut Session, kind: Kind, expression: u8) -> Reply
+    ensures { Formats (is_permitted kind expression) (format kind expression)
+        session.old result session.new }
+{
+    match Format::new(kind, expression) {
+        Ok(format) => edited(session.format(format)),
+        Err(_) => Reply::Refused(Refusal::BadExpression),
+    }
+}
+
+/// Sets a mark.
+pub fn mark(session: &mut Session, letter: Letter, at: Time) -> Reply
+    ensures { Calls (Call.SetMark (letter - 97) (Some (time_of at session.old)))
+        session.old result session.new }
+{
+    let time = time(session, &at);
+    edited(session.mark(letter.byte(), Some(time)))
+}
+
+/// Clears a mark.
+pub fn unmark(session: &mut Session, letter: Letter) -> Reply
+    ensures { Calls (Call.SetMark (letter - 97) None) session.old result session.new }
+{
+    edited(session.mark(letter.byte(), None))
+}
+
+/// Takes the newest step back.
+pub fn undo(session: &mut Session) -> Reply
+    ensures { Calls Call.Undo session.old result session.new }
+{
+    edited(session.undo())
+}
+
+/// Does the step again that was taken back last.
+pub fn redo(session: &mut Session) -> Reply
+    ensures { Calls Call.Redo session.old result session.new }
+{
+    edited(session.redo())
+}

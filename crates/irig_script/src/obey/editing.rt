@@ -1,0 +1,70 @@
+//! A dump edited by a script.
+
+ghost use Rattle.std.specs.Prelude.{◌≡◌, ◌≤◌, ◌^◌, Err, Ok, IfErr, IfOk, IfSome, length};
+ghost use Rattle.irig_vcd.specs.Dump.{dump};
+ghost use Rattle.irig_vcd.specs.Choices.{name_of};
+ghost use Rattle.irig_vcd.specs.Plays.{Fails};
+ghost use Rattle.irig_script.specs.Obey.Desk.{desk};
+ghost use Rattle.irig_script.specs.Obey.Editing.{Edited};
+ghost use Rattle.irig_vcd.specs.declared.fault.VcdFault.{VcdFault};
+
+use crate::obey::engine;
+use crate::obey::status::{RunFault, Status};
+use crate::shelf::shelf::Shelf;
+use irig_codes::Format;
+use irig_edit::Session;
+use irig_vcd::{Recording, VcdFault};
+use std::alloc::Global;
+use std::io::{Read, Write};
+
+/// Why a dump was not edited to the end of a script.
+#[derive(Clone, Copy, Debug, PartialEq, Eq)]
+pub enum EditFault {
+    /// The dump is no recording: no line of the script was read.
+    Dump(VcdFault),
+    /// The run of the script was broken off.
+    Run(RunFault),
+}
+
+/// Reads a dump and obeys a script on its recording, from the bytes that come in to those that go
+/// out. The wire is chosen by its name, where one is given, and frames are read in the format. The
+/// bytes of the dump are dropped before the script is read.
+pub fn edit<R: Read, W: Write, S: Shelf>(
+    alloc: Global,
+    source: Vec<u8>,
+    wire: Option<&[u8]>,
+    format: Format,
+    script: &mut R,
+    out: &mut W,
+    shelf: &mut S,
+) -> Result<Status, EditFault>
+    requires { length source.items ≤ 2 ^ 28 }
+    ensures ok { IfOk result (λ status. IfSome (R.remaining script.old) (Edited
+        (name_of wire.entry) format source.items
+        (desk (W.contents out.old) (S.texts shelf.old) (S.failures shelf.old))
+        (desk (W.contents out.new) (S.texts shelf.new) (S.failures shelf.new)) status)) }
+    ensures fault { (e : VcdFault) → result ≡ Err (EditFault.Dump e)
+        → Fails e (dump (name_of wire.entry) source.items) }
+{
+    let recording = match recorded(alloc, source, wire) {
+        Ok(recording) => recording,
+        Err(fault) => return Err(EditFault::Dump(fault)),
+    };
+    let mut session = match Session::open(alloc, recording, format) {
+        Ok(session) => session,
+        Err(_) => return Err(EditFault::Dump(VcdFault::OutOfMemory)),
+    };
+    match engine::run(&mut session, script, out, shelf) {
+        Ok(status) => Ok(status),
+        Err(fault) => Err(EditFault::Run(fault)),
+    }
+}
+
+/// The recording that a dump tells. The bytes of the dump are dropped.
+fn recorded(alloc: Global, source: Vec<u8>, wire: Option<&[u8]>) -> Result<Recording, VcdFault>
+    requires { length source.items ≤ 2 ^ 28 }
+    ensures read { IfOk result (λ r. dump (name_of wire.entry) source.items ≡ Ok r) }
+    ensures fault { IfErr result (λ e. Fails e (dump (name_of wire.entry) source.items)) }
+{
+    irig_vcd::read(alloc, source.as_slice(), wire)
+}

@@ -1,0 +1,170 @@
+//! The run of a script.
+
+ghost use Rattle.std.specs.Prelude.{◌≡◌, ◌≢◌, ◌++◌, ◌∷◌, [], ◌^◌, ℕ, List, IfOk, IfSome, OnOk, OnErr, IsErrOf};
+ghost use Rattle.std.specs.Io.KnownBytes.{Appends};
+ghost use Rattle.irig_script.specs.Script.Lines.{is_quit};
+ghost use Rattle.irig_script.specs.Print.Printed.{answer_with, reply_text};
+ghost use Rattle.irig_script.specs.Obey.Desk.{desk, status_after};
+ghost use Rattle.irig_script.specs.Obey.Run.{Ran, Broke, Stopped};
+ghost use Rattle.irig_script.specs.Obey.Going.{Answers, BrokeIn, Holds, Obeyed, PutsFor};
+ghost use Rattle.irig_script.specs.Print.Front.{AppendsFront};
+
+use crate::obey::obeying::obey_line;
+use crate::obey::status::{RunFault, Status};
+use crate::print::output::PrintFault;
+use crate::print::reply::{Reply, print};
+use crate::script::line::Line;
+use crate::shelf::shelf::Shelf;
+use irig_edit::Session;
+use std::io::{Read, Write};
+
+/// The most reads of a script, each for at most 4,096 bytes.
+const READS_LIMIT: u64 = 4_294_967_296;
+
+/// Obeys a script to its end, or to its line `quit`. Each line is answered before the next is
+/// read.
+pub fn run<R: Read, W: Write, S: Shelf>(
+    session: &mut Session,
+    script: &mut R,
+    out: &mut W,
+    shelf: &mut S,
+) -> Result<Status, RunFault>
+    ensures ok { IfOk result (λ status. IfSome (R.remaining script.old) (Ran
+        (desk (W.contents out.old) (S.texts shelf.old) (S.failures shelf.old))
+        (desk (W.contents out.new) (S.texts shelf.new) (S.failures shelf.new))
+        Status.AllAccepted status session.old session.new)) }
+    ensures read_failed { IsErrOf result RunFault.ReadFailed → Stopped
+        (desk (W.contents out.old) (S.texts shelf.old) (S.failures shelf.old))
+        (desk (W.contents out.new) (S.texts shelf.new) (S.failures shelf.new))
+        (R.remaining script.old) (R.remaining script.new) session.old session.new 0 }
+    ensures many_reads { IsErrOf result RunFault.TooManyReads → Stopped
+        (desk (W.contents out.old) (S.texts shelf.old) (S.failures shelf.old))
+        (desk (W.contents out.new) (S.texts shelf.new) (S.failures shelf.new))
+        (R.remaining script.old) (R.remaining script.new) session.old session.new (2 ^ 32) }
+    ensures print_failed { IsErrOf result RunFault.PrintFailed
+        → IfSome (R.remaining script.old) (Broke
+        (desk (W.contents out.old) (S.texts shelf.old) (S.failures shelf.old))
+        (desk (W.contents out.new) (S.texts shelf.new) (S.failures shelf.new))
+        session.old session.new) }
+{
+    let mut line = Line::new();
+    let mut buffer = [0; 4096];
+    let mut status = Status::AllAccepted;
+    for reads in 0..READS_LIMIT {
+        match script.read(&mut buffer) {
+            Err(_) => return Err(RunFault::ReadFailed),
+            Ok(0) => {
+                finish(&line, session, out, shelf, &mut status)?;
+                return Ok(status);
+            }
+            Ok(count) => {
+                let part = &buffer[..count];
+                if obey_part(&mut line, part, session, out, shelf, &mut status)? {
+                    return Ok(status);
+                }
+            }
+        }
+    }
+    Err(RunFault::TooManyReads)
+}
+
+/// Obeys the bytes that come after the front of a line, and tells whether the script ends in them.
+fn obey_part<W: Write, S: Shelf>(
+    line: &mut Line,
+    bytes: &[u8],
+    session: &mut Session,
+    out: &mut W,
+    shelf: &mut S,
+    status: &mut Status,
+) -> Result<bool, PrintFault>
+    ensures ok { IfOk result (λ ended. (text : List ℕ) → Holds text line.old → Obeyed ended
+        (desk (W.contents out.old) (S.texts shelf.old) (S.failures shelf.old))
+        (desk (W.contents out.new) (S.texts shelf.new) (S.failures shelf.new))
+        status.old status.new session.old session.new (text ++ bytes.now) line.new) }
+    ensures err { OnErr result ((text : List ℕ) → Holds text line.old → BrokeIn
+        (desk (W.contents out.old) (S.texts shelf.old) (S.failures shelf.old))
+        (desk (W.contents out.new) (S.texts shelf.new) (S.failures shelf.new))
+        session.old session.new (text ++ bytes.now)) }
+{
+    for byte in bytes {
+        if obey_byte(line, *byte, session, out, shelf, status)? {
+            return Ok(true);
+        }
+    }
+    Ok(false)
+}
+
+/// Obeys a byte that comes after the front of a line, and tells whether the script ends with it.
+fn obey_byte<W: Write, S: Shelf>(
+    line: &mut Line,
+    byte: u8,
+    session: &mut Session,
+    out: &mut W,
+    shelf: &mut S,
+    status: &mut Status,
+) -> Result<bool, PrintFault>
+    ensures ok { IfOk result (λ ended. (text : List ℕ) → Holds text line.old → Obeyed ended
+        (desk (W.contents out.old) (S.texts shelf.old) (S.failures shelf.old))
+        (desk (W.contents out.new) (S.texts shelf.new) (S.failures shelf.new))
+        status.old status.new session.old session.new (text ++ byte ∷ []) line.new) }
+    ensures err { OnErr result ((text : List ℕ) → Holds text line.old → BrokeIn
+        (desk (W.contents out.old) (S.texts shelf.old) (S.failures shelf.old))
+        (desk (W.contents out.new) (S.texts shelf.new) (S.failures shelf.new))
+        session.old session.new (text ++ byte ∷ [])) }
+{
+    if byte != b'\n' {
+        line.push(byte);
+        return Ok(false);
+    }
+    let Some(reply) = obey_line(line, session, shelf) else {
+        return Ok(true);
+    };
+    answer(reply, session, out, status)?;
+    line.clear();
+    Ok(false)
+}
+
+/// Obeys what is left of a script at its end, a line without a newline.
+fn finish<W: Write, S: Shelf>(
+    line: &Line,
+    session: &mut Session,
+    out: &mut W,
+    shelf: &mut S,
+    status: &mut Status,
+) -> Result<(), PrintFault>
+    ensures ok { OnOk result ((text : List ℕ) → Holds text line.now → Ran
+        (desk (W.contents out.old) (S.texts shelf.old) (S.failures shelf.old))
+        (desk (W.contents out.new) (S.texts shelf.new) (S.failures shelf.new))
+        status.old status.new session.old session.new text) }
+    ensures err { OnErr result ((text : List ℕ) → Holds text line.now → Broke
+        (desk (W.contents out.old) (S.texts shelf.old) (S.failures shelf.old))
+        (desk (W.contents out.new) (S.texts shelf.new) (S.failures shelf.new))
+        session.old session.new text) }
+{
+    if line.is_empty() {
+        return Ok(());
+    }
+    let Some(reply) = obey_line(line, session, shelf) else {
+        return Ok(());
+    };
+    answer(reply, session, out, status)
+}
+
+/// Prints a reply, and notes a refusal in the status.
+fn answer<W: Write>(
+    reply: Reply,
+    session: &Session,
+    out: &mut W,
+    status: &mut Status,
+) -> Result<(), PrintFault>
+    ensures ok { OnOk result (Appends
+        (W.contents out.old) (W.contents out.new) (reply_text session.now reply)) }
+    ensures err { OnErr result (AppendsFront
+        (W.contents out.old) (W.contents out.new) (reply_text session.now reply)) }
+    ensures status { status.new ≡ status_after status.old (answer_with session.now reply ∷ []) }
+{
+    if reply.is_refusal() {
+        *status = Status::SomeRefused;
+    }
+    print(reply, session, out)
+}

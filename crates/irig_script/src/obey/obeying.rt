@@ -1,0 +1,82 @@
+//! What is replied to a line of a script, and done for it.
+
+ghost use Rattle.std.specs.Prelude.{◌≡◌, ◌≢◌};
+ghost use Rattle.irig_script.specs.Obey.Obeying.{Obeys, Writes};
+ghost use Rattle.irig_script.specs.Obey.Desk.{Puts};
+ghost use Rattle.irig_script.specs.Obey.Going.{Answers, PutsFor};
+ghost use Rattle.irig_script.specs.declared.script.command.Command.{Command};
+
+use crate::obey::calls::{
+    delete, force, insert, invert, join, list, mark, redo, regen, set_format, shift, show, split,
+    undo, unmark,
+};
+use crate::print::reply::Reply;
+use crate::script::command::{BadLine, Command};
+use crate::script::line::Line;
+use crate::script::parsing::parse_line;
+use crate::shelf::shelf::Shelf;
+use irig_edit::{Refusal, Session};
+
+/// Obeys a line; `None` where it ends the script.
+pub fn obey_line<S: Shelf>(line: &Line, session: &mut Session, shelf: &mut S) -> Option<Reply>
+    ensures answer { Answers result session.old session.new line.now }
+    ensures put { PutsFor result (S.texts shelf.old) (S.texts shelf.new)
+        (S.failures shelf.old) (S.failures shelf.new) session.old }
+{
+    let Some(text) = line.text() else {
+        return Some(Reply::LineTooLong);
+    };
+    match parse_line(text) {
+        Ok(Command::Quit) => None,
+        Ok(command) => Some(obey(command, session, shelf)),
+        Err(BadLine) => Some(Reply::BadLine),
+    }
+}
+
+/// Obeys a command that does not end the script.
+fn obey<S: Shelf>(command: Command, session: &mut Session, shelf: &mut S) -> Reply
+    requires { command ≢ Command.Quit }
+    ensures answer { Obeys command session.old result session.new }
+    ensures put { Puts (S.texts shelf.old) (S.texts shelf.new)
+        (S.failures shelf.old) (S.failures shelf.new) session.old result }
+{
+    match command {
+        Command::Nothing | Command::Quit => Reply::Silent,
+        Command::Show(address) => show(session, address),
+        Command::List(range) => list(session, range),
+        Command::Delete(range) => delete(session, range),
+        Command::Shift(range, by) => shift(session, range, by),
+        Command::Join(range) => join(session, range),
+        Command::Split(address, from, to) => split(session, address, from, to),
+        Command::Force(address, element) => force(session, address, element),
+        Command::Insert(from, to) => insert(session, from, to),
+        Command::Invert(from, to) => invert(session, from, to),
+        Command::Regen(start, frames, from, control) => {
+            regen(session, start, frames, from, control)
+        }
+        Command::Format(kind, expression) => set_format(session, kind, expression),
+        Command::Mark(letter, at) => mark(session, letter, at),
+        Command::Unmark(letter) => unmark(session, letter),
+        Command::Undo => undo(session),
+        Command::Redo => redo(session),
+        Command::Frames => Reply::Frames,
+        Command::Marks => Reply::Marks,
+        Command::Info => Reply::Info,
+        Command::Write => write(session, shelf),
+    }
+}
+
+/// Puts the text of the track.
+fn write<S: Shelf>(session: &Session, shelf: &mut S) -> Reply
+    ensures answer { Writes session.now result }
+    ensures put { Puts (S.texts shelf.old) (S.texts shelf.new)
+        (S.failures shelf.old) (S.failures shelf.new) session.now result }
+{
+    let Ok(text) = session.text() else {
+        return Reply::Refused(Refusal::OutOfMemory);
+    };
+    match shelf.put(text.as_slice()) {
+        Ok(()) => Reply::Written(text.len() as u64),
+        Err(_) => Reply::WriteFailed,
+    }
+}

@@ -1,0 +1,101 @@
+//! What addresses, ranges and times stand for in a session.
+
+ghost use Rattle.std.specs.Prelude.{◌≡◌, ◌+◌, ◌-◌, ◌^◌, option_map, IfSome, IfNone};
+ghost use Rattle.irig_track.specs.Shifts.{ahead, back};
+ghost use Rattle.irig_script.specs.Obey.Places.{mark_of, base_of, pulse_at, place_of, first_of, last_of, join_last_of, time_of};
+
+use crate::script::address::{Address, Base};
+use crate::script::letter::Letter;
+use crate::script::range::Range;
+use crate::script::time::Time;
+use irig_edit::Session;
+
+/// The time of a mark in microseconds, where it is set.
+fn mark(session: &Session, letter: &Letter) -> Option<u64>
+    ensures { result ≡ mark_of letter.now session.now }
+{
+    session.mark_time(letter.byte())
+}
+
+/// The number that an address counts from, where there is one.
+fn base(session: &Session, base: &Base) -> Option<u64>
+    ensures { result ≡ base_of base.now session.now }
+{
+    match base {
+        Base::Number(number) => Some(*number),
+        Base::Current => Some(session.cursor() as u64),
+        Base::Last => Some(session.len() as u64),
+        Base::Mark(letter) => match mark(session, letter) {
+            Some(time) => Some(session.find(time) as u64),
+            None => None,
+        },
+    }
+}
+
+/// The number that is `by` and `offset` behind another; 0 where it would be less.
+fn counted(number: u64, by: u64, offset: i64) -> u128
+    ensures { result ≡ number + by + ahead offset - back offset }
+{
+    let sum = u128::from(number) + u128::from(by);
+    let size = u128::from(offset.unsigned_abs());
+    if offset < 0 {
+        sum.saturating_sub(size)
+    } else {
+        sum + size
+    }
+}
+
+/// The pulse that is `by` pulses behind an address, from 1; 0 where there is none.
+fn pulse_at(session: &Session, by: u64, address: &Address) -> usize
+    ensures { result ≡ pulse_at by address.now session.now }
+{
+    let Some(number) = base(session, &address.base) else {
+        return 0;
+    };
+    let place = counted(number, by, address.offset);
+    if place <= session.len() as u128 {
+        place as usize
+    } else {
+        0
+    }
+}
+
+/// The pulse of an address, from 1; 0 where there is none.
+pub fn place(session: &Session, address: &Address) -> usize
+    ensures { result ≡ place_of address.now session.now }
+{
+    pulse_at(session, 0, address)
+}
+
+/// The first and the last pulse of a range, from 1; 0 where there is none.
+pub fn ends(session: &Session, range: &Range) -> (usize, usize)
+    ensures { result ≡ (first_of range.now session.now, last_of range.now session.now) }
+{
+    match range {
+        Range::One(address) => {
+            let place = place(session, address);
+            (place, place)
+        }
+        Range::Two(first, last) => (place(session, first), place(session, last)),
+    }
+}
+
+/// The first and the last pulse that are joined, from 1; 0 where there is none.
+pub fn join_ends(session: &Session, range: &Range) -> (usize, usize)
+    ensures { result ≡ (first_of range.now session.now, join_last_of range.now session.now) }
+{
+    match range {
+        Range::One(address) => (place(session, address), pulse_at(session, 1, address)),
+        Range::Two(first, last) => (place(session, first), place(session, last)),
+    }
+}
+
+/// A time in microseconds; that of a mark which is not set is beyond every length.
+pub fn time(session: &Session, time: &Time) -> u64
+    ensures { result ≡ time_of time.now session.now }
+{
+    match time {
+        Time::At(micros) => *micros,
+        Time::Mark(letter) => mark(session, letter).unwrap_or(u64::MAX),
+    }
+}

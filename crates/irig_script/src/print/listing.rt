@@ -1,0 +1,48 @@
+//! The listing of the frames.
+
+ghost use Rattle.std.specs.Prelude.{◌≡◌, ◌≤◌, ◌-◌, OnOk, OnErr, Some, length, slice_get};
+ghost use Rattle.std.specs.Io.KnownBytes.{Appends};
+ghost use Rattle.irig_index.specs.declared.record.Record.{Record};
+ghost use Rattle.irig_edit.specs.State.{frames_of};
+ghost use Rattle.irig_script.specs.Print.Front.{AppendsFront};
+ghost use Rattle.irig_script.specs.Print.Printed.{frames_text, record_line};
+
+use crate::print::block::Block;
+use crate::print::frame_line::put_frame;
+use crate::print::output::PrintFault;
+use crate::print::row::Row;
+use irig_edit::Session;
+use std::io::Write;
+
+/// Prints a line for each frame of the track, in blocks.
+pub fn print_frames<W: Write>(session: &Session, out: &mut W) -> Result<(), PrintFault>
+    ensures ok { OnOk result (Appends (W.contents out.old) (W.contents out.new)
+        (frames_text session.now.present.state)) }
+    ensures err { OnErr result (AppendsFront (W.contents out.old) (W.contents out.new)
+        (frames_text session.now.present.state)) }
+{
+    let mut block = Block::new();
+    let mut row = Row::new();
+    for place in 0..session.frames() {
+        put_record(&mut row, session, place + 1);
+        block.put(out, row.text())?;
+    }
+    block.flush(out)
+}
+
+/// Puts the line of a frame, from 1, into the row.
+fn put_record(row: &mut Row, session: &Session, number: usize)
+    requires { (1 ≤ number) × (number ≤ length (frames_of session.now.present.state)) }
+    ensures { (r : Record) → slice_get (frames_of session.now.present.state) (number - 1) ≡ Some r
+        → row.new ≡ record_line session.now.present.state number r }
+{
+    let record = session.frame(number);
+    let rise = session.pulse(record.marker).rise;
+    put_frame(
+        row,
+        number as u64,
+        record.marker as u64,
+        rise,
+        &record.verdict,
+    );
+}

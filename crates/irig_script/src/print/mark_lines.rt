@@ -1,0 +1,42 @@
+//! The listing of the marks.
+
+ghost use Rattle.std.specs.Prelude.{◌≡◌, ◌≤◌, ◌++◌, OnOk, OnErr, length};
+ghost use Rattle.std.specs.Io.KnownBytes.{Appends};
+ghost use Rattle.irig_script.specs.Print.Front.{AppendsFront};
+ghost use Rattle.irig_script.specs.Print.Listings.{marks_text, mark_line};
+
+use crate::print::block::Block;
+use crate::print::output::PrintFault;
+use crate::print::row::Row;
+use irig_edit::Session;
+use std::io::Write;
+
+/// Prints a line for each mark that is set, a to z.
+pub fn print_marks<W: Write>(session: &Session, out: &mut W) -> Result<(), PrintFault>
+    ensures ok { OnOk result (Appends (W.contents out.old) (W.contents out.new)
+        (marks_text session.now.present.state)) }
+    ensures err { OnErr result (AppendsFront (W.contents out.old) (W.contents out.new)
+        (marks_text session.now.present.state)) }
+{
+    let mut block = Block::new();
+    let mut row = Row::new();
+    for index in 0..26u8 {
+        let letter = b'a' + index;
+        put_mark(&mut row, letter, session.mark_time(letter));
+        block.put(out, row.text())?;
+    }
+    block.flush(out)
+}
+
+/// Puts the line of a mark into the row; nothing where it is not set.
+fn put_mark(row: &mut Row, letter: u8, time: Option<u64>)
+    ensures { row.new ≡ mark_line letter time }
+{
+    row.clear();
+    if let Some(time) = time {
+        row.put(&[letter]);
+        row.put(b" ");
+        row.put_number(time);
+        row.put(b"\n");
+    }
+}

@@ -1,0 +1,27 @@
+//! What goes out, written whole.
+
+ghost use Rattle.std.specs.Prelude.{◌≡◌, OnOk, OnErr};
+ghost use Rattle.std.specs.Io.KnownBytes.{Appends};
+ghost use Rattle.irig_script.specs.Print.Front.{AppendsFront};
+
+use std::io::Write;
+
+/// The output failed.
+#[derive(Clone, Copy, Debug, PartialEq, Eq)]
+pub struct PrintFault;
+
+/// Writes all of the bytes. A write that fails or takes none ends it.
+pub fn put_all<W: Write>(out: &mut W, bytes: &[u8]) -> Result<(), PrintFault>
+    ensures ok { OnOk result (Appends (W.contents out.old) (W.contents out.new) bytes.now) }
+    ensures err { OnErr result (AppendsFront (W.contents out.old) (W.contents out.new) bytes.now) }
+{
+    let mut done = 0;
+    while done < bytes.len() {
+        match out.write(&bytes[done..]) {
+            Ok(0) => return Err(PrintFault),
+            Ok(count) => done += count,
+            Err(_) => return Err(PrintFault),
+        }
+    }
+    Ok(())
+}

@@ -1,0 +1,66 @@
+//! The listing of pulses.
+
+ghost use Rattle.std.specs.Prelude.{◌≡◌, ◌≤◌, ◌<◌, ◌+◌, ◌++◌, OnOk, OnErr, Some, length, slice_get};
+ghost use Rattle.std.specs.Io.KnownBytes.{Appends};
+ghost use Rattle.irig_track.specs.declared.pulse.Pulse.{Pulse};
+ghost use Rattle.irig_script.specs.Print.Front.{AppendsFront};
+ghost use Rattle.irig_script.specs.Print.Listings.{list_text, pulse_line, class_word};
+
+use crate::print::block::Block;
+use crate::print::output::PrintFault;
+use crate::print::row::Row;
+use irig_codes::{Element, Format, class};
+use irig_edit::{Pulse, Session};
+use std::io::Write;
+
+/// Prints a line for each of so many pulses behind the first `before`, in blocks.
+pub fn print_pulses<W: Write>(
+    session: &Session,
+    before: usize,
+    count: usize,
+    out: &mut W,
+) -> Result<(), PrintFault>
+    ensures ok { OnOk result (Appends (W.contents out.old) (W.contents out.new)
+        (list_text before count session.now.present.state)) }
+    ensures err { OnErr result (AppendsFront (W.contents out.old) (W.contents out.new)
+        (list_text before count session.now.present.state)) }
+{
+    let mut block = Block::new();
+    let mut row = Row::new();
+    let format = session.current_format();
+    let there = count.min(session.len().saturating_sub(before));
+    for index in 0..there {
+        let number = before + index + 1;
+        put_pulse(&mut row, format, number as u64, session.pulse(number));
+        block.put(out, row.text())?;
+    }
+    block.flush(out)
+}
+
+/// Puts the line of a pulse into the row.
+fn put_pulse(row: &mut Row, format: Format, number: u64, pulse: Pulse)
+    ensures { row.new ≡ pulse_line format number pulse }
+{
+    row.clear();
+    row.put_number(number);
+    row.put(b" ");
+    row.put_number(pulse.rise);
+    row.put(b" ");
+    row.put_number(pulse.fall);
+    row.put(b" ");
+    row.put(class_word(class(format, pulse.fall.saturating_sub(pulse.rise))));
+    row.put(b"\n");
+}
+
+/// What a pulse stands for, in a word.
+fn class_word(class: Option<Element>) -> &'static [u8]
+    ensures word { result.now ≡ class_word class }
+    ensures short { length result.now ≤ 8 }
+{
+    match class {
+        None => b"bad",
+        Some(Element::Zero) => b"zero",
+        Some(Element::One) => b"one",
+        Some(Element::Position) => b"position",
+    }
+}

@@ -1,0 +1,105 @@
+//! What is answered to a line of a script.
+
+ghost use Rattle.std.specs.Prelude.{◌≡◌, ◌++◌, ◌∷◌, [], decimal, OnOk, OnErr};
+ghost use Rattle.std.specs.Io.KnownBytes.{Appends};
+ghost use Rattle.irig_script.specs.Print.Printed.{refusal_text, reply_text};
+ghost use Rattle.irig_script.specs.Obey.Desk.{is_refusal};
+ghost use Rattle.irig_script.specs.Print.Front.{AppendsFront};
+
+use crate::print::info_line::print_info;
+use crate::print::listing::print_frames;
+use crate::print::mark_lines::print_marks;
+use crate::print::output::{PrintFault, put_all};
+use crate::print::pulse_lines::print_pulses;
+use irig_edit::{Refusal, Session};
+use std::io::Write;
+
+/// What is answered to a line of a script.
+#[derive(Clone, Copy)]
+pub enum Reply {
+    /// The line was obeyed, and prints nothing.
+    Silent,
+    /// A text of this many bytes was put.
+    Written(u64),
+    /// So many pulses are listed, behind so many others.
+    Listed(usize, usize),
+    /// The frames of the track are listed.
+    Frames,
+    /// The marks are listed.
+    Marks,
+    /// Counts, format and cursor are told.
+    Info,
+    /// The session refuses the command.
+    Refused(Refusal),
+    /// S1: the line is none of the language.
+    BadLine,
+    /// S2: the line has more than 1,000 bytes.
+    LineTooLong,
+    /// S3: the text could not be put.
+    WriteFailed,
+}
+
+impl Reply {
+    /// Whether the line was refused.
+    pub fn is_refusal(&self) -> bool
+        ensures { result ≡ is_refusal self.now }
+    {
+        matches!(
+            self,
+            Reply::Refused(_) | Reply::BadLine | Reply::LineTooLong | Reply::WriteFailed
+        )
+    }
+}
+
+/// Prints what a reply does as the session stands: a line by one write, where the output takes
+/// it, and a listing in blocks.
+pub fn print<W: Write>(reply: Reply, session: &Session, out: &mut W) -> Result<(), PrintFault>
+    ensures ok { OnOk result (Appends
+        (W.contents out.old) (W.contents out.new) (reply_text session.now reply)) }
+    ensures err { OnErr result (AppendsFront
+        (W.contents out.old) (W.contents out.new) (reply_text session.now reply)) }
+{
+    match reply {
+        Reply::Silent => Ok(()),
+        Reply::Written(count) => put_number(out, count),
+        Reply::Listed(before, count) => print_pulses(session, before, count, out),
+        Reply::Frames => print_frames(session, out),
+        Reply::Marks => print_marks(session, out),
+        Reply::Info => print_info(session, out),
+        Reply::Refused(why) => put_all(out, refusal_line(why)),
+        Reply::BadLine => put_all(out, b"? S1 BadLine\n"),
+        Reply::LineTooLong => put_all(out, b"? S2 LineTooLong\n"),
+        Reply::WriteFailed => put_all(out, b"? S3 WriteFailed\n"),
+    }
+}
+
+/// The line that tells why a command is refused.
+fn refusal_line(why: Refusal) -> &'static [u8]
+    ensures { result.now ≡ refusal_text why }
+{
+    match why {
+        Refusal::OutOfRange => b"? E1 OutOfRange\n",
+        Refusal::NoPulse => b"? E2 NoPulse\n",
+        Refusal::Touching => b"? E3 Touching\n",
+        Refusal::NotInside => b"? E4 NotInside\n",
+        Refusal::TooMany => b"? E5 TooMany\n",
+        Refusal::BadExpression => b"? E6 BadExpression\n",
+        Refusal::BadTime => b"? E7 BadTime\n",
+        Refusal::BadControl => b"? E8 BadControl\n",
+        Refusal::NothingToUndo => b"? E9 NothingToUndo\n",
+        Refusal::NothingToRedo => b"? E10 NothingToRedo\n",
+        Refusal::OutOfMemory => b"? E11 OutOfMemory\n",
+    }
+}
+
+/// Prints a number and a newline.
+fn put_number<W: Write>(out: &mut W, number: u64) -> Result<(), PrintFault>
+    ensures ok { OnOk result (Appends
+        (W.contents out.old) (W.contents out.new) (decimal number ++ 10 ∷ [])) }
+    ensures err { OnErr result (AppendsFront
+        (W.contents out.old) (W.contents out.new) (decimal number ++ 10 ∷ [])) }
+{
+    let mut buffer = [b'\n'; 24];
+    let start = itoa::write_digits(number, &mut buffer, 23);
+    put_all(out, &buffer[start..])
+}

@@ -1,0 +1,23 @@
+//! Addresses of pulses as a script writes them.
+
+use crate::script::letter::Letter;
+
+/// What an address counts from.
+#[derive(Clone, Copy)]
+pub enum Base {
+    /// A number: pulses count from 1.
+    Number(u64),
+    /// `.`: the cursor.
+    Current,
+    /// `$`: the last pulse.
+    Last,
+    /// `'x`: how many pulses rise at or before a mark.
+    Mark(Letter),
+}
+
+/// An address of a pulse: so many pulses behind what it counts from, or before.
+#[derive(Clone, Copy)]
+pub struct Address {
+    pub base: Base,
+    pub offset: i64,
+}

@@ -1,0 +1,111 @@
+//! Addresses, ranges and times of a script, read.
+
+ghost use Rattle.std.specs.Prelude.{◌≡◌, ℕ, ℤ, pos, List, [], ◌∷◌, true, IfOk, OnErr};
+ghost use Rattle.irig_script.specs.Script.Letters.{is_letter};
+ghost use Rattle.irig_script.specs.Script.Addresses.{IsBase, IsOffset, IsAddress, IsPlace, IsRange, IsTime, at};
+ghost use Rattle.irig_script.specs.declared.script.address.Base.{Base};
+ghost use Rattle.irig_script.specs.declared.script.address.Address.{Address};
+ghost use Rattle.irig_script.specs.declared.script.range.Range.{Range};
+ghost use Rattle.irig_script.specs.declared.script.time.Time.{Time};
+
+use crate::script::address::{Address, Base};
+use crate::script::command::BadLine;
+use crate::script::cutting::{Stop, cut};
+use crate::script::letter::Letter;
+use crate::script::numbers::{number, signed};
+use crate::script::range::Range;
+use crate::script::time::Time;
+
+/// The letter of a mark.
+pub fn letter(byte: u8) -> Result<Letter, BadLine>
+    ensures ok { IfOk result (λ l. (l ≡ byte) × (is_letter byte ≡ true)) }
+    ensures err { OnErr result (is_letter byte ≡ true → ⊥) }
+{
+    match Letter::new(byte) {
+        Some(letter) => Ok(letter),
+        None => Err(BadLine),
+    }
+}
+
+/// A time: a number of microseconds, or a mark.
+pub fn time(word: &[u8]) -> Result<Time, BadLine>
+    ensures ok { IfOk result (IsTime word.now) }
+    ensures err { OnErr result ((t : Time) → IsTime word.now t → ⊥) }
+{
+    match word {
+        [b'\'', name] => Ok(Time::Mark(letter(*name)?)),
+        _ => Ok(Time::At(number(word)?)),
+    }
+}
+
+/// What an address counts from.
+fn base(text: &[u8]) -> Result<Base, BadLine>
+    ensures ok { IfOk result (IsBase text.now) }
+    ensures err { OnErr result ((b : Base) → IsBase text.now b → ⊥) }
+{
+    match text {
+        [] | [b'.'] => Ok(Base::Current),
+        [b'$'] => Ok(Base::Last),
+        [b'\'', name] => Ok(Base::Mark(letter(*name)?)),
+        _ => Ok(Base::Number(number(text)?)),
+    }
+}
+
+/// The offset of an address.
+fn offset(text: &[u8]) -> Result<i64, BadLine>
+    ensures ok { IfOk result (IsOffset text.now) }
+    ensures err { OnErr result ((d : ℤ) → IsOffset text.now d → ⊥) }
+{
+    match text {
+        [] => Ok(0),
+        [sign] => Ok(signed(*sign, 1)),
+        [sign, digits @ ..] => Ok(signed(*sign, number(digits)?)),
+    }
+}
+
+/// An address.
+pub fn address(text: &[u8]) -> Result<Address, BadLine>
+    ensures ok { IfOk result (IsAddress text.now) }
+    ensures err { OnErr result ((a : Address) → IsAddress text.now a → ⊥) }
+{
+    if text.is_empty() {
+        return Err(BadLine);
+    }
+    let (front, back) = cut(text, Stop::Sign);
+    Ok(Address {
+        base: base(front)?,
+        offset: offset(back)?,
+    })
+}
+
+/// The address of what it counts from.
+fn at(base: Base) -> Address
+    ensures { result ≡ at base }
+{
+    Address { base, offset: 0 }
+}
+
+/// An address, or that of the cursor where none stands.
+pub fn place(text: &[u8]) -> Result<Address, BadLine>
+    ensures ok { IfOk result (IsPlace text.now) }
+    ensures err { OnErr result ((a : Address) → IsPlace text.now a → ⊥) }
+{
+    if text.is_empty() {
+        Ok(at(Base::Current))
+    } else {
+        address(text)
+    }
+}
+
+/// A range.
+pub fn range(text: &[u8]) -> Result<Range, BadLine>
+    ensures ok { IfOk result (IsRange text.now) }
+    ensures err { OnErr result ((r : Range) → IsRange text.now r → ⊥) }
+{
+    let (first, rest) = cut(text, Stop::Comma);
+    match rest {
+        [] => Ok(Range::One(place(text)?)),
+        [_] if first.is_empty() => Ok(Range::Two(at(Base::Number(1)), at(Base::Last))),
+        [_, second @ ..] => Ok(Range::Two(address(first)?, address(second)?)),
+    }
+}

@@ -1,0 +1,103 @@
+//! The arguments of a line: times, moments, control functions and words that are known.
+
+ghost use Rattle.std.specs.Prelude.{◌≡◌, ℕ, [], ◌∷◌, Some, true, IfOk, OnErr};
+ghost use Rattle.irig_codes.specs.declared.format.Kind.{Kind};
+ghost use Rattle.irig_codes.specs.declared.width.Element.{Element};
+ghost use Rattle.irig_moment.specs.Moment.{MomentView};
+ghost use Rattle.irig_moment.specs.Written.{moment_of};
+ghost use Rattle.irig_script.specs.Script.Grammar.{AreControls, AreTimes, IsExpression, element_word, kind_word};
+ghost use Rattle.irig_script.specs.Script.Letters.{is_letter};
+ghost use Rattle.irig_script.specs.Script.Words.{words_of};
+ghost use Rattle.irig_script.specs.declared.script.time.Time.{Time};
+
+use crate::script::addresses::{letter, time};
+use crate::script::command::BadLine;
+use crate::script::letter::Letter;
+use crate::script::numbers::control;
+use crate::script::time::Time;
+use crate::script::words::{no_word, split_word, two_words};
+use irig_codes::{Element, Kind};
+use irig_moment::Moment;
+
+/// Two times.
+pub fn times(arguments: &[u8]) -> Result<(Time, Time), BadLine>
+    ensures ok { IfOk result (λ t. AreTimes (words_of arguments.now) t.0 t.1) }
+    ensures err { OnErr result ((s : Time) → (t : Time)
+        → AreTimes (words_of arguments.now) s t → ⊥) }
+{
+    let (a, b) = two_words(arguments)?;
+    Ok((time(a)?, time(b)?))
+}
+
+/// The moment that a word tells.
+pub fn moment(word: &[u8]) -> Result<Moment, BadLine>
+    ensures ok { IfOk result (λ m. moment_of word.now ≡ Some m) }
+    ensures err { OnErr result ((m : MomentView) → moment_of word.now ≡ Some m → ⊥) }
+{
+    match Moment::parse(word) {
+        Some(moment) => Ok(moment),
+        None => Err(BadLine),
+    }
+}
+
+/// The control functions at the end of a line; 0 where none stand.
+pub fn controls(text: &[u8]) -> Result<u64, BadLine>
+    ensures ok { IfOk result (AreControls (words_of text.now)) }
+    ensures err { OnErr result ((n : ℕ) → AreControls (words_of text.now) n → ⊥) }
+{
+    let (word, rest) = split_word(text);
+    if word.is_empty() {
+        return Ok(0);
+    }
+    no_word(rest)?;
+    control(word)
+}
+
+/// The element that a word names.
+pub fn element(word: &[u8]) -> Result<Element, BadLine>
+    ensures ok { IfOk result (λ e. word.now ≡ element_word e) }
+    ensures err { OnErr result ((e : Element) → word.now ≡ element_word e → ⊥) }
+{
+    match word {
+        b"zero" => Ok(Element::Zero),
+        b"one" => Ok(Element::One),
+        b"position" => Ok(Element::Position),
+        _ => Err(BadLine),
+    }
+}
+
+/// The kind of time code that a word names.
+pub fn kind(word: &[u8]) -> Result<Kind, BadLine>
+    ensures ok { IfOk result (λ k. word.now ≡ kind_word k) }
+    ensures err { OnErr result ((k : Kind) → word.now ≡ kind_word k → ⊥) }
+{
+    match word {
+        b"A" => Ok(Kind::A),
+        b"B" => Ok(Kind::B),
+        b"E" => Ok(Kind::E),
+        b"G" => Ok(Kind::G),
+        _ => Err(BadLine),
+    }
+}
+
+/// The number of an expression: one digit 0 to 7.
+pub fn expression(word: &[u8]) -> Result<u8, BadLine>
+    ensures ok { IfOk result (IsExpression word.now) }
+    ensures err { OnErr result ((n : ℕ) → IsExpression word.now n → ⊥) }
+{
+    match word {
+        [digit @ b'0'..=b'7'] => Ok(*digit - b'0'),
+        _ => Err(BadLine),
+    }
+}
+
+/// The letter of a mark, alone in a word.
+pub fn mark(word: &[u8]) -> Result<Letter, BadLine>
+    ensures ok { IfOk result (λ l. (word.now ≡ l ∷ []) × (is_letter l ≡ true)) }
+    ensures err { OnErr result ((l : ℕ) → word.now ≡ l ∷ [] → is_letter l ≡ true → ⊥) }
+{
+    match word {
+        [byte] => letter(*byte),
+        _ => Err(BadLine),
+    }
+}

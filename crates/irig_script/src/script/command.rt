@@ -1,0 +1,60 @@
+//! What a line of a script asks for.
+
+use crate::script::address::Address;
+use crate::script::letter::Letter;
+use crate::script::range::Range;
+use crate::script::time::Time;
+use irig_codes::{Element, Kind};
+use irig_moment::Moment;
+
+/// What a line of a script asks for.
+#[derive(Clone, Copy)]
+pub enum Command {
+    /// Nothing: a blank line, or a comment.
+    Nothing,
+    /// Put the cursor at a pulse, and list it.
+    Show(Address),
+    /// List pulses.
+    List(Range),
+    /// Take pulses out.
+    Delete(Range),
+    /// Move pulses by so many microseconds.
+    Shift(Range, i64),
+    /// Make one pulse of several.
+    Join(Range),
+    /// Make the level low between two times inside of a pulse.
+    Split(Address, Time, Time),
+    /// Give a pulse the width of an element.
+    Force(Address, Element),
+    /// Put a pulse from the first time to the second.
+    Insert(Time, Time),
+    /// Turn the level between two times.
+    Invert(Time, Time),
+    /// Write so many frames anew from a time on. The first tells the moment; the lowest bit of the
+    /// last number is the first control function.
+    Regen(Time, u64, Moment, u64),
+    /// Read frames as those of a kind of time code and the number of a coded expression.
+    Format(Kind, u8),
+    /// Set a mark.
+    Mark(Letter, Time),
+    /// Clear a mark.
+    Unmark(Letter),
+    /// Take the newest step back.
+    Undo,
+    /// Do the step again that was taken back last.
+    Redo,
+    /// List the frames.
+    Frames,
+    /// List the marks.
+    Marks,
+    /// Tell counts, format and cursor.
+    Info,
+    /// Put the track's dump on the shelf.
+    Write,
+    /// End the script.
+    Quit,
+}
+
+/// S1: a line that is none of the language.
+#[derive(Clone, Copy, Debug, PartialEq, Eq)]
+pub struct BadLine;

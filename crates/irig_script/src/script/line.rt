@@ -1,0 +1,71 @@
+//! The line of a script that is being read.
+
+ghost use Rattle.std.specs.Prelude.{◌≡◌, ◌≤◌, ◌<◌, ◌++◌, ◌∷◌, [], ◌≢◌, ℕ, List, IfSome, IfNone, length, ◌==◌};
+
+/// The most bytes of a line, its newline not counted.
+const LINE_LIMIT: usize = 1000;
+
+/// The bytes of a line so far, as long as they are at most 1,000.
+#[derive(Drop)]
+pub struct Line {
+    bytes: [u8; 1000],
+    len: usize,
+    long: bool,
+    ghost fits: { len ≤ 1000 },
+}
+
+impl Line {
+    ghost use Rattle.irig_script.specs.Obey.Going.{Holds};
+
+    /// An empty line.
+    pub fn new() -> Line
+        ensures { Holds [] result }
+    {
+        Line {
+            bytes: [0; 1000],
+            len: 0,
+            long: false,
+        }
+    }
+
+    /// Makes the line empty.
+    pub fn clear(&mut self)
+        ensures { Holds [] self.new }
+    {
+        self.len = 0;
+        self.long = false;
+    }
+
+    /// Takes a byte more. Of a line that is too long only the front is kept.
+    pub fn push(&mut self, byte: u8)
+        requires { byte ≢ 10 }
+        ensures { (text : List ℕ) → Holds text self.old → Holds (text ++ byte ∷ []) self.new }
+    {
+        if self.len < LINE_LIMIT {
+            self.bytes[self.len] = byte;
+            self.len += 1;
+        } else {
+            self.long = true;
+        }
+    }
+
+    /// Whether no byte has come.
+    pub fn is_empty(&self) -> bool
+        ensures { (text : List ℕ) → Holds text self.now → result ≡ (length text == 0) }
+    {
+        self.len == 0
+    }
+
+    /// The line, unless it is too long.
+    pub fn text(&self) -> Option<&[u8]>
+        ensures whole { IfSome result (λ bytes. (text : List ℕ) → Holds text self.now
+            → (bytes.now ≡ text) × (length text ≤ 1000)) }
+        ensures long { IfNone result ((text : List ℕ) → Holds text self.now → 1000 < length text) }
+    {
+        if self.long {
+            None
+        } else {
+            Some(&self.bytes[..self.len])
+        }
+    }
+}

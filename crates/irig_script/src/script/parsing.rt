@@ -1,0 +1,221 @@
+//! Lines of a script as commands.
+
+ghost use Rattle.std.specs.Prelude.{◌≡◌, ◌≤◌, List, [], take, drop, length, false, IfOk, OnOk, OnErr};
+ghost use Rattle.irig_script.specs.Script.Addresses.{IsRange};
+ghost use Rattle.irig_script.specs.Script.Words.{words_of};
+ghost use Rattle.irig_script.specs.declared.script.keyword.Keyword.{Keyword};
+ghost use Rattle.irig_script.specs.declared.script.range.Range.{Range};
+ghost use Rattle.irig_script.specs.declared.script.time.Time.{Time};
+ghost use Rattle.irig_script.specs.Script.Grammar.{Means, Asks, AsksIn, AreTimes, ends_range, parts_in, range_length};
+ghost use Rattle.irig_script.specs.declared.script.command.Command.{Command};
+
+use crate::script::addresses::{address, place, range, time};
+use crate::script::arguments::{controls, element, expression, kind, mark, moment, times};
+use crate::script::command::{BadLine, Command};
+use crate::script::cutting::{Stop, cut, is_space};
+use crate::script::keyword::{Keyword, keyword_of};
+use crate::script::numbers::{distance, number};
+use crate::script::range::Range;
+use crate::script::time::Time;
+use crate::script::words::{no_word, one_word, split_word, two_words};
+
+/// What a line asks for, its newline left out; `BadLine` where it is none of the language.
+pub fn parse_line(line: &[u8]) -> Result<Command, BadLine>
+    ensures meant { IfOk result (λ command. Means command line.now) }
+    ensures bad { OnErr result ((command : Command) → Means command line.now → ⊥) }
+{
+    let (_, text) = cut(line, Stop::Text);
+    match text {
+        [] | [b'#', ..] => Ok(Command::Nothing),
+        _ => in_text(text),
+    }
+}
+
+/// What a text asks for that begins with no white space.
+fn in_text(text: &[u8]) -> Result<Command, BadLine>
+    ensures ok { IfOk result (AsksIn (parts_in text.now)) }
+    ensures err { OnErr result ((c : Command) → AsksIn (parts_in text.now) c → ⊥) }
+{
+    let (range, rest) = split_range(text);
+    let (word, arguments) = split_word(rest);
+    asked(range, keyword_of(word), arguments)
+}
+
+/// The range at the front of a text, and what stands behind it.
+fn split_range(text: &[u8]) -> (&[u8], &[u8])
+    ensures range { result.0.now ≡ take (range_length false text.now) text.now }
+    ensures rest { result.1.now ≡ drop (range_length false text.now) text.now }
+{
+    let mut at = 0;
+    let mut quoted = false;
+    while at < text.len() && !ends_range(quoted, text[at]) {
+        quoted = text[at] == b'\'';
+        at += 1;
+    }
+    (&text[..at], &text[at..])
+}
+
+/// Whether a byte ends a range, behind an apostrophe or not.
+fn ends_range(quoted: bool, byte: u8) -> bool
+    ensures { result ≡ ends_range quoted byte }
+{
+    is_space(byte) || !quoted && byte.is_ascii_lowercase()
+}
+
+/// What a range, a word and arguments ask for.
+fn asked(front: &[u8], word: Keyword, arguments: &[u8]) -> Result<Command, BadLine>
+    ensures ok { IfOk result (Asks word front.now (words_of arguments.now)) }
+    ensures err { OnErr result ((c : Command)
+        → Asks word front.now (words_of arguments.now) c → ⊥) }
+{
+    match word {
+        Keyword::Missing => Ok(Command::Show(address(front)?)),
+        Keyword::List => Ok(Command::List(ranged(front, arguments)?)),
+        Keyword::Delete => Ok(Command::Delete(ranged(front, arguments)?)),
+        Keyword::Shift => shift(front, arguments),
+        Keyword::Join => Ok(Command::Join(ranged(front, arguments)?)),
+        Keyword::Split => split(front, arguments),
+        Keyword::Force => force(front, arguments),
+        Keyword::Insert => {
+            let (a, b) = bare_times(front, arguments)?;
+            Ok(Command::Insert(a, b))
+        }
+        Keyword::Invert => {
+            let (a, b) = bare_times(front, arguments)?;
+            Ok(Command::Invert(a, b))
+        }
+        Keyword::Regen => regen(front, arguments),
+        Keyword::Format => format(front, arguments),
+        Keyword::Mark => set_mark(front, arguments),
+        Keyword::Unmark => unmark(front, arguments),
+        Keyword::Undo => alone(front, arguments, Command::Undo),
+        Keyword::Redo => alone(front, arguments, Command::Redo),
+        Keyword::Frames => alone(front, arguments, Command::Frames),
+        Keyword::Marks => alone(front, arguments, Command::Marks),
+        Keyword::Info => alone(front, arguments, Command::Info),
+        Keyword::Write => alone(front, arguments, Command::Write),
+        Keyword::Quit => alone(front, arguments, Command::Quit),
+        Keyword::Unknown => Err(BadLine),
+    }
+}
+
+/// The command, where neither a range nor an argument stands.
+fn alone(front: &[u8], arguments: &[u8], command: Command) -> Result<Command, BadLine>
+    ensures ok { IfOk result (λ c. (c ≡ command) × (front.now ≡ [])
+        × (words_of arguments.now ≡ [])) }
+    ensures err { OnErr result (front.now ≡ [] → words_of arguments.now ≡ [] → ⊥) }
+{
+    no_range(front)?;
+    no_word(arguments)?;
+    Ok(command)
+}
+
+/// Nothing, where no range stands.
+fn no_range(front: &[u8]) -> Result<(), BadLine>
+    ensures ok { OnOk result (front.now ≡ []) }
+    ensures err { OnErr result (front.now ≡ [] → ⊥) }
+{
+    if front.is_empty() {
+        Ok(())
+    } else {
+        Err(BadLine)
+    }
+}
+
+/// A range, where no argument stands.
+fn ranged(front: &[u8], arguments: &[u8]) -> Result<Range, BadLine>
+    ensures ok { IfOk result (λ r. IsRange front.now r × (words_of arguments.now ≡ [])) }
+    ensures err { OnErr result ((r : Range) → IsRange front.now r
+        → words_of arguments.now ≡ [] → ⊥) }
+{
+    no_word(arguments)?;
+    range(front)
+}
+
+/// Two times, where no range stands.
+fn bare_times(front: &[u8], arguments: &[u8]) -> Result<(Time, Time), BadLine>
+    ensures ok { IfOk result (λ t. (front.now ≡ []) × AreTimes (words_of arguments.now) t.0 t.1) }
+    ensures err { OnErr result ((s : Time) → (t : Time) → front.now ≡ []
+        → AreTimes (words_of arguments.now) s t → ⊥) }
+{
+    no_range(front)?;
+    times(arguments)
+}
+
+/// What a range and the arguments of `shift` ask for.
+fn shift(front: &[u8], arguments: &[u8]) -> Result<Command, BadLine>
+    ensures ok { IfOk result (Asks Keyword.Shift front.now (words_of arguments.now)) }
+    ensures err { OnErr result ((c : Command)
+        → Asks Keyword.Shift front.now (words_of arguments.now) c → ⊥) }
+{
+    let by = one_word(arguments)?;
+    Ok(Command::Shift(range(front)?, distance(by)?))
+}
+
+/// What an address and the arguments of `split` ask for.
+fn split(front: &[u8], arguments: &[u8]) -> Result<Command, BadLine>
+    ensures ok { IfOk result (Asks Keyword.Split front.now (words_of arguments.now)) }
+    ensures err { OnErr result ((c : Command)
+        → Asks Keyword.Split front.now (words_of arguments.now) c → ⊥) }
+{
+    let (a, b) = times(arguments)?;
+    Ok(Command::Split(place(front)?, a, b))
+}
+
+/// What an address and the arguments of `force` ask for.
+fn force(front: &[u8], arguments: &[u8]) -> Result<Command, BadLine>
+    ensures ok { IfOk result (Asks Keyword.Force front.now (words_of arguments.now)) }
+    ensures err { OnErr result ((c : Command)
+        → Asks Keyword.Force front.now (words_of arguments.now) c → ⊥) }
+{
+    let name = one_word(arguments)?;
+    Ok(Command::Force(place(front)?, element(name)?))
+}
+
+/// What the arguments of `format` ask for, where no range stands.
+fn format(front: &[u8], arguments: &[u8]) -> Result<Command, BadLine>
+    ensures ok { IfOk result (Asks Keyword.Format front.now (words_of arguments.now)) }
+    ensures err { OnErr result ((c : Command)
+        → Asks Keyword.Format front.now (words_of arguments.now) c → ⊥) }
+{
+    no_range(front)?;
+    let (name, digit) = two_words(arguments)?;
+    Ok(Command::Format(kind(name)?, expression(digit)?))
+}
+
+/// What the arguments of `mark` ask for, where no range stands.
+fn set_mark(front: &[u8], arguments: &[u8]) -> Result<Command, BadLine>
+    ensures ok { IfOk result (Asks Keyword.Mark front.now (words_of arguments.now)) }
+    ensures err { OnErr result ((c : Command)
+        → Asks Keyword.Mark front.now (words_of arguments.now) c → ⊥) }
+{
+    no_range(front)?;
+    let (name, at) = two_words(arguments)?;
+    Ok(Command::Mark(mark(name)?, time(at)?))
+}
+
+/// What the argument of `unmark` asks for, where no range stands.
+fn unmark(front: &[u8], arguments: &[u8]) -> Result<Command, BadLine>
+    ensures ok { IfOk result (Asks Keyword.Unmark front.now (words_of arguments.now)) }
+    ensures err { OnErr result ((c : Command)
+        → Asks Keyword.Unmark front.now (words_of arguments.now) c → ⊥) }
+{
+    no_range(front)?;
+    let name = one_word(arguments)?;
+    Ok(Command::Unmark(mark(name)?))
+}
+
+/// What the arguments of `regen` ask for, where no range stands.
+fn regen(front: &[u8], arguments: &[u8]) -> Result<Command, BadLine>
+    ensures ok { IfOk result (Asks Keyword.Regen front.now (words_of arguments.now)) }
+    ensures err { OnErr result ((c : Command)
+        → Asks Keyword.Regen front.now (words_of arguments.now) c → ⊥) }
+{
+    no_range(front)?;
+    let (start, rest) = split_word(arguments);
+    let (frames, rest) = split_word(rest);
+    let (written, rest) = split_word(rest);
+    let (start, frames) = (time(start)?, number(frames)?);
+    let from = moment(written)?;
+    Ok(Command::Regen(start, frames, from, controls(rest)?))
+}

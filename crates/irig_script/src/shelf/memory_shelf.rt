@@ -1,0 +1,67 @@
+//! A shelf in memory.
+
+ghost use Rattle.std.specs.Prelude.{◌≡◌, Some, map, []};
+ghost use Rattle.irig_script.specs.Shelf.ShelfView.{shelf_view};
+
+use crate::shelf::shelf::{Shelf, ShelfFault};
+use std::alloc::Global;
+use std::marker::Model;
+
+/// A shelf that keeps its texts, for tests: one put may be told to fail.
+#[derive(Drop)]
+pub struct MemoryShelf {
+    alloc: Global,
+    fail: Option<u64>,
+    puts: u64,
+    failures: u64,
+    texts: Vec<Vec<u8>>,
+}
+
+impl Model for MemoryShelf {
+    ghost use Rattle.std.specs.Prelude.{map};
+    ghost use Rattle.irig_script.specs.Shelf.ShelfView.{ShelfView, shelf_view};
+
+    ghost Value = { ShelfView };
+
+    ghost view = { λ s. shelf_view (map (λ t. t.items) s.texts.items) s.failures s.fail };
+}
+
+impl MemoryShelf {
+    /// An empty shelf. The put of this number, from 1, fails.
+    pub fn new(alloc: Global, fail: Option<u64>) -> MemoryShelf
+        ensures { result ≡ shelf_view [] 0 fail }
+    {
+        MemoryShelf {
+            alloc,
+            fail,
+            puts: 0,
+            failures: 0,
+            texts: Vec::new(alloc),
+        }
+    }
+
+    /// The texts put, in order.
+    pub fn texts(&self) -> &[Vec<u8>]
+        ensures { map (λ t. t.items) result.now ≡ self.now.texts }
+    {
+        self.texts.as_slice()
+    }
+}
+
+impl Shelf for MemoryShelf {
+    ghost failures = { λ s. s.failures };
+
+    ghost texts = { λ s. Some s.texts };
+
+    fn put(&mut self, text: &[u8]) -> Result<(), ShelfFault> {
+        self.puts = self.puts.saturating_add(1);
+        if self.fail != Some(self.puts)
+            && let Ok(text) = Vec::from_slice(self.alloc, text)
+            && let Ok(()) = self.texts.push(text)
+        {
+            return Ok(());
+        }
+        self.failures = self.failures.saturating_add(1);
+        Err(ShelfFault)
+    }
+}

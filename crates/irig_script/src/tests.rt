@@ -1,0 +1,7 @@
+//! Scripts and their answers, and what failing ends and refused growths leave.
+
+mod failing_ends;
+mod frames;
+mod refused_growths;
+mod rows;
+mod table;
