@@ -1,6 +1,7 @@
 //! A shelf that is a file.
 
-ghost use Rattle.std.specs.Prelude.{◌≡◌, None};
+ghost use Rattle.std.specs.Prelude.{◌≡◌, None, OnOk};
+ghost use Rattle.std.specs.Io.KnownBytes.{Appends};
 
 use irig_script::{Shelf, ShelfFault};
 use std::fs::{Metadata, OpenFile, OpenOptions};
@@ -13,6 +14,9 @@ use std::{fs, io};
 
 /// How many symbolic links a path may lead through.
 const LINKS: u32 = 40;
+
+/// How many names are tried for a new file: so many may other runs hold, or have left when they were killed.
+const NAMES: u32 = 10_000;
 
 /// A shelf that is a file: each put replaces the file at a path whole.
 ///
@@ -68,6 +72,7 @@ fn put_file<R: Files + Print + AllocGlobal>(rt: &R, path: &str, bytes: &[u8]) ->
         Ok(old) if is_standard_output(rt, &old) => io::writer(rt).write_all(bytes),
         Ok(old) if old.is_file() => {
             let target = followed(rt, path)?;
+            let old = writable(rt, target.as_str())?;
             replace(rt, target.as_str(), Some(&old), bytes)
         }
         Ok(_) => OpenOptions::new()
@@ -119,64 +124,73 @@ fn replace<R: Files + AllocGlobal>(
 ) -> io::Result<()> {
     let mut how = OpenOptions::new();
     how.write(true).create_new(true);
-    if let Some(old) = old {
-        see_writable(rt, target, old)?;
+    if old.is_some() {
         how.mode(0o600);
     }
-    let beside = name_beside(rt, target)?;
-    let beside = beside.as_str();
-    // what a run that was killed has left
-    let _ = fs::remove_file(rt, beside);
-    let mut file = how.open(rt, beside)?;
-    let put = match fill(rt, &mut file, old, beside, bytes) {
-        Ok(()) => fs::rename(rt, beside, target),
+    let (mut file, beside) = made_beside(rt, target, &how)?;
+    let put = match fill(&mut file, old, bytes) {
+        Ok(()) => fs::rename(rt, beside.as_str(), target),
         Err(e) => Err(e),
     };
     if put.is_err() {
-        let _ = fs::remove_file(rt, beside);
+        let _ = fs::remove_file(rt, beside.as_str());
     }
     put
 }
 
-/// Sees that a file may be written: one that may not is not replaced either.
-fn see_writable<R: Files>(rt: &R, target: &str, old: &Metadata) -> io::Result<()> {
+/// What describes a regular file that may be written: one that may not is not replaced either.
+fn writable<R: Files>(rt: &R, target: &str) -> io::Result<Metadata> {
     let there = OpenOptions::new().write(true).open(rt, target)?;
-    if is_same(old, &there.metadata()?) {
-        Ok(())
+    let old = there.metadata()?;
+    if old.is_file() {
+        Ok(old)
     } else {
         Err(io::Error::from(ErrorKind::InvalidInput))
     }
 }
 
-/// The name of the new file: that of the target, hidden and marked, in the same folder.
-fn name_beside<R: AllocGlobal>(rt: &R, target: &str) -> io::Result<PathBuf> {
+/// A new file beside the target, under the first name that is free, so that no other run has it.
+fn made_beside<R: Files + AllocGlobal>(
+    rt: &R,
+    target: &str,
+    how: &OpenOptions,
+) -> io::Result<(R::File, PathBuf)> {
+    for number in 0..NAMES {
+        let beside = name_beside(rt, target, number)?;
+        match how.open(rt, beside.as_str()) {
+            Ok(file) => return Ok((file, beside)),
+            Err(e) if e.kind() == ErrorKind::AlreadyExists => {}
+            Err(e) => return Err(e),
+        }
+    }
+    Err(io::Error::from(ErrorKind::AlreadyExists))
+}
+
+/// A name for the new file: that of the target, hidden, marked and numbered, in the same folder.
+fn name_beside<R: AllocGlobal>(rt: &R, target: &str, number: u32) -> io::Result<PathBuf> {
     let mut beside = PathBuf::from_str(rt.alloc(), target)?;
     let Some(name) = beside.as_path().file_name() else {
         return Err(io::Error::from(ErrorKind::InvalidInput));
     };
     // a folder takes no name of more than 255 bytes
     let kept = if name.len() <= 200 { name } else { "" };
-    let marked = format!(in rt.alloc(); ".{kept}.irig_ed-new")?;
+    let marked = format!(in rt.alloc(); ".{kept}.irig_ed-new-{number}")?;
     beside.set_file_name(marked.as_str())?;
     Ok(beside)
 }
 
-/// Writes the new file, and sees that its name is still its own.
-fn fill<R: Files>(
-    rt: &R,
-    file: &mut R::File,
-    old: Option<&Metadata>,
-    beside: &str,
-    bytes: &[u8],
-) -> io::Result<()> {
+/// Writes the new file, durably.
+fn fill<F: OpenFile + Write>(file: &mut F, old: Option<&Metadata>, bytes: &[u8]) -> io::Result<()> {
     if let Some(old) = old {
         file.set_permissions(old.permissions())?;
     }
-    file.write_all(bytes)?;
-    file.sync_all()?;
-    if is_same(&file.metadata()?, &fs::symlink_metadata(rt, beside)?) {
-        Ok(())
-    } else {
-        Err(io::Error::from(ErrorKind::AlreadyExists))
-    }
+    write_whole(file, bytes)?;
+    file.sync_all()
+}
+
+/// Writes all of the bytes.
+fn write_whole<F: Write>(file: &mut F, bytes: &[u8]) -> io::Result<()>
+    ensures { OnOk result (Appends (F.contents file.old) (F.contents file.new) bytes.now) }
+{
+    file.write_all(bytes)
 }
