@@ -8,7 +8,8 @@ use Rattle.irig_index.specs.declared.record.Cause.TheVariants.{Ended, Step, Clas
 use Rattle.irig_index.specs.Frames.{frame_at}
 use Rattle.irig_index.specs.Marker.{class_at, follows}
 use Rattle.irig_index.specs.Verdict.{elements_of, first_fault, judged, suits}
-use Rattle.irig_index.proofs.LookedLemmas.{looked_more, looked_none, same_pulse}
+use Rattle.irig_index.proofs.CheckedLemmas.{alone_next, suits_other}
+use Rattle.irig_index.proofs.LookedLemmas.{looked_more, looked_none, looked_up, same_pulse}
 use Rattle.irig_index.proofs.PulseLemmas.{rise-fall, rise-rise, slice_get-part, take-all}
 use Rattle.irig_index.proofs.VerdictLemmas.{fault-ended, fault-step, fault-class, fault-none, elements-next, first_fault-here, first_fault-next, first_fault-zero}
 use Rattle.irig_index.proofs.frame.verdict.Goals as goal
@@ -25,6 +26,8 @@ loop-k-init c = record {
       sym (elements-next f w 0 c.args.first at_first ∙ ap (λ o. unwrap_or o Zero ∷ []) c.requires.position)
       );
   rest = refl;
+  digit = λ nine. absurd (omega (arith, nine));
+  alone = λ j from to. absurd (omega (arith, from, to));
 }
 
 pub overflow_add-at : goal.overflow_add-at
@@ -61,9 +64,29 @@ returns-then-not-follows-clause-verdict c =
     let fails = fault-step f ps c.args.at k c.loop-k.before (omega arith) (omega arith) c.loop-k.invariant.before c.look-pulse.result here off in
     sym (ap (judged f (frame_at ps c.args.at)) (sym c.loop-k.invariant.rest ∙ first_fault-here f _ (100 - k) (99 - k) k (omega arith) Step fails))
 
+pub returns-then-at-k-clause-looked : goal.returns-then-at-k-clause-looked
+returns-then-at-k-clause-looked c =
+    let k = c.loop-k.k in
+    let at = c.args.at in
+    record {
+      reach = at + (k - 1);
+      from = omega arith;
+      to = omega arith;
+      looked = looked_up _ _ _ _ (k - 1) (at + (k - 1) - at) c.loop-k.invariant.looked (omega arith);
+      alone = λ j from to. c.loop-k.invariant.alone j from (omega (arith, to));
+    }
+
 pub returns-then-not-follows-clause-looked : goal.returns-then-not-follows-clause-looked
 returns-then-not-follows-clause-looked c =
-    looked_more _ _ _ _ _ _ (c.loop-k.k - 1) 1 99 c.loop-k.invariant.looked c.look-pulse.ensures.looked (omega arith)
+    let k = c.loop-k.k in
+    let at = c.args.at in
+    record {
+      reach = at + k;
+      from = omega arith;
+      to = omega arith;
+      looked = looked_more _ _ _ _ _ _ (k - 1) 1 (at + k - at) c.loop-k.invariant.looked c.look-pulse.ensures.looked (omega arith);
+      alone = c.loop-k.invariant.alone;
+    }
 
 pub returns-then-not-suits-clause-verdict : goal.returns-then-not-suits-clause-verdict
 returns-then-not-suits-clause-verdict c =
@@ -78,7 +101,15 @@ returns-then-not-suits-clause-verdict c =
 
 pub returns-then-not-suits-clause-looked : goal.returns-then-not-suits-clause-looked
 returns-then-not-suits-clause-looked c =
-    looked_more _ _ _ _ _ _ (c.loop-k.k - 1) 1 99 c.loop-k.invariant.looked c.look-pulse.ensures.looked (omega arith)
+    let k = c.loop-k.k in
+    let at = c.args.at in
+    record {
+      reach = at + k;
+      from = omega arith;
+      to = omega arith;
+      looked = looked_more _ _ _ _ _ _ (k - 1) 1 (at + k - at) c.loop-k.invariant.looked c.look-pulse.ensures.looked (omega arith);
+      alone = c.loop-k.invariant.alone;
+    }
 
 pub loop-k-preserved : goal.loop-k-preserved
 loop-k-preserved c =
@@ -102,6 +133,8 @@ loop-k-preserved c =
       elements = take_more_set c.loop-k.elements k c.unwrap_or.result (omega (arith, c.loop-k.invariant.long))
           ∙ (ap₂ (λ xs e. xs ++ e ∷ []) c.loop-k.invariant.elements element ∙ sym (elements-next f w k p in_frame));
       rest = ap (λ n. first_fault f w n (k + 1)) fuel ∙ (sym (first_fault-next f w (100 - k) (99 - k) k (omega arith) sound) ∙ c.loop-k.invariant.rest);
+      digit = λ nine. suits_other k (class_at f p) also (λ same. omega (arith, nine, same));
+      alone = alone_next f ps c.args.at k c.loop-k.before p (omega arith) c.loop-k.invariant.before here also c.loop-k.invariant.digit c.loop-k.invariant.alone;
     }
 
 pub returns-clause-verdict : goal.returns-clause-verdict
@@ -116,3 +149,15 @@ returns-clause-verdict c =
     sym (take-all c.loop-k.elements k (omega (arith, c.loop-k.invariant.long)))
     ∙ (c.loop-k.invariant.elements ∙ ap (elements_of f) (take-all w k (omega (arith, length-take 100 (drop c.args.at c.args.lens.now.track.pulses))))) in
     ap (λ d. Read d.0 d.1) (c.decode-note.ensures ∙ ap (decoded f) all) ∙ sym (ap (judged f w) none)
+
+pub returns-clause-looked : goal.returns-clause-looked
+returns-clause-looked c =
+    let k = c.loop-k.k in
+    let at = c.args.at in
+    record {
+      reach = at + (k - 1);
+      from = omega arith;
+      to = omega arith;
+      looked = looked_up _ _ _ _ (k - 1) (at + (k - 1) - at) c.loop-k.invariant.looked (omega arith);
+      alone = λ j from to. c.loop-k.invariant.alone j from (omega (arith, to));
+    }

@@ -1,0 +1,65 @@
+-- No two pulses beside each other within a frame are both position identifiers: the next marker ends a check.
+use Rattle.std.proofs.Common.{◌≡◌, ℕ, suc, zero, ◌+◌, ◌-◌, ◌%◌, ◌==◌, ◌<◌, ◌≤◌, Bool, true, false, cond, List, [], Option, Some, None, slice_get, refl, sym, ap, subst, ◌∙◌, ◌⊎◌, inl, inr, arith}
+use Rattle.std.proofs.lemmas.Bool.Decides.{nat_tests}
+use Rattle.irig_codes.specs.declared.width.Element.{Element}
+use Rattle.irig_codes.specs.declared.width.Element.TheVariants.{Zero, One, Position}
+use Rattle.irig_codes.specs.Format.{FormatView}
+use Rattle.irig_track.specs.declared.pulse.Pulse.{Pulse}
+use Rattle.irig_index.specs.Frames.{record_after}
+use Rattle.irig_index.specs.Marker.{class_at, is_digit, is_position}
+use Rattle.irig_index.specs.Verdict.{suits}
+use Rattle.irig_index.proofs.FrameLemmas.{record_after-beside, record_after-other}
+
+-- a digit is no position identifier
+digit_other : (class : Option Element) → is_digit class ≡ true → is_position class ≡ false
+digit_other None e = cc
+digit_other (Some Zero) e = refl
+digit_other (Some One) e = refl
+digit_other (Some Position) e = cc
+
+either : (b : Bool) → (b ≡ true) ⊎ (b ≡ false)
+either true = inl refl
+either false = inr refl
+
+nine : (k : ℕ) → (k % 10 == 9) ≡ true → k % 10 ≡ 9
+nine k e = grind (arith, nat_tests)
+
+not_nine : (k : ℕ) → (k % 10 == 9) ≡ false → k % 10 ≡ 9 → ⊥
+not_nine k e same = grind (arith, nat_tests)
+
+-- what suits where no position identifier may stand
+pub suits_other : (k : ℕ) (class : Option Element) → suits k class ≡ true → (k % 10 ≡ 9 → ⊥) → is_position class ≡ false
+suits_other k class suit ne = elim (either (k % 10 == 9)) [
+  | inl same ↦ absurd (ne (nine k same))
+  | inr other ↦ digit_other class (sym (ap (λ b. cond b (is_position class) (is_digit class)) other) ∙ suit)
+]
+
+-- of two pulses beside each other, the second of which suits, one is no position identifier
+pub beside_other : (k : ℕ) (before class : Option Element) → suits k class ≡ true → (k % 10 ≡ 9 → is_position before ≡ false)
+    → (is_position before ≡ false) ⊎ (is_position class ≡ false)
+beside_other k before class suit h = elim (either (k % 10 == 9)) [
+  | inl same ↦ inl (h (nine k same))
+  | inr other ↦ inr (suits_other k class suit (not_nine k other))
+]
+
+-- the place before n, or an earlier one
+last_or_less : (j n : ℕ) → j < n + 1 → (j ≡ n) ⊎ (j < n)
+last_or_less zero zero h = inl refl
+last_or_less zero (suc n) h = inr (omega arith)
+last_or_less (suc j) zero h = absurd (omega arith)
+last_or_less (suc j) (suc n) h = elim (last_or_less j n (omega arith)) [ inl e ↦ inl (ap suc e) | inr lt ↦ inr (omega arith) ]
+
+-- no marker stands so far, nor at the next pulse, which suits
+pub alone_next : (f : FormatView) (ps : List Pulse) (at k : ℕ) (p q : Pulse) → 1 ≤ k
+    → slice_get ps (at + k - 1) ≡ Some p → slice_get ps (at + k) ≡ Some q
+    → suits k (class_at f q) ≡ true → (k % 10 ≡ 9 → is_position (class_at f p) ≡ false)
+    → ((j : ℕ) → at ≤ j → j + 1 < at + k → record_after f ps j ≡ [])
+    → (j : ℕ) → at ≤ j → j + 1 < at + (k + 1) → record_after f ps j ≡ []
+alone_next f ps at k p q some before here suit h alone j from to = elim (last_or_less j (at + k - 1) (omega arith)) [
+  | inr less ↦ alone j from (omega arith)
+  | inl same ↦ subst (λ i. record_after f ps i ≡ []) (sym same) (elim (beside_other k (class_at f p) (class_at f q) suit h) [
+    | inl first ↦ record_after-beside f ps (at + k - 1) p before first
+    | inr second ↦ (let place : at + k ≡ at + k - 1 + 1 = omega arith in
+        record_after-other f ps (at + k - 1) q (ap (slice_get ps) (sym place) ∙ here) second)
+  ])
+]

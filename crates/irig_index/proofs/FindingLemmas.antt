@@ -1,0 +1,39 @@
+-- Halving: how many looks a search makes.
+use Rattle.std.proofs.Common.{ℕ, suc, zero, ◌-◌, ◌*◌, ◌^◌, ◌<◌, ◌≤◌, arith}
+use Rattle.std.proofs.Math.Nat.{pow-suc}
+use Rattle.irig_track.specs.Looks.{LensView}
+use Rattle.irig_index.specs.Looked.{Looked}
+use Rattle.irig_index.proofs.LookedLemmas.{looked_up}
+use Rattle.irig_index.proofs.LookedLemmas.{looked_more, looked_none}
+
+-- so many pulses are left to search, and as many looks as they need are left of those allowed
+pub record Narrowed (left digits : ℕ) (old new : LensView) (before after : ℕ) : Type 0 where
+  pub rest : ℕ
+  pub small : left < 2 ^ rest
+  pub enough : rest ≤ digits
+  pub looked : Looked old new before after (digits - rest)
+
+pub narrowed_none : (left digits : ℕ) (a : LensView) (l : ℕ) → left < 2 ^ digits → Narrowed left digits a a l l
+narrowed_none left digits a l small = record {
+  rest = digits;
+  small = small;
+  enough = omega arith;
+  looked = looked_up a a l l 0 (digits - digits) (looked_none a l) (omega arith);
+}
+
+-- half of them are left after a look
+pub narrowed_half : (left half digits : ℕ) (a b c : LensView) (l m n : ℕ) → half * 2 ≤ left → 0 < left
+    → Narrowed left digits a b l m → Looked b c m n 1 → Narrowed half digits a c l n
+narrowed_half left half digits a b c l m n less some h look = more h.rest h.small h.enough h.looked
+  where
+    more : (rest : ℕ) → left < 2 ^ rest → rest ≤ digits → Looked a b l m (digits - rest) → Narrowed half digits a c l n
+    more zero small enough looked = absurd (omega arith)
+    more (suc rest) small enough looked = record {
+      rest = rest;
+      small = omega (arith, pow-suc 2 rest);
+      enough = omega arith;
+      looked = looked_more a b c l m n (digits - suc rest) 1 (digits - rest) looked look (omega arith);
+    }
+
+pub narrowed_all : (left digits : ℕ) (a b : LensView) (l m : ℕ) → Narrowed left digits a b l m → Looked a b l m digits
+narrowed_all left digits a b l m h = looked_up a b l m (digits - h.rest) digits h.looked (omega arith)

@@ -1,0 +1,81 @@
+-- Places that have no marker after them.
+use Rattle.std.proofs.Common.{◌≡◌, ℕ, suc, zero, ◌+◌, ◌-◌, ◌*◌, ◌<◌, ◌≤◌, false, List, [], ◌∷◌, ◌++◌, slice_get, Some, ap, subst, ◌∙◌, inl, inr, arith}
+use Rattle.std.proofs.lemmas.Bool.{cases_lt}
+use Rattle.irig_codes.specs.Format.{FormatView}
+use Rattle.irig_track.specs.declared.pulse.Pulse.{Pulse}
+use Rattle.irig_track.specs.Looks.{LensView}
+use Rattle.irig_index.specs.declared.record.Record.{Record}
+use Rattle.irig_index.specs.Frames.{frame_at, record_after, records_in}
+use Rattle.irig_index.specs.Looked.{Looked}
+use Rattle.irig_index.specs.Marker.{class_at, is_position}
+use Rattle.irig_index.specs.Passed.{Passed, StandsAfter}
+use Rattle.irig_index.specs.Verdict.{verdict_of}
+use Rattle.irig_index.proofs.FrameLemmas.{record_after-beside, record_after-other, window_next, window_same}
+use Rattle.irig_index.proofs.LookedLemmas.{looked_more, looked_none, looked_up}
+
+pub passed_none : (f : FormatView) (ps : List Pulse) (first : ℕ) (a : LensView) (l : ℕ) → Passed f ps first first 0 a a l l
+passed_none f ps first a l = record {
+  order = omega arith;
+  looked = looked_up a a l l 0 (2 * (first - first) + 0) (looked_none a l) (omega arith);
+  none = λ k le lt. absurd (omega (arith, le, lt));
+}
+
+-- more places, and the looks that tell of them
+pub passed_more : (f : FormatView) (ps : List Pulse) (first place next besides most : ℕ) (a b c : LensView) (l m n : ℕ)
+    → Passed f ps first place 0 a b l m → place ≤ next → Looked b c m n most → most ≤ 2 * (next - place) + besides
+    → ((k : ℕ) → place ≤ k → k < next → record_after f ps k ≡ []) → Passed f ps first next besides a c l n
+passed_more f ps first place next besides most a b c l m n so_far order looked few none = record {
+  order = omega (arith, so_far.order, order);
+  looked = looked_more a b c l m n (2 * (place - first) + 0) most (2 * (next - first) + besides) so_far.looked looked (omega (arith, so_far.order, order, few));
+  none = λ k from to. elim (cases_lt k place) [ inl before ↦ so_far.none k from before | inr behind ↦ none k behind to ];
+}
+
+-- neither the place before a pulse that is no position identifier nor its own has a marker after it
+pub two_passed : (f : FormatView) (ps : List Pulse) (place next : ℕ) (q : Pulse) → slice_get ps (place + 1) ≡ Some q
+    → is_position (class_at f q) ≡ false → next ≤ place + 2 → (k : ℕ) → place ≤ k → k < next → record_after f ps k ≡ []
+two_passed f ps place next q here other few k from to = elim (cases_lt place k) [
+  | inl second ↦ (let is : k ≡ place + 1 = omega arith in record_after-beside f ps k q (ap (slice_get ps) is ∙ here) other)
+  | inr first ↦ (let is : k + 1 ≡ place + 1 = omega arith in record_after-other f ps k q (ap (slice_get ps) is ∙ here) other)
+]
+
+-- one place
+pub one_passed : (f : FormatView) (ps : List Pulse) (place : ℕ) → record_after f ps place ≡ []
+    → (k : ℕ) → place ≤ k → k < place + 1 → record_after f ps k ≡ []
+one_passed f ps place none k from to = let is : k ≡ place = omega arith in ap (record_after f ps) is ∙ none
+
+-- a window has no more records with them than without
+window_more : (f : FormatView) (ps : List Pulse) (from place more : ℕ) → from ≤ place
+    → ((k : ℕ) → place ≤ k → k < place + more → record_after f ps k ≡ [])
+    → records_in f ps from (place + more - from) ≡ records_in f ps from (place - from)
+window_more f ps from place zero order none = let is : place + 0 ≡ place = omega arith in ap (λ n. records_in f ps from (n - from)) is
+window_more f ps from place (suc more) order none =
+    let is : place + suc more ≡ place + more + 1 = omega arith in
+    ap (λ n. records_in f ps from (n - from)) is
+    ∙ (window_same f ps from (place + more) (omega arith) (none (place + more) (omega arith) (omega arith))
+    ∙ window_more f ps from place more order (λ k le lt. none k le (omega (arith, lt))))
+
+pub window_none : (f : FormatView) (ps : List Pulse) (from place next : ℕ) → from ≤ place → place ≤ next
+    → ((k : ℕ) → place ≤ k → k < next → record_after f ps k ≡ [])
+    → records_in f ps from (next - from) ≡ records_in f ps from (place - from)
+window_none f ps from place next order more none =
+    let is : next ≡ place + (next - place) = omega arith in
+    ap (λ n. records_in f ps from (n - from)) is
+    ∙ window_more f ps from place (next - place) order (λ k le lt. none k le (omega (arith, lt, is)))
+
+-- the same track, told by another name
+pub passed_in : (f : FormatView) (ps qs : List Pulse) (first next besides : ℕ) (a b : LensView) (l m : ℕ) → qs ≡ ps
+    → Passed f qs first next besides a b l m → Passed f ps first next besides a b l m
+passed_in f ps qs first next besides a b l m same passed = subst (λ rs. Passed f rs first next besides a b l m) same passed
+
+-- the record of the marker after a place
+abbrev pub found_record : FormatView → List Pulse → ℕ → Record
+found_record f ps before = record { marker = before + 1; verdict = verdict_of f (frame_at ps (before + 1)) }
+
+-- the records of a window up to a marker that was found, and its own
+pub window_found : (f : FormatView) (ps : List Pulse) (from place before : ℕ) (p : Pulse) → from ≤ place → place ≤ before
+    → ((k : ℕ) → place ≤ k → k < before → record_after f ps k ≡ []) → StandsAfter f ps before p
+    → records_in f ps from (before + 1 - from)
+    ≡ records_in f ps from (place - from) ++ (found_record f ps before ∷ [])
+window_found f ps from place before p order more none found =
+    window_next f ps from before (omega (arith, order, more))
+    ∙ λ i. window_none f ps from place before order more none i ++ found.record_is i

@@ -1,0 +1,169 @@
+-- A repaired index tells the frames of the track as it is.
+use Rattle.std.proofs.Common.{◌≡◌, ℕ, ◌+◌, ◌-◌, ◌%◌, ◌^◌, ◌<◌, ◌≤◌, List, [], ◌∷◌, ◌++◌, length, take, drop, map, min, refl, sym, ap, subst, ◌∙◌, inl, inr, arith, append_assoc, length-append, length-drop}
+use Rattle.std.proofs.lemmas.Bool.{cases_lt}
+use Rattle.std.proofs.lemmas.List.{take-append-drop, drop-drop, length-take-le}
+use Rattle.irig_codes.specs.Format.{FormatView}
+use Rattle.irig_gap.specs.Items.{GapView}
+use Rattle.irig_track.specs.declared.pulse.Pulse.{Pulse}
+use Rattle.irig_index.specs.declared.record.Record.{Record}
+use Rattle.irig_index.specs.Frames.{frames, records_in}
+use Rattle.irig_index.specs.Index.{IndexView, WereFrames, index_view}
+use Rattle.irig_index.specs.Laws.{moved}
+use Rattle.irig_index.specs.Sides.{from_other_end, turned, left_of, kept_right, right_of, shown, EndsUpTo, BeginsAfter, AllUpTo, AllAfter, Dropped}
+use Rattle.irig_index.proofs.FrameLemmas.{record_after-last, window_same}
+use Rattle.irig_index.proofs.MarkerBounds.{AllAfter-append, AllAfter-less, AllAfter-moved, AllUpTo-ends, AllUpTo-more, parted_same, records_in-after, records_in-up_to}
+use Rattle.irig_index.proofs.SideLemmas.{from_other_end-moved, length-shown, length-sides}
+use Rattle.irig_index.proofs.Window.{edits_are_local, frames_in_parts}
+
+-- a window that ends with the track
+pub window_end : (f : FormatView) (ps : List Pulse) (from last : ℕ) → from ≤ last → from ≤ length ps - 1 → last ≤ length ps
+    → records_in f ps from (min (length ps - 1) last - from) ≡ records_in f ps from (last - from)
+window_end f ps from last order inside within = elim (cases_lt (length ps - 1) last) [
+  | inl lt ↦
+      let shorter : min (length ps - 1) last ≡ length ps - 1 = omega arith in
+      let all : length ps - 1 + 1 ≡ last = omega arith in
+      ap (λ n. records_in f ps from (n - from)) shorter
+      ∙ (sym (window_same f ps from (length ps - 1) inside (record_after-last f ps (length ps - 1) (omega arith)))
+      ∙ ap (λ n. records_in f ps from (n - from)) all)
+  | inr ge ↦ (let same : min (length ps - 1) last ≡ last = omega arith in ap (λ n. records_in f ps from (n - from)) same)
+]
+
+-- records counted from the back of so many pulses, after an edit of their number
+turned_moved : (pulses at gone come bound : ℕ) → gone < 2 ^ 64 → bound + at + come < 2 ^ 64 → (ks ss : List Record)
+    → AllUpTo bound ss → map (turned pulses) ks ≡ map (moved (at + gone)) ss
+    → map (turned (((pulses + (2 ^ 64 - gone)) % 2 ^ 64 + come) % 2 ^ 64)) ks ≡ map (moved (at + come)) ss
+turned_moved pulses at gone come bound few fits [] [] up e = refl
+turned_moved pulses at gone come bound few fits [] (s ∷ ss) up e = cc
+turned_moved pulses at gone come bound few fits (k ∷ ks) [] up e = cc
+turned_moved pulses at gone come bound few fits (k ∷ ks) (s ∷ ss) up e =
+    let first : turned pulses k ≡ moved (at + gone) s = cc in
+    let rest : map (turned pulses) ks ≡ map (moved (at + gone)) ss = cc in
+    let number : from_other_end pulses k.marker ≡ s.marker + at + gone = omega (arith, ap (λ r. r.marker) first) in
+    let now = from_other_end-moved pulses k.marker (s.marker + at) gone come few (omega (arith, up.0)) number in
+    let place : from_other_end (((pulses + (2 ^ 64 - gone)) % 2 ^ 64 + come) % 2 ^ 64) k.marker ≡ s.marker + (at + come) = omega (arith, now) in
+    let words : k.verdict ≡ s.verdict = ap (λ r. r.verdict) first in
+    let later = turned_moved pulses at gone come bound few fits ks ss up.1 rest in
+    λ i. record { marker = place i; verdict = words i } ∷ later i
+
+-- the parts of the track before and after an edit
+module _ (f : FormatView) (a x y b : List Pulse) (pulses : ℕ) (g1 g2 g3 : GapView Record)
+    (few : length x < 2 ^ 64) (fits : length b + length a + length y < 2 ^ 64)
+    (were : shown pulses g1 ≡ frames f (a ++ (x ++ b)))
+    (ends : EndsUpTo (length a - 100) (left_of g1))
+    (begins : BeginsAfter (length a - 100) (right_of pulses g1))
+    (stays : left_of g2 ≡ left_of g1)
+    (dropped : Dropped (length a + length x) (right_of pulses g1) (right_of pulses g2))
+    (left : left_of g3 ≡ left_of g2 ++ records_in f (a ++ (y ++ b)) (length a - 100) (length a + length y - (length a - 100)))
+    (kept : kept_right g3 ≡ kept_right g2) where
+  start : List Record
+  start = records_in f (a ++ (x ++ b)) 0 (length a - 100)
+
+  touched : List Record
+  touched = records_in f (a ++ (x ++ b)) (length a - 100) (length a + length x - (length a - 100))
+
+  rest : List Record
+  rest = map (moved (length a + length x)) (frames f b)
+
+  rest_after : AllAfter (length a + length x) rest
+  unfolding rest
+  rest_after = AllAfter-moved (length a + length x) (frames f b) (records_in-after f b 0 (length b - 1))
+
+  touched_up_to : AllUpTo (length a + length x) touched
+  unfolding touched
+  touched_up_to =
+      AllUpTo-more (length a - 100 + (length a + length x - (length a - 100))) (length a + length x) touched (omega arith)
+      (records_in-up_to f (a ++ (x ++ b)) (length a - 100) (length a + length x - (length a - 100)))
+
+  -- the gap stands before the window
+  parted : (start ≡ left_of g1) × (touched ++ rest ≡ right_of pulses g1)
+  unfolding start touched rest
+  parted =
+      parted_same (length a - 100) start (touched ++ rest) (left_of g1) (right_of pulses g1)
+      (sym (frames_in_parts f a x b) ∙ sym were)
+      (AllUpTo-more (0 + (length a - 100)) (length a - 100) start (omega arith) (records_in-up_to f (a ++ (x ++ b)) 0 (length a - 100)))
+      (AllAfter-append (length a - 100) touched rest
+      (records_in-after f (a ++ (x ++ b)) (length a - 100) (length a + length x - (length a - 100)))
+      (AllAfter-less (length a + length x) (length a - 100) rest (omega arith) rest_after))
+      ends begins
+
+  -- and what stands right of it then is behind the window
+  behind : rest ≡ right_of pulses g2
+  behind = (parted_same (length a + length x) touched rest dropped.gone (right_of pulses g2) (parted.1 ∙ dropped.all)
+      touched_up_to rest_after (AllUpTo-ends (length a + length x) dropped.gone dropped.up_to) dropped.rest).1
+
+  pub repaired_parts : shown (((pulses + (2 ^ 64 - length x)) % 2 ^ 64 + length y) % 2 ^ 64) g3 ≡ frames f (a ++ (y ++ b))
+  unfolding start rest
+  repaired_parts =
+      let now = ((pulses + (2 ^ 64 - length x)) % 2 ^ 64 + length y) % 2 ^ 64 in
+      let window = records_in f (a ++ (y ++ b)) (length a - 100) (length a + length y - (length a - 100)) in
+      let front : left_of g3 ≡ records_in f (a ++ (y ++ b)) 0 (length a - 100) ++ window =
+      left ∙ ap (λ rs. rs ++ window) (stays ∙ (sym parted.0 ∙ edits_are_local f a x y b)) in
+      let back : right_of now g3 ≡ map (moved (length a + length y)) (frames f b) =
+      ap (map (turned now)) kept
+      ∙ turned_moved pulses (length a) (length x) (length y) (length b) few fits (kept_right g2) (frames f b)
+      (AllUpTo-more (0 + (length b - 1)) (length b) (frames f b) (omega arith) (records_in-up_to f b 0 (length b - 1))) (sym behind) in
+      (λ i. front i ++ back i)
+      ∙ (append_assoc (records_in f (a ++ (y ++ b)) 0 (length a - 100)) window (map (moved (length a + length y)) (frames f b))
+      ∙ sym (frames_in_parts f a y b))
+
+-- a list in three parts
+parts : (ps : List Pulse) (at n : ℕ) → ps ≡ take at ps ++ (take n (drop at ps) ++ drop (at + n) ps)
+parts ps at n =
+    sym (take-append-drop at ps)
+    ∙ ap (λ qs. take at ps ++ qs) (sym (take-append-drop n (drop at ps)) ∙ ap (λ qs. take n (drop at ps) ++ qs) (drop-drop n at ps))
+
+piece_long : (ps : List Pulse) (at n : ℕ) → at + n ≤ length ps → length (take n (drop at ps)) ≡ n
+piece_long ps at n le = length-take-le n (drop at ps) (omega (arith, length-drop at ps))
+
+-- an edited track: the records of the window, between those that stay
+module _ (f : FormatView) (at gone come micros : ℕ) (records : List Record) (ps : List Pulse) (were : WereFrames f at gone come records micros ps)
+    (few : length ps ≤ 2 ^ 22) (small : gone < 2 ^ 64) (pulses from to now : ℕ) (g1 g2 g3 : GapView Record)
+    (first : from ≡ at - 100)
+    (shows : shown pulses g1 ≡ records)
+    (ends : EndsUpTo from (left_of g1))
+    (begins : BeginsAfter from (right_of pulses g1))
+    (stays : left_of g2 ≡ left_of g1)
+    (dropped : Dropped (at + gone) (right_of pulses g1) (right_of pulses g2))
+    (last : to ≡ min (length ps - 1) (at + come))
+    (left : left_of g3 ≡ left_of g2 ++ records_in f ps from (to - from))
+    (kept : kept_right g3 ≡ kept_right g2)
+    (number : now ≡ ((pulses + (2 ^ 64 - gone)) % 2 ^ 64 + come) % 2 ^ 64) where
+  pub repaired : shown now g3 ≡ frames f ps
+  repaired =
+      let a = take at ps in
+      let y = take come (drop at ps) in
+      let x = take gone (drop at were.former) in
+      let b = drop (at + come) ps in
+      let a_long : length a ≡ at = length-take-le at ps (omega (arith, were.span.came)) in
+      let y_long : length y ≡ come = piece_long ps at come were.span.came in
+      let x_long : length x ≡ gone = piece_long were.former at gone were.span.there in
+      let whole : ps ≡ a ++ (y ++ b) = parts ps at come in
+      let former : were.former ≡ a ++ (x ++ b) =
+      parts were.former at gone ∙ ((λ i. sym were.span.before i ++ (x ++ sym were.span.after i))) in
+      let place : from ≡ length a - 100 = omega (arith, a_long, first) in
+      let window : records_in f ps from (to - from) ≡ records_in f (a ++ (y ++ b)) (length a - 100) (length a + length y - (length a - 100)) =
+      (λ i. records_in f ps (first i) (last i - first i))
+      ∙ (window_end f ps (at - 100) (at + come) (omega arith) (omega (arith, were.span.came)) were.span.came
+      ∙ λ i. records_in f (whole i) (sym a_long i - 100) (sym a_long i + sym y_long i - (sym a_long i - 100))) in
+      let same : now ≡ ((pulses + (2 ^ 64 - length x)) % 2 ^ 64 + length y) % 2 ^ 64 =
+      number ∙ λ i. ((pulses + (2 ^ 64 - sym x_long i)) % 2 ^ 64 + sym y_long i) % 2 ^ 64 in
+      ap (λ n. shown n g3) same
+      ∙ (repaired_parts f a x y b pulses g1 g2 g3 (omega (arith, x_long, small)) (omega (arith, a_long, y_long, length-drop (at + come) ps, were.span.came, few))
+      (shows ∙ (were.frames ∙ ap (frames f) former))
+      (subst (λ n. EndsUpTo n (left_of g1)) place ends)
+      (subst (λ n. BeginsAfter n (right_of pulses g1)) place begins)
+      stays
+      (subst (λ n. Dropped n (right_of pulses g1) (right_of pulses g2)) (λ i. sym a_long i + sym x_long i) dropped)
+      (left ∙ ap (λ rs. left_of g2 ++ rs) window)
+      kept
+      ∙ ap (frames f) (sym whole))
+
+-- the room of an index
+pub all_room : (g : GapView Record) (pulses looks : ℕ) (v : IndexView) → index_view g pulses looks ≡ v → length g.items ≤ g.capacity
+    → length v.records + v.room ≡ g.capacity
+all_room g pulses looks v is within = omega (arith, ap (λ w. length w.records) is, ap (λ w. w.room) is, length-shown pulses g)
+
+pub length-filled : (g h : GapView Record) (rs : List Record) → left_of h ≡ left_of g ++ rs → kept_right h ≡ kept_right g
+    → length h.items ≡ length g.items + length rs
+length-filled g h rs left right =
+    omega (arith, ap length left, length-append (left_of g) rs, ap length right, length-sides g, length-sides h)

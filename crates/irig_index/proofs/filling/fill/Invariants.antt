@@ -1,0 +1,19 @@
+use Rattle.std.proofs.Common.{◌≡◌, ◌+◌, ◌-◌, ◌≤◌, ◌++◌, length}
+use Rattle.irig_index.specs.Frames.{records_in}
+use Rattle.irig_index.specs.Sides.{left_of, kept_right}
+use Rattle.irig_index.proofs.SpentLemmas.{Spent}
+use Rattle.irig_index.proofs.filling.fill.Given as goal
+
+-- the records of the places so far stand left of the gap
+abbrev pub invariant-loop-before : goal.invariant-loop-before
+invariant-loop-before l = record {
+  spent : Spent l.format l.fn.lens.track.pulses l.from l.place l.fn.lens l.lens l.fn.looks l.looks;
+  within : l.place ≤ l.to;
+  left : left_of l.records ≡ left_of l.fn.records ++ records_in l.format l.fn.lens.track.pulses l.from (l.place - l.from);
+  right : kept_right l.records ≡ kept_right l.fn.records;
+  room : length l.fn.records.items + length (records_in l.format l.fn.lens.track.pulses l.from (l.to - l.from)) ≤ l.fn.records.capacity
+      → l.records.capacity ≡ l.fn.records.capacity;
+}
+
+abbrev pub decreases-loop-before : goal.decreases-loop-before
+decreases-loop-before l = l.to - l.place

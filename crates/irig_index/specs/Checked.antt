@@ -1,0 +1,18 @@
+-- How far the check of a frame looks. It ends at the next marker at the latest, since two pulses
+-- beside each other are not both position identifiers within a frame. This project's own.
+use Rattle.std.specs.Prelude.{◌≡◌, ℕ, ◌+◌, ◌-◌, ◌≤◌, ◌<◌, List, []}
+use Rattle.irig_codes.specs.Format.{FormatView}
+use Rattle.irig_track.specs.declared.pulse.Pulse.{Pulse}
+use Rattle.irig_track.specs.Looks.{LensView}
+use Rattle.irig_index.specs.Frames.{record_after}
+use Rattle.irig_index.specs.Looked.{Looked}
+
+-- the frame of a marker was looked at up to the pulse `reach`, each pulse once, and no marker stands
+-- between the two
+pub record Checked (f : FormatView) (pulses : List Pulse) (marker : ℕ)
+    (old new : LensView) (before after : ℕ) : Type 0 where
+  pub reach : ℕ
+  pub from : marker ≤ reach
+  pub to : reach ≤ marker + 99
+  pub looked : Looked old new before after (reach - marker)
+  pub alone : (k : ℕ) → marker ≤ k → k + 1 < reach → record_after f pulses k ≡ []

@@ -1,0 +1,64 @@
+//! What is made of the markers of a part of a track: their records, or their number.
+
+ghost use Rattle.std.specs.Prelude.{◌≡◌, ◌+◌, ◌-◌, ◌*◌, ◌<◌, ◌≤◌, ◌++◌, length, min, OnOk, IsOk};
+ghost use Rattle.irig_track.specs.Track.{IsTrack};
+ghost use Rattle.irig_index.specs.Frames.{frames, records_in};
+ghost use Rattle.irig_index.specs.Looked.{Looked};
+ghost use Rattle.irig_index.specs.Sides.{left_of, kept_right};
+
+use crate::frame::verdict;
+use crate::marker::next_marker;
+use crate::record::Record;
+use crate::sides::put;
+use irig_codes::Format;
+use irig_gap::Gap;
+use irig_track::Lens;
+use std::alloc::AllocError;
+
+/// Counts the markers of the lens's track.
+pub fn count_markers(lens: &mut Lens<'_>, looks: &mut u64, format: Format) -> usize
+    ensures count { result ≡ length (frames format lens.old.track.pulses) }
+    ensures looked { Looked lens.old lens.new looks.old looks.new
+        (2 * (length lens.old.track.pulses - 1)) }
+{
+    let to = lens.len().saturating_sub(1);
+    let mut count = 0;
+    let mut place = 0;
+    while let Some((before, _)) = next_marker(lens, looks, format, place, to) {
+        count += 1;
+        place = before + 1;
+    }
+    count
+}
+
+/// Puts the records of the markers after the places `from` to `to`, that one not included, left of
+/// the gap. Where there is room for them it does not grow.
+pub fn fill(
+    records: &mut Gap<Record>,
+    lens: &mut Lens<'_>,
+    looks: &mut u64,
+    format: Format,
+    from: usize,
+    to: usize,
+) -> Result<(), AllocError>
+    requires order { from ≤ to }
+    requires within { from < to → to < length lens.old.track.pulses }
+    ensures left { OnOk result (left_of records.new ≡ left_of records.old
+        ++ records_in format lens.old.track.pulses from (to - from)) }
+    ensures right { OnOk result (kept_right records.new ≡ kept_right records.old) }
+    ensures room { length records.old.items
+        + length (records_in format lens.old.track.pulses from (to - from)) ≤ records.old.capacity
+        → IsOk result × (records.new.capacity ≡ records.old.capacity) }
+    ensures looked { Looked lens.old lens.new looks.old looks.new
+        (min (101 * (to - from)) (3 * (to - from) + 98)) }
+{
+    let _len = lens.len();
+    let mut place = from;
+    while let Some((before, first)) = next_marker(lens, looks, format, place, to) {
+        let marker = before + 1;
+        let verdict = verdict(lens, looks, format, marker, first);
+        put(records, Record { marker, verdict })?;
+        place = marker;
+    }
+    Ok(())
+}

@@ -1,0 +1,134 @@
+//! The records on both sides of a gap.
+
+ghost use Rattle.std.specs.Prelude.{◌≡◌, ℕ, ◌+◌, ◌^◌, ◌<◌, ◌≤◌, ◌∷◌, ◌++◌, [], true, false, length, slice_get, Some, IsOk, OnOk};
+ghost use Rattle.irig_index.specs.Sides.{turned, left_of, kept_right, right_of, shown, EndsUpTo, BeginsAfter, BeginsUpTo, Dropped};
+
+use crate::record::Record;
+use irig_gap::Gap;
+use std::alloc::AllocError;
+
+/// The record with its number counted from the other end of so many pulses.
+pub fn turned(pulses: usize, kept: Record) -> Record
+    ensures turned { result ≡ turned pulses kept }
+    ensures fits { kept.marker < 2 ^ 64 }
+{
+    Record {
+        marker: pulses.wrapping_sub(kept.marker),
+        verdict: kept.verdict,
+    }
+}
+
+/// The record at place `k`, from 0, its marker counted from the front.
+pub fn record_at(records: &Gap<Record>, pulses: usize, k: usize) -> Record
+    requires { k < length records.now.items }
+    ensures { slice_get (shown pulses records.now) k ≡ Some result }
+{
+    let record = records.get(k);
+    if k < records.gap_at() {
+        record
+    } else {
+        turned(pulses, record)
+    }
+}
+
+/// Takes all records out.
+pub fn clear(records: &mut Gap<Record>)
+    ensures items { records.new.items ≡ [] }
+    ensures capacity { records.new.capacity ≡ records.old.capacity }
+{
+    while records.gap_at() > 0 {
+        records.take_left();
+    }
+    while records.len() > 0 {
+        records.take_right();
+    }
+}
+
+/// Moves the gap to stand behind the records of the markers up to `last`.
+pub fn part(records: &mut Gap<Record>, pulses: usize, last: usize)
+    ensures shown { shown pulses records.new ≡ shown pulses records.old }
+    ensures left { EndsUpTo last (left_of records.new) }
+    ensures right { BeginsAfter last (right_of pulses records.new) }
+    ensures length { length records.new.items ≡ length records.old.items }
+    ensures capacity { records.new.capacity ≡ records.old.capacity }
+{
+    while ends_after(records, last) {
+        step_left(records, pulses);
+    }
+    while begins_up_to(records, pulses, last) {
+        step_right(records, pulses);
+    }
+}
+
+/// Takes the records right of the gap out that are of markers up to `last`.
+pub fn drop_up_to(records: &mut Gap<Record>, pulses: usize, last: usize)
+    ensures left { left_of records.new ≡ left_of records.old }
+    ensures right { Dropped last (right_of pulses records.old) (right_of pulses records.new) }
+    ensures length { length records.new.items ≤ length records.old.items }
+    ensures capacity { records.new.capacity ≡ records.old.capacity }
+{
+    while begins_up_to(records, pulses, last) {
+        records.take_right();
+    }
+}
+
+/// Whether the record left of the gap is of a marker after `last`.
+fn ends_after(records: &Gap<Record>, last: usize) -> bool
+    ensures left { result ≡ false → EndsUpTo last (left_of records.now) }
+    ensures some { result ≡ true → 0 < records.now.place }
+{
+    let place = records.gap_at();
+    place > 0 && records.get(place - 1).marker > last
+}
+
+/// Whether the record right of the gap is of a marker up to `last`.
+fn begins_up_to(records: &Gap<Record>, pulses: usize, last: usize) -> bool
+    ensures right { result ≡ false → BeginsAfter last (right_of pulses records.now) }
+    ensures some { result ≡ true → BeginsUpTo last (right_of pulses records.now) }
+{
+    let place = records.gap_at();
+    place < records.len() && turned(pulses, records.get(place)).marker <= last
+}
+
+/// Moves the gap over the record left of it, which is then counted from the back.
+fn step_left(records: &mut Gap<Record>, pulses: usize)
+    requires { 0 < records.old.place }
+    ensures shown { shown pulses records.new ≡ shown pulses records.old }
+    ensures place { records.new.place + 1 ≡ records.old.place }
+    ensures length { length records.new.items ≡ length records.old.items }
+    ensures capacity { records.new.capacity ≡ records.old.capacity }
+{
+    let last = records.gap_at() - 1;
+    let record = records.get(last);
+    records.set(last, turned(pulses, record));
+    records.step_left();
+}
+
+/// Moves the gap over the record right of it, which is then counted from the front.
+fn step_right(records: &mut Gap<Record>, pulses: usize)
+    requires { records.old.place < length records.old.items }
+    ensures shown { shown pulses records.new ≡ shown pulses records.old }
+    ensures left { (last : ℕ) → BeginsUpTo last (right_of pulses records.old)
+        → EndsUpTo last (left_of records.new) }
+    ensures place { records.new.place ≡ records.old.place + 1 }
+    ensures length { length records.new.items ≡ length records.old.items }
+    ensures capacity { records.new.capacity ≡ records.old.capacity }
+{
+    let first = records.gap_at();
+    let record = records.get(first);
+    records.set(first, turned(pulses, record));
+    records.step_right();
+}
+
+/// Puts a record that was found left of the gap. Where it has room it does not grow.
+pub fn put(records: &mut Gap<Record>, found: Record) -> Result<(), AllocError>
+    ensures left { OnOk result (left_of records.new ≡ left_of records.old ++ (found ∷ [])) }
+    ensures right { OnOk result (kept_right records.new ≡ kept_right records.old) }
+    ensures room { length records.old.items + 1 ≤ records.old.capacity
+        → IsOk result × (records.new.capacity ≡ records.old.capacity) }
+{
+    records.reserve(1)?;
+    let _place = records.gap_at();
+    records.put(found);
+    Ok(())
+}

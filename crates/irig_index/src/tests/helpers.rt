@@ -1,0 +1,171 @@
+//! Tracks of format G, expression 2, their edits, and indexes that are kept beside them.
+
+ghost use Rattle.std.specs.Prelude.{◌≡◌, ◌<◌, ◌≤◌, IfOk, OnOk, MatchOption};
+ghost use Rattle.irig_index.specs.Frames.{frames};
+ghost use Rattle.irig_track.specs.Splices.{IsSpan};
+
+use crate::{Index, Record};
+use irig_codes::Format;
+use irig_gap::Gap;
+use irig_track::{Span, Track};
+use irig_vcd::Recording;
+use std::alloc::{AllocError, Global};
+
+/// What is done to a track.
+#[derive(Clone, Copy)]
+pub(crate) enum Edit {
+    /// The level is turned round from the first time to the second.
+    Invert(u64, u64),
+    /// One pulse is moved, by this many microseconds.
+    Move(usize, i64),
+    /// From the first pulse on, so many are taken out.
+    Cut(usize, usize),
+}
+
+/// The width, in microseconds, of an element of a frame of day 1, 00:00:00.00 or .01. The units of
+/// the day are elements 30 to 33, those of the hundredths 50 to 53.
+fn width(hundredths: u64, element: u64) -> u64
+    ensures { result < 100 }
+{
+    if element == 0 || element % 10 == 9 {
+        80
+    } else if element == 30 || element == 50 && hundredths == 1 {
+        50
+    } else {
+        20
+    }
+}
+
+/// The track of these edges.
+fn track_of(alloc: Global, length: u64, edges: Vec<u64>) -> Result<Track, AllocError> {
+    match Recording::new(length, edges) {
+        Ok(recording) => Track::new(alloc, recording),
+        Err(_) => Err(AllocError),
+    }
+}
+
+/// So many pulses of sound frames: element e of frame k rises at (100 k + e) * 100.
+pub(crate) fn sound(alloc: Global, count: u64) -> Result<Track, AllocError>
+    requires { count ≤ 1000 }
+{
+    let mut edges = Vec::new(alloc);
+    for place in 0..count {
+        edges.push(100 * place)?;
+        edges.push(100 * place + width(place / 100, place % 100))?;
+    }
+    track_of(alloc, 100 * count, edges)
+}
+
+/// Eight position identifiers in step: all but the first are markers.
+pub(crate) fn positions(alloc: Global) -> Result<Track, AllocError> {
+    let mut edges = Vec::new(alloc);
+    for place in 0..8u64 {
+        edges.push(100 * place)?;
+        edges.push(100 * place + 80)?;
+    }
+    track_of(alloc, 800, edges)
+}
+
+/// Takes `count` pulses out from `at` on, if they are there.
+fn cut(
+    alloc: Global,
+    track: &mut Track,
+    at: usize,
+    count: usize,
+) -> Result<Option<Span>, AllocError>
+    ensures micros { OnOk result (track.new.micros ≡ track.old.micros) }
+    ensures span { IfOk result (λ made. MatchOption made (track.new.pulses ≡ track.old.pulses)
+        (λ span. IsSpan span.at span.old span.new track.old.pulses track.new.pulses)) }
+{
+    let mut put = Gap::new(alloc);
+    let mut taken = Gap::new(alloc);
+    taken.reserve(count)?;
+    if !track.can_splice(at, count, &put) {
+        return Ok(None);
+    }
+    Ok(Some(track.splice(at, count, &mut put, &mut taken)))
+}
+
+/// Makes an edit, if it can be made, and tells where.
+fn make(alloc: Global, track: &mut Track, edit: Edit) -> Result<Option<Span>, AllocError>
+    ensures micros { OnOk result (track.new.micros ≡ track.old.micros) }
+    ensures span { IfOk result (λ made. MatchOption made (track.new.pulses ≡ track.old.pulses)
+        (λ span. IsSpan span.at span.old span.new track.old.pulses track.new.pulses)) }
+{
+    track.reserve(1)?;
+    match edit {
+        Edit::Invert(from, to) if track.can_toggle(from, to) => Ok(Some(track.toggle(from, to))),
+        Edit::Move(pulse, by) if track.can_shift(pulse, pulse, by) => {
+            Ok(Some(track.shift(pulse, pulse, by)))
+        }
+        Edit::Cut(at, count) => cut(alloc, track, at, count),
+        _ => Ok(None),
+    }
+}
+
+/// The edit that takes an inversion or a move back.
+pub(crate) fn back(edit: Edit) -> Edit {
+    match edit {
+        Edit::Move(pulse, by) => Edit::Move(pulse, 0i64.wrapping_sub(by)),
+        other => other,
+    }
+}
+
+/// Makes an edit, if it can be made, and repairs the index. False where too many looks were made.
+pub(crate) fn repaired(
+    alloc: Global,
+    track: &mut Track,
+    index: &mut Index,
+    format: Format,
+    edit: Edit,
+) -> Result<bool, AllocError>
+    requires { index.old.records ≡ frames format track.old.pulses }
+    ensures { OnOk result (index.new.records ≡ frames format track.new.pulses) }
+{
+    let _before = track.len();
+    let Some(span) = make(alloc, track, edit)? else {
+        return Ok(true);
+    };
+    let _after = track.len();
+    let before = index.looks();
+    index.reserve(span.new + 100)?;
+    let mut lens = track.lens();
+    index.repair(&mut lens, format, span);
+    let few = lens.looks() <= 3 * (span.new as u64 + 200);
+    Ok(few && index.looks().wrapping_sub(before) == lens.looks())
+}
+
+/// Makes the index that of the track, by reading the whole of it.
+pub(crate) fn rebuilt(index: &mut Index, track: &Track, format: Format) -> Result<(), AllocError> {
+    let mut lens = track.lens();
+    let count = Index::count(&mut lens, format);
+    index.reserve(count)?;
+    index.rebuild(&mut lens, format);
+    Ok(())
+}
+
+/// Whether the index holds these records and no others.
+pub(crate) fn holds(index: &Index, records: &[Record]) -> bool {
+    if index.len() != records.len() {
+        return false;
+    }
+    for k in 0..records.len() {
+        if index.record(k) != records[k] {
+            return false;
+        }
+    }
+    true
+}
+
+/// Whether two indexes hold the same records.
+pub(crate) fn same(one: &Index, other: &Index) -> bool {
+    if one.len() != other.len() {
+        return false;
+    }
+    for k in 0..one.len() {
+        if one.record(k) != other.record(k) {
+            return false;
+        }
+    }
+    true
+}

@@ -1,0 +1,150 @@
+//! Tracks with the frames that they have, worked out by hand.
+
+ghost use Rattle.std.specs.Prelude.{◌≡◌, OnOk};
+ghost use Rattle.irig_index.specs.Frames.{frames};
+
+use super::helpers::{Edit, back, holds, rebuilt, repaired, sound};
+use crate::{Cause, Index, Record, Verdict, frames_are_the_markers, verdicts_are_first_faults};
+use irig_codes::{Fields, Format, Kind, Note};
+use irig_track::Track;
+use std::alloc::{AllocError, Global};
+use std::test::Fail;
+
+fn broken(marker: usize, element: u8, cause: Cause) -> Record {
+    Record {
+        marker,
+        verdict: Verdict::Broken(element, cause),
+    }
+}
+
+/// The second frame: its marker is pulse 100, from 0, where nothing came or went before it.
+fn second_frame(marker: usize) -> Record {
+    let fields = Fields {
+        hundredths: Some(1),
+        seconds: 0,
+        minutes: 0,
+        hours: 0,
+        days: 1,
+        year: None,
+        sbs: None,
+        control: None,
+    };
+    Record {
+        marker,
+        verdict: Verdict::Read(fields, Note::Fine),
+    }
+}
+
+/// Makes an edit. Whether one index, repaired, and another, rebuilt, then hold these records.
+fn both_hold(
+    alloc: Global,
+    track: &mut Track,
+    index: &mut Index,
+    other: &mut Index,
+    edit: Edit,
+    records: &[Record],
+    format: Format,
+) -> Result<bool, AllocError>
+    requires { index.old.records ≡ frames format track.old.pulses }
+    ensures { OnOk result (index.new.records ≡ frames format track.new.pulses) }
+{
+    let few = repaired(alloc, track, index, format, edit)?;
+    rebuilt(other, track, format)?;
+    Ok(few && holds(index, records) && holds(other, records))
+}
+
+#[test]
+fn a_sound_track_is_read_with_few_looks(rt: HostRuntime) -> Result<(), Fail> {
+    let format = Format::new(Kind::G, 2).expect(&rt, "G permits expression 2");
+    let track = sound(rt.alloc(), 200)?;
+    // The pass goes over two places where the pulse behind the first is no position identifier: those
+    // are 1, 3, 5, 7 and 10, 12 .. 98 in the first frame and as many in the second, 98 looks. At 9,
+    // 100 and 109 it meets one, and looks at the pulse before it too: 6 looks. The frame of the one
+    // marker takes 99 more.
+    let mut lens = track.lens();
+    let index = Index::build(rt.alloc(), &mut lens, format)?;
+    assert!(rt; holds(&index, &[second_frame(100)]));
+    assert_eq!(rt; index.looks(), 98 + 6 + 99);
+    assert_eq!(rt; lens.looks(), 98 + 6 + 99);
+    assert!(rt; index.room() + index.len() >= 1);
+    verdicts_are_first_faults();
+    frames_are_the_markers();
+    Ok(())
+}
+
+#[test]
+fn frames_are_read_or_broken_where_they_are(rt: HostRuntime) -> Result<(), Fail> {
+    let format = Format::new(Kind::G, 2).expect(&rt, "G permits expression 2");
+    let mut track = sound(rt.alloc(), 200)?;
+    let mut index = Index::build(rt.alloc(), &mut track.lens(), format)?;
+    let mut other = Index::build(rt.alloc(), &mut track.lens(), format)?;
+    let rows: [(Edit, &[Record]); 8] = [
+        // P0 becomes a One, so that no marker is left.
+        (Edit::Invert(9_950, 9_980), &[]),
+        // P0 out of step with Pr: 120 microseconds apart.
+        (Edit::Move(99, -20), &[]),
+        (
+            Edit::Invert(19_920, 19_980),
+            &[broken(100, 99, Cause::Class)],
+        ),
+        (
+            Edit::Invert(19_900, 19_980),
+            &[broken(100, 99, Cause::Ended)],
+        ),
+        // Three position identifiers in a row are two markers.
+        (
+            Edit::Invert(10_120, 10_180),
+            &[broken(100, 1, Cause::Class), broken(101, 8, Cause::Class)],
+        ),
+        // A pulse more before the second frame, and one less: its record tells a new number.
+        (Edit::Invert(8_130, 8_150), &[second_frame(101)]),
+        (Edit::Invert(8_100, 8_120), &[second_frame(99)]),
+        (Edit::Move(140, 20), &[broken(100, 40, Cause::Step)]),
+    ];
+    for (edit, records) in rows {
+        assert!(rt;
+            both_hold(
+                rt.alloc(),
+                &mut track,
+                &mut index,
+                &mut other,
+                edit,
+                records,
+                format
+            )?
+        );
+        let sound = [second_frame(100)];
+        assert!(rt;
+            both_hold(
+                rt.alloc(),
+                &mut track,
+                &mut index,
+                &mut other,
+                back(edit),
+                &sound,
+                format
+            )?
+        );
+    }
+    Ok(())
+}
+
+#[test]
+fn a_time_is_found_among_the_rises(rt: HostRuntime) -> Result<(), Fail> {
+    let track = sound(rt.alloc(), 200)?;
+    let rows = [
+        (0, 1),
+        (99, 1),
+        (100, 2),
+        (9_999, 100),
+        (19_900, 200),
+        (u64::MAX, 200),
+    ];
+    for (time, count) in rows {
+        let mut lens = track.lens();
+        assert_eq!(rt; Index::find(&mut lens, time), count);
+        // 200 has eight binary digits.
+        assert!(rt; lens.looks() <= 8);
+    }
+    Ok(())
+}
