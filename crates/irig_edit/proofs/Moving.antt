@@ -10,11 +10,15 @@ use Rattle.irig_vcd.specs.Recording.{UpTo}
 use Rattle.irig_track.proofs.Allowed.{shift_stands}
 use Rattle.irig_track.proofs.Carried.{length-spliced, length-piece}
 use Rattle.irig_track.proofs.Laws.{is_edge-spliced}
-use Rattle.irig_edit.specs.State.{State, IsState, IsMark, state}
-use Rattle.irig_edit.specs.Edits.{IsAfter, pulse_of, moved_time, moved_mark}
+use Rattle.irig_edit.specs.State.{State, IsState, state}
+use Rattle.irig_edit.specs.Edits.{IsAfter, pulse_of}
+use Rattle.irig_edit.specs.Marks.{moved_time, moved_mark}
 use Rattle.irig_edit.specs.Calls.Call.{Shift}
-use Rattle.std.specs.List.{AllByRecursion}
-use Rattle.irig_edit.proofs.Marking.{marks_moved}
+use Rattle.irig_edit.specs.Becoming.{Becomes}
+use Rattle.irig_edit.specs.Delta.{turned}
+use Rattle.irig_edit.specs.Marks.{AllMayMove, marks_moved, stands}
+use Rattle.irig_edit.specs.Delta.Delta.{Shifted}
+use Rattle.irig_edit.proofs.Marking.{may_between, moved_between}
 use Rattle.irig_edit.proofs.Shifting.{pulse_there}
 
 -- the edges of moved pulses are their moved edges
@@ -66,27 +70,27 @@ moved_within i j d s lawful first order last can =
     let top = first_or-top s.micros (edges_of (drop (j - 1 + 1) s.pulses)) (upto_dropped s.micros (j - 1 + 1) s.pulses lawful.track.within) in
     omega (arith, fits.1, top)
 
--- what a shift makes of a state is the state after it
-pub shift_made : (i j : ℕ) (d e : ℤ) (s t : State) (micros low high : ℕ) (ps : List Pulse) (marks : List (Option ℕ)) → t ≡ s → e ≡ d → IsState t
-    → 1 ≤ i → i ≤ j → j ≤ length s.pulses → CanShift s.micros (i - 1) (j - 1) d s.pulses
-    → micros ≡ t.micros → ps ≡ shifted (i - 1) (j - 1) e t.pulses → low ≡ (pulse_of i s).rise → high ≡ (pulse_of j s).fall
-    → marks ≡ map (moved_mark low high e) t.marks
-    → IsAfter (Shift i j d) s (state micros ps t.format marks) × IsState (state micros ps t.format marks)
-shift_made i j d e s t micros low high ps marks view same inside first order last can long is rise fall moves =
-    let P : State → Type 0 = λ x. IsState x in
-    let lawful : IsState s = subst P view inside in
-    let pulses : ps ≡ shifted (i - 1) (j - 1) d s.pulses = is ∙ (λ k. shifted (i - 1) (j - 1) (same k) (view k).pulses) in
-    let low_mark = (pulse_of i s).rise in
-    let high_mark = (pulse_of j s).fall in
-    let marked : marks ≡ map (moved_mark low_mark high_mark d) s.marks = moves ∙ (λ k. map (moved_mark (rise k) (fall k) (same k)) (view k).marks) in
-    let micros_is : s.micros ≡ micros = sym (long ∙ ap (λ (x : State). x.micros) view) in
-    let format_is : s.format ≡ t.format = sym (ap (λ (x : State). x.format) view) in
-    let after = shifted_after i j d s ps marks lawful first order last can pulses marked in
-    let M : List (Option ℕ) → Type 0 = λ ms. AllByRecursion (IsMark s.micros) ms in
-    let stands : IsState (state s.micros ps s.format marks) = record {
-      track = after.track;
-      letters = ap length marked ∙ length-map s.marks (moved_mark low_mark high_mark d) ∙ lawful.letters;
-      marks = subst M (sym marked) (marks_moved s.micros low_mark high_mark d s.marks (moved_within i j d s lawful first order last can) lawful.marks);
-    } in
-    let Q : State → Type 0 = λ x. IsAfter (Shift i j d) s x × IsState x in
-    subst Q (λ k. state (micros_is k) ps (format_is k) marks) (after, stands)
+-- the moved pulses do not begin before 0
+moved_from_zero : (i j : ℕ) (d : ℤ) (s : State) → IsState s → 1 ≤ i → i ≤ j → j ≤ length s.pulses
+    → CanShift s.micros (i - 1) (j - 1) d s.pulses → back d ≤ (pulse_of i s).rise + ahead d
+moved_from_zero i j d s lawful first order last can =
+    let fits = shift_stands (i - 1) (j - 1) (pulse_of i s) (pulse_of j s) s.pulses (omega arith) (pulse_there i s first (omega arith)) (pulse_there j s (omega arith) last)
+    s.micros (following 0 (edges_of (take (i - 1) s.pulses))) (first_or (s.micros + 1) (edges_of (drop (j - 1 + 1) s.pulses))) d (omega arith) lawful.track refl refl can in
+    omega (arith, fits.0)
+
+-- the marks that stand on the pulses may move with them
+pub marks_may : (i j : ℕ) (d : ℤ) (s : State) → IsState s → 1 ≤ i → i ≤ j → j ≤ length s.pulses → CanShift s.micros (i - 1) (j - 1) d s.pulses
+    → AllMayMove s.micros d (map (stands (pulse_of i s).rise (pulse_of j s).fall) s.marks) s.marks
+marks_may i j d s lawful first order last can =
+    may_between s.micros (pulse_of i s).rise (pulse_of j s).fall d s.marks (moved_from_zero i j d s lawful first order last can) (moved_within i j d s lawful first order last can)
+
+-- the state after a shift of pulses, and of the marks that stand on them, is that after the call
+pub shifted_becomes : (i j : ℕ) (d : ℤ) (s : State) → IsState s → 1 ≤ i → i ≤ j → j ≤ length s.pulses → CanShift s.micros (i - 1) (j - 1) d s.pulses
+    → Becomes (Shift i j d) s (turned s (Shifted (i - 1) (j - 1) d (map (stands (pulse_of i s).rise (pulse_of j s).fall) s.marks))).0 j
+shifted_becomes i j d s lawful first order last can =
+    record {
+      after = shifted_after i j d s (shifted (i - 1) (j - 1) d s.pulses) (marks_moved d (map (stands (pulse_of i s).rise (pulse_of j s).fall) s.marks) s.marks)
+          lawful first order last can refl (moved_between (pulse_of i s).rise (pulse_of j s).fall d s.marks);
+      cursor = λ _. refl;
+      there = omega (arith, length-shifted (i - 1) (j - 1) d s.pulses (omega arith) (omega arith));
+    }

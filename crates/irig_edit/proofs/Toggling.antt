@@ -1,9 +1,18 @@
--- When the level can be turned over.
-use Rattle.std.proofs.Common.{◌≡◌, ◌≤◌, ◌<◌, ◌-◌, ◌^◌, ℕ, Bool, true, false, length, refl, arith}
+-- When the level can be turned over, and what comes of it.
+use Rattle.std.proofs.Common.{◌≡◌, ◌≤◌, ◌<◌, ◌+◌, ◌-◌, ◌^◌, ◌==◌, nat_lt, cond, ℕ, List, [], ◌∷◌, Bool, true, false, length, refl, ap, ◌∙◌, arith}
 use Rattle.std.proofs.lemmas.Bool.Decides.{nat_tests}
-use Rattle.irig_track.specs.Edges.{is_edge}
-use Rattle.irig_track.specs.Toggles.{CanToggle}
+use Rattle.irig_track.specs.Edges.{edges_of, has, is_edge}
+use Rattle.irig_track.specs.Splices.{risen_by}
+use Rattle.irig_track.specs.Toggles.{CanToggle, flipped}
+use Rattle.irig_track.proofs.Laws.{has-toggled}
+use Rattle.irig_track.proofs.Rising.{length-edges_of}
 use Rattle.irig_track.proofs.Recordings.{can_toggle_room, can_toggle_first, can_toggle_second, cannot_toggle}
+use Rattle.irig_edit.specs.Becoming.{Becomes}
+use Rattle.irig_edit.specs.Calls.Call.{Invert}
+use Rattle.irig_edit.specs.Delta.{turned}
+use Rattle.irig_edit.specs.Delta.Delta.{Toggled}
+use Rattle.irig_edit.specs.DeltaLaws.{IsState-turned}
+use Rattle.irig_edit.specs.EdgeLaws.{edges_of-toggled}
 use Rattle.irig_edit.specs.State.{State, IsState}
 use Rattle.irig_edit.specs.Conditions.{is_overfull, is_full}
 
@@ -28,3 +37,38 @@ overfull a b s lawful order within cannot = by_case (is_full s) refl (is_edge a 
   by_case true is true f second g = absurd (cannot (can_toggle_first a b s.micros s.pulses order within lawful.track f))
   by_case true is false f true g = absurd (cannot (can_toggle_second a b s.micros s.pulses order within lawful.track g))
   by_case true is false f false g = rw is (rw f (rw g refl))
+
+-- the state after a toggle is that after an inversion
+pub toggled_becomes : (a b place : ℕ) (s : State) → IsState s → CanToggle s.micros a b s.pulses → place ≡ risen_by b (turned s (Toggled a b)).0.pulses
+    → place ≤ length (turned s (Toggled a b)).0.pulses → Becomes (Invert a b) s (turned s (Toggled a b)).0 place
+toggled_becomes a b place s is can count within =
+    let edges = edges_of-toggled s.micros a b s.pulses can in
+    record {
+      after = record {
+        length = refl;
+        track = (IsState-turned s (Toggled a b) is can).track;
+        edges = λ t. ap (has t) edges ∙ has-toggled t a b (edges_of s.pulses) can.order is.track.rises;
+        format = refl;
+        marks = refl;
+      };
+      cursor = λ _. count;
+      there = within;
+    }
+
+pub length-flipped : (t : ℕ) (xs : List ℕ) → length (flipped t xs) ≤ length xs + 1
+length-flipped t [] = omega arith
+length-flipped t (x ∷ xs) = by_tests (nat_lt t x) (x == t) (length-flipped t xs) where
+  by_tests : (below same : Bool) → length (flipped t xs) ≤ length xs + 1
+      → length (cond below (t ∷ x ∷ xs) (cond same xs (x ∷ flipped t xs))) ≤ length (x ∷ xs) + 1
+  by_tests true same rest = omega arith
+  by_tests false true rest = omega arith
+  by_tests false false rest = omega arith
+
+-- at most one pulse more
+pub length-toggled : (s : State) (a b : ℕ) → CanToggle s.micros a b s.pulses → length (turned s (Toggled a b)).0.pulses ≤ length s.pulses + 1
+length-toggled s a b can =
+    let edges = edges_of-toggled s.micros a b s.pulses can in
+    let first = length-flipped a (edges_of s.pulses) in
+    let both = length-flipped b (flipped a (edges_of s.pulses)) in
+    let long = ap length edges in
+    omega (arith, length-edges_of s.pulses, length-edges_of (turned s (Toggled a b)).0.pulses)

@@ -1,19 +1,20 @@
 -- What contracts see of the state that stands. This project's own.
-use Rattle.std.specs.Prelude.{◌≤◌, ◌+◌, length}
+use Rattle.std.specs.Prelude.{ℕ}
 use Rattle.irig_index.specs.Index.{IndexView}
-use Rattle.irig_edit.specs.State.{State, frames_of}
+use Rattle.irig_edit.specs.State.{State}
 
--- a state, and the index of its frames
+-- a state, how many more pulses its track has places for, and the index of its frames
 pub record PresentView : Type 0 where
   pub state : State
+  pub spare : ℕ
   pub index : IndexView
 
-abbrev pub present_view : State → IndexView → PresentView
-present_view s i = record { state = s; index = i }
+abbrev pub present_view : State → ℕ → IndexView → PresentView
+present_view s n i = record { state = s; spare = n; index = i }
 
 abbrev pub state_in : PresentView → State
 state_in p = p.state
 
--- the frames of another state fit without a growth
-abbrev pub HasRoom : PresentView → State → Type 0
-HasRoom p d = length (frames_of d) ≤ length p.index.records + p.index.room
+-- the looks at pulses that its index has counted
+abbrev pub looks_in : PresentView → ℕ
+looks_in p = p.index.looks

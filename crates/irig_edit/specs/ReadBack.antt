@@ -15,16 +15,9 @@ use Rattle.irig_moment.specs.Moment.{MomentView, IsMoment}
 use Rattle.irig_track.specs.declared.pulse.Pulse.{Pulse}
 use Rattle.irig_edit.specs.Calls.Call.{Regen}
 use Rattle.irig_edit.specs.Machine.{Steps, IsMachine}
-use Rattle.irig_edit.specs.Regenerated.{frames_pulses, rising_before}
-use Rattle.irig_edit.specs.State.{State, frames_of}
-
--- frames can be made: one begins at the moment, the control functions fit, and there are not too
--- many
-pub record CanMake (f : FormatView) (moment : MomentView) (count control : ℕ) : Type 0 where
-  pub is_moment : IsMoment moment.day moment.hundredths
-  pub starts : starts_in f moment ≡ true
-  pub narrow : control < 2 ^ control_count_of f
-  pub few : count ≤ 10000
+use Rattle.irig_edit.specs.Regenerated.{CanMake, frames_pulses, rising_before}
+use Rattle.irig_edit.specs.State.{frames_of}
+use Rattle.irig_edit.specs.Kept.{Kept}
 
 -- frame k from a moment on, from 0, as it is read: its fields, with nothing to note. The frames
 -- begin with the pulse at a place, from 0
@@ -57,13 +50,13 @@ NoOtherFrameIsRead = (f : FormatView) (moment : MomentView) (start count control
     → (k : ℕ) × (1 ≤ k) × (k < count) × (r ≡ frame_read f moment control (length before) k)
 
 -- how many pulses stand before those of a regeneration
-abbrev pub pulses_before : ℕ → Machine State → ℕ
+abbrev pub pulses_before : ℕ → Machine Kept → ℕ
 pulses_before start m = length (rising_before start m.present.state.pulses)
 
 -- after an accepted regeneration the frames that begin among its pulses, behind the first of these,
 -- are those that were asked for, but for the first
 abbrev pub RegenReadsBack : Type 0
-RegenReadsBack = (start count control : ℕ) (moment : MomentView) (old new : Machine State)
+RegenReadsBack = (start count control : ℕ) (moment : MomentView) (old new : Machine Kept)
     (r : Record) → IsMachine old → IsMoment moment.day moment.hundredths
     → Steps (Regen start count moment control) old (Ok tt) new
     → pulses_before start old < r.marker → r.marker < pulses_before start old + 100 * count
@@ -73,7 +66,7 @@ RegenReadsBack = (start count control : ℕ) (moment : MomentView) (old new : Ma
 
 -- and the first one too, where the pulse before it is a position identifier, in step
 abbrev pub RegenReadsFirstBack : Type 0
-RegenReadsFirstBack = (start count control n : ℕ) (moment : MomentView) (old new : Machine State)
+RegenReadsFirstBack = (start count control n : ℕ) (moment : MomentView) (old new : Machine Kept)
     (p : Pulse) → IsMachine old → IsMoment moment.day moment.hundredths
     → Steps (Regen start count moment control) old (Ok tt) new
     → pulses_before start old ≡ n + 1 → slice_get old.present.state.pulses n ≡ Some p

@@ -1,7 +1,9 @@
 //! What a session tells of its present state.
 
-ghost use Rattle.std.specs.Prelude.{◌≡◌, ◌≤◌, ◌+◌, ◌-◌, length, Some, IfSome, IfOk, slice_get};
+ghost use Rattle.std.specs.Prelude.{◌≡◌, ◌≤◌, ◌+◌, ◌-◌, length, Some, IfSome, IfOk, slice_get, ◌∷◌};
+ghost use Rattle.std.specs.List.{sum_by};
 ghost use Rattle.irig_vcd.specs.FileText.{file_text};
+ghost use Rattle.irig_edit.specs.Kept.{put_for, taken_for};
 ghost use Rattle.irig_edit.specs.State.{frames_of, recording_of};
 ghost use Rattle.irig_track.specs.Splices.{risen_by};
 
@@ -17,14 +19,14 @@ impl Session {
     pub fn length(&self) -> u64
         ensures { result ≡ self.now.present.state.micros }
     {
-        self.present.whole().length()
+        self.present.length()
     }
 
     /// How many pulses the track has.
     pub fn len(&self) -> usize
         ensures { result ≡ length self.now.present.state.pulses }
     {
-        self.present.whole().len()
+        self.present.len()
     }
 
     /// A pulse, from 1.
@@ -32,21 +34,21 @@ impl Session {
         requires { (1 ≤ number) × (number ≤ length self.now.present.state.pulses) }
         ensures { slice_get self.now.present.state.pulses (number - 1) ≡ Some result }
     {
-        self.present.whole().pulse(number)
+        self.present.pulse(number)
     }
 
     /// How many pulses rise at or before a time, in microseconds.
     pub fn find(&self, time: u64) -> usize
         ensures { result ≡ risen_by time self.now.present.state.pulses }
     {
-        self.present.whole().find(time)
+        self.present.find(time)
     }
 
     /// The format.
     pub fn current_format(&self) -> Format
         ensures { result ≡ self.now.present.state.format }
     {
-        self.present.whole().format()
+        self.present.format()
     }
 
     /// The time of a mark in microseconds, where it is set. The letter is one of a to z.
@@ -54,7 +56,7 @@ impl Session {
         requires { (97 ≤ letter) × (letter ≤ 122) }
         ensures { slice_get self.now.present.state.marks (letter - 97) ≡ Some result }
     {
-        self.present.whole().mark((letter - b'a') as usize)
+        self.present.mark((letter - b'a') as usize)
     }
 
     /// The cursor: the number of a pulse, from 1, or 0 before the first.
@@ -76,6 +78,23 @@ impl Session {
         ensures { result ≡ length self.now.future }
     {
         self.journal.steps_forward()
+    }
+
+    /// How many pulses the steps back hold, and how many the steps forward hold. Of an edit in the
+    /// past those are held that it took away, of one in the future those that it put.
+    pub fn held(&self) -> (u128, u128)
+        ensures past { result.0 ≡ sum_by taken_for (self.now.present ∷ self.now.past) }
+        ensures future { result.1 ≡ sum_by put_for self.now.future }
+    {
+        self.journal.weights()
+    }
+
+    /// How many looks at pulses the last accepted edit, undo or redo took to keep the frames; 0
+    /// before any.
+    pub fn last_looks(&self) -> u64
+        ensures { result ≡ self.now.last_looks }
+    {
+        self.last_looks
     }
 
     /// How many frames the track has, in its format.
@@ -103,6 +122,6 @@ impl Session {
         ensures { IfOk result (λ text.
             text.items ≡ file_text (recording_of self.now.present.state)) }
     {
-        self.present.whole().text(self.alloc)
+        self.present.text(self.alloc)
     }
 }

@@ -1,7 +1,7 @@
 //! A session: a track under edit, in which every edit can be taken back.
 #![tactic(auto)]
 
-mod edited;
+mod change;
 mod edits;
 mod frames;
 mod getters;
@@ -12,7 +12,7 @@ mod refusal;
 mod session;
 #[cfg(test)]
 mod tests;
-mod whole;
+mod turn;
 
 pub use irig_index::{Cause, Record, Verdict};
 pub use irig_track::Pulse;

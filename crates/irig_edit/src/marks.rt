@@ -1,10 +1,15 @@
 //! Marks, and times that are moved.
 
-ghost use Rattle.std.specs.Prelude.{◌≡◌, ◌≤◌, ◌^◌, map};
-ghost use Rattle.irig_edit.specs.Edits.{moved_time, moved_mark};
+ghost use Rattle.std.specs.Prelude.{◌≡◌, ◌≤◌, ◌^◌, ◌↔◌, IsTrue, map};
+ghost use Rattle.std.specs.List.{AllByRecursion};
+ghost use Rattle.irig_edit.specs.Marks.{AllMayMove, MayMove, marks_moved, moved_if, moved_time, stands};
+ghost use Rattle.irig_edit.specs.State.{IsMark};
 
 /// The marks a to z: each unset, or a time in microseconds.
 pub(crate) type Marks = [Option<u64>; 26];
+
+/// For each letter a to z whether it is named.
+pub(crate) type Letters = [bool; 26];
 
 /// A time moved by `by`, both in microseconds: 0 where it would come before 0.
 pub(crate) fn moved_time(time: u64, by: i64) -> u64
@@ -18,29 +23,78 @@ pub(crate) fn moved_time(time: u64, by: i64) -> u64
     }
 }
 
-/// A mark moved by `by` where it stands from `low` to `high`, all in microseconds.
-fn moved_mark(mark: Option<u64>, low: u64, high: u64, by: i64) -> Option<u64>
-    requires { high ≤ 2 ^ 40 }
-    ensures { result ≡ moved_mark low high by mark }
+/// A mark moved by `by`, in microseconds, where it is named.
+fn moved_if(mark: Option<u64>, named: bool, by: i64) -> Option<u64>
+    requires { IsMark (2 ^ 40) mark }
+    ensures { result ≡ moved_if by named mark }
 {
     match mark {
-        None => None,
+        Some(time) if named => Some(moved_time(time, by)),
+        unmoved => unmoved,
+    }
+}
+
+/// Moves the marks of the letters named by `by`, in microseconds.
+pub(crate) fn move_marks(marks: &mut Marks, letters: &Letters, by: i64)
+    requires { AllByRecursion (IsMark (2 ^ 40)) marks.old }
+    ensures { marks.new ≡ marks_moved by letters.now marks.old }
+{
+    for letter in 0..26 {
+        marks[letter] = moved_if(marks[letter], letters[letter], by);
+    }
+}
+
+/// Whether a mark stands from `low` to `high`, in microseconds.
+fn stands(mark: Option<u64>, low: u64, high: u64) -> bool
+    ensures { result ≡ stands low high mark }
+{
+    match mark {
+        None => false,
+        Some(time) => low <= time && time <= high,
+    }
+}
+
+/// The letters whose marks stand from `low` to `high`, in microseconds.
+pub(crate) fn letters_from(marks: &Marks, low: u64, high: u64) -> Letters
+    ensures { result ≡ map (stands low high) marks.now }
+{
+    let mut letters = [false; 26];
+    for letter in 0..26 {
+        letters[letter] = stands(marks[letter], low, high);
+    }
+    letters
+}
+
+/// Whether a mark is set, and moved by `by` stays from 0 to the length, all in microseconds.
+fn may_move(mark: Option<u64>, by: i64, micros: u64) -> bool
+    requires within { IsMark micros mark }
+    requires short { micros ≤ 2 ^ 40 }
+    ensures { IsTrue result ↔ MayMove micros by mark }
+{
+    let distance = by.unsigned_abs();
+    match mark {
+        None => false,
         Some(time) => {
-            if low <= time && time <= high {
-                Some(moved_time(time, by))
+            if by < 0 {
+                distance <= time
             } else {
-                Some(time)
+                distance <= micros - time
             }
         }
     }
 }
 
-/// Moves each mark from `low` to `high` by `by`, all in microseconds.
-pub(crate) fn move_marks(marks: &mut Marks, low: u64, high: u64, by: i64)
-    requires { high ≤ 2 ^ 40 }
-    ensures { marks.new ≡ map (moved_mark low high by) marks.old }
+/// Whether each mark named may be moved by `by`: it is set, and stays from 0 to the length, all in
+/// microseconds.
+pub(crate) fn all_may_move(marks: &Marks, letters: &Letters, by: i64, micros: u64) -> bool
+    requires within { AllByRecursion (IsMark micros) marks.now }
+    requires short { micros ≤ 2 ^ 40 }
+    ensures { IsTrue result ↔ AllMayMove micros by letters.now marks.now }
 {
     for letter in 0..26 {
-        marks[letter] = moved_mark(marks[letter], low, high, by);
+        if letters[letter] && !may_move(marks[letter], by, micros) {
+            return false;
+        }
     }
+    true
 }

@@ -1,118 +1,192 @@
 //! The state that stands, with its frames.
 
-ghost use Rattle.std.specs.Prelude.{◌≡◌, ◌<◌, IfOk, length, slice_get, Some};
-ghost use Rattle.std.proofs.Common.{refl};
-ghost use Rattle.irig_index.specs.Frames.{frames};
-ghost use Rattle.irig_edit.specs.State.{State, IsState, frames_of};
-ghost use Rattle.irig_edit.specs.Turning.{Fits, swapped, same};
-ghost use Rattle.irig_edit.specs.Present.{present_view, HasRoom, state_in};
+ghost use Rattle.std.specs.Prelude.{◌≡◌, ◌<◌, ◌≤◌, ◌+◌, ◌-◌, ◌^◌, length, map, ◌↔◌, IsTrue, IfOk, Some, slice_get};
+ghost use Rattle.irig_track.specs.Splices.{risen_by};
+ghost use Rattle.irig_vcd.specs.FileText.{file_text};
+ghost use Rattle.irig_edit.specs.Conditions.{is_touched};
+ghost use Rattle.irig_edit.specs.Marks.{stands};
+ghost use Rattle.irig_edit.specs.Edits.{pulse_of};
+ghost use Rattle.irig_edit.specs.Machine.{NoMarks};
+ghost use Rattle.irig_edit.specs.State.{IsMark, IsState, frames_of, recording_of};
 
-use crate::whole::Whole;
+use crate::marks::{Letters, Marks, letters_from};
+use irig_codes::Format;
 use irig_index::{Index, Record};
-use irig_journal::Reversible;
+use irig_track::{Pulse, Track};
+use irig_vcd::Recording;
 use std::alloc::{AllocError, Global};
 use std::marker::Model;
-use std::mem;
 
-/// The state that stands, and the frames of its track.
+/// The state that stands, a track, a format and the marks a to z, and the frames of the track.
 #[derive(Drop)]
 pub struct Present {
-    whole: Whole,
-    index: Index,
+    pub(crate) track: Track,
+    pub(crate) format: Format,
+    pub(crate) marks: Marks,
+    pub(crate) index: Index,
 }
 
 impl Model for Present {
     ghost use Rattle.std.specs.Prelude.{◌≡◌};
-    ghost use Rattle.irig_edit.specs.State.{frames_of};
+    ghost use Rattle.irig_edit.specs.State.{IsState, frames_of, state};
     ghost use Rattle.irig_edit.specs.Present.{PresentView, present_view};
 
     ghost Value = { PresentView };
 
-    ghost view = { λ p. present_view p.whole p.index };
+    ghost view = { λ p.
+        present_view (state p.track.micros p.track.pulses p.format p.marks) p.track.spare p.index };
 
-    ghost invariant = { λ p. p.index.records ≡ frames_of p.whole };
+    ghost invariant = { λ p. IsState (state p.track.micros p.track.pulses p.format p.marks)
+        × (p.index.records ≡ frames_of (state p.track.micros p.track.pulses p.format p.marks)) };
 }
 
 impl Present {
-    /// A state with its frames.
-    pub fn new(alloc: Global, whole: Whole) -> Result<Present, AllocError>
-        ensures { IfOk result (λ p. p.state ≡ whole) }
+    /// A recording in a format, with no mark set.
+    pub(crate) fn open(
+        alloc: Global,
+        recording: Recording,
+        format: Format,
+    ) -> Result<Present, AllocError>
+        ensures { IfOk result (λ p. (recording_of p.state ≡ recording)
+            × (p.state.format ≡ format) × NoMarks p.state.marks) }
     {
-        let index = whole.index(alloc)?;
-        Ok(Present { whole, index })
+        let track = Track::new(alloc, recording)?;
+        let index = Index::build(alloc, &mut track.lens(), format)?;
+        Ok(Present {
+            track,
+            format,
+            marks: [None; 26],
+            index,
+        })
     }
 
-    /// The state.
-    pub fn whole(&self) -> &Whole
-        ensures { result.now ≡ self.now.state }
+    /// The text of the track's dump.
+    pub(crate) fn text(&self, alloc: Global) -> Result<Vec<u8>, AllocError>
+        ensures { IfOk result (λ text. text.items ≡ file_text (recording_of self.now.state)) }
     {
-        &self.whole
+        let recording = self.track.recording(alloc)?;
+        irig_vcd::text(alloc, &recording)
+    }
+}
+
+/// The track.
+impl Present {
+    /// How long the track is, in microseconds.
+    pub(crate) fn length(&self) -> u64
+        ensures length { result ≡ self.now.state.micros }
+        ensures state { IsState self.now.state }
+    {
+        self.track.length()
+    }
+
+    /// How many pulses there are.
+    pub(crate) fn len(&self) -> usize
+        ensures len { result ≡ length self.now.state.pulses }
+        ensures state { IsState self.now.state }
+    {
+        self.track.len()
+    }
+
+    /// How many more pulses the limit lets in.
+    pub(crate) fn room(&self) -> usize
+        ensures { result + length self.now.state.pulses ≡ 2 ^ 22 }
+    {
+        self.track.room()
+    }
+
+    /// How many pulses rise at or before a time, in microseconds.
+    pub(crate) fn find(&self, time: u64) -> usize
+        ensures count { result ≡ risen_by time self.now.state.pulses }
+        ensures within { result ≤ length self.now.state.pulses }
+        ensures state { IsState self.now.state }
+    {
+        Index::find(&mut self.track.lens(), time)
+    }
+
+    /// A pulse, from 1.
+    pub(crate) fn pulse(&self, number: usize) -> Pulse
+        requires first { 1 ≤ number }
+        requires last { number ≤ length self.now.state.pulses }
+        ensures there { slice_get self.now.state.pulses (number - 1) ≡ Some result }
+        ensures pulse { result ≡ pulse_of number self.now.state }
+        ensures short { (result.rise < result.fall) × (result.fall ≤ 2 ^ 40) }
+        ensures state { IsState self.now.state }
+    {
+        let _len = self.len();
+        self.track.pulse(number - 1)
+    }
+
+    /// Whether a pulse rises at or before `b` and falls at or after `a`, in microseconds.
+    pub(crate) fn is_touched(&self, a: u64, b: u64) -> bool
+        requires { a < b }
+        ensures { result ≡ is_touched a b self.now.state }
+    {
+        let risen = self.find(b);
+        risen > 0 && self.pulse(risen).fall >= a
+    }
+}
+
+/// Format, marks and frames.
+impl Present {
+    /// The format.
+    pub(crate) fn format(&self) -> Format
+        ensures { result ≡ self.now.state.format }
+    {
+        self.format
+    }
+
+    /// The mark of a letter, from 0.
+    pub(crate) fn mark(&self, letter: usize) -> Option<u64>
+        requires { letter < 26 }
+        ensures { slice_get self.now.state.marks letter ≡ Some result }
+    {
+        let mark = self.marks[letter];
+        mark
+    }
+
+    /// The letters whose marks stand from `low` to `high`, in microseconds.
+    pub(crate) fn letters_from(&self, low: u64, high: u64) -> Letters
+        ensures { result ≡ map (stands low high) self.now.state.marks }
+    {
+        letters_from(&self.marks, low, high)
+    }
+
+    /// Whether a mark can be set to a time, in microseconds, or to none.
+    pub(crate) fn may_mark(&self, time: Option<u64>) -> bool
+        ensures { IsTrue result ↔ IsMark self.now.state.micros time }
+    {
+        match time {
+            None => true,
+            Some(time) => time <= self.track.length(),
+        }
     }
 
     /// How many frames the track has.
-    pub fn frames(&self) -> usize
+    pub(crate) fn frames(&self) -> usize
         ensures { result ≡ length (frames_of self.now.state) }
     {
         self.index.len()
     }
 
     /// A frame, from 0.
-    pub fn frame(&self, index: usize) -> Record
-        requires { index < length (frames_of self.now.state) }
-        ensures { slice_get (frames_of self.now.state) index ≡ Some result }
+    pub(crate) fn frame(&self, number: usize) -> Record
+        requires { number < length (frames_of self.now.state) }
+        ensures { slice_get (frames_of self.now.state) number ≡ Some result }
     {
-        self.index.record(index)
-    }
-}
-
-impl Reversible for Present {
-    type Change = Whole;
-
-    ghost Content = { State };
-
-    ghost Delta = { State };
-
-    ghost Tally = { Unit };
-
-    ghost content = { state_in };
-
-    ghost delta = { same };
-
-    ghost tally = { λ _. tt };
-
-    ghost is_state = { IsState };
-
-    ghost fits = { Fits };
-
-    ghost is_tested = { λ _. Unit };
-
-    ghost turned = { swapped };
-
-    ghost counted = { λ _ _ _ _. Unit };
-
-    ghost has_room = { HasRoom };
-
-    fn applies(&self, change: &Whole) -> bool {
-        let _len = change.len();
-        true
+        self.index.record(number)
     }
 
-    fn room(&mut self, change: &mut Whole) -> Result<(), AllocError> {
-        let _len = self.whole.len();
-        let count = change.count();
-        let len = self.index.len();
-        if count > len {
-            self.index.reserve(count - len)?;
-        }
-        Ok(())
+    /// How many looks at pulses its index has counted.
+    pub(crate) fn looks(&self) -> u64
+        ensures { result ≡ self.now.index.looks }
+    {
+        self.index.looks()
     }
 
-    fn turn(&mut self, change: &mut Whole) {
-        mem::swap(&mut self.whole, change);
-        self.whole.rebuild(&mut self.index);
+    /// How many more looks it has counted than `before`.
+    pub(crate) fn looks_since(&self, before: u64) -> u64
+        ensures { result ≡ self.now.index.looks - before }
+    {
+        self.index.looks().saturating_sub(before)
     }
-
-    ghost back_fits = { λ s d is h. is };
-
-    ghost back = { λ s d is h. refl };
 }

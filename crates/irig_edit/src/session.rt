@@ -6,15 +6,21 @@ ghost use Rattle.irig_vcd.specs.Recording.{recording_view};
 ghost use Rattle.irig_track.specs.Edges.{edges_of};
 ghost use Rattle.irig_journal.specs.Machine.{recorded};
 ghost use Rattle.irig_edit.specs.State.{state, frames_of, recording_of, with_pulses};
-ghost use Rattle.irig_edit.specs.Machine.{kept, started, Steps, NoMarks};
+ghost use Rattle.irig_edit.specs.Machine.{NoMarks};
+ghost use Rattle.irig_edit.specs.Session.{LooksAfter, LooksWithin, Steps, machine_in, started};
+ghost use Rattle.irig_edit.specs.Kept.{exchange, kept};
+ghost use Rattle.irig_edit.specs.Exchanges.{exchange_by};
+ghost use Rattle.irig_edit.specs.Keeping.{exchange_of};
 ghost use Rattle.irig_edit.specs.Becoming.{Becomes, IsEdit, judgement_of};
 ghost use Rattle.irig_edit.specs.Calls.{Call};
+ghost use Rattle.irig_edit.specs.Delta.{Fits, turned};
+ghost use Rattle.irig_edit.specs.Held.{delta_of};
 ghost use Rattle.irig_edit.specs.Calls.Call.{Undo, Redo, Go, SetFormat, SetMark};
 ghost use Rattle.irig_track.specs.Splices.{risen_by, spliced, CanSplice};
 
+use crate::change::{Change, Splice};
 use crate::present::Present;
 use crate::refusal::Refusal;
-use crate::whole::Whole;
 use irig_codes::Format;
 use irig_gap::Gap;
 use irig_index::Record;
@@ -34,76 +40,80 @@ pub struct Session {
     pub(crate) present: Present,
     pub(crate) cursor: usize,
     pub(crate) journal: Journal<Present>,
+    pub(crate) last_looks: u64,
 }
 
 impl Model for Session {
-    ghost use Rattle.irig_journal.specs.Machine.{Machine};
-    ghost use Rattle.irig_journal.specs.Journal.{machine_of, FitsState};
-    ghost use Rattle.irig_edit.specs.State.{State, IsState};
+    ghost use Rattle.irig_journal.specs.Journal.{FitsState};
+    ghost use Rattle.irig_edit.specs.Keeping.{machine_at};
+    ghost use Rattle.irig_edit.specs.Session.{SessionView, session_view};
     ghost use Rattle.irig_edit.specs.Machine.{IsMachine};
-    ghost use Rattle.irig_edit.specs.Turning.{swapped, Fits, same};
+    ghost use Rattle.irig_edit.specs.Delta.{Fits, turned};
+    ghost use Rattle.irig_edit.specs.Held.{delta_of};
 
-    ghost Value = { Machine State };
+    ghost Value = { SessionView };
 
-    ghost view = { λ s. machine_of swapped same s.present.state s.cursor s.journal };
+    ghost view = { λ s.
+        session_view (machine_at s.present.state s.cursor s.journal) s.present.index.looks
+        s.last_looks };
 
-    ghost invariant = { λ s. IsMachine (machine_of swapped same s.present.state s.cursor s.journal)
-        × FitsState Fits swapped same s.present.state s.journal };
+    ghost invariant = { λ s. IsMachine (machine_at s.present.state s.cursor s.journal)
+        × FitsState Fits turned delta_of s.present.state s.journal };
 }
 
 impl Session {
     /// The session of a recording in a format. The cursor stands at the last pulse, no mark is
     /// set, and no step can be taken back.
     pub fn open(alloc: Global, recording: Recording, format: Format) -> Result<Session, AllocError>
-        ensures { IfOk result (λ s. (s ≡ started s.present.state)
+        ensures { IfOk result (λ s. (s ≡ started s.looks s.present.state)
             × (recording_of s.present.state ≡ recording) × (s.present.state.format ≡ format)
             × NoMarks s.present.state.marks) }
     {
-        let whole = Whole::open(alloc, recording, format)?;
-        let cursor = whole.len();
-        let present = Present::new(alloc, whole)?;
+        let present = Present::open(alloc, recording, format)?;
+        let cursor = present.len();
         Ok(Session {
             alloc,
             present,
             cursor,
             journal: Journal::new(alloc),
+            last_looks: 0,
         })
     }
 
     /// Sets the format.
     pub fn format(&mut self, format: Format) -> Result<(), Refusal>
         ensures step { Steps (SetFormat format) self.old result self.new }
+        ensures looks { LooksAfter (SetFormat format) self.old result self.new }
     {
-        let whole = self.present.whole().copy(self.alloc)?.with_format(format);
         let cursor = self.cursor;
-        self.change(whole, cursor)
+        self.change(Change::SetFormat(format), cursor)
     }
 
     /// Sets the mark of a letter a to z to a time in microseconds, or clears it.
     pub fn mark(&mut self, letter: u8, time: Option<u64>) -> Result<(), Refusal>
         requires { (97 ≤ letter) × (letter ≤ 122) }
         ensures step { Steps (SetMark (letter - 97) time) self.old result self.new }
+        ensures looks { LooksAfter (SetMark (letter - 97) time) self.old result self.new }
     {
-        if let Some(time) = time
-            && time > self.present.whole().length()
-        {
+        if !self.present.may_mark(time) {
             return Err(Refusal::OutOfRange);
         }
-        let whole = self
-            .present
-            .whole()
-            .copy(self.alloc)?
-            .with_mark((letter - b'a') as usize, time);
+        let letter = (letter - b'a') as usize;
         let cursor = self.cursor;
-        self.change(whole, cursor)
+        self.change(Change::SetMark { letter, time }, cursor)
     }
 
     /// Takes the newest step back.
     pub fn undo(&mut self) -> Result<(), Refusal>
         ensures step { Steps Undo self.old result self.new }
+        ensures looks { LooksAfter Undo self.old result self.new }
     {
+        let before = self.present.looks();
         match self.journal.undo(&mut self.present, &mut self.cursor) {
-            Ok(()) => Ok(()),
+            Ok(()) => {
+                self.last_looks = self.present.looks_since(before);
+                Ok(())
+            }
             Err(JournalFault::NothingToUndo) => Err(Refusal::NothingToUndo),
             Err(_) => Err(Refusal::OutOfMemory),
         }
@@ -112,9 +122,14 @@ impl Session {
     /// Makes the step again that was taken back last.
     pub fn redo(&mut self) -> Result<(), Refusal>
         ensures step { Steps Redo self.old result self.new }
+        ensures looks { LooksAfter Redo self.old result self.new }
     {
+        let before = self.present.looks();
         match self.journal.redo(&mut self.present, &mut self.cursor) {
-            Ok(()) => Ok(()),
+            Ok(()) => {
+                self.last_looks = self.present.looks_since(before);
+                Ok(())
+            }
             Err(JournalFault::NothingToRedo) => Err(Refusal::NothingToRedo),
             Err(_) => Err(Refusal::OutOfMemory),
         }
@@ -125,8 +140,9 @@ impl Session {
     /// E2 unless the pulse is there.
     pub fn go(&mut self, pulse: usize) -> Result<(), Refusal>
         ensures step { Steps (Go pulse) self.old result self.new }
+        ensures looks { LooksAfter (Go pulse) self.old result self.new }
     {
-        if pulse == 0 || pulse > self.present.whole().len() {
+        if pulse == 0 || pulse > self.present.len() {
             return Err(Refusal::NoPulse);
         }
         self.cursor = pulse;
@@ -138,41 +154,48 @@ impl Session {
         &mut self,
         at: usize,
         count: usize,
-        put: &mut Gap<Pulse>,
+        put: Gap<Pulse>,
         cursor: usize,
     ) -> Result<(), Refusal>
-        requires can { CanSplice self.old.present.state.micros at count put.old.items
+        requires can { CanSplice self.old.present.state.micros at count put.items
             self.old.present.state.pulses }
         requires cursor { cursor ≤
-            length (spliced at count put.old.items self.old.present.state.pulses) }
+            length (spliced at count put.items self.old.present.state.pulses) }
         ensures step { (call : Call) → IsEdit call → judgement_of call self.old.present.state ≡ None
             → Becomes call self.old.present.state (with_pulses
-            (spliced at count put.old.items self.old.present.state.pulses)
+            (spliced at count put.items self.old.present.state.pulses)
             self.old.present.state) cursor
+            → exchange count (length put.items) ≡ exchange_by call self.old.present.state
             → Steps call self.old result self.new }
+        ensures looks { LooksWithin self.new.present.made.forth self.old result self.new }
     {
-        let whole = self
-            .present
-            .whole()
-            .copy(self.alloc)?
-            .with_spliced(self.alloc, at, count, put)?;
-        self.change(whole, cursor)
+        let splice = Splice::new(self.alloc, at, count, put);
+        self.change(Change::Splice(splice), cursor)
     }
 
-    /// Makes another state the present one, as a step.
-    pub(crate) fn change(&mut self, whole: Whole, cursor: usize) -> Result<(), Refusal>
-        requires cursor { cursor ≤ length whole.pulses }
+    /// Makes a change, as a step that leaves the cursor at a place.
+    pub(crate) fn change(&mut self, change: Change, cursor: usize) -> Result<(), Refusal>
+        requires fits { Fits self.old.present.state (delta_of change) }
+        requires cursor { cursor ≤
+            length (turned self.old.present.state (delta_of change)).0.pulses }
         ensures step { (call : Call) → IsEdit call → judgement_of call self.old.present.state ≡ None
-            → Becomes call self.old.present.state whole cursor
+            → Becomes call self.old.present.state
+            (turned self.old.present.state (delta_of change)).0 cursor
+            → exchange_of self.old.present.state (delta_of change)
+            ≡ exchange_by call self.old.present.state
             → Steps call self.old result self.new }
-        ensures ok { OnOk result (self.new ≡ recorded self.old (kept whole cursor)) }
+        ensures looks { LooksWithin self.new.present.made.forth self.old result self.new }
+        ensures ok { OnOk result (machine_in self.new ≡ recorded (machine_in self.old)
+            (kept (turned self.old.present.state (delta_of change)).0 cursor
+            (exchange_of self.old.present.state (delta_of change)))) }
         ensures err { OnErr result ((self.new ≡ self.old) × IsErrOf result Refusal.OutOfMemory) }
     {
-        let before = self.cursor;
-        let _len = whole.len();
-        match self.journal.record(&mut self.present, whole, before) {
+        let before = self.present.looks();
+        let place = self.cursor;
+        match self.journal.record(&mut self.present, change, place) {
             Ok(()) => {
                 self.cursor = cursor;
+                self.last_looks = self.present.looks_since(before);
                 Ok(())
             }
             Err(_) => Err(Refusal::OutOfMemory),

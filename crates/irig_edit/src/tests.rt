@@ -1,11 +1,14 @@
-//! Rows of calls, worked out by hand; and the definition's plain program beside a session.
+//! The plain machine of whole states beside a session, and rows of what a session holds and looks
+//! at.
 
-mod frames;
+mod held;
 mod helpers;
 mod leaving;
-mod limit;
+mod looks;
+mod machine;
+mod parts;
 mod plain;
 mod refusing;
-mod regenerated;
-mod rows;
 mod small;
+mod telling;
+mod walks;

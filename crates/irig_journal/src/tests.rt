@@ -130,3 +130,31 @@ fn a_journal_is_the_machine_of_whole_states(rt: HostRuntime) -> Result<(), Fail>
     machine_gives_back::<Stack>();
     Ok(())
 }
+
+#[test]
+fn steps_weigh_what_their_changes_hold(rt: HostRuntime) -> Result<(), Fail> {
+    // the call, then the weights of the past and of the future
+    let rows = [
+        (Call::Make(Edit::Push(b'a'), 1), (0, 0)),
+        (Call::Make(Edit::Push(b'b'), 2), (0, 0)),
+        (Call::Make(Edit::Pop, 1), (1, 0)),
+        (Call::Undo, (0, 0)),
+        (Call::Undo, (0, 1)),
+        (Call::Undo, (0, 2)),
+        (Call::Redo, (0, 1)),
+    ];
+    let mut stack = Stack {
+        items: Vec::new(rt.alloc()),
+        turns: 0,
+    };
+    let mut journal = Journal::new(rt.alloc());
+    let mut cursor = 0;
+    for (call, weights) in rows {
+        assert_eq!(rt;
+            obey(&mut journal, &mut stack, &mut cursor, call),
+            Reply::Done
+        );
+        assert_eq!(rt; journal.weights(), weights);
+    }
+    Ok(())
+}

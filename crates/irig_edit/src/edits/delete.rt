@@ -4,24 +4,24 @@ ghost use Rattle.std.specs.Prelude.{◌≡◌, ◌+◌, ◌-◌, ◌≤◌, [], 
 ghost use Rattle.irig_track.specs.Splices.{spliced, CanSplice};
 ghost use Rattle.irig_edit.specs.Becoming.{Becomes, judgement_of};
 ghost use Rattle.irig_edit.specs.Calls.Call.{Delete};
-ghost use Rattle.irig_edit.specs.Machine.{Steps};
+ghost use Rattle.irig_edit.specs.Session.{LooksAfter, Steps};
 ghost use Rattle.irig_edit.specs.State.{with_pulses};
 
+use crate::present::Present;
 use crate::refusal::Refusal;
 use crate::session::Session;
-use crate::whole::Whole;
 use irig_gap::Gap;
 
 /// The cursor after the pulses `i` to `j` are taken out, if they are there.
-fn place(whole: &Whole, i: usize, j: usize) -> Result<usize, Refusal>
-    ensures refused { IfErr result (λ e. judgement_of (Delete i j) whole.now ≡ Some e) }
-    ensures allowed { OnOk result (judgement_of (Delete i j) whole.now ≡ None) }
+fn place(present: &Present, i: usize, j: usize) -> Result<usize, Refusal>
+    ensures refused { IfErr result (λ e. judgement_of (Delete i j) present.now.state ≡ Some e) }
+    ensures allowed { OnOk result (judgement_of (Delete i j) present.now.state ≡ None) }
     ensures there { OnOk result ((1 ≤ i) × (i ≤ j)) }
-    ensures can { OnOk result (CanSplice whole.now.micros (i - 1) (j + 1 - i) [] whole.now.pulses) }
-    ensures becomes { IfOk result (λ cursor. Becomes (Delete i j) whole.now
-        (with_pulses (spliced (i - 1) (j + 1 - i) [] whole.now.pulses) whole.now) cursor) }
+    ensures can { OnOk result (CanSplice present.now.state.micros (i - 1) (j + 1 - i) [] present.now.state.pulses) }
+    ensures becomes { IfOk result (λ cursor. Becomes (Delete i j) present.now.state
+        (with_pulses (spliced (i - 1) (j + 1 - i) [] present.now.state.pulses) present.now.state) cursor) }
 {
-    let len = whole.len();
+    let len = present.len();
     if i == 0 || i > j || j > len {
         return Err(Refusal::NoPulse);
     }
@@ -36,9 +36,10 @@ impl Session {
     /// E2 unless the pulses are there.
     pub fn delete(&mut self, i: usize, j: usize) -> Result<(), Refusal>
         ensures step { Steps (Delete i j) self.old result self.new }
+        ensures looks { LooksAfter (Delete i j) self.old result self.new }
     {
-        let cursor = place(self.present.whole(), i, j)?;
-        let mut put = Gap::new(self.alloc);
-        self.splice(i - 1, j + 1 - i, &mut put, cursor)
+        let cursor = place(&self.present, i, j)?;
+        let put = Gap::new(self.alloc);
+        self.splice(i - 1, j + 1 - i, put, cursor)
     }
 }

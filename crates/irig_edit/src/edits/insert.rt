@@ -5,33 +5,34 @@ ghost use Rattle.irig_track.specs.Edges.{pulse};
 ghost use Rattle.irig_track.specs.Splices.{spliced, CanSplice};
 ghost use Rattle.irig_edit.specs.Calls.Call.{Insert};
 ghost use Rattle.irig_edit.specs.Becoming.{Becomes, judgement_of};
-ghost use Rattle.irig_edit.specs.Machine.{Steps};
+ghost use Rattle.irig_edit.specs.Session.{LooksAfter, Steps};
 ghost use Rattle.irig_edit.specs.State.{with_pulses};
 
+use super::one;
+use crate::present::Present;
 use crate::refusal::Refusal;
 use crate::session::Session;
-use crate::whole::{Whole, one};
 use irig_track::Pulse;
 
 /// How many pulses stand before a pulse from `a` to `b`, if it can be put in.
-fn place(whole: &Whole, a: u64, b: u64) -> Result<usize, Refusal>
-    ensures refused { IfErr result (λ e. judgement_of (Insert a b) whole.now ≡ Some e) }
-    ensures allowed { OnOk result (judgement_of (Insert a b) whole.now ≡ None) }
+fn place(present: &Present, a: u64, b: u64) -> Result<usize, Refusal>
+    ensures refused { IfErr result (λ e. judgement_of (Insert a b) present.now.state ≡ Some e) }
+    ensures allowed { OnOk result (judgement_of (Insert a b) present.now.state ≡ None) }
     ensures can { IfOk result (λ at.
-        CanSplice whole.now.micros at 0 (pulse a b ∷ []) whole.now.pulses) }
-    ensures becomes { IfOk result (λ at. Becomes (Insert a b) whole.now
-        (with_pulses (spliced at 0 (pulse a b ∷ []) whole.now.pulses) whole.now) (at + 1)) }
+        CanSplice present.now.state.micros at 0 (pulse a b ∷ []) present.now.state.pulses) }
+    ensures becomes { IfOk result (λ at. Becomes (Insert a b) present.now.state
+        (with_pulses (spliced at 0 (pulse a b ∷ []) present.now.state.pulses) present.now.state) (at + 1)) }
 {
-    if a >= b || b > whole.length() {
+    if a >= b || b > present.length() {
         return Err(Refusal::OutOfRange);
     }
-    if whole.is_touched(a, b) {
+    if present.is_touched(a, b) {
         return Err(Refusal::Touching);
     }
-    if whole.room() == 0 {
+    if present.room() == 0 {
         return Err(Refusal::TooMany);
     }
-    Ok(whole.find(b))
+    Ok(present.find(b))
 }
 
 impl Session {
@@ -41,9 +42,10 @@ impl Session {
     /// level at `a` is high; E5 where there are 2^22 pulses.
     pub fn insert(&mut self, a: u64, b: u64) -> Result<(), Refusal>
         ensures step { Steps (Insert a b) self.old result self.new }
+        ensures looks { LooksAfter (Insert a b) self.old result self.new }
     {
-        let at = place(self.present.whole(), a, b)?;
-        let mut put = one(self.alloc, Pulse { rise: a, fall: b })?;
-        self.splice(at, 0, &mut put, at + 1)
+        let at = place(&self.present, a, b)?;
+        let put = one(self.alloc, Pulse { rise: a, fall: b })?;
+        self.splice(at, 0, put, at + 1)
     }
 }

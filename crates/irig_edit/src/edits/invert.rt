@@ -4,22 +4,23 @@ ghost use Rattle.std.specs.Prelude.{◌≡◌, None, Some, IfErr, OnOk};
 ghost use Rattle.irig_track.specs.Toggles.{CanToggle};
 ghost use Rattle.irig_edit.specs.Becoming.{judgement_of};
 ghost use Rattle.irig_edit.specs.Calls.Call.{Invert};
-ghost use Rattle.irig_edit.specs.Machine.{Steps};
+ghost use Rattle.irig_edit.specs.Session.{LooksAfter, Steps};
 
+use crate::change::Change;
+use crate::present::Present;
 use crate::refusal::Refusal;
 use crate::session::Session;
-use crate::whole::Whole;
 
 /// Whether the level can be turned over from `a` to `b`.
-fn judge(whole: &Whole, a: u64, b: u64) -> Result<(), Refusal>
-    ensures refused { IfErr result (λ e. judgement_of (Invert a b) whole.now ≡ Some e) }
-    ensures allowed { OnOk result (judgement_of (Invert a b) whole.now ≡ None) }
-    ensures can { OnOk result (CanToggle whole.now.micros a b whole.now.pulses) }
+fn judge(present: &Present, a: u64, b: u64) -> Result<(), Refusal>
+    ensures refused { IfErr result (λ e. judgement_of (Invert a b) present.now.state ≡ Some e) }
+    ensures allowed { OnOk result (judgement_of (Invert a b) present.now.state ≡ None) }
+    ensures can { OnOk result (CanToggle present.now.state.micros a b present.now.state.pulses) }
 {
-    if a >= b || b > whole.length() {
+    if a >= b || b > present.length() {
         return Err(Refusal::OutOfRange);
     }
-    if whole.can_toggle(a, b) {
+    if present.can_toggle(a, b) {
         Ok(())
     } else {
         Err(Refusal::TooMany)
@@ -35,10 +36,11 @@ impl Session {
     /// pulses.
     pub fn invert(&mut self, a: u64, b: u64) -> Result<(), Refusal>
         ensures step { Steps (Invert a b) self.old result self.new }
+        ensures looks { LooksAfter (Invert a b) self.old result self.new }
     {
-        judge(self.present.whole(), a, b)?;
-        let whole = self.present.whole().copy(self.alloc)?.with_toggled(a, b)?;
-        let cursor = whole.find(b);
-        self.change(whole, cursor)
+        judge(&self.present, a, b)?;
+        self.change(Change::Toggle { a, b }, 0)?;
+        self.cursor = self.present.find(b);
+        Ok(())
     }
 }

@@ -4,29 +4,30 @@ ghost use Rattle.std.specs.Prelude.{◌≡◌, ◌+◌, ◌-◌, ◌≤◌, ◌<
 ghost use Rattle.irig_track.specs.Splices.{spliced, CanSplice};
 ghost use Rattle.irig_edit.specs.Becoming.{Becomes, judgement_of};
 ghost use Rattle.irig_edit.specs.Calls.Call.{Join};
-ghost use Rattle.irig_edit.specs.Machine.{Steps};
+ghost use Rattle.irig_edit.specs.Session.{LooksAfter, Steps};
 ghost use Rattle.irig_edit.specs.State.{with_pulses};
 
+use super::one;
+use crate::present::Present;
 use crate::refusal::Refusal;
 use crate::session::Session;
-use crate::whole::{Whole, one};
 use irig_track::Pulse;
 
 /// The pulse that pulses `i` to `j` are joined into, if they are there.
-fn place(whole: &Whole, i: usize, j: usize) -> Result<Pulse, Refusal>
-    ensures refused { IfErr result (λ e. judgement_of (Join i j) whole.now ≡ Some e) }
-    ensures allowed { OnOk result (judgement_of (Join i j) whole.now ≡ None) }
+fn place(present: &Present, i: usize, j: usize) -> Result<Pulse, Refusal>
+    ensures refused { IfErr result (λ e. judgement_of (Join i j) present.now.state ≡ Some e) }
+    ensures allowed { OnOk result (judgement_of (Join i j) present.now.state ≡ None) }
     ensures there { OnOk result ((1 ≤ i) × (i < j)) }
     ensures can { IfOk result (λ p.
-        CanSplice whole.now.micros (i - 1) (j + 1 - i) (p ∷ []) whole.now.pulses) }
-    ensures becomes { IfOk result (λ p. Becomes (Join i j) whole.now
-        (with_pulses (spliced (i - 1) (j + 1 - i) (p ∷ []) whole.now.pulses) whole.now) i) }
+        CanSplice present.now.state.micros (i - 1) (j + 1 - i) (p ∷ []) present.now.state.pulses) }
+    ensures becomes { IfOk result (λ p. Becomes (Join i j) present.now.state
+        (with_pulses (spliced (i - 1) (j + 1 - i) (p ∷ []) present.now.state.pulses) present.now.state) i) }
 {
-    if i == 0 || i >= j || j > whole.len() {
+    if i == 0 || i >= j || j > present.len() {
         return Err(Refusal::NoPulse);
     }
-    let first = whole.pulse(i);
-    let last = whole.pulse(j);
+    let first = present.pulse(i);
+    let last = present.pulse(j);
     Ok(Pulse {
         rise: first.rise,
         fall: last.fall,
@@ -40,9 +41,10 @@ impl Session {
     /// E2 unless the pulses are there and `i` is before `j`.
     pub fn join(&mut self, i: usize, j: usize) -> Result<(), Refusal>
         ensures step { Steps (Join i j) self.old result self.new }
+        ensures looks { LooksAfter (Join i j) self.old result self.new }
     {
-        let pulse = place(self.present.whole(), i, j)?;
-        let mut put = one(self.alloc, pulse)?;
-        self.splice(i - 1, j + 1 - i, &mut put, i)
+        let pulse = place(&self.present, i, j)?;
+        let put = one(self.alloc, pulse)?;
+        self.splice(i - 1, j + 1 - i, put, i)
     }
 }

@@ -7,14 +7,16 @@ ghost use Rattle.irig_track.specs.Splices.{spliced, CanSplice};
 ghost use Rattle.irig_edit.specs.Becoming.{Becomes, judgement_of};
 ghost use Rattle.irig_edit.specs.Calls.Call.{Regen};
 ghost use Rattle.irig_edit.specs.Conditions.{are_frames, is_met};
-ghost use Rattle.irig_edit.specs.Machine.{Steps};
+ghost use Rattle.irig_edit.specs.Exchanges.{exchange_by};
+ghost use Rattle.irig_edit.specs.Kept.{exchange};
+ghost use Rattle.irig_edit.specs.Session.{LooksAfter, Steps};
 ghost use Rattle.irig_edit.specs.Regenerated.{frames_end, frames_pulses, rising_before};
 ghost use Rattle.irig_edit.specs.State.{IsState, with_pulses};
 
 use crate::frames::{pulses_of, span};
+use crate::present::Present;
 use crate::refusal::Refusal;
 use crate::session::Session;
-use crate::whole::Whole;
 use irig_codes::control_count;
 use irig_moment::Moment;
 
@@ -27,15 +29,15 @@ struct Stretch {
 
 /// The time at which frames end that begin at a start, if there are 1 to 10,000 of them and they
 /// end within the length; in microseconds.
-fn end_of(whole: &Whole, start: u64, frames: u64) -> Option<u64>
-    ensures { result ≡ (if are_frames start frames whole.now
-        then Some (frames_end whole.now.format start frames) else None) }
+fn end_of(present: &Present, start: u64, frames: u64) -> Option<u64>
+    ensures { result ≡ (if are_frames start frames present.now.state
+        then Some (frames_end present.now.state.format start frames) else None) }
 {
     if frames == 0 || frames > 10_000 {
         return None;
     }
-    let length = whole.length();
-    let span = span(whole.format(), frames);
+    let length = present.length();
+    let span = span(present.format(), frames);
     if start > length || span > length - start {
         return None;
     }
@@ -43,61 +45,64 @@ fn end_of(whole: &Whole, start: u64, frames: u64) -> Option<u64>
 }
 
 /// How many pulses rise before a time, in microseconds.
-fn rising_before(whole: &Whole, time: u64) -> usize
-    ensures count { result ≡ length (rising_before time whole.now.pulses) }
-    ensures within { result ≤ length whole.now.pulses }
-    ensures state { IsState whole.now }
+fn rising_before(present: &Present, time: u64) -> usize
+    ensures count { result ≡ length (rising_before time present.now.state.pulses) }
+    ensures within { result ≤ length present.now.state.pulses }
+    ensures state { IsState present.now.state }
 {
-    let _len = whole.len();
-    if time == 0 { 0 } else { whole.find(time - 1) }
+    let _len = present.len();
+    if time == 0 { 0 } else { present.find(time - 1) }
 }
 
 /// Whether the last of the pulses that rise before a time falls at it or after it.
-fn is_met(whole: &Whole, risen: usize, time: u64) -> bool
-    requires count { risen ≡ length (rising_before time whole.now.pulses) }
-    requires within { risen ≤ length whole.now.pulses }
-    ensures { result ≡ is_met time whole.now }
+fn is_met(present: &Present, risen: usize, time: u64) -> bool
+    requires count { risen ≡ length (rising_before time present.now.state.pulses) }
+    requires within { risen ≤ length present.now.state.pulses }
+    ensures { result ≡ is_met time present.now.state }
 {
-    let _len = whole.len();
-    risen > 0 && whole.pulse(risen).fall >= time
+    let _len = present.len();
+    risen > 0 && present.pulse(risen).fall >= time
 }
 
 /// The pulses that frames from a start on take the stead of, if the frames can be made.
 fn place(
-    whole: &Whole,
+    present: &Present,
     start: u64,
     frames: u64,
     moment: Moment,
     control: u64,
 ) -> Result<Stretch, Refusal>
     ensures refused { IfErr result (λ e.
-        judgement_of (Regen start frames moment control) whole.now ≡ Some e) }
+        judgement_of (Regen start frames moment control) present.now.state ≡ Some e) }
     ensures allowed { OnOk result
-        (judgement_of (Regen start frames moment control) whole.now ≡ None) }
+        (judgement_of (Regen start frames moment control) present.now.state ≡ None) }
     ensures frames { OnOk result ((frames ≤ 10000)
-        × (frames_end whole.now.format start frames ≤ 2 ^ 40)
-        × IsTrue (starts_in whole.now.format moment)
-        × (control < 2 ^ control_count_of whole.now.format)) }
-    ensures can { IfOk result (λ p. CanSplice whole.now.micros p.at p.count
-        (frames_pulses whole.now.format start frames moment control) whole.now.pulses) }
-    ensures becomes { IfOk result (λ p. Becomes (Regen start frames moment control) whole.now
+        × (frames_end present.now.state.format start frames ≤ 2 ^ 40)
+        × IsTrue (starts_in present.now.state.format moment)
+        × (control < 2 ^ control_count_of present.now.state.format)) }
+    ensures can { IfOk result (λ p. CanSplice present.now.state.micros p.at p.count
+        (frames_pulses present.now.state.format start frames moment control) present.now.state.pulses) }
+    ensures becomes { IfOk result (λ p. Becomes (Regen start frames moment control) present.now.state
         (with_pulses (spliced p.at p.count
-        (frames_pulses whole.now.format start frames moment control) whole.now.pulses) whole.now)
+        (frames_pulses present.now.state.format start frames moment control) present.now.state.pulses) present.now.state)
         (p.at + 100 * frames)) }
     ensures few { IfOk result (λ p. p.at ≤ 2 ^ 22) }
+    ensures exchange { IfOk result (λ p. exchange p.count
+        (length (frames_pulses present.now.state.format start frames moment control))
+        ≡ exchange_by (Regen start frames moment control) present.now.state) }
 {
-    let Some(end) = end_of(whole, start, frames) else {
+    let Some(end) = end_of(present, start, frames) else {
         return Err(Refusal::OutOfRange);
     };
-    let at = rising_before(whole, start);
-    if is_met(whole, at, start) {
+    let at = rising_before(present, start);
+    if is_met(present, at, start) {
         return Err(Refusal::Touching);
     }
-    let count = rising_before(whole, end) - at;
-    if 100 * frames as usize > whole.room() + count {
+    let count = rising_before(present, end) - at;
+    if 100 * frames as usize > present.room() + count {
         return Err(Refusal::TooMany);
     }
-    let format = whole.format();
+    let format = present.format();
     if !moment.starts(format) {
         return Err(Refusal::BadTime);
     }
@@ -124,11 +129,12 @@ impl Session {
         control: u64,
     ) -> Result<(), Refusal>
         ensures step { Steps (Regen start frames moment control) self.old result self.new }
+        ensures looks { LooksAfter (Regen start frames moment control) self.old result self.new }
     {
-        let stretch = place(self.present.whole(), start, frames, moment, control)?;
-        let format = self.present.whole().format();
-        let mut put = pulses_of(self.alloc, format, start, frames, moment, control)?;
+        let stretch = place(&self.present, start, frames, moment, control)?;
+        let format = self.present.format();
+        let put = pulses_of(self.alloc, format, start, frames, moment, control)?;
         let cursor = stretch.at + 100 * frames as usize;
-        self.splice(stretch.at, stretch.count, &mut put, cursor)
+        self.splice(stretch.at, stretch.count, put, cursor)
     }
 }

@@ -1,24 +1,29 @@
 //! Pulses are moved in time.
 
-ghost use Rattle.std.specs.Prelude.{◌≡◌, ◌-◌, ◌≤◌, None, Some, IfErr, OnOk, length};
+ghost use Rattle.std.specs.Prelude.{◌≡◌, ◌-◌, ◌≤◌, None, Some, IfOk, IfErr, OnOk, length};
 ghost use Rattle.irig_track.specs.Shifts.{CanShift};
-ghost use Rattle.irig_edit.specs.Becoming.{judgement_of};
+ghost use Rattle.irig_edit.specs.Becoming.{Becomes, judgement_of};
 ghost use Rattle.irig_edit.specs.Calls.Call.{Shift};
-ghost use Rattle.irig_edit.specs.Machine.{Steps};
 ghost use Rattle.irig_edit.specs.Conditions.{leaves};
+ghost use Rattle.irig_edit.specs.Delta.{Fits, turned};
+ghost use Rattle.irig_edit.specs.Delta.Delta.{Shifted};
+ghost use Rattle.irig_edit.specs.Exchanges.{exchange_by};
+ghost use Rattle.irig_edit.specs.Keeping.{exchange_of};
+ghost use Rattle.irig_edit.specs.Session.{LooksAfter, Steps};
 
+use crate::change::{Change, Shift as Move};
+use crate::present::Present;
 use crate::refusal::Refusal;
 use crate::session::Session;
-use crate::whole::Whole;
 
 /// Whether the pulses `i` to `j`, moved by `by` microseconds, leave the track.
-fn leaves(whole: &Whole, i: usize, j: usize, by: i64) -> bool
-    requires { (1 ≤ i) × (i ≤ j) × (j ≤ length whole.now.pulses) }
-    ensures { result ≡ leaves i j by whole.now }
+fn leaves(present: &Present, i: usize, j: usize, by: i64) -> bool
+    requires { (1 ≤ i) × (i ≤ j) × (j ≤ length present.now.state.pulses) }
+    ensures { result ≡ leaves i j by present.now.state }
 {
-    let rise = whole.pulse(i).rise;
-    let fall = whole.pulse(j).fall;
-    let length = whole.length();
+    let rise = present.pulse(i).rise;
+    let fall = present.pulse(j).fall;
+    let length = present.length();
     if by < 0 {
         let back = by.unsigned_abs();
         rise < back || length + back < fall
@@ -28,23 +33,49 @@ fn leaves(whole: &Whole, i: usize, j: usize, by: i64) -> bool
 }
 
 /// Whether the pulses `i` to `j` can be moved.
-fn judge(whole: &Whole, i: usize, j: usize, by: i64) -> Result<(), Refusal>
-    ensures refused { IfErr result (λ e. judgement_of (Shift i j by) whole.now ≡ Some e) }
-    ensures allowed { OnOk result (judgement_of (Shift i j by) whole.now ≡ None) }
-    ensures there { OnOk result ((1 ≤ i) × (i ≤ j) × (j ≤ length whole.now.pulses)) }
-    ensures can { OnOk result (CanShift whole.now.micros (i - 1) (j - 1) by whole.now.pulses) }
+fn judge(present: &Present, i: usize, j: usize, by: i64) -> Result<(), Refusal>
+    ensures refused { IfErr result (λ e. judgement_of (Shift i j by) present.now.state ≡ Some e) }
+    ensures allowed { OnOk result (judgement_of (Shift i j by) present.now.state ≡ None) }
+    ensures there { OnOk result ((1 ≤ i) × (i ≤ j) × (j ≤ length present.now.state.pulses)) }
+    ensures can { OnOk result (CanShift present.now.state.micros (i - 1) (j - 1) by present.now.state.pulses) }
 {
-    if i == 0 || i > j || j > whole.len() {
+    if i == 0 || i > j || j > present.len() {
         return Err(Refusal::NoPulse);
     }
-    if leaves(whole, i, j, by) {
+    if leaves(present, i, j, by) {
         return Err(Refusal::OutOfRange);
     }
-    if whole.can_shift(i - 1, j - 1, by) {
+    if present.can_shift(i - 1, j - 1, by) {
         Ok(())
     } else {
         Err(Refusal::Touching)
     }
+}
+
+/// The pulses `i` to `j` as a shift by `by`, with the marks from the first to the last, if they can
+/// be moved.
+fn place(present: &Present, i: usize, j: usize, by: i64) -> Result<Move, Refusal>
+    ensures refused { IfErr result (λ e. judgement_of (Shift i j by) present.now.state ≡ Some e) }
+    ensures allowed { OnOk result (judgement_of (Shift i j by) present.now.state ≡ None) }
+    ensures there { OnOk result (j ≤ length present.now.state.pulses) }
+    ensures fits { IfOk result (λ m.
+        Fits present.now.state (Shifted m.i m.j m.by m.letters)) }
+    ensures becomes { IfOk result (λ m. Becomes (Shift i j by) present.now.state
+        (turned present.now.state (Shifted m.i m.j m.by m.letters)).0 j) }
+    ensures exchange { IfOk result (λ m.
+        exchange_of present.now.state (Shifted m.i m.j m.by m.letters)
+        ≡ exchange_by (Shift i j by) present.now.state) }
+{
+    judge(present, i, j, by)?;
+    let low = present.pulse(i).rise;
+    let high = present.pulse(j).fall;
+    let letters = present.letters_from(low, high);
+    Ok(Move {
+        i: i - 1,
+        j: j - 1,
+        by,
+        letters,
+    })
 }
 
 impl Session {
@@ -55,13 +86,9 @@ impl Session {
     /// meet the pulse before them or the one behind.
     pub fn shift(&mut self, i: usize, j: usize, by: i64) -> Result<(), Refusal>
         ensures step { Steps (Shift i j by) self.old result self.new }
+        ensures looks { LooksAfter (Shift i j by) self.old result self.new }
     {
-        judge(self.present.whole(), i, j, by)?;
-        let whole = self
-            .present
-            .whole()
-            .copy(self.alloc)?
-            .with_shifted(i, j, by);
-        self.change(whole, j)
+        let shift = place(&self.present, i, j, by)?;
+        self.change(Change::Shift(shift), j)
     }
 }

@@ -7,17 +7,17 @@ use Rattle.irig_edit.proofs.edits.force.place.Goals as goal
 pub returns-clause-can : goal.returns-clause-can
 returns-clause-can c =
     let width = c.nominal.ensures.value ∙ ap (λ (f : FormatView). nominal_of f c.args.element) c.format.ensures in
-    let some = nominal-some c.args.whole.now.format c.args.element in
-    (forced c.args.whole.now c.args.i c.args.element c.pulse-rise.result (c.pulse-rise.result.rise + c.nominal.result) c.len.ensures.state
+    let some = nominal-some c.args.present.now.state.format c.args.element in
+    (forced c.args.present.now.state c.args.i c.args.element c.pulse-rise.result (c.pulse-rise.result.rise + c.nominal.result) c.len.ensures.state
     (omega (arith, c.if-i-eq0.false)) (omega (arith, c.if-i-len.false, c.len.ensures.len)) c.pulse-rise.ensures.there
     (ap (λ n. c.pulse-rise.result.rise + n) width) (omega (arith, width, some)) (omega (arith, c.if-fall-length.false, c.length.ensures.length))
-    (next_free c.args.i (c.pulse-rise.result.rise + c.nominal.result) c.args.whole.now (sym c.meets_next.ensures ∙ c.if-meets_next.false))).0
+    (next_free c.args.i (c.pulse-rise.result.rise + c.nominal.result) c.args.present.now.state (sym c.meets_next.ensures ∙ c.if-meets_next.false))).0
 
 pub returns-clause-becomes : goal.returns-clause-becomes
 returns-clause-becomes c =
     let width = c.nominal.ensures.value ∙ ap (λ (f : FormatView). nominal_of f c.args.element) c.format.ensures in
-    let some = nominal-some c.args.whole.now.format c.args.element in
-    (forced c.args.whole.now c.args.i c.args.element c.pulse-rise.result (c.pulse-rise.result.rise + c.nominal.result) c.len.ensures.state
+    let some = nominal-some c.args.present.now.state.format c.args.element in
+    (forced c.args.present.now.state c.args.i c.args.element c.pulse-rise.result (c.pulse-rise.result.rise + c.nominal.result) c.len.ensures.state
     (omega (arith, c.if-i-eq0.false)) (omega (arith, c.if-i-len.false, c.len.ensures.len)) c.pulse-rise.ensures.there
     (ap (λ n. c.pulse-rise.result.rise + n) width) (omega (arith, width, some)) (omega (arith, c.if-fall-length.false, c.length.ensures.length))
-    (next_free c.args.i (c.pulse-rise.result.rise + c.nominal.result) c.args.whole.now (sym c.meets_next.ensures ∙ c.if-meets_next.false))).1
+    (next_free c.args.i (c.pulse-rise.result.rise + c.nominal.result) c.args.present.now.state (sym c.meets_next.ensures ∙ c.if-meets_next.false))).1

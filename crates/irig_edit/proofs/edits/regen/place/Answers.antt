@@ -2,13 +2,15 @@ use Rattle.std.proofs.Common.{◌≡◌, ◌≤◌, ◌+◌, ◌-◌, ◌*◌, �
 use Rattle.irig_codes.specs.Format.{FormatView, control_count_of}
 use Rattle.irig_moment.specs.Generated.{starts_in}
 use Rattle.irig_edit.specs.Conditions.{are_frames, is_met, are_too_many, is_wide}
-use Rattle.irig_edit.specs.Regenerated.{frames_end, rising_before}
+use Rattle.irig_edit.specs.Regenerated.{frame_elements, frames_end, frames_pulses, rising_before, rising_in}
+use Rattle.irig_edit.specs.Kept.{exchange}
+use Rattle.irig_edit.proofs.Generating.{frames_many}
 use Rattle.irig_edit.proofs.Regenerating.{before_end, end_said, frames_said, too_many_yes, too_many_no, is_wide_yes, is_wide_no, regenerated}
 use Rattle.irig_edit.proofs.edits.regen.place.Goals as goal
 
 pub overflow_sub-count : goal.overflow_sub-count
 overflow_sub-count c =
-    let s = c.args.whole.now in
+    let s = c.args.present.now.state in
     let said = end_said (are_frames c.args.start c.args.frames s) (frames_end s.format c.args.start c.args.frames) c.in-Some.end (sym c.end_of.ensures ∙ c.in-Some.is) in
     let there : are_frames c.args.start c.args.frames s ≡ true = said.0 in
     let free : is_met c.args.start s ≡ false = sym c.is_met.ensures ∙ c.if-is_met.false in
@@ -17,7 +19,7 @@ overflow_sub-count c =
 
 pub returns-then-frames-room-clause-refused : goal.returns-then-frames-room-clause-refused
 returns-then-frames-room-clause-refused c =
-    let s = c.args.whole.now in
+    let s = c.args.present.now.state in
     let said = end_said (are_frames c.args.start c.args.frames s) (frames_end s.format c.args.start c.args.frames) c.in-Some.end (sym c.end_of.ensures ∙ c.in-Some.is) in
     let there : are_frames c.args.start c.args.frames s ≡ true = said.0 in
     let free : is_met c.args.start s ≡ false = sym c.is_met.ensures ∙ c.if-is_met.false in
@@ -29,7 +31,7 @@ returns-then-frames-room-clause-refused c =
 
 pub returns-then-not-starts-clause-refused : goal.returns-then-not-starts-clause-refused
 returns-then-not-starts-clause-refused c =
-    let s = c.args.whole.now in
+    let s = c.args.present.now.state in
     let said = end_said (are_frames c.args.start c.args.frames s) (frames_end s.format c.args.start c.args.frames) c.in-Some.end (sym c.end_of.ensures ∙ c.in-Some.is) in
     let there : are_frames c.args.start c.args.frames s ≡ true = said.0 in
     let free : is_met c.args.start s ≡ false = sym c.is_met.ensures ∙ c.if-is_met.false in
@@ -42,7 +44,7 @@ returns-then-not-starts-clause-refused c =
 
 pub returns-then-control-control_count-gt0-clause-refused : goal.returns-then-control-control_count-gt0-clause-refused
 returns-then-control-control_count-gt0-clause-refused c =
-    let s = c.args.whole.now in
+    let s = c.args.present.now.state in
     let said = end_said (are_frames c.args.start c.args.frames s) (frames_end s.format c.args.start c.args.frames) c.in-Some.end (sym c.end_of.ensures ∙ c.in-Some.is) in
     let there : are_frames c.args.start c.args.frames s ≡ true = said.0 in
     let free : is_met c.args.start s ≡ false = sym c.is_met.ensures ∙ c.if-is_met.false in
@@ -57,7 +59,7 @@ returns-then-control-control_count-gt0-clause-refused c =
 
 pub returns-clause-allowed : goal.returns-clause-allowed
 returns-clause-allowed c =
-    let s = c.args.whole.now in
+    let s = c.args.present.now.state in
     let said = end_said (are_frames c.args.start c.args.frames s) (frames_end s.format c.args.start c.args.frames) c.in-Some.end (sym c.end_of.ensures ∙ c.in-Some.is) in
     let there : are_frames c.args.start c.args.frames s ≡ true = said.0 in
     let free : is_met c.args.start s ≡ false = sym c.is_met.ensures ∙ c.if-is_met.false in
@@ -72,7 +74,7 @@ returns-clause-allowed c =
 
 pub returns-clause-can : goal.returns-clause-can
 returns-clause-can c =
-    let s = c.args.whole.now in
+    let s = c.args.present.now.state in
     let said = end_said (are_frames c.args.start c.args.frames s) (frames_end s.format c.args.start c.args.frames) c.in-Some.end (sym c.end_of.ensures ∙ c.in-Some.is) in
     let there : are_frames c.args.start c.args.frames s ≡ true = said.0 in
     let free : is_met c.args.start s ≡ false = sym c.is_met.ensures ∙ c.if-is_met.false in
@@ -86,7 +88,7 @@ returns-clause-can c =
 
 pub returns-clause-becomes : goal.returns-clause-becomes
 returns-clause-becomes c =
-    let s = c.args.whole.now in
+    let s = c.args.present.now.state in
     let said = end_said (are_frames c.args.start c.args.frames s) (frames_end s.format c.args.start c.args.frames) c.in-Some.end (sym c.end_of.ensures ∙ c.in-Some.is) in
     let there : are_frames c.args.start c.args.frames s ≡ true = said.0 in
     let free : is_met c.args.start s ≡ false = sym c.is_met.ensures ∙ c.if-is_met.false in
@@ -97,3 +99,15 @@ returns-clause-becomes c =
     let both : c.rising_before-at.result + (c.rising_before.result - c.rising_before-at.result) ≡ c.rising_before.result = omega (arith, sum, c.rising_before-at.ensures.count, is_end) in
     (regenerated s c.args.start c.args.frames c.args.moment c.args.control c.rising_before-at.result (c.rising_before.result - c.rising_before-at.result)
     c.rising_before.ensures.state within free few c.rising_before-at.ensures.count (both ∙ is_end) (omega (arith, both, c.rising_before.ensures.within))).1
+
+pub returns-clause-exchange : goal.returns-clause-exchange
+returns-clause-exchange c =
+    let s = c.args.present.now.state in
+    let said = end_said (are_frames c.args.start c.args.frames s) (frames_end s.format c.args.start c.args.frames) c.in-Some.end (sym c.end_of.ensures ∙ c.in-Some.is) in
+    let is_end = c.rising_before.ensures.count ∙ ap (λ t. length (rising_before t s.pulses)) (sym said.1) in
+    let sum = before_end c.args.start (frames_end s.format c.args.start c.args.frames) s.pulses (omega arith) in
+    let is_at = c.rising_before-at.ensures.count in
+    let gone : c.rising_before.result - c.rising_before-at.result ≡ length (rising_in c.args.start (frames_end s.format c.args.start c.args.frames) s.pulses) = omega arith in
+    let come : length (frames_pulses s.format c.args.start c.args.frames c.args.moment c.args.control) ≡ 100 * c.args.frames =
+    frames_many s.format c.args.start (frame_elements s.format c.args.moment c.args.control) 0 c.args.frames in
+    (λ k. exchange (gone k) (come k))

@@ -8,7 +8,7 @@ use Rattle.irig_edit.proofs.edits.shift.judge.Goals as goal
 
 pub returns-then-can_shift-clause-allowed : goal.returns-then-can_shift-clause-allowed
 returns-then-can_shift-clause-allowed c =
-    let s = c.args.whole.now in
+    let s = c.args.present.now.state in
     let first : 1 ≤ c.args.i = omega arith in
     let order : c.args.i ≤ c.args.j = omega arith in
     let last : c.args.j ≤ length s.pulses = omega arith in
@@ -21,7 +21,7 @@ returns-then-can_shift-clause-allowed c =
 
 pub returns-else-can_shift-clause-refused : goal.returns-else-can_shift-clause-refused
 returns-else-can_shift-clause-refused c =
-    let s = c.args.whole.now in
+    let s = c.args.present.now.state in
     let first : 1 ≤ c.args.i = omega arith in
     let order : c.args.i ≤ c.args.j = omega arith in
     let last : c.args.j ≤ length s.pulses = omega arith in

@@ -1,27 +1,85 @@
-use Rattle.std.proofs.Common.{Ok, ap, sym, ◌∙◌, subst}
+use Rattle.std.proofs.Common.{◌≡◌, Ok, ◌≤◌, length, ap, sym, ◌∙◌, subst, ℕ, ◌-◌}
+use Rattle.irig_journal.specs.Journal.{past_of, future_of}
 use Rattle.irig_journal.specs.Machine.{Machine, recorded}
+use Rattle.irig_journal.specs.Machine as journal
+use Rattle.irig_edit.specs.Delta.{Fits, turned}
+use Rattle.irig_edit.specs.DeltaLaws.{IsState-turned}
+use Rattle.irig_edit.specs.Held.{delta_of}
+use Rattle.irig_edit.specs.Keeping.{exchange_of, machine}
+use Rattle.irig_edit.specs.Kept.{Kept, kept}
 use Rattle.irig_edit.specs.State.{State}
-use Rattle.irig_edit.specs.Machine.{kept, IsMachine}
-use Rattle.irig_edit.proofs.Machines.{IsMachine-recorded, machine_of-same}
+use Rattle.irig_edit.specs.Machine.{IsMachine}
+use Rattle.irig_edit.specs.Looks.{Within, looks_of}
+use Rattle.irig_edit.specs.Session.{SessionView, machine_in}
+use Rattle.irig_edit.proofs.Machines.{IsMachine-recorded, history, machine-made}
+use Rattle.irig_edit.proofs.Looking.{risen_within}
 use Rattle.irig_edit.proofs.Stepping.{steps_becomes}
 use Rattle.irig_edit.proofs.session.Session.change.Goals as goal
 
+pub record-requires-clause-applies : goal.record-requires-clause-applies
+record-requires-clause-applies c =
+    let same = ap (λ (m : SessionView). m.present.state) c.self.view_is in
+    subst (λ (s : State). Fits s (delta_of c.args.change)) (sym same) c.requires.fits
+
 pub invariant_of-self : goal.invariant_of-self
 invariant_of-self c =
-    let is = c.in-Ok.ensures.machine c.args.cursor in
-    (IsMachine-recorded c.args.whole c.args.cursor c.self.invariant.0 c.len-len.ensures.state c.requires.cursor is, c.record.ensures.fits)
+    let s = c.self.inside.present.state in
+    let d = delta_of c.args.change in
+    let same = ap (λ (m : SessionView). m.present.state) c.self.view_is in
+    let fits = subst (λ (x : State). Fits x d) (sym same) c.requires.fits in
+    let within = subst (λ (x : State). c.args.cursor ≤ length (turned x d).0.pulses) (sym same) c.requires.cursor in
+    let is = c.self.invariant.0.present.state in
+    let stands = ap (λ (m : Machine (journal.Kept State)). m.present.state) (c.in-Ok.ensures.machine 0) in
+    let made = machine-made s c.record.new.state.state d c.self.inside.cursor c.args.cursor (past_of delta_of c.self.inside.journal) (future_of delta_of c.self.inside.journal)
+    (past_of delta_of c.record.new.self) (future_of delta_of c.record.new.self) is fits stands c.in-Ok.ensures.steps.0 c.in-Ok.ensures.steps.1 in
+    (IsMachine-recorded (turned s d).0 c.args.cursor (exchange_of s d) c.self.invariant.0 (IsState-turned s d is fits) within made, c.record.ensures.fits)
 
 pub invariant_of-self-in-Err : goal.invariant_of-self-in-Err
 invariant_of-self-in-Err c =
     let unmoved = c.in-Err.ensures.err in
-    let P : Machine State → Type 0 = IsMachine in
-    let is = machine_of-same c.self.inside.present.state c.record.new.state.state c.self.inside.cursor c.self.inside.journal c.record.new.self unmoved.1 unmoved.3 unmoved.4 in
+    let P : Machine Kept → Type 0 = IsMachine in
+    let is : machine (history c.record.new.state.state c.self.inside.cursor (past_of delta_of c.record.new.self) (future_of delta_of c.record.new.self))
+    ≡ machine (history c.self.inside.present.state c.self.inside.cursor (past_of delta_of c.self.inside.journal) (future_of delta_of c.self.inside.journal)) =
+    (λ k. machine (history (unmoved.1 k) c.self.inside.cursor (unmoved.3 k) (unmoved.4 k))) in
     (subst P (sym is) c.self.invariant.0, c.record.ensures.fits)
 
 pub returns-in-Ok-clause-ok : goal.returns-in-Ok-clause-ok
-returns-in-Ok-clause-ok c = c.in-Ok.ensures.machine c.args.cursor ∙ ap (λ (m : Machine State). recorded m (kept c.args.whole c.args.cursor)) c.self.view_is
+returns-in-Ok-clause-ok c =
+    let s = c.self.inside.present.state in
+    let d = delta_of c.args.change in
+    let same = ap (λ (m : SessionView). m.present.state) c.self.view_is in
+    let fits = subst (λ (x : State). Fits x d) (sym same) c.requires.fits in
+    let stands = ap (λ (m : Machine (journal.Kept State)). m.present.state) (c.in-Ok.ensures.machine 0) in
+    machine-made s c.record.new.state.state d c.self.inside.cursor c.args.cursor (past_of delta_of c.self.inside.journal) (future_of delta_of c.self.inside.journal)
+    (past_of delta_of c.record.new.self) (future_of delta_of c.record.new.self) c.self.invariant.0.present.state fits stands c.in-Ok.ensures.steps.0 c.in-Ok.ensures.steps.1
+    ∙ ap (λ (m : SessionView). recorded (machine_in m) (kept (turned m.present.state d).0 c.args.cursor (exchange_of m.present.state d))) c.self.view_is
 
 pub returns-in-Ok-clause-step : goal.returns-in-Ok-clause-step
 returns-in-Ok-clause-step c =
-    let step = c.in-Ok.ensures.machine c.args.cursor ∙ ap (λ (m : Machine State). recorded m (kept c.args.whole c.args.cursor)) c.self.view_is in
-    λ call edit none becomes. steps_becomes call c.args.self.now _ (Ok tt) c.args.whole c.args.cursor edit none becomes step tt
+    let s = c.self.inside.present.state in
+    let d = delta_of c.args.change in
+    let same = ap (λ (m : SessionView). m.present.state) c.self.view_is in
+    let fits = subst (λ (x : State). Fits x d) (sym same) c.requires.fits in
+    let stands = ap (λ (m : Machine (journal.Kept State)). m.present.state) (c.in-Ok.ensures.machine 0) in
+    let step = machine-made s c.record.new.state.state d c.self.inside.cursor c.args.cursor (past_of delta_of c.self.inside.journal) (future_of delta_of c.self.inside.journal)
+    (past_of delta_of c.record.new.self) (future_of delta_of c.record.new.self) c.self.invariant.0.present.state fits stands c.in-Ok.ensures.steps.0 c.in-Ok.ensures.steps.1
+    ∙ ap (λ (m : SessionView). recorded (machine_in m) (kept (turned m.present.state d).0 c.args.cursor (exchange_of m.present.state d))) c.self.view_is in
+    λ call edit none becomes exchanged.
+    let now = c.args.self.now.present.state in
+    steps_becomes call (machine_in c.args.self.now) _ (Ok tt) (turned now d).0 c.args.cursor (exchange_of now d) edit none becomes exchanged step tt
+
+pub returns-in-Ok-clause-looks : goal.returns-in-Ok-clause-looks
+returns-in-Ok-clause-looks c =
+    let s = c.self.inside.present.state in
+    let d = delta_of c.args.change in
+    let same = ap (λ (m : SessionView). m.present.state) c.self.view_is in
+    let fits = subst (λ (x : State). Fits x d) (sym same) c.requires.fits in
+    let stands = ap (λ (m : Machine (journal.Kept State)). m.present.state) (c.in-Ok.ensures.machine 0) in
+    let made = machine-made s c.record.new.state.state d c.self.inside.cursor c.args.cursor (past_of delta_of c.self.inside.journal) (future_of delta_of c.self.inside.journal)
+    (past_of delta_of c.record.new.self) (future_of delta_of c.record.new.self) c.self.invariant.0.present.state fits stands c.in-Ok.ensures.steps.0 c.in-Ok.ensures.steps.1 in
+    let looks = c.looks_since-self-inside.result in
+    let rise = risen_within (looks_of d (turned s d).0.pulses) c.self.inside.present.index.looks c.record.new.state.index.looks c.looks-before.result looks
+    c.in-Ok.ensures.once c.looks-before.ensures c.looks_since-self-inside.ensures in (
+      c.looks_since-self-inside.ensures ∙ ap (λ (n : ℕ). c.record.new.state.index.looks - n) (c.looks-before.ensures ∙ ap (λ (v : SessionView). v.looks) c.self.view_is),
+      subst (λ (m : Machine Kept). Within m.present.made.forth looks) (sym made) rise,
+    )

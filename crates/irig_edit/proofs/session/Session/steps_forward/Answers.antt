@@ -1,12 +1,11 @@
 use Rattle.std.proofs.Common.{ap, sym, ◌∙◌, length}
-use Rattle.irig_journal.specs.Machine.{Machine}
 use Rattle.irig_journal.specs.Journal.{future_of}
-use Rattle.irig_edit.specs.State.{State}
-use Rattle.irig_edit.specs.Turning.{same}
-use Rattle.irig_edit.proofs.Machines.{length-states_along}
+use Rattle.irig_edit.specs.Held.{delta_of}
+use Rattle.irig_edit.proofs.Machines.{length-kept_forward}
 use Rattle.irig_edit.proofs.session.Session.steps_forward.Goals as goal
+use Rattle.irig_edit.specs.Session.{SessionView}
 
 pub returns : goal.returns
 returns c =
     let s = c.self.inside in
-    c.steps_forward.ensures ∙ sym (length-states_along s.present.state (future_of same s.journal)) ∙ ap (λ (m : Machine State). length m.future) c.self.view_is
+    c.steps_forward.ensures ∙ sym (length-kept_forward s.present.state (future_of delta_of s.journal)) ∙ ap (λ (m : SessionView). length m.future) c.self.view_is

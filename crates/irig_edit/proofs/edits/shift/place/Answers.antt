@@ -1,0 +1,46 @@
+use Rattle.std.proofs.Common.{◌≡◌, ◌-◌, ℤ, List, Bool, length, map, ap, sym, ◌∙◌, subst, to_z, of_z, w64}
+use Rattle.std.proofs.lemmas.Int.{to_z-of_z}
+use Rattle.irig_track.specs.declared.pulse.Pulse.{Pulse}
+use Rattle.irig_track.specs.Shifts.{CanShift}
+use Rattle.irig_edit.specs.Becoming.{Becomes}
+use Rattle.irig_edit.specs.Calls.Call.{Shift}
+use Rattle.irig_edit.specs.Delta.{turned}
+use Rattle.irig_edit.specs.Delta.Delta.{Shifted}
+use Rattle.irig_edit.specs.Edits.{pulse_of}
+use Rattle.irig_edit.specs.Marks.{AllMayMove, stands}
+use Rattle.irig_edit.proofs.Moving.{marks_may, shifted_becomes}
+use Rattle.irig_edit.proofs.edits.shift.place.Goals as goal
+
+pub returns-clause-fits : goal.returns-clause-fits
+returns-clause-fits c =
+    let i = c.args.i in
+    let j = c.args.j in
+    let d = c.args.by in
+    let s = c.args.present.now.state in
+    let there = c.in_ok-judge.ensures.there in
+    let passed = to_z-of_z w64 d c.ranges.by in
+    let can = subst (λ (e : ℤ). CanShift s.micros (i - 1) (j - 1) e s.pulses) passed c.in_ok-judge.ensures.can in
+    let rise = ap (λ (p : Pulse). p.rise) c.pulse-low.ensures.pulse in
+    let fall = ap (λ (p : Pulse). p.fall) c.pulse-high.ensures.pulse in
+    let letters : c.letters_from-letters.result ≡ map (stands (pulse_of i s).rise (pulse_of j s).fall) s.marks =
+    c.letters_from-letters.ensures ∙ (λ k. map (stands (rise k) (fall k)) s.marks) in
+    let may = marks_may i j d s c.pulse-low.ensures.state there.0 there.1 there.2 can in
+    let P : ℤ → Type 0 = λ e. CanShift s.micros (i - 1) (j - 1) e s.pulses × AllMayMove s.micros e c.letters_from-letters.result s.marks in
+    subst P (sym passed) (can, subst (λ (ls : List Bool). AllMayMove s.micros d ls s.marks) (sym letters) may)
+
+pub returns-clause-becomes : goal.returns-clause-becomes
+returns-clause-becomes c =
+    let i = c.args.i in
+    let j = c.args.j in
+    let d = c.args.by in
+    let s = c.args.present.now.state in
+    let there = c.in_ok-judge.ensures.there in
+    let passed = to_z-of_z w64 d c.ranges.by in
+    let can = subst (λ (e : ℤ). CanShift s.micros (i - 1) (j - 1) e s.pulses) passed c.in_ok-judge.ensures.can in
+    let rise = ap (λ (p : Pulse). p.rise) c.pulse-low.ensures.pulse in
+    let fall = ap (λ (p : Pulse). p.fall) c.pulse-high.ensures.pulse in
+    let letters : c.letters_from-letters.result ≡ map (stands (pulse_of i s).rise (pulse_of j s).fall) s.marks =
+    c.letters_from-letters.ensures ∙ (λ k. map (stands (rise k) (fall k)) s.marks) in
+    let becomes = shifted_becomes i j d s c.pulse-low.ensures.state there.0 there.1 there.2 can in
+    let named = subst (λ (ls : List Bool). Becomes (Shift i j d) s (turned s (Shifted (i - 1) (j - 1) d ls)).0 j) (sym letters) becomes in
+    subst (λ (e : ℤ). Becomes (Shift i j d) s (turned s (Shifted (i - 1) (j - 1) e c.letters_from-letters.result)).0 j) (sym passed) named

@@ -1,0 +1,18 @@
+use Rattle.std.proofs.Common.{ap, ◌∙◌}
+use Rattle.irig_index.specs.Frames.{frames}
+use Rattle.irig_track.specs.Looks.{LensView}
+use Rattle.irig_edit.specs.Present.{state_in}
+use Rattle.irig_edit.specs.State.{state}
+use Rattle.irig_edit.proofs.Turned.{shift_turned}
+use Rattle.irig_edit.proofs.present.Present.shift.Goals as goal
+
+pub invariant_of-self : goal.invariant_of-self
+invariant_of-self c =
+    let p = c.self.inside in
+    let x = c.args.shift.now in
+    let new = c.turn_shift-span.new in (
+      shift_turned (state p.track.micros p.track.pulses p.format p.marks) c.args.self.now.state x.i x.j x.by x.letters
+          new.track.micros new.track.pulses new.marks (ap state_in c.self.view_is) c.self.invariant.0 (c.requires.can, c.requires.marks)
+          c.turn_shift-span.ensures.track.0 c.turn_shift-span.ensures.track.1 c.turn_shift-span.ensures.marks,
+      c.repair.ensures.frames ∙ ap (λ (l : LensView). frames p.format l.track.pulses) c.lens.ensures,
+    )

@@ -1,0 +1,58 @@
+-- What a change of a state is, when it can be made, what it leaves, and how much it holds. This
+-- project's own.
+use Rattle.std.specs.Prelude.{ℕ, ℤ, ◌<◌, ◌≤◌, ◌+◌, Bool, true, false, List, [], ◌∷◌, Option, Some, None, length, nat_le, ◌&&◌, get_or, slice_set, option_map, neg_ℤ, if◌then◌else◌}
+use Rattle.irig_codes.specs.Format.{FormatView}
+use Rattle.irig_track.specs.declared.pulse.Pulse.{Pulse}
+use Rattle.irig_track.specs.Edges.{pulse, edges_of}
+use Rattle.irig_track.specs.Shifts.{CanShift, ahead, back, shifted}
+use Rattle.irig_track.specs.Splices.{CanSplice, piece, spliced}
+use Rattle.irig_track.specs.Toggles.{CanToggle, toggled}
+use Rattle.irig_edit.specs.State.{State, IsMark, state, with_pulses}
+use Rattle.irig_edit.specs.Marks.{AllMayMove, marks_moved}
+
+-- Pulses count from 0 here, and a letter a to z is a number from 0. A splice takes as many pulses
+-- from a place on, and puts others in their stead; a toggle turns two times; a shift moves pulses,
+-- both included, by a distance, and with them the marks of the letters named.
+pub data Delta : Type 0 where
+  Spliced : ℕ → ℕ → List Pulse → Delta
+  Toggled : ℕ → ℕ → Delta
+  Shifted : ℕ → ℕ → ℤ → List Bool → Delta
+  Formatted : FormatView → Delta
+  Marked : ℕ → Option ℕ → Delta
+
+-- the pulses of edges, taken two by two
+abbrev pub pulses_of : List ℕ → List Pulse
+pulses_of [] = []
+pulses_of (rise ∷ []) = []
+pulses_of (rise ∷ fall ∷ edges) = pulse rise fall ∷ pulses_of edges
+
+-- the change can be made
+abbrev pub Fits : State → Delta → Type 0
+Fits s (Spliced at count put) = CanSplice s.micros at count put s.pulses
+Fits s (Toggled a b) = CanToggle s.micros a b s.pulses
+Fits s (Shifted i j d named) = CanShift s.micros i j d s.pulses × AllMayMove s.micros d named s.marks
+Fits s (Formatted f) = Unit {0}
+Fits s (Marked letter time) = (letter < 26) × IsMark s.micros time
+
+-- the state that a change leaves, and the change that leads back
+abbrev pub turned : State → Delta → State × Delta
+turned s (Spliced at count put) = (
+  with_pulses (spliced at count put s.pulses) s,
+  Spliced at (length put) (piece at count s.pulses),
+)
+turned s (Toggled a b) =
+    (with_pulses (pulses_of (toggled a b (edges_of s.pulses))) s, Toggled a b)
+turned s (Shifted i j d named) = (
+  state s.micros (shifted i j d s.pulses) s.format (marks_moved d named s.marks),
+  Shifted i j (neg_ℤ d) named,
+)
+turned s (Formatted f) = (state s.micros s.pulses f s.marks, Formatted s.format)
+turned s (Marked letter time) = (
+  state s.micros s.pulses s.format (slice_set s.marks letter time),
+  Marked letter (get_or s.marks letter None),
+)
+
+-- how many pulses a change holds
+abbrev pub weight_of : Delta → ℕ
+weight_of (Spliced at count put) = length put
+weight_of change = 0
