@@ -3,7 +3,8 @@ use Rattle.std.specs.Prelude.{◌≡◌, ℕ, List, Option, Ok}
 use Rattle.irig_vcd.specs.Dump.{dump}
 use Rattle.irig_codes.specs.Format.{FormatView}
 use Rattle.irig_edit.specs.State.{State, recording_of}
-use Rattle.irig_edit.specs.Machine.{NoMarks, started}
+use Rattle.irig_edit.specs.Machine.{NoMarks}
+use Rattle.irig_edit.specs.Session.{started}
 use Rattle.irig_script.specs.Obey.Machine.{Machine}
 use Rattle.irig_script.specs.Obey.Desk.{Desk}
 use Rattle.irig_script.specs.Obey.Run.{Ran}
@@ -15,8 +16,9 @@ use Rattle.irig_script.specs.declared.obey.status.Status.TheVariants.{AllAccepte
 pub record Edited (wire : Option (List ℕ)) (chosen : FormatView) (source : List ℕ)
     (from to : Desk) (status : Status) (script : List ℕ) : Type 0 where
   pub first : State
+  pub looks : ℕ
   pub last : Machine
   pub read : dump wire source ≡ Ok (recording_of first)
   pub format : first.format ≡ chosen
   pub marks : NoMarks first.marks
-  pub ran : Ran from to AllAccepted status (started first) last script
+  pub ran : Ran from to AllAccepted status (started looks first) last script

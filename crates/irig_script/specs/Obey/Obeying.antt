@@ -7,7 +7,7 @@ use Rattle.irig_codes.specs.declared.format.Kind.{Kind}
 use Rattle.irig_edit.specs.State.{recording_of}
 use Rattle.irig_edit.specs.Calls.{Call}
 use Rattle.irig_edit.specs.Conditions.{are_pulses}
-use Rattle.irig_edit.specs.Machine.{Steps}
+use Rattle.irig_edit.specs.Session.{Steps}
 use Rattle.irig_edit.specs.declared.refusal.Refusal.{Refusal}
 use Rattle.irig_edit.specs.declared.refusal.Refusal.TheVariants as refusal
 use Rattle.irig_script.specs.Obey.Machine.{Machine}
