@@ -1,1 +1,9 @@
-pub mod GapLemmas
+mod Blocks
+mod Copies
+mod GapLemmas
+mod Laid
+mod Live
+mod Rows
+mod Runs
+mod Sharing
+mod Steps

@@ -1,25 +1,29 @@
 //! A list that is edited at one place.
 //!
-//! The slots left of `gap` hold the items before the place, and those from `after` on hold the
-//! rest. What lies between is free, and so is the room for more slots up to the capacity.
+//! The places of the block left of `gap` hold the items before the place, and those from `after` on
+//! hold the rest. Nothing is claimed of the places between.
 
-ghost use Rattle.std.specs.Prelude.{◌≡◌, ◌+◌, ◌-◌, ◌^◌, ◌<◌, ◌≤◌, length};
-ghost use Rattle.std.specs.Prelude.{[], ◌++◌, slice_get, slice_set, insert, remove, take, drop, replicate, vec_capacity, OnOk, OnErr};
+ghost use Rattle.std.specs.Prelude.{◌≡◌, ◌+◌, ◌-◌, ◌/◌, ◌^◌, ◌<◌, ◌≤◌, length, max};
+ghost use Rattle.std.specs.Prelude.{[], slice_get, slice_set, insert, remove, OnOk, OnErr};
 ghost use Rattle.irig_gap.specs.Items.{gap_view};
 
+use crate::block::{block, copy_items, free};
+use crate::cells::{Cells, Deed, nowhere};
 use std::alloc::{AllocError, Global};
 use std::marker::Model;
+use std::mem;
 
 /// A list of items, counted from 0, with a place from 0 to its length and a capacity.
 ///
 /// `put`, `take_left` and `take_right` work at the place and take no memory; only `reserve` does,
 /// and it alone changes the capacity.
-#[derive(Drop)]
 pub struct Gap<T: Copy> {
-    slots: Vec<T>,
-    gap: usize,
-    after: usize,
+    pub(crate) cells: Cells<T>,
+    deed: Option<Deed<T, Global>>,
+    pub(crate) gap: usize,
+    pub(crate) after: usize,
     capacity: usize,
+    alloc: Global,
 }
 
 impl<T: Copy> Model for Gap<T> {
@@ -29,13 +33,15 @@ impl<T: Copy> Model for Gap<T> {
 
     ghost coded = { gap_code T.code };
 
-    ghost use Rattle.std.specs.Prelude.{◌≤◌, vec_capacity};
+    ghost use Rattle.std.specs.Prelude.{◌≡◌, ◌<◌, ◌^◌, length};
     ghost use Rattle.irig_gap.specs.Slots.{view_of, IsGap};
+    ghost use Rattle.irig_gap.specs.Block.{IsBlock};
 
-    ghost view = { λ g. view_of g.slots.items g.gap g.after g.capacity };
+    ghost view = { λ g. view_of g.cells.slots g.gap g.after };
 
-    ghost invariant = { λ g. IsGap g.slots.items g.gap g.after g.capacity
-        × (g.capacity ≤ vec_capacity g.slots) };
+    ghost invariant = { λ g. IsGap g.cells.slots g.gap g.after
+        × (length g.cells.slots ≡ g.capacity) × (g.capacity < 2 ^ 64)
+        × IsBlock g.cells.start g.deed g.capacity g.alloc };
 }
 
 impl<T: Copy> Gap<T> {
@@ -44,10 +50,12 @@ impl<T: Copy> Gap<T> {
         ensures { result ≡ gap_view [] 0 0 }
     {
         Gap {
-            slots: Vec::new(alloc),
+            cells: nowhere(&0, 0),
+            deed: None,
             gap: 0,
             after: 0,
             capacity: 0,
+            alloc,
         }
     }
 
@@ -59,6 +67,8 @@ impl<T: Copy> Gap<T> {
         ensures stays { (self.new.items ≡ self.old.items) × (self.new.place ≡ self.old.place) }
         ensures room { OnOk result (length self.old.items + more ≤ self.new.capacity) }
         ensures grows { self.old.capacity ≤ self.new.capacity }
+        ensures bounded { OnOk result (self.new.capacity
+            ≤ max (length self.old.items + more) (self.old.capacity + self.old.capacity / 2)) }
         ensures enough { length self.old.items + more ≤ self.old.capacity → self.new ≡ self.old }
         ensures unchanged { OnErr result (self.new ≡ self.old) }
         ensures refused { OnErr result (self.old.capacity < length self.old.items + more) }
@@ -81,7 +91,7 @@ impl<T: Copy> Gap<T> {
         ensures len { result ≡ length self.now.items }
         ensures within { result ≤ self.now.capacity }
     {
-        self.gap + (self.slots.len() - self.after)
+        self.gap + (self.capacity - self.after)
     }
 
     /// How many items there may be before a growth.
@@ -107,8 +117,7 @@ impl<T: Copy> Gap<T> {
         ensures { slice_get self.now.items index ≡ Some result }
     {
         let slot = slot_of(index, self.gap, self.after);
-        let item = self.slots[slot];
-        item
+        *self.cells.get(slot)
     }
 
     /// Puts `item` in the stead of the one at `index`, from 0.
@@ -118,40 +127,7 @@ impl<T: Copy> Gap<T> {
             gap_view (slice_set self.old.items index item) self.old.place self.old.capacity }
     {
         let slot = slot_of(index, self.gap, self.after);
-        self.slots[slot] = item;
-    }
-
-    /// Moves the place over the item left of it.
-    pub fn step_left(&mut self)
-        requires { 0 < self.old.place }
-        ensures { self.new ≡ gap_view self.old.items (self.old.place - 1) self.old.capacity }
-    {
-        self.gap -= 1;
-        self.after -= 1;
-        self.slots[self.after] = self.slots[self.gap];
-    }
-
-    /// Moves the place over the item right of it.
-    pub fn step_right(&mut self)
-        requires { self.old.place < length self.old.items }
-        ensures { self.new ≡ gap_view self.old.items (self.old.place + 1) self.old.capacity }
-    {
-        self.slots[self.gap] = self.slots[self.after];
-        self.gap += 1;
-        self.after += 1;
-    }
-
-    /// Moves the place to stand right of `place` items.
-    pub fn move_to(&mut self, place: usize)
-        requires { place ≤ length self.old.items }
-        ensures { self.new ≡ gap_view self.old.items place self.old.capacity }
-    {
-        while place < self.gap_at() {
-            self.step_left();
-        }
-        while self.gap_at() < place {
-            self.step_right();
-        }
+        self.cells.write(slot, item);
     }
 
     /// Puts `item` at the place, which then stands right of it.
@@ -161,20 +137,8 @@ impl<T: Copy> Gap<T> {
             gap_view (insert self.old.items self.old.place item)
             (self.old.place + 1) self.old.capacity }
     {
-        if self.gap == self.slots.len() {
-            // Nothing stands right of the place, and no slot is free.
-            self.slots.push(item).unwrap();
-            self.gap += 1;
-            self.after = self.gap;
-            return;
-        }
-        if self.gap == self.after {
-            let more = self.capacity - self.slots.len();
-            add_slots(&mut self.slots, self.gap, more, item);
-            self.after += more;
-        }
         let free = self.gap;
-        self.slots[free] = item;
+        self.cells.write(free, item);
         self.gap = free + 1;
     }
 
@@ -191,7 +155,7 @@ impl<T: Copy> Gap<T> {
         }
         let last = self.gap - 1;
         self.gap = last;
-        Some(self.slots[last])
+        Some(*self.cells.get(last))
     }
 
     /// Takes the item right of the place out, and is None where none stands there.
@@ -204,38 +168,46 @@ impl<T: Copy> Gap<T> {
             self.new ≡ gap_view (remove self.old.items self.old.place) self.old.place
             self.old.capacity }
     {
-        if self.after == self.slots.len() {
+        if self.after == self.capacity {
             return None;
         }
         let first = self.after;
         self.after = first + 1;
-        Some(self.slots[first])
+        Some(*self.cells.get(first))
     }
 
-    /// Makes the capacity `wanted`.
+    /// Makes the capacity `wanted`, in a block of its own.
     fn grow(&mut self, wanted: usize) -> Result<(), AllocError>
         requires { self.old.capacity < wanted }
         ensures ok { OnOk result (self.new ≡ gap_view self.old.items self.old.place wanted) }
         ensures err { OnErr result (self.new ≡ self.old) }
     {
-        self.slots.reserve_exact(wanted - self.slots.len())?;
+        let (mut cells, deed) = block(&self.alloc, wanted)?;
+        let right = self.capacity - self.after;
+        let after = wanted - right;
+        copy_items(&self.cells, 0, &mut cells, 0, self.gap);
+        copy_items(&self.cells, self.after, &mut cells, after, right);
+        mem::swap(&mut self.cells, &mut cells);
+        let old = mem::replace(&mut self.deed, deed);
+        free(&self.alloc, self.capacity, cells, old);
+        self.after = after;
         self.capacity = wanted;
         Ok(())
     }
 }
 
-/// Adds slots at a place. They hold `filler`, which counts for nothing. It is a function of its own
-/// for the machine too: `put` is short without it.
-#[inline(never)]
-fn add_slots<T: Copy>(slots: &mut Vec<T>, place: usize, more: usize, filler: T)
-    requires place { place ≤ length slots.old.items }
-    requires room { length slots.old.items + more ≤ vec_capacity slots.old }
-    ensures items { slots.new.items ≡ take place slots.old.items ++ replicate more filler
-        ++ drop place slots.old.items }
-    ensures capacity { vec_capacity slots.old ≤ vec_capacity slots.new }
-{
-    slots.resize(slots.len() + more, filler).unwrap();
-    slots[place..].rotate_right(more);
+impl<T: Copy> Drop for Gap<T> {
+    fn drop(self) {
+        let Gap {
+            cells,
+            deed,
+            gap: _,
+            after: _,
+            capacity,
+            alloc,
+        } = self;
+        free(&alloc, capacity, cells, deed);
+    }
 }
 
 /// The slot of the item at `index`, both from 0.

@@ -1,7 +1,10 @@
 //! A gap buffer: a list with a place where items come and go, and a capacity.
 #![tactic(auto)]
 
+mod block;
+mod cells;
 mod gap;
+mod moves;
 #[cfg(test)]
 mod tests;
 
