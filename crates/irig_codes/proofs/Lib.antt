@@ -1,7 +1,9 @@
 pub mod Bits
-pub mod Bounds
+pub mod Gathered
+pub mod Growing
 pub mod Law
 pub mod Loops
+pub mod NarrowRuns
 pub mod Noted
 pub mod Presence
 pub mod Rows
@@ -10,6 +12,7 @@ pub mod Shown
 pub mod Slots
 pub mod StandardFacts
 pub mod StandardFrames
+pub mod Strays
 pub mod Tables
 pub mod Told
 pub mod Whole

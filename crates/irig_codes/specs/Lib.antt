@@ -5,9 +5,11 @@ pub mod Fields
 pub mod Format
 pub mod Layout
 pub mod Notes
+pub mod Ones
 pub mod Parts
 pub mod Reading
+pub mod Runs
 pub mod Slots
-pub mod Sums
+pub mod Used
 pub mod Width
 pub mod Wrong

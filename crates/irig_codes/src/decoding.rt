@@ -1,16 +1,21 @@
 //! The fields of a frame, and what is noted of them.
 
-ghost use Rattle.std.specs.Prelude.{◌≡◌};
+ghost use Rattle.std.specs.Prelude.{◌≡◌, List, length};
 ghost use Rattle.irig_codes.specs.Decoding.{decoded};
 ghost use Rattle.irig_codes.specs.Notes.{note_of, sbs_disagrees};
+ghost use Rattle.irig_codes.specs.declared.width.Element.{Element};
+ghost use Rattle.irig_codes.specs.Ones.{ones_of};
 ghost use Rattle.irig_codes.specs.Slots.{slots_at};
-ghost use Rattle.irig_codes.specs.Wrong.{first_wrong_field, is_stray_at, over, stray_from};
+ghost use Rattle.irig_codes.specs.Wrong.{first_wrong_field, over, stray_from};
 
-use crate::digits::{digit, fields_from, read_digits};
+use crate::digits::{digit, fields_from};
 use crate::fields::Fields;
 use crate::format::Format;
-use crate::layout::{Digit, Slot, carried};
+use crate::layout::Digit;
 use crate::note::{Name, Note};
+use crate::ones::Ones;
+use crate::reading::read_digits;
+use crate::used::used;
 use crate::width::Element;
 
 /// The fields that a frame carries, and what is noted of them.
@@ -19,12 +24,20 @@ use crate::width::Element;
 pub fn decode(format: Format, frame: &[Element; 100]) -> (Fields, Note)
     ensures { result ≡ decoded format frame.now }
 {
-    let digits = read_digits(format, frame);
+    decode_ones(format, Ones::of(frame))
+}
+
+/// As `decode`, by the elements that are One, whatever frame they were gathered from.
+pub fn decode_ones(format: Format, ones: Ones) -> (Fields, Note)
+    ensures { (frame : List Element) → length frame ≡ 100 → ones_of frame ≡ ones
+        → result ≡ decoded format frame }
+{
+    let digits = read_digits(format, ones);
     let fields = fields_from(format, &digits);
     let wrong = first_wrong(&digits, &fields);
     (
         fields,
-        note(wrong, disagrees(&fields), first_stray(format, frame)),
+        note(wrong, disagrees(&fields), first_stray(format, ones)),
     )
 }
 
@@ -98,20 +111,9 @@ fn disagrees(fields: &Fields) -> bool
 }
 
 /// The first element, from 0, that is One and carries no bit.
-fn first_stray(format: Format, frame: &[Element; 100]) -> Option<u8>
-    ensures { result ≡ stray_from 0 (slots_at format) frame.now }
+fn first_stray(format: Format, ones: Ones) -> Option<u8>
+    ensures { (frame : List Element) → length frame ≡ 100 → ones_of frame ≡ ones
+        → result ≡ stray_from 0 (slots_at format) frame }
 {
-    for element in 0..100 {
-        if is_stray(carried(format, element), frame[element]) {
-            return Some(element as u8);
-        }
-    }
-    None
-}
-
-/// Whether an element is One and carries no bit.
-fn is_stray(slot: Slot, element: Element) -> bool
-    ensures { result ≡ is_stray_at slot element }
-{
-    element == Element::One && !matches!(slot, Slot::Bit(..))
+    ones.lowest_outside(used(format))
 }

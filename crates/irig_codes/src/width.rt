@@ -2,7 +2,7 @@
 
 ghost use Rattle.std.specs.Prelude.{◌≡◌, ◌<◌};
 ghost use Rattle.irig_codes.specs.Format.{interval_of};
-ghost use Rattle.irig_codes.specs.Width.{class_of, is_in_step, nominal_of};
+ghost use Rattle.irig_codes.specs.Width.{HasTwentieths, class_in, class_of, is_in_step, nominal_of, step_in};
 
 use crate::format::Format;
 
@@ -20,7 +20,16 @@ pub enum Element {
 pub fn class(format: Format, width: u64) -> Option<Element>
     ensures { result ≡ class_of format width }
 {
-    let twentieth = format.interval() / 20;
+    class_in(format.interval(), width)
+}
+
+/// As `class`, by the interval of the format: a loop over pulses asks for that once.
+#[inline(always)]
+pub fn class_in(interval: u64, width: u64) -> Option<Element>
+    requires { HasTwentieths interval }
+    ensures { result ≡ class_in interval width }
+{
+    let twentieth = interval / 20;
     if width < twentieth {
         None
     } else if width < 7 * twentieth {
@@ -40,7 +49,16 @@ pub fn class(format: Format, width: u64) -> Option<Element>
 pub fn in_step(format: Format, distance: u64) -> bool
     ensures { result ≡ is_in_step format distance }
 {
-    let tenth = format.interval() / 10;
+    step_in(format.interval(), distance)
+}
+
+/// As `in_step`, by the interval of the format.
+#[inline(always)]
+pub fn step_in(interval: u64, distance: u64) -> bool
+    requires { HasTwentieths interval }
+    ensures { result ≡ step_in interval distance }
+{
+    let tenth = interval / 10;
     9 * tenth <= distance && distance <= 11 * tenth
 }
 

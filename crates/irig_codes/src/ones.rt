@@ -1,0 +1,92 @@
+//! The elements of a frame that are One, as the bits of a number.
+
+ghost use Rattle.std.specs.Prelude.{◌≡◌, ◌<◌, ◌≤◌, ◌+◌, ◌*◌, ◌^◌, if◌then◌else◌, ◌++◌, ◌∷◌, [], List, length};
+ghost use Rattle.irig_codes.specs.declared.width.Element.{Element};
+ghost use Rattle.irig_codes.specs.Ones.{ones_of, bits_in, IsLowestOutside};
+ghost use Rattle.irig_codes.specs.Reading.{counts};
+
+use crate::width::Element;
+use std::marker::Model;
+
+/// Which elements of a frame are One: element k, from 0, is bit k.
+#[derive(Clone, Copy, Debug, PartialEq, Eq)]
+pub struct Ones {
+    bits: u128,
+}
+
+impl Model for Ones {
+    ghost use Rattle.std.specs.Prelude.{ℕ};
+
+    ghost Value = { ℕ };
+
+    ghost view = { λ o. o.bits };
+
+    ghost inverse = { λ n. record { bits = n } };
+}
+
+/// Whether an element is One.
+#[inline(always)]
+fn is_one(element: Element) -> bool
+    ensures { result ≡ counts element }
+{
+    element == Element::One
+}
+
+impl Ones {
+    /// The elements of a frame that are One.
+    pub fn of(frame: &[Element; 100]) -> Ones
+        ensures { result ≡ ones_of frame.now }
+    {
+        let mut bits = 0;
+        for place in 0..100 {
+            bits = 2 * bits + is_one(frame[99 - place]) as u128;
+        }
+        Ones { bits }
+    }
+
+    /// No element is One.
+    #[inline(always)]
+    pub fn none() -> Ones
+        ensures { result ≡ ones_of [] }
+    {
+        Ones { bits: 0 }
+    }
+
+    /// These, and the element whose bit has this weight, where it is One and each of these is lower.
+    #[inline(always)]
+    pub fn and(self, weight: u128, is_one: bool) -> Ones
+        requires within { weight ≤ 2 ^ 99 }
+        requires lower { self < weight }
+        ensures value { result ≡ self + (if is_one then weight else 0) }
+        ensures bound { result < 2 * weight }
+        ensures gathered { (frame : List Element) (e : Element) → 2 ^ length frame ≡ weight
+            → ones_of frame ≡ self → counts e ≡ is_one → ones_of (frame ++ (e ∷ [])) ≡ result }
+    {
+        Ones {
+            bits: self.bits + if is_one { weight } else { 0 },
+        }
+    }
+
+    /// The bits from an element on, so many of them, as a number.
+    #[inline(always)]
+    pub fn bits(self, from: u8, count: u8) -> u64
+        requires within { from < 100 }
+        requires few { count ≤ 45 }
+        ensures { result ≡ bits_in self from count }
+    {
+        ((self.bits >> from) % (1 << count)) as u64
+    }
+
+    /// The lowest that is none of a mask's.
+    #[inline(always)]
+    pub fn lowest_outside(self, mask: u128) -> Option<u8>
+        ensures { IsLowestOutside self mask result }
+    {
+        let rest = self.bits & !mask;
+        if rest == 0 {
+            None
+        } else {
+            Some(rest.trailing_zeros() as u8)
+        }
+    }
+}

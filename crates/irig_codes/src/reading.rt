@@ -1,0 +1,129 @@
+//! The fifteen numbers that a frame carries, by its elements that are One.
+
+ghost use Rattle.std.specs.Prelude.{◌≡◌, ◌<◌, ◌+◌, ◌*◌, ◌^◌};
+ghost use Rattle.irig_codes.specs.Ones.{bits_in};
+ghost use Rattle.irig_codes.specs.Runs.{hundredths_units_in, hundredths_tens_in, seconds_units_in, year_units_in, year_tens_in, sbs_in, control_in, digits_in};
+
+use crate::format::{Format, Kind};
+use crate::ones::Ones;
+
+/// The units of the hundredths: formats A, B and E have none.
+fn hundredths_units(kind: Kind, ones: Ones) -> u64
+    ensures { result ≡ hundredths_units_in kind ones }
+{
+    match kind {
+        Kind::G => ones.bits(50, 4),
+        Kind::A | Kind::B | Kind::E => 0,
+    }
+}
+
+/// The tens of the hundredths: formats B and E have none.
+fn hundredths_tens(kind: Kind, ones: Ones) -> u64
+    ensures { result ≡ hundredths_tens_in kind ones }
+{
+    match kind {
+        Kind::A | Kind::G => ones.bits(45, 4),
+        Kind::B | Kind::E => 0,
+    }
+}
+
+/// The units of the seconds: format E has none.
+fn seconds_units(kind: Kind, ones: Ones) -> u64
+    ensures { result ≡ seconds_units_in kind ones }
+{
+    match kind {
+        Kind::E => 0,
+        Kind::A | Kind::B | Kind::G => ones.bits(1, 4),
+    }
+}
+
+/// The units of the year, where the expression has one.
+fn year_units(kind: Kind, year: bool, ones: Ones) -> u64
+    ensures { result ≡ year_units_in kind year ones }
+{
+    match (kind, year) {
+        (_, false) => 0,
+        (Kind::G, true) => ones.bits(60, 4),
+        (Kind::A | Kind::B | Kind::E, true) => ones.bits(50, 4),
+    }
+}
+
+/// The tens of the year, where the expression has one.
+fn year_tens(kind: Kind, year: bool, ones: Ones) -> u64
+    ensures { result ≡ year_tens_in kind year ones }
+{
+    match (kind, year) {
+        (_, false) => 0,
+        (Kind::G, true) => ones.bits(65, 4),
+        (Kind::A | Kind::B | Kind::E, true) => ones.bits(55, 4),
+    }
+}
+
+/// The straight binary seconds of the day, where they are there.
+fn sbs(there: bool, ones: Ones) -> u64
+    ensures { result ≡ sbs_in there ones }
+{
+    if there {
+        ones.bits(80, 9) + 512 * ones.bits(90, 8)
+    } else {
+        0
+    }
+}
+
+/// Nine control elements and the number of those after them.
+#[inline(always)]
+fn nine(ones: Ones, from: u8, after: u64) -> u64
+    requires within { from < 100 }
+    requires room { after < 2 ^ 36 }
+    ensures value { result ≡ bits_in ones from 9 + 512 * after }
+    ensures bound { result < 512 * (after + 1) }
+{
+    ones.bits(from, 9) + 512 * after
+}
+
+/// The control elements as one number, where they are there.
+fn control(kind: Kind, there: bool, year: bool, ones: Ones) -> u64
+    ensures { result ≡ control_in kind there year ones }
+{
+    if !there {
+        return 0;
+    }
+    match (kind, year) {
+        (Kind::A | Kind::B, true) => nine(ones, 60, nine(ones, 70, 0)),
+        (Kind::A | Kind::B, false) => nine(ones, 50, nine(ones, 60, nine(ones, 70, 0))),
+        (Kind::E, true) | (Kind::G, false) => {
+            nine(ones, 60, nine(ones, 70, nine(ones, 80, nine(ones, 90, 0))))
+        }
+        (Kind::E, false) => nine(
+            ones,
+            50,
+            nine(ones, 60, nine(ones, 70, nine(ones, 80, nine(ones, 90, 0)))),
+        ),
+        (Kind::G, true) => nine(ones, 70, nine(ones, 80, nine(ones, 90, 0))),
+    }
+}
+
+/// The numbers that a frame carries, in their order.
+pub fn read_digits(format: Format, ones: Ones) -> [u64; 15]
+    ensures { result ≡ digits_in format ones }
+{
+    let kind = format.kind();
+    let year = format.has_year();
+    [
+        hundredths_units(kind, ones),
+        hundredths_tens(kind, ones),
+        seconds_units(kind, ones),
+        ones.bits(6, 3),
+        ones.bits(10, 4),
+        ones.bits(15, 3),
+        ones.bits(20, 4),
+        ones.bits(25, 2),
+        ones.bits(30, 4),
+        ones.bits(35, 4),
+        ones.bits(40, 2),
+        year_units(kind, year, ones),
+        year_tens(kind, year, ones),
+        sbs(format.has_sbs(), ones),
+        control(kind, format.has_control(), year, ones),
+    ]
+}
