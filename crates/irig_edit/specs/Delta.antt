@@ -30,7 +30,8 @@ pulses_of (rise ∷ fall ∷ edges) = pulse rise fall ∷ pulses_of edges
 abbrev pub Fits : State → Delta → Type 0
 Fits s (Spliced at count put) = CanSplice s.micros at count put s.pulses
 Fits s (Toggled a b) = CanToggle s.micros a b s.pulses
-Fits s (Shifted i j d named) = CanShift s.micros i j d s.pulses × AllMayMove s.micros d named s.marks
+Fits s (Shifted i j d named) =
+    CanShift s.micros i j d s.pulses × AllMayMove s.micros d named s.marks
 Fits s (Formatted f) = Unit {0}
 Fits s (Marked letter time) = (letter < 26) × IsMark s.micros time
 

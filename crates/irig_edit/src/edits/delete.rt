@@ -17,9 +17,11 @@ fn place(present: &Present, i: usize, j: usize) -> Result<usize, Refusal>
     ensures refused { IfErr result (λ e. judgement_of (Delete i j) present.now.state ≡ Some e) }
     ensures allowed { OnOk result (judgement_of (Delete i j) present.now.state ≡ None) }
     ensures there { OnOk result ((1 ≤ i) × (i ≤ j)) }
-    ensures can { OnOk result (CanSplice present.now.state.micros (i - 1) (j + 1 - i) [] present.now.state.pulses) }
+    ensures can { OnOk result (CanSplice present.now.state.micros (i - 1) (j + 1 - i) []
+        present.now.state.pulses) }
     ensures becomes { IfOk result (λ cursor. Becomes (Delete i j) present.now.state
-        (with_pulses (spliced (i - 1) (j + 1 - i) [] present.now.state.pulses) present.now.state) cursor) }
+        (with_pulses (spliced (i - 1) (j + 1 - i) [] present.now.state.pulses)
+        present.now.state) cursor) }
 {
     let len = present.len();
     if i == 0 || i > j || j > len {

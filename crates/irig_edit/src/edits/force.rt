@@ -17,7 +17,8 @@ use irig_track::Pulse;
 
 /// Pulse `i` with the nominal width of an element, if there is room for it.
 fn place(present: &Present, i: usize, element: Element) -> Result<Pulse, Refusal>
-    ensures refused { IfErr result (λ e. judgement_of (Force i element) present.now.state ≡ Some e) }
+    ensures refused { IfErr result (λ e.
+        judgement_of (Force i element) present.now.state ≡ Some e) }
     ensures allowed { OnOk result (judgement_of (Force i element) present.now.state ≡ None) }
     ensures there { OnOk result (1 ≤ i) }
     ensures can { IfOk result (λ p.

@@ -21,7 +21,8 @@ fn place(present: &Present, a: u64, b: u64) -> Result<usize, Refusal>
     ensures can { IfOk result (λ at.
         CanSplice present.now.state.micros at 0 (pulse a b ∷ []) present.now.state.pulses) }
     ensures becomes { IfOk result (λ at. Becomes (Insert a b) present.now.state
-        (with_pulses (spliced at 0 (pulse a b ∷ []) present.now.state.pulses) present.now.state) (at + 1)) }
+        (with_pulses (spliced at 0 (pulse a b ∷ []) present.now.state.pulses)
+        present.now.state) (at + 1)) }
 {
     if a >= b || b > present.length() {
         return Err(Refusal::OutOfRange);

@@ -21,7 +21,8 @@ fn place(present: &Present, i: usize, j: usize) -> Result<Pulse, Refusal>
     ensures can { IfOk result (λ p.
         CanSplice present.now.state.micros (i - 1) (j + 1 - i) (p ∷ []) present.now.state.pulses) }
     ensures becomes { IfOk result (λ p. Becomes (Join i j) present.now.state
-        (with_pulses (spliced (i - 1) (j + 1 - i) (p ∷ []) present.now.state.pulses) present.now.state) i) }
+        (with_pulses (spliced (i - 1) (j + 1 - i) (p ∷ []) present.now.state.pulses)
+        present.now.state) i) }
 {
     if i == 0 || i >= j || j > present.len() {
         return Err(Refusal::NoPulse);

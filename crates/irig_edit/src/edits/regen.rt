@@ -81,10 +81,13 @@ fn place(
         × IsTrue (starts_in present.now.state.format moment)
         × (control < 2 ^ control_count_of present.now.state.format)) }
     ensures can { IfOk result (λ p. CanSplice present.now.state.micros p.at p.count
-        (frames_pulses present.now.state.format start frames moment control) present.now.state.pulses) }
-    ensures becomes { IfOk result (λ p. Becomes (Regen start frames moment control) present.now.state
+        (frames_pulses present.now.state.format start frames moment control)
+        present.now.state.pulses) }
+    ensures becomes { IfOk result (λ p.
+        Becomes (Regen start frames moment control) present.now.state
         (with_pulses (spliced p.at p.count
-        (frames_pulses present.now.state.format start frames moment control) present.now.state.pulses) present.now.state)
+        (frames_pulses present.now.state.format start frames moment control)
+        present.now.state.pulses) present.now.state)
         (p.at + 100 * frames)) }
     ensures few { IfOk result (λ p. p.at ≤ 2 ^ 22) }
     ensures exchange { IfOk result (λ p. exchange p.count

@@ -37,7 +37,8 @@ fn judge(present: &Present, i: usize, j: usize, by: i64) -> Result<(), Refusal>
     ensures refused { IfErr result (λ e. judgement_of (Shift i j by) present.now.state ≡ Some e) }
     ensures allowed { OnOk result (judgement_of (Shift i j by) present.now.state ≡ None) }
     ensures there { OnOk result ((1 ≤ i) × (i ≤ j) × (j ≤ length present.now.state.pulses)) }
-    ensures can { OnOk result (CanShift present.now.state.micros (i - 1) (j - 1) by present.now.state.pulses) }
+    ensures can { OnOk result (
+        CanShift present.now.state.micros (i - 1) (j - 1) by present.now.state.pulses) }
 {
     if i == 0 || i > j || j > present.len() {
         return Err(Refusal::NoPulse);

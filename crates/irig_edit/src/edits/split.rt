@@ -23,7 +23,8 @@ fn place(present: &Present, i: usize, a: u64, b: u64) -> Result<Pulse, Refusal>
         (pulse p.rise a ∷ pulse b p.fall ∷ []) present.now.state.pulses) }
     ensures becomes { IfOk result (λ p. Becomes (Split i a b) present.now.state
         (with_pulses (spliced (i - 1) 1
-        (pulse p.rise a ∷ pulse b p.fall ∷ []) present.now.state.pulses) present.now.state) (i + 1)) }
+        (pulse p.rise a ∷ pulse b p.fall ∷ []) present.now.state.pulses)
+        present.now.state) (i + 1)) }
 {
     if a >= b || b > present.length() {
         return Err(Refusal::OutOfRange);
