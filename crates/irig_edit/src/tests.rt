@@ -1,6 +1,7 @@
 //! The plain machine of whole states beside a session, and rows of what a session holds and looks
 //! at.
 
+mod beside;
 mod held;
 mod helpers;
 mod leaving;

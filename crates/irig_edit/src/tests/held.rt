@@ -27,7 +27,7 @@ fn a_step_holds_what_its_edit_took_or_put(rt: HostRuntime) -> Result<(), Fail> {
         (Call::Shift(1, 1, 20), (0, 0)),
         (Call::Invert(130, 150), (0, 0)),
         (Call::Undo, (0, 0)),
-        (Call::MarkA(5), (0, 0)),
+        (Call::Mark(0, Some(5)), (0, 0)),
         (Call::Go(1), (0, 0)),
         (Call::Insert(400, 450), (0, 0)),
         (Call::Undo, (0, 1)),

@@ -46,7 +46,7 @@ fn an_edit_of_a_million_pulses_looks_in_its_window(rt: HostRuntime) -> Result<()
         ),
         (Call::Undo, [9_999, 101, 999_901], 603),
         (Call::Delete(1, 1), [9_999, 100, 999_900], 600),
-        (Call::MarkA(5), [9_999, 100, 999_900], 0),
+        (Call::Mark(0, Some(5)), [9_999, 100, 999_900], 0),
     ];
     check(&rt, &mut session, &rows);
     Ok(())
@@ -62,7 +62,7 @@ fn each_kind_of_edit_looks_in_its_window(rt: HostRuntime) -> Result<(), Fail> {
         (Call::Invert(30_050, 30_060), [8, 101, 902], 609),
         (Call::Undo, [9, 101, 901], 606),
         (Call::Go(7), [9, 101, 901], 606),
-        (Call::MarkA(5), [9, 101, 901], 0),
+        (Call::Mark(0, Some(5)), [9, 101, 901], 0),
         (Call::Format(format_of(Kind::E, 5)?), [0, 0, 0], 100_000),
         (Call::Undo, [9, 101, 901], 100_000),
     ];

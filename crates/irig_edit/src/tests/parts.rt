@@ -72,7 +72,8 @@ fn change_parts(change: &Change) -> usize {
     match change {
         Change::Splice(splice) => splice_parts(splice),
         Change::Toggle { a, b } => {
-            let _times: (&u64, &u64) = (a, b);
+            let _a: &u64 = a;
+            let _b: &u64 = b;
             0
         }
         Change::Shift(shift) => shift_parts(shift),
