@@ -27,6 +27,12 @@ nine k e = grind (arith, nat_tests)
 not_nine : (k : ℕ) → (k % 10 == 9) ≡ false → k % 10 ≡ 9 → ⊥
 not_nine k e same = grind (arith, nat_tests)
 
+none_left : (n : ℕ) → (n == 0) ≡ true → n ≡ 0
+none_left n e = grind (arith, nat_tests)
+
+positive : (n : ℕ) → (n ≡ 0 → ⊥) → (n == 0) ≡ false
+positive n h = elim (either (n == 0)) [ inl none ↦ absurd (h (none_left n none)) | inr some ↦ some ]
+
 -- what suits where no position identifier may stand
 pub suits_other : (k : ℕ) (class : Option Element) → suits k class ≡ true → (k % 10 ≡ 9 → ⊥) → is_position class ≡ false
 suits_other k class suit ne = elim (either (k % 10 == 9)) [
@@ -62,4 +68,11 @@ alone_next f ps at k p q some before here suit h alone j from to = elim (last_or
     | inr second ↦ (let place : at + k ≡ at + k - 1 + 1 = omega arith in
         record_after-other f ps (at + k - 1) q (ap (slice_get ps) (sym place) ∙ here) second)
   ])
+]
+
+-- a position identifier is due where no digit is left before it
+pub is_due : (digits k : ℕ) → digits ≡ 9 - k % 10 → (digits == 0) ≡ (k % 10 == 9)
+is_due digits k left = elim (either (k % 10 == 9)) [
+  | inl same ↦ (let none : digits ≡ 0 = omega (arith, nine k same, left) in ap (λ n. n == 0) none ∙ sym same)
+  | inr other ↦ positive digits (λ none. not_nine k other (omega (arith, left, none))) ∙ sym other
 ]

@@ -1,10 +1,9 @@
 -- Halving: how many looks a search makes.
-use Rattle.std.proofs.Common.{ℕ, suc, zero, ◌-◌, ◌*◌, ◌^◌, ◌<◌, ◌≤◌, arith}
+use Rattle.std.proofs.Common.{◌≡◌, ℕ, suc, zero, ◌-◌, ◌*◌, ◌^◌, ◌<◌, ◌≤◌, ap, arith}
 use Rattle.std.proofs.Math.Nat.{pow-suc}
-use Rattle.irig_track.specs.Looks.{LensView}
-use Rattle.irig_index.specs.Looked.{Looked}
-use Rattle.irig_index.proofs.LookedLemmas.{looked_up}
-use Rattle.irig_index.proofs.LookedLemmas.{looked_more, looked_none}
+use Rattle.irig_track.specs.Looks.{LensView, lens_view, counted}
+use Rattle.irig_index.specs.Looked.{Looked, LookedThrough}
+use Rattle.irig_index.proofs.LookedLemmas.{looked_more, looked_none, looked_up}
 
 -- so many pulses are left to search, and as many looks as they need are left of those allowed
 pub record Narrowed (left digits : ℕ) (old new : LensView) (before after : ℕ) : Type 0 where
@@ -37,3 +36,10 @@ narrowed_half left half digits a b c l m n less some h look = more h.rest h.smal
 
 pub narrowed_all : (left digits : ℕ) (a b : LensView) (l m : ℕ) → Narrowed left digits a b l m → Looked a b l m digits
 narrowed_all left digits a b l m h = looked_up a b l m (digits - h.rest) digits h.looked (omega arith)
+
+-- a look that the lens alone counts
+pub look_through : (a b : LensView) → b ≡ lens_view a.track (counted a.looks 1) → Looked a b a.looks b.looks 1
+look_through a b e = record { made = 1; few = omega arith; lens = e; count = ap (λ v. v.looks) e }
+
+pub looked_through : (a b : LensView) (l m most : ℕ) → Looked a b l m most → LookedThrough a b most
+looked_through a b l m most looked = record { made = looked.made; few = looked.few; lens = looked.lens }

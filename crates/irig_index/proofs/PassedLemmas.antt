@@ -1,34 +1,21 @@
 -- Places that have no marker after them.
-use Rattle.std.proofs.Common.{◌≡◌, ℕ, suc, zero, ◌+◌, ◌-◌, ◌*◌, ◌<◌, ◌≤◌, false, List, [], ◌∷◌, ◌++◌, slice_get, Some, ap, subst, ◌∙◌, inl, inr, arith}
+use Rattle.std.proofs.Common.{◌≡◌, ℕ, suc, zero, ◌+◌, ◌-◌, ◌<◌, ◌≤◌, false, List, [], ◌∷◌, ◌++◌, slice_get, Some, ap, subst, ◌∙◌, inl, inr, arith}
 use Rattle.std.proofs.lemmas.Bool.{cases_lt}
 use Rattle.irig_codes.specs.Format.{FormatView}
 use Rattle.irig_track.specs.declared.pulse.Pulse.{Pulse}
 use Rattle.irig_track.specs.Looks.{LensView}
 use Rattle.irig_index.specs.declared.record.Record.{Record}
 use Rattle.irig_index.specs.Frames.{frame_at, record_after, records_in}
-use Rattle.irig_index.specs.Looked.{Looked}
 use Rattle.irig_index.specs.Marker.{class_at, is_position}
 use Rattle.irig_index.specs.Passed.{Passed, StandsAfter}
 use Rattle.irig_index.specs.Verdict.{verdict_of}
 use Rattle.irig_index.proofs.FrameLemmas.{record_after-beside, record_after-other, window_next, window_same}
-use Rattle.irig_index.proofs.LookedLemmas.{looked_more, looked_none, looked_up}
 
-pub passed_none : (f : FormatView) (ps : List Pulse) (first : ℕ) (a : LensView) (l : ℕ) → Passed f ps first first 0 a a l l
-passed_none f ps first a l = record {
-  order = omega arith;
-  looked = looked_up a a l l 0 (2 * (first - first) + 0) (looked_none a l) (omega arith);
-  none = λ k le lt. absurd (omega (arith, le, lt));
-}
-
--- more places, and the looks that tell of them
-pub passed_more : (f : FormatView) (ps : List Pulse) (first place next besides most : ℕ) (a b c : LensView) (l m n : ℕ)
-    → Passed f ps first place 0 a b l m → place ≤ next → Looked b c m n most → most ≤ 2 * (next - place) + besides
-    → ((k : ℕ) → place ≤ k → k < next → record_after f ps k ≡ []) → Passed f ps first next besides a c l n
-passed_more f ps first place next besides most a b c l m n so_far order looked few none = record {
-  order = omega (arith, so_far.order, order);
-  looked = looked_more a b c l m n (2 * (place - first) + 0) most (2 * (next - first) + besides) so_far.looked looked (omega (arith, so_far.order, order, few));
-  none = λ k from to. elim (cases_lt k place) [ inl before ↦ so_far.none k from before | inr behind ↦ none k behind to ];
-}
+-- places passed so far, and more
+pub none_more : (f : FormatView) (ps : List Pulse) (first place next : ℕ)
+    → ((k : ℕ) → first ≤ k → k < place → record_after f ps k ≡ []) → ((k : ℕ) → place ≤ k → k < next → record_after f ps k ≡ [])
+    → (k : ℕ) → first ≤ k → k < next → record_after f ps k ≡ []
+none_more f ps first place next so_far more k from to = elim (cases_lt k place) [ inl before ↦ so_far k from before | inr behind ↦ more k behind to ]
 
 -- neither the place before a pulse that is no position identifier nor its own has a marker after it
 pub two_passed : (f : FormatView) (ps : List Pulse) (place next : ℕ) (q : Pulse) → slice_get ps (place + 1) ≡ Some q

@@ -4,6 +4,9 @@ use Rattle.std.specs.Prelude.{◌≡◌, ℕ, ◌+◌, ◌-◌, ◌≤◌, ◌<�
 use Rattle.irig_codes.specs.Format.{FormatView}
 use Rattle.irig_track.specs.declared.pulse.Pulse.{Pulse}
 use Rattle.irig_track.specs.Looks.{LensView}
+use Rattle.irig_index.specs.declared.record.Cause.TheVariants.{Ended, Step, Class}
+use Rattle.irig_index.specs.declared.record.Verdict.{Verdict}
+use Rattle.irig_index.specs.declared.record.Verdict.TheVariants.{Broken, Read}
 use Rattle.irig_index.specs.Frames.{record_after}
 use Rattle.irig_index.specs.Looked.{Looked}
 
@@ -16,3 +19,10 @@ pub record Checked (f : FormatView) (pulses : List Pulse) (marker : ℕ)
   pub to : reach ≤ marker + 99
   pub looked : Looked old new before after (reach - marker)
   pub alone : (k : ℕ) → marker ≤ k → k + 1 < reach → record_after f pulses k ≡ []
+
+-- how many pulses after the marker are looked at for a verdict
+abbrev pub looks_of : Verdict → ℕ
+looks_of (Broken k Ended) = k - 1
+looks_of (Broken k Step) = k
+looks_of (Broken k Class) = k
+looks_of (Read fields note) = 99

@@ -1,17 +1,21 @@
 //! The verdict on a frame.
 
-ghost use Rattle.std.specs.Prelude.{◌≡◌, slice_get, Some};
-ghost use Rattle.irig_codes.specs.declared.width.Element.TheVariants.{Position};
+ghost use Rattle.std.specs.Prelude.{◌≡◌, ℕ, ◌+◌, ◌<◌, ◌≤◌, [], true, false, if◌then◌else◌, slice_get, unwrap_or, Some, MatchOption};
+ghost use Rattle.irig_codes.specs.declared.width.Element.TheVariants.{Position, Zero};
+ghost use Rattle.irig_codes.specs.Reading.{counts};
+ghost use Rattle.irig_codes.specs.Width.{HasTwentieths, class_in};
+ghost use Rattle.irig_track.specs.Looks.{lens_view};
 ghost use Rattle.irig_track.specs.Track.{IsTrack};
-ghost use Rattle.irig_index.specs.Checked.{Checked};
-ghost use Rattle.irig_index.specs.Frames.{frame_at};
-ghost use Rattle.irig_index.specs.Marker.{class_at};
-ghost use Rattle.irig_index.specs.Verdict.{suits, verdict_of};
+ghost use Rattle.irig_index.specs.Checked.{Checked, looks_of};
+ghost use Rattle.irig_index.specs.Frames.{frame_at, record_after};
+ghost use Rattle.irig_index.specs.Looked.{after_looks};
+ghost use Rattle.irig_index.specs.Marker.{class_at, is_digit, is_position};
+ghost use Rattle.irig_index.specs.Verdict.{verdict_of};
 
-use crate::look::look;
-use crate::marker::{class_at, follows};
+use crate::band::{is_digit, is_one, is_position};
+use crate::look::add_looks;
 use crate::record::{Cause, Verdict};
-use irig_codes::{Element, Format, decode};
+use irig_codes::{Format, Ones, decode_ones, step_in};
 use irig_track::{Lens, Pulse};
 
 /// The verdict on the frame of the marker `first`, at place `at` from 0. 99 looks at most.
@@ -28,34 +32,78 @@ pub fn verdict(
     ensures verdict { result ≡ verdict_of format (frame_at lens.old.track.pulses at) }
     ensures looked { Checked format lens.old.track.pulses at lens.old lens.new looks.old looks.new }
 {
-    let mut elements = [Element::Position; 100];
+    let verdict = check(lens, format, at, first);
+    add_looks(looks, looks_of(verdict));
+    verdict
+}
+
+/// How many looks a verdict took.
+fn looks_of(verdict: Verdict) -> u64
+    ensures { result ≡ looks_of verdict }
+{
+    match verdict {
+        Verdict::Broken(k, Cause::Ended) => k.saturating_sub(1) as u64,
+        Verdict::Broken(k, Cause::Step | Cause::Class) => k as u64,
+        Verdict::Read(..) => 99,
+    }
+}
+
+/// As `verdict`, with the looks counted by the lens alone: the verdict tells how many they are.
+fn check(lens: &mut Lens<'_>, format: Format, at: usize, first: Pulse) -> Verdict
+    requires track { IsTrack lens.old.track.micros lens.old.track.pulses }
+    requires first { slice_get lens.old.track.pulses at ≡ Some first }
+    requires position { class_at format first ≡ Some Position }
+    ensures verdict { result ≡ verdict_of format (frame_at lens.old.track.pulses at) }
+    ensures looked { lens.new
+        ≡ lens_view lens.old.track (after_looks lens.old.looks (looks_of result)) }
+    ensures near { looks_of result ≤ 99 }
+    ensures alone { (k : ℕ) → at ≤ k → k + 1 < at + looks_of result
+        → record_after format lens.old.track.pulses k ≡ [] }
+{
+    let interval = format.interval();
+    let len = lens.len();
+    let mut ones = Ones::none();
+    let mut weight = 2u128;
     let mut before = first;
+    // So many digits are left before the next position identifier.
+    let mut digits = 8u8;
     for k in 1..100u8 {
-        if at + k as usize >= lens.len() {
+        if at + k as usize >= len {
             return Verdict::Broken(k, Cause::Ended);
         }
-        let pulse = look(lens, looks, at + k as usize);
-        if !follows(format, before, pulse) {
+        let pulse = lens.pulse(at + k as usize);
+        if !step_in(interval, pulse.rise - before.rise) {
             return Verdict::Broken(k, Cause::Step);
         }
-        let class = class_at(format, pulse);
-        if !suits(k, class) {
+        let Some(one) = told(interval, pulse.fall - pulse.rise, digits == 0) else {
             return Verdict::Broken(k, Cause::Class);
-        }
-        elements[k as usize] = class.unwrap_or(Element::Zero);
+        };
+        ones = ones.and(weight, one);
+        weight *= 2;
         before = pulse;
+        digits = if digits == 0 { 9 } else { digits - 1 };
     }
-    let (fields, note) = decode(format, &elements);
+    let (fields, note) = decode_ones(format, ones);
     Verdict::Read(fields, note)
 }
 
-/// Whether a pulse of this class may stand `k` pulses after the marker.
-fn suits(k: u8, class: Option<Element>) -> bool
-    ensures { result ≡ suits k class }
+/// Whether an element of this width is One, or None where it may not stand: where a position
+/// identifier is due that alone may, and elsewhere a digit.
+#[inline(always)]
+fn told(interval: u64, width: u64, is_due: bool) -> Option<bool>
+    requires { HasTwentieths interval }
+    ensures { MatchOption result
+        ((if is_due then is_position (class_in interval width)
+        else is_digit (class_in interval width)) ≡ false)
+        (λ one. ((if is_due then is_position (class_in interval width)
+        else is_digit (class_in interval width)) ≡ true)
+        × (counts (unwrap_or (class_in interval width) Zero) ≡ one)) }
 {
-    if k % 10 == 9 {
-        matches!(class, Some(Element::Position))
+    if is_due {
+        is_position(interval, width).then_some(false)
+    } else if is_digit(interval, width) {
+        Some(is_one(interval, width))
     } else {
-        matches!(class, Some(Element::Zero | Element::One))
+        None
     }
 }

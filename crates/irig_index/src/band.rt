@@ -1,0 +1,38 @@
+//! What a pulse stands for, straight from its width and the interval of the format. A loop over pulses
+//! asks for the interval once.
+
+ghost use Rattle.std.specs.Prelude.{◌≡◌, true, unwrap_or};
+ghost use Rattle.irig_codes.specs.declared.width.Element.TheVariants.{Zero};
+ghost use Rattle.irig_codes.specs.Reading.{counts};
+ghost use Rattle.irig_codes.specs.Width.{HasTwentieths, class_in};
+ghost use Rattle.irig_index.specs.Marker.{is_digit, is_position};
+
+/// Whether a width is that of a position identifier.
+#[inline(always)]
+pub fn is_position(interval: u64, width: u64) -> bool
+    requires { HasTwentieths interval }
+    ensures { result ≡ is_position (class_in interval width) }
+{
+    let twentieth = interval / 20;
+    13 * twentieth <= width && width < 19 * twentieth
+}
+
+/// Whether a width is that of a digit.
+#[inline(always)]
+pub fn is_digit(interval: u64, width: u64) -> bool
+    requires { HasTwentieths interval }
+    ensures { result ≡ is_digit (class_in interval width) }
+{
+    let twentieth = interval / 20;
+    twentieth <= width && width < 13 * twentieth
+}
+
+/// Whether a digit of this width is One.
+#[inline(always)]
+pub fn is_one(interval: u64, width: u64) -> bool
+    requires interval { HasTwentieths interval }
+    requires digit { is_digit (class_in interval width) ≡ true }
+    ensures { result ≡ counts (unwrap_or (class_in interval width) Zero) }
+{
+    7 * (interval / 20) <= width
+}
