@@ -1,10 +1,10 @@
 -- What a change of a state is, when it can be made, what it leaves, and how much it holds. This
 -- project's own.
-use Rattle.std.specs.Prelude.{ℕ, ℤ, ◌<◌, ◌≤◌, ◌+◌, Bool, true, false, List, [], ◌∷◌, Option, Some, None, length, nat_le, ◌&&◌, get_or, slice_set, option_map, neg_ℤ, if◌then◌else◌}
+use Rattle.std.specs.Prelude.{ℕ, ℤ, ◌<◌, Bool, List, [], ◌∷◌, Option, None, length, get_or, slice_set, neg_ℤ}
 use Rattle.irig_codes.specs.Format.{FormatView}
 use Rattle.irig_track.specs.declared.pulse.Pulse.{Pulse}
 use Rattle.irig_track.specs.Edges.{pulse, edges_of}
-use Rattle.irig_track.specs.Shifts.{CanShift, ahead, back, shifted}
+use Rattle.irig_track.specs.Shifts.{CanShift, shifted}
 use Rattle.irig_track.specs.Splices.{CanSplice, piece, spliced}
 use Rattle.irig_track.specs.Toggles.{CanToggle, toggled}
 use Rattle.irig_edit.specs.State.{State, IsMark, state, with_pulses}

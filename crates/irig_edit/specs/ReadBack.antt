@@ -1,16 +1,16 @@
 -- What is read from frames that were generated. The frames are those of IRIG Standard 200-04; that
 -- they are read back as what was asked for is this project's own promise.
-use Rattle.std.specs.Prelude.{◌≡◌, ◌↔◌, ◌+◌, ◌-◌, ◌*◌, ◌^◌, ◌<◌, ◌≤◌, ℕ, true, List, [], ◌∷◌, ◌++◌, length, slice_get, Ok, Some, Contains}
+use Rattle.std.specs.Prelude.{◌≡◌, ◌↔◌, ◌+◌, ◌-◌, ◌*◌, ◌<◌, ◌≤◌, ℕ, true, List, [], ◌∷◌, ◌++◌, length, slice_get, Ok, Some, Contains}
 use Rattle.irig_codes.specs.declared.note.Note.TheVariants.{Fine}
 use Rattle.irig_codes.specs.declared.width.Element.TheVariants.{Position}
-use Rattle.irig_codes.specs.Format.{FormatView, control_count_of}
+use Rattle.irig_codes.specs.Format.{FormatView}
 use Rattle.irig_codes.specs.Width.{is_in_step}
 use Rattle.irig_index.specs.declared.record.Record.{Record}
 use Rattle.irig_index.specs.declared.record.Verdict.TheVariants.{Read}
 use Rattle.irig_index.specs.Frames.{frames}
 use Rattle.irig_index.specs.Marker.{class_at}
 use Rattle.irig_journal.specs.Machine.{Machine}
-use Rattle.irig_moment.specs.Generated.{starts_in, frame_fields}
+use Rattle.irig_moment.specs.Generated.{frame_fields}
 use Rattle.irig_moment.specs.Moment.{MomentView, IsMoment}
 use Rattle.irig_track.specs.declared.pulse.Pulse.{Pulse}
 use Rattle.irig_edit.specs.Calls.Call.{Regen}

@@ -1,7 +1,7 @@
 //! A change of the state that stands, and how each kind of it turns: the change is made, and what
 //! leads back is left in its stead.
 
-ghost use Rattle.std.specs.Prelude.{◌≡◌, ◌≤◌, ◌<◌, ◌+◌, ◌-◌, ◌^◌, neg_ℤ, length, [], OnOk, get_or, slice_set, None};
+ghost use Rattle.std.specs.Prelude.{◌≡◌, ◌≤◌, ◌<◌, ◌+◌, ◌-◌, neg_ℤ, length, [], OnOk, get_or, slice_set, None};
 ghost use Rattle.std.specs.List.{AllByRecursion};
 ghost use Rattle.irig_track.specs.Shifts.{CanShift, count_to, shifted};
 ghost use Rattle.irig_track.specs.Splices.{CanSplice, IsSpan, piece, risen_by, spliced};

@@ -1,11 +1,8 @@
 //! A track under edit.
 
-ghost use Rattle.std.specs.Prelude.{◌≡◌, ◌≤◌, ◌<◌, ◌+◌, ◌-◌, length, Some, IfSome, IfOk, OnOk, OnErr, IsErrOf, slice_get, get_or, None, Ok};
-ghost use Rattle.irig_vcd.specs.FileText.{file_text};
-ghost use Rattle.irig_vcd.specs.Recording.{recording_view};
-ghost use Rattle.irig_track.specs.Edges.{edges_of};
+ghost use Rattle.std.specs.Prelude.{◌≡◌, ◌≤◌, ◌<◌, ◌-◌, length, IfOk, OnOk, OnErr, IsErrOf, None, Ok};
 ghost use Rattle.irig_journal.specs.Machine.{recorded};
-ghost use Rattle.irig_edit.specs.State.{state, frames_of, recording_of, with_pulses};
+ghost use Rattle.irig_edit.specs.State.{recording_of, with_pulses};
 ghost use Rattle.irig_edit.specs.Machine.{NoMarks};
 ghost use Rattle.irig_edit.specs.Session.{LooksAfter, LooksWithin, Steps, machine_in, started};
 ghost use Rattle.irig_edit.specs.Kept.{exchange, kept};
@@ -16,14 +13,13 @@ ghost use Rattle.irig_edit.specs.Calls.{Call};
 ghost use Rattle.irig_edit.specs.Delta.{Fits, turned};
 ghost use Rattle.irig_edit.specs.Held.{delta_of};
 ghost use Rattle.irig_edit.specs.Calls.Call.{Undo, Redo, Go, SetFormat, SetMark};
-ghost use Rattle.irig_track.specs.Splices.{risen_by, spliced, CanSplice};
+ghost use Rattle.irig_track.specs.Splices.{spliced, CanSplice};
 
 use crate::change::{Change, Splice};
 use crate::present::Present;
 use crate::refusal::Refusal;
 use irig_codes::Format;
 use irig_gap::Gap;
-use irig_index::Record;
 use irig_journal::{Journal, JournalFault};
 use irig_track::Pulse;
 use irig_vcd::Recording;

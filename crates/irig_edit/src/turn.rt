@@ -1,7 +1,7 @@
 //! Changes of the state that stands, turned in place, with its frames repaired where they took
 //! place.
 
-ghost use Rattle.std.specs.Prelude.{◌≡◌, ℕ, ◌≤◌, ◌<◌, ◌+◌, ◌-◌, neg_ℤ, length, ◌↔◌, IsTrue, OnOk, get_or, slice_set, None};
+ghost use Rattle.std.specs.Prelude.{◌≡◌, ℕ, ◌≤◌, ◌<◌, ◌+◌, ◌-◌, neg_ℤ, length, ◌↔◌, IsTrue, OnOk};
 ghost use Rattle.irig_track.specs.Edges.{edges_of};
 ghost use Rattle.irig_track.specs.Shifts.{CanShift, count_to, shifted};
 ghost use Rattle.irig_track.specs.Splices.{CanSplice, piece, risen_by, spliced};
@@ -14,7 +14,7 @@ ghost use Rattle.irig_edit.specs.Held.{delta_of};
 ghost use Rattle.irig_edit.specs.Looks.{RoseWithin, looks_of, standing_in, window};
 ghost use Rattle.irig_edit.specs.Present.{looks_in, state_in};
 ghost use Rattle.irig_edit.specs.Room.{HasPlaces, HasRoom, records_for};
-ghost use Rattle.irig_edit.specs.State.{State, IsMark, IsState, frames_of, state, with_pulses};
+ghost use Rattle.irig_edit.specs.State.{State, IsState, frames_of, state, with_pulses};
 
 use crate::change::{
     Change, Shift, Splice, reserve_splice, turn_mark, turn_shift, turn_splice, turn_toggle,
