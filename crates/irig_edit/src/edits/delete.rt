@@ -13,7 +13,7 @@ use crate::session::Session;
 use irig_gap::Gap;
 
 /// The cursor after the pulses `i` to `j` are taken out, if they are there.
-fn place(present: &Present, i: usize, j: usize) -> Result<usize, Refusal>
+fn plan(present: &Present, i: usize, j: usize) -> Result<usize, Refusal>
     ensures refused { IfErr result (λ e. judgement_of (Delete i j) present.now.state ≡ Some e) }
     ensures allowed { OnOk result (judgement_of (Delete i j) present.now.state ≡ None) }
     ensures there { OnOk result ((1 ≤ i) × (i ≤ j)) }
@@ -40,7 +40,7 @@ impl Session {
         ensures step { Steps (Delete i j) self.old result self.new }
         ensures looks { LooksAfter (Delete i j) self.old result self.new }
     {
-        let cursor = place(&self.present, i, j)?;
+        let cursor = plan(&self.present, i, j)?;
         let put = Gap::new(self.alloc);
         self.splice(i - 1, j + 1 - i, put, cursor)
     }

@@ -16,7 +16,7 @@ use irig_codes::{Element, nominal};
 use irig_track::Pulse;
 
 /// Pulse `i` with the nominal width of an element, if there is room for it.
-fn place(present: &Present, i: usize, element: Element) -> Result<Pulse, Refusal>
+fn plan(present: &Present, i: usize, element: Element) -> Result<Pulse, Refusal>
     ensures refused { IfErr result (λ e.
         judgement_of (Force i element) present.now.state ≡ Some e) }
     ensures allowed { OnOk result (judgement_of (Force i element) present.now.state ≡ None) }
@@ -58,7 +58,7 @@ impl Session {
         ensures step { Steps (Force i element) self.old result self.new }
         ensures looks { LooksAfter (Force i element) self.old result self.new }
     {
-        let pulse = place(&self.present, i, element)?;
+        let pulse = plan(&self.present, i, element)?;
         let put = one(self.alloc, pulse)?;
         self.splice(i - 1, 1, put, i)
     }

@@ -15,7 +15,7 @@ use crate::session::Session;
 use irig_track::Pulse;
 
 /// How many pulses stand before a pulse from `a` to `b`, if it can be put in.
-fn place(present: &Present, a: u64, b: u64) -> Result<usize, Refusal>
+fn plan(present: &Present, a: u64, b: u64) -> Result<usize, Refusal>
     ensures refused { IfErr result (λ e. judgement_of (Insert a b) present.now.state ≡ Some e) }
     ensures allowed { OnOk result (judgement_of (Insert a b) present.now.state ≡ None) }
     ensures can { IfOk result (λ at.
@@ -45,7 +45,7 @@ impl Session {
         ensures step { Steps (Insert a b) self.old result self.new }
         ensures looks { LooksAfter (Insert a b) self.old result self.new }
     {
-        let at = place(&self.present, a, b)?;
+        let at = plan(&self.present, a, b)?;
         let put = one(self.alloc, Pulse { rise: a, fall: b })?;
         self.splice(at, 0, put, at + 1)
     }

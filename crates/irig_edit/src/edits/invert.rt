@@ -12,7 +12,7 @@ use crate::refusal::Refusal;
 use crate::session::Session;
 
 /// Whether the level can be turned over from `a` to `b`.
-fn judge(present: &Present, a: u64, b: u64) -> Result<(), Refusal>
+fn plan(present: &Present, a: u64, b: u64) -> Result<(), Refusal>
     ensures refused { IfErr result (λ e. judgement_of (Invert a b) present.now.state ≡ Some e) }
     ensures allowed { OnOk result (judgement_of (Invert a b) present.now.state ≡ None) }
     ensures can { OnOk result (CanToggle present.now.state.micros a b present.now.state.pulses) }
@@ -38,7 +38,7 @@ impl Session {
         ensures step { Steps (Invert a b) self.old result self.new }
         ensures looks { LooksAfter (Invert a b) self.old result self.new }
     {
-        judge(&self.present, a, b)?;
+        plan(&self.present, a, b)?;
         self.change(Change::Toggle { a, b }, 0)?;
         self.cursor = self.present.find(b);
         Ok(())

@@ -14,7 +14,7 @@ use crate::session::Session;
 use irig_track::Pulse;
 
 /// The pulse that pulses `i` to `j` are joined into, if they are there.
-fn place(present: &Present, i: usize, j: usize) -> Result<Pulse, Refusal>
+fn plan(present: &Present, i: usize, j: usize) -> Result<Pulse, Refusal>
     ensures refused { IfErr result (λ e. judgement_of (Join i j) present.now.state ≡ Some e) }
     ensures allowed { OnOk result (judgement_of (Join i j) present.now.state ≡ None) }
     ensures there { OnOk result ((1 ≤ i) × (i < j)) }
@@ -44,7 +44,7 @@ impl Session {
         ensures step { Steps (Join i j) self.old result self.new }
         ensures looks { LooksAfter (Join i j) self.old result self.new }
     {
-        let pulse = place(&self.present, i, j)?;
+        let pulse = plan(&self.present, i, j)?;
         let put = one(self.alloc, pulse)?;
         self.splice(i - 1, j + 1 - i, put, i)
     }

@@ -65,7 +65,7 @@ fn is_met(present: &Present, risen: usize, time: u64) -> bool
 }
 
 /// The pulses that frames from a start on take the stead of, if the frames can be made.
-fn place(
+fn plan(
     present: &Present,
     start: u64,
     frames: u64,
@@ -134,7 +134,7 @@ impl Session {
         ensures step { Steps (Regen start frames moment control) self.old result self.new }
         ensures looks { LooksAfter (Regen start frames moment control) self.old result self.new }
     {
-        let stretch = place(&self.present, start, frames, moment, control)?;
+        let stretch = plan(&self.present, start, frames, moment, control)?;
         let format = self.present.format();
         let put = pulses_of(self.alloc, format, start, frames, moment, control)?;
         let cursor = stretch.at + 100 * frames as usize;

@@ -55,7 +55,7 @@ fn judge(present: &Present, i: usize, j: usize, by: i64) -> Result<(), Refusal>
 
 /// The pulses `i` to `j` as a shift by `by`, with the marks from the first to the last, if they can
 /// be moved.
-fn place(present: &Present, i: usize, j: usize, by: i64) -> Result<Move, Refusal>
+fn plan(present: &Present, i: usize, j: usize, by: i64) -> Result<Move, Refusal>
     ensures refused { IfErr result (λ e. judgement_of (Shift i j by) present.now.state ≡ Some e) }
     ensures allowed { OnOk result (judgement_of (Shift i j by) present.now.state ≡ None) }
     ensures there { OnOk result (j ≤ length present.now.state.pulses) }
@@ -89,7 +89,7 @@ impl Session {
         ensures step { Steps (Shift i j by) self.old result self.new }
         ensures looks { LooksAfter (Shift i j by) self.old result self.new }
     {
-        let shift = place(&self.present, i, j, by)?;
+        let shift = plan(&self.present, i, j, by)?;
         self.change(Change::Shift(shift), j)
     }
 }

@@ -15,7 +15,7 @@ use crate::session::Session;
 use irig_track::Pulse;
 
 /// Pulse `i`, if it can be split.
-fn place(present: &Present, i: usize, a: u64, b: u64) -> Result<Pulse, Refusal>
+fn plan(present: &Present, i: usize, a: u64, b: u64) -> Result<Pulse, Refusal>
     ensures refused { IfErr result (λ e. judgement_of (Split i a b) present.now.state ≡ Some e) }
     ensures allowed { OnOk result (judgement_of (Split i a b) present.now.state ≡ None) }
     ensures there { OnOk result (1 ≤ i) }
@@ -52,7 +52,7 @@ impl Session {
         ensures step { Steps (Split i a b) self.old result self.new }
         ensures looks { LooksAfter (Split i a b) self.old result self.new }
     {
-        let pulse = place(&self.present, i, a, b)?;
+        let pulse = plan(&self.present, i, a, b)?;
         let first = Pulse {
             rise: pulse.rise,
             fall: a,

@@ -1,6 +1,6 @@
 use Rattle.std.proofs.Common.{arith}
 use Rattle.irig_edit.proofs.Changing.{joined}
-use Rattle.irig_edit.proofs.edits.join.place.Goals as goal
+use Rattle.irig_edit.proofs.edits.join.plan.Goals as goal
 
 pub returns-clause-can : goal.returns-clause-can
 returns-clause-can c =

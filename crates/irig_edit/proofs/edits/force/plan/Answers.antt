@@ -2,7 +2,7 @@ use Rattle.std.proofs.Common.{arith, ◌+◌, ap, sym, ◌∙◌}
 use Rattle.irig_codes.specs.Format.{FormatView}
 use Rattle.irig_codes.specs.Width.{nominal_of}
 use Rattle.irig_edit.proofs.Changing.{forced, nominal-some, next_free}
-use Rattle.irig_edit.proofs.edits.force.place.Goals as goal
+use Rattle.irig_edit.proofs.edits.force.plan.Goals as goal
 
 pub returns-clause-can : goal.returns-clause-can
 returns-clause-can c =

@@ -1,6 +1,6 @@
 use Rattle.std.proofs.Common.{arith, ap, ◌∙◌, ◌-◌, ◌+◌, min}
 use Rattle.irig_edit.proofs.Deleting.{deleted}
-use Rattle.irig_edit.proofs.edits.delete.place.Goals as goal
+use Rattle.irig_edit.proofs.edits.delete.plan.Goals as goal
 
 pub returns-clause-can : goal.returns-clause-can
 returns-clause-can c =

@@ -9,7 +9,7 @@ use Rattle.irig_edit.specs.Delta.Delta.{Shifted}
 use Rattle.irig_edit.specs.Edits.{pulse_of}
 use Rattle.irig_edit.specs.Marks.{AllMayMove, stands}
 use Rattle.irig_edit.proofs.Moving.{marks_may, shifted_becomes}
-use Rattle.irig_edit.proofs.edits.shift.place.Goals as goal
+use Rattle.irig_edit.proofs.edits.shift.plan.Goals as goal
 
 pub returns-clause-fits : goal.returns-clause-fits
 returns-clause-fits c =

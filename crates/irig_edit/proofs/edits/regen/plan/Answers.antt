@@ -6,7 +6,7 @@ use Rattle.irig_edit.specs.Regenerated.{frame_elements, frames_end, frames_pulse
 use Rattle.irig_edit.specs.Kept.{exchange}
 use Rattle.irig_edit.proofs.Generating.{frames_many}
 use Rattle.irig_edit.proofs.Regenerating.{before_end, end_said, frames_said, too_many_yes, too_many_no, is_wide_yes, is_wide_no, regenerated}
-use Rattle.irig_edit.proofs.edits.regen.place.Goals as goal
+use Rattle.irig_edit.proofs.edits.regen.plan.Goals as goal
 
 pub overflow_sub-count : goal.overflow_sub-count
 overflow_sub-count c =

@@ -1,6 +1,6 @@
 use Rattle.std.proofs.Common.{arith, sym, ◌∙◌}
 use Rattle.irig_edit.proofs.Inserting.{inserted}
-use Rattle.irig_edit.proofs.edits.insert.place.Goals as goal
+use Rattle.irig_edit.proofs.edits.insert.plan.Goals as goal
 
 pub returns-clause-can : goal.returns-clause-can
 returns-clause-can c =
