@@ -20,3 +20,4 @@ pub mod WrittenWords
 pub mod WrittenChanges
 pub mod ReadBack
 pub mod CodeRuns
+pub mod TextLength
