@@ -3,6 +3,7 @@ pub mod Letters
 pub mod Numbers
 pub mod Words
 pub mod Addresses
+pub mod Tables
 pub mod Keywords
 pub mod Grammar
 pub mod Lines

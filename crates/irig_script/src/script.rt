@@ -11,5 +11,6 @@ pub mod line;
 pub mod numbers;
 pub mod parsing;
 pub mod range;
+pub mod table;
 pub mod time;
 pub mod words;

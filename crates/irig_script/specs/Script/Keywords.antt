@@ -1,6 +1,6 @@
 -- The words that lines begin with. This project's own.
-use Rattle.std.specs.Prelude.{List, [], ◌∷◌, ℕ, Bool, true, false, codes, if◌then◌else◌}
-use Rattle.std.specs.Str.{bytes_eq}
+use Rattle.std.specs.Prelude.{List, [], ◌∷◌, ℕ, Bool, true, false, codes, unwrap_or}
+use Rattle.irig_script.specs.Script.Tables.{found}
 use Rattle.irig_script.specs.declared.script.keyword.Keyword.{Keyword}
 use Rattle.irig_script.specs.declared.script.keyword.Keyword.TheVariants as word
 
@@ -8,34 +8,17 @@ abbrev pub is_missing : {T : Type 0} → List T → Bool
 is_missing [] = true
 is_missing (x ∷ xs) = false
 
--- the words that stand alone in their line
-abbrev pub lone_word : List ℕ → Keyword
-lone_word text =
-    if bytes_eq text (codes "undo") then word.Undo
-    else (if bytes_eq text (codes "redo") then word.Redo
-    else (if bytes_eq text (codes "frames") then word.Frames
-    else (if bytes_eq text (codes "marks") then word.Marks
-    else (if bytes_eq text (codes "info") then word.Info
-    else (if bytes_eq text (codes "write") then word.Write
-    else (if bytes_eq text (codes "quit") then word.Quit else word.Unknown))))))
-
--- the other words with no range before them
-abbrev pub bare_word : List ℕ → Keyword
-bare_word text =
-    if bytes_eq text (codes "insert") then word.Insert
-    else (if bytes_eq text (codes "invert") then word.Invert
-    else (if bytes_eq text (codes "regen") then word.Regen
-    else (if bytes_eq text (codes "format") then word.Format
-    else (if bytes_eq text (codes "mark") then word.Mark
-    else (if bytes_eq text (codes "unmark") then word.Unmark else lone_word text)))))
+-- the words of the language, each with what it stands for; nothing is the word that is missing
+abbrev pub keywords : List (List ℕ × Keyword)
+keywords =
+    (codes "", word.Missing) ∷ (codes "list", word.List) ∷ (codes "delete", word.Delete)
+    ∷ (codes "shift", word.Shift) ∷ (codes "join", word.Join) ∷ (codes "split", word.Split)
+    ∷ (codes "force", word.Force) ∷ (codes "insert", word.Insert) ∷ (codes "invert", word.Invert)
+    ∷ (codes "regen", word.Regen) ∷ (codes "format", word.Format) ∷ (codes "mark", word.Mark)
+    ∷ (codes "unmark", word.Unmark) ∷ (codes "undo", word.Undo) ∷ (codes "redo", word.Redo)
+    ∷ (codes "frames", word.Frames) ∷ (codes "marks", word.Marks) ∷ (codes "info", word.Info)
+    ∷ (codes "write", word.Write) ∷ (codes "quit", word.Quit) ∷ []
 
 -- the word that a text is
 abbrev pub keyword_of : List ℕ → Keyword
-keyword_of text =
-    if is_missing text then word.Missing
-    else (if bytes_eq text (codes "list") then word.List
-    else (if bytes_eq text (codes "delete") then word.Delete
-    else (if bytes_eq text (codes "shift") then word.Shift
-    else (if bytes_eq text (codes "join") then word.Join
-    else (if bytes_eq text (codes "split") then word.Split
-    else (if bytes_eq text (codes "force") then word.Force else bare_word text))))))
+keyword_of text = unwrap_or (found text keywords) word.Unknown
