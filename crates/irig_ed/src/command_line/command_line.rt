@@ -3,6 +3,7 @@
 ghost use Rattle.std.specs.Prelude.{◌≡◌, IfOk, None, false, map, codes};
 ghost use Rattle.clap.specs.Words.{app_of, found_of, rule_of};
 ghost use Rattle.irig_ed.specs.CommandLine.Options.{IsCommand, IsReading, IsChoice, IsParsed, option, track};
+ghost use Rattle.irig_ed.specs.Statuses.{IsMistake};
 ghost use Rattle.irig_ed.specs.CommandLine.Settings.{Chooses, Reads, digit_named, kind_named};
 
 use crate::command_line::chosen::{Settings, UsageFault};
@@ -26,7 +27,9 @@ pub fn settings<'a>(alloc: Global, words: &'a [&'a str]) -> Result<Settings<'a>,
 }
 
 /// What `clap` says of an argument that is not UTF-8.
-pub fn not_text(alloc: Global) -> Error {
+pub fn not_text(alloc: Global) -> Error
+    ensures { IsMistake result }
+{
     match said_of_bytes(alloc) {
         Ok(error) => error,
         Err(error) => error.into(),
@@ -34,7 +37,9 @@ pub fn not_text(alloc: Global) -> Error {
 }
 
 /// The same, where memory suffices.
-fn said_of_bytes(alloc: Global) -> Result<Error, AllocError> {
+fn said_of_bytes(alloc: Global) -> Result<Error, AllocError>
+    ensures { IfOk result IsMistake }
+{
     command(alloc)?.error(
         ErrorKind::InvalidValue,
         "invalid UTF-8 was detected in one or more arguments",

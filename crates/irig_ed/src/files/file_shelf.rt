@@ -1,6 +1,6 @@
 //! A shelf that is a file.
 
-ghost use Rattle.std.specs.Prelude.{◌≡◌, None, OnOk};
+ghost use Rattle.std.specs.Prelude.{◌≡◌, None, Ok, IfOk, OnErr, OnOk, IsErr};
 ghost use Rattle.std.specs.Io.KnownBytes.{Appends};
 
 use irig_script::{Shelf, ShelfFault};
@@ -8,7 +8,7 @@ use std::fs::{Metadata, OpenFile, OpenOptions};
 use std::io::{ErrorKind, Write};
 use std::marker::Model;
 use std::os::unix::fs::{MetadataExt, OpenOptionsExt};
-use std::path::PathBuf;
+use std::path::{Path, PathBuf};
 use std::rt::Files;
 use std::{fs, io};
 
@@ -58,48 +58,58 @@ impl<R: Files + Print + AllocGlobal> Shelf for FileShelf<'_, R> {
     fn put(&mut self, bytes: &[u8]) -> Result<(), ShelfFault> {
         match put_file(self.runtime, self.path, bytes) {
             Ok(()) => Ok(()),
-            Err(_) => {
+            Err(fault) => {
                 self.failures = self.failures.saturating_add(1);
-                Err(ShelfFault)
+                Err(fault)
             }
         }
+    }
+}
+
+/// What a call gives, of whose error nothing is told.
+fn told<T: Drop, E: Drop>(outcome: Result<T, E>) -> Result<T, ShelfFault>
+    ensures given { IfOk result (λ value. outcome ≡ Ok value) }
+    ensures failed { OnErr result (IsErr outcome) }
+{
+    match outcome {
+        Ok(value) => Ok(value),
+        Err(_) => Err(ShelfFault),
     }
 }
 
 /// Puts the bytes into a file: a regular one, or none yet, is replaced; any other is written.
-fn put_file<R: Files + Print + AllocGlobal>(rt: &R, path: &str, bytes: &[u8]) -> io::Result<()> {
+fn put_file<R: Files + Print + AllocGlobal>(
+    rt: &R,
+    path: &str,
+    bytes: &[u8],
+) -> Result<(), ShelfFault> {
     match fs::metadata(rt, path) {
-        Ok(old) if is_standard_output(rt, &old) => io::writer(rt).write_all(bytes),
-        Ok(old) if old.is_file() => {
-            let target = followed(rt, path)?;
-            let old = writable(rt, target.as_str())?;
-            replace(rt, target.as_str(), Some(&old), bytes)
-        }
-        Ok(_) => OpenOptions::new()
-            .write(true)
-            .open(rt, path)?
-            .write_all(bytes),
-        Err(e) if e.kind() == ErrorKind::NotFound => {
-            let target = followed(rt, path)?;
-            replace(rt, target.as_str(), None, bytes)
-        }
-        Err(e) => Err(e),
+        Ok(old) => put_over(rt, path, &old, bytes),
+        Err(e) if e.kind() == ErrorKind::NotFound => replace(rt, path, false, bytes),
+        Err(_) => Err(ShelfFault),
     }
 }
 
-/// The path that a chain of symbolic links leads to.
-fn followed<R: Files + AllocGlobal>(rt: &R, path: &str) -> io::Result<PathBuf> {
-    let mut target = PathBuf::from_str(rt.alloc(), path)?;
-    for _ in 0..LINKS {
-        match fs::read_link(rt, target.as_str()) {
-            Ok(next) => {
-                target.pop();
-                target.push(next.as_str())?;
-            }
-            Err(_) => return Ok(target),
-        }
+/// Puts the bytes into a file that is there.
+fn put_over<R: Files + Print + AllocGlobal>(
+    rt: &R,
+    path: &str,
+    old: &Metadata,
+    bytes: &[u8],
+) -> Result<(), ShelfFault> {
+    if is_standard_output(rt, old) {
+        told(io::writer(rt).write_all(bytes))
+    } else if old.is_file() {
+        replace(rt, path, true, bytes)
+    } else {
+        let mut file = opened(rt, path)?;
+        told(file.write_all(bytes))
     }
-    Err(io::Error::from(ErrorKind::InvalidInput))
+}
+
+/// A file that is there, to be written.
+fn opened<R: Files>(rt: &R, path: &str) -> Result<R::File, ShelfFault> {
+    told(OpenOptions::new().write(true).open(rt, path))
 }
 
 /// Whether both describe one file.
@@ -115,82 +125,137 @@ fn is_standard_output<R: Files>(rt: &R, file: &Metadata) -> bool {
     }
 }
 
-/// Replaces the regular file at the target, or none, by a new one that is written beside it.
+/// Replaces the regular file that a path leads to, where one is there, or makes it.
 fn replace<R: Files + AllocGlobal>(
+    rt: &R,
+    path: &str,
+    is_there: bool,
+    bytes: &[u8],
+) -> Result<(), ShelfFault> {
+    let target = followed(rt, path)?;
+    let target = target.as_str();
+    if is_there {
+        let old = writable(rt, target)?;
+        replace_target(rt, target, Some(&old), bytes)
+    } else {
+        replace_target(rt, target, None, bytes)
+    }
+}
+
+/// The path that a chain of symbolic links leads to.
+fn followed<R: Files + AllocGlobal>(rt: &R, path: &str) -> Result<PathBuf, ShelfFault> {
+    let mut target = told(PathBuf::from_str(rt.alloc(), path))?;
+    for _ in 0..LINKS {
+        match follow(rt, &mut target) {
+            Ok(true) => {}
+            Ok(false) => return Ok(target),
+            Err(fault) => return Err(fault),
+        }
+    }
+    Err(ShelfFault)
+}
+
+/// Follows a symbolic link, and tells whether there was one.
+fn follow<R: Files + AllocGlobal>(rt: &R, target: &mut PathBuf) -> Result<bool, ShelfFault> {
+    let Ok(next) = fs::read_link(rt, target.as_str()) else {
+        return Ok(false);
+    };
+    target.pop();
+    told(target.push(next.as_str()))?;
+    Ok(true)
+}
+
+/// What describes a regular file that may be written: one that may not is not replaced either.
+fn writable<R: Files>(rt: &R, target: &str) -> Result<Metadata, ShelfFault> {
+    let there = opened(rt, target)?;
+    match there.metadata() {
+        Ok(old) if old.is_file() => Ok(old),
+        _ => Err(ShelfFault),
+    }
+}
+
+/// Replaces the regular file at the target, or none, by a new one that is written beside it, under
+/// the first name that is free.
+fn replace_target<R: Files + AllocGlobal>(
     rt: &R,
     target: &str,
     old: Option<&Metadata>,
     bytes: &[u8],
-) -> io::Result<()> {
-    let mut how = OpenOptions::new();
-    how.write(true).create_new(true);
-    if old.is_some() {
-        how.mode(0o600);
-    }
-    let (mut file, beside) = made_beside(rt, target, &how)?;
-    let put = match fill(&mut file, old, bytes) {
-        Ok(()) => fs::rename(rt, beside.as_str(), target),
-        Err(e) => Err(e),
-    };
-    if put.is_err() {
-        let _ = fs::remove_file(rt, beside.as_str());
-    }
-    put
-}
-
-/// What describes a regular file that may be written: one that may not is not replaced either.
-fn writable<R: Files>(rt: &R, target: &str) -> io::Result<Metadata> {
-    let there = OpenOptions::new().write(true).open(rt, target)?;
-    let old = there.metadata()?;
-    if old.is_file() {
-        Ok(old)
-    } else {
-        Err(io::Error::from(ErrorKind::InvalidInput))
-    }
-}
-
-/// A new file beside the target, under the first name that is free, so that no other run has it.
-fn made_beside<R: Files + AllocGlobal>(
-    rt: &R,
-    target: &str,
-    how: &OpenOptions,
-) -> io::Result<(R::File, PathBuf)> {
+) -> Result<(), ShelfFault> {
     for number in 0..NAMES {
         let beside = name_beside(rt, target, number)?;
-        match how.open(rt, beside.as_str()) {
-            Ok(file) => return Ok((file, beside)),
-            Err(e) if e.kind() == ErrorKind::AlreadyExists => {}
-            Err(e) => return Err(e),
+        match replace_by(rt, beside.as_str(), target, old, bytes) {
+            Ok(true) => return Ok(()),
+            Ok(false) => {}
+            Err(fault) => return Err(fault),
         }
     }
-    Err(io::Error::from(ErrorKind::AlreadyExists))
+    Err(ShelfFault)
 }
 
 /// A name for the new file: that of the target, hidden, marked and numbered, in the same folder.
-fn name_beside<R: AllocGlobal>(rt: &R, target: &str, number: u32) -> io::Result<PathBuf> {
-    let mut beside = PathBuf::from_str(rt.alloc(), target)?;
-    let Some(name) = beside.as_path().file_name() else {
-        return Err(io::Error::from(ErrorKind::InvalidInput));
+fn name_beside<R: AllocGlobal>(rt: &R, target: &str, number: u32) -> Result<PathBuf, ShelfFault> {
+    let target = Path::new(target);
+    let Some(name) = target.file_name() else {
+        return Err(ShelfFault);
     };
     // a folder takes no name of more than 255 bytes
     let kept = if name.len() <= 200 { name } else { "" };
-    let marked = format!(in rt.alloc(); ".{kept}.irig_ed-new-{number}")?;
-    beside.set_file_name(marked.as_str())?;
-    Ok(beside)
+    let marked = told(format!(in rt.alloc(); ".{kept}.irig_ed-new-{number}"))?;
+    told(target.with_file_name(rt.alloc(), marked.as_str()))
+}
+
+/// Writes a new file, and gives it the target's name; false where its own name is taken, so that
+/// no other run ever has it open.
+fn replace_by<R: Files>(
+    rt: &R,
+    beside: &str,
+    target: &str,
+    old: Option<&Metadata>,
+    bytes: &[u8],
+) -> Result<bool, ShelfFault> {
+    match created(rt, beside, old.is_some()) {
+        Ok(mut file) => {
+            let put = match fill(&mut file, old, bytes) {
+                Ok(()) => told(fs::rename(rt, beside, target)),
+                Err(fault) => Err(fault),
+            };
+            if put.is_err() {
+                let _ = fs::remove_file(rt, beside);
+            }
+            put.map(|()| true)
+        }
+        Err(e) if e.kind() == ErrorKind::AlreadyExists => Ok(false),
+        Err(_) => Err(ShelfFault),
+    }
+}
+
+/// A new file; one that takes the rights of another is its owner's alone until then.
+fn created<R: Files>(rt: &R, path: &str, hidden: bool) -> io::Result<R::File> {
+    let mut how = OpenOptions::new();
+    how.write(true).create_new(true);
+    if hidden {
+        how.mode(0o600);
+    }
+    how.open(rt, path)
 }
 
 /// Writes the new file, durably.
-fn fill<F: OpenFile + Write>(file: &mut F, old: Option<&Metadata>, bytes: &[u8]) -> io::Result<()> {
+fn fill<F: OpenFile + Write>(
+    file: &mut F,
+    old: Option<&Metadata>,
+    bytes: &[u8],
+) -> Result<(), ShelfFault> {
     if let Some(old) = old {
-        file.set_permissions(old.permissions())?;
+        told(file.set_permissions(old.permissions()))?;
     }
     write_whole(file, bytes)?;
-    file.sync_all()
+    told(file.sync_all())
 }
 
 /// Writes all of the bytes.
-fn write_whole<F: Write>(file: &mut F, bytes: &[u8]) -> io::Result<()>
+fn write_whole<F: Write>(file: &mut F, bytes: &[u8]) -> Result<(), ShelfFault>
     ensures { OnOk result (Appends (F.contents file.old) (F.contents file.new) bytes.now) }
 {
-    file.write_all(bytes)
+    told(file.write_all(bytes))
 }

@@ -12,7 +12,7 @@ use std::{fs, io};
 pub const TRACK_LIMIT: u64 = 268_435_456;
 
 /// Why the bytes of a dump were not read.
-#[derive(Clone, Copy, Debug, PartialEq, Eq)]
+#[derive(Clone, Copy)]
 pub enum TrackFault {
     /// The file is missing, or is none, or may not be read.
     CannotBeRead,

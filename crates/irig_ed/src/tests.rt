@@ -1,3 +1,0 @@
-//! Command lines, and what they ask for.
-
-mod command_lines;
