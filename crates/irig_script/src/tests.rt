@@ -1,7 +1,6 @@
 //! Scripts and their answers, and what failing ends and refused growths leave.
 
 mod failing_ends;
-mod frames;
 mod refused_growths;
 mod rows;
 mod table;

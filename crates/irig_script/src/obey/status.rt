@@ -7,7 +7,7 @@ use crate::print::output::PrintFault;
 use thiserror::Error;
 
 /// How a run ended that came to its end.
-#[derive(Clone, Copy, Debug, PartialEq, Eq)]
+#[derive(Clone, Copy, PartialEq, Eq)]
 pub enum Status {
     /// No line was refused.
     AllAccepted,

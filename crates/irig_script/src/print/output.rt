@@ -7,7 +7,7 @@ ghost use Rattle.irig_script.specs.Print.Front.{AppendsFront};
 use std::io::Write;
 
 /// The output failed.
-#[derive(Clone, Copy, Debug, PartialEq, Eq)]
+#[derive(Clone, Copy)]
 pub struct PrintFault;
 
 /// Writes all of the bytes. A write that fails or takes none ends it.

@@ -56,5 +56,5 @@ pub enum Command {
 }
 
 /// S1: a line that is none of the language.
-#[derive(Clone, Copy, Debug, PartialEq, Eq)]
+#[derive(Clone, Copy)]
 pub struct BadLine;

@@ -4,7 +4,7 @@ ghost use Rattle.std.specs.Prelude.{◌≡◌, ℕ, List, Option, OnOk, OnErr, �
 ghost use Rattle.irig_script.specs.Obey.Desk.{GrowsBy, Fails};
 
 /// A text could not be put.
-#[derive(Clone, Copy, Debug, PartialEq, Eq)]
+#[derive(Clone, Copy)]
 pub struct ShelfFault;
 
 /// Where `write` puts the text of the track.

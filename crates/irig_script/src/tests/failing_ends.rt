@@ -1,11 +1,9 @@
 //! Runs whose script cannot be read, or whose output cannot be written.
 
-use crate::obey::engine::run;
-use crate::obey::status::RunFault;
-use crate::shelf::memory_shelf::MemoryShelf;
-use irig_codes::{Format, Kind};
+use crate::tests::refused_growths::opened;
+use crate::{MemoryShelf, RunFault, run};
 use irig_edit::Session;
-use irig_vcd::Recording;
+use std::alloc::{AllocError, Global};
 use std::io::{self, ErrorKind, Read, Write};
 use std::process::Abort;
 use std::test::Fail;
@@ -61,41 +59,37 @@ impl Write for Full {
     }
 }
 
-fn opened<R: Abort + AllocGlobal>(rt: &R) -> Result<Session, Fail> {
-    let edges = Vec::from_slice(rt.alloc(), &[100, 120, 200, 280])?;
-    let recording = Recording::new(1000, edges).ok().ok_or("no recording")?;
-    let format = Format::new(Kind::B, 2).ok().ok_or("no format")?;
-    Ok(Session::open(rt.alloc(), recording, format)?)
-}
-
-/// A script whose last read fails in such a way.
-fn check_read<R: Abort + AllocGlobal>(rt: &R, kind: ErrorKind) -> Result<(), Fail> {
-    let mut session = opened(rt)?;
+/// A script whose last read fails in such a way: just the whole lines before it are obeyed and
+/// answered.
+fn check_read(rt: &impl Abort, alloc: Global, session: &mut Session, kind: ErrorKind) {
     let mut script = Broken {
         text: b"invert 100 120\nwrite\nundo",
         step: 3,
         kind,
     };
-    let mut out = Vec::new(rt.alloc());
-    let mut shelf = MemoryShelf::new(rt.alloc(), None);
-    let outcome = run(&mut session, &mut script, &mut out, &mut shelf);
-    assert!(rt; outcome == Err(RunFault::ReadFailed));
-    assert!(rt; out.as_slice() == b"147\n".as_slice());
-    assert!(rt; shelf.texts().len() == 1 && session.len() == 1);
-    assert!(rt; session.undo() == Ok(()) && session.len() == 2);
+    let mut out = Vec::new(alloc);
+    let mut shelf = MemoryShelf::new(alloc, None);
+    let outcome = run(session, &mut script, &mut out, &mut shelf);
+    assert!(rt;
+        outcome == Err(RunFault::ReadFailed)
+            && out.as_slice() == b"147\n".as_slice()
+            && shelf.texts().len() == 1
+            && session.len() == 1
+    );
+}
+
+#[test]
+fn a_failed_read_ends_the_run(rt: HostRuntime) -> Result<(), Fail> {
+    let mut session = opened(rt.alloc()).ok_or("no session")?;
+    check_read(&rt, rt.alloc(), &mut session, ErrorKind::Other);
+    let _ = session.undo();
+    check_read(&rt, rt.alloc(), &mut session, ErrorKind::Interrupted);
     Ok(())
 }
 
-// The whole lines before the failure are obeyed and answered, and the rest is not.
-#[test]
-fn a_failed_read_ends_the_run(rt: HostRuntime) -> Result<(), Fail> {
-    check_read(&rt, ErrorKind::Other)?;
-    check_read(&rt, ErrorKind::Interrupted)
-}
-
-/// An output that takes six bytes, and then fails or takes none.
-fn check_write<R: Abort + AllocGlobal>(rt: &R, fails: bool) -> Result<(), Fail> {
-    let mut session = opened(rt)?;
+/// An output that takes six bytes, and then fails or takes none: the line whose answer was not
+/// printed whole is obeyed, and none after it.
+fn check_write(rt: &impl Abort, alloc: Global, session: &mut Session, fails: bool) {
     let mut script = b"invert 100 120\nwrite\nwrite\nundo\n".as_slice();
     let mut out = Full {
         bytes: [0; 16],
@@ -103,31 +97,30 @@ fn check_write<R: Abort + AllocGlobal>(rt: &R, fails: bool) -> Result<(), Fail> 
         room: 6,
         fails,
     };
-    let mut shelf = MemoryShelf::new(rt.alloc(), None);
-    let outcome = run(&mut session, &mut script, &mut out, &mut shelf);
-    assert!(rt; outcome == Err(RunFault::PrintFailed));
-    assert!(rt; out.len == 6 && &out.bytes[..6] == b"147\n14".as_slice());
-    assert!(rt; shelf.texts().len() == 2 && session.len() == 1);
+    let mut shelf = MemoryShelf::new(alloc, None);
+    let outcome = run(session, &mut script, &mut out, &mut shelf);
+    assert!(rt;
+        outcome == Err(RunFault::PrintFailed)
+            && &out.bytes[..6] == b"147\n14".as_slice()
+            && out.len == 6
+            && shelf.texts().len() == 2
+            && session.len() == 1
+    );
+}
+
+#[test]
+fn a_failed_write_ends_the_run(rt: HostRuntime) -> Result<(), Fail> {
+    let mut session = opened(rt.alloc()).ok_or("no session")?;
+    check_write(&rt, rt.alloc(), &mut session, false);
+    let _ = session.undo();
+    check_write(&rt, rt.alloc(), &mut session, true);
     Ok(())
 }
 
-// The line whose answer was not printed whole is obeyed, and none after it.
+// No script of a test takes so many reads: its text is looked at here alone.
 #[test]
-fn a_failed_write_ends_the_run(rt: HostRuntime) -> Result<(), Fail> {
-    check_write(&rt, false)?;
-    check_write(&rt, true)
-}
-
-#[test]
-fn faults_have_their_texts(rt: HostRuntime) -> Result<(), Fail> {
-    let cases = [
-        (RunFault::ReadFailed, "S4 ReadFailed"),
-        (RunFault::TooManyReads, "S5 TooManyReads"),
-        (RunFault::PrintFailed, "S6 PrintFailed"),
-    ];
-    for (fault, want) in cases {
-        let text = format!(in rt.alloc(); "{fault}")?;
-        assert!(rt; text.as_str() == want);
-    }
+fn many_reads_have_their_text(rt: HostRuntime) -> Result<(), AllocError> {
+    let text = format!(in rt.alloc(); "{}", RunFault::TooManyReads)?;
+    assert!(rt; text.as_str() == "S5 TooManyReads");
     Ok(())
 }

@@ -1,6 +1,6 @@
 //! The table of scripts: what each prints of its dump, and how it ends.
 
-use crate::obey::status::Status;
+use crate::Status;
 use irig_codes::Kind;
 
 /// A dump of 1,000 microseconds with pulses 100-120 and 200-280.
@@ -29,7 +29,6 @@ const LONG: &[u8] =
 /// A script over a dump in a format, what it prints, and how it ends.
 #[derive(Clone, Copy)]
 pub struct Row<'a> {
-    pub name: &'a str,
     pub dump: &'a [u8],
     pub kind: Kind,
     pub expression: u8,
@@ -41,7 +40,7 @@ pub struct Row<'a> {
 /// Dumps, scripts and what they print.
 pub static ROWS: [Row<'static>; 40] = [
     Row {
-        name: "a dump is read and written",
+        // a dump is read and written
         dump: EMPTY,
         kind: Kind::B,
         expression: 2,
@@ -50,7 +49,7 @@ pub static ROWS: [Row<'static>; 40] = [
         status: Status::AllAccepted,
     },
     Row {
-        name: "nanoseconds are floored",
+        // nanoseconds are floored
         dump: NANOSECONDS,
         kind: Kind::B,
         expression: 2,
@@ -59,7 +58,7 @@ pub static ROWS: [Row<'static>; 40] = [
         status: Status::AllAccepted,
     },
     Row {
-        name: "a real dump names one wire",
+        // a real dump names one wire
         dump: SIMULATED,
         kind: Kind::B,
         expression: 2,
@@ -68,7 +67,7 @@ pub static ROWS: [Row<'static>; 40] = [
         status: Status::AllAccepted,
     },
     Row {
-        name: "an invert is taken back",
+        // an invert is taken back
         dump: PULSES,
         kind: Kind::G,
         expression: 2,
@@ -77,7 +76,7 @@ pub static ROWS: [Row<'static>; 40] = [
         status: Status::AllAccepted,
     },
     Row {
-        name: "an invert at both edges of a pulse takes it out",
+        // an invert at both edges of a pulse takes it out
         dump: PULSES,
         kind: Kind::G,
         expression: 2,
@@ -86,7 +85,7 @@ pub static ROWS: [Row<'static>; 40] = [
         status: Status::AllAccepted,
     },
     Row {
-        name: "an invert of the whole track turns every level",
+        // an invert of the whole track turns every level
         dump: PULSES,
         kind: Kind::G,
         expression: 2,
@@ -95,7 +94,7 @@ pub static ROWS: [Row<'static>; 40] = [
         status: Status::AllAccepted,
     },
     Row {
-        name: "a shift moves the marks on its pulses, and an undo gives them back",
+        // a shift moves the marks on its pulses, and an undo gives them back
         dump: PULSES,
         kind: Kind::G,
         expression: 2,
@@ -104,7 +103,7 @@ pub static ROWS: [Row<'static>; 40] = [
         status: Status::AllAccepted,
     },
     Row {
-        name: "a redo gives the cursor that stood at the undo",
+        // a redo gives the cursor that stood at the undo
         dump: PULSES,
         kind: Kind::G,
         expression: 2,
@@ -113,7 +112,7 @@ pub static ROWS: [Row<'static>; 40] = [
         status: Status::AllAccepted,
     },
     Row {
-        name: "two frames of format G are regenerated",
+        // two frames of format G are regenerated
         dump: SHORT,
         kind: Kind::G,
         expression: 2,
@@ -122,7 +121,7 @@ pub static ROWS: [Row<'static>; 40] = [
         status: Status::AllAccepted,
     },
     Row {
-        name: "the last element of a frame is no position identifier",
+        // the last element of a frame is no position identifier
         dump: SHORT,
         kind: Kind::G,
         expression: 2,
@@ -131,7 +130,7 @@ pub static ROWS: [Row<'static>; 40] = [
         status: Status::AllAccepted,
     },
     Row {
-        name: "two frames of format B are regenerated, and the second is looked at",
+        // two frames of format B are regenerated, and the second is looked at
         dump: LONG,
         kind: Kind::B,
         expression: 4,
@@ -140,7 +139,7 @@ pub static ROWS: [Row<'static>; 40] = [
         status: Status::AllAccepted,
     },
     Row {
-        name: "a date by month and day is the same moment",
+        // a date by month and day is the same moment
         dump: LONG,
         kind: Kind::B,
         expression: 4,
@@ -149,7 +148,7 @@ pub static ROWS: [Row<'static>; 40] = [
         status: Status::AllAccepted,
     },
     Row {
-        name: "a year ends between two frames",
+        // a year ends between two frames
         dump: LONG,
         kind: Kind::B,
         expression: 4,
@@ -158,7 +157,7 @@ pub static ROWS: [Row<'static>; 40] = [
         status: Status::AllAccepted,
     },
     Row {
-        name: "a refused edit keeps what can be redone",
+        // a refused edit keeps what can be redone
         dump: PULSES,
         kind: Kind::G,
         expression: 2,
@@ -167,7 +166,7 @@ pub static ROWS: [Row<'static>; 40] = [
         status: Status::SomeRefused,
     },
     Row {
-        name: "a format that permits no such expression is refused, another one changes the frames",
+        // a format that permits no such expression is refused, another one changes the frames
         dump: LONG,
         kind: Kind::B,
         expression: 4,
@@ -176,7 +175,7 @@ pub static ROWS: [Row<'static>; 40] = [
         status: Status::SomeRefused,
     },
     Row {
-        name: "no more steps are taken back or made again than there are",
+        // no more steps are taken back or made again than there are
         dump: PULSES,
         kind: Kind::G,
         expression: 2,
@@ -185,7 +184,7 @@ pub static ROWS: [Row<'static>; 40] = [
         status: Status::SomeRefused,
     },
     Row {
-        name: "a shift stops at its neighbours and at the ends of the track",
+        // a shift stops at its neighbours and at the ends of the track
         dump: PULSES,
         kind: Kind::G,
         expression: 2,
@@ -194,7 +193,7 @@ pub static ROWS: [Row<'static>; 40] = [
         status: Status::SomeRefused,
     },
     Row {
-        name: "a pulse is split and joined again, and forced",
+        // a pulse is split and joined again, and forced
         dump: PULSES,
         kind: Kind::G,
         expression: 2,
@@ -203,7 +202,7 @@ pub static ROWS: [Row<'static>; 40] = [
         status: Status::SomeRefused,
     },
     Row {
-        name: "an empty track has no pulse to list, and takes one of its whole length",
+        // an empty track has no pulse to list, and takes one of its whole length
         dump: PULSES,
         kind: Kind::G,
         expression: 2,
@@ -212,7 +211,7 @@ pub static ROWS: [Row<'static>; 40] = [
         status: Status::SomeRefused,
     },
     Row {
-        name: "a regeneration is refused that has no room",
+        // a regeneration is refused that has no room
         dump: LONG,
         kind: Kind::B,
         expression: 4,
@@ -221,7 +220,7 @@ pub static ROWS: [Row<'static>; 40] = [
         status: Status::SomeRefused,
     },
     Row {
-        name: "a regeneration is refused that begins within a frame",
+        // a regeneration is refused that begins within a frame
         dump: LONG,
         kind: Kind::B,
         expression: 4,
@@ -230,7 +229,7 @@ pub static ROWS: [Row<'static>; 40] = [
         status: Status::SomeRefused,
     },
     Row {
-        name: "a regeneration is refused whose control functions are too many",
+        // a regeneration is refused whose control functions are too many
         dump: LONG,
         kind: Kind::B,
         expression: 4,
@@ -239,7 +238,7 @@ pub static ROWS: [Row<'static>; 40] = [
         status: Status::SomeRefused,
     },
     Row {
-        name: "a moment that there is not is none of the language",
+        // a moment that there is not is none of the language
         dump: LONG,
         kind: Kind::B,
         expression: 4,
@@ -248,7 +247,7 @@ pub static ROWS: [Row<'static>; 40] = [
         status: Status::SomeRefused,
     },
     Row {
-        name: "control functions are carried, in hexadecimal",
+        // control functions are carried, in hexadecimal
         dump: LONG,
         kind: Kind::B,
         expression: 4,
@@ -257,7 +256,7 @@ pub static ROWS: [Row<'static>; 40] = [
         status: Status::AllAccepted,
     },
     Row {
-        name: "an unset mark names no pulse and no time, and words stand in their places",
+        // an unset mark names no pulse and no time, and words stand in their places
         dump: PULSES,
         kind: Kind::G,
         expression: 2,
@@ -266,7 +265,7 @@ pub static ROWS: [Row<'static>; 40] = [
         status: Status::SomeRefused,
     },
     Row {
-        name: "addresses count from the cursor, the last pulse and marks",
+        // addresses count from the cursor, the last pulse and marks
         dump: PULSES,
         kind: Kind::G,
         expression: 2,
@@ -275,7 +274,7 @@ pub static ROWS: [Row<'static>; 40] = [
         status: Status::SomeRefused,
     },
     Row {
-        name: "a mark before the first pulse and an offset are the first pulse",
+        // a mark before the first pulse and an offset are the first pulse
         dump: PULSES,
         kind: Kind::G,
         expression: 2,
@@ -284,7 +283,7 @@ pub static ROWS: [Row<'static>; 40] = [
         status: Status::SomeRefused,
     },
     Row {
-        name: "marks are times of edits",
+        // marks are times of edits
         dump: PULSES,
         kind: Kind::G,
         expression: 2,
@@ -293,7 +292,7 @@ pub static ROWS: [Row<'static>; 40] = [
         status: Status::SomeRefused,
     },
     Row {
-        name: "one address of join is that pulse and the next, and a missing one the cursor",
+        // one address of join is that pulse and the next, and a missing one the cursor
         dump: PULSES,
         kind: Kind::G,
         expression: 2,
@@ -302,7 +301,7 @@ pub static ROWS: [Row<'static>; 40] = [
         status: Status::SomeRefused,
     },
     Row {
-        name: "a pulse is put where it touches none",
+        // a pulse is put where it touches none
         dump: PULSES,
         kind: Kind::G,
         expression: 2,
@@ -311,7 +310,7 @@ pub static ROWS: [Row<'static>; 40] = [
         status: Status::SomeRefused,
     },
     Row {
-        name: "an accepted edit empties what can be redone",
+        // an accepted edit empties what can be redone
         dump: PULSES,
         kind: Kind::G,
         expression: 2,
@@ -320,7 +319,7 @@ pub static ROWS: [Row<'static>; 40] = [
         status: Status::SomeRefused,
     },
     Row {
-        name: "a time above the length is refused",
+        // a time above the length is refused
         dump: PULSES,
         kind: Kind::G,
         expression: 2,
@@ -329,7 +328,7 @@ pub static ROWS: [Row<'static>; 40] = [
         status: Status::SomeRefused,
     },
     Row {
-        name: "a word of no line is refused, and the run goes on",
+        // a word of no line is refused, and the run goes on
         dump: PULSES,
         kind: Kind::G,
         expression: 2,
@@ -338,7 +337,7 @@ pub static ROWS: [Row<'static>; 40] = [
         status: Status::SomeRefused,
     },
     Row {
-        name: "blank lines and comments do nothing",
+        // blank lines and comments do nothing
         dump: PULSES,
         kind: Kind::G,
         expression: 2,
@@ -347,7 +346,7 @@ pub static ROWS: [Row<'static>; 40] = [
         status: Status::AllAccepted,
     },
     Row {
-        name: "white space stands round words",
+        // white space stands round words
         dump: PULSES,
         kind: Kind::G,
         expression: 2,
@@ -356,7 +355,7 @@ pub static ROWS: [Row<'static>; 40] = [
         status: Status::SomeRefused,
     },
     Row {
-        name: "a last line without its newline counts",
+        // a last line without its newline counts
         dump: PULSES,
         kind: Kind::G,
         expression: 2,
@@ -365,7 +364,7 @@ pub static ROWS: [Row<'static>; 40] = [
         status: Status::AllAccepted,
     },
     Row {
-        name: "nothing after quit is read",
+        // nothing after quit is read
         dump: PULSES,
         kind: Kind::G,
         expression: 2,
@@ -374,7 +373,7 @@ pub static ROWS: [Row<'static>; 40] = [
         status: Status::AllAccepted,
     },
     Row {
-        name: "eighteen digits are a number, nineteen are none",
+        // eighteen digits are a number, nineteen are none
         dump: PULSES,
         kind: Kind::G,
         expression: 2,
@@ -383,7 +382,7 @@ pub static ROWS: [Row<'static>; 40] = [
         status: Status::SomeRefused,
     },
     Row {
-        name: "missing, surplus and wrong words are refused",
+        // missing, surplus and wrong words are refused
         dump: PULSES,
         kind: Kind::G,
         expression: 2,
@@ -392,7 +391,7 @@ pub static ROWS: [Row<'static>; 40] = [
         status: Status::SomeRefused,
     },
     Row {
-        name: "bytes that are no text are refused",
+        // bytes that are no text are refused
         dump: PULSES,
         kind: Kind::G,
         expression: 2,
