@@ -5,7 +5,7 @@ mod command_line;
 mod files;
 mod statuses;
 
-ghost use Rattle.std.specs.Prelude.{◌≤◌, ◌^◌, vec_len};
+ghost use Rattle.std.specs.Prelude.{◌≡◌, ◌≤◌, ◌^◌, IfOk, map, string_bytes, vec_len};
 
 use command_line::chosen::{Settings, UsageFault};
 use command_line::command_line::{not_text, settings};
@@ -46,7 +46,9 @@ fn started<R: Runtime + AllocGlobal>(rt: &R, owned: &[String]) -> ExitCode {
 }
 
 /// The same texts, borrowed.
-fn lent<'a>(alloc: Global, owned: &'a [String]) -> Result<Vec<&'a str>, AllocError> {
+fn lent<'a>(alloc: Global, owned: &'a [String]) -> Result<Vec<&'a str>, AllocError>
+    ensures { IfOk result (λ words. map (λ w. w.now) words.items ≡ map string_bytes owned.now) }
+{
     let mut words = Vec::new(alloc);
     for word in owned {
         words.push(word.as_str())?;
