@@ -1,10 +1,10 @@
 -- The bits of a frame grow by one element at either end.
-use Rattle.std.proofs.Common.{◌≡◌, ℕ, suc, ◌+◌, ◌-◌, ◌*◌, ◌^◌, ◌<◌, ◌++◌, Bool, true, false, cond, List, [], ◌∷◌, get_or, drop, length, sym, ap, ap₂, ◌∙◌, arith, lit<}
+use Rattle.std.proofs.Common.{◌≡◌, ℕ, suc, ◌+◌, ◌-◌, ◌*◌, ◌/◌, ◌^◌, ◌<◌, ◌++◌, Bool, true, false, cond, List, [], ◌∷◌, get_or, drop, length, sym, ap, ap₂, ◌∙◌, arith, lit<}
 use mir.Val.{bool_byte}
 use Rattle.std.proofs.Math.Nat.{pow-suc}
 use Rattle.std.proofs.lemmas.Nat.{pow-add}
-use Rattle.std.proofs.lemmas.List.{drop_more}
-use Rattle.irig_codes.specs.Ones.{ones_of}
+use Rattle.std.proofs.lemmas.List.{drop_more, length-append}
+use Rattle.irig_codes.specs.Ones.{ones_of, raised}
 use Rattle.irig_codes.specs.Reading.{counts}
 use Rattle.irig_codes.specs.declared.width.Element.{Element}
 use Rattle.irig_codes.specs.declared.width.Element.TheVariants.{Zero}
@@ -47,5 +47,22 @@ pub of-below : (i n : ℕ) (b : Bool) → n < 2 ^ i → 2 * n + bool_byte b < 2 
 of-below i n true h = omega (arith, h, pow-add 2 i 1)
 of-below i n false h = omega (arith, h, pow-add 2 i 1)
 
-pub and-gathered : (n w : ℕ) (b : Bool) (es : List Element) (e : Element) → 2 ^ length es ≡ w → ones_of es ≡ n → counts e ≡ b → ones_of (es ++ (e ∷ [])) ≡ n + cond b w 0
-and-gathered n w b es e h p q = ones-append es e ∙ ap₂ (λ m v. m + cond (counts e) v 0) p h ∙ ap (λ t. n + cond t w 0) q
+halved : (m v : ℕ) → v ≡ m * 2 → v / 2 ≡ m
+halved m v h = omega (arith, h)
+
+-- a frame so far, raised, goes down one place as an element comes in at the top
+raised-more : (n v w u : ℕ) (b : Bool) → w * u ≡ 2 ^ 99 → v ≡ n * (u * 2) → (n + cond b w 0) * u ≡ v / 2 + cond b (2 ^ 99) 0
+raised-more n v w u true h p = let half : v / 2 ≡ n * u = halved (n * u) v (p ∙ grind arith) in grind (arith, half, h)
+raised-more n v w u false h p = let half : v / 2 ≡ n * u = halved (n * u) v (p ∙ grind arith) in grind (arith, half)
+
+pub and-gathered : (n : ℕ) (b : Bool) (es : List Element) (e : Element) → length es < 100 → raised es ≡ n → counts e ≡ b
+    → raised (es ++ (e ∷ [])) ≡ n / 2 + cond b (2 ^ 99) 0
+and-gathered n b es e less p q =
+    let long = length-append es (e ∷ []) in
+    let left : 100 - length (es ++ (e ∷ [])) ≡ 99 - length es = omega (arith, long) in
+    let more : 100 - length es ≡ 99 - length es + 1 = omega (arith, less) in
+    let whole : length es + (99 - length es) ≡ 99 = omega (arith, less) in
+    let top : 2 ^ length es * 2 ^ (99 - length es) ≡ 2 ^ 99 = sym (pow-add 2 (length es) (99 - length es)) ∙ ap (λ k. 2 ^ k) whole in
+    let twice : n ≡ ones_of es * (2 ^ (99 - length es) * 2) = sym p ∙ ap (λ k. ones_of es * k) (ap (λ k. 2 ^ k) more ∙ pow-add 2 (99 - length es) 1) in
+    ap₂ (λ m k. m * 2 ^ k) (ones-append es e ∙ ap (λ t. ones_of es + cond t (2 ^ length es) 0) q) left
+    ∙ raised-more (ones_of es) n (2 ^ length es) (2 ^ (99 - length es)) b top twice

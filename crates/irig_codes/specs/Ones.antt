@@ -1,5 +1,5 @@
 -- The elements of a frame that are One as the bits of a number. This project's own.
-use Rattle.std.specs.Prelude.{◌≡◌, ℕ, ◌+◌, ◌*◌, ◌/◌, ◌%◌, ◌^◌, ◌<◌, if◌then◌else◌, List, [], ◌∷◌, Option, Some, None}
+use Rattle.std.specs.Prelude.{◌≡◌, ℕ, ◌+◌, ◌-◌, ◌*◌, ◌/◌, ◌%◌, ◌^◌, ◌<◌, if◌then◌else◌, List, [], ◌∷◌, length, Option, Some, None}
 use Rattle.std.specs.Int.{bit_at}
 use Rattle.irig_codes.specs.declared.width.Element.{Element}
 use Rattle.irig_codes.specs.Reading.{counts}
@@ -8,6 +8,10 @@ use Rattle.irig_codes.specs.Reading.{counts}
 abbrev pub ones_of : List Element → ℕ
 ones_of [] = 0
 ones_of (e ∷ es) = (if counts e then 1 else 0) + 2 * ones_of es
+
+-- the same, as far too high as elements are missing from a frame
+abbrev pub raised : List Element → ℕ
+raised es = ones_of es * 2 ^ (100 - length es)
 
 -- the bits from one place on, so many of them
 abbrev pub bits_in : ℕ → ℕ → ℕ → ℕ

@@ -1,7 +1,6 @@
 //! The elements of a frame that are One, as the bits of a number.
 
-ghost use Rattle.std.specs.Prelude.{◌≡◌, ◌<◌, ◌≤◌, ◌+◌, ◌*◌, ◌^◌, if◌then◌else◌, ◌++◌, ◌∷◌, [], List, length};
-ghost use Rattle.irig_codes.specs.declared.width.Element.{Element};
+ghost use Rattle.std.specs.Prelude.{◌≡◌, ◌<◌, ◌≤◌};
 ghost use Rattle.irig_codes.specs.Ones.{ones_of, bits_in, IsLowestOutside};
 ghost use Rattle.irig_codes.specs.Reading.{counts};
 
@@ -11,7 +10,7 @@ use std::marker::Model;
 /// Which elements of a frame are One: element k, from 0, is bit k.
 #[derive(Clone, Copy, Debug, PartialEq, Eq)]
 pub struct Ones {
-    bits: u128,
+    pub(crate) bits: u128,
 }
 
 impl Model for Ones {
@@ -42,29 +41,6 @@ impl Ones {
             bits = 2 * bits + is_one(frame[99 - place]) as u128;
         }
         Ones { bits }
-    }
-
-    /// No element is One.
-    #[inline(always)]
-    pub fn none() -> Ones
-        ensures { result ≡ ones_of [] }
-    {
-        Ones { bits: 0 }
-    }
-
-    /// These, and the element whose bit has this weight, where it is One and each of these is lower.
-    #[inline(always)]
-    pub fn and(self, weight: u128, is_one: bool) -> Ones
-        requires within { weight ≤ 2 ^ 99 }
-        requires lower { self < weight }
-        ensures value { result ≡ self + (if is_one then weight else 0) }
-        ensures bound { result < 2 * weight }
-        ensures gathered { (frame : List Element) (e : Element) → 2 ^ length frame ≡ weight
-            → ones_of frame ≡ self → counts e ≡ is_one → ones_of (frame ++ (e ∷ [])) ≡ result }
-    {
-        Ones {
-            bits: self.bits + if is_one { weight } else { 0 },
-        }
     }
 
     /// The bits from an element on, so many of them, as a number.

@@ -59,7 +59,8 @@ pub fn step_in(interval: u64, distance: u64) -> bool
     ensures { result ≡ step_in interval distance }
 {
     let tenth = interval / 10;
-    9 * tenth <= distance && distance <= 11 * tenth
+    // A distance below the first of these wraps, so that one comparison tells of both bounds.
+    distance.wrapping_sub(9 * tenth) <= 2 * tenth
 }
 
 /// The width in microseconds that a pulse of this element is made with; it is told as the element.

@@ -14,7 +14,7 @@ pub fn is_position(interval: u64, width: u64) -> bool
     ensures { result ≡ is_position (class_in interval width) }
 {
     let twentieth = interval / 20;
-    13 * twentieth <= width && width < 19 * twentieth
+    width.wrapping_sub(13 * twentieth) < 6 * twentieth
 }
 
 /// Whether a width is that of a digit.
@@ -24,7 +24,8 @@ pub fn is_digit(interval: u64, width: u64) -> bool
     ensures { result ≡ is_digit (class_in interval width) }
 {
     let twentieth = interval / 20;
-    twentieth <= width && width < 13 * twentieth
+    // A width below the first of these wraps, so that one comparison tells of both bounds.
+    width.wrapping_sub(twentieth) < 12 * twentieth
 }
 
 /// Whether a digit of this width is One.

@@ -15,7 +15,7 @@ ghost use Rattle.irig_index.specs.Verdict.{verdict_of};
 use crate::band::{is_digit, is_one, is_position};
 use crate::look::add_looks;
 use crate::record::{Cause, Verdict};
-use irig_codes::{Format, Ones, decode_ones, step_in};
+use irig_codes::{Format, Gathering, decode_ones, step_in};
 use irig_track::{Lens, Pulse};
 
 /// The verdict on the frame of the marker `first`, at place `at` from 0. 99 looks at most.
@@ -62,11 +62,10 @@ fn check(lens: &mut Lens<'_>, format: Format, at: usize, first: Pulse) -> Verdic
 {
     let interval = format.interval();
     let len = lens.len();
-    let mut ones = Ones::none();
-    let mut weight = 2u128;
+    let mut ones = Gathering::none().and(false);
     let mut before = first;
     // So many digits are left before the next position identifier.
-    let mut digits = 8u8;
+    let mut digits = 8u64;
     for k in 1..100u8 {
         if at + k as usize >= len {
             return Verdict::Broken(k, Cause::Ended);
@@ -78,12 +77,11 @@ fn check(lens: &mut Lens<'_>, format: Format, at: usize, first: Pulse) -> Verdic
         let Some(one) = told(interval, pulse.fall - pulse.rise, digits == 0) else {
             return Verdict::Broken(k, Cause::Class);
         };
-        ones = ones.and(weight, one);
-        weight *= 2;
+        ones = ones.and(one);
         before = pulse;
         digits = if digits == 0 { 9 } else { digits - 1 };
     }
-    let (fields, note) = decode_ones(format, ones);
+    let (fields, note) = decode_ones(format, ones.ones());
     Verdict::Read(fields, note)
 }
 

@@ -1,11 +1,9 @@
-use Rattle.std.proofs.Common.{◌≡◌, ◌+◌, ◌-◌, ◌*◌, ◌^◌, ◌≤◌, ◌∷◌, ◌++◌, [], length, drop, slice_get, unwrap_or, true, false, cond, None, refl, ap, sym, ◌∙◌, arith, lit<, take, List}
-use Rattle.std.proofs.Math.Nat.{pow-le-pow_right}
-use Rattle.std.proofs.lemmas.Nat.{pow-add}
+use Rattle.std.proofs.Common.{◌≡◌, ◌+◌, ◌-◌, ◌≤◌, ◌∷◌, ◌++◌, [], length, drop, slice_get, unwrap_or, true, false, cond, None, refl, ap, sym, ◌∙◌, arith, take, List}
 use Rattle.std.proofs.lemmas.List.{length-append, length-take}
 use Rattle.irig_codes.specs.declared.width.Element.{Element}
-use Rattle.irig_codes.specs.declared.width.Element.TheVariants.{Zero}
+use Rattle.irig_codes.specs.declared.width.Element.TheVariants.{Zero, Position}
 use Rattle.irig_codes.specs.Decoding.{decoded}
-use Rattle.irig_codes.specs.Ones.{ones_of}
+use Rattle.irig_codes.specs.Ones.{raised}
 use Rattle.irig_codes.specs.Reading.{counts}
 use Rattle.irig_codes.specs.Width.{class_in, step_in}
 use Rattle.irig_track.specs.Looks.{lens_view}
@@ -32,9 +30,7 @@ loop-k-init c =
       lens = refl;
       before = (let same : c.args.at + 1 - 1 ≡ c.args.at = omega arith in ap (slice_get c.args.lens.now.track.pulses) same ∙ c.requires.first);
       long = ap (λ (xs : List Element). length xs) first_element;
-      weight = refl;
-      bound = omega (arith, c.none-ones.ensures);
-      ones = ap (λ (xs : List Element). ones_of xs) first_element ∙ sym c.none-ones.ensures;
+      ones = ap (λ (xs : List Element). raised xs) first_element ∙ c.and-ones.ensures [] Position (omega arith) (sym c.none.ensures) refl;
       rest = refl;
       digits = refl;
       digit = λ nine. absurd (omega (arith, nine));
@@ -81,12 +77,6 @@ returns-in_default-clause-verdict c =
     let fails = fault-class f ps c.args.at k c.loop-k.before (omega arith) (omega arith) c.loop-k.invariant.before p here on off in
     sym (ap (judged f (frame_at ps c.args.at)) (sym c.loop-k.invariant.rest ∙ first_fault-here f _ (100 - k) (99 - k) k (omega arith) Class fails))
 
-pub and-ones-requires-clause-within : goal.and-ones-requires-clause-within
-and-ones-requires-clause-within c = omega (arith, c.loop-k.invariant.weight, pow-le-pow_right {n = 2} (lit< tt) {i = c.loop-k.k} {j = 99} (omega arith))
-
-pub overflow_mul-weight : goal.overflow_mul-weight
-overflow_mul-weight c = omega (arith, c.loop-k.invariant.weight, pow-le-pow_right {n = 2} (lit< tt) {i = c.loop-k.k} {j = 99} (omega arith))
-
 pub loop-k-preserved : goal.loop-k-preserved
 loop-k-preserved c =
     let f = c.args.format in
@@ -114,9 +104,7 @@ loop-k-preserved c =
       lens = lens_next c.args.lens.now c.loop-k.lens _ (k - 1) so_far.lens c.pulse-pulse.ensures.counted ∙ ap (λ n. lens_view c.args.lens.now.track (after_looks c.args.lens.now.looks n)) made;
       before = ap (slice_get ps) next ∙ here;
       long = ap (λ (xs : List Element). length xs) grown ∙ (length-append gathered (e ∷ []) ∙ ap (λ n. n + 1) so_far.long);
-      weight = ap (λ n. n * 2) so_far.weight ∙ sym (pow-add 2 k 1);
-      bound = omega (arith, c.and-ones.ensures.bound);
-      ones = ap (λ (xs : List Element). ones_of xs) grown ∙ c.and-ones.ensures.gathered gathered e (ap (λ n. 2 ^ n) so_far.long ∙ sym so_far.weight) so_far.ones one;
+      ones = ap (λ (xs : List Element). raised xs) grown ∙ c.and-ones-in-loop-k.ensures gathered e (omega (arith, so_far.long)) so_far.ones one;
       rest = ap (λ n. first_fault f w n (k + 1)) fuel ∙ (sym (first_fault-next f w (100 - k) (99 - k) k (omega arith) sound) ∙ so_far.rest);
       digits = elim c.if-digits-eq0.branch [
         | then-digits-eq0 w ↦ omega (arith, w.digits-is, w.if-digits-eq0.true, so_far.digits)
@@ -136,7 +124,8 @@ returns-clause-verdict c =
     sym c.loop-k.invariant.rest ∙ (ap (λ n. first_fault f w n k) done ∙ first_fault-zero f w k)) in
     let whole : k ≡ 100 = omega arith in
     let all : elements_of f (take k w) ≡ elements_of f w = ap (elements_of f) (take-all w k (omega (arith, length-take 100 (drop c.args.at c.args.lens.now.track.pulses)))) in
-    let read = c.decode_ones-note.ensures (elements_of f (take k w)) (c.loop-k.invariant.long ∙ whole) c.loop-k.invariant.ones in
+    let read = c.decode_ones-note.ensures (elements_of f (take k w)) (c.loop-k.invariant.long ∙ whole)
+    (c.ones.ensures (elements_of f (take k w)) (c.loop-k.invariant.long ∙ whole) c.loop-k.invariant.ones) in
     ap (λ d. Read d.0 d.1) (read ∙ ap (decoded f) all) ∙ sym (ap (judged f w) none)
 
 pub returns-clause-looked : goal.returns-clause-looked

@@ -1,5 +1,5 @@
-use Rattle.std.proofs.Common.{◌≡◌, ℕ, ◌+◌, ◌-◌, ◌%◌, ◌^◌, ◌<◌, ◌≤◌, [], false, length, slice_get, take, Some}
-use Rattle.irig_codes.specs.Ones.{ones_of}
+use Rattle.std.proofs.Common.{◌≡◌, ℕ, ◌+◌, ◌-◌, ◌%◌, ◌<◌, ◌≤◌, [], false, length, slice_get, take, Some}
+use Rattle.irig_codes.specs.Ones.{raised}
 use Rattle.irig_track.specs.Looks.{lens_view}
 use Rattle.irig_index.specs.Frames.{frame_at, record_after}
 use Rattle.irig_index.specs.Looked.{after_looks}
@@ -13,9 +13,7 @@ invariant-loop-k l = record {
   lens : l.lens ≡ lens_view l.fn.lens.track (after_looks l.fn.lens.looks (l.k - 1));
   before : slice_get l.fn.lens.track.pulses (l.at + l.k - 1) ≡ Some l.before;
   long : length (elements_of l.format (take l.k (frame_at l.fn.lens.track.pulses l.at))) ≡ l.k;
-  weight : l.weight ≡ 2 ^ l.k;
-  bound : l.ones < l.weight;
-  ones : ones_of (elements_of l.format (take l.k (frame_at l.fn.lens.track.pulses l.at))) ≡ l.ones;
+  ones : raised (elements_of l.format (take l.k (frame_at l.fn.lens.track.pulses l.at))) ≡ l.ones;
   rest : first_fault l.format (frame_at l.fn.lens.track.pulses l.at) (100 - l.k) l.k
       ≡ first_fault l.format (frame_at l.fn.lens.track.pulses l.at) 99 1;
   digits : l.digits ≡ 9 - l.k % 10;

@@ -1,0 +1,56 @@
+//! The elements of a frame that are One, gathered one by one.
+
+ghost use Rattle.std.specs.Prelude.{◌≡◌, ◌<◌, ◌++◌, ◌∷◌, [], List, length};
+ghost use Rattle.irig_codes.specs.declared.width.Element.{Element};
+ghost use Rattle.irig_codes.specs.Ones.{ones_of, raised};
+ghost use Rattle.irig_codes.specs.Reading.{counts};
+
+use crate::ones::Ones;
+use std::marker::Model;
+
+/// Which elements of a frame are One, as far as it goes: each comes in at the top, and moves the others
+/// one place down, so that no weight is kept.
+#[derive(Clone, Copy)]
+pub struct Gathering {
+    bits: u128,
+}
+
+impl Model for Gathering {
+    ghost use Rattle.std.specs.Prelude.{ℕ};
+
+    ghost Value = { ℕ };
+
+    ghost view = { λ g. g.bits };
+
+    ghost inverse = { λ n. record { bits = n } };
+}
+
+impl Gathering {
+    /// No element is One so far.
+    #[inline(always)]
+    pub fn none() -> Gathering
+        ensures { result ≡ 0 }
+    {
+        Gathering { bits: 0 }
+    }
+
+    /// These, and one element more.
+    #[inline(always)]
+    pub fn and(self, is_one: bool) -> Gathering
+        ensures { (frame : List Element) (e : Element) → length frame < 100 → raised frame ≡ self
+            → counts e ≡ is_one → raised (frame ++ (e ∷ [])) ≡ result }
+    {
+        Gathering {
+            bits: self.bits / 2 + if is_one { 1 << 99 } else { 0 },
+        }
+    }
+
+    /// Which elements of a whole frame are One.
+    #[inline(always)]
+    pub fn ones(self) -> Ones
+        ensures { (frame : List Element) → length frame ≡ 100 → raised frame ≡ self
+            → ones_of frame ≡ result }
+    {
+        Ones { bits: self.bits }
+    }
+}
