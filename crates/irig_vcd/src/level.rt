@@ -1,6 +1,6 @@
 //! The edges of a level that is told by its changes.
 
-ghost use Rattle.std.specs.Prelude.{◌≡◌, ◌≤◌, ◌∷◌, [], ◌++◌, ℕ, List, All, AllPairs, OnOk, OnErr, IfOk, map, length, take, if◌then◌else◌};
+ghost use Rattle.std.specs.Prelude.{◌≡◌, ◌≤◌, ◌^◌, true, ◌∷◌, [], ◌++◌, ℕ, List, All, AllPairs, OnOk, OnErr, IfOk, map, length, take, if◌then◌else◌};
 ghost use Rattle.irig_vcd.specs.Level.{edges_of, edges_kept, differs, Follows};
 ghost use Rattle.irig_vcd.specs.declared.level.Change.{Change};
 
@@ -42,6 +42,7 @@ impl Reader {
         ensures ok { OnOk result
             ((changes : List Change) → Follows changes self.old → Follows changes self.new) }
         ensures time { OnOk result (self.new.time ≡ time) }
+        ensures refused { OnErr result (length self.old.edges.items ≤ 2 ^ 23) }
     {
         if time <= self.time {
             return Ok(());
@@ -59,6 +60,7 @@ impl Reader {
             ((changes : List Change) → Follows changes self.old
             → Follows (changes ++ change ∷ []) self.new) }
         ensures time { OnOk result (self.new.time ≡ change.time) }
+        ensures refused { OnErr result (length self.old.edges.items ≤ 2 ^ 23) }
     {
         self.advance(change.time)?;
         self.now = change.high;
@@ -85,11 +87,13 @@ pub fn differ(level: bool, other: bool) -> bool
     level != other
 }
 
-/// Puts an edge, where there is one, behind the others, unless there is one too many already.
+/// Puts an edge, where there is one, behind the others, unless there is one too many already: then
+/// no memory is asked for.
 fn keep(edges: &mut Vec<u64>, is_edge: bool, edge: u64) -> Result<(), AllocError>
-    ensures { OnOk result
+    ensures ok { OnOk result
         ((all : List ℕ) → edges.old.items ≡ take edges_kept all
         → edges.new.items ≡ take edges_kept (all ++ (if is_edge then edge ∷ [] else []))) }
+    ensures refused { OnErr result ((is_edge ≡ true) × (length edges.old.items ≤ 2 ^ 23)) }
 {
     if !is_edge {
         return Ok(());
