@@ -1,25 +1,26 @@
 -- A change is taken back by the change that it leaves. This project's own.
-use Rattle.std.proofs.Common.{◌≡◌, ◌<◌, ◌≤◌, ℕ, neg_ℤ, List, length, refl, ap, sym, subst, ◌∙◌, arith}
+use Rattle.std.proofs.Common.{◌≡◌, ◌<◌, ◌≤◌, ℕ, neg_ℤ, List, length, refl, ap, ◌∙◌, arith}
 use Rattle.std.proofs.Math.IntN.{neg_ℤ-neg_ℤ}
-use Rattle.irig_vcd.specs.Recording.{IsRecording}
 use Rattle.irig_track.specs.Edges.{edges_of}
 use Rattle.irig_track.specs.Splices.{piece}
 use Rattle.irig_track.specs.Toggles.{toggled}
 use Rattle.irig_track.proofs.Inverses.{piece-spliced, spliced-spliced, can_splice_back, toggled-toggled, can_toggle_back, Opposite-neg, shifted-shifted, can_shift_back}
 use Rattle.irig_track.proofs.Carried.{length-piece}
-use Rattle.irig_track.proofs.Recordings.{track_of}
 use Rattle.irig_edit.specs.State.{State, IsState, state, with_pulses}
 use Rattle.irig_edit.specs.EdgeLaws.{edges_of-toggled, pulses_of-edges_of}
-use Rattle.irig_edit.specs.MarkLaws.{length-marks_moved, marks_back, marks_within, may_move_back}
-use Rattle.irig_edit.specs.SetMarkLaws.{all-set, length-set, mark_back, mark_read, mark_within}
+use Rattle.irig_edit.specs.MarkLaws.{marks_back, may_move_back}
+use Rattle.irig_edit.specs.SetMarkLaws.{mark_back, mark_read, mark_within}
 use Rattle.irig_edit.specs.Delta.{Delta, Fits, turned, pulses_of}
 use Rattle.irig_edit.specs.Delta.Delta.{Spliced, Toggled, Shifted, Formatted, Marked}
 
 -- the change that leads back can be made
-pub Fits-turned : (s : State) (d : Delta) → IsState s → Fits s d → Fits (turned s d).0 (turned s d).1
-Fits-turned s (Spliced at count put) is can = can_splice_back s.micros at count put s.pulses is.track can.there
+pub Fits-turned : (s : State) (d : Delta) → IsState s → Fits s d
+    → Fits (turned s d).0 (turned s d).1
+Fits-turned s (Spliced at count put) is can =
+    can_splice_back s.micros at count put s.pulses is.track can.there
 Fits-turned s (Toggled a b) is can =
-    can_toggle_back s.micros a b s.pulses (pulses_of (toggled a b (edges_of s.pulses))) is.track can (edges_of-toggled s.micros a b s.pulses can)
+    can_toggle_back s.micros a b s.pulses (pulses_of (toggled a b (edges_of s.pulses))) is.track can
+    (edges_of-toggled s.micros a b s.pulses can)
 Fits-turned s (Shifted i j d named) is can = (
   can_shift_back s.micros i j d (neg_ℤ d) s.pulses (Opposite-neg d) can.0 is.track,
   may_move_back s.micros d (neg_ℤ d) named s.marks (Opposite-neg d) is.marks can.1,
@@ -40,9 +41,11 @@ turned-turned s (Spliced at count put) is can =
     (λ k. (with_pulses (state_is k) s, Spliced at (long k) (put_is k)))
 turned-turned s (Toggled a b) is can =
     let edges = edges_of-toggled s.micros a b s.pulses can in
-    let pulses : pulses_of (toggled a b (edges_of (pulses_of (toggled a b (edges_of s.pulses))))) ≡ s.pulses =
+    let pulses : pulses_of (toggled a b (edges_of (pulses_of (toggled a b (edges_of s.pulses)))))
+    ≡ s.pulses =
     ap (λ (es : List ℕ). pulses_of (toggled a b es)) edges
-    ∙ (ap pulses_of (toggled-toggled a b (edges_of s.pulses) can.order is.track.rises) ∙ pulses_of-edges_of s.pulses) in
+    ∙ (ap pulses_of (toggled-toggled a b (edges_of s.pulses) can.order is.track.rises)
+    ∙ pulses_of-edges_of s.pulses) in
     (λ k. (with_pulses (pulses k) s, Toggled a b))
 turned-turned s (Shifted i j d named) is can =
     let opposite = Opposite-neg d in
@@ -56,27 +59,3 @@ turned-turned s (Marked letter time) is can =
     let marks = mark_back letter time s.marks there in
     let read = mark_read letter time s.marks there in
     (λ k. (state s.micros s.pulses s.format (marks k), Marked letter (read k)))
-
--- a change leaves a state within the limits
-pub IsState-turned : (s : State) (d : Delta) → IsState s → Fits s d → IsState (turned s d).0
-IsState-turned s (Spliced at count put) is can = record { track = can.track; letters = is.letters; marks = is.marks }
-IsState-turned s (Toggled a b) is can =
-    let edges = edges_of-toggled s.micros a b s.pulses can in
-    record {
-      track = track_of s.micros (pulses_of (toggled a b (edges_of s.pulses))) (subst (IsRecording s.micros) (sym edges) can.track);
-      letters = is.letters;
-      marks = is.marks;
-    }
-IsState-turned s (Shifted i j d named) is can = record {
-  track = can.0.track;
-  letters = length-marks_moved d named s.marks ∙ is.letters;
-  marks = marks_within s.micros d named s.marks is.marks can.1;
-}
-IsState-turned s (Formatted f) is can = record { track = is.track; letters = is.letters; marks = is.marks }
-IsState-turned s (Marked letter time) is can =
-    let there : letter < length s.marks = omega (arith, is.letters, can.0) in
-    record {
-      track = is.track;
-      letters = length-set letter time s.marks ∙ is.letters;
-      marks = all-set s.micros letter time s.marks can.1 is.marks;
-    }

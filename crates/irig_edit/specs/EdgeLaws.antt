@@ -15,7 +15,8 @@ pub edges_of-pulses_of : (xs : List ℕ) → is_even_long xs ≡ true → edges_
 edges_of-pulses_of [] even = refl
 edges_of-pulses_of (x ∷ []) even = let bad : false ≡ true = even in cc
 edges_of-pulses_of (x ∷ y ∷ xs) even =
-    ap (λ (zs : List ℕ). x ∷ y ∷ zs) (edges_of-pulses_of xs (sym (not-not (is_even_long xs)) ∙ even)) where
+    ap (λ (zs : List ℕ). x ∷ y ∷ zs)
+    (edges_of-pulses_of xs (sym (not-not (is_even_long xs)) ∙ even)) where
       not-not : (b : Bool) → not (not b) ≡ b
       not-not true = refl
       not-not false = refl

@@ -22,3 +22,4 @@ pub mod Runs
 pub mod Session
 pub mod SetMarkLaws
 pub mod State
+pub mod StateLaws

@@ -1,0 +1,39 @@
+-- A change of a state within the limits leaves one within them. This project's own.
+use Rattle.std.proofs.Common.{◌≡◌, ◌<◌, length, sym, subst, ◌∙◌, arith}
+use Rattle.irig_vcd.specs.Recording.{IsRecording}
+use Rattle.irig_track.specs.Edges.{edges_of}
+use Rattle.irig_track.specs.Toggles.{toggled}
+use Rattle.irig_track.proofs.Recordings.{track_of}
+use Rattle.irig_edit.specs.Delta.{Delta, Fits, turned, pulses_of}
+use Rattle.irig_edit.specs.Delta.Delta.{Spliced, Toggled, Shifted, Formatted, Marked}
+use Rattle.irig_edit.specs.EdgeLaws.{edges_of-toggled}
+use Rattle.irig_edit.specs.MarkLaws.{length-marks_moved, marks_within}
+use Rattle.irig_edit.specs.SetMarkLaws.{all-set, length-set}
+use Rattle.irig_edit.specs.State.{State, IsState}
+
+-- a change leaves a state within the limits
+pub IsState-turned : (s : State) (d : Delta) → IsState s → Fits s d → IsState (turned s d).0
+IsState-turned s (Spliced at count put) is can =
+    record { track = can.track; letters = is.letters; marks = is.marks }
+IsState-turned s (Toggled a b) is can =
+    let edges = edges_of-toggled s.micros a b s.pulses can in
+    record {
+      track = track_of s.micros (pulses_of (toggled a b (edges_of s.pulses)))
+          (subst (IsRecording s.micros) (sym edges) can.track);
+      letters = is.letters;
+      marks = is.marks;
+    }
+IsState-turned s (Shifted i j d named) is can = record {
+  track = can.0.track;
+  letters = length-marks_moved d named s.marks ∙ is.letters;
+  marks = marks_within s.micros d named s.marks is.marks can.1;
+}
+IsState-turned s (Formatted f) is can =
+    record { track = is.track; letters = is.letters; marks = is.marks }
+IsState-turned s (Marked letter time) is can =
+    let there : letter < length s.marks = omega (arith, is.letters, can.0) in
+    record {
+      track = is.track;
+      letters = length-set letter time s.marks ∙ is.letters;
+      marks = all-set s.micros letter time s.marks can.1 is.marks;
+    }
