@@ -1,14 +1,16 @@
 -- What a reply to a command makes of its line.
-use Rattle.std.proofs.Common.{◌≡◌, ◌≤◌, ℕ, Bool, true, false, List, length}
+use Rattle.std.proofs.Common.{◌≡◌, ◌≤◌, ℕ, Bool, true, false, List, Option, length, arith}
 use Rattle.irig_codes.specs.Format.{FormatView, is_permitted}
 use Rattle.irig_script.specs.Obey.Answer.{Step}
 use Rattle.irig_script.specs.Script.Grammar.{Means}
+use Rattle.irig_script.specs.Obey.Desk.{IsQuiet, Puts}
 use Rattle.irig_script.specs.Obey.Machine.{Machine}
 use Rattle.irig_script.specs.Obey.Obeying.{Formats, Obeys, format}
 use Rattle.irig_script.specs.declared.script.command.Command.{Command}
 use Rattle.irig_script.specs.declared.script.command.Command.TheVariants as command
 use Rattle.irig_script.specs.declared.print.reply.Reply.{Reply}
 use Rattle.irig_script.specs.declared.print.reply.Reply.TheVariants as told
+use Rattle.irig_script.proofs.Lines.{grows_none}
 
 -- no command is too long, or none of the language
 not_long_format : (v : Bool) (f : FormatView) (old new : Machine) → Formats v f old told.LineTooLong new → ⊥
@@ -77,3 +79,16 @@ obeyed_step c old new line told.Marks h m o = (h, (c, m, o))
 obeyed_step c old new line told.Info h m o = (h, (c, m, o))
 obeyed_step c old new line (told.Refused w) h m o = (h, (c, m, o))
 obeyed_step c old new line told.WriteFailed h m o = (h, (c, m, o))
+
+-- a quiet reply puts nothing
+pub quiet_puts : (texts : Option (List (List ℕ))) (failures : ℕ) (m : Machine) (r : Reply) → IsQuiet r → Puts texts texts failures failures m r
+quiet_puts texts failures m (told.Written n) q = absurd q
+quiet_puts texts failures m told.WriteFailed q = absurd q
+quiet_puts texts failures m told.Silent q = record { put = grows_none texts; failed = omega arith }
+quiet_puts texts failures m (told.Listed b n) q = record { put = grows_none texts; failed = omega arith }
+quiet_puts texts failures m told.Frames q = record { put = grows_none texts; failed = omega arith }
+quiet_puts texts failures m told.Marks q = record { put = grows_none texts; failed = omega arith }
+quiet_puts texts failures m told.Info q = record { put = grows_none texts; failed = omega arith }
+quiet_puts texts failures m (told.Refused w) q = record { put = grows_none texts; failed = omega arith }
+quiet_puts texts failures m told.BadLine q = record { put = grows_none texts; failed = omega arith }
+quiet_puts texts failures m told.LineTooLong q = record { put = grows_none texts; failed = omega arith }

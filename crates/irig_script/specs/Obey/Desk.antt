@@ -6,7 +6,7 @@ use Rattle.irig_script.specs.Obey.Machine.{Machine}
 use Rattle.irig_script.specs.Obey.Answer.{texts_put}
 use Rattle.irig_script.specs.Print.Printed.{Answer}
 use Rattle.irig_script.specs.declared.print.reply.Reply.{Reply}
-use Rattle.irig_script.specs.declared.print.reply.Reply.TheVariants.{Refused, BadLine, LineTooLong, WriteFailed}
+use Rattle.irig_script.specs.declared.print.reply.Reply.TheVariants.{Written, Refused, BadLine, LineTooLong, WriteFailed}
 use Rattle.irig_script.specs.declared.obey.status.Status.{Status}
 use Rattle.irig_script.specs.declared.obey.status.Status.TheVariants.{SomeRefused}
 
@@ -20,12 +20,18 @@ GrowsBy (Some xs) (Some ys) texts = ys ≡ xs ++ texts
 abbrev pub Fails : ℕ → ℕ → ℕ → Type 0
 Fails old new count = min (old + count) (2 ^ 64 - 1) ≤ new
 
--- whether a reply tells of a failure of the shelf
+-- how many failures of the shelf a reply tells
 abbrev pub failures_of : Reply → ℕ
 failures_of WriteFailed = 1
 failures_of _ = 0
 
--- how many answers do
+-- a reply that tells of no put, and of no failure of the shelf
+abbrev pub IsQuiet : Reply → Type 0
+IsQuiet (Written count) = ⊥
+IsQuiet WriteFailed = ⊥
+IsQuiet _ = Unit {0}
+
+-- how many some answers do
 abbrev pub failures_in : List Answer → ℕ
 failures_in [] = 0
 failures_in (answer ∷ answers) = failures_of answer.reply + failures_in answers

@@ -2,7 +2,7 @@
 
 ghost use Rattle.std.specs.Prelude.{◌≡◌, ◌≢◌};
 ghost use Rattle.irig_script.specs.Obey.Obeying.{Obeys, Writes};
-ghost use Rattle.irig_script.specs.Obey.Desk.{Puts};
+ghost use Rattle.irig_script.specs.Obey.Desk.{IsQuiet, Puts};
 ghost use Rattle.irig_script.specs.Obey.Going.{Answers, PutsFor};
 ghost use Rattle.irig_script.specs.declared.script.command.Command.{Command};
 
@@ -28,20 +28,21 @@ pub fn obey_line<S: Shelf>(line: &Line, session: &mut Session, shelf: &mut S) ->
     };
     match parse_line(text) {
         Ok(Command::Quit) => None,
-        Ok(command) => Some(obey(command, session, shelf)),
+        Ok(Command::Write) => Some(write(session, shelf)),
+        Ok(command) => Some(obey(command, session)),
         Err(BadLine) => Some(Reply::BadLine),
     }
 }
 
-/// Obeys a command that does not end the script.
-fn obey<S: Shelf>(command: Command, session: &mut Session, shelf: &mut S) -> Reply
-    requires { command ≢ Command.Quit }
+/// Obeys a command that neither puts a text nor ends the script.
+fn obey(command: Command, session: &mut Session) -> Reply
+    requires goes_on { command ≢ Command.Quit }
+    requires puts_none { command ≢ Command.Write }
     ensures answer { Obeys command session.old result session.new }
-    ensures put { Puts (S.texts shelf.old) (S.texts shelf.new)
-        (S.failures shelf.old) (S.failures shelf.new) session.old result }
+    ensures quiet { IsQuiet result }
 {
     match command {
-        Command::Nothing | Command::Quit => Reply::Silent,
+        Command::Nothing | Command::Write | Command::Quit => Reply::Silent,
         Command::Show(address) => show(session, address),
         Command::List(range) => list(session, range),
         Command::Delete(range) => delete(session, range),
@@ -62,7 +63,6 @@ fn obey<S: Shelf>(command: Command, session: &mut Session, shelf: &mut S) -> Rep
         Command::Frames => Reply::Frames,
         Command::Marks => Reply::Marks,
         Command::Info => Reply::Info,
-        Command::Write => write(session, shelf),
     }
 }
 

@@ -3,7 +3,7 @@ use Rattle.irig_script.specs.Script.Grammar.{Means}
 use Rattle.irig_script.specs.declared.script.command.Command.{Command}
 use Rattle.irig_script.specs.declared.script.command.Command.TheVariants as command
 use Rattle.irig_script.proofs.Quits.{bad_goes_on, other_goes_on, quit_ends}
-use Rattle.irig_script.proofs.Steps.{obeyed_step}
+use Rattle.irig_script.proofs.Steps.{obeyed_step, quiet_puts}
 use Rattle.irig_script.proofs.obey.obeying.obey_line.Goals as goal
 
 pub returns-in-Ok-Quit-clause-answer : goal.returns-in-Ok-Quit-clause-answer
@@ -15,6 +15,14 @@ returns-in-Ok-Quit-clause-answer g c =
       refl,
     )
 
+pub returns-in-Ok-Write-clause-answer : goal.returns-in-Ok-Write-clause-answer
+returns-in-Ok-Write-clause-answer g c = λ text h.
+    let meant : Means command.Write c.in-Some.text.now = search rules in
+    let whole = c.in-Some.ensures.whole text h in
+    let told : Means command.Write text = subst (λ (l : List ℕ). Means command.Write l) whole.0 meant in
+    let more : command.Write ≢ command.Quit = search rules in
+    (other_goes_on command.Write text told more, obeyed_step command.Write c.args.session.now c.args.session.now text c.write.result whole.1 told (c.write.ensures.answer, refl))
+
 pub returns-in-Ok : goal.returns-in-Ok
 returns-in-Ok g c =
     let more : c.in-Ok.command ≢ command.Quit = search rules in
@@ -23,7 +31,7 @@ returns-in-Ok g c =
           (let whole = c.in-Some.ensures.whole text h in
           let meant : Means c.in-Ok.command text = subst (λ (l : List ℕ). Means c.in-Ok.command l) whole.0 c.in-Ok.ensures.meant in
           (other_goes_on c.in-Ok.command text meant more, obeyed_step c.in-Ok.command c.args.session.now c.obey.new.session text c.obey.result whole.1 meant c.obey.ensures.answer));
-      put = c.obey.ensures.put;
+      put = quiet_puts _ _ _ _ c.obey.ensures.quiet;
     }
 
 pub returns-in-Err-clause-answer : goal.returns-in-Err-clause-answer
