@@ -1,5 +1,5 @@
 -- Words that are there, one after another, and words that ask for nothing.
-use Rattle.std.proofs.Common.{◌≡◌, ◌≤◌, ◌∷◌, [], ℕ, List, Option, Some, None, length, refl, sym, ap, ◌∙◌, subst, arith}
+use Rattle.std.proofs.Common.{◌≡◌, ◌≤◌, ◌∷◌, [], ℕ, List, Some, length, sym, ap, ◌∙◌, subst, arith}
 use Rattle.irig_moment.specs.Moment.{MomentView}
 use Rattle.irig_moment.specs.Written.{moment_of}
 use Rattle.std.specs.Prelude.{Result, OnErr}

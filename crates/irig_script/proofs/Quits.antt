@@ -1,5 +1,5 @@
 -- Which lines end a script.
-use Rattle.std.proofs.Common.{◌≡◌, ◌≢◌, ◌==◌, ◌&&◌, ◌≤◌, ◌∷◌, [], ℕ, Bool, true, false, not, List, length, nat_lt, refl, ap, sym, ◌∙◌, subst, arith}
+use Rattle.std.proofs.Common.{◌≡◌, ◌≢◌, ◌==◌, ◌&&◌, ◌≤◌, ◌∷◌, [], ℕ, Bool, true, false, not, List, length, nat_lt, refl, sym, subst, arith}
 use Rattle.std.proofs.lemmas.Bool.Decides.{nat_tests}
 use Rattle.irig_script.specs.Script.Grammar.{Asks, AsksIn, Means, MeansIn, Parts, is_nothing, parts_in, parts_of}
 use Rattle.irig_script.specs.Script.Keywords.{is_missing, keyword_of}

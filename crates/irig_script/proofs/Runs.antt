@@ -5,7 +5,7 @@ use Rattle.std.specs.Io.KnownBytes.{Consumes, IsAtEnd}
 use Rattle.std.proofs.lemmas.List.{append-nil}
 use Rattle.std.proofs.lemmas.Grind.{flat_map-append}
 use Rattle.irig_script.specs.Obey.Machine.{Machine}
-use Rattle.irig_script.specs.Script.Lines.{until_quit, script_lines, lines_of, is_quit}
+use Rattle.irig_script.specs.Script.Lines.{until_quit, script_lines, lines_of}
 use Rattle.irig_script.specs.Print.Printed.{Answer, printed}
 use Rattle.irig_script.specs.Obey.Desk.{Desk, Tells, status_after}
 use Rattle.irig_script.specs.Obey.Run.{Runs, Ran, Broke, Stopped, unlines}

@@ -1,5 +1,5 @@
 -- What a reply to a command makes of its line.
-use Rattle.std.proofs.Common.{◌≡◌, ◌≤◌, ℕ, Bool, true, false, List, Option, length, arith}
+use Rattle.std.proofs.Common.{◌≤◌, ℕ, Bool, true, false, List, Option, length, arith}
 use Rattle.irig_codes.specs.Format.{FormatView, is_permitted}
 use Rattle.irig_script.specs.Obey.Answer.{Step}
 use Rattle.irig_script.specs.Script.Grammar.{Means}

@@ -1,5 +1,5 @@
 -- How a text is cut at the first byte of some kind, and a line into its words. This project's own.
-use Rattle.std.specs.Prelude.{◌==◌, ℕ, suc, Bool, true, false, not, ◌||◌, List, [], ◌∷◌, take, drop, if◌then◌else◌}
+use Rattle.std.specs.Prelude.{◌==◌, ℕ, Bool, false, not, ◌||◌, List, [], ◌∷◌, if◌then◌else◌}
 use Rattle.irig_script.specs.Script.Numbers.{is_sign}
 use Rattle.irig_script.specs.declared.script.cutting.Stop.{Stop}
 use Rattle.irig_script.specs.declared.script.cutting.Stop.TheVariants.{Blank, Text, Sign, Comma}

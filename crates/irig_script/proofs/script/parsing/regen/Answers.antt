@@ -1,4 +1,4 @@
-use Rattle.std.proofs.Common.{◌≡◌, ◌∷◌, refl, ap, sym, ◌∙◌, subst, List, ℕ, Some}
+use Rattle.std.proofs.Common.{◌∷◌, refl, ap, sym, ◌∙◌, subst, List, ℕ}
 use Rattle.irig_moment.specs.Written.{moment_of}
 use Rattle.irig_script.specs.Script.Addresses.{IsTime}
 use Rattle.irig_script.specs.Script.Grammar.{AreControls, Asks}
