@@ -6,7 +6,7 @@ ghost use Rattle.irig_index.specs.Frames.{frames};
 use super::helpers::{Edit, back, holds, rebuilt, repaired, sound};
 use crate::{Cause, Index, Record, Verdict, frames_are_the_markers, verdicts_are_first_faults};
 use irig_codes::{Fields, Format, Kind, Note};
-use irig_track::Track;
+use irig_track::{Lens, Track};
 use std::alloc::{AllocError, Global};
 use std::test::Fail;
 
@@ -53,31 +53,40 @@ fn both_hold(
     Ok(few && holds(index, records) && holds(other, records))
 }
 
-#[test]
-fn a_sound_track_is_read_with_few_looks(rt: HostRuntime) -> Result<(), Fail> {
-    let format = Format::new(Kind::G, 2).expect(&rt, "G permits expression 2");
-    let track = sound(rt.alloc(), 200)?;
+/// Whether the two frames of a sound track are read, with as few looks as they take.
+fn is_read(index: &Index, lens: &Lens<'_>) -> bool {
     // The pass goes over two places where the pulse behind the first is no position identifier: those
     // are 1, 3, 5, 7 and 10, 12 .. 98 in the first frame and as many in the second, 98 looks. At 9,
     // 100 and 109 it meets one, and looks at the pulse before it too: 6 looks. The frame of the one
     // marker takes 99 more.
+    let looks = 98 + 6 + 99;
+    let room = index.room() + index.len() >= 1;
+    room && holds(index, &[second_frame(100)]) && index.looks() == looks && lens.looks() == looks
+}
+
+#[test]
+fn a_sound_track_is_read_with_few_looks(rt: HostRuntime) -> Result<(), Fail> {
+    let format = Format::new(Kind::G, 2).expect(&rt, "G permits expression 2");
+    let track = sound(rt.alloc(), 200)?;
     let mut lens = track.lens();
     let index = Index::build(rt.alloc(), &mut lens, format)?;
-    assert!(rt; holds(&index, &[second_frame(100)]));
-    assert_eq!(rt; index.looks(), 98 + 6 + 99);
-    assert_eq!(rt; lens.looks(), 98 + 6 + 99);
-    assert!(rt; index.room() + index.len() >= 1);
+    assert!(rt; is_read(&index, &lens));
     verdicts_are_first_faults();
     frames_are_the_markers();
     Ok(())
 }
 
-#[test]
-fn frames_are_read_or_broken_where_they_are(rt: HostRuntime) -> Result<(), Fail> {
-    let format = Format::new(Kind::G, 2).expect(&rt, "G permits expression 2");
-    let mut track = sound(rt.alloc(), 200)?;
-    let mut index = Index::build(rt.alloc(), &mut track.lens(), format)?;
-    let mut other = Index::build(rt.alloc(), &mut track.lens(), format)?;
+/// Whether both indexes hold the records of each row, and those of the sound track once its edit is
+/// taken back.
+fn rows_hold(
+    alloc: Global,
+    track: &mut Track,
+    index: &mut Index,
+    other: &mut Index,
+    format: Format,
+) -> Result<bool, AllocError>
+    requires { index.old.records ≡ frames format track.old.pulses }
+{
     let rows: [(Edit, &[Record]); 8] = [
         // P0 becomes a One, so that no marker is left.
         (Edit::Invert(9_950, 9_980), &[]),
@@ -101,31 +110,22 @@ fn frames_are_read_or_broken_where_they_are(rt: HostRuntime) -> Result<(), Fail>
         (Edit::Invert(8_100, 8_120), &[second_frame(99)]),
         (Edit::Move(140, 20), &[broken(100, 40, Cause::Step)]),
     ];
+    let sound = [second_frame(100)];
+    let mut hold = true;
     for (edit, records) in rows {
-        assert!(rt;
-            both_hold(
-                rt.alloc(),
-                &mut track,
-                &mut index,
-                &mut other,
-                edit,
-                records,
-                format
-            )?
-        );
-        let sound = [second_frame(100)];
-        assert!(rt;
-            both_hold(
-                rt.alloc(),
-                &mut track,
-                &mut index,
-                &mut other,
-                back(edit),
-                &sound,
-                format
-            )?
-        );
+        hold &= both_hold(alloc, track, index, other, edit, records, format)?;
+        hold &= both_hold(alloc, track, index, other, back(edit), &sound, format)?;
     }
+    Ok(hold)
+}
+
+#[test]
+fn frames_are_read_or_broken_where_they_are(rt: HostRuntime) -> Result<(), Fail> {
+    let format = Format::new(Kind::G, 2).expect(&rt, "G permits expression 2");
+    let mut track = sound(rt.alloc(), 200)?;
+    let mut index = Index::build(rt.alloc(), &mut track.lens(), format)?;
+    let mut other = Index::build(rt.alloc(), &mut track.lens(), format)?;
+    assert!(rt; rows_hold(rt.alloc(), &mut track, &mut index, &mut other, format)?);
     Ok(())
 }
 
