@@ -1,6 +1,6 @@
 //! The twin as an editor: a track in a gap buffer, its frames in another, repaired after each edit in the window that the
-//! edit can reach, and a journal of what edits took away. It obeys `K force CLASS`, `K delete`, `insert A B`, `undo`,
-//! `redo`, `frames` and `quit`, by the rules of docs/SCRIPT.md, for sound scripts alone.
+//! edit can reach, and a journal of what edits took away. It obeys `K force CLASS`, `K delete`, `insert A B`,
+//! `invert A B`, `undo`, `redo`, `frames` and `quit`, by the rules of docs/SCRIPT.md, for sound scripts alone.
 
 use std::io::{self, BufRead, Write};
 
@@ -346,6 +346,30 @@ impl Editor {
         self.future.clear();
     }
 
+    /// Turns the level over from `a` to `b`.
+    fn invert(&mut self, a: u64, b: u64) {
+        let end = self.find(b);
+        let mut at = end;
+        while at > 0 && self.pulses.get(at - 1).fall >= a {
+            at -= 1;
+        }
+        let mut edges = Vec::with_capacity(2 * (end - at) + 2);
+        for k in at..end {
+            let pulse = self.pulses.get(k);
+            edges.extend([pulse.rise, pulse.fall]);
+        }
+        for time in [a, b] {
+            match edges.binary_search(&time) {
+                Ok(k) => {
+                    edges.remove(k);
+                }
+                Err(k) => edges.insert(k, time),
+            }
+        }
+        let put = edges.chunks_exact(2).map(|p| Pulse { rise: p[0], fall: p[1] }).collect();
+        self.edit(at, end - at, put);
+    }
+
     fn frames(&self, out: &mut impl Write) -> io::Result<()> {
         for k in 0..self.records.len() {
             let record = self.records.get(k);
@@ -420,6 +444,11 @@ impl Editor {
                     let fall: u64 = words.next().unwrap().parse().unwrap();
                     let at = self.find(rise);
                     self.edit(at, 0, vec![Pulse { rise, fall }]);
+                }
+                "invert" => {
+                    let a: u64 = words.next().unwrap().parse().unwrap();
+                    let b: u64 = words.next().unwrap().parse().unwrap();
+                    self.invert(a, b);
                 }
                 number => {
                     let at = number.parse::<usize>().unwrap() - 1;
