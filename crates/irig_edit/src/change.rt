@@ -1,7 +1,7 @@
 //! A change of the state that stands, and how each kind of it turns: the change is made, and what
 //! leads back is left in its stead.
 
-ghost use Rattle.std.specs.Prelude.{◌≡◌, ◌≤◌, ◌<◌, ◌+◌, ◌-◌, neg_ℤ, length, [], OnOk, get_or, slice_set, None};
+ghost use Rattle.std.specs.Prelude.{◌≡◌, ◌≤◌, ◌<◌, ◌+◌, ◌-◌, neg_ℤ, length, [], OnOk, OnErr, get_or, slice_set, None};
 ghost use Rattle.std.specs.List.{AllByRecursion};
 ghost use Rattle.irig_track.specs.Shifts.{CanShift, count_to, shifted};
 ghost use Rattle.irig_track.specs.Splices.{CanSplice, IsSpan, piece, risen_by, spliced};
@@ -85,6 +85,9 @@ pub(crate) fn reserve_splice(track: &mut Track, splice: &mut Splice) -> Result<(
     ensures room { OnOk result (
         (length splice.new.put.items ≤ track.new.spare + splice.new.count)
         × (splice.new.count ≤ splice.new.taken.capacity)) }
+    ensures refused { OnErr result (
+        (length splice.old.put.items ≤ track.old.spare + splice.old.count)
+        × (splice.old.count ≤ splice.old.taken.capacity) → ⊥) }
 {
     splice.taken.reserve(splice.count)?;
     track.reserve(splice.put.len().saturating_sub(splice.count))

@@ -1,7 +1,7 @@
 //! Changes of the state that stands, turned in place, with its frames repaired where they took
 //! place.
 
-ghost use Rattle.std.specs.Prelude.{◌≡◌, ℕ, ◌≤◌, ◌<◌, ◌+◌, ◌-◌, neg_ℤ, length, ◌↔◌, IsTrue, OnOk};
+ghost use Rattle.std.specs.Prelude.{◌≡◌, ℕ, ◌≤◌, ◌<◌, ◌+◌, ◌-◌, neg_ℤ, length, ◌↔◌, IsTrue, OnOk, OnErr};
 ghost use Rattle.irig_track.specs.Edges.{edges_of};
 ghost use Rattle.irig_track.specs.Shifts.{CanShift, count_to, shifted};
 ghost use Rattle.irig_track.specs.Splices.{CanSplice, piece, risen_by, spliced};
@@ -15,6 +15,7 @@ ghost use Rattle.irig_edit.specs.Looks.{RoseWithin, looks_of, standing_in, windo
 ghost use Rattle.irig_edit.specs.Present.{looks_in, state_in};
 ghost use Rattle.irig_edit.specs.Room.{HasPlaces, HasRoom, records_for};
 ghost use Rattle.irig_edit.specs.State.{State, IsState, frames_of, state, with_pulses};
+ghost use Rattle.irig_edit.specs.StateLaws.{IsState-turned};
 
 use crate::change::{
     Change, Shift, Splice, reserve_splice, turn_mark, turn_shift, turn_splice, turn_toggle,
@@ -92,6 +93,8 @@ impl Reversible for Present {
         }
     }
 
+    ghost keeps = { λ s d is h. IsState-turned s d is h };
+
     ghost back_fits = { λ s d is h. Fits-turned s d is h };
 
     ghost back = { λ s d is h. turned-turned s d is h };
@@ -142,6 +145,7 @@ impl Present {
         ensures index { self.new.index ≡ self.old.index }
         ensures change { delta_of change.new ≡ delta_of change.old }
         ensures places { OnOk result (HasPlaces self.new.spare change.new) }
+        ensures refused { OnErr result (HasPlaces self.old.spare change.old → ⊥) }
     {
         match change {
             Change::Splice(splice) => reserve_splice(&mut self.track, splice),
