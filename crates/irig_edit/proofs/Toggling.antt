@@ -11,8 +11,8 @@ use Rattle.irig_edit.specs.Becoming.{Becomes}
 use Rattle.irig_edit.specs.Calls.Call.{Invert}
 use Rattle.irig_edit.specs.Delta.{turned}
 use Rattle.irig_edit.specs.Delta.Delta.{Toggled}
-use Rattle.irig_edit.specs.StateLaws.{IsState-turned}
-use Rattle.irig_edit.specs.EdgeLaws.{edges_of-toggled}
+use Rattle.irig_edit.specs.Laws.State.{IsState-turned}
+use Rattle.irig_edit.specs.Laws.Edges.{edges_of-toggled}
 use Rattle.irig_edit.specs.State.{State, IsState}
 use Rattle.irig_edit.specs.Conditions.{is_overfull, is_full}
 

@@ -7,8 +7,8 @@ use Rattle.irig_track.specs.Toggles.{toggled}
 use Rattle.irig_edit.specs.Delta.{Fits, turned, pulses_of}
 use Rattle.irig_edit.specs.Marks.{marks_moved}
 use Rattle.irig_edit.specs.Delta.Delta.{Toggled, Shifted}
-use Rattle.irig_edit.specs.StateLaws.{IsState-turned}
-use Rattle.irig_edit.specs.EdgeLaws.{pulses_of-edges_of}
+use Rattle.irig_edit.specs.Laws.State.{IsState-turned}
+use Rattle.irig_edit.specs.Laws.Edges.{pulses_of-edges_of}
 use Rattle.irig_edit.specs.State.{State, IsState, state}
 
 -- a toggle of the track

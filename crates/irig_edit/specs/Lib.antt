@@ -2,16 +2,14 @@ pub mod Becoming
 pub mod Calls
 pub mod Conditions
 pub mod Delta
-pub mod DeltaLaws
-pub mod EdgeLaws
 pub mod Edits
 pub mod Exchanges
 pub mod Held
 pub mod Keeping
 pub mod Kept
+pub mod Laws
 pub mod Looks
 pub mod Machine
-pub mod MarkLaws
 pub mod Marks
 pub mod Present
 pub mod ReadBack
@@ -20,6 +18,4 @@ pub mod Regenerated
 pub mod Room
 pub mod Runs
 pub mod Session
-pub mod SetMarkLaws
 pub mod State
-pub mod StateLaws

@@ -9,13 +9,13 @@ ghost use Rattle.irig_track.specs.Toggles.{CanToggle, toggled};
 ghost use Rattle.irig_index.specs.Frames.{frames};
 ghost use Rattle.irig_edit.specs.Delta.{Delta, Fits, pulses_of, turned, weight_of};
 ghost use Rattle.irig_edit.specs.Marks.{AllMayMove, marks_moved};
-ghost use Rattle.irig_edit.specs.DeltaLaws.{Fits-turned, turned-turned};
+ghost use Rattle.irig_edit.specs.Laws.Delta.{Fits-turned, turned-turned};
 ghost use Rattle.irig_edit.specs.Held.{delta_of};
 ghost use Rattle.irig_edit.specs.Looks.{RoseWithin, looks_of, standing_in, window};
 ghost use Rattle.irig_edit.specs.Present.{looks_in, state_in};
 ghost use Rattle.irig_edit.specs.Room.{HasPlaces, HasRoom, records_for};
 ghost use Rattle.irig_edit.specs.State.{State, IsState, frames_of, state, with_pulses};
-ghost use Rattle.irig_edit.specs.StateLaws.{IsState-turned};
+ghost use Rattle.irig_edit.specs.Laws.State.{IsState-turned};
 
 use crate::change::{
     Change, Shift, Splice, reserve_splice, turn_mark, turn_shift, turn_splice, turn_toggle,

@@ -3,7 +3,7 @@ use Rattle.irig_journal.specs.Journal.{past_of, future_of}
 use Rattle.irig_journal.specs.Machine.{Machine, recorded}
 use Rattle.irig_journal.specs.Machine as journal
 use Rattle.irig_edit.specs.Delta.{Fits, turned}
-use Rattle.irig_edit.specs.StateLaws.{IsState-turned}
+use Rattle.irig_edit.specs.Laws.State.{IsState-turned}
 use Rattle.irig_edit.specs.Held.{delta_of}
 use Rattle.irig_edit.specs.Keeping.{exchange_of, machine}
 use Rattle.irig_edit.specs.Kept.{Kept, kept}

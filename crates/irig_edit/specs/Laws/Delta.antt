@@ -7,9 +7,9 @@ use Rattle.irig_track.specs.Toggles.{toggled}
 use Rattle.irig_track.proofs.Inverses.{piece-spliced, spliced-spliced, can_splice_back, toggled-toggled, can_toggle_back, Opposite-neg, shifted-shifted, can_shift_back}
 use Rattle.irig_track.proofs.Carried.{length-piece}
 use Rattle.irig_edit.specs.State.{State, IsState, state, with_pulses}
-use Rattle.irig_edit.specs.EdgeLaws.{edges_of-toggled, pulses_of-edges_of}
-use Rattle.irig_edit.specs.MarkLaws.{marks_back, may_move_back}
-use Rattle.irig_edit.specs.SetMarkLaws.{mark_back, mark_read, mark_within}
+use Rattle.irig_edit.specs.Laws.Edges.{edges_of-toggled, pulses_of-edges_of}
+use Rattle.irig_edit.specs.Laws.Marks.{marks_back, may_move_back}
+use Rattle.irig_edit.specs.Laws.SetMarks.{mark_back, mark_read, mark_within}
 use Rattle.irig_edit.specs.Delta.{Delta, Fits, turned, pulses_of}
 use Rattle.irig_edit.specs.Delta.Delta.{Spliced, Toggled, Shifted, Formatted, Marked}
 

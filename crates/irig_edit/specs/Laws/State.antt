@@ -6,9 +6,9 @@ use Rattle.irig_track.specs.Toggles.{toggled}
 use Rattle.irig_track.proofs.Recordings.{track_of}
 use Rattle.irig_edit.specs.Delta.{Delta, Fits, turned, pulses_of}
 use Rattle.irig_edit.specs.Delta.Delta.{Spliced, Toggled, Shifted, Formatted, Marked}
-use Rattle.irig_edit.specs.EdgeLaws.{edges_of-toggled}
-use Rattle.irig_edit.specs.MarkLaws.{length-marks_moved, marks_within}
-use Rattle.irig_edit.specs.SetMarkLaws.{all-set, length-set}
+use Rattle.irig_edit.specs.Laws.Edges.{edges_of-toggled}
+use Rattle.irig_edit.specs.Laws.Marks.{length-marks_moved, marks_within}
+use Rattle.irig_edit.specs.Laws.SetMarks.{all-set, length-set}
 use Rattle.irig_edit.specs.State.{State, IsState}
 
 -- a change leaves a state within the limits

@@ -1,0 +1,6 @@
+-- Lemmas that the laws of changes rest on. What a contract means needs none of them.
+pub mod Delta
+pub mod Edges
+pub mod Marks
+pub mod SetMarks
+pub mod State

@@ -1,0 +1,2 @@
+-- Lemmas that the laws of a state rest on. What a contract means needs none of them.
+pub mod Stack
