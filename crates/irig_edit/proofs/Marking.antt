@@ -48,6 +48,7 @@ moved_all d zero (b ∷ named) marks all = absurd (omega (arith, all))
 moved_all d (suc n) (b ∷ named) [] all = refl
 moved_all d (suc n) (b ∷ named) (m ∷ marks) all = ap (λ ms. moved_if d b m ∷ ms) (moved_all d n named marks (omega (arith, all)))
 
+-- whether a mark stands in a stretch, whatever was told of it before
 abbrev pub stands_now : ℕ → ℕ → Option ℕ → Bool → Bool
 stands_now low high mark before = stands low high mark
 

@@ -9,9 +9,11 @@ pub record PresentView : Type 0 where
   pub spare : ℕ
   pub index : IndexView
 
+-- a state, with the spare places of its track and its index
 abbrev pub present_view : State → ℕ → IndexView → PresentView
 present_view s n i = record { state = s; spare = n; index = i }
 
+-- the state that stands, without its spare room
 abbrev pub state_in : PresentView → State
 state_in p = p.state
 
