@@ -16,6 +16,7 @@ pub mod PlainLemmas
 pub mod StandardFacts
 pub mod DecimalLemmas
 pub mod WrittenEdges
+pub mod WrittenText
 pub mod WrittenWords
 pub mod WrittenChanges
 pub mod ReadBack

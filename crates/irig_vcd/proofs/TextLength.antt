@@ -1,5 +1,5 @@
 -- How long the text of a recording is: it can be read again.
-use Rattle.std.proofs.Common.{◌≡◌, ◌<◌, ◌≤◌, ◌+◌, ◌*◌, ◌^◌, ◌==◌, ◌++◌, ◌∷◌, [], ℕ, Bool, true, false, not, List, length, decimal, refl, arith, length-append, if◌then◌else◌, nat_lt, ◌&&◌}
+use Rattle.std.proofs.Common.{◌≡◌, ◌≤◌, ◌*◌, ◌^◌, ◌==◌, ◌++◌, ◌∷◌, [], ℕ, Bool, true, false, not, List, length, decimal, refl, arith, length-append, if◌then◌else◌, nat_lt, ◌&&◌}
 use Rattle.std.specs.List.{list_any}
 use Rattle.std.proofs.lemmas.Fmt.{length-decimal-le}
 use Rattle.irig_vcd.specs.FileText.{time_line, level_line, edge_lines, head_text, header_text, later_edges, begins_high, end_line, file_text}

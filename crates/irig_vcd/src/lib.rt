@@ -26,4 +26,4 @@ pub use law::read_back;
 pub use reader::read;
 pub use recording::Recording;
 pub use token::{Kind, Token, Tokens};
-pub use writer::text;
+pub use writer::{TextWriter, text};
