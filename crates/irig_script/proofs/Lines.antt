@@ -123,13 +123,14 @@ status_after-append s [] qs = refl
 status_after-append s (r ∷ rs) qs = status_after-append _ rs qs
 
 pub tells_none : (a : Desk) → Tells a a [] [] []
-tells_none a = record { printed = appends_none a.out; put = grows_none a.texts; failed = omega arith }
+tells_none a = record { printed = appends_none a.out; put = grows_none a.texts; failed = omega arith; quiet = λ z. refl }
 
 pub tells-tells : (a b c : Desk) (x y : List ℕ) (rs qs : List Answer) (ts us : List (List ℕ)) → Tells a b x rs ts → Tells b c y qs us → Tells a c (x ++ y) (rs ++ qs) (ts ++ us)
 tells-tells a b c x y rs qs ts us h k = record {
   printed = appends-appends a.out b.out c.out x y h.printed k.printed;
   put = grows-grows a.texts b.texts c.texts ts us h.put k.put;
   failed = fails-fails a.failures b.failures c.failures rs qs h.failed k.failed;
+  quiet = λ z. k.quiet (omega (arith, z, failures_in-append rs qs)) ∙ h.quiet (omega (arith, z, failures_in-append rs qs));
 }
 
 -- answers that were printed whole
@@ -138,10 +139,10 @@ tells-answers a b c rs qs ts us h k =
     subst (λ (l : List ℕ). Tells a c l (rs ++ qs) (ts ++ us)) (sym (flat_map-append (λ (answer : Answer). answer.text) rs qs)) (tells-tells a b c (printed rs) (printed qs) rs qs ts us h k)
 
 pub tells_one : (a b : Desk) (m : Machine) (r : Answer) → Appends a.out b.out r.text → Puts a.texts b.texts a.failures b.failures m r.reply → Tells a b (printed (r ∷ [])) (r ∷ []) (texts_put m r.reply)
-tells_one a b m r p h = record { printed = rw append-nil p; put = h.put; failed = omega (arith, h.failed) }
+tells_one a b m r p h = record { printed = rw append-nil p; put = h.put; failed = omega (arith, h.failed); quiet = λ z. h.quiet (omega (arith, z)) }
 
 pub tells_front : (a b : Desk) (m : Machine) (r : Answer) (front : List ℕ) → Appends a.out b.out front → Puts a.texts b.texts a.failures b.failures m r.reply → Tells a b front (r ∷ []) (texts_put m r.reply)
-tells_front a b m r front p h = record { printed = p; put = h.put; failed = omega (arith, h.failed) }
+tells_front a b m r front p h = record { printed = p; put = h.put; failed = omega (arith, h.failed); quiet = λ z. h.quiet (omega (arith, z)) }
 
 -- what is kept over the bytes so far: all were obeyed from the empty line on
 pub obeyed_none : (a : Desk) (st : Status) (text : List ℕ) (s : Machine) (line : Line) → Holds text line → Obeyed false a a st st s s text line

@@ -1,5 +1,5 @@
 -- What a reply to a command makes of its line.
-use Rattle.std.proofs.Common.{◌≤◌, ℕ, Bool, true, false, List, Option, length, arith}
+use Rattle.std.proofs.Common.{refl, ◌≤◌, ℕ, Bool, true, false, List, Option, length, arith}
 use Rattle.irig_codes.specs.Format.{FormatView, is_permitted}
 use Rattle.irig_script.specs.Obey.Answer.{Step}
 use Rattle.irig_script.specs.Script.Grammar.{Means}
@@ -84,11 +84,11 @@ obeyed_step c old new line told.WriteFailed h m o = (h, (c, m, o))
 pub quiet_puts : (texts : Option (List (List ℕ))) (failures : ℕ) (m : Machine) (r : Reply) → IsQuiet r → Puts texts texts failures failures m r
 quiet_puts texts failures m (told.Written n) q = absurd q
 quiet_puts texts failures m told.WriteFailed q = absurd q
-quiet_puts texts failures m told.Silent q = record { put = grows_none texts; failed = omega arith }
-quiet_puts texts failures m (told.Listed b n) q = record { put = grows_none texts; failed = omega arith }
-quiet_puts texts failures m told.Frames q = record { put = grows_none texts; failed = omega arith }
-quiet_puts texts failures m told.Marks q = record { put = grows_none texts; failed = omega arith }
-quiet_puts texts failures m told.Info q = record { put = grows_none texts; failed = omega arith }
-quiet_puts texts failures m (told.Refused w) q = record { put = grows_none texts; failed = omega arith }
-quiet_puts texts failures m told.BadLine q = record { put = grows_none texts; failed = omega arith }
-quiet_puts texts failures m told.LineTooLong q = record { put = grows_none texts; failed = omega arith }
+quiet_puts texts failures m told.Silent q = record { put = grows_none texts; failed = omega arith; quiet = λ z. refl }
+quiet_puts texts failures m (told.Listed b n) q = record { put = grows_none texts; failed = omega arith; quiet = λ z. refl }
+quiet_puts texts failures m told.Frames q = record { put = grows_none texts; failed = omega arith; quiet = λ z. refl }
+quiet_puts texts failures m told.Marks q = record { put = grows_none texts; failed = omega arith; quiet = λ z. refl }
+quiet_puts texts failures m told.Info q = record { put = grows_none texts; failed = omega arith; quiet = λ z. refl }
+quiet_puts texts failures m (told.Refused w) q = record { put = grows_none texts; failed = omega arith; quiet = λ z. refl }
+quiet_puts texts failures m told.BadLine q = record { put = grows_none texts; failed = omega arith; quiet = λ z. refl }
+quiet_puts texts failures m told.LineTooLong q = record { put = grows_none texts; failed = omega arith; quiet = λ z. refl }

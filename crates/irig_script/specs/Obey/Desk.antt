@@ -65,9 +65,11 @@ pub record Tells (old new : Desk) (text : List ℕ) (answers : List Answer) (tex
   pub printed : Appends old.out new.out text
   pub put : GrowsBy old.texts new.texts texts
   pub failed : Fails old.failures new.failures (failures_in answers)
+  pub quiet : failures_in answers ≡ 0 → new.failures ≡ old.failures
 
 -- what one line puts, and whether the shelf failed in it
 pub record Puts (texts texts_new : Option (List (List ℕ))) (failures failures_new : ℕ)
     (m : Machine) (reply : Reply) : Type 0 where
   pub put : GrowsBy texts texts_new (texts_put m reply)
   pub failed : Fails failures failures_new (failures_of reply)
+  pub quiet : failures_of reply ≡ 0 → failures_new ≡ failures

@@ -5,7 +5,7 @@ ghost use Rattle.irig_vcd.specs.Dump.{dump};
 ghost use Rattle.irig_vcd.specs.Choices.{name_of};
 ghost use Rattle.irig_vcd.specs.Plays.{Fails};
 ghost use Rattle.irig_script.specs.Obey.Desk.{desk};
-ghost use Rattle.irig_script.specs.Obey.Editing.{Edited};
+ghost use Rattle.irig_script.specs.Obey.Editing.{BrokeFrom, Edited, StoppedFrom};
 ghost use Rattle.irig_vcd.specs.declared.fault.VcdFault.{VcdFault};
 
 use crate::obey::engine;
@@ -45,6 +45,26 @@ pub fn edit<R: Read, W: Write, S: Shelf>(
         (desk (W.contents out.new) (S.texts shelf.new) (S.failures shelf.new)) status)) }
     ensures fault { (e : VcdFault) → result ≡ Err (EditFault.Dump e)
         → Fails e (dump (name_of wire.entry) source.items) }
+    ensures quiet { (e : VcdFault) → result ≡ Err (EditFault.Dump e)
+        → (W.contents out.new ≡ W.contents out.old)
+        × (S.texts shelf.new ≡ S.texts shelf.old)
+        × (S.failures shelf.new ≡ S.failures shelf.old)
+        × (R.remaining script.new ≡ R.remaining script.old) }
+    ensures read_failed { result ≡ Err (EditFault.Run RunFault.ReadFailed)
+        → StoppedFrom (name_of wire.entry) format source.items
+        (desk (W.contents out.old) (S.texts shelf.old) (S.failures shelf.old))
+        (desk (W.contents out.new) (S.texts shelf.new) (S.failures shelf.new))
+        (R.remaining script.old) (R.remaining script.new) 0 }
+    ensures many_reads { result ≡ Err (EditFault.Run RunFault.TooManyReads)
+        → StoppedFrom (name_of wire.entry) format source.items
+        (desk (W.contents out.old) (S.texts shelf.old) (S.failures shelf.old))
+        (desk (W.contents out.new) (S.texts shelf.new) (S.failures shelf.new))
+        (R.remaining script.old) (R.remaining script.new) (2 ^ 32) }
+    ensures print_failed { result ≡ Err (EditFault.Run RunFault.PrintFailed)
+        → IfSome (R.remaining script.old) (BrokeFrom
+        (name_of wire.entry) format source.items
+        (desk (W.contents out.old) (S.texts shelf.old) (S.failures shelf.old))
+        (desk (W.contents out.new) (S.texts shelf.new) (S.failures shelf.new))) }
 {
     let recording = match recorded(alloc, source, wire) {
         Ok(recording) => recording,
