@@ -33,6 +33,18 @@ none_left n e = grind (arith, nat_tests)
 positive : (n : ℕ) → (n ≡ 0 → ⊥) → (n == 0) ≡ false
 positive n h = elim (either (n == 0)) [ inl none ↦ absurd (h (none_left n none)) | inr some ↦ some ]
 
+some_left : (n : ℕ) → (n == 0) ≡ false → 1 ≤ n
+some_left zero e = cc
+some_left (suc n) e = omega arith
+
+-- how many digits are left a place further on
+pub digits_next : (digits k : ℕ) → digits ≡ 9 - k % 10
+    → cond (digits == 0) 9 (digits - 1) ≡ 9 - (k + 1) % 10
+digits_next digits k e = elim (either (digits == 0)) [
+  | inl none ↦ ap (λ b. cond b 9 (digits - 1)) none ∙ omega (arith, e, none_left digits none)
+  | inr some ↦ ap (λ b. cond b 9 (digits - 1)) some ∙ omega (arith, e, some_left digits some)
+]
+
 -- what suits where no position identifier may stand
 pub suits_other : (k : ℕ) (class : Option Element) → suits k class ≡ true → (k % 10 ≡ 9 → ⊥) → is_position class ≡ false
 suits_other k class suit ne = elim (either (k % 10 == 9)) [

@@ -1,6 +1,6 @@
 //! The verdict on a frame.
 
-ghost use Rattle.std.specs.Prelude.{◌≡◌, ℕ, ◌+◌, ◌<◌, ◌≤◌, [], true, false, if◌then◌else◌, slice_get, unwrap_or, Some, MatchOption};
+ghost use Rattle.std.specs.Prelude.{◌≡◌, ℕ, ◌+◌, ◌-◌, ◌==◌, ◌<◌, ◌≤◌, [], true, false, if◌then◌else◌, slice_get, unwrap_or, Some, MatchOption};
 ghost use Rattle.irig_codes.specs.declared.width.Element.TheVariants.{Position, Zero};
 ghost use Rattle.irig_codes.specs.Reading.{counts};
 ghost use Rattle.irig_codes.specs.Width.{HasTwentieths, class_in};
@@ -61,46 +61,49 @@ fn check(lens: &mut Lens<'_>, format: Format, at: usize, first: Pulse) -> Verdic
         → record_after format lens.old.track.pulses k ≡ [] }
 {
     let interval = format.interval();
-    let len = lens.len();
+    // The track may end within the frame.
+    let count = (lens.len() - at).min(100);
     let mut ones = Gathering::none().and(false);
     let mut before = first;
     // So many digits are left before the next position identifier.
     let mut digits = 8u64;
-    for k in 1..100u8 {
-        if at + k as usize >= len {
-            return Verdict::Broken(k, Cause::Ended);
-        }
-        let pulse = lens.pulse(at + k as usize);
+    for k in 1..count {
+        let pulse = lens.pulse(at + k);
         if !step_in(interval, pulse.rise - before.rise) {
-            return Verdict::Broken(k, Cause::Step);
+            return Verdict::Broken(k as u8, Cause::Step);
         }
-        let Some(one) = told(interval, pulse.fall - pulse.rise, digits == 0) else {
-            return Verdict::Broken(k, Cause::Class);
+        let Some((one, left)) = told(interval, pulse.fall - pulse.rise, digits) else {
+            return Verdict::Broken(k as u8, Cause::Class);
         };
         ones = ones.and(one);
         before = pulse;
-        digits = if digits == 0 { 9 } else { digits - 1 };
+        digits = left;
+    }
+    if count < 100 {
+        return Verdict::Broken(count as u8, Cause::Ended);
     }
     let (fields, note) = decode_ones(format, ones.ones());
     Verdict::Read(fields, note)
 }
 
-/// Whether an element of this width is One, or None where it may not stand: where a position
-/// identifier is due that alone may, and elsewhere a digit.
+/// Whether an element of this width is One, or None where it may not stand: where no digit is left
+/// before the next position identifier that alone may, and elsewhere a digit. And how many digits
+/// are left after it.
 #[inline(always)]
-fn told(interval: u64, width: u64, is_due: bool) -> Option<bool>
+fn told(interval: u64, width: u64, digits: u64) -> Option<(bool, u64)>
     requires { HasTwentieths interval }
     ensures { MatchOption result
-        ((if is_due then is_position (class_in interval width)
+        ((if digits == 0 then is_position (class_in interval width)
         else is_digit (class_in interval width)) ≡ false)
-        (λ one. ((if is_due then is_position (class_in interval width)
+        (λ told. ((if digits == 0 then is_position (class_in interval width)
         else is_digit (class_in interval width)) ≡ true)
-        × (counts (unwrap_or (class_in interval width) Zero) ≡ one)) }
+        × (counts (unwrap_or (class_in interval width) Zero) ≡ told.0)
+        × (told.1 ≡ (if digits == 0 then 9 else digits - 1))) }
 {
-    if is_due {
-        is_position(interval, width).then_some(false)
+    if digits == 0 {
+        is_position(interval, width).then_some((false, 9))
     } else if is_digit(interval, width) {
-        Some(is_one(interval, width))
+        Some((is_one(interval, width), digits - 1))
     } else {
         None
     }

@@ -15,7 +15,7 @@ impl Track {
     {
         Lens {
             track: self,
-            looks: 0,
+            left: u64::MAX,
         }
     }
 }
@@ -26,15 +26,17 @@ impl Track {
 #[derive(Drop)]
 pub struct Lens<'a> {
     track: &'a Track,
-    looks: u64,
+    // How many looks more can be counted. To count down to 0 is cheaper than up to 2^64 - 1.
+    left: u64,
 }
 
 impl<'a> Model for Lens<'a> {
+    ghost use Rattle.std.specs.Prelude.{◌-◌, ◌^◌};
     ghost use Rattle.irig_track.specs.Looks.{LensView, lens_view};
 
     ghost Value = { LensView };
 
-    ghost view = { λ l. lens_view l.track.now l.looks };
+    ghost view = { λ l. lens_view l.track.now (2 ^ 64 - 1 - l.left) };
 }
 
 impl<'a> Lens<'a> {
@@ -62,8 +64,7 @@ impl<'a> Lens<'a> {
         ensures track { IsTrack self.old.track.micros self.old.track.pulses }
         ensures counted { self.new ≡ lens_view self.old.track (counted self.old.looks 1) }
     {
-        let looks = &mut self.looks;
-        *looks = looks.saturating_add(1);
+        self.left = self.left.saturating_sub(1);
         self.track.pulse(index)
     }
 
@@ -71,6 +72,6 @@ impl<'a> Lens<'a> {
     pub fn looks(&self) -> u64
         ensures { result ≡ self.now.looks }
     {
-        self.looks
+        u64::MAX - self.left
     }
 }

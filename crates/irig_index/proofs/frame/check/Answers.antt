@@ -1,5 +1,6 @@
-use Rattle.std.proofs.Common.{◌≡◌, ◌+◌, ◌-◌, ◌≤◌, ◌∷◌, ◌++◌, [], length, drop, slice_get, unwrap_or, true, false, cond, None, refl, ap, sym, ◌∙◌, arith, take, List}
+use Rattle.std.proofs.Common.{◌≡◌, ◌+◌, ◌-◌, ◌<◌, ◌≤◌, ◌∷◌, ◌++◌, [], length, drop, slice_get, unwrap_or, true, false, cond, None, refl, ap, sym, ◌∙◌, arith, take, List}
 use Rattle.std.proofs.lemmas.List.{length-append, length-take}
+use Rattle.std.proofs.lemmas.Option.{slice_get_within}
 use Rattle.irig_codes.specs.declared.width.Element.{Element}
 use Rattle.irig_codes.specs.declared.width.Element.TheVariants.{Zero, Position}
 use Rattle.irig_codes.specs.Decoding.{decoded}
@@ -8,17 +9,16 @@ use Rattle.irig_codes.specs.Reading.{counts}
 use Rattle.irig_codes.specs.Width.{class_in, step_in}
 use Rattle.irig_track.specs.Looks.{lens_view}
 use Rattle.irig_index.specs.declared.record.Cause.TheVariants.{Ended, Step, Class}
-use Rattle.irig_index.specs.declared.record.Verdict.TheVariants.{Read}
+use Rattle.irig_index.specs.declared.record.Verdict.TheVariants.{Broken, Read}
 use Rattle.irig_index.specs.Frames.{frame_at}
 use Rattle.irig_index.specs.Looked.{after_looks}
 use Rattle.irig_index.specs.Marker.{class_at, follows, is_digit, is_position}
 use Rattle.irig_index.specs.Verdict.{elements_of, first_fault, judged, suits}
-use Rattle.irig_index.proofs.CheckedLemmas.{alone_next, is_due, suits_other}
+use Rattle.irig_index.proofs.CheckedLemmas.{alone_next, digits_next, is_due, suits_other}
 use Rattle.irig_index.proofs.LookedLemmas.{lens_next}
 use Rattle.irig_index.proofs.PulseLemmas.{rise-rise, slice_get-part, take-all}
 use Rattle.irig_index.proofs.VerdictLemmas.{fault-ended, fault-step, fault-class, fault-none, elements-next, first_fault-here, first_fault-next, first_fault-zero}
 use Rattle.irig_index.proofs.frame.check.Goals as goal
-use Rattle.irig_index.proofs.frame.check.Goals.{then-digits-eq0, else-digits-eq0}
 
 pub loop-k-init : goal.loop-k-init
 loop-k-init c =
@@ -37,14 +37,17 @@ loop-k-init c =
       alone = λ j from to. absurd (omega (arith, from, to));
     }
 
-pub returns-then-at-k-clause-verdict : goal.returns-then-at-k-clause-verdict
-returns-then-at-k-clause-verdict c =
+pub returns-then-count-lt100-clause-verdict : goal.returns-then-count-lt100-clause-verdict
+returns-then-count-lt100-clause-verdict c =
     let f = c.args.format in
     let ps = c.args.lens.now.track.pulses in
     let k = c.loop-k.k in
-    let past : length ps ≤ c.args.at + k = omega (arith, c.len-len.ensures.len) in
-    let fails = fault-ended f ps c.args.at k c.loop-k.before (omega arith) (omega arith) c.loop-k.invariant.before past in
-    sym (ap (judged f (frame_at ps c.args.at)) (sym c.loop-k.invariant.rest ∙ first_fault-here f _ (100 - k) (99 - k) k (omega arith) Ended fails))
+    let some : c.args.at + 1 ≤ length ps = omega (arith, slice_get_within ps c.args.at c.args.first c.requires.first) in
+    let past : length ps ≤ c.args.at + k = omega (arith, some) in
+    let within : k < 100 = omega (arith, some) in
+    let reached : c.min-count.result ≡ k = omega (arith, some) in
+    let fails = fault-ended f ps c.args.at k c.loop-k.before (omega arith) (omega (arith, within)) c.loop-k.invariant.before past in
+    ap (λ n. Broken n Ended) reached ∙ sym (ap (judged f (frame_at ps c.args.at)) (sym c.loop-k.invariant.rest ∙ first_fault-here f _ (100 - k) (99 - k) k (omega (arith, within)) Ended fails))
 
 pub overflow_sub-pulse : goal.overflow_sub-pulse
 overflow_sub-pulse c =
@@ -106,10 +109,7 @@ loop-k-preserved c =
       long = ap (λ (xs : List Element). length xs) grown ∙ (length-append gathered (e ∷ []) ∙ ap (λ n. n + 1) so_far.long);
       ones = ap (λ (xs : List Element). raised xs) grown ∙ c.and-ones-in-loop-k.ensures gathered e (omega (arith, so_far.long)) so_far.ones one;
       rest = ap (λ n. first_fault f w n (k + 1)) fuel ∙ (sym (first_fault-next f w (100 - k) (99 - k) k (omega arith) sound) ∙ so_far.rest);
-      digits = elim c.if-digits-eq0.branch [
-        | then-digits-eq0 w ↦ omega (arith, w.digits-is, w.if-digits-eq0.true, so_far.digits)
-        | else-digits-eq0 w ↦ omega (arith, w.digits-is, w.if-digits-eq0.false, so_far.digits)
-      ];
+      digits = c.in-Some.ensures.2 ∙ digits_next c.loop-k.digits k so_far.digits;
       digit = λ nine. suits_other k (class_at f p) also (λ same. omega (arith, nine, same));
       alone = alone_next f ps c.args.at k c.loop-k.before p (omega arith) so_far.before here also so_far.digit so_far.alone;
     }
