@@ -13,4 +13,5 @@ pub mod Rising
 pub mod Sets
 pub mod Spans
 pub mod Standing
+pub mod Texts
 pub mod Turns

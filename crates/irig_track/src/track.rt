@@ -2,6 +2,7 @@
 
 ghost use Rattle.std.specs.Prelude.{◌≡◌, ◌+◌, ◌-◌, ◌^◌, ◌/◌, ◌<◌, ◌≤◌, ℕ, length, [], slice_get, Some};
 ghost use Rattle.std.specs.Prelude.{Bool, true, IfOk, OnOk, OnErr};
+ghost use Rattle.irig_vcd.specs.FileText.{file_text, begins_high};
 ghost use Rattle.irig_vcd.specs.Recording.{recording_view, is_even_long};
 ghost use Rattle.irig_gap.specs.Items.{gap_view};
 ghost use Rattle.irig_track.specs.Edges.{edges_of, is_edge};
@@ -10,7 +11,7 @@ ghost use Rattle.irig_track.specs.Track.{IsTrack};
 
 use crate::pulse::Pulse;
 use irig_gap::Gap;
-use irig_vcd::Recording;
+use irig_vcd::{Recording, TextWriter};
 use std::alloc::{AllocError, Global};
 use std::marker::Model;
 
@@ -65,6 +66,28 @@ impl Track {
             edges.push(pulse.fall)?;
         }
         Ok(Recording::from_parts(self.micros, edges))
+    }
+
+    /// The text of the recording with the track's length and edges, as `irig_vcd::text` writes it.
+    pub fn text(&self, alloc: Global) -> Result<Vec<u8>, AllocError>
+        ensures { IfOk result (λ text. text.items
+            ≡ file_text (recording_view self.now.micros (edges_of self.now.pulses))) }
+    {
+        let count = self.pulses.len();
+        let mut writer = TextWriter::begin(alloc, 2 * count, self.begins_high())?;
+        for index in 0..count {
+            let pulse = self.pulses.get(index);
+            writer.put_edge(pulse.rise, true)?;
+            writer.put_edge(pulse.fall, false)?;
+        }
+        writer.finish(self.micros)
+    }
+
+    /// Whether the first pulse rises at 0.
+    fn begins_high(&self) -> bool
+        ensures { result ≡ begins_high (edges_of self.now.pulses) }
+    {
+        0 < self.pulses.len() && self.pulses.get(0).rise == 0
     }
 
     /// Makes the spare at least `more`: so many further pulses then fit without a growth.

@@ -40,6 +40,7 @@ pub(crate) fn check_edges(
     let recording = track.recording(alloc)?;
     assert_eq!(rt; recording.length(), track.length());
     assert_eq!(rt; recording.edges(), edges);
+    assert!(rt; track.text(alloc)? == irig_vcd::text(alloc, &recording)?);
     Ok(())
 }
 

@@ -1,0 +1,9 @@
+use Rattle.std.proofs.Common.{ap, ◌∙◌}
+use Rattle.irig_vcd.specs.FileText.{begins_high}
+use Rattle.irig_track.specs.Edges.{edges_of}
+use Rattle.irig_track.specs.Track.{TrackView}
+use Rattle.irig_track.proofs.Texts.{first_high}
+use Rattle.irig_track.proofs.track.Track.begins_high.Goals as goal
+
+pub returns-then-len-gt0 : goal.returns-then-len-gt0
+returns-then-len-gt0 c = first_high c.get.result c.self.inside.pulses.items c.get.ensures ∙ ap (λ (v : TrackView). begins_high (edges_of v.pulses)) c.self.view_is
