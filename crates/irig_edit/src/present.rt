@@ -64,8 +64,7 @@ impl Present {
     pub(crate) fn text(&self, alloc: Global) -> Result<Vec<u8>, AllocError>
         ensures { IfOk result (λ text. text.items ≡ file_text (recording_of self.now.state)) }
     {
-        let recording = self.track.recording(alloc)?;
-        irig_vcd::text(alloc, &recording)
+        self.track.text(alloc)
     }
 }
 
