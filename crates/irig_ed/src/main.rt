@@ -1,17 +1,17 @@
 //! A line editor for recorded time tracks.
 #![tactic(auto)]
 
+mod asked;
 mod command_line;
 mod files;
 mod statuses;
 
 ghost use Rattle.std.specs.Prelude.{◌≡◌, ◌≤◌, ◌^◌, IfOk, map, string_bytes, vec_len};
 
+use asked::{edited_as, shelf_of};
 use command_line::chosen::{Settings, UsageFault};
 use command_line::command_line::{not_text, settings};
-use files::file_shelf::FileShelf;
 use files::track::read_track;
-use irig_script::edit;
 use statuses::{ended, explained, told, unread};
 use std::alloc::{AllocError, Global};
 use std::process::ExitCode;
@@ -77,14 +77,14 @@ fn edited<R: Runtime + AllocGlobal>(rt: &R, chosen: &Settings<'_>) -> ExitCode {
 fn obeyed<R: Runtime + AllocGlobal>(rt: &R, chosen: &Settings<'_>, source: Vec<u8>) -> ExitCode
     requires { vec_len source ≤ 2 ^ 28 }
 {
-    let outcome = edit(
+    let mut shelf = shelf_of(rt, chosen);
+    let outcome = edited_as(
         rt.alloc(),
+        chosen,
         source,
-        chosen.wire.map(|wire| wire.as_bytes()),
-        chosen.format,
         &mut rt.reader(),
         &mut io::writer(rt),
-        &mut FileShelf::new(rt, chosen.out),
+        &mut shelf,
     );
     ended(rt, chosen.track, outcome)
 }

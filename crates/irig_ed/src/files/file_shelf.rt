@@ -2,6 +2,8 @@
 
 ghost use Rattle.std.specs.Prelude.{◌≡◌, None, Ok, IfOk, OnErr, OnOk, IsErr};
 ghost use Rattle.std.specs.Io.KnownBytes.{Appends};
+ghost use Rattle.irig_ed.specs.FileShelf.{file_shelf_view};
+ghost use Rattle.irig_script.specs.Obey.Desk.{Fails};
 
 use irig_script::{Shelf, ShelfFault};
 use std::fs::{Metadata, OpenFile, OpenOptions};
@@ -30,17 +32,17 @@ pub struct FileShelf<'a, R> {
 }
 
 impl<'a, R> Model for FileShelf<'a, R> {
-    ghost use Rattle.std.specs.Prelude.{ℕ};
+    ghost use Rattle.irig_ed.specs.FileShelf.{FileShelfView, file_shelf_view};
 
-    ghost Value = { ℕ };
+    ghost Value = { FileShelfView };
 
-    ghost view = { λ s. s.failures };
+    ghost view = { λ s. file_shelf_view s.path.now s.failures };
 }
 
 impl<'a, R> FileShelf<'a, R> {
     /// The shelf of the file at a path, which need not be there.
     pub fn new(runtime: &'a R, path: &'a str) -> FileShelf<'a, R>
-        ensures { result ≡ 0 }
+        ensures { result ≡ file_shelf_view path.now 0 }
     {
         FileShelf {
             runtime,
@@ -48,21 +50,29 @@ impl<'a, R> FileShelf<'a, R> {
             failures: 0,
         }
     }
+
+    /// Counts a put that failed, and answers how it ended.
+    fn counted(&mut self, outcome: Result<(), ShelfFault>) -> Result<(), ShelfFault>
+        ensures same { result ≡ outcome }
+        ensures path { self.new.path ≡ self.old.path }
+        ensures fault { OnErr result (Fails self.old.failures self.new.failures 1) }
+        ensures count { OnOk result (self.new.failures ≡ self.old.failures) }
+    {
+        if outcome.is_err() {
+            self.failures = self.failures.saturating_add(1);
+        }
+        outcome
+    }
 }
 
 impl<R: Files + Print + AllocGlobal> Shelf for FileShelf<'_, R> {
-    ghost failures = { λ s. s };
+    ghost failures = { λ s. s.failures };
 
     ghost texts = { λ s. None };
 
     fn put(&mut self, bytes: &[u8]) -> Result<(), ShelfFault> {
-        match put_file(self.runtime, self.path, bytes) {
-            Ok(()) => Ok(()),
-            Err(fault) => {
-                self.failures = self.failures.saturating_add(1);
-                Err(fault)
-            }
-        }
+        let outcome = put_file(self.runtime, self.path, bytes);
+        self.counted(outcome)
     }
 }
 
@@ -103,7 +113,7 @@ fn put_over<R: Files + Print + AllocGlobal>(
         replace(rt, path, true, bytes)
     } else {
         let mut file = opened(rt, path)?;
-        told(file.write_all(bytes))
+        write_whole(&mut file, bytes)
     }
 }
 
@@ -245,7 +255,9 @@ fn fill<F: OpenFile + Write>(
     file: &mut F,
     old: Option<&Metadata>,
     bytes: &[u8],
-) -> Result<(), ShelfFault> {
+) -> Result<(), ShelfFault>
+    ensures { OnOk result (Appends (F.contents file.old) (F.contents file.new) bytes.now) }
+{
     if let Some(old) = old {
         told(file.set_permissions(old.permissions()))?;
     }
