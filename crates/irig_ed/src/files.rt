@@ -1,4 +1,5 @@
 //! Files: the dump that is read, and the shelf that is written.
 
 pub mod file_shelf;
+mod putting;
 pub mod track;
