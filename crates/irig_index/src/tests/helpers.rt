@@ -46,7 +46,7 @@ fn track_of(alloc: Global, length: u64, edges: Vec<u64>) -> Result<Track, AllocE
 
 /// So many pulses of sound frames: element e of frame k rises at (100 k + e) * 100.
 pub(crate) fn sound(alloc: Global, count: u64) -> Result<Track, AllocError>
-    requires { count ≤ 1000 }
+    requires { count ≤ 1000000 }
 {
     let mut edges = Vec::new(alloc);
     for place in 0..count {

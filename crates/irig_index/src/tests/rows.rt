@@ -148,3 +148,13 @@ fn a_time_is_found_among_the_rises(rt: HostRuntime) -> Result<(), Fail> {
     }
     Ok(())
 }
+
+#[test]
+fn a_time_is_found_among_a_million_rises(rt: HostRuntime) -> Result<(), Fail> {
+    let track = sound(rt.alloc(), 1_000_000)?;
+    let mut lens = track.lens();
+    assert_eq!(rt; Index::find(&mut lens, 50_000_000), 500_001);
+    // 1,000,000 has twenty binary digits.
+    assert!(rt; lens.looks() <= 20);
+    Ok(())
+}
