@@ -13,7 +13,7 @@ use Rattle.irig_track.proofs.Laws.{is_edge-spliced}
 use Rattle.irig_edit.specs.State.{State, IsState, state}
 use Rattle.irig_edit.specs.Edits.{IsAfter, pulse_of}
 use Rattle.irig_edit.specs.Marks.{moved_time, moved_mark}
-use Rattle.irig_edit.specs.Calls.Call.{Shift}
+use Rattle.irig_edit.specs.Calls.Edit.{Shift}
 use Rattle.irig_edit.specs.Becoming.{Becomes}
 use Rattle.irig_edit.specs.Delta.{turned}
 use Rattle.irig_edit.specs.Marks.{AllMayMove, marks_moved, stands}

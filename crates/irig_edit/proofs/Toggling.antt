@@ -8,7 +8,7 @@ use Rattle.irig_track.proofs.Laws.{has-toggled}
 use Rattle.irig_track.proofs.Rising.{length-edges_of}
 use Rattle.irig_track.proofs.Recordings.{can_toggle_room, can_toggle_first, can_toggle_second, cannot_toggle}
 use Rattle.irig_edit.specs.Becoming.{Becomes}
-use Rattle.irig_edit.specs.Calls.Call.{Invert}
+use Rattle.irig_edit.specs.Calls.Edit.{Invert}
 use Rattle.irig_edit.specs.Delta.{turned}
 use Rattle.irig_edit.specs.Delta.Delta.{Toggled}
 use Rattle.irig_edit.specs.Laws.State.{IsState-turned}

@@ -13,7 +13,8 @@ use Rattle.irig_journal.specs.Machine.{Machine}
 use Rattle.irig_moment.specs.Generated.{frame_fields}
 use Rattle.irig_moment.specs.Moment.{MomentView, IsMoment}
 use Rattle.irig_track.specs.declared.pulse.Pulse.{Pulse}
-use Rattle.irig_edit.specs.Calls.Call.{Regen}
+use Rattle.irig_edit.specs.Calls.Call.{Make}
+use Rattle.irig_edit.specs.Calls.Edit.{Regen}
 use Rattle.irig_edit.specs.Machine.{Steps, IsMachine}
 use Rattle.irig_edit.specs.Regenerated.{CanMake, frames_pulses, rising_before}
 use Rattle.irig_edit.specs.State.{frames_of}
@@ -58,7 +59,7 @@ pulses_before start m = length (rising_before start m.present.state.pulses)
 abbrev pub RegenReadsBack : Type 0
 RegenReadsBack = (start count control : ℕ) (moment : MomentView) (old new : Machine Kept)
     (r : Record) → IsMachine old → IsMoment moment.day moment.hundredths
-    → Steps (Regen start count moment control) old (Ok tt) new
+    → Steps (Make (Regen start count moment control)) old (Ok tt) new
     → pulses_before start old < r.marker → r.marker < pulses_before start old + 100 * count
     → Contains (frames_of new.present.state) r
     ↔ ((k : ℕ) × (1 ≤ k) × (k < count)
@@ -68,7 +69,7 @@ RegenReadsBack = (start count control : ℕ) (moment : MomentView) (old new : Ma
 abbrev pub RegenReadsFirstBack : Type 0
 RegenReadsFirstBack = (start count control n : ℕ) (moment : MomentView) (old new : Machine Kept)
     (p : Pulse) → IsMachine old → IsMoment moment.day moment.hundredths
-    → Steps (Regen start count moment control) old (Ok tt) new
+    → Steps (Make (Regen start count moment control)) old (Ok tt) new
     → pulses_before start old ≡ n + 1 → slice_get old.present.state.pulses n ≡ Some p
     → class_at old.present.state.format p ≡ Some Position
     → is_in_step old.present.state.format (start - p.rise) ≡ true

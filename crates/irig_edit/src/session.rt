@@ -8,11 +8,12 @@ ghost use Rattle.irig_edit.specs.Session.{LooksAfter, LooksWithin, Steps, machin
 ghost use Rattle.irig_edit.specs.Kept.{exchange, kept};
 ghost use Rattle.irig_edit.specs.Exchanges.{exchange_by};
 ghost use Rattle.irig_edit.specs.Keeping.{exchange_of};
-ghost use Rattle.irig_edit.specs.Becoming.{Becomes, IsEdit, judgement_of};
-ghost use Rattle.irig_edit.specs.Calls.{Call};
+ghost use Rattle.irig_edit.specs.Becoming.{Becomes, judgement_of};
+ghost use Rattle.irig_edit.specs.Calls.{Edit};
 ghost use Rattle.irig_edit.specs.Delta.{Fits, turned};
 ghost use Rattle.irig_edit.specs.Held.{delta_of};
-ghost use Rattle.irig_edit.specs.Calls.Call.{Undo, Redo, Go, SetFormat, SetMark};
+ghost use Rattle.irig_edit.specs.Calls.Call.{Make, Undo, Redo, Go};
+ghost use Rattle.irig_edit.specs.Calls.Edit.{SetFormat, SetMark};
 ghost use Rattle.irig_track.specs.Splices.{spliced, CanSplice};
 
 use crate::change::{Change, Splice};
@@ -78,8 +79,8 @@ impl Session {
 
     /// Sets the format.
     pub fn format(&mut self, format: Format) -> Result<(), Refusal>
-        ensures step { Steps (SetFormat format) self.old result self.new }
-        ensures looks { LooksAfter (SetFormat format) self.old result self.new }
+        ensures step { Steps (Make (SetFormat format)) self.old result self.new }
+        ensures looks { LooksAfter (Make (SetFormat format)) self.old result self.new }
     {
         let cursor = self.cursor;
         self.change(Change::SetFormat(format), cursor)
@@ -88,8 +89,8 @@ impl Session {
     /// Sets the mark of a letter a to z to a time in microseconds, or clears it.
     pub fn mark(&mut self, letter: u8, time: Option<u64>) -> Result<(), Refusal>
         requires { (97 ≤ letter) × (letter ≤ 122) }
-        ensures step { Steps (SetMark (letter - 97) time) self.old result self.new }
-        ensures looks { LooksAfter (SetMark (letter - 97) time) self.old result self.new }
+        ensures step { Steps (Make (SetMark (letter - 97) time)) self.old result self.new }
+        ensures looks { LooksAfter (Make (SetMark (letter - 97) time)) self.old result self.new }
     {
         if !self.present.may_mark(time) {
             return Err(Refusal::OutOfRange);
@@ -157,12 +158,12 @@ impl Session {
             self.old.present.state.pulses }
         requires cursor { cursor ≤
             length (spliced at count put.items self.old.present.state.pulses) }
-        ensures step { (call : Call) → IsEdit call → judgement_of call self.old.present.state ≡ None
-            → Becomes call self.old.present.state (with_pulses
+        ensures step { (edit : Edit) → judgement_of edit self.old.present.state ≡ None
+            → Becomes edit self.old.present.state (with_pulses
             (spliced at count put.items self.old.present.state.pulses)
             self.old.present.state) cursor
-            → exchange count (length put.items) ≡ exchange_by call self.old.present.state
-            → Steps call self.old result self.new }
+            → exchange count (length put.items) ≡ exchange_by edit self.old.present.state
+            → Steps (Make edit) self.old result self.new }
         ensures looks { LooksWithin self.new.present.made.forth self.old result self.new }
     {
         let splice = Splice::new(self.alloc, at, count, put);
@@ -174,12 +175,12 @@ impl Session {
         requires fits { Fits self.old.present.state (delta_of change) }
         requires cursor { cursor ≤
             length (turned self.old.present.state (delta_of change)).0.pulses }
-        ensures step { (call : Call) → IsEdit call → judgement_of call self.old.present.state ≡ None
-            → Becomes call self.old.present.state
+        ensures step { (edit : Edit) → judgement_of edit self.old.present.state ≡ None
+            → Becomes edit self.old.present.state
             (turned self.old.present.state (delta_of change)).0 cursor
             → exchange_of self.old.present.state (delta_of change)
-            ≡ exchange_by call self.old.present.state
-            → Steps call self.old result self.new }
+            ≡ exchange_by edit self.old.present.state
+            → Steps (Make edit) self.old result self.new }
         ensures looks { LooksWithin self.new.present.made.forth self.old result self.new }
         ensures ok { OnOk result (machine_in self.new ≡ recorded (machine_in self.old)
             (kept (turned self.old.present.state (delta_of change)).0 cursor

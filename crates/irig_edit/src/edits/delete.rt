@@ -3,7 +3,8 @@
 ghost use Rattle.std.specs.Prelude.{◌≡◌, ◌+◌, ◌-◌, ◌≤◌, [], None, Some, IfOk, IfErr, OnOk};
 ghost use Rattle.irig_track.specs.Splices.{spliced, CanSplice};
 ghost use Rattle.irig_edit.specs.Becoming.{Becomes, judgement_of};
-ghost use Rattle.irig_edit.specs.Calls.Call.{Delete};
+ghost use Rattle.irig_edit.specs.Calls.Call.{Make};
+ghost use Rattle.irig_edit.specs.Calls.Edit.{Delete};
 ghost use Rattle.irig_edit.specs.Session.{LooksAfter, Steps};
 ghost use Rattle.irig_edit.specs.State.{with_pulses};
 
@@ -37,8 +38,8 @@ impl Session {
     ///
     /// E2 unless the pulses are there.
     pub fn delete(&mut self, i: usize, j: usize) -> Result<(), Refusal>
-        ensures step { Steps (Delete i j) self.old result self.new }
-        ensures looks { LooksAfter (Delete i j) self.old result self.new }
+        ensures step { Steps (Make (Delete i j)) self.old result self.new }
+        ensures looks { LooksAfter (Make (Delete i j)) self.old result self.new }
     {
         let cursor = plan(&self.present, i, j)?;
         let put = Gap::new(self.alloc);

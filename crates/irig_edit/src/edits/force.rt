@@ -3,7 +3,8 @@
 ghost use Rattle.std.specs.Prelude.{◌≡◌, ◌+◌, ◌-◌, ◌≤◌, [], ◌∷◌, None, Some, IfOk, IfErr, OnOk, length};
 ghost use Rattle.irig_track.specs.Splices.{spliced, CanSplice};
 ghost use Rattle.irig_edit.specs.Becoming.{Becomes, judgement_of};
-ghost use Rattle.irig_edit.specs.Calls.Call.{Force};
+ghost use Rattle.irig_edit.specs.Calls.Call.{Make};
+ghost use Rattle.irig_edit.specs.Calls.Edit.{Force};
 ghost use Rattle.irig_edit.specs.Session.{LooksAfter, Steps};
 ghost use Rattle.irig_edit.specs.Conditions.{meets_next};
 ghost use Rattle.irig_edit.specs.State.{with_pulses};
@@ -55,8 +56,8 @@ impl Session {
     /// E1 where the new fall is beyond the length; E2 unless the pulse is there; E3 where the new
     /// fall is at or after the next rise.
     pub fn force(&mut self, i: usize, element: Element) -> Result<(), Refusal>
-        ensures step { Steps (Force i element) self.old result self.new }
-        ensures looks { LooksAfter (Force i element) self.old result self.new }
+        ensures step { Steps (Make (Force i element)) self.old result self.new }
+        ensures looks { LooksAfter (Make (Force i element)) self.old result self.new }
     {
         let pulse = plan(&self.present, i, element)?;
         let put = one(self.alloc, pulse)?;

@@ -3,7 +3,8 @@
 ghost use Rattle.std.specs.Prelude.{◌≡◌, ◌+◌, [], ◌∷◌, None, Some, IfOk, IfErr, OnOk};
 ghost use Rattle.irig_track.specs.Edges.{pulse};
 ghost use Rattle.irig_track.specs.Splices.{spliced, CanSplice};
-ghost use Rattle.irig_edit.specs.Calls.Call.{Insert};
+ghost use Rattle.irig_edit.specs.Calls.Call.{Make};
+ghost use Rattle.irig_edit.specs.Calls.Edit.{Insert};
 ghost use Rattle.irig_edit.specs.Becoming.{Becomes, judgement_of};
 ghost use Rattle.irig_edit.specs.Session.{LooksAfter, Steps};
 ghost use Rattle.irig_edit.specs.State.{with_pulses};
@@ -42,8 +43,8 @@ impl Session {
     /// E1 unless `a < b` and `b` is within the length; E3 where an edge lies from `a` to `b` or the
     /// level at `a` is high; E5 where there are 2^22 pulses.
     pub fn insert(&mut self, a: u64, b: u64) -> Result<(), Refusal>
-        ensures step { Steps (Insert a b) self.old result self.new }
-        ensures looks { LooksAfter (Insert a b) self.old result self.new }
+        ensures step { Steps (Make (Insert a b)) self.old result self.new }
+        ensures looks { LooksAfter (Make (Insert a b)) self.old result self.new }
     {
         let at = plan(&self.present, a, b)?;
         let put = one(self.alloc, Pulse { rise: a, fall: b })?;

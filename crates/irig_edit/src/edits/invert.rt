@@ -3,7 +3,8 @@
 ghost use Rattle.std.specs.Prelude.{◌≡◌, None, Some, IfErr, OnOk};
 ghost use Rattle.irig_track.specs.Toggles.{CanToggle};
 ghost use Rattle.irig_edit.specs.Becoming.{judgement_of};
-ghost use Rattle.irig_edit.specs.Calls.Call.{Invert};
+ghost use Rattle.irig_edit.specs.Calls.Call.{Make};
+ghost use Rattle.irig_edit.specs.Calls.Edit.{Invert};
 ghost use Rattle.irig_edit.specs.Session.{LooksAfter, Steps};
 
 use crate::change::Change;
@@ -35,8 +36,8 @@ impl Session {
     /// E1 unless `a < b` and `b` is within the length; E5 where there would be more than 2^22
     /// pulses.
     pub fn invert(&mut self, a: u64, b: u64) -> Result<(), Refusal>
-        ensures step { Steps (Invert a b) self.old result self.new }
-        ensures looks { LooksAfter (Invert a b) self.old result self.new }
+        ensures step { Steps (Make (Invert a b)) self.old result self.new }
+        ensures looks { LooksAfter (Make (Invert a b)) self.old result self.new }
     {
         plan(&self.present, a, b)?;
         self.change(Change::Toggle { a, b }, 0)?;

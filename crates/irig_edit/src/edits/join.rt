@@ -3,7 +3,8 @@
 ghost use Rattle.std.specs.Prelude.{◌≡◌, ◌+◌, ◌-◌, ◌≤◌, ◌<◌, [], ◌∷◌, None, Some, IfOk, IfErr, OnOk};
 ghost use Rattle.irig_track.specs.Splices.{spliced, CanSplice};
 ghost use Rattle.irig_edit.specs.Becoming.{Becomes, judgement_of};
-ghost use Rattle.irig_edit.specs.Calls.Call.{Join};
+ghost use Rattle.irig_edit.specs.Calls.Call.{Make};
+ghost use Rattle.irig_edit.specs.Calls.Edit.{Join};
 ghost use Rattle.irig_edit.specs.Session.{LooksAfter, Steps};
 ghost use Rattle.irig_edit.specs.State.{with_pulses};
 
@@ -41,8 +42,8 @@ impl Session {
     ///
     /// E2 unless the pulses are there and `i` is before `j`.
     pub fn join(&mut self, i: usize, j: usize) -> Result<(), Refusal>
-        ensures step { Steps (Join i j) self.old result self.new }
-        ensures looks { LooksAfter (Join i j) self.old result self.new }
+        ensures step { Steps (Make (Join i j)) self.old result self.new }
+        ensures looks { LooksAfter (Make (Join i j)) self.old result self.new }
     {
         let pulse = plan(&self.present, i, j)?;
         let put = one(self.alloc, pulse)?;

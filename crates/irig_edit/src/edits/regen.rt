@@ -5,7 +5,8 @@ ghost use Rattle.irig_codes.specs.Format.{control_count_of};
 ghost use Rattle.irig_moment.specs.Generated.{starts_in};
 ghost use Rattle.irig_track.specs.Splices.{spliced, CanSplice};
 ghost use Rattle.irig_edit.specs.Becoming.{Becomes, judgement_of};
-ghost use Rattle.irig_edit.specs.Calls.Call.{Regen};
+ghost use Rattle.irig_edit.specs.Calls.Call.{Make};
+ghost use Rattle.irig_edit.specs.Calls.Edit.{Regen};
 ghost use Rattle.irig_edit.specs.Conditions.{are_frames, is_met};
 ghost use Rattle.irig_edit.specs.Exchanges.{exchange_by};
 ghost use Rattle.irig_edit.specs.Kept.{exchange};
@@ -131,8 +132,9 @@ impl Session {
         moment: Moment,
         control: u64,
     ) -> Result<(), Refusal>
-        ensures step { Steps (Regen start frames moment control) self.old result self.new }
-        ensures looks { LooksAfter (Regen start frames moment control) self.old result self.new }
+        ensures step { Steps (Make (Regen start frames moment control)) self.old result self.new }
+        ensures looks { LooksAfter (Make (Regen start frames moment control)) self.old result
+            self.new }
     {
         let stretch = plan(&self.present, start, frames, moment, control)?;
         let format = self.present.format();

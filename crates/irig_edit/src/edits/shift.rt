@@ -3,7 +3,8 @@
 ghost use Rattle.std.specs.Prelude.{◌≡◌, ◌-◌, ◌≤◌, None, Some, IfOk, IfErr, OnOk, length};
 ghost use Rattle.irig_track.specs.Shifts.{CanShift};
 ghost use Rattle.irig_edit.specs.Becoming.{Becomes, judgement_of};
-ghost use Rattle.irig_edit.specs.Calls.Call.{Shift};
+ghost use Rattle.irig_edit.specs.Calls.Call.{Make};
+ghost use Rattle.irig_edit.specs.Calls.Edit.{Shift};
 ghost use Rattle.irig_edit.specs.Conditions.{leaves};
 ghost use Rattle.irig_edit.specs.Delta.{Fits, turned};
 ghost use Rattle.irig_edit.specs.Delta.Delta.{Shifted};
@@ -86,8 +87,8 @@ impl Session {
     /// E1 where the moved pulses leave the track; E2 unless the pulses are there; E3 where they
     /// meet the pulse before them or the one behind.
     pub fn shift(&mut self, i: usize, j: usize, by: i64) -> Result<(), Refusal>
-        ensures step { Steps (Shift i j by) self.old result self.new }
-        ensures looks { LooksAfter (Shift i j by) self.old result self.new }
+        ensures step { Steps (Make (Shift i j by)) self.old result self.new }
+        ensures looks { LooksAfter (Make (Shift i j by)) self.old result self.new }
     {
         let shift = plan(&self.present, i, j, by)?;
         self.change(Change::Shift(shift), j)

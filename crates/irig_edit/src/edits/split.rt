@@ -4,7 +4,8 @@ ghost use Rattle.std.specs.Prelude.{◌≡◌, ◌+◌, ◌-◌, ◌≤◌, [], 
 ghost use Rattle.irig_track.specs.Edges.{pulse};
 ghost use Rattle.irig_track.specs.Splices.{spliced, CanSplice};
 ghost use Rattle.irig_edit.specs.Becoming.{Becomes, judgement_of};
-ghost use Rattle.irig_edit.specs.Calls.Call.{Split};
+ghost use Rattle.irig_edit.specs.Calls.Call.{Make};
+ghost use Rattle.irig_edit.specs.Calls.Edit.{Split};
 ghost use Rattle.irig_edit.specs.Session.{LooksAfter, Steps};
 ghost use Rattle.irig_edit.specs.State.{with_pulses};
 
@@ -49,8 +50,8 @@ impl Session {
     /// E1 unless `a < b` and `b` is within the length; E2 unless the pulse is there; E4 unless both
     /// lie inside of it; E5 where there are 2^22 pulses.
     pub fn split(&mut self, i: usize, a: u64, b: u64) -> Result<(), Refusal>
-        ensures step { Steps (Split i a b) self.old result self.new }
-        ensures looks { LooksAfter (Split i a b) self.old result self.new }
+        ensures step { Steps (Make (Split i a b)) self.old result self.new }
+        ensures looks { LooksAfter (Make (Split i a b)) self.old result self.new }
     {
         let pulse = plan(&self.present, i, a, b)?;
         let first = Pulse {

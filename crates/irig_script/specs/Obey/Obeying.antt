@@ -5,7 +5,7 @@ use Rattle.irig_vcd.specs.FileText.{file_text}
 use Rattle.irig_codes.specs.Format.{FormatView, is_permitted}
 use Rattle.irig_codes.specs.declared.format.Kind.{Kind}
 use Rattle.irig_edit.specs.State.{recording_of}
-use Rattle.irig_edit.specs.Calls.{Call}
+use Rattle.irig_edit.specs.Calls.{Call, Edit}
 use Rattle.irig_edit.specs.Conditions.{are_pulses}
 use Rattle.irig_edit.specs.Session.{Steps}
 use Rattle.irig_edit.specs.declared.refusal.Refusal.{Refusal}
@@ -23,6 +23,10 @@ abbrev pub Calls : Call → Machine → Reply → Machine → Type 0
 Calls call old Silent new = Steps call old (Ok tt) new
 Calls call old (Refused why) new = Steps call old (Err why) new
 Calls call old _ new = ⊥
+
+-- an edit was made or refused
+abbrev pub Makes : Edit → Machine → Reply → Machine → Type 0
+Makes edit old reply new = Calls (Call.Make edit) old reply new
 
 -- the text was put and its bytes are told, or its memory was wanting, or the shelf failed
 abbrev pub Writes : Machine → Reply → Type 0
@@ -55,7 +59,7 @@ format kind n = record { kind = kind; expression = n }
 
 -- a format is set that permits the expression, or the pair is none
 abbrev pub Formats : Bool → FormatView → Machine → Reply → Machine → Type 0
-Formats true f old reply new = Calls (Call.SetFormat f) old reply new
+Formats true f old reply new = Makes (Edit.SetFormat f) old reply new
 Formats false f old reply new = (reply ≡ Refused refusal.BadExpression) × (new ≡ old)
 
 -- the session may give this reply to this command, and go on to new
@@ -65,25 +69,25 @@ Obeys (command.Show a) old reply new = Shows (place_of a old) old reply new
 Obeys (command.List r) old reply new =
     Lists (first_of r old) (last_of r old) old reply × (new ≡ old)
 Obeys (command.Delete r) old reply new =
-    Calls (Call.Delete (first_of r old) (last_of r old)) old reply new
+    Makes (Edit.Delete (first_of r old) (last_of r old)) old reply new
 Obeys (command.Shift r d) old reply new =
-    Calls (Call.Shift (first_of r old) (last_of r old) d) old reply new
+    Makes (Edit.Shift (first_of r old) (last_of r old) d) old reply new
 Obeys (command.Join r) old reply new =
-    Calls (Call.Join (first_of r old) (join_last_of r old)) old reply new
+    Makes (Edit.Join (first_of r old) (join_last_of r old)) old reply new
 Obeys (command.Split a s t) old reply new =
-    Calls (Call.Split (place_of a old) (time_of s old) (time_of t old)) old reply new
-Obeys (command.Force a e) old reply new = Calls (Call.Force (place_of a old) e) old reply new
+    Makes (Edit.Split (place_of a old) (time_of s old) (time_of t old)) old reply new
+Obeys (command.Force a e) old reply new = Makes (Edit.Force (place_of a old) e) old reply new
 Obeys (command.Insert s t) old reply new =
-    Calls (Call.Insert (time_of s old) (time_of t old)) old reply new
+    Makes (Edit.Insert (time_of s old) (time_of t old)) old reply new
 Obeys (command.Invert s t) old reply new =
-    Calls (Call.Invert (time_of s old) (time_of t old)) old reply new
+    Makes (Edit.Invert (time_of s old) (time_of t old)) old reply new
 Obeys (command.Regen s frames moment control) old reply new =
-    Calls (Call.Regen (time_of s old) frames moment control) old reply new
+    Makes (Edit.Regen (time_of s old) frames moment control) old reply new
 Obeys (command.Format kind n) old reply new =
     Formats (is_permitted kind n) (format kind n) old reply new
 Obeys (command.Mark letter t) old reply new =
-    Calls (Call.SetMark (letter - 97) (Some (time_of t old))) old reply new
-Obeys (command.Unmark letter) old reply new = Calls (Call.SetMark (letter - 97) None) old reply new
+    Makes (Edit.SetMark (letter - 97) (Some (time_of t old))) old reply new
+Obeys (command.Unmark letter) old reply new = Makes (Edit.SetMark (letter - 97) None) old reply new
 Obeys command.Undo old reply new = Calls Call.Undo old reply new
 Obeys command.Redo old reply new = Calls Call.Redo old reply new
 Obeys command.Frames old reply new = (reply ≡ told.Frames) × (new ≡ old)

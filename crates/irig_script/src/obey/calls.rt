@@ -2,8 +2,8 @@
 
 ghost use Rattle.std.specs.Prelude.{◌≡◌, ◌-◌, Some, None};
 ghost use Rattle.irig_codes.specs.Format.{is_permitted};
-ghost use Rattle.irig_edit.specs.Calls.{Call};
-ghost use Rattle.irig_script.specs.Obey.Obeying.{Calls, Formats, Lists, Shows, format, reply_to};
+ghost use Rattle.irig_edit.specs.Calls.{Call, Edit};
+ghost use Rattle.irig_script.specs.Obey.Obeying.{Calls, Formats, Lists, Makes, Shows, format, reply_to};
 ghost use Rattle.irig_script.specs.Obey.Places.{place_of, first_of, last_of, join_last_of, time_of};
 
 use crate::obey::places::{ends, join_ends, place, time};
@@ -51,7 +51,7 @@ pub fn list(session: &Session, range: Range) -> Reply
 
 /// Takes pulses out.
 pub fn delete(session: &mut Session, range: Range) -> Reply
-    ensures { Calls (Call.Delete (first_of range session.old) (last_of range session.old))
+    ensures { Makes (Edit.Delete (first_of range session.old) (last_of range session.old))
         session.old result session.new }
 {
     let (i, j) = ends(session, &range);
@@ -60,7 +60,7 @@ pub fn delete(session: &mut Session, range: Range) -> Reply
 
 /// Moves pulses.
 pub fn shift(session: &mut Session, range: Range, by: i64) -> Reply
-    ensures { Calls (Call.Shift (first_of range session.old) (last_of range session.old) by)
+    ensures { Makes (Edit.Shift (first_of range session.old) (last_of range session.old) by)
         session.old result session.new }
 {
     let (i, j) = ends(session, &range);
@@ -69,7 +69,7 @@ pub fn shift(session: &mut Session, range: Range, by: i64) -> Reply
 
 /// Makes one pulse of several.
 pub fn join(session: &mut Session, range: Range) -> Reply
-    ensures { Calls (Call.Join (first_of range session.old) (join_last_of range session.old))
+    ensures { Makes (Edit.Join (first_of range session.old) (join_last_of range session.old))
         session.old result session.new }
 {
     let (i, j) = join_ends(session, &range);
@@ -78,7 +78,7 @@ pub fn join(session: &mut Session, range: Range) -> Reply
 
 /// Makes the level low inside of a pulse.
 pub fn split(session: &mut Session, address: Address, from: Time, to: Time) -> Reply
-    ensures { Calls (Call.Split (place_of address session.old) (time_of from session.old)
+    ensures { Makes (Edit.Split (place_of address session.old) (time_of from session.old)
         (time_of to session.old)) session.old result session.new }
 {
     let i = place(session, &address);
@@ -88,7 +88,7 @@ pub fn split(session: &mut Session, address: Address, from: Time, to: Time) -> R
 
 /// Gives a pulse the width of an element.
 pub fn force(session: &mut Session, address: Address, element: Element) -> Reply
-    ensures { Calls (Call.Force (place_of address session.old) element)
+    ensures { Makes (Edit.Force (place_of address session.old) element)
         session.old result session.new }
 {
     let i = place(session, &address);
@@ -97,7 +97,7 @@ pub fn force(session: &mut Session, address: Address, element: Element) -> Reply
 
 /// Puts a pulse in.
 pub fn insert(session: &mut Session, from: Time, to: Time) -> Reply
-    ensures { Calls (Call.Insert (time_of from session.old) (time_of to session.old))
+    ensures { Makes (Edit.Insert (time_of from session.old) (time_of to session.old))
         session.old result session.new }
 {
     let (a, b) = (time(session, &from), time(session, &to));
@@ -106,7 +106,7 @@ pub fn insert(session: &mut Session, from: Time, to: Time) -> Reply
 
 /// Turns the level between two times.
 pub fn invert(session: &mut Session, from: Time, to: Time) -> Reply
-    ensures { Calls (Call.Invert (time_of from session.old) (time_of to session.old))
+    ensures { Makes (Edit.Invert (time_of from session.old) (time_of to session.old))
         session.old result session.new }
 {
     let (a, b) = (time(session, &from), time(session, &to));
@@ -115,7 +115,7 @@ pub fn invert(session: &mut Session, from: Time, to: Time) -> Reply
 
 /// Writes frames anew.
 pub fn regen(session: &mut Session, start: Time, frames: u64, from: Moment, control: u64) -> Reply
-    ensures { Calls (Call.Regen (time_of start session.old) frames from control)
+    ensures { Makes (Edit.Regen (time_of start session.old) frames from control)
         session.old result session.new }
 {
     let start = time(session, &start);
@@ -135,7 +135,7 @@ pub fn set_format(session: &mut Session, kind: Kind, expression: u8) -> Reply
 
 /// Sets a mark.
 pub fn mark(session: &mut Session, letter: Letter, at: Time) -> Reply
-    ensures { Calls (Call.SetMark (letter - 97) (Some (time_of at session.old)))
+    ensures { Makes (Edit.SetMark (letter - 97) (Some (time_of at session.old)))
         session.old result session.new }
 {
     let time = time(session, &at);
@@ -144,7 +144,7 @@ pub fn mark(session: &mut Session, letter: Letter, at: Time) -> Reply
 
 /// Clears a mark.
 pub fn unmark(session: &mut Session, letter: Letter) -> Reply
-    ensures { Calls (Call.SetMark (letter - 97) None) session.old result session.new }
+    ensures { Makes (Edit.SetMark (letter - 97) None) session.old result session.new }
 {
     edited(session.mark(letter.byte(), None))
 }

@@ -3,7 +3,7 @@ use Rattle.std.proofs.lemmas.Int.{to_z-of_z}
 use Rattle.irig_track.specs.declared.pulse.Pulse.{Pulse}
 use Rattle.irig_track.specs.Shifts.{CanShift}
 use Rattle.irig_edit.specs.Becoming.{Becomes}
-use Rattle.irig_edit.specs.Calls.Call.{Shift}
+use Rattle.irig_edit.specs.Calls.Edit.{Shift}
 use Rattle.irig_edit.specs.Delta.{turned}
 use Rattle.irig_edit.specs.Delta.Delta.{Shifted}
 use Rattle.irig_edit.specs.Edits.{pulse_of}

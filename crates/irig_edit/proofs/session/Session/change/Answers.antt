@@ -64,9 +64,9 @@ returns-in-Ok-clause-step c =
     let step = machine-made s c.record.new.state.state d c.self.inside.cursor c.args.cursor (past_of delta_of c.self.inside.journal) (future_of delta_of c.self.inside.journal)
     (past_of delta_of c.record.new.self) (future_of delta_of c.record.new.self) c.self.invariant.0.present.state fits stands c.in-Ok.ensures.steps.0 c.in-Ok.ensures.steps.1
     ∙ ap (λ (m : SessionView). recorded (machine_in m) (kept (turned m.present.state d).0 c.args.cursor (exchange_of m.present.state d))) c.self.view_is in
-    λ call edit none becomes exchanged.
+    λ edit none becomes exchanged.
     let now = c.args.self.now.present.state in
-    steps_becomes call (machine_in c.args.self.now) _ (Ok tt) (turned now d).0 c.args.cursor (exchange_of now d) edit none becomes exchanged step tt
+    steps_becomes edit (machine_in c.args.self.now) _ (Ok tt) (turned now d).0 c.args.cursor (exchange_of now d) none becomes exchanged step tt
 
 pub returns-in-Ok-clause-looks : goal.returns-in-Ok-clause-looks
 returns-in-Ok-clause-looks c =

@@ -3,7 +3,7 @@ use Rattle.irig_journal.specs.Machine.{Machine}
 use Rattle.irig_track.specs.Splices.{risen_by}
 use Rattle.irig_track.specs.Toggles.{CanToggle}
 use Rattle.irig_edit.specs.Becoming.{judgement_of}
-use Rattle.irig_edit.specs.Calls.Call.{Invert}
+use Rattle.irig_edit.specs.Calls.Edit.{Invert}
 use Rattle.irig_edit.specs.Delta.{turned}
 use Rattle.irig_edit.specs.Delta.Delta.{Toggled}
 use Rattle.irig_edit.specs.Machine.{with_cursor}
