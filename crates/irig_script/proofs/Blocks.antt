@@ -1,14 +1,19 @@
 -- Texts sent through a block.
-use Rattle.std.proofs.Common.{[], ◌≡◌, ◌++◌, ℕ, List, Option, None, Some, sym, ap, ◌∙◌, append_assoc, subst}
+use Rattle.std.proofs.Common.{[], ◌∷◌, ◌≡◌, ◌≢◌, ◌++◌, ℕ, List, Option, None, Some, refl, sym, ap, ◌∙◌, append_assoc, subst}
 use Rattle.std.proofs.lemmas.List.{append-nil}
 use Rattle.std.specs.Io.KnownBytes.{Appends}
 use Rattle.irig_script.specs.Print.Blocks.{Sends}
 use Rattle.irig_script.specs.Print.Front.{AppendsFront}
 use Rattle.irig_script.proofs.Known.{appends-appends}
 
+-- what is missing of a text is missing of a longer one
+missing_longer : (x y : List ℕ) → x ≢ [] → x ++ y ≢ []
+missing_longer [] y h = absurd (h refl)
+missing_longer (b ∷ x) y h = λ e. absurd (cc)
+
 -- some of a text's front is some of a longer text's front
 pub front_longer : (a b : Option (List ℕ)) (x y : List ℕ) → AppendsFront a b x → AppendsFront a b (x ++ y)
-front_longer a b x y p = record { front = p.front; back = p.back ++ y; part = ap (λ l. l ++ y) p.part ∙ append_assoc p.front p.back y; appends = p.appends }
+front_longer a b x y p = record { front = p.front; back = p.back ++ y; part = ap (λ l. l ++ y) p.part ∙ append_assoc p.front p.back y; missing = missing_longer p.back y p.missing; appends = p.appends }
 
 appends_nothing : (a : Option (List ℕ)) → Appends a a []
 appends_nothing None = tt
@@ -39,6 +44,7 @@ pub sends_front : (a b c : Option (List ℕ)) (x t u : List ℕ) → Sends a b [
 sends_front a b c x t u p q = record {
   front = p.0 ++ q.front;
   back = q.back;
+  missing = q.missing;
   part = ap (λ l. l ++ u) p.2 ∙ append_assoc p.0 x u ∙ ap (λ l. p.0 ++ l) q.part ∙ sym (append_assoc p.0 q.front q.back);
   appends = appends-appends a b c p.0 q.front p.1 q.appends;
 }
@@ -48,6 +54,7 @@ pub sends_end : (a b c : Option (List ℕ)) (x t : List ℕ) → Sends a b [] x 
 sends_end a b c x t p q = record {
   front = p.0 ++ q.front;
   back = q.back;
+  missing = q.missing;
   part = p.2 ∙ ap (λ l. p.0 ++ l) q.part ∙ sym (append_assoc p.0 q.front q.back);
   appends = appends-appends a b c p.0 q.front p.1 q.appends;
 }

@@ -1,5 +1,5 @@
 -- Bytes that are known, over several calls.
-use Rattle.std.proofs.Common.{[], ◌≡◌, ◌++◌, ℕ, List, Option, Some, None, refl, ap, sym, ◌∙◌, append_assoc, subst, length, take, drop, ◌-◌, ◌+◌}
+use Rattle.std.proofs.Common.{[], ◌≡◌, ◌≢◌, ◌++◌, ℕ, List, Option, Some, None, refl, ap, sym, ◌∙◌, append_assoc, subst, length, take, drop, ◌-◌, ◌+◌, ◌<◌, arith}
 use Rattle.std.proofs.Math.Seq.{take-add, take-length}
 use Rattle.std.proofs.lemmas.List.{length-drop}
 use Rattle.std.specs.Io.KnownBytes.{Appends, Consumes, Keeps}
@@ -31,6 +31,10 @@ consumes-keeps (Some s) (Some t) (Some u) x p q = p ∙ ap (λ l. x ++ l) (sym q
 -- what is left of a text is all that is behind a place
 pub rest_whole : (l : List ℕ) (done : ℕ) → take (length l - done) (drop done l) ≡ drop done l
 rest_whole l done = ap (λ n. take n (drop done l)) (sym (length-drop done l)) ∙ take-length (drop done l)
+
+-- and before the end of the text it is not nothing
+pub rest_some : (l : List ℕ) (done : ℕ) → done < length l → drop done l ≢ []
+rest_some l done h = λ e. absurd (omega (arith, h, sym (length-drop done l) ∙ ap length e))
 
 -- a write more, of n bytes of what is left
 pub wrote_more : (a b c : Option (List ℕ)) (bytes : List ℕ) (done n : ℕ) → Appends a b (take done bytes)

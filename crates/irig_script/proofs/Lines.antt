@@ -1,5 +1,5 @@
 -- A script by its lines, and what they make of a desk and a machine.
-use Rattle.std.proofs.Common.{◌≡◌, ◌==◌, ◌+◌, ◌<◌, ◌++◌, ◌∷◌, [], ℕ, Option, Some, None, Bool, true, false, List, length, take, drop, get_or, refl, ap, sym, ◌∙◌, subst, append_assoc, add-one, arith}
+use Rattle.std.proofs.Common.{◌≡◌, ◌≢◌, ◌==◌, ◌+◌, ◌<◌, ◌++◌, ◌∷◌, [], ℕ, Option, Some, None, Bool, true, false, List, length, take, drop, get_or, refl, ap, sym, ◌∙◌, subst, append_assoc, add-one, arith}
 use Rattle.std.specs.Prelude.{Result, Ok, Err, OnErr, ◌≤◌}
 use Rattle.std.specs.List.{AllByRecursion}
 use Rattle.std.specs.Io.KnownBytes.{Appends}
@@ -212,6 +212,7 @@ broke_more a b c st su s t u one two mid h k =
       rest = m.rest;
       texts = h.texts ++ m.texts;
       part = m.part;
+      missing = m.missing;
       told = subst (λ (l : List Answer). Tells a c (printed (h.answers ++ m.answers) ++ m.front) l (h.texts ++ m.texts)) back some;
       goes = subst (λ (l : List Answer). Goes (one ++ two) s l (h.texts ++ m.texts) u m.rest) back (goes-goes one two s t u left m.rest h.answers (m.answers ++ m.last ∷ []) h.texts m.texts h.ends.1 m.goes);
     }
@@ -225,6 +226,7 @@ broke_rest a b s t one more m = record {
   rest = m.rest ++ more;
   texts = m.texts;
   part = m.part;
+  missing = m.missing;
   told = m.told;
   goes = goes_rest one more s t m.rest (m.answers ++ m.last ∷ []) m.texts m.goes;
 }
@@ -262,9 +264,9 @@ obeyed_end out t u f n st text s m line plain q e p =
     (subst (λ (k : Machine). Obeyed true (desk out t f) (desk out t f) st st s k (text ++ 10 ∷ []) line) (sym e) (obeyed_quit (desk out t f) st text s line plain q))
 
 pub broke_line : (a b : Desk) (text : List ℕ) (s t : Machine) (front back : List ℕ) (answer : Answer) → IsPlain text → is_quit text ≡ false → Answered s text answer t
-    → answer.text ≡ front ++ back → Tells a b front (answer ∷ []) (texts_put s answer.reply) → BrokeIn a b s t (text ++ 10 ∷ [])
-broke_line a b text s t front back answer plain q h e p =
-    record { answers = []; last = answer; front = front; back = back; rest = []; texts = texts_put s answer.reply; part = e; told = p; goes = goes_line text s t answer (plain, q) h }
+    → answer.text ≡ front ++ back → back ≢ [] → Tells a b front (answer ∷ []) (texts_put s answer.reply) → BrokeIn a b s t (text ++ 10 ∷ [])
+broke_line a b text s t front back answer plain q h e n p =
+    record { answers = []; last = answer; front = front; back = back; rest = []; texts = texts_put s answer.reply; part = e; missing = n; told = p; goes = goes_line text s t answer (plain, q) h }
 
 pub given : {T E P : Type 0} (r : Result T E) → P → OnErr r P
 given (Ok x) p = tt
@@ -304,8 +306,8 @@ ran_line a b st su s t text answer plain q some h p e =
     record { answers = answer ∷ []; texts = texts_put s answer.reply; status = e; told = p; runs = rw (at_end text plain q some) (runs_one s t text answer h) }
 
 pub broken_line : (a b : Desk) (s t : Machine) (text front back : List ℕ) (answer : Answer) → IsPlain text → is_quit text ≡ false → (length text == 0) ≡ false → Answered s text answer t
-    → answer.text ≡ front ++ back → Tells a b front (answer ∷ []) (texts_put s answer.reply) → Broke a b s t text
-broken_line a b s t text front back answer plain q some h e p =
+    → answer.text ≡ front ++ back → back ≢ [] → Tells a b front (answer ∷ []) (texts_put s answer.reply) → Broke a b s t text
+broken_line a b s t text front back answer plain q some h e n p =
     record {
       lines = text ∷ [];
       others = [];
@@ -316,6 +318,7 @@ broken_line a b s t text front back answer plain q some h e p =
       texts = texts_put s answer.reply;
       cut = at_end text plain q some;
       part = e;
+      missing = n;
       told = p;
       runs = runs_one s t text answer h;
     }

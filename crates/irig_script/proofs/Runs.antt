@@ -62,6 +62,7 @@ run_broke (Some input) (Some ys) a b s t read p m =
       texts = m.texts;
       cut = ap script_lines whole ∙ lines_and goes.lines (m.rest ++ ys) goes.each;
       part = m.part;
+      missing = m.missing;
       told = m.told;
       runs = goes.runs;
     }
@@ -90,6 +91,7 @@ run_broken (Some input) (Some ys) a b c st su s t u read line p e h f =
       texts = h.texts ++ m.texts;
       cut = ap script_lines whole ∙ (lines_and goes.lines left goes.each ∙ (ap (λ l. goes.lines ++ l) m.cut ∙ sym (append_assoc goes.lines m.lines m.others)));
       part = m.part;
+      missing = m.missing;
       told = subst (λ (l : List Answer). Tells a c (printed (h.answers ++ m.answers) ++ m.front) l (h.texts ++ m.texts)) back some;
       runs = subst (λ (l : List Answer). Runs s (goes.lines ++ m.lines) l (h.texts ++ m.texts) u) back (runs-runs s t u goes.lines m.lines h.answers (m.answers ++ m.last ∷ []) h.texts m.texts goes.runs m.runs);
     }

@@ -1,6 +1,6 @@
 -- How far a part of a script has been obeyed, and what a line buffer holds of it. This project's
 -- own.
-use Rattle.std.specs.Prelude.{◌≡◌, ℕ, Bool, true, false, List, [], ◌∷◌, ◌++◌, length, take, min, nat_lt, Option, Some, None}
+use Rattle.std.specs.Prelude.{◌≡◌, ◌≢◌, ℕ, Bool, true, false, List, [], ◌∷◌, ◌++◌, length, take, min, nat_lt, Option, Some, None}
 use Rattle.irig_script.specs.Obey.Machine.{Machine}
 use Rattle.irig_script.specs.Script.Lines.{is_quit}
 use Rattle.irig_script.specs.Obey.Answer.{Step}
@@ -45,6 +45,7 @@ pub record BrokeIn (from to : Desk) (old new : Machine) (bytes : List ℕ) : Typ
   pub rest : List ℕ
   pub texts : List (List ℕ)
   pub part : last.text ≡ front ++ back
+  pub missing : back ≢ []
   pub told : Tells from to (printed answers ++ front) (answers ++ last ∷ []) texts
   pub goes : Goes bytes old (answers ++ last ∷ []) texts new rest
 

@@ -1,6 +1,6 @@
 -- The run of a script: its lines are steps of the machine of whole states. And what a run leaves
 -- that a failed read or write has ended. This project's own.
-use Rattle.std.specs.Prelude.{◌≡◌, ◌==◌, ◌≤◌, ℕ, true, false, not, List, [], ◌∷◌, ◌++◌, Option, length}
+use Rattle.std.specs.Prelude.{◌≡◌, ◌≢◌, ◌==◌, ◌≤◌, ℕ, true, false, not, List, [], ◌∷◌, ◌++◌, Option, length}
 use Rattle.std.specs.List.{list_all, flat_map, AllByRecursion}
 use Rattle.std.specs.Io.KnownBytes.{Consumes}
 use Rattle.irig_script.specs.Obey.Machine.{Machine}
@@ -29,7 +29,7 @@ pub record Ran (from to : Desk) (before after : Status) (old new : Machine) (scr
   pub told : Tells from to (printed answers) answers texts
   pub runs : Runs old (script_lines script) answers texts new
 
--- some lines of the script were obeyed; of the last answer only a front was printed
+-- some lines of the script were obeyed; of the last answer only a front was printed, and not all
 pub record Broke (from to : Desk) (old new : Machine) (script : List ℕ) : Type 0 where
   pub lines : List (List ℕ)
   pub others : List (List ℕ)
@@ -40,6 +40,7 @@ pub record Broke (from to : Desk) (old new : Machine) (script : List ℕ) : Type
   pub texts : List (List ℕ)
   pub cut : script_lines script ≡ lines ++ others
   pub part : last.text ≡ front ++ back
+  pub missing : back ≢ []
   pub told : Tells from to (printed answers ++ front) (answers ++ last ∷ []) texts
   pub runs : Runs old lines (answers ++ last ∷ []) texts new
 

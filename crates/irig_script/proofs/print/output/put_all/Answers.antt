@@ -1,6 +1,6 @@
 use Rattle.std.proofs.Common.{take, drop, ◌+◌, sym, arith, length-drop}
 use Rattle.std.proofs.lemmas.List.{take-append-drop}
-use Rattle.irig_script.proofs.Known.{appends-keeps, wrote_more, rest_whole}
+use Rattle.irig_script.proofs.Known.{appends-keeps, wrote_more, rest_some, rest_whole}
 use Rattle.irig_script.proofs.print.output.put_all.Goals as goal
 
 pub loop-done-preserved : goal.loop-done-preserved
@@ -14,6 +14,7 @@ returns-in-Ok-eq0-clause-err g c = record {
   front = take (c.loop-done.done + c.in-Ok-eq0.field-0) c.args.bytes.now;
   back = drop (c.loop-done.done + c.in-Ok-eq0.field-0) c.args.bytes.now;
   part = sym (take-append-drop _ _);
+  missing = rest_some c.args.bytes.now (c.loop-done.done + c.in-Ok-eq0.field-0) (omega (arith, c.loop-done-test.true, c.in-Ok-eq0.field-0-test));
   appends = wrote_more _ _ _ c.args.bytes.now c.loop-done.done c.in-Ok-eq0.field-0 c.loop-done.invariant.1 c.in-Ok-eq0.ensures.bytes;
 }
 
@@ -22,5 +23,6 @@ returns-in-Err-clause-err g c = record {
   front = take c.loop-done.done c.args.bytes.now;
   back = drop c.loop-done.done c.args.bytes.now;
   part = sym (take-append-drop _ _);
+  missing = rest_some c.args.bytes.now c.loop-done.done c.loop-done-test.true;
   appends = appends-keeps _ _ _ _ c.loop-done.invariant.1 c.in-Err.ensures.bytes;
 }
