@@ -12,3 +12,6 @@ pub mod Pieces
 pub mod Numbered
 pub mod MarkLines
 pub mod FrameLines
+pub mod SameCommand
+pub mod SameReply
+pub mod SameRun

@@ -5,5 +5,6 @@ pub mod Obeying
 pub mod Answer
 pub mod Desk
 pub mod Run
+pub mod OneRun
 pub mod Going
 pub mod Editing

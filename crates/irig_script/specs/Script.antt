@@ -7,3 +7,4 @@ pub mod Tables
 pub mod Keywords
 pub mod Grammar
 pub mod Lines
+pub mod OneCommand

@@ -1,6 +1,7 @@
 //! Scripts of edits: what their lines ask for, what is done for them and what is printed.
 #![tactic(auto)]
 
+mod law;
 mod obey;
 mod print;
 mod script;
@@ -8,6 +9,7 @@ mod shelf;
 #[cfg(test)]
 mod tests;
 
+pub use law::{lines_ask_for_one_command, scripts_have_one_run};
 pub use obey::editing::{EditFault, edit};
 pub use obey::engine::run;
 pub use obey::status::{RunFault, Status};

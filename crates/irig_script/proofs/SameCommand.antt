@@ -1,0 +1,263 @@
+-- A line means one command at most.
+use Rattle.std.proofs.Common.{◌≡◌, ◌==◌, ◌+◌, ℕ, ℤ, pos, negsuc, Bool, true, false, List, [], ◌∷◌, Option, Some, refl, sym, ap, ap₂, ◌∙◌, subst, arith, if◌then◌else◌}
+use Rattle.std.proofs.lemmas.Bool.Decides.{nat_tests}
+use Rattle.std.specs.List.{list_all}
+use Rattle.irig_codes.specs.declared.format.Kind.{Kind}
+use Rattle.irig_codes.specs.declared.format.Kind.TheVariants as kind
+use Rattle.irig_codes.specs.declared.width.Element.{Element}
+use Rattle.irig_codes.specs.declared.width.Element.TheVariants as element
+use Rattle.irig_moment.specs.Moment.{MomentView}
+use Rattle.irig_moment.specs.Written.{moment_of}
+use Rattle.irig_track.specs.Shifts.{ahead, back}
+use Rattle.irig_script.specs.Script.Addresses.{IsMark, IsBase, IsOffset, IsAddress, IsPair, IsPlace, IsRange, IsTime, is_here}
+use Rattle.irig_script.specs.Script.Grammar.{AreControls, AreFrames, AreTimes, Asks, IsExpression, Means, MeansIn, element_word, is_nothing, kind_word, parts_of}
+use Rattle.irig_script.specs.Script.Keywords.{keyword_of}
+use Rattle.irig_script.specs.Script.Numbers.{IsControl, IsDistance, IsNumber, IsSigned, first_of, is_digit, size, unsigned}
+use Rattle.irig_script.specs.Script.Words.{before, onward}
+use Rattle.irig_script.specs.declared.script.cutting.Stop.TheVariants.{Comma, Sign, Text}
+use Rattle.irig_script.specs.declared.script.address.Address.{Address}
+use Rattle.irig_script.specs.declared.script.address.Base.{Base}
+use Rattle.irig_script.specs.declared.script.address.Base.TheVariants.{Number, Current, Last, Mark}
+use Rattle.irig_script.specs.declared.script.command.Command.{Command}
+use Rattle.irig_script.specs.declared.script.command.Command.TheVariants as command
+use Rattle.irig_script.specs.declared.script.keyword.Keyword.{Keyword}
+use Rattle.irig_script.specs.declared.script.keyword.Keyword.TheVariants as word
+use Rattle.irig_script.specs.declared.script.range.Range.{Range}
+use Rattle.irig_script.specs.declared.script.range.Range.TheVariants.{One, Two}
+use Rattle.irig_script.specs.declared.script.time.Time.{Time}
+use Rattle.irig_script.specs.declared.script.time.Time.TheVariants as time
+
+-- numbers
+number_one : (text : List ℕ) (n m : ℕ) → IsNumber text n → IsNumber text m → n ≡ m
+number_one text n m h k = h.value ∙ sym k.value
+
+control_one : (text : List ℕ) (n m : ℕ) → IsControl text n → IsControl text m → n ≡ m
+control_one text n m h k = h.value ∙ sym k.value
+
+-- a distance is told by how far it goes on and back
+distance_told : (d e : ℤ) → ahead d ≡ ahead e → back d ≡ back e → d ≡ e
+distance_told (pos n) (pos m) h k = ap pos h
+distance_told (pos n) (negsuc m) h k = absurd (cc)
+distance_told (negsuc n) (pos m) h k = absurd (cc)
+distance_told (negsuc n) (negsuc m) h k = let same : n ≡ m = cc in ap negsuc same
+
+signed_one : (sign : ℕ) (d e : ℤ) → IsSigned sign d → IsSigned sign e → size d ≡ size e → d ≡ e
+signed_one sign d e h k s = go (sign == 45) h k
+  where
+    go : (v : Bool) → (if v then ahead d else back d) ≡ 0 → (if v then ahead e else back e) ≡ 0 → d ≡ e
+    go true p q = distance_told d e (p ∙ sym q) (omega (arith, p, q, s))
+    go false p q = distance_told d e (omega (arith, p, q, s)) (p ∙ sym q)
+
+-- a number is no other base
+number_not_here : (text : List ℕ) (n : ℕ) → IsNumber text n → is_here text ≡ true → ⊥
+number_not_here [] n h e = omega (arith, h.some)
+number_not_here (b ∷ []) n h e =
+    let same : b ≡ 46 = grind (arith, nat_tests) in
+    let bad = subst (λ (c : ℕ). list_all is_digit (c ∷ []) ≡ true) same h.digits in
+    cc
+number_not_here (b ∷ c ∷ bs) n h e = cc
+
+number_not_last : (text : List ℕ) (n : ℕ) → IsNumber text n → text ≡ 36 ∷ [] → ⊥
+number_not_last text n h e = let bad = subst (λ (t : List ℕ). list_all is_digit t ≡ true) e h.digits in cc
+
+number_not_mark : (text : List ℕ) (n letter : ℕ) → IsNumber text n → IsMark text letter → ⊥
+number_not_mark text n letter h e = let bad = subst (λ (t : List ℕ). list_all is_digit t ≡ true) e.0 h.digits in cc
+
+here_not_last : (text : List ℕ) → is_here text ≡ true → text ≡ 36 ∷ [] → ⊥
+here_not_last text h e = let bad = subst (λ (t : List ℕ). is_here t ≡ true) e h in cc
+
+here_not_mark : (text : List ℕ) (letter : ℕ) → is_here text ≡ true → IsMark text letter → ⊥
+here_not_mark text letter h e = let bad = subst (λ (t : List ℕ). is_here t ≡ true) e.0 h in cc
+
+last_not_mark : (text : List ℕ) (letter : ℕ) → text ≡ 36 ∷ [] → IsMark text letter → ⊥
+last_not_mark text letter h e = let bad = sym h ∙ e.0 in cc
+
+mark_one : (text : List ℕ) (l m : ℕ) → IsMark text l → IsMark text m → l ≡ m
+mark_one text l m h k = let same = sym h.0 ∙ k.0 in cc
+
+base_one : (text : List ℕ) (a b : Base) → IsBase text a → IsBase text b → a ≡ b
+base_one text (Number n) (Number m) h k = ap Number (number_one text n m h k)
+base_one text (Number n) Current h k = absurd (number_not_here text n h k)
+base_one text (Number n) Last h k = absurd (number_not_last text n h k)
+base_one text (Number n) (Mark l) h k = absurd (number_not_mark text n l h k)
+base_one text Current (Number n) h k = absurd (number_not_here text n k h)
+base_one text Current Current h k = refl
+base_one text Current Last h k = absurd (here_not_last text h k)
+base_one text Current (Mark l) h k = absurd (here_not_mark text l h k)
+base_one text Last (Number n) h k = absurd (number_not_last text n k h)
+base_one text Last Current h k = absurd (here_not_last text k h)
+base_one text Last Last h k = refl
+base_one text Last (Mark l) h k = absurd (last_not_mark text l h k)
+base_one text (Mark l) (Number n) h k = absurd (number_not_mark text n l k h)
+base_one text (Mark l) Current h k = absurd (here_not_mark text l k h)
+base_one text (Mark l) Last h k = absurd (last_not_mark text l k h)
+base_one text (Mark l) (Mark m) h k = ap Mark (mark_one text l m h k)
+
+offset_one : (text : List ℕ) (d e : ℤ) → IsOffset text d → IsOffset text e → d ≡ e
+offset_one [] d e h k = h ∙ sym k
+offset_one (sign ∷ []) d e h k = signed_one sign d e h.0 k.0 (h.1 ∙ sym k.1)
+offset_one (sign ∷ b ∷ bs) d e h k = signed_one sign d e h.0 k.0 (number_one (b ∷ bs) (size d) (size e) h.1 k.1)
+
+address_one : (text : List ℕ) (a b : Address) → IsAddress text a → IsAddress text b → a ≡ b
+address_one text a b h k =
+    let base = base_one (before Sign text) a.base b.base h.base k.base in
+    let offset = offset_one (onward Sign text) a.offset b.offset h.offset k.offset in
+    λ i. record { base = base i; offset = offset i }
+
+place_one : (text : List ℕ) (a b : Address) → IsPlace text a → IsPlace text b → a ≡ b
+place_one [] a b h k = h ∙ sym k
+place_one (c ∷ text) a b h k = address_one (c ∷ text) a b h k
+
+no_pair : (first second : List ℕ) (a b : Address) → second ≡ [] → IsPair first second a b → ⊥
+no_pair first [] a b e h = h
+no_pair first (c ∷ second) a b e h = cc
+
+pair_one : (first second : List ℕ) (a b c d : Address) → IsPair first second a b → IsPair first second c d → (a ≡ c) × (b ≡ d)
+pair_one first [] a b c d h k = absurd h
+pair_one [] (comma ∷ []) a b c d h k = (h.0 ∙ sym k.0, h.1 ∙ sym k.1)
+pair_one [] (comma ∷ x ∷ second) a b c d h k = (address_one [] a c h.0 k.0, address_one (x ∷ second) b d h.1 k.1)
+pair_one (x ∷ first) (comma ∷ []) a b c d h k = (address_one (x ∷ first) a c h.0 k.0, address_one [] b d h.1 k.1)
+pair_one (x ∷ first) (comma ∷ y ∷ second) a b c d h k = (address_one (x ∷ first) a c h.0 k.0, address_one (y ∷ second) b d h.1 k.1)
+
+range_one : (text : List ℕ) (r s : Range) → IsRange text r → IsRange text s → r ≡ s
+range_one text (One a) (One b) h k = ap One (place_one text a b h.1 k.1)
+range_one text (One a) (Two b c) h k = absurd (no_pair (before Comma text) (onward Comma text) b c h.0 k)
+range_one text (Two b c) (One a) h k = absurd (no_pair (before Comma text) (onward Comma text) b c k.0 h)
+range_one text (Two a b) (Two c d) h k =
+    let both = pair_one (before Comma text) (onward Comma text) a b c d h k in
+    ap₂ Two both.0 both.1
+
+-- times, distances and the other arguments
+time_one : (text : List ℕ) (s t : Time) → IsTime text s → IsTime text t → s ≡ t
+time_one text (time.At n) (time.At m) h k = ap time.At (number_one text n m h k)
+time_one text (time.At n) (time.Mark l) h k = absurd (number_not_mark text n l h k)
+time_one text (time.Mark l) (time.At n) h k = absurd (number_not_mark text n l k h)
+time_one text (time.Mark l) (time.Mark m) h k = ap time.Mark (mark_one text l m h k)
+
+distance_one : (text : List ℕ) (d e : ℤ) → IsDistance text d → IsDistance text e → d ≡ e
+distance_one text d e h k = signed_one (first_of text) d e h.sign k.sign (number_one (unsigned text) (size d) (size e) h.size k.size)
+
+times_one : (args : List (List ℕ)) (s t u v : Time) → AreTimes args s t → AreTimes args u v → (s ≡ u) × (t ≡ v)
+times_one args s t u v h k =
+    let same : h.0 ∷ h.1 ∷ [] ≡ k.0 ∷ k.1 ∷ [] = sym h.2 ∙ k.2 in
+    let x : h.0 ≡ k.0 = cc in
+    let y : h.1 ≡ k.1 = cc in
+    (time_one k.0 s u (subst (λ (w : List ℕ). IsTime w s) x h.3) k.3, time_one k.1 t v (subst (λ (w : List ℕ). IsTime w t) y h.4) k.4)
+
+controls_one : (args : List (List ℕ)) (c d : ℕ) → AreControls args c → AreControls args d → c ≡ d
+controls_one [] c d h k = h ∙ sym k
+controls_one (w ∷ []) c d h k = control_one w c d h k
+controls_one (w ∷ x ∷ args) c d h k = absurd h
+
+some_one : (o : Option MomentView) (m n : MomentView) → o ≡ Some m → o ≡ Some n → m ≡ n
+some_one o m n h k = let both : Some m ≡ Some n = sym h ∙ k in cc
+
+frames_one : (args : List (List ℕ)) (s t : Time) (f g : ℕ) (m n : MomentView) (c d : ℕ) → AreFrames args s f m c → AreFrames args t g n d
+    → (s ≡ t) × (f ≡ g) × (m ≡ n) × (c ≡ d)
+frames_one args s t f g m n c d h k =
+    let same : h.0 ∷ h.1 ∷ h.2 ∷ h.3 ≡ k.0 ∷ k.1 ∷ k.2 ∷ k.3 = sym h.4 ∙ k.4 in
+    let x : h.0 ≡ k.0 = cc in
+    let y : h.1 ≡ k.1 = cc in
+    let z : h.2 ≡ k.2 = cc in
+    let rest : h.3 ≡ k.3 = cc in (
+      time_one k.0 s t (subst (λ (w : List ℕ). IsTime w s) x h.5) k.5,
+      number_one k.1 f g (subst (λ (w : List ℕ). IsNumber w f) y h.6) k.6,
+      some_one (moment_of k.2) m n (subst (λ (w : List ℕ). moment_of w ≡ Some m) z h.7) k.7,
+      controls_one k.3 c d (subst (λ (ws : List (List ℕ)). AreControls ws c) rest h.8) k.8,
+    )
+
+element_one : (e f : Element) → element_word e ≡ element_word f → e ≡ f
+element_one element.Zero element.Zero h = refl
+element_one element.Zero element.One h = cc
+element_one element.Zero element.Position h = cc
+element_one element.One element.Zero h = cc
+element_one element.One element.One h = refl
+element_one element.One element.Position h = cc
+element_one element.Position element.Zero h = cc
+element_one element.Position element.One h = cc
+element_one element.Position element.Position h = refl
+
+kind_one : (k l : Kind) → kind_word k ≡ kind_word l → k ≡ l
+kind_one kind.A kind.A h = refl
+kind_one kind.A kind.B h = absurd (omega (arith, ap first_of h))
+kind_one kind.A kind.E h = absurd (omega (arith, ap first_of h))
+kind_one kind.A kind.G h = absurd (omega (arith, ap first_of h))
+kind_one kind.B kind.A h = absurd (omega (arith, ap first_of h))
+kind_one kind.B kind.B h = refl
+kind_one kind.B kind.E h = absurd (omega (arith, ap first_of h))
+kind_one kind.B kind.G h = absurd (omega (arith, ap first_of h))
+kind_one kind.E kind.A h = absurd (omega (arith, ap first_of h))
+kind_one kind.E kind.B h = absurd (omega (arith, ap first_of h))
+kind_one kind.E kind.E h = refl
+kind_one kind.E kind.G h = absurd (omega (arith, ap first_of h))
+kind_one kind.G kind.A h = absurd (omega (arith, ap first_of h))
+kind_one kind.G kind.B h = absurd (omega (arith, ap first_of h))
+kind_one kind.G kind.E h = absurd (omega (arith, ap first_of h))
+kind_one kind.G kind.G h = refl
+
+expression_one : (text : List ℕ) (n m : ℕ) → IsExpression text n → IsExpression text m → n ≡ m
+expression_one text n m h k =
+    let words : (48 + n) ∷ [] ≡ (48 + m) ∷ [] = sym h.0 ∙ k.0 in
+    let same : 48 + n ≡ 48 + m = cc in
+    omega arith
+
+-- what a word asks for
+asks_one : (k : Keyword) (range : List ℕ) (args : List (List ℕ)) (c d : Command) → Asks k range args c → Asks k range args d → c ≡ d
+asks_one word.Missing range args c d h k = h.1 ∙ ap command.Show (address_one range h.0 k.0 h.2 k.2) ∙ sym k.1
+asks_one word.List range args c d h k = h.1 ∙ ap command.List (range_one range h.0 k.0 h.2 k.2) ∙ sym k.1
+asks_one word.Delete range args c d h k = h.1 ∙ ap command.Delete (range_one range h.0 k.0 h.2 k.2) ∙ sym k.1
+asks_one word.Join range args c d h k = h.1 ∙ ap command.Join (range_one range h.0 k.0 h.2 k.2) ∙ sym k.1
+asks_one word.Shift range args c d h k =
+    let words : h.2 ∷ [] ≡ k.2 ∷ [] = sym h.5 ∙ k.5 in
+    let same : h.2 ≡ k.2 = cc in
+    let by = distance_one k.2 h.1 k.1 (subst (λ (w : List ℕ). IsDistance w h.1) same h.6) k.6 in
+    h.3 ∙ ap₂ command.Shift (range_one range h.0 k.0 h.4 k.4) by ∙ sym k.3
+asks_one word.Split range args c d h k =
+    let a = place_one range h.0 k.0 h.4 k.4 in
+    let t = times_one args h.1 h.2 k.1 k.2 h.5 k.5 in
+    h.3 ∙ (λ i. command.Split (a i) (t.0 i) (t.1 i)) ∙ sym k.3
+asks_one word.Force range args c d h k =
+    let words : element_word h.1 ∷ [] ≡ element_word k.1 ∷ [] = sym h.4 ∙ k.4 in
+    let same : element_word h.1 ≡ element_word k.1 = cc in
+    h.2 ∙ ap₂ command.Force (place_one range h.0 k.0 h.3 k.3) (element_one h.1 k.1 same) ∙ sym k.2
+asks_one word.Insert range args c d h k =
+    let t = times_one args h.0 h.1 k.0 k.1 h.4 k.4 in
+    h.2 ∙ ap₂ command.Insert t.0 t.1 ∙ sym k.2
+asks_one word.Invert range args c d h k =
+    let t = times_one args h.0 h.1 k.0 k.1 h.4 k.4 in
+    h.2 ∙ ap₂ command.Invert t.0 t.1 ∙ sym k.2
+asks_one word.Regen range args c d h k =
+    let f = frames_one args h.0 k.0 h.1 k.1 h.2 k.2 h.3 k.3 h.6 k.6 in
+    h.4 ∙ (λ i. command.Regen (f.0 i) (f.1 i) (f.2 i) (f.3 i)) ∙ sym k.4
+asks_one word.Format range args c d h k =
+    let words : kind_word h.0 ∷ h.2 ∷ [] ≡ kind_word k.0 ∷ k.2 ∷ [] = sym h.5 ∙ k.5 in
+    let name : kind_word h.0 ≡ kind_word k.0 = cc in
+    let digit : h.2 ≡ k.2 = cc in
+    let n = expression_one k.2 h.1 k.1 (subst (λ (w : List ℕ). IsExpression w h.1) digit h.6) k.6 in
+    h.3 ∙ ap₂ command.Format (kind_one h.0 k.0 name) n ∙ sym k.3
+asks_one word.Mark range args c d h k =
+    let words : (h.0 ∷ []) ∷ h.2 ∷ [] ≡ (k.0 ∷ []) ∷ k.2 ∷ [] = sym h.5 ∙ k.5 in
+    let letter : h.0 ≡ k.0 = cc in
+    let at : h.2 ≡ k.2 = cc in
+    let t = time_one k.2 h.1 k.1 (subst (λ (w : List ℕ). IsTime w h.1) at h.7) k.7 in
+    h.3 ∙ ap₂ command.Mark letter t ∙ sym k.3
+asks_one word.Unmark range args c d h k =
+    let words : (h.0 ∷ []) ∷ [] ≡ (k.0 ∷ []) ∷ [] = sym h.3 ∙ k.3 in
+    let letter : h.0 ≡ k.0 = cc in
+    h.1 ∙ ap command.Unmark letter ∙ sym k.1
+asks_one word.Undo range args c d h k = h.0 ∙ sym k.0
+asks_one word.Redo range args c d h k = h.0 ∙ sym k.0
+asks_one word.Frames range args c d h k = h.0 ∙ sym k.0
+asks_one word.Marks range args c d h k = h.0 ∙ sym k.0
+asks_one word.Info range args c d h k = h.0 ∙ sym k.0
+asks_one word.Write range args c d h k = h.0 ∙ sym k.0
+asks_one word.Quit range args c d h k = h.0 ∙ sym k.0
+asks_one word.Unknown range args c d h k = absurd h
+
+-- what a line does
+pub means_one : (line : List ℕ) (c d : Command) → Means c line → Means d line → c ≡ d
+means_one line c d h k = go (is_nothing (onward Text line)) h k
+  where
+    go : (v : Bool) → MeansIn v (parts_of line) c → MeansIn v (parts_of line) d → c ≡ d
+    go true p q = p ∙ sym q
+    go false p q = asks_one (keyword_of (parts_of line).word) (parts_of line).range (parts_of line).arguments c d p q

@@ -1,0 +1,248 @@
+-- Of what a command asks there is one outcome, but for want of memory and failed puts.
+use Rattle.std.proofs.Common.{◌≡◌, ◌+◌, ◌-◌, ℕ, Bool, true, false, [], ◌∷◌, Some, None, length, refl, sym, ap, ap₂, ◌∙◌, subst}
+use Rattle.std.specs.Prelude.{Result, Ok, Err}
+use Rattle.irig_vcd.specs.FileText.{file_text}
+use Rattle.irig_codes.specs.Format.{FormatView, is_permitted}
+use Rattle.irig_journal.specs.Machine.{Machine as Whole}
+use Rattle.irig_edit.specs.Calls.{Call, Edit}
+use Rattle.irig_edit.specs.Conditions.{are_pulses}
+use Rattle.irig_edit.specs.Kept.{Kept}
+use Rattle.irig_edit.specs.Machine.{Steps}
+use Rattle.irig_edit.specs.Refusals.{refusal_of}
+use Rattle.irig_edit.specs.Runs.{OneOutcome}
+use Rattle.irig_edit.specs.Session.{machine_in, session_view}
+use Rattle.irig_edit.specs.State.{recording_of}
+use Rattle.irig_edit.specs.declared.refusal.Refusal.{Refusal}
+use Rattle.irig_edit.specs.declared.refusal.Refusal.TheVariants as refusal
+use Rattle.irig_script.specs.Obey.Machine.{Machine}
+use Rattle.irig_script.specs.Obey.Obeying.{Calls, Formats, Lists, Obeys, Shows, Writes, format, reply_to}
+use Rattle.irig_script.specs.Obey.OneRun.{tells_failed_put, wants_memory}
+use Rattle.irig_script.specs.Obey.Places.{base_of, counted, first_of, join_last_of, last_of, place_of, pulse_at, time_of}
+use Rattle.irig_script.specs.declared.script.address.Address.{Address}
+use Rattle.irig_script.specs.declared.script.address.Base.{Base}
+use Rattle.irig_script.specs.declared.script.address.Base.TheVariants.{Number, Current, Last, Mark}
+use Rattle.irig_script.specs.declared.script.command.Command.{Command}
+use Rattle.irig_script.specs.declared.script.command.Command.TheVariants as command
+use Rattle.irig_script.specs.declared.script.range.Range.{Range}
+use Rattle.irig_script.specs.declared.script.range.Range.TheVariants.{One, Two}
+use Rattle.irig_script.specs.declared.script.time.Time.{Time}
+use Rattle.irig_script.specs.declared.script.time.Time.TheVariants as time
+use Rattle.irig_script.specs.declared.print.reply.Reply.{Reply}
+use Rattle.irig_script.specs.declared.print.reply.Reply.TheVariants as told
+
+-- the machine without the looks that it has counted
+abbrev pub bare : Whole Kept → Machine
+bare k = session_view k 0 0
+
+-- addresses and times stand for the same in machines that differ in their looks alone
+base_same : (b : Base) (o p : Machine) → machine_in o ≡ machine_in p → base_of b o ≡ base_of b p
+base_same (Number n) o p e = refl
+base_same Current o p e = ap (λ k. base_of Current (bare k)) e
+base_same Last o p e = ap (λ k. base_of Last (bare k)) e
+base_same (Mark letter) o p e = ap (λ k. base_of (Mark letter) (bare k)) e
+
+pulse_same : (by : ℕ) (a : Address) (o p : Machine) → machine_in o ≡ machine_in p → pulse_at by a o ≡ pulse_at by a p
+pulse_same by a o p e = ap₂ (λ b n. counted b by a.offset n) (base_same a.base o p e) (ap (λ k. length k.present.state.pulses) e)
+
+place_same : (a : Address) (o p : Machine) → machine_in o ≡ machine_in p → place_of a o ≡ place_of a p
+place_same a o p e = pulse_same 0 a o p e
+
+first_same : (r : Range) (o p : Machine) → machine_in o ≡ machine_in p → first_of r o ≡ first_of r p
+first_same (One a) o p e = place_same a o p e
+first_same (Two a b) o p e = place_same a o p e
+
+last_same : (r : Range) (o p : Machine) → machine_in o ≡ machine_in p → last_of r o ≡ last_of r p
+last_same (One a) o p e = place_same a o p e
+last_same (Two a b) o p e = place_same b o p e
+
+join_last_same : (r : Range) (o p : Machine) → machine_in o ≡ machine_in p → join_last_of r o ≡ join_last_of r p
+join_last_same (One a) o p e = pulse_same 1 a o p e
+join_last_same (Two a b) o p e = place_same b o p e
+
+time_same : (t : Time) (o p : Machine) → machine_in o ≡ machine_in p → time_of t o ≡ time_of t p
+time_same (time.At t) o p e = refl
+time_same (time.Mark letter) o p e = ap (λ k. time_of (time.Mark letter) (bare k)) e
+
+-- a refusal other than want of memory is that of the call
+refused_for : (call : Call) (old new : Whole Kept) (why : Refusal) → Steps call old (Err why) new → wants_memory (told.Refused why) ≡ false → refusal_of call old ≡ Some why
+refused_for call old new refusal.OutOfRange h e = h.0
+refused_for call old new refusal.NoPulse h e = h.0
+refused_for call old new refusal.Touching h e = h.0
+refused_for call old new refusal.NotInside h e = h.0
+refused_for call old new refusal.TooMany h e = h.0
+refused_for call old new refusal.BadExpression h e = h.0
+refused_for call old new refusal.BadTime h e = h.0
+refused_for call old new refusal.BadControl h e = h.0
+refused_for call old new refusal.NothingToUndo h e = h.0
+refused_for call old new refusal.NothingToRedo h e = h.0
+refused_for call old new refusal.OutOfMemory h e = absurd (cc)
+
+only_memory : (why : Refusal) → wants_memory (told.Refused why) ≡ true → why ≡ refusal.OutOfMemory
+only_memory refusal.OutOfMemory e = refl
+only_memory _ e = absurd (cc)
+
+refusal_one : (call : Call) (old a b : Whole Kept) (w v : Refusal) → Steps call old (Err w) a → Steps call old (Err v) b
+    → wants_memory (told.Refused w) ≡ wants_memory (told.Refused v) → w ≡ v
+refusal_one call old a b w v h k e = go (wants_memory (told.Refused w)) refl
+  where
+    go : (t : Bool) → wants_memory (told.Refused w) ≡ t → w ≡ v
+    go true f = only_memory w f ∙ sym (only_memory v (sym e ∙ f))
+    go false f =
+        let both : Some w ≡ Some v = sym (refused_for call old a w h f) ∙ refused_for call old b v k (sym e ∙ f) in
+        cc
+
+-- a call answers one thing, but for want of memory
+result_one : (call : Call) (old a b : Whole Kept) (r s : Result Unit Refusal) → Steps call old r a → Steps call old s b
+    → wants_memory (reply_to r) ≡ wants_memory (reply_to s) → r ≡ s
+result_one call old a b (Ok u) (Ok v) h k e = refl
+result_one call old a b (Ok u) (Err v) h k e =
+    let both : None ≡ Some v = sym h.0 ∙ refused_for call old b v k (sym e) in
+    absurd (cc)
+result_one call old a b (Err w) (Ok v) h k e =
+    let both : None ≡ Some w = sym k.0 ∙ refused_for call old a w h e in
+    absurd (cc)
+result_one call old a b (Err w) (Err v) h k e = ap Err (refusal_one call old a b w v h k e)
+
+-- replies that tell what calls answered
+module _ (outcome : OneOutcome) where
+  step_one : (call : Call) (old new other : Whole Kept) (r : Result Unit Refusal) → Steps call old r new → Steps call old r other → new ≡ other
+  step_one call old new other r h k = outcome (record { call = call; result = r } ∷ []) old new other (new, (h, refl)) (other, (k, refl))
+
+  -- of one call, told in one way
+  tell_one : (tell : Result Unit Refusal → Reply) → ((r : Result Unit Refusal) → wants_memory (tell r) ≡ wants_memory (reply_to r))
+      → (call same : Call) → call ≡ same → (o p a b : Whole Kept) → o ≡ p → (r s : Reply)
+      → (x y : Result Unit Refusal) → r ≡ tell x → s ≡ tell y → Steps call o x a → Steps same p y b → wants_memory r ≡ wants_memory s
+      → (r ≡ s) × (a ≡ b)
+  tell_one tell wants call same f o p a b e r s x y t u h k w =
+      let g : Steps same p x a = subst (λ (m : Whole Kept). Steps same m x a) e (subst (λ (c : Call). Steps c o x a) f h) in
+      let both : wants_memory (reply_to x) ≡ wants_memory (reply_to y) = sym (wants x) ∙ ap wants_memory (sym t) ∙ w ∙ ap wants_memory u ∙ wants y in
+      let one : x ≡ y = result_one same p a b x y g k both in
+      (t ∙ ap tell one ∙ sym u, step_one same p a b y (subst (λ (z : Result Unit Refusal). Steps same p z a) one g) k)
+
+  called : (call : Call) (old : Machine) (r : Reply) (new : Machine) → Calls call old r new
+      → (x : Result Unit Refusal) × (r ≡ reply_to x) × Steps call (machine_in old) x (machine_in new)
+  called call old told.Silent new h = (Ok tt, refl, h)
+  called call old (told.Refused why) new h = (Err why, refl, h)
+  called call old _ new h = absurd h
+
+  calls_one : (call same : Call) → call ≡ same → (o p : Machine) → machine_in o ≡ machine_in p → (r s : Reply) (a b : Machine)
+      → Calls call o r a → Calls same p s b → wants_memory r ≡ wants_memory s → (r ≡ s) × (machine_in a ≡ machine_in b)
+  calls_one call same f o p e r s a b h k w =
+      let x = called call o r a h in
+      let y = called same p s b k in
+      tell_one reply_to (λ z. refl) call same f (machine_in o) (machine_in p) (machine_in a) (machine_in b) e r s x.0 y.0 x.1 y.1 x.2 y.2 w
+
+  makes_one : (edit same : Edit) → edit ≡ same → (o p : Machine) → machine_in o ≡ machine_in p → (r s : Reply) (a b : Machine)
+      → Calls (Call.Make edit) o r a → Calls (Call.Make same) p s b → wants_memory r ≡ wants_memory s
+      → (r ≡ s) × (machine_in a ≡ machine_in b)
+  makes_one edit same f = calls_one (Call.Make edit) (Call.Make same) (ap Call.Make f)
+
+  -- the pulse that a cursor went to
+  abbrev shown : ℕ → Result Unit Refusal → Reply
+  shown i (Ok u) = told.Listed (i - 1) 1
+  shown i (Err why) = told.Refused why
+
+  shown_wants : (i : ℕ) (x : Result Unit Refusal) → wants_memory (shown i x) ≡ wants_memory (reply_to x)
+  shown_wants i (Ok u) = refl
+  shown_wants i (Err why) = refl
+
+  showed : (i : ℕ) (old : Machine) (r : Reply) (new : Machine) → Shows i old r new
+      → (x : Result Unit Refusal) × (r ≡ shown i x) × Steps (Call.Go i) (machine_in old) x (machine_in new)
+  showed i old (told.Listed b n) new h = (Ok tt, ap₂ told.Listed h.1 h.2, h.0)
+  showed i old (told.Refused why) new h = (Err why, refl, h)
+  showed i old _ new h = absurd h
+
+  shows_one : (i j : ℕ) → i ≡ j → (o p : Machine) → machine_in o ≡ machine_in p → (r s : Reply) (a b : Machine)
+      → Shows i o r a → Shows j p s b → wants_memory r ≡ wants_memory s → (r ≡ s) × (machine_in a ≡ machine_in b)
+  shows_one i j f o p e r s a b h k w =
+      let x = showed i o r a h in
+      let y = showed j p s b k in
+      let u : r ≡ shown j x.0 = x.1 ∙ ap (λ n. shown n x.0) f in
+      tell_one (shown j) (shown_wants j) (Call.Go i) (Call.Go j) (ap Call.Go f) (machine_in o) (machine_in p) (machine_in a) (machine_in b) e r s x.0 y.0 u y.1 x.2 y.2 w
+
+  formats_one : (v : Bool) (f : FormatView) (o p : Machine) → machine_in o ≡ machine_in p → (r s : Reply) (a b : Machine)
+      → Formats v f o r a → Formats v f p s b → wants_memory r ≡ wants_memory s → (r ≡ s) × (machine_in a ≡ machine_in b)
+  formats_one true f o p e r s a b h k w = makes_one (Edit.SetFormat f) (Edit.SetFormat f) refl o p e r s a b h k w
+  formats_one false f o p e r s a b h k w = (h.0 ∙ sym k.0, ap machine_in h.1 ∙ e ∙ sym (ap machine_in k.1))
+
+  -- a listing, as it is told
+  abbrev listed : Bool → ℕ → ℕ → Reply
+  listed true i j = told.Listed (i - 1) (j + 1 - i)
+  listed false i j = told.Refused refusal.NoPulse
+
+  lists : (i j : ℕ) (m : Machine) (r : Reply) → Lists i j m r → r ≡ listed (are_pulses i j m.present.state) i j
+  lists i j m (told.Listed b n) h = ap₂ told.Listed h.1 h.2 ∙ sym (ap (λ v. listed v i j) h.0)
+  lists i j m (told.Refused why) h = ap told.Refused h.1 ∙ sym (ap (λ v. listed v i j) h.0)
+  lists i j m _ h = absurd h
+
+  lists_one : (i j k l : ℕ) → i ≡ k → j ≡ l → (o p : Machine) → machine_in o ≡ machine_in p → (r s : Reply)
+      → Lists i j o r → Lists k l p s → r ≡ s
+  lists_one i j k l f g o p e r s h n =
+      lists i j o r h
+      ∙ (λ t. listed (are_pulses (f t) (g t) (e t).present.state) (f t) (g t))
+      ∙ sym (lists k l p s n)
+
+  -- a put, as it is told
+  abbrev written : Machine → Bool → Bool → Reply
+  written m true f = told.Refused refusal.OutOfMemory
+  written m false true = told.WriteFailed
+  written m false false = told.Written (length (file_text (recording_of m.present.state)))
+
+  writes : (m : Machine) (r : Reply) → Writes m r → r ≡ written m (wants_memory r) (tells_failed_put r)
+  writes m (told.Written count) h = ap told.Written h
+  writes m (told.Refused why) h = ap told.Refused h ∙ sym (ap (λ w. written m (wants_memory (told.Refused w)) false) h)
+  writes m told.WriteFailed h = refl
+  writes m _ h = absurd h
+
+  written_same : (v f : Bool) (o p : Machine) → machine_in o ≡ machine_in p → written o v f ≡ written p v f
+  written_same true f o p e = refl
+  written_same false true o p e = refl
+  written_same false false o p e = ap (λ k. written (bare k) false false) e
+
+  writes_one : (o p : Machine) → machine_in o ≡ machine_in p → (r s : Reply) → Writes o r → Writes p s
+      → wants_memory r ≡ wants_memory s → tells_failed_put r ≡ tells_failed_put s → r ≡ s
+  writes_one o p e r s h k w f =
+      writes o r h ∙ ap₂ (written o) w f ∙ written_same (wants_memory s) (tells_failed_put s) o p e ∙ sym (writes p s k)
+
+  stays : (o p a b : Machine) → machine_in o ≡ machine_in p → a ≡ o → b ≡ p → machine_in a ≡ machine_in b
+  stays o p a b e h k = ap machine_in h ∙ e ∙ sym (ap machine_in k)
+
+  -- what a command asks for
+  pub obeys_one : (c : Command) (o p : Machine) → machine_in o ≡ machine_in p → (r s : Reply) (a b : Machine) → Obeys c o r a → Obeys c p s b
+      → wants_memory r ≡ wants_memory s → tells_failed_put r ≡ tells_failed_put s → (r ≡ s) × (machine_in a ≡ machine_in b)
+  obeys_one command.Nothing o p e r s a b h k w f = (h.0 ∙ sym k.0, stays o p a b e h.1 k.1)
+  obeys_one (command.Show x) o p e r s a b h k w f = shows_one (place_of x o) (place_of x p) (place_same x o p e) o p e r s a b h k w
+  obeys_one (command.List x) o p e r s a b h k w f =
+      (lists_one _ _ _ _ (first_same x o p e) (last_same x o p e) o p e r s h.0 k.0, stays o p a b e h.1 k.1)
+  obeys_one (command.Delete x) o p e r s a b h k w f =
+      makes_one _ _ (ap₂ Edit.Delete (first_same x o p e) (last_same x o p e)) o p e r s a b h k w
+  obeys_one (command.Shift x d) o p e r s a b h k w f =
+      makes_one _ _ (ap₂ (λ i j. Edit.Shift i j d) (first_same x o p e) (last_same x o p e)) o p e r s a b h k w
+  obeys_one (command.Join x) o p e r s a b h k w f =
+      makes_one _ _ (ap₂ Edit.Join (first_same x o p e) (join_last_same x o p e)) o p e r s a b h k w
+  obeys_one (command.Split x t u) o p e r s a b h k w f =
+      let place = place_same x o p e in
+      let from = time_same t o p e in
+      let to = time_same u o p e in
+      makes_one _ _ (λ i. Edit.Split (place i) (from i) (to i)) o p e r s a b h k w
+  obeys_one (command.Force x g) o p e r s a b h k w f =
+      makes_one _ _ (ap (λ i. Edit.Force i g) (place_same x o p e)) o p e r s a b h k w
+  obeys_one (command.Insert t u) o p e r s a b h k w f =
+      makes_one _ _ (ap₂ Edit.Insert (time_same t o p e) (time_same u o p e)) o p e r s a b h k w
+  obeys_one (command.Invert t u) o p e r s a b h k w f =
+      makes_one _ _ (ap₂ Edit.Invert (time_same t o p e) (time_same u o p e)) o p e r s a b h k w
+  obeys_one (command.Regen t n m g) o p e r s a b h k w f =
+      makes_one _ _ (ap (λ start. Edit.Regen start n m g) (time_same t o p e)) o p e r s a b h k w
+  obeys_one (command.Format g n) o p e r s a b h k w f =
+      formats_one (is_permitted g n) (format g n) o p e r s a b h k w
+  obeys_one (command.Mark l t) o p e r s a b h k w f =
+      makes_one _ _ (ap (λ n. Edit.SetMark (l - 97) (Some n)) (time_same t o p e)) o p e r s a b h k w
+  obeys_one (command.Unmark l) o p e r s a b h k w f =
+      makes_one (Edit.SetMark (l - 97) None) (Edit.SetMark (l - 97) None) refl o p e r s a b h k w
+  obeys_one command.Undo o p e r s a b h k w f = calls_one Call.Undo Call.Undo refl o p e r s a b h k w
+  obeys_one command.Redo o p e r s a b h k w f = calls_one Call.Redo Call.Redo refl o p e r s a b h k w
+  obeys_one command.Frames o p e r s a b h k w f = (h.0 ∙ sym k.0, stays o p a b e h.1 k.1)
+  obeys_one command.Marks o p e r s a b h k w f = (h.0 ∙ sym k.0, stays o p a b e h.1 k.1)
+  obeys_one command.Info o p e r s a b h k w f = (h.0 ∙ sym k.0, stays o p a b e h.1 k.1)
+  obeys_one command.Write o p e r s a b h k w f = (writes_one o p e r s h.0 k.0 w f, stays o p a b e h.1 k.1)
+  obeys_one command.Quit o p e r s a b h k w f = absurd h

@@ -1,0 +1,142 @@
+-- A script has one run, but for the lines that meet want of memory or a failed put.
+use Rattle.std.proofs.Common.{◌≡◌, ◌<◌, ◌≤◌, ◌++◌, ◌∷◌, [], ℕ, Option, Some, None, List, length, map, refl, sym, ap, ap₂, ◌∙◌, subst, arith, ◌⊎◌, inl, inr}
+use Rattle.std.specs.Prelude.{IsSome}
+use Rattle.std.specs.Io.KnownBytes.{Appends}
+use Rattle.irig_vcd.specs.FileText.{file_text}
+use Rattle.irig_edit.specs.Runs.{OneOutcome}
+use Rattle.irig_edit.specs.Session.{machine_in}
+use Rattle.irig_edit.specs.State.{recording_of}
+use Rattle.irig_script.specs.Obey.Answer.{Answered, Step, texts_put}
+use Rattle.irig_script.specs.Obey.Desk.{GrowsBy, status_after}
+use Rattle.irig_script.specs.Obey.Machine.{Machine}
+use Rattle.irig_script.specs.Obey.Obeying.{Obeys}
+use Rattle.irig_script.specs.Obey.OneRun.{OneRun, tells_failed_put, wants_memory}
+use Rattle.irig_script.specs.Obey.Run.{Runs}
+use Rattle.irig_script.specs.Print.Listings.{info_text, list_text, marks_text}
+use Rattle.irig_script.specs.Print.Printed.{Answer, frames_text, printed, reply_text}
+use Rattle.irig_script.specs.Script.Grammar.{Means}
+use Rattle.irig_script.specs.Script.Lines.{script_lines}
+use Rattle.irig_script.specs.declared.print.reply.Reply.{Reply}
+use Rattle.irig_script.specs.declared.print.reply.Reply.TheVariants as told
+use Rattle.irig_script.specs.declared.script.command.Command.{Command}
+use Rattle.irig_script.proofs.SameCommand.{means_one}
+use Rattle.irig_script.proofs.SameReply.{bare, obeys_one}
+
+-- what a reply prints and puts does not hang on the looks
+text_same : (r : Reply) (a b : Machine) → machine_in a ≡ machine_in b → reply_text a r ≡ reply_text b r
+text_same (told.Listed before count) a b e = ap (λ k. list_text before count k.present.state) e
+text_same told.Frames a b e = ap (λ k. frames_text k.present.state) e
+text_same told.Marks a b e = ap (λ k. marks_text k.present.state) e
+text_same told.Info a b e = ap (λ k. info_text (bare k)) e
+text_same _ a b e = refl
+
+put_same : (r : Reply) (a b : Machine) → machine_in a ≡ machine_in b → texts_put a r ≡ texts_put b r
+put_same (told.Written count) a b e = ap (λ k. file_text (recording_of k.present.state) ∷ []) e
+put_same _ a b e = refl
+
+-- a line is too long, or none of the language, or it asks for a command
+abbrev IsLong : Machine → List ℕ → Reply → Machine → Type 0
+IsLong old line r new = (1000 < length line) × (r ≡ told.LineTooLong) × (new ≡ old)
+
+abbrev IsBad : Machine → List ℕ → Reply → Machine → Type 0
+IsBad old line r new = (length line ≤ 1000) × ((c : Command) → Means c line → ⊥) × (r ≡ told.BadLine) × (new ≡ old)
+
+abbrev IsAsked : Machine → List ℕ → Reply → Machine → Type 0
+IsAsked old line r new = (length line ≤ 1000) × ((c : Command) × Means c line × Obeys c old r new)
+
+step_told : (old : Machine) (line : List ℕ) (r : Reply) (new : Machine) → Step old line r new
+    → IsLong old line r new ⊎ (IsBad old line r new ⊎ IsAsked old line r new)
+step_told old line told.LineTooLong new h = inl (h.0, refl, h.1)
+step_told old line told.BadLine new h = inr (inl (h.0, h.1, refl, h.2))
+step_told old line _ new h = inr (inr h)
+
+stays : (o p a b : Machine) → machine_in o ≡ machine_in p → a ≡ o → b ≡ p → machine_in a ≡ machine_in b
+stays o p a b e h k = ap machine_in h ∙ e ∙ sym (ap machine_in k)
+
+module _ (outcome : OneOutcome) where
+  asked_one : (o p : Machine) (line : List ℕ) → machine_in o ≡ machine_in p → (r s : Reply) (a b : Machine) → IsAsked o line r a → IsAsked p line s b
+      → wants_memory r ≡ wants_memory s → tells_failed_put r ≡ tells_failed_put s → (r ≡ s) × (machine_in a ≡ machine_in b)
+  asked_one o p line e r s a b h k w f =
+      let same : h.1.0 ≡ k.1.0 = means_one line h.1.0 k.1.0 h.1.1 k.1.1 in
+      let obeyed : Obeys k.1.0 o r a = subst (λ (c : Command). Obeys c o r a) same h.1.2 in
+      obeys_one outcome k.1.0 o p e r s a b obeyed k.1.2 w f
+
+  -- a line has one outcome
+  line_one : (o p : Machine) (line : List ℕ) → machine_in o ≡ machine_in p → (r s : Reply) (a b : Machine) → Step o line r a → Step p line s b
+      → wants_memory r ≡ wants_memory s → tells_failed_put r ≡ tells_failed_put s → (r ≡ s) × (machine_in a ≡ machine_in b)
+  line_one o p line e r s a b h k w f = go (step_told o line r a h) (step_told p line s b k)
+    where
+      go : IsLong o line r a ⊎ (IsBad o line r a ⊎ IsAsked o line r a) → IsLong p line s b ⊎ (IsBad p line s b ⊎ IsAsked p line s b)
+          → (r ≡ s) × (machine_in a ≡ machine_in b)
+      go (inl x) (inl y) = (x.1 ∙ sym y.1, stays o p a b e x.2 y.2)
+      go (inl x) (inr (inl y)) = absurd (omega (arith, x.0, y.0))
+      go (inl x) (inr (inr y)) = absurd (omega (arith, x.0, y.0))
+      go (inr (inl x)) (inl y) = absurd (omega (arith, x.0, y.0))
+      go (inr (inl x)) (inr (inl y)) = (x.2 ∙ sym y.2, stays o p a b e x.3 y.3)
+      go (inr (inl x)) (inr (inr y)) = absurd (x.1 y.1.0 y.1.1)
+      go (inr (inr x)) (inl y) = absurd (omega (arith, x.0, y.0))
+      go (inr (inr x)) (inr (inl y)) = absurd (y.1 x.1.0 x.1.1)
+      go (inr (inr x)) (inr (inr y)) = asked_one o p line e r s a b x y w f
+
+  answer_one : (o p : Machine) (line : List ℕ) → machine_in o ≡ machine_in p → (x y : Answer) (a b : Machine) → Answered o line x a → Answered p line y b
+      → wants_memory x.reply ≡ wants_memory y.reply → tells_failed_put x.reply ≡ tells_failed_put y.reply → (x ≡ y) × (machine_in a ≡ machine_in b)
+  answer_one o p line e x y a b h k w f =
+      let both = line_one o p line e x.reply y.reply a b h.0 k.0 w f in
+      let text : x.text ≡ y.text = h.1 ∙ text_same x.reply a b both.1 ∙ ap (reply_text b) both.0 ∙ sym k.1 in
+      let reply = both.0 in
+      (λ i. record { reply = reply i; text = text i }, both.1)
+
+  -- the lines of a script, one after another
+  lines_one : (lines : List (List ℕ)) (o p : Machine) → machine_in o ≡ machine_in p → (xs ys : List Answer) (ts us : List (List ℕ)) (a b : Machine)
+      → Runs o lines xs ts a → Runs p lines ys us b
+      → map (λ x. wants_memory x.reply) xs ≡ map (λ x. wants_memory x.reply) ys
+      → map (λ x. tells_failed_put x.reply) xs ≡ map (λ x. tells_failed_put x.reply) ys
+      → (xs ≡ ys) × (ts ≡ us) × (machine_in a ≡ machine_in b)
+  lines_one [] o p e [] [] ts us a b h k w f = (refl, h.0 ∙ sym k.0, stays o p a b e h.1 k.1)
+  lines_one [] o p e [] (y ∷ ys) ts us a b h k w f = absurd k
+  lines_one [] o p e (x ∷ xs) ys ts us a b h k w f = absurd h
+  lines_one (line ∷ lines) o p e [] ys ts us a b h k w f = absurd h
+  lines_one (line ∷ lines) o p e (x ∷ xs) [] ts us a b h k w f = absurd k
+  lines_one (line ∷ lines) o p e (x ∷ xs) (y ∷ ys) ts us a b h k w f =
+      let w_here : wants_memory x.reply ≡ wants_memory y.reply = cc in
+      let f_here : tells_failed_put x.reply ≡ tells_failed_put y.reply = cc in
+      let w_rest : map (λ (x : Answer). wants_memory x.reply) xs ≡ map (λ (x : Answer). wants_memory x.reply) ys = cc in
+      let f_rest : map (λ (x : Answer). tells_failed_put x.reply) xs ≡ map (λ (x : Answer). tells_failed_put x.reply) ys = cc in
+      let here = answer_one o p line e x y h.0 k.0 h.1 k.1 w_here f_here in
+      let rest = lines_one lines h.0 k.0 here.1 xs ys h.2.0 k.2.0 a b h.2.2 k.2.2 w_rest f_rest in
+      let texts : texts_put o x.reply ≡ texts_put p y.reply = put_same x.reply o p e ∙ ap (λ (z : Answer). texts_put p z.reply) here.0 in
+      (ap₂ (λ z zs. z ∷ zs) here.0 rest.0, h.2.1 ∙ ap₂ (λ z zs. z ++ zs) texts rest.1 ∙ sym k.2.1, rest.2)
+
+  appends_one : (old new other : Option (List ℕ)) (text : List ℕ) → IsSome old → Appends old new text → Appends old other text → new ≡ other
+  appends_one None new other text known h k = absurd (cc)
+  appends_one (Some xs) None other text known h k = absurd h
+  appends_one (Some xs) (Some ys) None text known h k = absurd k
+  appends_one (Some xs) (Some ys) (Some zs) text known h k = ap Some (h ∙ sym k)
+
+  grows_one : (old new other : Option (List (List ℕ))) (texts : List (List ℕ)) → IsSome old → GrowsBy old new texts → GrowsBy old other texts → new ≡ other
+  grows_one None new other texts known h k = absurd (cc)
+  grows_one (Some xs) None other texts known h k = absurd h
+  grows_one (Some xs) (Some ys) None texts known h k = absurd k
+  grows_one (Some xs) (Some ys) (Some zs) texts known h k = ap Some (h ∙ sym k)
+
+  pub one_run : OneRun
+  one_run script one other begin met =
+      let x = one.ran in
+      let y = other.ran in
+      let all = lines_one (script_lines script) one.old other.old begin.machine x.answers y.answers x.texts y.texts one.new other.new x.runs y.runs met.memory met.puts in
+      let status = begin.status in
+      let answers : x.answers ≡ y.answers = all.0 in
+      let out : Appends one.from.out other.to.out (printed x.answers) =
+      subst (λ (o : Option (List ℕ)). Appends o other.to.out (printed x.answers)) (sym begin.printed)
+      (subst (λ (a : List Answer). Appends other.from.out other.to.out (printed a)) (sym answers) y.told.printed) in
+      let put : GrowsBy one.from.texts other.to.texts x.texts =
+      subst (λ (o : Option (List (List ℕ))). GrowsBy o other.to.texts x.texts) (sym begin.put)
+      (subst (λ (t : List (List ℕ)). GrowsBy other.from.texts other.to.texts t) (sym all.1) y.told.put) in
+      record {
+        answers = answers;
+        texts = all.1;
+        status = x.status ∙ (λ i. status_after (status i) (answers i)) ∙ sym y.status;
+        machine = all.2;
+        printed = λ known. appends_one one.from.out one.to.out other.to.out (printed x.answers) known x.told.printed out;
+        put = λ known. grows_one one.from.texts one.to.texts other.to.texts x.texts known x.told.put put;
+      }

@@ -1,0 +1,22 @@
+//! What holds of lines and of the runs of scripts.
+
+ghost use Rattle.irig_script.specs.Script.OneCommand.{OneCommand};
+ghost use Rattle.irig_script.specs.Obey.OneRun.{OneRun};
+
+use irig_edit::calls_give_back;
+
+/// Does nothing: it says that a line asks for one command at most.
+pub fn lines_ask_for_one_command()
+    ensures same { OneCommand }
+{}
+
+/// Does nothing: it says that a script has one run.
+///
+/// Two runs of one script from one machine that meet want of memory and failed puts at the same
+/// lines print the same bytes, put the same texts, end with the same status and leave the same
+/// machine.
+pub fn scripts_have_one_run()
+    ensures same { OneRun }
+{
+    calls_give_back();
+}
