@@ -1,6 +1,7 @@
 pub mod WordLemmas
 pub mod NumberLemmas
 pub mod Known
+pub mod Desks
 pub mod Lines
 pub mod Runs
 pub mod Quits

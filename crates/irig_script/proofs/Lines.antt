@@ -11,12 +11,13 @@ use Rattle.irig_script.specs.Obey.Machine.{Machine}
 use Rattle.irig_script.specs.Script.Lines.{lines_of, until_quit, script_lines, is_quit}
 use Rattle.irig_script.specs.Obey.Answer.{Answered, texts_put}
 use Rattle.irig_script.specs.Print.Printed.{Answer, printed}
-use Rattle.irig_script.specs.Obey.Desk.{Desk, desk, Tells, Puts, GrowsBy, Fails, failures_in, status_after}
+use Rattle.irig_script.specs.Obey.Desk.{Desk, desk, Tells, status_after}
+use Rattle.irig_script.specs.Shelf.Shelved.{Shelved}
 use Rattle.irig_script.specs.Obey.Run.{Runs, Ran, Broke, Goes, IsPlain, IsObeyed, unlines}
 use Rattle.irig_script.specs.Obey.Going.{Holds, Obeyed, BrokeIn}
 use Rattle.irig_script.specs.declared.obey.status.Status.{Status}
 use Rattle.irig_script.specs.declared.script.line.Line.{Line}
-use Rattle.irig_script.proofs.Known.{appends-appends}
+use Rattle.irig_script.proofs.Desks.{status_after-append, tells_none, tells-tells, tells-answers}
 
 -- a byte before a text that has no newline
 plain_first : (b : ℕ) (text : List ℕ) → IsPlain (b ∷ text) → ((b == 10) ≡ false) × IsPlain text
@@ -95,54 +96,6 @@ goes_line text a b answer each h = record {
 
 pub goes_rest : (one more : List ℕ) (s t : Machine) (rest : List ℕ) (rs : List Answer) (ts : List (List ℕ)) → Goes one s rs ts t rest → Goes (one ++ more) s rs ts t (rest ++ more)
 goes_rest one more s t rest rs ts h = record { lines = h.lines; each = h.each; cut = ap (λ l. l ++ more) h.cut ∙ append_assoc (unlines h.lines) rest more; runs = h.runs }
-
--- what is told
-pub appends_none : (a : Option (List ℕ)) → Appends a a []
-appends_none None = tt
-appends_none (Some s) = sym (append-nil s)
-
-pub grows_none : (a : Option (List (List ℕ))) → GrowsBy a a []
-grows_none None = tt
-grows_none (Some s) = sym (append-nil s)
-
-pub grows-grows : (a b c : Option (List (List ℕ))) (ts us : List (List ℕ)) → GrowsBy a b ts → GrowsBy b c us → GrowsBy a c (ts ++ us)
-grows-grows None b c ts us p q = tt
-grows-grows (Some s) None c ts us p q = absurd p
-grows-grows (Some s) (Some t) None ts us p q = absurd q
-grows-grows (Some s) (Some t) (Some u) ts us p q = q ∙ ap (λ l. l ++ us) p ∙ append_assoc s ts us
-
-failures_in-append : (rs qs : List Answer) → failures_in (rs ++ qs) ≡ failures_in rs + failures_in qs
-failures_in-append [] qs = omega arith
-failures_in-append (r ∷ rs) qs = omega (arith, failures_in-append rs qs)
-
-fails-fails : (a b c : ℕ) (rs qs : List Answer) → Fails a b (failures_in rs) → Fails b c (failures_in qs) → Fails a c (failures_in (rs ++ qs))
-fails-fails a b c rs qs p q = rw failures_in-append (omega arith)
-
-pub status_after-append : (s : Status) (rs qs : List Answer) → status_after s (rs ++ qs) ≡ status_after (status_after s rs) qs
-status_after-append s [] qs = refl
-status_after-append s (r ∷ rs) qs = status_after-append _ rs qs
-
-pub tells_none : (a : Desk) → Tells a a [] [] []
-tells_none a = record { printed = appends_none a.out; put = grows_none a.texts; failed = omega arith; quiet = λ z. refl }
-
-pub tells-tells : (a b c : Desk) (x y : List ℕ) (rs qs : List Answer) (ts us : List (List ℕ)) → Tells a b x rs ts → Tells b c y qs us → Tells a c (x ++ y) (rs ++ qs) (ts ++ us)
-tells-tells a b c x y rs qs ts us h k = record {
-  printed = appends-appends a.out b.out c.out x y h.printed k.printed;
-  put = grows-grows a.texts b.texts c.texts ts us h.put k.put;
-  failed = fails-fails a.failures b.failures c.failures rs qs h.failed k.failed;
-  quiet = λ z. k.quiet (omega (arith, z, failures_in-append rs qs)) ∙ h.quiet (omega (arith, z, failures_in-append rs qs));
-}
-
--- answers that were printed whole
-pub tells-answers : (a b c : Desk) (rs qs : List Answer) (ts us : List (List ℕ)) → Tells a b (printed rs) rs ts → Tells b c (printed qs) qs us → Tells a c (printed (rs ++ qs)) (rs ++ qs) (ts ++ us)
-tells-answers a b c rs qs ts us h k =
-    subst (λ (l : List ℕ). Tells a c l (rs ++ qs) (ts ++ us)) (sym (flat_map-append (λ (answer : Answer). answer.text) rs qs)) (tells-tells a b c (printed rs) (printed qs) rs qs ts us h k)
-
-pub tells_one : (a b : Desk) (m : Machine) (r : Answer) → Appends a.out b.out r.text → Puts a.texts b.texts a.failures b.failures m r.reply → Tells a b (printed (r ∷ [])) (r ∷ []) (texts_put m r.reply)
-tells_one a b m r p h = record { printed = rw append-nil p; put = h.put; failed = omega (arith, h.failed); quiet = λ z. h.quiet (omega (arith, z)) }
-
-pub tells_front : (a b : Desk) (m : Machine) (r : Answer) (front : List ℕ) → Appends a.out b.out front → Puts a.texts b.texts a.failures b.failures m r.reply → Tells a b front (r ∷ []) (texts_put m r.reply)
-tells_front a b m r front p h = record { printed = p; put = h.put; failed = omega (arith, h.failed); quiet = λ z. h.quiet (omega (arith, z)) }
 
 -- what is kept over the bytes so far: all were obeyed from the empty line on
 pub obeyed_none : (a : Desk) (st : Status) (text : List ℕ) (s : Machine) (line : Line) → Holds text line → Obeyed false a a st st s s text line
@@ -253,15 +206,12 @@ obeyed_line a b st su text s t answer line plain q h p e l =
 pub obeyed_quit : (a : Desk) (st : Status) (text : List ℕ) (s : Machine) (line : Line) → IsPlain text → is_quit text ≡ true → Obeyed true a a st st s s (text ++ 10 ∷ []) line
 obeyed_quit a st text s line plain q = record { answers = []; texts = []; status = refl; told = tells_none a; ends = (text, [], plain, q, goes_none (text ++ 10 ∷ []) s) }
 
-same_desk : (out : Option (List ℕ)) (t u : Option (List (List ℕ))) (f n : ℕ) → u ≡ t → n ≡ f → desk out u n ≡ desk out t f
-same_desk out t u f n p q = λ j. desk out (p j) (q j)
-
 -- a line that ends the script leaves all as it was
-pub obeyed_end : (out : Option (List ℕ)) (t u : Option (List (List ℕ))) (f n : ℕ) (st : Status) (text : List ℕ) (s m : Machine) (line : Line) → IsPlain text → is_quit text ≡ true
-    → m ≡ s → (u ≡ t) × (n ≡ f) → Obeyed true (desk out t f) (desk out u n) st st s m (text ++ 10 ∷ []) line
-obeyed_end out t u f n st text s m line plain q e p =
-    subst (λ (b : Desk). Obeyed true (desk out t f) b st st s m (text ++ 10 ∷ []) line) (sym (same_desk out t u f n p.0 p.1))
-    (subst (λ (k : Machine). Obeyed true (desk out t f) (desk out t f) st st s k (text ++ 10 ∷ []) line) (sym e) (obeyed_quit (desk out t f) st text s line plain q))
+pub obeyed_end : (out : Option (List ℕ)) (t u : Shelved) (st : Status) (text : List ℕ) (s m : Machine) (line : Line) → IsPlain text → is_quit text ≡ true
+    → m ≡ s → u ≡ t → Obeyed true (desk out t) (desk out u) st st s m (text ++ 10 ∷ []) line
+obeyed_end out t u st text s m line plain q e p =
+    subst (λ (k : Shelved). Obeyed true (desk out t) (desk out k) st st s m (text ++ 10 ∷ []) line) (sym p)
+    (subst (λ (k : Machine). Obeyed true (desk out t) (desk out t) st st s k (text ++ 10 ∷ []) line) (sym e) (obeyed_quit (desk out t) st text s line plain q))
 
 pub broke_line : (a b : Desk) (text : List ℕ) (s t : Machine) (front back : List ℕ) (answer : Answer) → IsPlain text → is_quit text ≡ false → Answered s text answer t
     → answer.text ≡ front ++ back → back ≢ [] → Tells a b front (answer ∷ []) (texts_put s answer.reply) → BrokeIn a b s t (text ++ 10 ∷ [])
@@ -294,11 +244,11 @@ ran_nothing a st s text e = ran_none a st s text (at_nothing text e)
 pub ran_quit : (a : Desk) (st : Status) (s : Machine) (text : List ℕ) → IsPlain text → is_quit text ≡ true → Ran a a st st s s text
 ran_quit a st s text h q = ran_none a st s text (at_quit text h q)
 
-pub ran_end : (out : Option (List ℕ)) (t u : Option (List (List ℕ))) (f n : ℕ) (st : Status) (s m : Machine) (text : List ℕ) → IsPlain text → is_quit text ≡ true
-    → m ≡ s → (u ≡ t) × (n ≡ f) → Ran (desk out t f) (desk out u n) st st s m text
-ran_end out t u f n st s m text plain q e p =
-    subst (λ (b : Desk). Ran (desk out t f) b st st s m text) (sym (same_desk out t u f n p.0 p.1))
-    (subst (λ (k : Machine). Ran (desk out t f) (desk out t f) st st s k text) (sym e) (ran_quit (desk out t f) st s text plain q))
+pub ran_end : (out : Option (List ℕ)) (t u : Shelved) (st : Status) (s m : Machine) (text : List ℕ) → IsPlain text → is_quit text ≡ true
+    → m ≡ s → u ≡ t → Ran (desk out t) (desk out u) st st s m text
+ran_end out t u st s m text plain q e p =
+    subst (λ (k : Shelved). Ran (desk out t) (desk out k) st st s m text) (sym p)
+    (subst (λ (k : Machine). Ran (desk out t) (desk out t) st st s k text) (sym e) (ran_quit (desk out t) st s text plain q))
 
 pub ran_line : (a b : Desk) (st su : Status) (s t : Machine) (text : List ℕ) (answer : Answer) → IsPlain text → is_quit text ≡ false → (length text == 0) ≡ false → Answered s text answer t
     → Tells a b (printed (answer ∷ [])) (answer ∷ []) (texts_put s answer.reply) → su ≡ status_after st (answer ∷ []) → Ran a b st su s t text

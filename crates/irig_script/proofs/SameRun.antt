@@ -7,7 +7,8 @@ use Rattle.irig_edit.specs.Runs.{OneOutcome}
 use Rattle.irig_edit.specs.Session.{machine_in}
 use Rattle.irig_edit.specs.State.{recording_of}
 use Rattle.irig_script.specs.Obey.Answer.{Answered, Step, texts_put}
-use Rattle.irig_script.specs.Obey.Desk.{GrowsBy, status_after}
+use Rattle.irig_script.specs.Obey.Desk.{status_after}
+use Rattle.irig_script.specs.Shelf.Shelved.{GrowsBy}
 use Rattle.irig_script.specs.Obey.Machine.{Machine}
 use Rattle.irig_script.specs.Obey.Obeying.{Obeys}
 use Rattle.irig_script.specs.Obey.OneRun.{OneRun, tells_failed_put, wants_memory}
@@ -129,14 +130,14 @@ module _ (outcome : OneOutcome) where
       let out : Appends one.from.out other.to.out (printed x.answers) =
       subst (λ (o : Option (List ℕ)). Appends o other.to.out (printed x.answers)) (sym begin.printed)
       (subst (λ (a : List Answer). Appends other.from.out other.to.out (printed a)) (sym answers) y.told.printed) in
-      let put : GrowsBy one.from.texts other.to.texts x.texts =
-      subst (λ (o : Option (List (List ℕ))). GrowsBy o other.to.texts x.texts) (sym begin.put)
-      (subst (λ (t : List (List ℕ)). GrowsBy other.from.texts other.to.texts t) (sym all.1) y.told.put) in
+      let put : GrowsBy one.from.shelf.texts other.to.shelf.texts x.texts =
+      subst (λ (o : Option (List (List ℕ))). GrowsBy o other.to.shelf.texts x.texts) (sym begin.put)
+      (subst (λ (t : List (List ℕ)). GrowsBy other.from.shelf.texts other.to.shelf.texts t) (sym all.1) y.told.put.put) in
       record {
         answers = answers;
         texts = all.1;
         status = x.status ∙ (λ i. status_after (status i) (answers i)) ∙ sym y.status;
         machine = all.2;
         printed = λ known. appends_one one.from.out one.to.out other.to.out (printed x.answers) known x.told.printed out;
-        put = λ known. grows_one one.from.texts one.to.texts other.to.texts x.texts known x.told.put put;
+        put = λ known. grows_one one.from.shelf.texts one.to.shelf.texts other.to.shelf.texts x.texts known x.told.put.put put;
       }

@@ -1,16 +1,17 @@
 -- What a reply to a command makes of its line.
 use Rattle.std.proofs.Common.{refl, ◌≤◌, ℕ, Bool, true, false, List, Option, length, arith}
 use Rattle.irig_codes.specs.Format.{FormatView, is_permitted}
-use Rattle.irig_script.specs.Obey.Answer.{Step}
+use Rattle.irig_script.specs.Obey.Answer.{Step, texts_put}
 use Rattle.irig_script.specs.Script.Grammar.{Means}
-use Rattle.irig_script.specs.Obey.Desk.{IsQuiet, Puts}
+use Rattle.irig_script.specs.Obey.Desk.{IsQuiet, failures_of}
+use Rattle.irig_script.specs.Shelf.Shelved.{Shelved, Puts}
 use Rattle.irig_script.specs.Obey.Machine.{Machine}
 use Rattle.irig_script.specs.Obey.Obeying.{Formats, Obeys, format}
 use Rattle.irig_script.specs.declared.script.command.Command.{Command}
 use Rattle.irig_script.specs.declared.script.command.Command.TheVariants as command
 use Rattle.irig_script.specs.declared.print.reply.Reply.{Reply}
 use Rattle.irig_script.specs.declared.print.reply.Reply.TheVariants as told
-use Rattle.irig_script.proofs.Lines.{grows_none}
+use Rattle.irig_script.proofs.Desks.{puts_none}
 
 -- no command is too long, or none of the language
 not_long_format : (v : Bool) (f : FormatView) (old new : Machine) → Formats v f old told.LineTooLong new → ⊥
@@ -81,14 +82,14 @@ obeyed_step c old new line (told.Refused w) h m o = (h, (c, m, o))
 obeyed_step c old new line told.WriteFailed h m o = (h, (c, m, o))
 
 -- a quiet reply puts nothing
-pub quiet_puts : (texts : Option (List (List ℕ))) (failures : ℕ) (m : Machine) (r : Reply) → IsQuiet r → Puts texts texts failures failures m r
-quiet_puts texts failures m (told.Written n) q = absurd q
-quiet_puts texts failures m told.WriteFailed q = absurd q
-quiet_puts texts failures m told.Silent q = record { put = grows_none texts; failed = omega arith; quiet = λ z. refl }
-quiet_puts texts failures m (told.Listed b n) q = record { put = grows_none texts; failed = omega arith; quiet = λ z. refl }
-quiet_puts texts failures m told.Frames q = record { put = grows_none texts; failed = omega arith; quiet = λ z. refl }
-quiet_puts texts failures m told.Marks q = record { put = grows_none texts; failed = omega arith; quiet = λ z. refl }
-quiet_puts texts failures m told.Info q = record { put = grows_none texts; failed = omega arith; quiet = λ z. refl }
-quiet_puts texts failures m (told.Refused w) q = record { put = grows_none texts; failed = omega arith; quiet = λ z. refl }
-quiet_puts texts failures m told.BadLine q = record { put = grows_none texts; failed = omega arith; quiet = λ z. refl }
-quiet_puts texts failures m told.LineTooLong q = record { put = grows_none texts; failed = omega arith; quiet = λ z. refl }
+pub quiet_puts : (shelf : Shelved) (m : Machine) (r : Reply) → IsQuiet r → Puts shelf shelf (texts_put m r) (failures_of r)
+quiet_puts shelf m (told.Written n) q = absurd q
+quiet_puts shelf m told.WriteFailed q = absurd q
+quiet_puts shelf m told.Silent q = puts_none shelf
+quiet_puts shelf m (told.Listed b n) q = puts_none shelf
+quiet_puts shelf m told.Frames q = puts_none shelf
+quiet_puts shelf m told.Marks q = puts_none shelf
+quiet_puts shelf m told.Info q = puts_none shelf
+quiet_puts shelf m (told.Refused w) q = puts_none shelf
+quiet_puts shelf m told.BadLine q = puts_none shelf
+quiet_puts shelf m told.LineTooLong q = puts_none shelf

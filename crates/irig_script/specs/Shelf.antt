@@ -1,2 +1,3 @@
 -- Where texts are put.
+pub mod Shelved
 pub mod ShelfView

@@ -5,7 +5,7 @@ use Rattle.irig_script.specs.Obey.Machine.{Machine}
 use Rattle.irig_script.specs.Script.Lines.{is_quit}
 use Rattle.irig_script.specs.Obey.Answer.{Step}
 use Rattle.irig_script.specs.Print.Printed.{Answer, printed}
-use Rattle.irig_script.specs.Obey.Desk.{Desk, Tells, Puts, status_after}
+use Rattle.irig_script.specs.Obey.Desk.{Desk, Tells, status_after}
 use Rattle.irig_script.specs.Obey.Run.{Goes, IsPlain}
 use Rattle.irig_script.specs.declared.print.reply.Reply.{Reply}
 use Rattle.irig_script.specs.declared.obey.status.Status.{Status}
@@ -54,11 +54,3 @@ abbrev pub Answers : Option Reply → Machine → Machine → Line → Type 0
 Answers None old new line = ((text : List ℕ) → Holds text line → is_quit text ≡ true) × (new ≡ old)
 Answers (Some reply) old new line =
     (text : List ℕ) → Holds text line → (is_quit text ≡ false) × Step old text reply new
-
--- what was put for the answer
-abbrev pub PutsFor : Option Reply → Option (List (List ℕ)) → Option (List (List ℕ)) → ℕ → ℕ
-    → Machine → Type 0
-PutsFor None texts texts_new failures failures_new m =
-    (texts_new ≡ texts) × (failures_new ≡ failures)
-PutsFor (Some reply) texts texts_new failures failures_new m =
-    Puts texts texts_new failures failures_new m reply

@@ -42,7 +42,7 @@ pub record BeginTheSame {script : List ℕ} (one other : RunOf script) : Type 0 
   pub status : one.before ≡ other.before
   pub machine : machine_in one.old ≡ machine_in other.old
   pub printed : one.from.out ≡ other.from.out
-  pub put : one.from.texts ≡ other.from.texts
+  pub put : one.from.shelf.texts ≡ other.from.shelf.texts
 
 -- two runs give the same answers and put the same texts, end with the same status and leave the
 -- same machine, and, where they are known, the same output and shelf
@@ -52,7 +52,7 @@ pub record EndTheSame {script : List ℕ} (one other : RunOf script) : Type 0 wh
   pub status : one.after ≡ other.after
   pub machine : machine_in one.new ≡ machine_in other.new
   pub printed : IsSome one.from.out → one.to.out ≡ other.to.out
-  pub put : IsSome one.from.texts → one.to.texts ≡ other.to.texts
+  pub put : IsSome one.from.shelf.texts → one.to.shelf.texts ≡ other.to.shelf.texts
 
 -- two runs of one script that begin with the same, and meet want of memory and failed puts at the
 -- same lines, end with the same

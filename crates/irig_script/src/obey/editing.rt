@@ -41,30 +41,29 @@ pub fn edit<R: Read, W: Write, S: Shelf>(
     requires { length source.items ≤ 2 ^ 28 }
     ensures ok { IfOk result (λ status. IfSome (R.remaining script.old) (Edited
         (name_of wire.entry) format source.items
-        (desk (W.contents out.old) (S.texts shelf.old) (S.failures shelf.old))
-        (desk (W.contents out.new) (S.texts shelf.new) (S.failures shelf.new)) status)) }
+        (desk (W.contents out.old) (S.known shelf.old))
+        (desk (W.contents out.new) (S.known shelf.new)) status)) }
     ensures fault { (e : VcdFault) → result ≡ Err (EditFault.Dump e)
         → Fails e (dump (name_of wire.entry) source.items) }
     ensures quiet { (e : VcdFault) → result ≡ Err (EditFault.Dump e)
         → (W.contents out.new ≡ W.contents out.old)
-        × (S.texts shelf.new ≡ S.texts shelf.old)
-        × (S.failures shelf.new ≡ S.failures shelf.old)
+        × (S.known shelf.new ≡ S.known shelf.old)
         × (R.remaining script.new ≡ R.remaining script.old) }
     ensures read_failed { result ≡ Err (EditFault.Run RunFault.ReadFailed)
         → StoppedFrom (name_of wire.entry) format source.items
-        (desk (W.contents out.old) (S.texts shelf.old) (S.failures shelf.old))
-        (desk (W.contents out.new) (S.texts shelf.new) (S.failures shelf.new))
+        (desk (W.contents out.old) (S.known shelf.old))
+        (desk (W.contents out.new) (S.known shelf.new))
         (R.remaining script.old) (R.remaining script.new) 0 }
     ensures many_reads { result ≡ Err (EditFault.Run RunFault.TooManyReads)
         → StoppedFrom (name_of wire.entry) format source.items
-        (desk (W.contents out.old) (S.texts shelf.old) (S.failures shelf.old))
-        (desk (W.contents out.new) (S.texts shelf.new) (S.failures shelf.new))
+        (desk (W.contents out.old) (S.known shelf.old))
+        (desk (W.contents out.new) (S.known shelf.new))
         (R.remaining script.old) (R.remaining script.new) (2 ^ 32) }
     ensures print_failed { result ≡ Err (EditFault.Run RunFault.PrintFailed)
         → IfSome (R.remaining script.old) (BrokeFrom
         (name_of wire.entry) format source.items
-        (desk (W.contents out.old) (S.texts shelf.old) (S.failures shelf.old))
-        (desk (W.contents out.new) (S.texts shelf.new) (S.failures shelf.new))) }
+        (desk (W.contents out.old) (S.known shelf.old))
+        (desk (W.contents out.new) (S.known shelf.new))) }
 {
     let recording = match recorded(alloc, source, wire) {
         Ok(recording) => recording,

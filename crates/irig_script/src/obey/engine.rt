@@ -6,7 +6,7 @@ ghost use Rattle.irig_script.specs.Script.Lines.{is_quit};
 ghost use Rattle.irig_script.specs.Print.Printed.{answer_with, reply_text};
 ghost use Rattle.irig_script.specs.Obey.Desk.{desk, status_after};
 ghost use Rattle.irig_script.specs.Obey.Run.{Ran, Broke, Stopped};
-ghost use Rattle.irig_script.specs.Obey.Going.{Answers, BrokeIn, Holds, Obeyed, PutsFor};
+ghost use Rattle.irig_script.specs.Obey.Going.{BrokeIn, Holds, Obeyed};
 ghost use Rattle.irig_script.specs.Print.Front.{AppendsFront};
 
 use crate::obey::obeying::obey_line;
@@ -30,21 +30,21 @@ pub fn run<R: Read, W: Write, S: Shelf>(
     shelf: &mut S,
 ) -> Result<Status, RunFault>
     ensures ok { IfOk result (λ status. IfSome (R.remaining script.old) (Ran
-        (desk (W.contents out.old) (S.texts shelf.old) (S.failures shelf.old))
-        (desk (W.contents out.new) (S.texts shelf.new) (S.failures shelf.new))
+        (desk (W.contents out.old) (S.known shelf.old))
+        (desk (W.contents out.new) (S.known shelf.new))
         Status.AllAccepted status session.old session.new)) }
     ensures read_failed { IsErrOf result RunFault.ReadFailed → Stopped
-        (desk (W.contents out.old) (S.texts shelf.old) (S.failures shelf.old))
-        (desk (W.contents out.new) (S.texts shelf.new) (S.failures shelf.new))
+        (desk (W.contents out.old) (S.known shelf.old))
+        (desk (W.contents out.new) (S.known shelf.new))
         (R.remaining script.old) (R.remaining script.new) session.old session.new 0 }
     ensures many_reads { IsErrOf result RunFault.TooManyReads → Stopped
-        (desk (W.contents out.old) (S.texts shelf.old) (S.failures shelf.old))
-        (desk (W.contents out.new) (S.texts shelf.new) (S.failures shelf.new))
+        (desk (W.contents out.old) (S.known shelf.old))
+        (desk (W.contents out.new) (S.known shelf.new))
         (R.remaining script.old) (R.remaining script.new) session.old session.new (2 ^ 32) }
     ensures print_failed { IsErrOf result RunFault.PrintFailed
         → IfSome (R.remaining script.old) (Broke
-        (desk (W.contents out.old) (S.texts shelf.old) (S.failures shelf.old))
-        (desk (W.contents out.new) (S.texts shelf.new) (S.failures shelf.new))
+        (desk (W.contents out.old) (S.known shelf.old))
+        (desk (W.contents out.new) (S.known shelf.new))
         session.old session.new) }
 {
     let mut line = Line::new();
@@ -78,12 +78,12 @@ fn obey_part<W: Write, S: Shelf>(
     status: &mut Status,
 ) -> Result<bool, PrintFault>
     ensures ok { IfOk result (λ ended. (text : List ℕ) → Holds text line.old → Obeyed ended
-        (desk (W.contents out.old) (S.texts shelf.old) (S.failures shelf.old))
-        (desk (W.contents out.new) (S.texts shelf.new) (S.failures shelf.new))
+        (desk (W.contents out.old) (S.known shelf.old))
+        (desk (W.contents out.new) (S.known shelf.new))
         status.old status.new session.old session.new (text ++ bytes.now) line.new) }
     ensures err { OnErr result ((text : List ℕ) → Holds text line.old → BrokeIn
-        (desk (W.contents out.old) (S.texts shelf.old) (S.failures shelf.old))
-        (desk (W.contents out.new) (S.texts shelf.new) (S.failures shelf.new))
+        (desk (W.contents out.old) (S.known shelf.old))
+        (desk (W.contents out.new) (S.known shelf.new))
         session.old session.new (text ++ bytes.now)) }
 {
     for byte in bytes {
@@ -104,12 +104,12 @@ fn obey_byte<W: Write, S: Shelf>(
     status: &mut Status,
 ) -> Result<bool, PrintFault>
     ensures ok { IfOk result (λ ended. (text : List ℕ) → Holds text line.old → Obeyed ended
-        (desk (W.contents out.old) (S.texts shelf.old) (S.failures shelf.old))
-        (desk (W.contents out.new) (S.texts shelf.new) (S.failures shelf.new))
+        (desk (W.contents out.old) (S.known shelf.old))
+        (desk (W.contents out.new) (S.known shelf.new))
         status.old status.new session.old session.new (text ++ byte ∷ []) line.new) }
     ensures err { OnErr result ((text : List ℕ) → Holds text line.old → BrokeIn
-        (desk (W.contents out.old) (S.texts shelf.old) (S.failures shelf.old))
-        (desk (W.contents out.new) (S.texts shelf.new) (S.failures shelf.new))
+        (desk (W.contents out.old) (S.known shelf.old))
+        (desk (W.contents out.new) (S.known shelf.new))
         session.old session.new (text ++ byte ∷ [])) }
 {
     if byte != b'\n' {
@@ -133,12 +133,12 @@ fn finish<W: Write, S: Shelf>(
     status: &mut Status,
 ) -> Result<(), PrintFault>
     ensures ok { OnOk result ((text : List ℕ) → Holds text line.now → Ran
-        (desk (W.contents out.old) (S.texts shelf.old) (S.failures shelf.old))
-        (desk (W.contents out.new) (S.texts shelf.new) (S.failures shelf.new))
+        (desk (W.contents out.old) (S.known shelf.old))
+        (desk (W.contents out.new) (S.known shelf.new))
         status.old status.new session.old session.new text) }
     ensures err { OnErr result ((text : List ℕ) → Holds text line.now → Broke
-        (desk (W.contents out.old) (S.texts shelf.old) (S.failures shelf.old))
-        (desk (W.contents out.new) (S.texts shelf.new) (S.failures shelf.new))
+        (desk (W.contents out.old) (S.known shelf.old))
+        (desk (W.contents out.new) (S.known shelf.new))
         session.old session.new text) }
 {
     if line.is_empty() {

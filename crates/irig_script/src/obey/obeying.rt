@@ -2,8 +2,10 @@
 
 ghost use Rattle.std.specs.Prelude.{◌≡◌, ◌≢◌};
 ghost use Rattle.irig_script.specs.Obey.Obeying.{Obeys, Writes};
-ghost use Rattle.irig_script.specs.Obey.Desk.{IsQuiet, Puts};
-ghost use Rattle.irig_script.specs.Obey.Going.{Answers, PutsFor};
+ghost use Rattle.irig_script.specs.Shelf.Shelved.{Puts};
+ghost use Rattle.irig_script.specs.Obey.Answer.{texts_put};
+ghost use Rattle.irig_script.specs.Obey.Desk.{IsQuiet, PutsFor, failures_of};
+ghost use Rattle.irig_script.specs.Obey.Going.{Answers};
 ghost use Rattle.irig_script.specs.declared.script.command.Command.{Command};
 
 use crate::obey::calls::{
@@ -20,8 +22,7 @@ use irig_edit::{Refusal, Session};
 /// Obeys a line; `None` where it ends the script.
 pub fn obey_line<S: Shelf>(line: &Line, session: &mut Session, shelf: &mut S) -> Option<Reply>
     ensures answer { Answers result session.old session.new line.now }
-    ensures put { PutsFor result (S.texts shelf.old) (S.texts shelf.new)
-        (S.failures shelf.old) (S.failures shelf.new) session.old }
+    ensures put { PutsFor result (S.known shelf.old) (S.known shelf.new) session.old }
 {
     let Some(text) = line.text() else {
         return Some(Reply::LineTooLong);
@@ -69,8 +70,8 @@ fn obey(command: Command, session: &mut Session) -> Reply
 /// Puts the text of the track.
 fn write<S: Shelf>(session: &Session, shelf: &mut S) -> Reply
     ensures answer { Writes session.now result }
-    ensures put { Puts (S.texts shelf.old) (S.texts shelf.new)
-        (S.failures shelf.old) (S.failures shelf.new) session.now result }
+    ensures put { Puts (S.known shelf.old) (S.known shelf.new)
+        (texts_put session.now result) (failures_of result) }
 {
     let Ok(text) = session.text() else {
         return Reply::Refused(Refusal::OutOfMemory);

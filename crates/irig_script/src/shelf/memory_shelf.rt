@@ -2,6 +2,7 @@
 
 ghost use Rattle.std.specs.Prelude.{◌≡◌, Some, map, []};
 ghost use Rattle.irig_script.specs.Shelf.ShelfView.{shelf_view};
+ghost use Rattle.irig_script.specs.Shelf.Shelved.{shelved};
 
 use crate::shelf::shelf::{Shelf, ShelfFault};
 use std::alloc::Global;
@@ -49,9 +50,7 @@ impl MemoryShelf {
 }
 
 impl Shelf for MemoryShelf {
-    ghost failures = { λ s. s.failures };
-
-    ghost texts = { λ s. Some s.texts };
+    ghost known = { λ s. shelved (Some s.texts) s.failures [] };
 
     fn put(&mut self, text: &[u8]) -> Result<(), ShelfFault> {
         self.puts = self.puts.saturating_add(1);

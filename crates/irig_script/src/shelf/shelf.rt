@@ -1,7 +1,7 @@
 //! Where texts are put.
 
-ghost use Rattle.std.specs.Prelude.{◌≡◌, ℕ, List, Option, OnOk, OnErr, ◌∷◌, []};
-ghost use Rattle.irig_script.specs.Obey.Desk.{GrowsBy, Fails};
+ghost use Rattle.std.specs.Prelude.{OnOk, OnErr, ◌∷◌, []};
+ghost use Rattle.irig_script.specs.Shelf.Shelved.{Shelved, Puts};
 
 /// A text could not be put.
 #[derive(Clone, Copy)]
@@ -9,16 +9,12 @@ pub struct ShelfFault;
 
 /// Where `write` puts the text of the track.
 pub trait Shelf {
-    /// How many puts have failed, up to 2^64 - 1.
-    ghost failures: { Self → ℕ };
-
-    /// The texts put, where the shelf tells them.
-    ghost texts: { Self → Option (List (List ℕ)) };
+    /// What is known of it: the texts put, where it tells them, how many puts have failed, up to
+    /// 2^64 - 1, and its place.
+    ghost known: { Self → Shelved };
 
     /// Puts a text. A fault leaves the texts as they were.
     fn put(&mut self, text: &[u8]) -> Result<(), ShelfFault>
-        ensures ok { OnOk result (GrowsBy (texts self.old) (texts self.new) (text.now ∷ [])) }
-        ensures err { OnErr result (GrowsBy (texts self.old) (texts self.new) []) }
-        ensures fault { OnErr result (Fails (failures self.old) (failures self.new) 1) }
-        ensures count { OnOk result (failures self.new ≡ failures self.old) };
+        ensures ok { OnOk result (Puts (known self.old) (known self.new) (text.now ∷ []) 0) }
+        ensures err { OnErr result (Puts (known self.old) (known self.new) [] 1) };
 }

@@ -13,8 +13,8 @@ returns-in_err-obey_byte-clause-err g c =
     let i = c.loop-byte.byte-index in
     let l = c.args.bytes.now in
     let broke : (text : List ℕ) → Holds text c.args.line.now → BrokeIn
-    (desk (g.W.Write.contents c.args.out.now) (g.S.Shelf.texts c.args.shelf.now) (g.S.Shelf.failures c.args.shelf.now))
-    (desk (g.W.Write.contents c.obey_byte.new.out) (g.S.Shelf.texts c.obey_byte.new.shelf) (g.S.Shelf.failures c.obey_byte.new.shelf))
+    (desk (g.W.Write.contents c.args.out.now) (g.S.Shelf.known c.args.shelf.now))
+    (desk (g.W.Write.contents c.obey_byte.new.out) (g.S.Shelf.known c.obey_byte.new.shelf))
     c.args.session.now c.obey_byte.new.session (text ++ l) = λ text h.
     (let part = broke_more _ _ _ _ _ _ _ _ (text ++ take i l) (get_or l i 0 ∷ []) c.loop-byte.line (c.loop-byte.invariant text h) c.in_err-obey_byte.ensures.err in
     rw (← whole_text text l i c.loop-byte-test.true) (broke_rest _ _ _ _ _ (drop (i + 1) l) part)) in

@@ -5,6 +5,6 @@ use Rattle.irig_script.proofs.obey.engine.obey_part.Given as goal
 
 abbrev pub invariant-loop-byte : goal.invariant-loop-byte
 invariant-loop-byte g l = (text : List ℕ) → Holds text l.fn.line → Obeyed false
-    (desk (g.W.Write.contents l.fn.out) (g.S.Shelf.texts l.fn.shelf) (g.S.Shelf.failures l.fn.shelf))
-    (desk (g.W.Write.contents l.out) (g.S.Shelf.texts l.shelf) (g.S.Shelf.failures l.shelf))
+    (desk (g.W.Write.contents l.fn.out) (g.S.Shelf.known l.fn.shelf))
+    (desk (g.W.Write.contents l.out) (g.S.Shelf.known l.shelf))
     l.fn.status l.status l.fn.session l.session (text ++ take l.byte-index l.bytes) l.line

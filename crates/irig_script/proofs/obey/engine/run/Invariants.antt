@@ -11,7 +11,7 @@ invariant-loop-reads g l = record {
   read : Consumes (g.R.Read.remaining l.fn.script) (g.R.Read.remaining l.script) bytes;
   many : l.reads ≤ length bytes;
   obeyed : Obeyed false
-      (desk (g.W.Write.contents l.fn.out) (g.S.Shelf.texts l.fn.shelf) (g.S.Shelf.failures l.fn.shelf))
-      (desk (g.W.Write.contents l.out) (g.S.Shelf.texts l.shelf) (g.S.Shelf.failures l.shelf))
+      (desk (g.W.Write.contents l.fn.out) (g.S.Shelf.known l.fn.shelf))
+      (desk (g.W.Write.contents l.out) (g.S.Shelf.known l.shelf))
       AllAccepted l.status l.fn.session l.session bytes l.line;
 }

@@ -31,7 +31,7 @@ returns-in-Ok g c =
           (let whole = c.in-Some.ensures.whole text h in
           let meant : Means c.in-Ok.command text = subst (λ (l : List ℕ). Means c.in-Ok.command l) whole.0 c.in-Ok.ensures.meant in
           (other_goes_on c.in-Ok.command text meant more, obeyed_step c.in-Ok.command c.args.session.now c.obey.new.session text c.obey.result whole.1 meant c.obey.ensures.answer));
-      put = quiet_puts _ _ _ _ c.obey.ensures.quiet;
+      put = quiet_puts _ c.args.session.now _ c.obey.ensures.quiet;
     }
 
 pub returns-in-Err-clause-answer : goal.returns-in-Err-clause-answer

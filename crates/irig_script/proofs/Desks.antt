@@ -1,0 +1,74 @@
+-- What answers make of a desk: what is printed and put, one after another.
+use Rattle.std.proofs.Common.{◌≡◌, ◌+◌, ◌++◌, ◌∷◌, [], ℕ, Option, Some, None, List, refl, ap, sym, ◌∙◌, subst, append_assoc, arith}
+use Rattle.std.specs.Io.KnownBytes.{Appends}
+use Rattle.std.proofs.lemmas.List.{append-nil}
+use Rattle.std.proofs.lemmas.Grind.{flat_map-append}
+use Rattle.irig_script.specs.Obey.Machine.{Machine}
+use Rattle.irig_script.specs.Obey.Answer.{texts_put}
+use Rattle.irig_script.specs.Print.Printed.{Answer, printed}
+use Rattle.irig_script.specs.Shelf.Shelved.{Shelved, Puts, GrowsBy}
+use Rattle.irig_script.specs.Obey.Desk.{Desk, Tells, failures_in, failures_of, status_after}
+use Rattle.irig_script.specs.declared.obey.status.Status.{Status}
+use Rattle.irig_script.proofs.Known.{appends-appends}
+
+appends_none : (a : Option (List ℕ)) → Appends a a []
+appends_none None = tt
+appends_none (Some s) = sym (append-nil s)
+
+grows_none : {T : Type 0} (a : Option (List T)) → GrowsBy a a []
+grows_none None = tt
+grows_none (Some s) = sym (append-nil s)
+
+grows-grows : {T : Type 0} (a b c : Option (List T)) (ts us : List T) → GrowsBy a b ts → GrowsBy b c us → GrowsBy a c (ts ++ us)
+grows-grows None b c ts us p q = tt
+grows-grows (Some s) None c ts us p q = absurd p
+grows-grows (Some s) (Some t) None ts us p q = absurd q
+grows-grows (Some s) (Some t) (Some u) ts us p q = q ∙ ap (λ l. l ++ us) p ∙ append_assoc s ts us
+
+-- a shelf on which nothing is put, and puts in turn
+pub puts_none : (a : Shelved) → Puts a a [] 0
+puts_none a = record { put = grows_none a.texts; failed = omega arith; quiet = λ z. refl; place = refl }
+
+puts-puts : (a b c : Shelved) (ts us : List (List ℕ)) (x y : ℕ) → Puts a b ts x → Puts b c us y → Puts a c (ts ++ us) (x + y)
+puts-puts a b c ts us x y h k = record {
+  put = grows-grows a.texts b.texts c.texts ts us h.put k.put;
+  failed = omega (arith, h.failed, k.failed);
+  quiet = λ z. k.quiet (omega (arith, z)) ∙ h.quiet (omega (arith, z));
+  place = k.place ∙ h.place;
+}
+
+failures_in-append : (rs qs : List Answer) → failures_in (rs ++ qs) ≡ failures_in rs + failures_in qs
+failures_in-append [] qs = omega arith
+failures_in-append (r ∷ rs) qs = omega (arith, failures_in-append rs qs)
+
+failures_in-one : (r : Answer) → failures_in (r ∷ []) ≡ failures_of r.reply
+failures_in-one r = omega arith
+
+pub status_after-append : (s : Status) (rs qs : List Answer) → status_after s (rs ++ qs) ≡ status_after (status_after s rs) qs
+status_after-append s [] qs = refl
+status_after-append s (r ∷ rs) qs = status_after-append _ rs qs
+
+-- a desk that stays as it is, and what is told in turn
+pub tells_none : (a : Desk) → Tells a a [] [] []
+tells_none a = record { printed = appends_none a.out; put = puts_none a.shelf }
+
+pub tells-tells : (a b c : Desk) (x y : List ℕ) (rs qs : List Answer) (ts us : List (List ℕ)) → Tells a b x rs ts → Tells b c y qs us → Tells a c (x ++ y) (rs ++ qs) (ts ++ us)
+tells-tells a b c x y rs qs ts us h k = record {
+  printed = appends-appends a.out b.out c.out x y h.printed k.printed;
+  put = subst (λ (n : ℕ). Puts a.shelf c.shelf (ts ++ us) n) (sym (failures_in-append rs qs)) (puts-puts a.shelf b.shelf c.shelf ts us (failures_in rs) (failures_in qs) h.put k.put);
+}
+
+-- answers that were printed whole
+pub tells-answers : (a b c : Desk) (rs qs : List Answer) (ts us : List (List ℕ)) → Tells a b (printed rs) rs ts → Tells b c (printed qs) qs us → Tells a c (printed (rs ++ qs)) (rs ++ qs) (ts ++ us)
+tells-answers a b c rs qs ts us h k =
+    subst (λ (l : List ℕ). Tells a c l (rs ++ qs) (ts ++ us)) (sym (flat_map-append (λ (answer : Answer). answer.text) rs qs)) (tells-tells a b c (printed rs) (printed qs) rs qs ts us h k)
+
+-- one answer, printed whole or in front
+pub tells_front : (a b : Desk) (m : Machine) (r : Answer) (front : List ℕ) → Appends a.out b.out front → Puts a.shelf b.shelf (texts_put m r.reply) (failures_of r.reply) → Tells a b front (r ∷ []) (texts_put m r.reply)
+tells_front a b m r front p h = record {
+  printed = p;
+  put = subst (λ (n : ℕ). Puts a.shelf b.shelf (texts_put m r.reply) n) (sym (failures_in-one r)) h;
+}
+
+pub tells_one : (a b : Desk) (m : Machine) (r : Answer) → Appends a.out b.out r.text → Puts a.shelf b.shelf (texts_put m r.reply) (failures_of r.reply) → Tells a b (printed (r ∷ [])) (r ∷ []) (texts_put m r.reply)
+tells_one a b m r p h = tells_front a b m r (printed (r ∷ [])) (rw append-nil p) h

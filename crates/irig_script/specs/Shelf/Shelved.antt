@@ -1,0 +1,28 @@
+-- What is known of a shelf, and what puts make of it. This project's own.
+use Rattle.std.specs.Prelude.{◌≡◌, ◌≤◌, ◌+◌, ◌-◌, ◌^◌, ◌++◌, ℕ, List, Option, Some, None, min}
+
+-- a known list grows by these at its end
+abbrev pub GrowsBy : {T : Type 0} → Option (List T) → Option (List T) → List T → Type 0
+GrowsBy None new more = Unit {0}
+GrowsBy (Some xs) None more = ⊥
+GrowsBy (Some xs) (Some ys) more = ys ≡ xs ++ more
+
+-- the count of failures rose by so many at least, or stands at its last value
+abbrev pub Fails : ℕ → ℕ → ℕ → Type 0
+Fails old new count = min (old + count) (2 ^ 64 - 1) ≤ new
+
+-- the texts put, where the shelf tells them, how often a put failed, and what tells its place
+pub record Shelved : Type 0 where
+  pub texts : Option (List (List ℕ))
+  pub failures : ℕ
+  pub place : List ℕ
+
+abbrev pub shelved : Option (List (List ℕ)) → ℕ → List ℕ → Shelved
+shelved texts failures place = record { texts = texts; failures = failures; place = place }
+
+-- just these texts were put, so many puts failed, and the shelf stands where it stood
+pub record Puts (old new : Shelved) (texts : List (List ℕ)) (count : ℕ) : Type 0 where
+  pub put : GrowsBy old.texts new.texts texts
+  pub failed : Fails old.failures new.failures count
+  pub quiet : count ≡ 0 → new.failures ≡ old.failures
+  pub place : new.place ≡ old.place
