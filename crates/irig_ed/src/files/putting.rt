@@ -108,8 +108,10 @@ fn followed<R: Files + AllocGlobal>(rt: &R, path: &str) -> Result<PathBuf, Shelf
 
 /// Follows a symbolic link, and tells whether there was one.
 fn follow<R: Files + AllocGlobal>(rt: &R, target: &mut PathBuf) -> Result<bool, ShelfFault> {
-    let Ok(next) = fs::read_link(rt, target.as_str()) else {
-        return Ok(false);
+    let next = match fs::read_link(rt, target.as_str()) {
+        Ok(next) => next,
+        Err(e) if e.kind() == ErrorKind::OutOfMemory => return Err(ShelfFault),
+        Err(_) => return Ok(false),
     };
     target.pop();
     told(target.push(next.as_str()))?;
