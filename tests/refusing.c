@@ -1,0 +1,36 @@
+/* Refuses one growth of a program. Preloaded, it gives no memory to the growth of the number REFUSED, from 1, and writes a byte
+   to the descriptor TOLD when it does. */
+#define _GNU_SOURCE
+#include <dlfcn.h>
+#include <errno.h>
+#include <stdlib.h>
+#include <unistd.h>
+
+static long growths;
+
+static int is_refused(void)
+{
+    const char *number = getenv("REFUSED"), *told = getenv("TOLD");
+    if (number == NULL || told == NULL || ++growths != atol(number))
+        return 0;
+    if (write(atoi(told), "!", 1) != 1)
+        abort();
+    errno = ENOMEM;
+    return 1;
+}
+
+void *malloc(size_t size)
+{
+    static void *(*next)(size_t);
+    if (next == NULL)
+        next = dlsym(RTLD_NEXT, "malloc");
+    return is_refused() ? NULL : next(size);
+}
+
+void *realloc(void *old, size_t size)
+{
+    static void *(*next)(void *, size_t);
+    if (next == NULL)
+        next = dlsym(RTLD_NEXT, "realloc");
+    return is_refused() ? NULL : next(old, size);
+}
