@@ -6,5 +6,6 @@ pub mod Answer
 pub mod Desk
 pub mod Run
 pub mod OneRun
+pub mod Ending
 pub mod Going
 pub mod Editing

@@ -1,12 +1,11 @@
 //! A dump edited by a script.
 
-ghost use Rattle.std.specs.Prelude.{◌≡◌, ◌≤◌, ◌^◌, Err, Ok, IfErr, IfOk, IfSome, length};
+ghost use Rattle.std.specs.Prelude.{◌≡◌, ◌≤◌, ◌^◌, Ok, IfErr, IfOk, length};
 ghost use Rattle.irig_vcd.specs.Dump.{dump};
 ghost use Rattle.irig_vcd.specs.Choices.{name_of};
 ghost use Rattle.irig_vcd.specs.Plays.{Fails};
 ghost use Rattle.irig_script.specs.Obey.Desk.{desk};
-ghost use Rattle.irig_script.specs.Obey.Editing.{BrokeFrom, Edited, StoppedFrom};
-ghost use Rattle.irig_vcd.specs.declared.fault.VcdFault.{VcdFault};
+ghost use Rattle.irig_script.specs.Obey.Editing.{EditsAs};
 
 use crate::obey::engine;
 use crate::obey::status::{RunFault, Status};
@@ -39,31 +38,10 @@ pub fn edit<R: Read, W: Write, S: Shelf>(
     shelf: &mut S,
 ) -> Result<Status, EditFault>
     requires { length source.items ≤ 2 ^ 28 }
-    ensures ok { IfOk result (λ status. IfSome (R.remaining script.old) (Edited
-        (name_of wire.entry) format source.items
+    ensures { EditsAs (name_of wire.entry) format source.items
+        (R.remaining script.old) (R.remaining script.new)
         (desk (W.contents out.old) (S.known shelf.old))
-        (desk (W.contents out.new) (S.known shelf.new)) status)) }
-    ensures fault { (e : VcdFault) → result ≡ Err (EditFault.Dump e)
-        → Fails e (dump (name_of wire.entry) source.items) }
-    ensures quiet { (e : VcdFault) → result ≡ Err (EditFault.Dump e)
-        → (W.contents out.new ≡ W.contents out.old)
-        × (S.known shelf.new ≡ S.known shelf.old)
-        × (R.remaining script.new ≡ R.remaining script.old) }
-    ensures read_failed { result ≡ Err (EditFault.Run RunFault.ReadFailed)
-        → StoppedFrom (name_of wire.entry) format source.items
-        (desk (W.contents out.old) (S.known shelf.old))
-        (desk (W.contents out.new) (S.known shelf.new))
-        (R.remaining script.old) (R.remaining script.new) 0 }
-    ensures many_reads { result ≡ Err (EditFault.Run RunFault.TooManyReads)
-        → StoppedFrom (name_of wire.entry) format source.items
-        (desk (W.contents out.old) (S.known shelf.old))
-        (desk (W.contents out.new) (S.known shelf.new))
-        (R.remaining script.old) (R.remaining script.new) (2 ^ 32) }
-    ensures print_failed { result ≡ Err (EditFault.Run RunFault.PrintFailed)
-        → IfSome (R.remaining script.old) (BrokeFrom
-        (name_of wire.entry) format source.items
-        (desk (W.contents out.old) (S.known shelf.old))
-        (desk (W.contents out.new) (S.known shelf.new))) }
+        (desk (W.contents out.new) (S.known shelf.new)) result }
 {
     let recording = match recorded(alloc, source, wire) {
         Ok(recording) => recording,

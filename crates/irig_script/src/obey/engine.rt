@@ -1,11 +1,12 @@
 //! The run of a script.
 
-ghost use Rattle.std.specs.Prelude.{◌≡◌, ◌≢◌, ◌++◌, ◌∷◌, [], ◌^◌, ℕ, List, IfOk, IfSome, OnOk, OnErr, IsErrOf};
+ghost use Rattle.std.specs.Prelude.{◌≡◌, ◌++◌, ◌∷◌, [], ℕ, List, IfOk, OnOk, OnErr};
 ghost use Rattle.std.specs.Io.KnownBytes.{Appends};
 ghost use Rattle.irig_script.specs.Script.Lines.{is_quit};
 ghost use Rattle.irig_script.specs.Print.Printed.{answer_with, reply_text};
 ghost use Rattle.irig_script.specs.Obey.Desk.{desk, status_after};
-ghost use Rattle.irig_script.specs.Obey.Run.{Ran, Broke, Stopped};
+ghost use Rattle.irig_script.specs.Obey.Ending.{EndsAs};
+ghost use Rattle.irig_script.specs.Obey.Run.{Ran, Broke};
 ghost use Rattle.irig_script.specs.Obey.Going.{BrokeIn, Holds, Obeyed};
 ghost use Rattle.irig_script.specs.Print.Front.{AppendsFront};
 
@@ -29,23 +30,9 @@ pub fn run<R: Read, W: Write, S: Shelf>(
     out: &mut W,
     shelf: &mut S,
 ) -> Result<Status, RunFault>
-    ensures ok { IfOk result (λ status. IfSome (R.remaining script.old) (Ran
+    ensures { EndsAs (R.remaining script.old) (R.remaining script.new)
         (desk (W.contents out.old) (S.known shelf.old))
-        (desk (W.contents out.new) (S.known shelf.new))
-        Status.AllAccepted status session.old session.new)) }
-    ensures read_failed { IsErrOf result RunFault.ReadFailed → Stopped
-        (desk (W.contents out.old) (S.known shelf.old))
-        (desk (W.contents out.new) (S.known shelf.new))
-        (R.remaining script.old) (R.remaining script.new) session.old session.new 0 }
-    ensures many_reads { IsErrOf result RunFault.TooManyReads → Stopped
-        (desk (W.contents out.old) (S.known shelf.old))
-        (desk (W.contents out.new) (S.known shelf.new))
-        (R.remaining script.old) (R.remaining script.new) session.old session.new (2 ^ 32) }
-    ensures print_failed { IsErrOf result RunFault.PrintFailed
-        → IfSome (R.remaining script.old) (Broke
-        (desk (W.contents out.old) (S.known shelf.old))
-        (desk (W.contents out.new) (S.known shelf.new))
-        session.old session.new) }
+        (desk (W.contents out.new) (S.known shelf.new)) session.old session.new result }
 {
     let mut line = Line::new();
     let mut buffer = [0; 4096];
@@ -54,13 +41,17 @@ pub fn run<R: Read, W: Write, S: Shelf>(
         match script.read(&mut buffer) {
             Err(_) => return Err(RunFault::ReadFailed),
             Ok(0) => {
-                finish(&line, session, out, shelf, &mut status)?;
+                let Ok(()) = finish(&line, session, out, shelf, &mut status) else {
+                    return Err(RunFault::PrintFailed);
+                };
                 return Ok(status);
             }
             Ok(count) => {
                 let part = &buffer[..count];
-                if obey_part(&mut line, part, session, out, shelf, &mut status)? {
-                    return Ok(status);
+                match obey_part(&mut line, part, session, out, shelf, &mut status) {
+                    Ok(true) => return Ok(status),
+                    Ok(false) => {}
+                    Err(PrintFault) => return Err(RunFault::PrintFailed),
                 }
             }
         }

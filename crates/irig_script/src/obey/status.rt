@@ -1,9 +1,5 @@
 //! How a run ends.
 
-ghost use Rattle.std.specs.Prelude.{◌≡◌};
-ghost use Rattle.irig_script.specs.declared.obey.status.RunFault.TheVariants.{PrintFailed};
-
-use crate::print::output::PrintFault;
 use thiserror::Error;
 
 /// How a run ended that came to its end.
@@ -27,12 +23,4 @@ pub enum RunFault {
     /// A write of the output failed, or took no byte.
     #[error("S6 PrintFailed")]
     PrintFailed,
-}
-
-impl From<PrintFault> for RunFault {
-    ghost from_gives = { λ _ e. e ≡ PrintFailed };
-
-    fn from(_fault: PrintFault) -> RunFault {
-        RunFault::PrintFailed
-    }
 }

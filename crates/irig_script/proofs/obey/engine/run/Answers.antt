@@ -8,35 +8,35 @@ use Rattle.irig_script.proofs.obey.engine.run.Goals as goal
 pub loop-reads-init : goal.loop-reads-init
 loop-reads-init g c = record { bytes = []; read = consumes_none _; many = omega arith; obeyed = obeyed_none _ _ [] _ _ c.new-line.ensures }
 
-pub returns-in_err-finish-in-Ok-eq0-clause-print_failed : goal.returns-in_err-finish-in-Ok-eq0-clause-print_failed
-returns-in_err-finish-in-Ok-eq0-clause-print_failed g c = λ _.
+pub returns-in_default : goal.returns-in_default
+returns-in_default g c =
     let i = c.loop-reads.invariant in
     let room : 0 < length c.read.new.buf = search rules in
     let at_end = c.in-Ok-eq0.ensures.bytes.1 c.in-Ok-eq0.field-0-test room in
     let none = rw c.in-Ok-eq0.field-0-test at c.in-Ok-eq0.ensures.bytes.0 in
     let all = rw append-nil at (consumes-consumes _ _ _ i.bytes [] i.read none) in
-    run_broken _ _ _ _ _ _ _ _ _ _ i.bytes c.loop-reads.line all at_end i.obeyed c.in_err-finish-in-Ok-eq0.ensures.err
+    run_broken _ _ _ _ _ _ _ _ _ _ i.bytes c.loop-reads.line all at_end i.obeyed c.in_default.ensures.err
 
-pub returns-in-Ok-eq0-clause-ok : goal.returns-in-Ok-eq0-clause-ok
-returns-in-Ok-eq0-clause-ok g c =
+pub returns-in-Ok-eq0 : goal.returns-in-Ok-eq0
+returns-in-Ok-eq0 g c =
     let i = c.loop-reads.invariant in
     let room : 0 < length c.read.new.buf = search rules in
     let at_end = c.in-Ok-eq0.ensures.bytes.1 c.in-Ok-eq0.field-0-test room in
     let none = rw c.in-Ok-eq0.field-0-test at c.in-Ok-eq0.ensures.bytes.0 in
     let all = rw append-nil at (consumes-consumes _ _ _ i.bytes [] i.read none) in
-    run_ended _ _ _ _ _ _ _ _ _ _ _ i.bytes c.loop-reads.line all at_end i.obeyed c.in_ok-finish-in-Ok-eq0.ensures.ok
+    run_ended _ _ _ _ _ _ _ _ _ _ _ i.bytes c.loop-reads.line all at_end i.obeyed c.in-Ok-finish.ensures.ok
 
-pub returns-in_err-obey_part-in-Ok-clause-print_failed : goal.returns-in_err-obey_part-in-Ok-clause-print_failed
-returns-in_err-obey_part-in-Ok-clause-print_failed g c = λ _.
+pub returns-in-Err-obey_part : goal.returns-in-Err-obey_part
+returns-in-Err-obey_part g c =
     let i = c.loop-reads.invariant in
     let n = c.in-Ok.count in
     let all = consumes-consumes _ _ _ i.bytes (take n c.read.new.buf) i.read c.in-Ok.ensures.bytes.0 in
-    run_broke _ _ _ _ _ _ (i.bytes ++ take n c.read.new.buf) all (broke_more _ _ _ _ _ _ _ _ i.bytes (take n c.read.new.buf) c.loop-reads.line i.obeyed c.in_err-obey_part-in-Ok.ensures.err)
+    run_broke _ _ _ _ _ _ (i.bytes ++ take n c.read.new.buf) all (broke_more _ _ _ _ _ _ _ _ i.bytes (take n c.read.new.buf) c.loop-reads.line i.obeyed c.in-Err-obey_part.ensures.err)
 
-pub returns-then-branch-clause-ok : goal.returns-then-branch-clause-ok
-returns-then-branch-clause-ok g c =
+pub returns-in-Ok-true : goal.returns-in-Ok-true
+returns-in-Ok-true g c =
     let i = c.loop-reads.invariant in
-    let step = rw c.if-branch.true at c.in_ok-obey_part-in-Ok.ensures.ok in
+    let step = rw c.in-Ok-true.field-0-test at c.in-Ok-true.ensures.ok in
     let n = c.in-Ok.count in
     let all = consumes-consumes _ _ _ i.bytes (take n c.read.new.buf) i.read c.in-Ok.ensures.bytes.0 in
     run_quit _ _ _ _ _ _ _ _ (i.bytes ++ take n c.read.new.buf) c.obey_part.new.line all (obeyed_more true _ _ _ _ _ _ _ _ _ i.bytes (take n c.read.new.buf) c.loop-reads.line c.obey_part.new.line i.obeyed step)
@@ -44,7 +44,7 @@ returns-then-branch-clause-ok g c =
 pub loop-reads-preserved : goal.loop-reads-preserved
 loop-reads-preserved g c =
     let i = c.loop-reads.invariant in
-    let step = rw c.if-branch.false at c.in_ok-obey_part-in-Ok.ensures.ok in
+    let step = rw c.in-Ok-false.field-0-test at c.in-Ok-false.ensures.ok in
     let n = c.in-Ok.count in
     record {
       bytes = i.bytes ++ take n c.read.new.buf;
