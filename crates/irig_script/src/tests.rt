@@ -3,4 +3,5 @@
 mod failing_ends;
 mod refused_growths;
 mod rows;
+mod stops;
 mod table;
