@@ -1,18 +1,22 @@
-pub mod Bits
-pub mod Gathered
-pub mod Growing
-pub mod Law
-pub mod Loops
-pub mod NarrowRuns
-pub mod Noted
-pub mod Presence
-pub mod Rows
-pub mod Shapes
-pub mod Shown
-pub mod Slots
+-- values of the standard, computed
 pub mod StandardFacts
 pub mod StandardFrames
-pub mod Strays
+-- the table of rows and the slots of a frame, which say the same of every frame
+pub mod Presence
+pub mod RowSums
+pub mod Rows
+pub mod Shapes
+pub mod SlotFrames
+pub mod Slots
 pub mod Tables
-pub mod Told
-pub mod Whole
+-- the elements that are One, as the bits of a number
+pub mod Bits
+pub mod DigitBounds
+pub mod OnesLemmas
+pub mod OnesSteps
+pub mod Strays
+-- encoding, decoding, and the way there and back
+pub mod EncodeSteps
+pub mod NoteLemmas
+pub mod RoundTrip
+pub mod SlotRoundTrip

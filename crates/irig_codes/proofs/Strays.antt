@@ -15,10 +15,10 @@ use Rattle.irig_codes.proofs.Shapes.{from-all}
 use Rattle.irig_codes.proofs.Slots.{length-slots}
 use Rattle.irig_codes.specs.declared.format.Kind.{Kind}
 use Rattle.irig_codes.specs.declared.layout.Slot.{Slot}
-use Rattle.irig_codes.specs.declared.layout.Slot.TheVariants.{Marker, Unused, Bit}
+use Rattle.irig_codes.specs.declared.layout.Slot.TheVariants.{Identifier, Unused, Bit}
 use Rattle.irig_codes.specs.declared.width.Element.{Element}
 use Rattle.irig_codes.specs.declared.width.Element.TheVariants.{Zero, One, Position}
-use Rattle.irig_codes.proofs.Gathered.{bit-ones, carried, carried-sbs}
+use Rattle.irig_codes.proofs.OnesLemmas.{bit-ones, carried, carried-sbs}
 
 -- the mask of a format
 pub used-whole : (f : FormatView) → time_used f.kind + year_used f.kind (has_year f.expression) + sbs_used (carries_sbs f.kind f.expression) + control_used f.kind (has_control f.expression) (has_year f.expression) ≡ used_of (slots_at f)
@@ -38,10 +38,10 @@ is_bit _ = false
 
 bit-used : (ss : List Slot) (i : ℕ) → bit_at (used_of ss) i ≡ cond (is_bit (get_or ss i Unused)) 1 0
 bit-used [] i = bit_at-zero i
-bit-used (Marker ∷ ss) zero = omega arith
+bit-used (Identifier ∷ ss) zero = omega arith
 bit-used (Unused ∷ ss) zero = omega arith
 bit-used (Bit d p ∷ ss) zero = omega arith
-bit-used (Marker ∷ ss) (suc i) = bit_at-suc (2 * used_of ss) i ∙ ap (λ n. bit_at n i) (half (used_of ss)) ∙ bit-used ss i where
+bit-used (Identifier ∷ ss) (suc i) = bit_at-suc (2 * used_of ss) i ∙ ap (λ n. bit_at n i) (half (used_of ss)) ∙ bit-used ss i where
   half : (n : ℕ) → 2 * n / 2 ≡ n
   half n = omega arith
 bit-used (Unused ∷ ss) (suc i) = bit_at-suc (2 * used_of ss) i ∙ ap (λ n. bit_at n i) (half (used_of ss)) ∙ bit-used ss i where
@@ -52,16 +52,16 @@ bit-used (Bit d p ∷ ss) (suc i) = bit_at-suc (1 + 2 * used_of ss) i ∙ ap (λ
   half n = omega arith
 
 stray-here : (s : Slot) (x : Element) → counts x ≡ true → is_bit s ≡ false → is_stray_at s x ≡ true
-stray-here Marker One h g = refl
+stray-here Identifier One h g = refl
 stray-here Unused One h g = refl
 stray-here (Bit d p) One h g = absurd (cc g)
 stray-here s Zero h g = absurd (cc h)
 stray-here s Position h g = absurd (cc h)
 
 stray-not-here : (s : Slot) (x : Element) → (counts x ≡ true → is_bit s ≡ true) → is_stray_at s x ≡ false
-stray-not-here Marker Zero h = refl
-stray-not-here Marker Position h = refl
-stray-not-here Marker One h = sym (h refl)
+stray-not-here Identifier Zero h = refl
+stray-not-here Identifier Position h = refl
+stray-not-here Identifier One h = sym (h refl)
 stray-not-here Unused Zero h = refl
 stray-not-here Unused Position h = refl
 stray-not-here Unused One h = sym (h refl)

@@ -8,7 +8,7 @@ pub mod Notes
 pub mod Ones
 pub mod Parts
 pub mod Reading
-pub mod Runs
+pub mod OnesDigits
 pub mod Slots
 pub mod Used
 pub mod Width

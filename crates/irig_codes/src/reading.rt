@@ -2,7 +2,7 @@
 
 ghost use Rattle.std.specs.Prelude.{◌≡◌, ◌<◌, ◌+◌, ◌*◌, ◌^◌};
 ghost use Rattle.irig_codes.specs.Ones.{bits_in};
-ghost use Rattle.irig_codes.specs.Runs.{hundredths_units_in, hundredths_tens_in, seconds_units_in, year_units_in, year_tens_in, sbs_in, control_in, digits_in};
+ghost use Rattle.irig_codes.specs.OnesDigits.{hundredths_units_in, hundredths_tens_in, seconds_units_in, year_units_in, year_tens_in, sbs_in, control_in, digits_in};
 
 use crate::format::{Format, Kind};
 use crate::ones::Ones;
@@ -72,7 +72,7 @@ fn sbs(there: bool, ones: Ones) -> u64
 
 /// Nine control elements and the number of those after them.
 #[inline(always)]
-fn nine(ones: Ones, from: u8, after: u64) -> u64
+fn control_from(ones: Ones, from: u8, after: u64) -> u64
     requires within { from < 100 }
     requires room { after < 2 ^ 36 }
     ensures value { result ≡ bits_in ones from 9 + 512 * after }
@@ -89,17 +89,33 @@ fn control(kind: Kind, there: bool, year: bool, ones: Ones) -> u64
         return 0;
     }
     match (kind, year) {
-        (Kind::A | Kind::B, true) => nine(ones, 60, nine(ones, 70, 0)),
-        (Kind::A | Kind::B, false) => nine(ones, 50, nine(ones, 60, nine(ones, 70, 0))),
-        (Kind::E, true) | (Kind::G, false) => {
-            nine(ones, 60, nine(ones, 70, nine(ones, 80, nine(ones, 90, 0))))
-        }
-        (Kind::E, false) => nine(
+        (Kind::A | Kind::B, true) => control_from(ones, 60, control_from(ones, 70, 0)),
+        (Kind::A | Kind::B, false) => control_from(
             ones,
             50,
-            nine(ones, 60, nine(ones, 70, nine(ones, 80, nine(ones, 90, 0)))),
+            control_from(ones, 60, control_from(ones, 70, 0)),
         ),
-        (Kind::G, true) => nine(ones, 70, nine(ones, 80, nine(ones, 90, 0))),
+        (Kind::E, true) | (Kind::G, false) => {
+            control_from(
+                ones,
+                60,
+                control_from(ones, 70, control_from(ones, 80, control_from(ones, 90, 0))),
+            )
+        }
+        (Kind::E, false) => control_from(
+            ones,
+            50,
+            control_from(
+                ones,
+                60,
+                control_from(ones, 70, control_from(ones, 80, control_from(ones, 90, 0))),
+            ),
+        ),
+        (Kind::G, true) => control_from(
+            ones,
+            70,
+            control_from(ones, 80, control_from(ones, 90, 0)),
+        ),
     }
 }
 

@@ -1,9 +1,11 @@
-mod Blocks
+-- places as lists: what each step leaves in them
 mod Copies
 mod GapLemmas
-mod Laid
 mod Live
+mod Overlays
+-- places as memory, for the walks by hand
+mod Blocks
+mod RowLoans
+mod RowPairs
 mod Rows
-mod Runs
-mod Sharing
 mod Steps

@@ -6,7 +6,7 @@ use Rattle.std.proofs.lemmas.Grind.{take-set_at, drop-set_at}
 use Rattle.std.proofs.lemmas.List.Edits.{insert-append_left, insert_end, remove-append_right}
 use Rattle.irig_gap.specs.Cells.{laid, moved}
 use Rattle.irig_gap.specs.Slots.{somes, live}
-use Rattle.irig_gap.proofs.Laid.{length-laid, take-laid, drop-laid_at, take-laid_past, drop-laid}
+use Rattle.irig_gap.proofs.Overlays.{length-laid, take-laid, drop-laid_at, take-laid_past, drop-laid}
 
 module _ {X : Type 0} where
   pub somes-map : (l : List X) → somes (map Some l) ≡ l

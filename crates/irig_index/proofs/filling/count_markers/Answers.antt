@@ -2,8 +2,8 @@ use Rattle.std.proofs.Common.{◌≡◌, ◌+◌, ◌*◌, ◌-◌, [], ◌∷�
 use Rattle.irig_index.specs.Frames.{records_in}
 use Rattle.irig_index.specs.Passed.{StandsAfter}
 use Rattle.irig_index.proofs.FrameLemmas.{records_in-none}
-use Rattle.irig_index.proofs.LookedLemmas.{looked_more, looked_none}
-use Rattle.irig_index.proofs.PassedLemmas.{found_record, passed_in, window_found, window_none}
+use Rattle.irig_index.proofs.LookLemmas.{looked_more, looked_none}
+use Rattle.irig_index.proofs.PlaceLemmas.{found_record, passed_in, window_found, window_none}
 use Rattle.irig_index.proofs.filling.count_markers.Goals as goal
 
 pub loop-before-init : goal.loop-before-init

@@ -10,10 +10,10 @@ use Rattle.irig_index.specs.Passed.{StandsAfter}
 use Rattle.irig_index.specs.Sides.{left_of, kept_right}
 use Rattle.irig_index.specs.Verdict.{verdict_of}
 use Rattle.irig_index.proofs.FrameLemmas.{records_in-le, records_in-none}
-use Rattle.irig_index.proofs.LookedLemmas.{looked_up}
-use Rattle.irig_index.proofs.PassedLemmas.{found_record, passed_in, window_found, window_none}
+use Rattle.irig_index.proofs.LookLemmas.{looked_up}
+use Rattle.irig_index.proofs.PlaceLemmas.{found_record, passed_in, window_found, window_none}
 use Rattle.irig_index.proofs.SideLemmas.{length-sides}
-use Rattle.irig_index.proofs.SpentLemmas.{spent_all, spent_checked, spent_none, spent_passed}
+use Rattle.irig_index.proofs.LookBounds.{spent_all, spent_checked, spent_none, spent_passed}
 use Rattle.irig_index.proofs.filling.fill.Goals as goal
 
 pub loop-before-init : goal.loop-before-init

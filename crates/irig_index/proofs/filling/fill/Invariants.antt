@@ -1,7 +1,7 @@
 use Rattle.std.proofs.Common.{◌≡◌, ◌+◌, ◌-◌, ◌≤◌, ◌++◌, length}
 use Rattle.irig_index.specs.Frames.{records_in}
 use Rattle.irig_index.specs.Sides.{left_of, kept_right}
-use Rattle.irig_index.proofs.SpentLemmas.{Spent}
+use Rattle.irig_index.proofs.LookBounds.{Spent}
 use Rattle.irig_index.proofs.filling.fill.Given as goal
 
 -- the records of the places so far stand left of the gap

@@ -7,8 +7,8 @@ use Rattle.irig_index.specs.Looked.{after_looks}
 use Rattle.irig_index.specs.Marker.{class_at, follows, is_marker, is_position}
 use Rattle.irig_index.specs.Verdict.{verdict_of}
 use Rattle.irig_index.proofs.FrameLemmas.{position_class, record_after-pulses}
-use Rattle.irig_index.proofs.LookedLemmas.{lens_next}
-use Rattle.irig_index.proofs.PassedLemmas.{none_more, one_passed, two_passed}
+use Rattle.irig_index.proofs.LookLemmas.{lens_next}
+use Rattle.irig_index.proofs.PlaceLemmas.{none_more, one_passed, two_passed}
 use Rattle.irig_index.proofs.PulseLemmas.{rise-rise}
 use Rattle.irig_index.proofs.marker.next_marker.Goals as goal
 

@@ -1,6 +1,6 @@
 use Rattle.std.proofs.Common.{Bool, ◌/◌, ◌%◌, ap, ◌∙◌, arith}
 use Rattle.irig_codes.specs.Fields.{part}
-use Rattle.irig_moment.proofs.Fitting.{parts-fit, then-part}
+use Rattle.irig_moment.proofs.FieldRanges.{parts-fit, then-part}
 use Rattle.irig_moment.proofs.generated.fields_at.Goals as goal
 
 pub returns-clause-fit : goal.returns-clause-fit

@@ -1,5 +1,5 @@
 use Rattle.std.proofs.Common.{◌≡◌, ◌+◌, ◌/◌, ◌^◌, ap, sym, ◌∙◌, cond}
-use Rattle.irig_codes.proofs.Growing.{and-gathered}
+use Rattle.irig_codes.proofs.OnesSteps.{and-gathered}
 use Rattle.irig_codes.proofs.gathering.Gathering.and.Goals as goal
 use Rattle.irig_codes.proofs.gathering.Gathering.and.Goals.{then-is_one, else-is_one}
 

@@ -2,7 +2,7 @@ use Rattle.std.proofs.Common.{◌+◌, sym, ap, arith, lit<}
 use Rattle.std.proofs.Math.Nat.{pow-le-pow_right}
 use Rattle.std.proofs.lemmas.List.{drop_all}
 use Rattle.irig_codes.specs.Ones.{ones_of}
-use Rattle.irig_codes.proofs.Growing.{of-more, of-below}
+use Rattle.irig_codes.proofs.OnesSteps.{of-more, of-below}
 use Rattle.irig_codes.proofs.ones.Ones.of.Goals as goal
 
 pub loop-place-init : goal.loop-place-init

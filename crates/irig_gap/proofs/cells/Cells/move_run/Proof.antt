@@ -18,8 +18,8 @@ use Rattle.core.specs.contracts.ptr.copy_nonoverlapping as copy
 use Rattle.core.proofs.ptr.copy_nonoverlapping.Met.{met}
 use Rattle.irig_gap.specs.Cells.{IsRun, AreApart, laid, row}
 use Rattle.irig_gap.proofs.Rows.{Place, Ce, sz, of_room, cells_opens, cells_closes}
-use Rattle.irig_gap.proofs.Laid.{length-laid}
-use Rattle.irig_gap.proofs.Runs.{Others, runs_out, runs_in, to_array, of_array, to_space}
+use Rattle.irig_gap.proofs.Overlays.{length-laid}
+use Rattle.irig_gap.proofs.RowPairs.{Others, runs_out, runs_in, to_array, of_array, to_space}
 use Rattle.irig_gap.specs.contracts.cells.Cells.move_run as F
 use Rattle.irig_gap.specs.contracts.cells.Cells.move_run.Key.{name as #self}
 use Rattle.irig_gap.proofs.cells.Cells.move_run.Statement.{statement}

@@ -1,5 +1,5 @@
--- The fifteen numbers that a frame carries, as runs of the bits of a number: element k is bit k.
--- This project's own.
+-- The fifteen numbers that a frame carries, told by its elements that are One as the bits of a
+-- number: element k is bit k. This project's own.
 use Rattle.std.specs.Prelude.{ℕ, ◌+◌, ◌*◌, Bool, true, false, List, [], ◌∷◌}
 use Rattle.irig_codes.specs.declared.format.Kind.{Kind}
 use Rattle.irig_codes.specs.declared.format.Kind.TheVariants.{A, E, G}
@@ -40,15 +40,15 @@ abbrev pub sbs_in : Bool → ℕ → ℕ
 sbs_in true n = bits_in n 80 9 + 512 * bits_in n 90 8
 sbs_in false n = 0
 
--- nine bits from each of these places on
-abbrev pub nines_in : ℕ → List ℕ → ℕ
-nines_in n [] = 0
-nines_in n (e ∷ es) = bits_in n e 9 + 512 * nines_in n es
+-- the number of the control elements: nine bits from each of these places on
+abbrev pub control_number : ℕ → List ℕ → ℕ
+control_number n [] = 0
+control_number n (e ∷ es) = bits_in n e 9 + 512 * control_number n es
 
 -- the control functions, where they are there
 abbrev pub control_in : Kind → Bool → Bool → ℕ → ℕ
 control_in k false y n = 0
-control_in k true y n = nines_in n (control_starts k y)
+control_in k true y n = control_number n (control_starts k y)
 
 -- the fifteen numbers
 abbrev pub digits_in : FormatView → ℕ → List ℕ

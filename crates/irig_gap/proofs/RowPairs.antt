@@ -19,7 +19,7 @@ use Rattle.std.specs.Prelude.{Some}
 use Rattle.core.proofs.mem.Param.{El, R, el_x, elτ}
 use Rattle.core.proofs.ptr.Rows as arrays
 use Rattle.irig_gap.specs.Cells.{row, laid, AreApart}
-use Rattle.irig_gap.proofs.Laid.{between, in_parts, longs, exchanged, laid_low_first, laid_high_first}
+use Rattle.irig_gap.proofs.Overlays.{between, in_parts, longs, exchanged, laid_low_first, laid_high_first}
 use Rattle.irig_gap.proofs.Rows.{Place, sz, cut, glue, to_room}
 
 module _ (E : El) {M : Type 1} {𝓤 : Ura M} (𝓛 : Logic 𝓤) (b : ℕ) where

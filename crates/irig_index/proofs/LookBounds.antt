@@ -8,7 +8,7 @@ use Rattle.irig_index.specs.Checked.{Checked}
 use Rattle.irig_index.specs.Frames.{record_after}
 use Rattle.irig_index.specs.Looked.{Looked}
 use Rattle.irig_index.specs.Passed.{Passed}
-use Rattle.irig_index.proofs.LookedLemmas.{looked_more, looked_none, looked_up}
+use Rattle.irig_index.proofs.LookLemmas.{looked_more, looked_none, looked_up}
 
 -- the looks from the place `first` up to another: two a place to tell the markers, and those of the
 -- checks, which reach from one marker to the next

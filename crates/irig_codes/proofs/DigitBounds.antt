@@ -1,7 +1,7 @@
 -- All numbers but the control functions have at most 17 bits.
 use Rattle.std.proofs.Common.{ℕ, zero, suc, ◌<◌, ◌≤◌, Bool, true, false, List, [], ◌∷◌, get_or, arith}
 use Rattle.irig_codes.specs.Format.{FormatView, has_year, carries_sbs}
-use Rattle.irig_codes.specs.Runs.{hundredths_units_in, hundredths_tens_in, seconds_units_in, year_units_in, year_tens_in, sbs_in, digits_in}
+use Rattle.irig_codes.specs.OnesDigits.{hundredths_units_in, hundredths_tens_in, seconds_units_in, year_units_in, year_tens_in, sbs_in, digits_in}
 use Rattle.irig_codes.specs.declared.format.Kind.{Kind}
 use Rattle.irig_codes.specs.declared.format.Kind.TheVariants.{A, B, E, G}
 

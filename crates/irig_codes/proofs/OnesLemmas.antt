@@ -6,15 +6,15 @@ use Rattle.std.proofs.Math.Nat.{mod-one, mul-zero, one-mul, div-div-eq-div-mul, 
 use Rattle.std.proofs.lemmas.Nat.{pow-add, pow_pos}
 use Rattle.std.proofs.lemmas.Nat.Bits.{bit_at-suc, bit_at-zero}
 use Rattle.irig_codes.specs.Format.{FormatView, has_control, has_sbs, has_year, carries_sbs}
-use Rattle.irig_codes.specs.Layout.{decimal, sbs, control, Row, table, doubling, nines, control_starts}
+use Rattle.irig_codes.specs.Layout.{decimal, sbs, control, Row, table, doubling, control_rows, control_starts}
 use Rattle.irig_codes.specs.Ones.{ones_of, bits_in}
-use Rattle.irig_codes.specs.Runs.{nines_in, hundredths_units_in, hundredths_tens_in, seconds_units_in, year_units_in, year_tens_in, sbs_in, control_in, digits_in}
+use Rattle.irig_codes.specs.OnesDigits.{control_number, hundredths_units_in, hundredths_tens_in, seconds_units_in, year_units_in, year_tens_in, sbs_in, control_in, digits_in}
 use Rattle.irig_codes.specs.Reading.{counts, is_one, sum_of}
 use Rattle.irig_codes.specs.Slots.{slots_at}
 use Rattle.irig_codes.specs.Digits.{digits_read, value_at}
-use Rattle.irig_codes.proofs.Law.{same15}
+use Rattle.irig_codes.proofs.SlotRoundTrip.{same15}
 use Rattle.irig_codes.proofs.Tables.{scaled, number_rows, of_unit}
-use Rattle.irig_codes.proofs.Told.{sum-append, sum-digit, digits-are, value-sbs, value-control}
+use Rattle.irig_codes.proofs.RowSums.{sum-append, sum-digit, digits-are, value-sbs, value-control}
 use Rattle.irig_codes.specs.declared.format.Kind.{Kind}
 use Rattle.irig_codes.specs.declared.format.Kind.TheVariants.{A, B, E, G}
 use Rattle.irig_codes.specs.declared.note.Name.TheVariants.{Hundredths, Seconds, Year}
@@ -56,11 +56,11 @@ sum-doubling es a w (suc n) =
 nine-more : (w x y b r : ℕ) → x ≡ w * b → y ≡ 512 * w * r → x + y ≡ w * (b + 512 * r)
 nine-more w x y b r p q = grind (arith, p, q)
 
-pub sum-nines : (es : List Element) (starts : List ℕ) (w : ℕ) → sum_of es (nines w starts) ≡ w * nines_in (ones_of es) starts
-sum-nines es [] w = sym (mul-zero w)
-sum-nines es (e ∷ starts) w =
-    sum-append es (doubling e w 9) (nines (512 * w) starts)
-    ∙ nine-more w _ _ (bits_in (ones_of es) e 9) (nines_in (ones_of es) starts) (sum-doubling es e w 9) (sum-nines es starts (512 * w))
+pub sum-control_rows : (es : List Element) (starts : List ℕ) (w : ℕ) → sum_of es (control_rows w starts) ≡ w * control_number (ones_of es) starts
+sum-control_rows es [] w = sym (mul-zero w)
+sum-control_rows es (e ∷ starts) w =
+    sum-append es (doubling e w 9) (control_rows (512 * w) starts)
+    ∙ nine-more w _ _ (bits_in (ones_of es) e 9) (control_number (ones_of es) starts) (sum-doubling es e w 9) (sum-control_rows es starts (512 * w))
 
 -- the numbers one by one
 digit-is : (f : FormatView) (es : List Element) (u n v : ℕ) (rs : List Row) → length es ≡ 100 → n < 15 → ((x y : ℕ) → u * x ≡ u * y → x ≡ y) →
@@ -141,10 +141,10 @@ carried-sbs E n = refl
 carried-sbs G n = refl
 
 control-flag : (k : Kind) (c s y : Bool) (es : List Element) → sum_of es (table k c s y control) ≡ control_in k c y (ones_of es)
-control-flag k true s y es = sum-nines es (control_starts k y) 1 ∙ one-mul _
+control-flag k true s y es = sum-control_rows es (control_starts k y) 1 ∙ one-mul _
 control-flag k false s y es = refl
 
--- the numbers of a frame are runs of its bits
+-- the numbers of a frame are those of its elements that are One
 pub digits-gathered : (f : FormatView) (es : List Element) → length es ≡ 100 → digits_read f es ≡ digits_in f (ones_of es)
 digits-gathered f es h =
     let k = f.kind in

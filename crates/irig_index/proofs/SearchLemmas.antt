@@ -3,7 +3,7 @@ use Rattle.std.proofs.Common.{◌≡◌, ℕ, suc, zero, ◌-◌, ◌*◌, ◌^�
 use Rattle.std.proofs.Math.Nat.{pow-suc}
 use Rattle.irig_track.specs.Looks.{LensView, lens_view, counted}
 use Rattle.irig_index.specs.Looked.{Looked, LookedThrough}
-use Rattle.irig_index.proofs.LookedLemmas.{looked_more, looked_none, looked_up}
+use Rattle.irig_index.proofs.LookLemmas.{looked_more, looked_none, looked_up}
 
 -- so many pulses are left to search, and as many looks as they need are left of those allowed
 pub record Narrowed (left digits : ℕ) (old new : LensView) (before after : ℕ) : Type 0 where
