@@ -3,20 +3,18 @@ use Rattle.std.proofs.Common.{◌≡◌, ◌≤◌, ◌+◌, ◌++◌, ◌∷◌
 use Rattle.std.specs.List.{list_any}
 use Rattle.std.proofs.lemmas.Bool.{le-ltb, cases_eq, eq-eqb, ne_eqb}
 use Rattle.std.proofs.lemmas.List.{append-nil}
-use Rattle.irig_vcd.specs.Words.{Word, words_from}
-use Rattle.irig_vcd.specs.Sections.{head_of}
+use Rattle.irig_vcd.specs.Sections.{section_of}
+use Rattle.irig_vcd.specs.Words.{Word, words_from, words_of, dollar, hash}
 use Rattle.irig_vcd.specs.Scales.{exponent_of}
 use Rattle.irig_vcd.specs.Variables.{declared_by, variable_of}
 use Rattle.irig_vcd.specs.Declarations.{declarations_of}
-use Rattle.irig_vcd.specs.Event.{is_mark}
+use Rattle.irig_vcd.specs.Events.{any_word, is_mark}
 use Rattle.irig_vcd.specs.Times.{time_of, micros_of}
-use Rattle.irig_vcd.specs.Changes.{played}
-use Rattle.irig_vcd.specs.Level.{edges_of}
-use Rattle.irig_vcd.specs.Dump.{dump, words_of, recorded}
+use Rattle.irig_vcd.specs.Changes.{changes_from}
+use Rattle.irig_vcd.specs.Level.{edges_up_to, Change}
+use Rattle.irig_vcd.specs.Dump.{dump, recorded}
 use Rattle.irig_vcd.specs.FileText.{file_text, head_text, header_text, edge_lines, begins_high, later_edges, end_line}
 use Rattle.irig_vcd.specs.Recording.{RisesFrom, UpTo, RecordingView, recording_view, IsRecording}
-use Rattle.irig_vcd.specs.declared.level.Change.{Change}
-use Rattle.irig_vcd.specs.declared.token.Kind.TheVariants.{Dollar, Hash}
 use Rattle.irig_vcd.proofs.Playing.{behind}
 use Rattle.irig_vcd.proofs.Reading.{behind_start}
 use Rattle.irig_vcd.proofs.WrittenEdges.{turns, high_edges, low_edges}
@@ -26,18 +24,18 @@ use Rattle.irig_vcd.proofs.WrittenChanges.{lines, last_or, last_top, last_up, ri
 -- the words behind the declarations
 abbrev after_header : Bool → List Word → List Word
 after_header high ws =
-    record { kind = Hash; bytes = codes "#0"; offset = 104 }
-    ∷ record { kind = Dollar; bytes = codes "$dumpvars"; offset = 107 }
+    record { kind = hash; bytes = codes "#0"; offset = 104 }
+    ∷ record { kind = dollar; bytes = codes "$dumpvars"; offset = 107 }
     ∷ level_word high 117
-    ∷ record { kind = Dollar; bytes = codes "$end"; offset = 120 }
+    ∷ record { kind = dollar; bytes = codes "$end"; offset = 120 }
     ∷ ws
 
 declared : (high : Bool) (rest : List ℕ) → declarations_of None (words_of (header_text high ++ rest)) ≡ Ok ((9, codes "!"), after_header high (words_from 125 false rest))
-unfolding head_text declarations_of head_of exponent_of declared_by variable_of
+unfolding head_text declarations_of section_of exponent_of declared_by variable_of
 declared true rest = refl
 declared false rest = refl
 
-header_played : (high : Bool) (ws : List Word) → played (length (after_header high ws)) (codes "!") 9 0 (after_header high ws) ≡ behind (record { time = 0; high = high } ∷ []) (played (length ws) (codes "!") 9 0 ws)
+header_played : (high : Bool) (ws : List Word) → changes_from any_word (codes "!") 9 0 (after_header high ws) ≡ behind (record { time = 0; high = high } ∷ []) (changes_from any_word (codes "!") 9 0 ws)
 unfolding time_of micros_of is_mark
 header_played true ws = refl
 header_played false ws = refl
@@ -50,15 +48,15 @@ played_back high later top edges r u low there =
     let rest = edge_lines (not high) later ++ end_line (recording_view top edges) in
     let ws = words_from 125 false (edge_lines (not high) later ++ end_line (recording_view top edges)) in
     let start = behind_start None (header_text high ++ (edge_lines (not high) later ++ end_line (recording_view top edges))) (9, codes "!") (after_header high (words_from 125 false (edge_lines (not high) later ++ end_line (recording_view top edges)))) (declared high (edge_lines (not high) later ++ end_line (recording_view top edges))) in
-    let l = lines later (not high) (length (words_from 125 false (edge_lines (not high) later ++ end_line (recording_view top edges)))) 0 125 top (end_line (recording_view top edges)) (rises_after 0 later r) u low (omega arith) in
-    let e = ending l.count (last_or 0 later) l.next top edges (last_up later 0 top (omega arith) u) low there l.few in
+    let l = lines later (not high) 0 125 top (end_line (recording_view top edges)) (rises_after 0 later r) u low in
+    let e = ending (last_or 0 later) l.next top edges (last_up later 0 top (omega arith) u) low there in
     start ∙ rw (header_played high (words_from 125 false (edge_lines (not high) later ++ end_line (recording_view top edges))), l.read, e, append-nil) refl
 
-few_recorded : (cs : List Change) (top : ℕ) (edges : List ℕ) → edges_of cs top ≡ edges → length edges ≤ 8388608 → recorded cs top ≡ Ok (recording_view top edges)
+few_recorded : (cs : List Change) (top : ℕ) (edges : List ℕ) → edges_up_to cs top ≡ edges → length edges ≤ 8388608 → recorded cs top ≡ Ok (recording_view top edges)
 few_recorded cs top edges is few = rw (is, le-ltb 8388608 (length edges) few) refl
 
 text_back : (high : Bool) (later : List ℕ) (top : ℕ) (edges : List ℕ) → begins_high edges ≡ high → later_edges edges ≡ later → RisesFrom 1 later → UpTo top later → IsRecording top edges
-    → (list_any (λ edge. edge == top) edges ≡ true → last_or 0 later ≡ top) → edges_of (record { time = 0; high = high } ∷ turns (not high) later) top ≡ edges
+    → (list_any (λ edge. edge == top) edges ≡ true → last_or 0 later ≡ top) → edges_up_to (record { time = 0; high = high } ∷ turns (not high) later) top ≡ edges
     → dump None (file_text (recording_view top edges)) ≡ Ok (recording_view top edges)
 unfolding file_text
 text_back high later top edges begins behind_first r u lawful there is =

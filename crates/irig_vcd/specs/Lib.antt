@@ -1,7 +1,6 @@
 pub mod Recording
 pub mod Words
 pub mod Digits
-pub mod Left
 pub mod Answer
 pub mod Sections
 pub mod Cut
@@ -9,12 +8,10 @@ pub mod Variables
 pub mod Scales
 pub mod Wire
 pub mod Declarations
-pub mod Choices
-pub mod Joins
 pub mod Level
 pub mod Times
-pub mod Event
+pub mod Events
 pub mod Changes
-pub mod Plays
 pub mod Dump
 pub mod FileText
+pub mod Code

@@ -1,24 +1,27 @@
 //! The changes of a wire.
 
-ghost use Rattle.std.specs.Prelude.{◌≡◌, ◌≤◌, ◌<◌, true, ◌^◌, ◌-◌, ℕ, List, Bool, Option, Some, None, Ok, IsTrue, length, IfOk};
-ghost use Rattle.irig_vcd.specs.Left.{words_left};
+ghost use Rattle.std.specs.Prelude.{◌≡◌, ◌≤◌, ◌<◌, true, ◌^◌, length, IfOk};
+ghost use Rattle.irig_vcd.specs.Code.Token.{kind_view};
+ghost use Rattle.irig_vcd.specs.Code.Tokens.{words_left};
 ghost use Rattle.irig_vcd.specs.Words.{rest_of, is_code};
-ghost use Rattle.irig_vcd.specs.Changes.{played, is_hash};
-ghost use Rattle.irig_vcd.specs.Plays.{Plays};
-ghost use Rattle.irig_vcd.specs.Times.{IsTime, units_of, micros_of};
+ghost use Rattle.irig_vcd.specs.Changes.{changes_from};
+ghost use Rattle.irig_vcd.specs.Code.Event.{is_hash};
+ghost use Rattle.irig_vcd.specs.Code.Trace.{KeepsEdges};
+ghost use Rattle.irig_vcd.specs.Events.{any_word};
 
-use crate::event::{Event, take_event};
+use crate::event::take_level;
 use crate::fault::VcdFault;
 use crate::header::Start;
-use crate::level::{Change, Reader};
 use crate::short::{LONGEST_CODE, Short};
 use crate::time::{Clock, micros, number_time, time};
 use crate::token::{Kind, Tokens};
+use crate::trace::Trace;
 use crate::variable::is_code;
 use std::alloc::Global;
 
+/// Whether a token sets a time.
 fn is_hash(kind: Kind) -> bool
-    ensures { result ≡ is_hash kind }
+    ensures { result ≡ is_hash (kind_view kind) }
 {
     matches!(kind, Kind::Hash)
 }
@@ -51,13 +54,13 @@ pub fn changes(
     start: Start<'_>,
 ) -> Result<(u64, Vec<u64>), VcdFault>
     requires { start.exponent ≤ 17 }
-    ensures exact { Plays result
-        (played (length (words_left tokens.old)) start.entry.code.now start.entry.exponent 0
+    ensures exact { KeepsEdges result
+        (changes_from any_word start.entry.code.now start.entry.exponent 0
         (words_left tokens.old)) }
     ensures short { IfOk result (λ x. x.0 ≤ 2 ^ 40) }
 {
     let is_plain = is_plain(start.code);
-    let mut reader = Reader::new(alloc);
+    let mut trace = Trace::new(alloc);
     let mut clock = Clock { whole: 0, rest: 0 };
     'tokens: loop {
         match tokens.next_short(start.code, is_plain) {
@@ -67,7 +70,7 @@ pub fn changes(
             }
             Short::Bit(high) => {
                 let time = micros(start.exponent, clock);
-                reader.put(Change { time, high })?;
+                trace.put(time, high)?;
                 continue;
             }
             Short::Other => {}
@@ -78,16 +81,16 @@ pub fn changes(
         if is_hash(token.kind) {
             clock = time(start.exponent, clock, digits_of(token.slice), token.offset)?;
         } else {
-            match take_event(start.code, token, tokens)? {
-                Event::Nothing => {}
-                Event::Level(high) => {
+            match take_level(start.code, token, tokens)? {
+                None => {}
+                Some(high) => {
                     let time = micros(start.exponent, clock);
-                    reader.put(Change { time, high })?;
+                    trace.put(time, high)?;
                 }
             }
         }
     }
     let end = micros(start.exponent, clock);
-    let edges = reader.finish(end)?;
+    let edges = trace.finish(end)?;
     Ok((end, edges))
 }

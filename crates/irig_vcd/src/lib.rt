@@ -6,7 +6,6 @@ mod event;
 mod fault;
 mod header;
 mod law;
-mod level;
 #[cfg(test)]
 mod plain;
 mod reader;
@@ -18,6 +17,7 @@ mod tests;
 mod time;
 mod timescale;
 mod token;
+mod trace;
 mod variable;
 mod writer;
 

@@ -1,7 +1,7 @@
 -- From the bytes that come in to the bytes that go out. This project's own.
 use Rattle.std.specs.Prelude.{◌≡◌, ℕ, List, Option, Result, Ok, Err}
 use Rattle.irig_vcd.specs.Dump.{dump}
-use Rattle.irig_vcd.specs.Plays.{Fails}
+use Rattle.irig_vcd.specs.Answer.{Fails}
 use Rattle.irig_codes.specs.Format.{FormatView}
 use Rattle.irig_edit.specs.State.{State, recording_of}
 use Rattle.irig_edit.specs.Machine.{NoMarks}

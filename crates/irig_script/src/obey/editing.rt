@@ -2,8 +2,7 @@
 
 ghost use Rattle.std.specs.Prelude.{◌≡◌, ◌≤◌, ◌^◌, Ok, IfErr, IfOk, length};
 ghost use Rattle.irig_vcd.specs.Dump.{dump};
-ghost use Rattle.irig_vcd.specs.Choices.{name_of};
-ghost use Rattle.irig_vcd.specs.Plays.{Fails};
+ghost use Rattle.irig_vcd.specs.Answer.{Fails, name_of};
 ghost use Rattle.irig_script.specs.Obey.Desk.{desk};
 ghost use Rattle.irig_script.specs.Obey.Editing.{EditsAs};
 

@@ -7,9 +7,9 @@ returns-then-len-gt-EDGES_LIMIT c = λ changes is. too_many changes c.args.end c
 
 pub from_parts-requires : goal.from_parts-requires
 from_parts-requires c =
-    let played = c.requires.kept in
+    let changes_from = c.requires.kept in
     let few : length c.args.edges.items ≤ 8388608 = omega (arith, c.len.ensures, c.if-len-gt-EDGES_LIMIT.false) in
-    record { lawful = is_lawful played.0 c.args.end c.args.edges.items (few_edges played.0 c.args.end c.args.edges.items played.1 few) c.requires.short few }
+    record { lawful = is_lawful changes_from.0 c.args.end c.args.edges.items (few_edges changes_from.0 c.args.end c.args.edges.items changes_from.1 few) c.requires.short few }
 
 pub returns : goal.returns
 returns c = λ changes is.

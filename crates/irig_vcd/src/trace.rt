@@ -1,34 +1,29 @@
-//! The edges of a level that is told by its changes.
+//! A level that is told by its changes, traced.
 
-ghost use Rattle.std.specs.Prelude.{◌≡◌, ◌≤◌, ◌^◌, true, ◌∷◌, [], ◌++◌, ℕ, List, All, AllPairs, OnOk, OnErr, IfOk, map, length, take, if◌then◌else◌};
-ghost use Rattle.irig_vcd.specs.Level.{edges_of, edges_kept, differs, Follows};
-ghost use Rattle.irig_vcd.specs.declared.level.Change.{Change};
+ghost use Rattle.std.specs.Prelude.{◌≡◌, ◌≤◌, ◌^◌, true, ◌∷◌, [], ◌++◌, ℕ, List, OnOk, OnErr, IfOk};
+ghost use Rattle.std.specs.Prelude.{length, take, if◌then◌else◌};
+ghost use Rattle.irig_vcd.specs.Level.{Change, change, edges_up_to, differs};
+ghost use Rattle.irig_vcd.specs.Code.Trace.{edges_kept, Follows};
 
 use crate::recording::EDGES_LIMIT;
 use std::alloc::{AllocError, Global};
 
-/// The level from a time on.
-#[derive(Clone, Copy, Debug, PartialEq, Eq)]
-pub struct Change {
-    pub time: u64,
-    pub high: bool,
-}
-
-/// The edges before a time, and the levels there.
+/// A level that was followed up to a time: the edges before it, and the levels before it and there.
 #[derive(Drop)]
-pub struct Reader {
+pub struct Trace {
     time: u64,
     before: bool,
     now: bool,
     edges: Vec<u64>,
 }
 
-impl Reader {
-    pub fn new(alloc: Global) -> Reader
+impl Trace {
+    /// A trace that has followed no change.
+    pub fn new(alloc: Global) -> Trace
         ensures start { result.time ≡ 0 }
         ensures follows { Follows [] result }
     {
-        Reader {
+        Trace {
             time: 0,
             before: false,
             now: false,
@@ -53,17 +48,17 @@ impl Reader {
         Ok(())
     }
 
-    /// Takes the next change.
-    pub fn put(&mut self, change: Change) -> Result<(), AllocError>
-        requires { self.old.time ≤ change.time }
+    /// Takes the next change: the level from a time in microseconds on.
+    pub fn put(&mut self, time: u64, high: bool) -> Result<(), AllocError>
+        requires { self.old.time ≤ time }
         ensures ok { OnOk result
             ((changes : List Change) → Follows changes self.old
-            → Follows (changes ++ change ∷ []) self.new) }
-        ensures time { OnOk result (self.new.time ≡ change.time) }
+            → Follows (changes ++ change time high ∷ []) self.new) }
+        ensures time { OnOk result (self.new.time ≡ time) }
         ensures refused { OnErr result (length self.old.edges.items ≤ 2 ^ 23) }
     {
-        self.advance(change.time)?;
-        self.now = change.high;
+        self.advance(time)?;
+        self.now = high;
         Ok(())
     }
 
@@ -72,7 +67,7 @@ impl Reader {
         requires { self.time ≤ end }
         ensures { IfOk result
             (λ edges. (changes : List Change) → Follows changes self
-            → edges.items ≡ take edges_kept (edges_of changes end)) }
+            → edges.items ≡ take edges_kept (edges_up_to changes end)) }
     {
         self.advance(end)?;
         keep(&mut self.edges, self.before, end)?;

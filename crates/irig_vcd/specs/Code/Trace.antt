@@ -1,0 +1,35 @@
+-- What a trace has kept of the changes that it followed.
+use Rattle.std.specs.Prelude.{◌≡◌, ◌≤◌, ℕ, Bool, List, Result, Ok, Err, take}
+use Rattle.std.specs.Global.{Vec}
+use Rattle.std.specs.List.{AllByRecursion}
+use Rattle.irig_vcd.specs.Answer.{Fails}
+use Rattle.irig_vcd.specs.Level.{Change, change, level_by_changes, level_before, edges_below, edges_up_to}
+use Rattle.irig_vcd.specs.declared.fault.VcdFault.{VcdFault}
+use Rattle.irig_vcd.specs.declared.trace.Trace.{Trace}
+
+-- a time and the level from it on, as a change
+abbrev pub change_of : ℕ × Bool → Change
+change_of c = change c.0 c.1
+
+-- the most edges that a trace keeps: one more than a recording may have
+unfoldable pub edges_kept : ℕ
+edges_kept = 8388609
+
+-- a trace has followed these changes
+pub record Follows (changes : List Change) (t : Trace) : Type 0 where
+  pub upto : AllByRecursion (λ c. c.time ≤ t.time) changes
+  pub before : t.before ≡ level_before changes t.time
+  pub now : t.now ≡ level_by_changes changes t.time
+  pub edges : t.edges.items ≡ take edges_kept (edges_below changes t.time)
+
+-- of the edges of changes up to an end, as many as are kept
+abbrev pub IsKept : List Change → ℕ → List ℕ → Type 0
+IsKept changes end edges = edges ≡ take edges_kept (edges_up_to changes end)
+
+-- the last time and the edges that are kept are those of the changes that were read, or it is the
+-- fault unless memory ran out
+abbrev pub KeepsEdges : Result (ℕ × Vec ℕ) VcdFault → Result (List Change × ℕ) VcdFault → Type 0
+KeepsEdges (Ok x) read =
+    (changes : List Change) × (read ≡ Ok (changes, x.0))
+    × IsKept changes x.0 x.1.items
+KeepsEdges (Err e) read = Fails e read

@@ -1,0 +1,37 @@
+-- A variable, read word by word.
+use Rattle.std.specs.Prelude.{◌==◌, ℕ, Bool, List, [], ◌∷◌, Option, Some, None, Result, Ok, Err}
+use Rattle.std.specs.Prelude.{if◌then◌else◌}
+use Rattle.std.specs.List.{list_all}
+use Rattle.irig_vcd.specs.Answer.{◌>>=◌}
+use Rattle.irig_vcd.specs.Code.Section.{after_end}
+use Rattle.irig_vcd.specs.Digits.{is_digit, number_from}
+use Rattle.irig_vcd.specs.Sections.{is_end}
+use Rattle.irig_vcd.specs.Variables.{Declared, variable_of}
+use Rattle.irig_vcd.specs.Words.{Word}
+use Rattle.irig_vcd.specs.declared.fault.VcdFault.{VcdFault}
+use Rattle.irig_vcd.specs.declared.fault.VcdFault.TheVariants.{Unclosed, BadVar}
+use Rattle.irig_vcd.specs.declared.variable.Variable.{Variable}
+
+-- a variable without where its words lie in memory
+abbrev pub variable_view : Variable → Declared
+variable_view v = record { one_bit = v.one_bit; code = v.code.now; reference = v.reference.now }
+
+-- whether the number that digits spell behind a number is 1, where all are digits
+abbrev pub size_from : ℕ → List ℕ → Option Bool
+size_from n digits = if list_all is_digit digits then Some (number_from n digits == 1) else None
+
+-- the next word of a variable
+abbrev pub word_at : List Word → Result (List ℕ × List Word) VcdFault
+word_at [] = Err Unclosed
+word_at (w ∷ ws) = if is_end w.bytes then Err BadVar else Ok (w.bytes, ws)
+
+-- the variable of a section, and the words after its end
+unfoldable pub var_read : List Word → Result (Declared × List Word) VcdFault
+var_read words = do
+  kind ← word_at words
+  digits ← word_at kind.1
+  code ← word_at digits.1
+  reference ← word_at code.1
+  rest ← after_end reference.1
+  v ← variable_of kind.0 digits.0 code.0 reference.0
+  Ok (v, rest)
