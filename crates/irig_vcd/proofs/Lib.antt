@@ -9,6 +9,7 @@ pub mod Digits
 pub mod Clocks
 pub mod TimeLemmas
 pub mod Lawful
+pub mod LevelLaw
 pub mod Reading
 pub mod Writing
 pub mod DigitRuns

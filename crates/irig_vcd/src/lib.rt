@@ -22,7 +22,7 @@ mod variable;
 mod writer;
 
 pub use fault::VcdFault;
-pub use law::read_back;
+pub use law::{edges_tell_levels, read_back};
 pub use reader::read;
 pub use recording::Recording;
 pub use token::{Kind, Token, Tokens};
