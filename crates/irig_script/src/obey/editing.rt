@@ -37,10 +37,11 @@ pub fn edit<R: Read, W: Write, S: Shelf>(
     shelf: &mut S,
 ) -> Result<Status, EditFault>
     requires { length source.items ≤ 2 ^ 28 }
-    ensures { EditsAs (name_of wire.entry) format source.items
+    ensures ends { EditsAs (name_of wire.entry) format source.items
         (R.remaining script.old) (R.remaining script.new)
         (desk (W.contents out.old) (S.known shelf.old))
         (desk (W.contents out.new) (S.known shelf.new)) result }
+    ensures place { (S.known shelf.new).place ≡ (S.known shelf.old).place }
 {
     let recording = match recorded(alloc, source, wire) {
         Ok(recording) => recording,

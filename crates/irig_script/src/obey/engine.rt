@@ -30,9 +30,10 @@ pub fn run<R: Read, W: Write, S: Shelf>(
     out: &mut W,
     shelf: &mut S,
 ) -> Result<Status, RunFault>
-    ensures { EndsAs (R.remaining script.old) (R.remaining script.new)
+    ensures ends { EndsAs (R.remaining script.old) (R.remaining script.new)
         (desk (W.contents out.old) (S.known shelf.old))
         (desk (W.contents out.new) (S.known shelf.new)) session.old session.new result }
+    ensures place { (S.known shelf.new).place ≡ (S.known shelf.old).place }
 {
     let mut line = Line::new();
     let mut buffer = [0; 4096];

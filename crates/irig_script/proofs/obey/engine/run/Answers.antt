@@ -1,4 +1,4 @@
-use Rattle.std.proofs.Common.{rules, ◌<◌, ◌++◌, [], take, true, false, length, arith, length-append, length-take}
+use Rattle.std.proofs.Common.{rules, ◌∙◌, ◌<◌, ◌++◌, [], take, true, false, length, arith, length-append, length-take}
 use Rattle.std.proofs.lemmas.List.{append-nil}
 use Rattle.irig_script.proofs.Lines.{obeyed_none, obeyed_more, broke_more}
 use Rattle.irig_script.proofs.Runs.{run_ended, run_quit, run_broke, run_broken}
@@ -8,8 +8,8 @@ use Rattle.irig_script.proofs.obey.engine.run.Goals as goal
 pub loop-reads-init : goal.loop-reads-init
 loop-reads-init g c = record { bytes = []; read = consumes_none _; many = omega arith; obeyed = obeyed_none _ _ [] _ _ c.new-line.ensures }
 
-pub returns-in_default : goal.returns-in_default
-returns-in_default g c =
+pub returns-in_default-clause-ends : goal.returns-in_default-clause-ends
+returns-in_default-clause-ends g c =
     let i = c.loop-reads.invariant in
     let room : 0 < length c.read.new.buf = search rules in
     let at_end = c.in-Ok-eq0.ensures.bytes.1 c.in-Ok-eq0.field-0-test room in
@@ -17,8 +17,28 @@ returns-in_default g c =
     let all = rw append-nil at (consumes-consumes _ _ _ i.bytes [] i.read none) in
     run_broken _ _ _ _ _ _ _ _ _ _ i.bytes c.loop-reads.line all at_end i.obeyed c.in_default.ensures.err
 
-pub returns-in-Ok-eq0 : goal.returns-in-Ok-eq0
-returns-in-Ok-eq0 g c =
+pub returns-in_default-clause-place : goal.returns-in_default-clause-place
+returns-in_default-clause-place g c =
+    let i = c.loop-reads.invariant in
+    (c.in_default.ensures.err i.obeyed.ends.0 i.obeyed.ends.2).told.put.place ∙ i.obeyed.told.put.place
+
+pub returns-in-Ok-eq0-clause-place : goal.returns-in-Ok-eq0-clause-place
+returns-in-Ok-eq0-clause-place g c =
+    let i = c.loop-reads.invariant in
+    (c.in-Ok-finish.ensures.ok i.obeyed.ends.0 i.obeyed.ends.2).told.put.place ∙ i.obeyed.told.put.place
+
+pub returns-in-Err-obey_part-clause-place : goal.returns-in-Err-obey_part-clause-place
+returns-in-Err-obey_part-clause-place g c =
+    let i = c.loop-reads.invariant in
+    (c.in-Err-obey_part.ensures.err i.obeyed.ends.0 i.obeyed.ends.2).told.put.place ∙ i.obeyed.told.put.place
+
+pub returns-in-Ok-true-clause-place : goal.returns-in-Ok-true-clause-place
+returns-in-Ok-true-clause-place g c =
+    let i = c.loop-reads.invariant in
+    (c.in-Ok-true.ensures.ok i.obeyed.ends.0 i.obeyed.ends.2).told.put.place ∙ i.obeyed.told.put.place
+
+pub returns-in-Ok-eq0-clause-ends : goal.returns-in-Ok-eq0-clause-ends
+returns-in-Ok-eq0-clause-ends g c =
     let i = c.loop-reads.invariant in
     let room : 0 < length c.read.new.buf = search rules in
     let at_end = c.in-Ok-eq0.ensures.bytes.1 c.in-Ok-eq0.field-0-test room in
@@ -26,15 +46,15 @@ returns-in-Ok-eq0 g c =
     let all = rw append-nil at (consumes-consumes _ _ _ i.bytes [] i.read none) in
     run_ended _ _ _ _ _ _ _ _ _ _ _ i.bytes c.loop-reads.line all at_end i.obeyed c.in-Ok-finish.ensures.ok
 
-pub returns-in-Err-obey_part : goal.returns-in-Err-obey_part
-returns-in-Err-obey_part g c =
+pub returns-in-Err-obey_part-clause-ends : goal.returns-in-Err-obey_part-clause-ends
+returns-in-Err-obey_part-clause-ends g c =
     let i = c.loop-reads.invariant in
     let n = c.in-Ok.count in
     let all = consumes-consumes _ _ _ i.bytes (take n c.read.new.buf) i.read c.in-Ok.ensures.bytes.0 in
     run_broke _ _ _ _ _ _ (i.bytes ++ take n c.read.new.buf) all (broke_more _ _ _ _ _ _ _ _ i.bytes (take n c.read.new.buf) c.loop-reads.line i.obeyed c.in-Err-obey_part.ensures.err)
 
-pub returns-in-Ok-true : goal.returns-in-Ok-true
-returns-in-Ok-true g c =
+pub returns-in-Ok-true-clause-ends : goal.returns-in-Ok-true-clause-ends
+returns-in-Ok-true-clause-ends g c =
     let i = c.loop-reads.invariant in
     let step = rw c.in-Ok-true.field-0-test at c.in-Ok-true.ensures.ok in
     let n = c.in-Ok.count in
