@@ -1,5 +1,10 @@
 """Dumps that are read and written, and dumps that are not read."""
-from rows.tracks import HEADER, OF_A_SIMULATOR, FaultRow, Row
+from rows.tracks import G, HEADER, OF_A_SIMULATOR, FaultRow, Row
+
+CUT = (
+    "$timescale 1 us $end\n$var wire 1 ! code $end\n$enddefinitions $end\n"
+    "#100 1!\n#120 0!\n#200 1!\n#280 0!\n#1000\n"
+)
 
 ROWS = [
     Row(
@@ -41,10 +46,24 @@ ROWS = [
         "info",
         "length 1099500000000 pulses 0 frames 0 format B 2 cursor 0 past 0 future 0",
     ),
+    Row(
+        "a dump that is cut behind a time", G, CUT[:90],
+        ",list; info",
+        "1 100 120 zero; length 200 pulses 1 frames 0 format G 2 cursor 1 past 0 future 0",
+    ),
+    Row(
+        "a dump that is cut within a time", G, CUT[:94],
+        ",list; info",
+        "1 100 120 zero; 2 200 280 position; length 280 pulses 2 frames 0 format G 2 cursor 2 past 0 future 0",
+    ),
 ]
 
 FAULT_ROWS = [
     FaultRow("an empty dump", "", "", "V8 NoEndDefinitions"),
+    FaultRow("a dump that is cut within its timescale", "", CUT[:15], "V1 Unclosed"),
+    FaultRow("a dump that is cut within its declarations", "", CUT[:45], "V8 NoEndDefinitions"),
+    FaultRow("a dump that is cut within a value", "", CUT[:91], "V9 BadToken at 90"),
+    FaultRow("a dump that is cut within a time that then falls", "", CUT[:93], "V10 Backward at 90"),
     FaultRow("a declaration without an end", "", "$timescale 1 us $end $var wire 1", "V1 Unclosed"),
     FaultRow("no timescale", "", "$var wire 1 ! c $end $enddefinitions $end", "V2 NoTimescale"),
     FaultRow("five microseconds", "", "$timescale 5 us $end", "V3 BadTimescale"),
