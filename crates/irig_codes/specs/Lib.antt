@@ -12,4 +12,5 @@ pub mod OnesDigits
 pub mod Slots
 pub mod Used
 pub mod Width
+pub mod Words
 pub mod Wrong

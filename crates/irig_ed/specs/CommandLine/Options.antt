@@ -5,6 +5,7 @@ use Rattle.clap.specs.declared.builder.ArgAction.TheVariants.{Set}
 use Rattle.clap.specs.declared.builder.value_parser.ValueParser.{ValueParser}
 use Rattle.clap.specs.declared.builder.value_parser.ValueParser.TheVariants.{Names}
 use Rattle.clap.specs.declared.parser.matches.ArgMatches.{ArgMatches}
+use Rattle.irig_codes.specs.Words.{kind_word, kinds}
 
 -- the parser takes just these texts
 abbrev pub TakesJust : List Text → ValueParser → Type 0
@@ -13,7 +14,7 @@ TakesJust texts _ = ⊥
 
 -- the kinds of time code, and the numbers of expressions
 abbrev pub letters : List Text
-letters = codes "A" ∷ codes "B" ∷ codes "E" ∷ codes "G" ∷ []
+letters = map kind_word kinds
 
 abbrev pub digits : List Text
 digits =

@@ -1,10 +1,10 @@
 -- What a command line asks for. This project's own.
-use Rattle.std.specs.Prelude.{◌≡◌, ◌-◌, ℕ, Bool, true, false, List, codes, Some, Result, Ok, Err, unwrap_or, option_map, slice_index, if◌then◌else◌}
-use Rattle.std.specs.Str.{bytes_eq}
+use Rattle.std.specs.Prelude.{◌≡◌, ◌-◌, ℕ, Bool, true, false, List, codes, Some, Result, Ok, Err, unwrap_or, option_map, slice_index}
 use Rattle.clap.specs.Words.{Text, first_value, found_of}
 use Rattle.clap.specs.declared.parser.matches.Found.{Found}
 use Rattle.clap.specs.declared.parser.matches.ArgMatches.{ArgMatches}
 use Rattle.irig_codes.specs.Format.{is_permitted}
+use Rattle.irig_codes.specs.Words.{kind_named}
 use Rattle.irig_codes.specs.declared.format.Kind.{Kind}
 use Rattle.irig_codes.specs.declared.format.Kind.TheVariants as kind
 use Rattle.irig_ed.specs.CommandLine.Options.{IsParsed}
@@ -13,10 +13,8 @@ use Rattle.irig_ed.specs.declared.command_line.chosen.UsageFault.{UsageFault}
 use Rattle.irig_ed.specs.declared.command_line.chosen.UsageFault.TheVariants as fault
 
 -- the kind of time code with this letter; B for any other text
-abbrev pub kind_named : Text → Kind
-kind_named text = if bytes_eq text (codes "A") then kind.A
-    else (if bytes_eq text (codes "E") then kind.E
-    else (if bytes_eq text (codes "G") then kind.G else kind.B))
+abbrev pub kind_or_b : Text → Kind
+kind_or_b text = unwrap_or (kind_named text) kind.B
 
 -- the number of a digit
 abbrev pub digit_named : Text → ℕ
@@ -24,7 +22,7 @@ digit_named text = slice_index text 0 - 48
 
 -- the kind and the expression that matches ask for: B and 2 where none is given
 abbrev pub kind_of : Found → Kind
-kind_of f = kind_named (unwrap_or (first_value f (codes "format")) (codes "B"))
+kind_of f = kind_or_b (unwrap_or (first_value f (codes "format")) (codes "B"))
 
 abbrev pub expression_of : Found → ℕ
 expression_of f = digit_named (unwrap_or (first_value f (codes "expression")) (codes "2"))

@@ -4,12 +4,12 @@ ghost use Rattle.std.specs.Prelude.{◌≡◌, IfOk, None, false, map, codes};
 ghost use Rattle.clap.specs.Words.{app_of, found_of, rule_of};
 ghost use Rattle.irig_ed.specs.CommandLine.Options.{IsCommand, IsReading, IsChoice, IsParsed, option, track};
 ghost use Rattle.irig_ed.specs.Statuses.{IsMistake};
-ghost use Rattle.irig_ed.specs.CommandLine.Settings.{Chooses, Reads, digit_named, kind_named};
+ghost use Rattle.irig_ed.specs.CommandLine.Settings.{Chooses, Reads, digit_named, kind_or_b};
 
 use crate::command_line::chosen::{Settings, UsageFault};
 use clap::error::ErrorKind;
 use clap::{Arg, ArgAction, ArgMatches, Command, Error};
-use irig_codes::{Format, Kind};
+use irig_codes::{Format, Kind, kind_named};
 use std::alloc::{AllocError, Global};
 
 static LETTERS: [&str; 4] = ["A", "B", "E", "G"];
@@ -50,7 +50,7 @@ fn said_of_bytes(alloc: Global) -> Result<Error, AllocError>
 fn chosen_of<'a>(matches: &ArgMatches<'a>) -> Result<Settings<'a>, UsageFault>
     ensures { Chooses (found_of matches.now) result }
 {
-    let kind = kind_named(matches.get_str("format").unwrap_or("B"));
+    let kind = kind_or_b(matches.get_str("format").unwrap_or("B"));
     let expression = digit_named(matches.get_str("expression").unwrap_or("2"));
     let Ok(format) = Format::new(kind, expression) else {
         return Err(UsageFault::BadExpression);
@@ -67,15 +67,10 @@ fn chosen_of<'a>(matches: &ArgMatches<'a>) -> Result<Settings<'a>, UsageFault>
 }
 
 /// The kind of time code with this letter; B for any other text.
-fn kind_named(text: &str) -> Kind
-    ensures { result ≡ kind_named text.now }
+fn kind_or_b(text: &str) -> Kind
+    ensures { result ≡ kind_or_b text.now }
 {
-    match text.as_bytes() {
-        b"A" => Kind::A,
-        b"E" => Kind::E,
-        b"G" => Kind::G,
-        _ => Kind::B,
-    }
+    kind_named(text.as_bytes()).unwrap_or(Kind::B)
 }
 
 /// The number that the first byte of a text is as a digit.

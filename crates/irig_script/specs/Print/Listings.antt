@@ -2,18 +2,12 @@
 use Rattle.std.specs.Prelude.{ℕ, ◌+◌, ◌-◌, List, [], ◌∷◌, ◌++◌, Option, Some, None, codes, decimal, length, take}
 use Rattle.irig_codes.specs.Width.{class_of}
 use Rattle.irig_codes.specs.Format.{FormatView}
-use Rattle.irig_codes.specs.declared.width.Element.{Element}
+use Rattle.irig_codes.specs.Words.{class_word, kind_word}
 use Rattle.irig_track.specs.declared.pulse.Pulse.{Pulse}
 use Rattle.irig_track.specs.Splices.{piece}
 use Rattle.irig_edit.specs.State.{State, frames_of}
-use Rattle.irig_script.specs.Script.Grammar.{element_word, kind_word}
 use Rattle.irig_script.specs.Obey.Machine.{Machine}
 use Rattle.irig_script.specs.Print.Numbered.{numbered}
-
--- what a pulse stands for, in a word
-abbrev pub class_word : Option Element → List ℕ
-class_word None = codes "bad"
-class_word (Some e) = element_word e
 
 -- a pulse with its number, from 1
 abbrev pub pulse_line : FormatView → ℕ → Pulse → List ℕ

@@ -1,9 +1,8 @@
 -- The script language: what a line asks for. This project's own, after the lines of ed.
 use Rattle.std.specs.Prelude.{◌≡◌, ◌==◌, ◌+◌, ◌≤◌, ℕ, ℤ, suc, Bool, true, false, not, ◌&&◌, ◌||◌, List, [], ◌∷◌, codes, take, drop, Some, if◌then◌else◌}
 use Rattle.irig_codes.specs.declared.format.Kind.{Kind}
-use Rattle.irig_codes.specs.declared.format.Kind.TheVariants.{A, B, E, G}
 use Rattle.irig_codes.specs.declared.width.Element.{Element}
-use Rattle.irig_codes.specs.declared.width.Element.TheVariants.{Zero, One, Position}
+pub use Rattle.irig_codes.specs.Words.{element_word, kind_word}
 use Rattle.irig_moment.specs.Written.{moment_of}
 use Rattle.irig_script.specs.Script.Letters.{is_letter}
 use Rattle.irig_script.specs.Script.Numbers.{IsNumber, IsDistance, IsControl}
@@ -56,17 +55,6 @@ parts_of line = parts_in (onward Text line)
 abbrev pub is_nothing : List ℕ → Bool
 is_nothing [] = true
 is_nothing (b ∷ bs) = b == 35
-
-abbrev pub element_word : Element → List ℕ
-element_word Zero = codes "zero"
-element_word One = codes "one"
-element_word Position = codes "position"
-
-abbrev pub kind_word : Kind → List ℕ
-kind_word A = codes "A"
-kind_word B = codes "B"
-kind_word E = codes "E"
-kind_word G = codes "G"
 
 -- the word is one digit from 0 to 7
 abbrev pub IsExpression : List ℕ → ℕ → Type 0

@@ -2,14 +2,12 @@
 
 ghost use Rattle.std.specs.Prelude.{◌≡◌, ◌≤◌, ◌+◌, ◌++◌, OnOk, OnErr, length, codes, decimal};
 ghost use Rattle.std.specs.Io.KnownBytes.{Appends};
-ghost use Rattle.irig_codes.specs.declared.format.Kind.{Kind};
 ghost use Rattle.irig_script.specs.Print.Front.{AppendsFront};
-ghost use Rattle.irig_script.specs.Script.Grammar.{kind_word};
 ghost use Rattle.irig_script.specs.Print.Listings.{info_text};
 
 use crate::print::output::{PrintFault, put_all};
 use crate::print::row::Row;
-use irig_codes::Kind;
+use irig_codes::kind_word;
 use irig_edit::Session;
 use std::io::Write;
 
@@ -26,7 +24,7 @@ pub fn print_info<W: Write>(session: &Session, out: &mut W) -> Result<(), PrintF
     put_count(&mut row, b" pulses ", session.len() as u64);
     put_count(&mut row, b" frames ", session.frames() as u64);
     row.put(b" format ");
-    row.put(kind_word(format.kind()));
+    row.put(kind_word(format.kind()).as_bytes());
     put_count(&mut row, b" ", u64::from(format.expression()));
     put_count(&mut row, b" cursor ", session.cursor() as u64);
     put_count(&mut row, b" past ", session.steps_back() as u64);
@@ -43,17 +41,4 @@ fn put_count(row: &mut Row, word: &[u8], count: u64)
 {
     row.put(word);
     row.put_number(count);
-}
-
-/// The letter of a kind of time code.
-fn kind_word(kind: Kind) -> &'static [u8]
-    ensures word { result.now ≡ kind_word kind }
-    ensures one { length result.now ≡ 1 }
-{
-    match kind {
-        Kind::A => b"A",
-        Kind::B => b"B",
-        Kind::E => b"E",
-        Kind::G => b"G",
-    }
 }

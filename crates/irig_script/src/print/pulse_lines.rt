@@ -4,12 +4,12 @@ ghost use Rattle.std.specs.Prelude.{◌≡◌, ◌≤◌, ◌<◌, ◌+◌, ◌+
 ghost use Rattle.std.specs.Io.KnownBytes.{Appends};
 ghost use Rattle.irig_track.specs.declared.pulse.Pulse.{Pulse};
 ghost use Rattle.irig_script.specs.Print.Front.{AppendsFront};
-ghost use Rattle.irig_script.specs.Print.Listings.{list_text, pulse_line, class_word};
+ghost use Rattle.irig_script.specs.Print.Listings.{list_text, pulse_line};
 
 use crate::print::block::Block;
 use crate::print::output::PrintFault;
 use crate::print::row::Row;
-use irig_codes::{Element, Format, class};
+use irig_codes::{Format, class, class_word};
 use irig_edit::{Pulse, Session};
 use std::io::Write;
 
@@ -48,19 +48,7 @@ fn put_pulse(row: &mut Row, format: Format, number: u64, pulse: Pulse)
     row.put(b" ");
     row.put_number(pulse.fall);
     row.put(b" ");
-    row.put(class_word(class(format, pulse.fall.saturating_sub(pulse.rise))));
+    let class = class(format, pulse.fall.saturating_sub(pulse.rise));
+    row.put(class_word(class).as_bytes());
     row.put(b"\n");
-}
-
-/// What a pulse stands for, in a word.
-fn class_word(class: Option<Element>) -> &'static [u8]
-    ensures word { result.now ≡ class_word class }
-    ensures short { length result.now ≤ 8 }
-{
-    match class {
-        None => b"bad",
-        Some(Element::Zero) => b"zero",
-        Some(Element::One) => b"one",
-        Some(Element::Position) => b"position",
-    }
 }

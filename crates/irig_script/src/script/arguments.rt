@@ -16,7 +16,7 @@ use crate::script::letter::Letter;
 use crate::script::numbers::control;
 use crate::script::time::Time;
 use crate::script::words::{no_word, split_word, two_words};
-use irig_codes::{Element, Kind};
+use irig_codes::{Element, Kind, element_named, kind_named};
 use irig_moment::Moment;
 
 /// Two times.
@@ -58,12 +58,7 @@ pub fn element(word: &[u8]) -> Result<Element, BadLine>
     ensures ok { IfOk result (λ e. word.now ≡ element_word e) }
     ensures err { OnErr result ((e : Element) → word.now ≡ element_word e → ⊥) }
 {
-    match word {
-        b"zero" => Ok(Element::Zero),
-        b"one" => Ok(Element::One),
-        b"position" => Ok(Element::Position),
-        _ => Err(BadLine),
-    }
+    element_named(word).ok_or(BadLine)
 }
 
 /// The kind of time code that a word names.
@@ -71,13 +66,7 @@ pub fn kind(word: &[u8]) -> Result<Kind, BadLine>
     ensures ok { IfOk result (λ k. word.now ≡ kind_word k) }
     ensures err { OnErr result ((k : Kind) → word.now ≡ kind_word k → ⊥) }
 {
-    match word {
-        b"A" => Ok(Kind::A),
-        b"B" => Ok(Kind::B),
-        b"E" => Ok(Kind::E),
-        b"G" => Ok(Kind::G),
-        _ => Err(BadLine),
-    }
+    kind_named(word).ok_or(BadLine)
 }
 
 /// The number of an expression: one digit 0 to 7.

@@ -1,0 +1,86 @@
+//! What people call kinds of time code and classes of pulses.
+
+ghost use Rattle.std.specs.Prelude.{◌≡◌, ◌≤◌, MatchOption, Some, length};
+ghost use Rattle.std.specs.Str.{bytes_eq};
+ghost use Rattle.irig_codes.specs.Words.{class_word, element_named, element_word, kind_named, kind_word};
+ghost use Rattle.irig_codes.specs.declared.format.Kind.{Kind};
+ghost use Rattle.irig_codes.specs.declared.width.Element.{Element};
+
+use crate::format::Kind;
+use crate::width::Element;
+
+/// The letter of a kind of time code.
+pub fn kind_word(kind: Kind) -> &'static str
+    ensures word { result.now ≡ kind_word kind }
+    ensures one { length result.now ≡ 1 }
+{
+    match kind {
+        Kind::A => "A",
+        Kind::B => "B",
+        Kind::E => "E",
+        Kind::G => "G",
+    }
+}
+
+/// The kind of time code that a letter names; `None` for any other text.
+pub fn kind_named(word: &[u8]) -> Option<Kind>
+    ensures value { result ≡ kind_named word.now }
+    ensures named { MatchOption result ((k : Kind) → word.now ≡ kind_word k → ⊥)
+        (λ k. word.now ≡ kind_word k) }
+{
+    if is_kind(word, Kind::A) {
+        Some(Kind::A)
+    } else if is_kind(word, Kind::B) {
+        Some(Kind::B)
+    } else if is_kind(word, Kind::E) {
+        Some(Kind::E)
+    } else if is_kind(word, Kind::G) {
+        Some(Kind::G)
+    } else {
+        None
+    }
+}
+
+/// Whether a text is the letter of a kind.
+fn is_kind(word: &[u8], kind: Kind) -> bool
+    ensures { result ≡ bytes_eq word.now (kind_word kind) }
+{
+    word == kind_word(kind).as_bytes()
+}
+
+/// The word of what a pulse stands for: of its element, or `bad` where its width stands for none.
+pub fn class_word(class: Option<Element>) -> &'static str
+    ensures word { result.now ≡ class_word class }
+    ensures short { length result.now ≤ 8 }
+{
+    match class {
+        None => "bad",
+        Some(Element::Zero) => "zero",
+        Some(Element::One) => "one",
+        Some(Element::Position) => "position",
+    }
+}
+
+/// The element that a word names; `None` for any other text.
+pub fn element_named(word: &[u8]) -> Option<Element>
+    ensures value { result ≡ element_named word.now }
+    ensures named { MatchOption result ((e : Element) → word.now ≡ element_word e → ⊥)
+        (λ e. word.now ≡ element_word e) }
+{
+    if is_element(word, Element::Zero) {
+        Some(Element::Zero)
+    } else if is_element(word, Element::One) {
+        Some(Element::One)
+    } else if is_element(word, Element::Position) {
+        Some(Element::Position)
+    } else {
+        None
+    }
+}
+
+/// Whether a text is the word of an element.
+fn is_element(word: &[u8], element: Element) -> bool
+    ensures { result ≡ bytes_eq word.now (element_word element) }
+{
+    word == class_word(Some(element)).as_bytes()
+}
