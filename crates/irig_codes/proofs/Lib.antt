@@ -1,6 +1,7 @@
 -- values of the standard, computed
 pub mod StandardFacts
 pub mod StandardFrames
+pub mod WidthLemmas
 -- the table of rows and the slots of a frame, which say the same of every frame
 pub mod Presence
 pub mod RowSums
@@ -15,8 +16,9 @@ pub mod DigitBounds
 pub mod OnesLemmas
 pub mod OnesSteps
 pub mod Strays
--- encoding, decoding, and the way there and back
+-- fields, encoding, decoding, and the way there and back
 pub mod EncodeSteps
+pub mod FieldLemmas
 pub mod NoteLemmas
 pub mod RoundTrip
 pub mod SlotRoundTrip

@@ -1,10 +1,9 @@
 -- The fields of a generated frame fit its format.
 use Rattle.std.proofs.Common.{◌≡◌, ℕ, ◌+◌, ◌*◌, ◌/◌, ◌%◌, ◌^◌, ◌<◌, ◌≤◌, ◌==◌, ◌&&◌, nat_le, nat_lt, Bool, true, false, Option, refl, ap, mul-le-mul, arith}
 use Rattle.std.proofs.lemmas.Bool.Decides.{nat_tests}
-use Rattle.std.specs.Bool.{then_some}
 use Rattle.irig_codes.specs.Format.{FormatView, frame_period_of, has_hundredths, has_control, has_year, carries_sbs, control_count_of}
-use Rattle.irig_codes.specs.Fields.{fits_in, fits_part, is_in_range}
-use Rattle.irig_codes.specs.Fields.{part}
+use Rattle.irig_codes.specs.Fields.{fits_in, fits_part, is_in_range, part}
+use Rattle.irig_codes.proofs.FieldLemmas.{fits_part-part}
 use Rattle.irig_codes.specs.declared.format.Kind.{Kind}
 use Rattle.irig_codes.specs.declared.format.Kind.TheVariants.{A, B, E, G}
 use Rattle.irig_codes.specs.declared.note.Name.TheVariants.{Hundredths, Seconds}
@@ -35,10 +34,6 @@ seconds-fit B t h = both-true _ _ (at-most (t / 100 % 60) 60 (omega arith)) (is-
 seconds-fit E t h = both-true _ _ (at-most (t / 100 % 60) 60 (omega arith)) (is-zero (t / 100 % 60 % 10) (omega arith))
 seconds-fit G t h = both-true _ _ (at-most (t / 100 % 60) 60 (omega arith)) (is-zero (t / 100 % 60 % 1) (omega arith))
 
-part-fit : (b : Bool) (p : ℕ → Bool) (v : ℕ) → p v ≡ true → fits_part b p (part b v) ≡ true
-part-fit true p v h = h
-part-fit false p v h = refl
-
 pub fields-fit : (f : FormatView) (t place year control : ℕ) → t < 8640000 → t % 6000 % period_of f ≡ 0 → 1 ≤ place → place ≤ 366 → control < 2 ^ control_count_of f →
     (let g : Fields = record { hundredths = part (has_hundredths f.kind) (t % 100); seconds = t / 100 % 60; minutes = t / 6000 % 60; hours = t / 360000; days = place; year = part (has_year f.expression) (year % 100); sbs = part (carries_sbs f.kind f.expression) (t / 100); control = part (has_control f.expression) control } in fits_in f g ≡ true)
 fields-fit f t place year control h s p q c =
@@ -47,9 +42,9 @@ fields-fit f t place year control h s p q c =
     (both-true _ _ (at-most (t / 6000 % 60) 59 (omega arith))
     (both-true _ _ (at-most (t / 360000) 23 (omega arith))
     (both-true _ _ (both-true _ _ (at-most 1 place p) (at-most place 366 q))
-    (both-true _ _ (part-fit (has_year f.expression) (λ v. nat_le v 99) (year % 100) (at-most (year % 100) 99 (omega arith)))
-    (both-true _ _ (part-fit (carries_sbs f.kind f.expression) (λ v. nat_le v 86400) (t / 100) (at-most (t / 100) 86400 (omega arith)))
-    (part-fit (has_control f.expression) (λ v. nat_lt v (2 ^ control_count_of f)) control (under control (2 ^ control_count_of f) c))))))))
+    (both-true _ _ (fits_part-part (has_year f.expression) (λ v. nat_le v 99) (year % 100) (at-most (year % 100) 99 (omega arith)))
+    (both-true _ _ (fits_part-part (carries_sbs f.kind f.expression) (λ v. nat_le v 86400) (t / 100) (at-most (t / 100) 86400 (omega arith)))
+    (fits_part-part (has_control f.expression) (λ v. nat_lt v (2 ^ control_count_of f)) control (under control (2 ^ control_count_of f) c))))))))
 
 pub parts-fit : (f : FormatView) (t place year control : ℕ) (h y b o : Option ℕ) → t < 8640000 → t % 6000 % period_of f ≡ 0 → 1 ≤ place → place ≤ 366 → control < 2 ^ control_count_of f →
     h ≡ part (has_hundredths f.kind) (t % 100) → y ≡ part (has_year f.expression) (year % 100) → b ≡ part (carries_sbs f.kind f.expression) (t / 100) → o ≡ part (has_control f.expression) control →
@@ -61,7 +56,3 @@ pub elapsed-small : (h k p : ℕ) → h < 8640000 → k < 10000 → p ≤ 1000 �
 elapsed-small h k p a b c =
     let most : k * p ≤ 9999 * 1000 = mul-le-mul {n₁ = k} {m₁ = p} {n₂ = 9999} {m₂ = 1000} (omega arith) c in
     omega (arith, a, most)
-
-pub then-part : (b : Bool) (v : ℕ) → then_some b v ≡ part b v
-then-part true v = refl
-then-part false v = refl
