@@ -46,6 +46,19 @@ spent_passed f ps first place next a b c l m n s passed = record {
   alone = λ k from to. s.alone k (omega (arith, passed.order, from)) to;
 }
 
+-- a place further on, with no look more
+pub spent_on : (f : FormatView) (ps : List Pulse) (first place next : ℕ) (a b : LensView) (l m : ℕ) → place ≤ next
+    → Spent f ps first place a b l m → Spent f ps first next a b l m
+spent_on f ps first place next a b l m more s = record {
+  reach = s.reach;
+  order = omega (arith, s.order, more);
+  from = s.from;
+  to = omega (arith, s.to, more);
+  few = omega (arith, s.few, s.order, more);
+  looked = looked_up a b l m (2 * (place - first) + (s.reach - (first + 1))) (2 * (next - first) + (s.reach - (first + 1))) s.looked (omega (arith, s.order, more));
+  alone = λ k from to. s.alone k (omega (arith, more, from)) to;
+}
+
 -- and then a marker, and the check of its frame
 pub spent_checked : (f : FormatView) (ps : List Pulse) (first place before : ℕ) (a b c d : LensView) (l m n o : ℕ)
     → Spent f ps first place a b l m → Passed f ps place before 2 b c m n → Checked f ps (before + 1) c d n o

@@ -1,14 +1,15 @@
 //! What is made of the markers of a part of a track: their records, or their number.
 
-ghost use Rattle.std.specs.Prelude.{◌≡◌, ◌+◌, ◌-◌, ◌*◌, ◌<◌, ◌≤◌, ◌++◌, length, min, OnOk, IsOk};
+ghost use Rattle.std.specs.Prelude.{◌≡◌, ℕ, ◌+◌, ◌-◌, ◌*◌, ◌<◌, ◌≤◌, ◌++◌, length, min, OnOk, IsOk};
 ghost use Rattle.irig_track.specs.Track.{IsTrack};
+ghost use Rattle.irig_index.specs.Checked.{looks_of};
 ghost use Rattle.irig_index.specs.Frames.{frames, records_in};
 ghost use Rattle.irig_index.specs.Looked.{Looked};
 ghost use Rattle.irig_index.specs.Sides.{left_of, kept_right};
 
-use crate::frame::verdict;
+use crate::frame::{looks_of, verdict};
 use crate::marker::next_marker;
-use crate::record::Record;
+use crate::record::{Record, Verdict};
 use crate::sides::put;
 use irig_codes::Format;
 use irig_gap::Gap;
@@ -58,7 +59,19 @@ pub fn fill(
         let marker = before + 1;
         let verdict = verdict(lens, looks, format, marker, first);
         put(records, Record { marker, verdict })?;
-        place = marker;
+        place = next_place(marker, verdict, to);
     }
     Ok(())
+}
+
+/// The place from which on the next marker is sought, none later than `to`: none stands between the
+/// pulses that a verdict looked at.
+fn next_place(marker: usize, verdict: Verdict, to: usize) -> usize
+    requires { marker ≤ to }
+    ensures order { marker ≤ result }
+    ensures within { result ≤ to }
+    ensures near { (k : ℕ) → marker ≤ k → k < result → k + 1 < marker + looks_of verdict }
+{
+    let more = (looks_of(verdict) as usize).saturating_sub(1);
+    marker + more.min(to - marker)
 }

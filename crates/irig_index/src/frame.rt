@@ -31,6 +31,8 @@ pub fn verdict(
     requires position { class_at format first ≡ Some Position }
     ensures verdict { result ≡ verdict_of format (frame_at lens.old.track.pulses at) }
     ensures looked { Checked format lens.old.track.pulses at lens.old lens.new looks.old looks.new }
+    ensures alone { (k : ℕ) → at ≤ k → k + 1 < at + looks_of result
+        → record_after format lens.old.track.pulses k ≡ [] }
 {
     let verdict = check(lens, format, at, first);
     add_looks(looks, looks_of(verdict));
@@ -38,7 +40,7 @@ pub fn verdict(
 }
 
 /// How many looks a verdict took.
-fn looks_of(verdict: Verdict) -> u64
+pub fn looks_of(verdict: Verdict) -> u64
     ensures { result ≡ looks_of verdict }
 {
     match verdict {

@@ -55,11 +55,11 @@ fn both_hold(
 
 /// Whether the two frames of a sound track are read, with as few looks as they take.
 fn is_read(index: &Index, lens: &Lens<'_>) -> bool {
-    // The pass goes over two places where the pulse behind the first is no position identifier: those
-    // are 1, 3, 5, 7 and 10, 12 .. 98 in the first frame and as many in the second, 98 looks. At 9,
-    // 100 and 109 it meets one, and looks at the pulse before it too: 6 looks. The frame of the one
-    // marker takes 99 more.
-    let looks = 98 + 6 + 99;
+    // The pass goes over two places where the pulse behind the first is no position identifier:
+    // those are 1, 3, 5, 7 and 10, 12 .. 98 in the first frame, 49 looks. At 9 and 100 it meets
+    // one, and looks at the pulse before it too: 4 looks. The frame of the one marker takes 99 more.
+    // The pass goes on at its last pulse, 199, another position identifier: 2 looks.
+    let looks = 49 + 4 + 99 + 2;
     let room = index.room() + index.len() >= 1;
     room && holds(index, &[second_frame(100)]) && index.looks() == looks && lens.looks() == looks
 }

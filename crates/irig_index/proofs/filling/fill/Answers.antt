@@ -13,7 +13,7 @@ use Rattle.irig_index.proofs.FrameLemmas.{records_in-le, records_in-none}
 use Rattle.irig_index.proofs.LookLemmas.{looked_up}
 use Rattle.irig_index.proofs.PlaceLemmas.{found_record, passed_in, window_found, window_none}
 use Rattle.irig_index.proofs.SideLemmas.{length-sides}
-use Rattle.irig_index.proofs.LookBounds.{spent_all, spent_checked, spent_none, spent_passed}
+use Rattle.irig_index.proofs.LookBounds.{spent_all, spent_checked, spent_none, spent_on, spent_passed}
 use Rattle.irig_index.proofs.filling.fill.Goals as goal
 
 pub loop-before-init : goal.loop-before-init
@@ -59,12 +59,17 @@ loop-before-preserved c =
     let found = subst (λ qs. StandsAfter f qs before first) seen c.in-Some.ensures.found.1 in
     let check = subst (λ qs. Checked f qs (before + 1) c.next_marker.new.lens c.verdict-verdict.new.lens c.next_marker.new.looks c.verdict-verdict.new.looks) seen_then c.verdict-verdict.ensures.looked in
     let verdict = c.verdict-verdict.ensures.verdict ∙ ap (λ qs. verdict_of f (frame_at qs (before + 1))) seen_then in
+    let next = c.next_place-place.result in
+    let alone : (k : ℕ) → before + 1 ≤ k → k < next → record_after f ps k ≡ [] =
+    λ k from to. ap (λ qs. record_after f qs k) (sym seen_then) ∙ c.verdict-verdict.ensures.alone k from (c.next_place-place.ensures.near k from to) in
     record {
-      spent = spent_checked f ps c.args.from place before _ _ _ _ _ _ _ _ so_far.spent passed check (some_after f ps before first found);
-      within = omega (arith, c.in-Some.ensures.found.0);
+      spent = spent_on f ps c.args.from (before + 1) next _ _ _ _ c.next_place-place.ensures.order
+          (spent_checked f ps c.args.from place before _ _ _ _ _ _ _ _ so_far.spent passed check (some_after f ps before first found));
+      within = c.next_place-place.ensures.within;
       left = c.in_ok-put.ensures.left ∙ ((λ i. so_far.left i ++ (record { marker = before + 1; verdict = verdict i }) ∷ [])
           ∙ (append_assoc (left_of c.args.records.now) (records_in f ps c.args.from (place - c.args.from)) (found_record f ps before ∷ [])
-          ∙ ap (λ rs. left_of c.args.records.now ++ rs) (sym (window_found f ps c.args.from place before first so_far.spent.order passed.order passed.none found))));
+          ∙ ap (λ rs. left_of c.args.records.now ++ rs) (sym (window_found f ps c.args.from place before first so_far.spent.order passed.order passed.none found)
+          ∙ sym (window_none f ps c.args.from (before + 1) next (omega (arith, so_far.spent.order, passed.order)) c.next_place-place.ensures.order alone))));
       right = c.in_ok-put.ensures.right ∙ so_far.right;
       room = λ enough. (c.in_ok-put.ensures.room (fits f ps c.args.from place before c.args.to _ _ first so_far.spent.order passed.order c.in-Some.ensures.found.0 passed.none found
           so_far.left so_far.right enough (so_far.room enough))).1 ∙ so_far.room enough;
