@@ -4,7 +4,7 @@ use Rattle.irig_moment.specs.Moment.{MomentView}
 use Rattle.irig_moment.specs.Written.{moment_of}
 use Rattle.std.specs.Prelude.{Result, OnErr}
 use Rattle.irig_script.specs.Script.Addresses.{IsTime}
-use Rattle.irig_script.specs.Script.Grammar.{Asks}
+use Rattle.irig_script.specs.Script.Commands.{Asks}
 use Rattle.irig_script.specs.Script.Words.{word_and}
 use Rattle.irig_script.specs.declared.script.command.Command.{Command}
 use Rattle.irig_script.specs.declared.script.keyword.Keyword.{Keyword}

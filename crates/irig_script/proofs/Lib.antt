@@ -1,4 +1,7 @@
 pub mod WordLemmas
+pub mod Spacing
+pub mod AddressCut
+pub mod RangeCut
 pub mod NumberLemmas
 pub mod Known
 pub mod Desks
@@ -14,5 +17,6 @@ pub mod Numbered
 pub mod MarkLines
 pub mod FrameLines
 pub mod SameCommand
+pub mod Orders
 pub mod SameReply
 pub mod SameRun

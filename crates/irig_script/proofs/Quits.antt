@@ -1,15 +1,20 @@
 -- Which lines end a script.
-use Rattle.std.proofs.Common.{◌≡◌, ◌≢◌, ◌==◌, ◌&&◌, ◌≤◌, ◌∷◌, [], ℕ, Bool, true, false, not, List, length, nat_lt, refl, sym, subst, arith}
+use Rattle.std.proofs.Common.{◌≡◌, ◌≢◌, ◌&&◌, ◌≤◌, ◌∷◌, ◌++◌, [], ℕ, Bool, true, false, not, List, length, nat_lt, refl, sym, ap, ◌∙◌, subst, arith, inl, inr}
 use Rattle.std.proofs.lemmas.Bool.Decides.{nat_tests}
-use Rattle.irig_script.specs.Script.Grammar.{Asks, AsksIn, Means, MeansIn, Parts, is_nothing, parts_in, parts_of}
-use Rattle.irig_script.specs.Script.Keywords.{is_missing, keyword_of}
+use Rattle.irig_script.specs.Script.Commands.{Asks}
+use Rattle.irig_script.specs.Script.Grammar.{AsksIn, Does, IsOrder, Means}
+use Rattle.irig_script.specs.Script.Keywords.{keyword_of}
 use Rattle.irig_script.specs.Script.Lines.{are_quit, is_quit, is_quit_word}
-use Rattle.irig_script.specs.Script.Words.{onward}
-use Rattle.irig_script.specs.declared.script.cutting.Stop.TheVariants.{Text}
+use Rattle.irig_script.specs.Script.Words.{before, onward, words_of}
+use Rattle.irig_script.specs.declared.script.cutting.Stop.TheVariants.{Blank, Text}
 use Rattle.irig_script.specs.declared.script.keyword.Keyword.{Keyword}
 use Rattle.irig_script.specs.declared.script.keyword.Keyword.TheVariants as word
 use Rattle.irig_script.specs.declared.script.command.Command.{Command}
 use Rattle.irig_script.specs.declared.script.command.Command.TheVariants as command
+use Rattle.irig_script.proofs.KnownWords.{next_word}
+use Rattle.irig_script.proofs.Orders.{found_words, means_one, means_onward, order_of}
+use Rattle.irig_script.proofs.Spacing.{words_onward}
+use Rattle.irig_script.proofs.WordLemmas.{words_split}
 
 -- no other word asks for the end of a script
 only_quit : (k : Keyword) (range : List ℕ) (args : List (List ℕ)) → Asks k range args command.Quit → k ≡ word.Quit
@@ -36,42 +41,33 @@ only_quit word.Quit range args a = refl
 only_quit word.Unknown range args a = absurd a
 
 the_word : (k : Keyword) → is_quit_word k ≡ true → k ≡ word.Quit
-the_word word.Missing e = absurd (cc)
-the_word word.List e = absurd (cc)
-the_word word.Delete e = absurd (cc)
-the_word word.Shift e = absurd (cc)
-the_word word.Join e = absurd (cc)
-the_word word.Split e = absurd (cc)
-the_word word.Force e = absurd (cc)
-the_word word.Insert e = absurd (cc)
-the_word word.Invert e = absurd (cc)
-the_word word.Regen e = absurd (cc)
-the_word word.Format e = absurd (cc)
-the_word word.Mark e = absurd (cc)
-the_word word.Unmark e = absurd (cc)
-the_word word.Undo e = absurd (cc)
-the_word word.Redo e = absurd (cc)
-the_word word.Frames e = absurd (cc)
-the_word word.Marks e = absurd (cc)
-the_word word.Info e = absurd (cc)
-the_word word.Write e = absurd (cc)
 the_word word.Quit e = refl
-the_word word.Unknown e = absurd (cc)
+the_word _ e = absurd (cc)
 
--- the word with nothing beside it ends a script
-quit_there : (p : Parts) → keyword_of p.word ≡ word.Quit → AsksIn p command.Quit → are_quit p ≡ true
-quit_there p e a =
-    let b : Asks word.Quit p.range p.arguments command.Quit = subst (λ (k : Keyword). Asks k p.range p.arguments command.Quit) e a in
-    rw (b.1, b.2, e) refl
+-- an order that ends the script is the word alone
+quit_there : (w : List ℕ) (args : List (List ℕ)) (range : List ℕ) → Asks (keyword_of w) range args command.Quit
+    → (is_quit_word (keyword_of w) ≡ true) × (range ≡ []) × (args ≡ [])
+quit_there w args range a =
+    let e : keyword_of w ≡ word.Quit = only_quit (keyword_of w) range args a in
+    let b : Asks word.Quit range args command.Quit = subst (λ (k : Keyword). Asks k range args command.Quit) e a in
+    (ap is_quit_word e, b.1, b.2)
+
+quit_order : (text range : List ℕ) (words : List (List ℕ)) → IsOrder text range words → AsksIn range words command.Quit → are_quit (words_of text) ≡ true
+quit_order text range [] o a = let e = a.1 in absurd (cc)
+quit_order text range (w ∷ args) o a =
+    let q = quit_there w args range a in
+    let words : words_of text ≡ w ∷ [] =
+    ap words_of (o.whole ∙ ap (λ t. t ++ (o.blank ++ o.rest)) q.1) ∙ found_words text range (w ∷ args) o ∙ ap (λ ws. w ∷ ws) q.2 in
+    ap are_quit words ∙ q.0
 
 pub quit_ends : (text : List ℕ) → length text ≤ 1000 → Means command.Quit text → is_quit text ≡ true
-quit_ends text h m = go (is_nothing (onward Text text)) m
+quit_ends text h m = go (means_onward text command.Quit m)
   where
-    go : (v : Bool) → MeansIn v (parts_of text) command.Quit → is_quit text ≡ true
-    go true e = absurd (cc)
-    go false a =
+    go : Does command.Quit (onward Text text) → is_quit text ≡ true
+    go (inl d) = let e = d.1 in absurd (cc)
+    go (inr d) =
         let short : nat_lt 1000 (length text) ≡ false = grind (arith, nat_tests) in
-        let there = quit_there (parts_of text) (only_quit (keyword_of (parts_of text).word) (parts_of text).range (parts_of text).arguments a) a in
+        let there : are_quit (words_of text) ≡ true = ap are_quit (words_onward text) ∙ quit_order (onward Text text) d.0 d.1 d.2 d.3 in
         rw (short, there) refl
 
 both : (x y : Bool) → (x && y) ≡ true → (x ≡ true) × (y ≡ true)
@@ -79,51 +75,27 @@ both true true e = (refl, refl)
 both true false e = absurd (cc)
 both false y e = absurd (cc)
 
-nothing_there : {T : Type 0} (xs : List T) → is_missing xs ≡ true → xs ≡ []
-nothing_there [] e = refl
-nothing_there (x ∷ xs) e = absurd (cc)
+quit_word : (words : List (List ℕ)) → are_quit words ≡ true → (w : List ℕ) × (words ≡ w ∷ []) × (keyword_of w ≡ word.Quit)
+quit_word [] e = absurd (cc)
+quit_word (w ∷ []) e = (w, refl, the_word (keyword_of w) e)
+quit_word (w ∷ x ∷ words) e = absurd (cc)
 
--- the parts of a blank line and of a comment are not the word alone
-no_comment : (text : List ℕ) → (parts_in text).range ≡ [] → keyword_of (parts_in text).word ≡ word.Quit → is_nothing text ≡ false
-no_comment [] r w = absurd (cc)
-no_comment (b ∷ bs) r w = go (b == 35) refl
-  where
-    go : (v : Bool) → (b == 35) ≡ v → (b == 35) ≡ false
-    go true e =
-        let same : b ≡ 35 = grind (arith, nat_tests) in
-        let bad = subst (λ (c : ℕ). (parts_in (c ∷ bs)).range ≡ []) same r in
-        absurd (cc)
-    go false e = e
-
--- a line that ends the script is the word alone
-quit_parts : (text : List ℕ) → is_quit text ≡ true → ((parts_of text).range ≡ []) × ((parts_of text).arguments ≡ []) × (keyword_of (parts_of text).word ≡ word.Quit) × (is_nothing (onward Text text) ≡ false)
-quit_parts text e =
-    let asked = both (not (nat_lt 1000 (length text))) (are_quit (parts_of text)) e in
-    let range = both (is_missing (parts_of text).range) (is_quit_word (keyword_of (parts_of text).word) && is_missing (parts_of text).arguments) asked.1 in
-    let rest = both (is_quit_word (keyword_of (parts_of text).word)) (is_missing (parts_of text).arguments) range.1 in
-    let none = nothing_there (parts_of text).range range.0 in
-    let quit = the_word (keyword_of (parts_of text).word) rest.0 in
-    (none, nothing_there (parts_of text).arguments rest.1, quit, no_comment (onward Text text) none quit)
-
-asked_in : (v : Bool) (p : Parts) (c : Command) → v ≡ false → MeansIn v p c → AsksIn p c
-asked_in true p c e a = absurd (cc)
-asked_in false p c e a = a
-
-meant_in : (v : Bool) (p : Parts) (c : Command) → v ≡ false → AsksIn p c → MeansIn v p c
-meant_in true p c e a = absurd (cc)
-meant_in false p c e a = a
+-- a line that ends the script asks for its end
+quit_means : (text : List ℕ) → is_quit text ≡ true → Means command.Quit text
+quit_means text e =
+    let q = quit_word (words_of text) (both (not (nat_lt 1000 (length text))) (are_quit (words_of text)) e).1 in
+    let rest = onward Blank (onward Text text) in
+    let next = next_word (words_of text) (words_of rest) (before Blank (onward Text text)) q.0 [] (words_split text) q.1 in
+    let name : keyword_of (before Blank (onward Text text)) ≡ word.Quit = ap keyword_of next.0 ∙ q.2 in
+    let asked : Asks word.Quit [] (words_of rest) command.Quit = (refl, refl, next.1) in
+    ([], text, refl, refl, inr (order_of text [] text command.Quit refl (subst (λ (k : Keyword). Asks k [] (words_of rest) command.Quit) (sym name) asked)))
 
 -- a line that asks for another command does not end the script
 pub other_goes_on : (c : Command) (text : List ℕ) → Means c text → c ≢ command.Quit → is_quit text ≡ false
 other_goes_on c text m n = go (is_quit text) refl
   where
     go : (v : Bool) → is_quit text ≡ v → is_quit text ≡ false
-    go true e =
-        let q = quit_parts text e in
-        let p = parts_of text in
-        let a = asked_in (is_nothing (onward Text text)) p c q.3 m in
-        let b : Asks word.Quit p.range p.arguments c = subst (λ (k : Keyword). Asks k p.range p.arguments c) q.2 a in
-        absurd (n b.0)
+    go true e = absurd (n (means_one text c command.Quit m (quit_means text e)))
     go false e = e
 
 -- nor does a line that is none of the language
@@ -131,10 +103,5 @@ pub bad_goes_on : (text : List ℕ) → ((c : Command) → Means c text → ⊥)
 bad_goes_on text h = go (is_quit text) refl
   where
     go : (v : Bool) → is_quit text ≡ v → is_quit text ≡ false
-    go true e =
-        let q = quit_parts text e in
-        let p = parts_of text in
-        let a : Asks word.Quit p.range p.arguments command.Quit = (refl, q.0, q.1) in
-        let b : AsksIn p command.Quit = subst (λ (k : Keyword). Asks k p.range p.arguments command.Quit) (sym q.2) a in
-        absurd (h command.Quit (meant_in (is_nothing (onward Text text)) p command.Quit q.3 b))
+    go true e = absurd (h command.Quit (quit_means text e))
     go false e = e

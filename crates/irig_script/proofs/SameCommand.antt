@@ -1,5 +1,5 @@
--- A line means one command at most.
-use Rattle.std.proofs.Common.{◌≡◌, ◌==◌, ◌+◌, ℕ, ℤ, pos, negsuc, Bool, true, false, List, [], ◌∷◌, Option, Some, refl, sym, ap, ap₂, ◌∙◌, subst, arith, if◌then◌else◌}
+-- A range, a word and arguments ask for one command at most.
+use Rattle.std.proofs.Common.{◌≡◌, ◌==◌, ◌+◌, ◌++◌, ℕ, ℤ, pos, negsuc, Bool, true, false, List, [], ◌∷◌, Option, Some, refl, sym, ap, ap₂, ◌∙◌, subst, arith, if◌then◌else◌}
 use Rattle.std.proofs.lemmas.Bool.Decides.{nat_tests}
 use Rattle.std.specs.List.{list_all}
 use Rattle.irig_codes.specs.declared.format.Kind.{Kind}
@@ -10,11 +10,10 @@ use Rattle.irig_moment.specs.Moment.{MomentView}
 use Rattle.irig_moment.specs.Written.{moment_of}
 use Rattle.irig_track.specs.Shifts.{ahead, back}
 use Rattle.irig_script.specs.Script.Addresses.{IsMark, IsBase, IsOffset, IsAddress, IsPair, IsPlace, IsRange, IsTime, is_here}
-use Rattle.irig_script.specs.Script.Grammar.{AreControls, AreFrames, AreTimes, Asks, IsExpression, Means, MeansIn, element_word, is_nothing, kind_word, parts_of}
-use Rattle.irig_script.specs.Script.Keywords.{keyword_of}
+use Rattle.irig_codes.specs.Words.{element_word, kind_word}
+use Rattle.irig_script.specs.Script.Arguments.{AreControls, AreFrames, AreTimes, IsExpression}
+use Rattle.irig_script.specs.Script.Commands.{Asks}
 use Rattle.irig_script.specs.Script.Numbers.{IsControl, IsDistance, IsNumber, IsSigned, first_of, is_digit, size, unsigned}
-use Rattle.irig_script.specs.Script.Words.{before, onward}
-use Rattle.irig_script.specs.declared.script.cutting.Stop.TheVariants.{Comma, Sign, Text}
 use Rattle.irig_script.specs.declared.script.address.Address.{Address}
 use Rattle.irig_script.specs.declared.script.address.Base.{Base}
 use Rattle.irig_script.specs.declared.script.address.Base.TheVariants.{Number, Current, Last, Mark}
@@ -26,6 +25,7 @@ use Rattle.irig_script.specs.declared.script.range.Range.{Range}
 use Rattle.irig_script.specs.declared.script.range.Range.TheVariants.{One, Two}
 use Rattle.irig_script.specs.declared.script.time.Time.{Time}
 use Rattle.irig_script.specs.declared.script.time.Time.TheVariants as time
+use Rattle.irig_script.proofs.AddressCut.{address_cut, pair_cut, place_uncut}
 
 -- numbers
 number_one : (text : List ℕ) (n m : ℕ) → IsNumber text n → IsNumber text m → n ≡ m
@@ -95,36 +95,45 @@ base_one text (Mark l) (Mark m) h k = ap Mark (mark_one text l m h k)
 
 offset_one : (text : List ℕ) (d e : ℤ) → IsOffset text d → IsOffset text e → d ≡ e
 offset_one [] d e h k = h ∙ sym k
-offset_one (sign ∷ []) d e h k = signed_one sign d e h.0 k.0 (h.1 ∙ sym k.1)
-offset_one (sign ∷ b ∷ bs) d e h k = signed_one sign d e h.0 k.0 (number_one (b ∷ bs) (size d) (size e) h.1 k.1)
+offset_one (sign ∷ []) d e h k = signed_one sign d e h.1 k.1 (h.2 ∙ sym k.2)
+offset_one (sign ∷ b ∷ bs) d e h k = signed_one sign d e h.1 k.1 (number_one (b ∷ bs) (size d) (size e) h.2 k.2)
 
 address_one : (text : List ℕ) (a b : Address) → IsAddress text a → IsAddress text b → a ≡ b
 address_one text a b h k =
-    let base = base_one (before Sign text) a.base b.base h.base k.base in
-    let offset = offset_one (onward Sign text) a.offset b.offset h.offset k.offset in
+    let x = address_cut text a h in
+    let y = address_cut text b k in
+    let front : h.front ≡ k.front = sym x.0 ∙ y.0 in
+    let back : h.back ≡ k.back = sym x.1 ∙ y.1 in
+    let base = base_one k.front a.base b.base (subst (λ (t : List ℕ). IsBase t a.base) front h.base) k.base in
+    let offset = offset_one k.back a.offset b.offset (subst (λ (t : List ℕ). IsOffset t a.offset) back h.offset) k.offset in
     λ i. record { base = base i; offset = offset i }
 
 place_one : (text : List ℕ) (a b : Address) → IsPlace text a → IsPlace text b → a ≡ b
 place_one [] a b h k = h ∙ sym k
 place_one (c ∷ text) a b h k = address_one (c ∷ text) a b h k
 
-no_pair : (first second : List ℕ) (a b : Address) → second ≡ [] → IsPair first second a b → ⊥
-no_pair first [] a b e h = h
-no_pair first (c ∷ second) a b e h = cc
-
 pair_one : (first second : List ℕ) (a b c d : Address) → IsPair first second a b → IsPair first second c d → (a ≡ c) × (b ≡ d)
-pair_one first [] a b c d h k = absurd h
-pair_one [] (comma ∷ []) a b c d h k = (h.0 ∙ sym k.0, h.1 ∙ sym k.1)
-pair_one [] (comma ∷ x ∷ second) a b c d h k = (address_one [] a c h.0 k.0, address_one (x ∷ second) b d h.1 k.1)
-pair_one (x ∷ first) (comma ∷ []) a b c d h k = (address_one (x ∷ first) a c h.0 k.0, address_one [] b d h.1 k.1)
-pair_one (x ∷ first) (comma ∷ y ∷ second) a b c d h k = (address_one (x ∷ first) a c h.0 k.0, address_one (y ∷ second) b d h.1 k.1)
+pair_one [] [] a b c d h k = (h.0 ∙ sym k.0, h.1 ∙ sym k.1)
+pair_one [] (y ∷ second) a b c d h k = absurd (h.0.some refl)
+pair_one (x ∷ first) second a b c d h k = (address_one (x ∷ first) a c h.0 k.0, address_one second b d h.1 k.1)
+
+no_pair : (text first second : List ℕ) (a b c : Address) → IsPlace text a → text ≡ first ++ 44 ∷ second → IsPair first second b c → ⊥
+no_pair text first second a b c h e k =
+    let none : 44 ∷ second ≡ [] = sym (pair_cut text first second b c e k).1 ∙ place_uncut text a h in
+    cc
 
 range_one : (text : List ℕ) (r s : Range) → IsRange text r → IsRange text s → r ≡ s
-range_one text (One a) (One b) h k = ap One (place_one text a b h.1 k.1)
-range_one text (One a) (Two b c) h k = absurd (no_pair (before Comma text) (onward Comma text) b c h.0 k)
-range_one text (Two b c) (One a) h k = absurd (no_pair (before Comma text) (onward Comma text) b c k.0 h)
+range_one text (One a) (One b) h k = ap One (place_one text a b h k)
+range_one text (One a) (Two b c) h k = absurd (no_pair text k.0 k.1 a b c h k.2 k.3)
+range_one text (Two b c) (One a) h k = absurd (no_pair text h.0 h.1 a b c k h.2 h.3)
 range_one text (Two a b) (Two c d) h k =
-    let both = pair_one (before Comma text) (onward Comma text) a b c d h k in
+    let x = pair_cut text h.0 h.1 a b h.2 h.3 in
+    let y = pair_cut text k.0 k.1 c d k.2 k.3 in
+    let first : h.0 ≡ k.0 = sym x.0 ∙ y.0 in
+    let after : 44 ∷ h.1 ≡ 44 ∷ k.1 = sym x.1 ∙ y.1 in
+    let second : h.1 ≡ k.1 = cc in
+    let moved : IsPair k.0 k.1 a b = subst (λ (t : List ℕ). IsPair k.0 t a b) second (subst (λ (t : List ℕ). IsPair t h.1 a b) first h.3) in
+    let both = pair_one k.0 k.1 a b c d moved k.3 in
     ap₂ Two both.0 both.1
 
 -- times, distances and the other arguments
@@ -202,7 +211,7 @@ expression_one text n m h k =
     omega arith
 
 -- what a word asks for
-asks_one : (k : Keyword) (range : List ℕ) (args : List (List ℕ)) (c d : Command) → Asks k range args c → Asks k range args d → c ≡ d
+pub asks_one : (k : Keyword) (range : List ℕ) (args : List (List ℕ)) (c d : Command) → Asks k range args c → Asks k range args d → c ≡ d
 asks_one word.Missing range args c d h k = h.1 ∙ ap command.Show (address_one range h.0 k.0 h.2 k.2) ∙ sym k.1
 asks_one word.List range args c d h k = h.1 ∙ ap command.List (range_one range h.0 k.0 h.2 k.2) ∙ sym k.1
 asks_one word.Delete range args c d h k = h.1 ∙ ap command.Delete (range_one range h.0 k.0 h.2 k.2) ∙ sym k.1
@@ -253,11 +262,3 @@ asks_one word.Info range args c d h k = h.0 ∙ sym k.0
 asks_one word.Write range args c d h k = h.0 ∙ sym k.0
 asks_one word.Quit range args c d h k = h.0 ∙ sym k.0
 asks_one word.Unknown range args c d h k = absurd h
-
--- what a line does
-pub means_one : (line : List ℕ) (c d : Command) → Means c line → Means d line → c ≡ d
-means_one line c d h k = go (is_nothing (onward Text line)) h k
-  where
-    go : (v : Bool) → MeansIn v (parts_of line) c → MeansIn v (parts_of line) d → c ≡ d
-    go true p q = p ∙ sym q
-    go false p q = asks_one (keyword_of (parts_of line).word) (parts_of line).range (parts_of line).arguments c d p q

@@ -20,7 +20,7 @@ use Rattle.irig_script.specs.Script.Lines.{script_lines}
 use Rattle.irig_script.specs.declared.print.reply.Reply.{Reply}
 use Rattle.irig_script.specs.declared.print.reply.Reply.TheVariants as told
 use Rattle.irig_script.specs.declared.script.command.Command.{Command}
-use Rattle.irig_script.proofs.SameCommand.{means_one}
+use Rattle.irig_script.proofs.Orders.{means_one}
 use Rattle.irig_script.proofs.SameReply.{bare, obeys_one}
 
 -- what a reply prints and puts does not hang on the looks

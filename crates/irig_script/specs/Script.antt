@@ -5,6 +5,8 @@ pub mod Words
 pub mod Addresses
 pub mod Tables
 pub mod Keywords
+pub mod Arguments
+pub mod Commands
 pub mod Grammar
 pub mod Lines
 pub mod OneCommand

@@ -1,9 +1,14 @@
--- Addresses, ranges and times as a script writes them. This project's own, after those of ed.
-use Rattle.std.specs.Prelude.{◌≡◌, ◌≢◌, ◌==◌, ℕ, ℤ, pos, Bool, true, false, List, [], ◌∷◌}
+-- Addresses, ranges and times as a script writes them. This project's own, after those of ed. In
+-- brackets stands what may be missing:
+--
+-- range   := , | address [, address]
+-- address := base [offset] | offset
+-- base    := number | . | $ | 'letter
+-- offset  := + [number] | - [number]
+-- time    := number | 'letter
+use Rattle.std.specs.Prelude.{◌≡◌, ◌≢◌, ◌==◌, ℕ, ℤ, pos, Bool, true, false, List, [], ◌∷◌, ◌++◌}
 use Rattle.irig_script.specs.Script.Letters.{is_letter}
-use Rattle.irig_script.specs.Script.Numbers.{IsNumber, IsSigned, size}
-use Rattle.irig_script.specs.Script.Words.{before, onward}
-use Rattle.irig_script.specs.declared.script.cutting.Stop.TheVariants.{Sign, Comma}
+use Rattle.irig_script.specs.Script.Numbers.{IsNumber, IsSigned, is_sign, size}
 use Rattle.irig_script.specs.declared.script.address.Base.{Base}
 use Rattle.irig_script.specs.declared.script.address.Base.TheVariants.{Number, Current, Last, Mark}
 use Rattle.irig_script.specs.declared.script.address.Address.{Address}
@@ -32,15 +37,19 @@ IsBase text (Mark letter) = IsMark text letter
 -- a sign and a number, which is 1 where it is missing; or nothing
 abbrev pub IsOffset : List ℕ → ℤ → Type 0
 IsOffset [] d = d ≡ pos 0
-IsOffset (sign ∷ []) d = IsSigned sign d × (size d ≡ 1)
-IsOffset (sign ∷ digits) d = IsSigned sign d × IsNumber digits (size d)
+IsOffset (sign ∷ []) d = (is_sign sign ≡ true) × IsSigned sign d × (size d ≡ 1)
+IsOffset (sign ∷ digits) d = (is_sign sign ≡ true) × IsSigned sign d × IsNumber digits (size d)
 
 -- an address: a base, an offset, or both
 pub record IsAddress (text : List ℕ) (a : Address) : Type 0 where
+  pub front : List ℕ
+  pub back : List ℕ
   pub some : text ≢ []
-  pub base : IsBase (before Sign text) a.base
-  pub offset : IsOffset (onward Sign text) a.offset
+  pub whole : text ≡ front ++ back
+  pub base : IsBase front a.base
+  pub offset : IsOffset back a.offset
 
+-- the address of what it counts from
 abbrev pub at : Base → Address
 at base = record { base = base; offset = pos 0 }
 
@@ -49,16 +58,16 @@ abbrev pub IsPlace : List ℕ → Address → Type 0
 IsPlace [] a = a ≡ at Current
 IsPlace text a = IsAddress text a
 
--- two addresses round a comma; a comma alone is 1,$
+-- what stands before a comma and behind it: two addresses, or nothing, which is 1,$
 abbrev pub IsPair : List ℕ → List ℕ → Address → Address → Type 0
-IsPair first [] a b = ⊥
-IsPair [] (comma ∷ []) a b = (a ≡ at (Number 1)) × (b ≡ at Last)
-IsPair first (comma ∷ second) a b = IsAddress first a × IsAddress second b
+IsPair [] [] a b = (a ≡ at (Number 1)) × (b ≡ at Last)
+IsPair first second a b = IsAddress first a × IsAddress second b
 
--- a range: nothing, an address, or two round a comma
+-- a range: nothing, an address, two round a comma, or a comma
 abbrev pub IsRange : List ℕ → Range → Type 0
-IsRange text (One a) = (onward Comma text ≡ []) × IsPlace text a
-IsRange text (Two a b) = IsPair (before Comma text) (onward Comma text) a b
+IsRange text (One a) = IsPlace text a
+IsRange text (Two a b) = (first : List ℕ) × (second : List ℕ)
+    × (text ≡ first ++ 44 ∷ second) × IsPair first second a b
 
 -- a time in microseconds, or that of a mark
 abbrev pub IsTime : List ℕ → Time → Type 0

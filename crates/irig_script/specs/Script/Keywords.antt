@@ -1,12 +1,8 @@
 -- The words that lines begin with. This project's own.
-use Rattle.std.specs.Prelude.{List, [], ◌∷◌, ℕ, Bool, true, false, codes, unwrap_or}
+use Rattle.std.specs.Prelude.{List, [], ◌∷◌, ℕ, codes, unwrap_or}
 use Rattle.irig_script.specs.Script.Tables.{found}
 use Rattle.irig_script.specs.declared.script.keyword.Keyword.{Keyword}
 use Rattle.irig_script.specs.declared.script.keyword.Keyword.TheVariants as word
-
-abbrev pub is_missing : {T : Type 0} → List T → Bool
-is_missing [] = true
-is_missing (x ∷ xs) = false
 
 -- the words of the language, each with what it stands for; nothing is the word that is missing
 abbrev pub keywords : List (List ℕ × Keyword)

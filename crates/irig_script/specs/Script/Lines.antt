@@ -1,8 +1,7 @@
 -- The lines of a script, and which of them are obeyed. This project's own.
 use Rattle.std.specs.Prelude.{◌==◌, ℕ, Bool, true, false, not, ◌&&◌, List, [], ◌∷◌, length, nat_lt, if◌then◌else◌}
-use Rattle.irig_script.specs.Script.Words.{onto_first}
-use Rattle.irig_script.specs.Script.Keywords.{is_missing, keyword_of}
-use Rattle.irig_script.specs.Script.Grammar.{Parts, parts_of}
+use Rattle.irig_script.specs.Script.Words.{onto_first, words_of}
+use Rattle.irig_script.specs.Script.Keywords.{keyword_of}
 use Rattle.irig_script.specs.declared.script.keyword.Keyword.{Keyword}
 use Rattle.irig_script.specs.declared.script.keyword.Keyword.TheVariants.{Quit}
 
@@ -11,17 +10,19 @@ abbrev pub lines_of : List ℕ → List (List ℕ)
 lines_of [] = []
 lines_of (b ∷ bs) = if b == 10 then [] ∷ lines_of bs else onto_first b (lines_of bs)
 
+-- the word is `quit`
 abbrev pub is_quit_word : Keyword → Bool
 is_quit_word Quit = true
 is_quit_word _ = false
 
--- the parts are the word `quit` alone
-abbrev pub are_quit : Parts → Bool
-are_quit p = is_missing p.range && (is_quit_word (keyword_of p.word) && is_missing p.arguments)
+-- the words are the word `quit` alone
+abbrev pub are_quit : List (List ℕ) → Bool
+are_quit (word ∷ []) = is_quit_word (keyword_of word)
+are_quit _ = false
 
--- the line ends the script
+-- the line ends the script: it is at most 1,000 bytes long, and its words are `quit` alone
 abbrev pub is_quit : List ℕ → Bool
-is_quit line = not (nat_lt 1000 (length line)) && are_quit (parts_of line)
+is_quit line = not (nat_lt 1000 (length line)) && are_quit (words_of line)
 
 -- the lines before the first that ends the script
 abbrev pub until_quit : List (List ℕ) → List (List ℕ)

@@ -2,7 +2,7 @@
 
 ghost use Rattle.std.specs.Prelude.{◌≡◌, ℕ, ℤ, pos, List, [], ◌∷◌, true, IfOk, OnErr};
 ghost use Rattle.irig_script.specs.Script.Letters.{is_letter};
-ghost use Rattle.irig_script.specs.Script.Addresses.{IsBase, IsOffset, IsAddress, IsPlace, IsRange, IsTime, at};
+ghost use Rattle.irig_script.specs.Script.Addresses.{IsBase, IsOffset, IsAddress, IsPair, IsPlace, IsRange, IsTime, at};
 ghost use Rattle.irig_script.specs.declared.script.address.Base.{Base};
 ghost use Rattle.irig_script.specs.declared.script.address.Address.{Address};
 ghost use Rattle.irig_script.specs.declared.script.range.Range.{Range};
@@ -10,7 +10,7 @@ ghost use Rattle.irig_script.specs.declared.script.time.Time.{Time};
 
 use crate::script::address::{Address, Base};
 use crate::script::command::BadLine;
-use crate::script::cutting::{Stop, cut};
+use crate::script::cutting::{Stop, cut, is_sign};
 use crate::script::letter::Letter;
 use crate::script::numbers::{number, signed};
 use crate::script::range::Range;
@@ -58,8 +58,9 @@ fn offset(text: &[u8]) -> Result<i64, BadLine>
 {
     match text {
         [] => Ok(0),
-        [sign] => Ok(signed(*sign, 1)),
-        [sign, digits @ ..] => Ok(signed(*sign, number(digits)?)),
+        [sign] if is_sign(*sign) => Ok(signed(*sign, 1)),
+        [sign, digits @ ..] if is_sign(*sign) => Ok(signed(*sign, number(digits)?)),
+        _ => Err(BadLine),
     }
 }
 
@@ -105,7 +106,21 @@ pub fn range(text: &[u8]) -> Result<Range, BadLine>
     let (first, rest) = cut(text, Stop::Comma);
     match rest {
         [] => Ok(Range::One(place(text)?)),
-        [_] if first.is_empty() => Ok(Range::Two(at(Base::Number(1)), at(Base::Last))),
-        [_, second @ ..] => Ok(Range::Two(address(first)?, address(second)?)),
+        [_, second @ ..] => {
+            let (first, last) = pair(first, second)?;
+            Ok(Range::Two(first, last))
+        }
     }
+}
+
+/// What stands before a comma and behind it; a comma alone stands between the first and the last.
+fn pair(first: &[u8], second: &[u8]) -> Result<(Address, Address), BadLine>
+    ensures ok { IfOk result (λ p. IsPair first.now second.now p.0 p.1) }
+    ensures err { OnErr result ((a : Address) → (b : Address)
+        → IsPair first.now second.now a b → ⊥) }
+{
+    if first.is_empty() && second.is_empty() {
+        return Ok((at(Base::Number(1)), at(Base::Last)));
+    }
+    Ok((address(first)?, address(second)?))
 }

@@ -1,12 +1,15 @@
 //! Lines of a script as commands.
 
-ghost use Rattle.std.specs.Prelude.{◌≡◌, ◌≤◌, List, [], take, drop, length, false, IfOk, OnOk, OnErr};
+ghost use Rattle.std.specs.Prelude.{◌≡◌, ◌++◌, ◌&&◌, ◌||◌, not, ℕ, List, [], true, IfOk, OnOk, OnErr};
 ghost use Rattle.irig_script.specs.Script.Addresses.{IsRange};
-ghost use Rattle.irig_script.specs.Script.Words.{words_of};
+ghost use Rattle.irig_script.specs.Script.Arguments.{AreTimes};
+ghost use Rattle.irig_script.specs.Script.Commands.{Asks};
+ghost use Rattle.irig_script.specs.Script.Letters.{is_letter};
+ghost use Rattle.irig_script.specs.Script.Words.{is_space, words_of};
 ghost use Rattle.irig_script.specs.declared.script.keyword.Keyword.{Keyword};
 ghost use Rattle.irig_script.specs.declared.script.range.Range.{Range};
 ghost use Rattle.irig_script.specs.declared.script.time.Time.{Time};
-ghost use Rattle.irig_script.specs.Script.Grammar.{Means, Asks, AsksIn, AreTimes, ends_range, parts_in, range_length};
+ghost use Rattle.irig_script.specs.Script.Grammar.{Means, Orders, follows_range, is_nothing};
 ghost use Rattle.irig_script.specs.declared.script.command.Command.{Command};
 
 use crate::script::addresses::{address, place, range, time};
@@ -25,26 +28,37 @@ pub fn parse_line(line: &[u8]) -> Result<Command, BadLine>
     ensures bad { OnErr result ((command : Command) → Means command line.now → ⊥) }
 {
     let (_, text) = cut(line, Stop::Text);
-    match text {
-        [] | [b'#', ..] => Ok(Command::Nothing),
-        _ => in_text(text),
+    if is_nothing(text) {
+        Ok(Command::Nothing)
+    } else {
+        in_text(text)
     }
+}
+
+/// Whether nothing stands, or a comment.
+fn is_nothing(text: &[u8]) -> bool
+    ensures { result ≡ is_nothing text.now }
+{
+    matches!(text, [] | [b'#', ..])
 }
 
 /// What a text asks for that begins with no white space.
 fn in_text(text: &[u8]) -> Result<Command, BadLine>
-    ensures ok { IfOk result (AsksIn (parts_in text.now)) }
-    ensures err { OnErr result ((c : Command) → AsksIn (parts_in text.now) c → ⊥) }
+    ensures ok { IfOk result (λ c. Orders c text.now) }
+    ensures err { OnErr result ((c : Command) → Orders c text.now → ⊥) }
 {
     let (range, rest) = split_range(text);
     let (word, arguments) = split_word(rest);
     asked(range, keyword_of(word), arguments)
 }
 
-/// The range at the front of a text, and what stands behind it.
+/// The front of a text up to where a range ends, and what stands behind it: a text that is a range
+/// and what may follow it is cut between them.
 fn split_range(text: &[u8]) -> (&[u8], &[u8])
-    ensures range { result.0.now ≡ take (range_length false text.now) text.now }
-    ensures rest { result.1.now ≡ drop (range_length false text.now) text.now }
+    ensures whole { text.now ≡ result.0.now ++ result.1.now }
+    ensures cut { (range : List ℕ) → (rest : List ℕ) → (r : Range) → text.now ≡ range ++ rest
+        → IsRange range r → follows_range rest ≡ true
+        → (result.0.now ≡ range) × (result.1.now ≡ rest) }
 {
     let mut at = 0;
     let mut quoted = false;
@@ -57,7 +71,7 @@ fn split_range(text: &[u8]) -> (&[u8], &[u8])
 
 /// Whether a byte ends a range, behind an apostrophe or not.
 fn ends_range(quoted: bool, byte: u8) -> bool
-    ensures { result ≡ ends_range quoted byte }
+    ensures { result ≡ (is_space byte || (not quoted && is_letter byte)) }
 {
     is_space(byte) || !quoted && byte.is_ascii_lowercase()
 }

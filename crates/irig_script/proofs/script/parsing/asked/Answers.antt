@@ -1,5 +1,5 @@
 use Rattle.std.proofs.Common.{rules, ◌≡◌}
-use Rattle.irig_script.specs.Script.Grammar.{Asks}
+use Rattle.irig_script.specs.Script.Commands.{Asks}
 use Rattle.irig_script.specs.Script.Words.{words_of}
 use Rattle.irig_script.specs.declared.script.command.Command.{Command}
 use Rattle.irig_script.specs.declared.script.keyword.Keyword.TheVariants as word
@@ -53,3 +53,9 @@ returns-in_err-a-in-Invert-clause-err c =
     let e : c.args.word ≡ word.Invert = search rules in
     let no : (asked : Command) → Asks word.Invert c.args.front.now (words_of c.args.arguments.now) asked → ⊥ = λ asked a. c.in_err-a-in-Invert.ensures.err a.0 a.1 a.3 a.4 in
     refused word.Invert c.args.word c.args.front.now (words_of c.args.arguments.now) _ e (given _ no)
+
+pub returns-in_err-address-in-Missing-clause-err : goal.returns-in_err-address-in-Missing-clause-err
+returns-in_err-address-in-Missing-clause-err c =
+    let e : c.args.word ≡ word.Missing = search rules in
+    let no : (asked : Command) → Asks word.Missing c.args.front.now (words_of c.args.arguments.now) asked → ⊥ = λ asked a. c.in_err-address-in-Missing.ensures.err a.0 a.2 in
+    refused word.Missing c.args.word c.args.front.now (words_of c.args.arguments.now) _ e (given _ no)

@@ -1,7 +1,8 @@
 use Rattle.std.proofs.Common.{◌∷◌, refl, ap, sym, ◌∙◌, subst, List, ℕ}
 use Rattle.irig_moment.specs.Written.{moment_of}
 use Rattle.irig_script.specs.Script.Addresses.{IsTime}
-use Rattle.irig_script.specs.Script.Grammar.{AreControls, Asks}
+use Rattle.irig_script.specs.Script.Arguments.{AreControls}
+use Rattle.irig_script.specs.Script.Commands.{Asks}
 use Rattle.irig_script.specs.Script.Numbers.{IsNumber}
 use Rattle.irig_script.specs.Script.Words.{words_of}
 use Rattle.irig_script.specs.declared.script.command.Command.{Command}

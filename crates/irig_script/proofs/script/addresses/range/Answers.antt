@@ -1,0 +1,21 @@
+use Rattle.irig_script.specs.Script.Addresses.{IsRange}
+use Rattle.irig_script.specs.declared.script.range.Range.{Range}
+use Rattle.irig_script.proofs.AddressCut.{pair_range, pair_refused, uncut_range}
+use Rattle.irig_script.proofs.Lines.{given}
+use Rattle.irig_script.proofs.WordLemmas.{rest_whole}
+use Rattle.irig_script.proofs.script.addresses.range.Goals as goal
+
+pub returns-in_err-place-in-empty-clause-err : goal.returns-in_err-place-in-empty-clause-err
+returns-in_err-place-in-empty-clause-err c =
+    let no : (r : Range) → IsRange c.args.text.now r → ⊥ = λ r h.
+    (let place = uncut_range c.args.text.now _ r c.cut.ensures.onward c.in-empty.len_below h in
+    c.in_err-place-in-empty.ensures.err place.0 place.1) in
+    given _ no
+
+pub returns-in_err-first-in-len1-up-clause-err : goal.returns-in_err-first-in-len1-up-clause-err
+returns-in_err-first-in-len1-up-clause-err c =
+    given _ (pair_refused c.args.text.now _ _ _ c.cut.ensures.before c.cut.ensures.onward c.in-len1-up.len_at_least (rest_whole c.cut.result.1.now 1) c.in_err-first-in-len1-up.ensures.err)
+
+pub returns-in_ok-first-in-len1-up-clause-ok : goal.returns-in_ok-first-in-len1-up-clause-ok
+returns-in_ok-first-in-len1-up-clause-ok c =
+    pair_range c.args.text.now _ _ _ _ _ c.cut.ensures.before c.cut.ensures.onward c.in-len1-up.len_at_least (rest_whole c.cut.result.1.now 1) c.in_ok-first-in-len1-up.ensures.ok
