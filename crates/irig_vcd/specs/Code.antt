@@ -1,6 +1,5 @@
 -- What the parts of the code show of the definitions. What a dump means needs none of them.
 pub mod Token
-pub mod Tokens
 pub mod Short
 pub mod Section
 pub mod Variable

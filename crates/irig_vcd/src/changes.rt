@@ -2,7 +2,6 @@
 
 ghost use Rattle.std.specs.Prelude.{◌≡◌, ◌≤◌, ◌<◌, true, ◌^◌, length, IfOk};
 ghost use Rattle.irig_vcd.specs.Code.Token.{kind_view};
-ghost use Rattle.irig_vcd.specs.Code.Tokens.{words_left};
 ghost use Rattle.irig_vcd.specs.Words.{rest_of, is_code};
 ghost use Rattle.irig_vcd.specs.Changes.{changes_from};
 ghost use Rattle.irig_vcd.specs.Code.Event.{is_hash};
@@ -56,7 +55,7 @@ pub fn changes(
     requires { start.exponent ≤ 17 }
     ensures exact { KeepsEdges result
         (changes_from any_word start.entry.code.now start.entry.exponent 0
-        (words_left tokens.old)) }
+        tokens.old) }
     ensures short { IfOk result (λ x. x.0 ≤ 2 ^ 40) }
 {
     let is_plain = is_plain(start.code);

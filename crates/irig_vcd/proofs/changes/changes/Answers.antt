@@ -1,6 +1,5 @@
 use Rattle.std.proofs.Common.{◌≡◌, ◌∙◌, ◌++◌, ◌∷◌, [], true, false, Some, None, Ok, ap, sym, rules, arith}
 use Rattle.irig_vcd.specs.Code.Token.{word_of}
-use Rattle.irig_vcd.specs.Code.Tokens.{words_left}
 use Rattle.irig_vcd.specs.Words.{rest_of}
 use Rattle.irig_vcd.specs.Code.Time.{units_of}
 use Rattle.irig_vcd.specs.Times.{time_of, micros_of}
@@ -28,7 +27,7 @@ tokens-init c = (
 pub tokens-preserved-then-is_hash : goal.tokens-preserved-then-is_hash
 tokens-preserved-then-is_hash c =
     let i = c.tokens.invariant.1 in
-    let next : words_left c.next_short.new.self ≡ word_of c.in-Some.token ∷ words_left c.next.new.self = search rules in
+    let next : c.next_short.new.self ≡ word_of c.in-Some.token ∷ c.next.new.self = search rules in
     let left = sym c.in-Other.ensures ∙ next in
     let hash : is_hash (word_of c.in-Some.token).kind ≡ true = search rules in
     let k = on_time _ _ _ _ (word_of c.in-Some.token) _ _ left hash (rw (← c.digits_of.ensures) c.in_ok-clock.ensures.exact) in
@@ -37,29 +36,29 @@ tokens-preserved-then-is_hash c =
 pub tokens-preserved : goal.tokens-preserved
 tokens-preserved c =
     let i = c.tokens.invariant.1 in
-    let next : words_left c.next_short.new.self ≡ word_of c.in-Some.token ∷ words_left c.next.new.self = search rules in
+    let next : c.next_short.new.self ≡ word_of c.in-Some.token ∷ c.next.new.self = search rules in
     let left = sym c.in-Other.ensures ∙ next in
     let hash : is_hash (word_of c.in-Some.token).kind ≡ false = search rules in
     let is : c.in_ok-take_level.field-0 ≡ Some c.in-Some-2.high = search rules in
-    let read : level_read (word_of c.in-Some.token).kind c.args.start.code.now (word_of c.in-Some.token) (words_left c.next.new.self) ≡ Ok (Some c.in-Some-2.high, words_left c.take_level.new.tokens) = rw (← is) c.in_ok-take_level.ensures.exact in
+    let read : level_read (word_of c.in-Some.token).kind c.args.start.code.now (word_of c.in-Some.token) c.next.new.self ≡ Ok (Some c.in-Some-2.high, c.take_level.new.tokens) = rw (← is) c.in_ok-take_level.ensures.exact in
     let k = on_level _ _ _ _ (word_of c.in-Some.token) _ _ (Some c.in-Some-2.high) left hash read in (
       c.tokens.invariant.0 ++ record { time = micros_of c.args.start.exponent (units_of c.args.start.exponent c.tokens.clock); high = c.in-Some-2.high } ∷ [],
       record {
         time = i.time;
         late = rw (c.in_ok-put-in-Some-2.ensures.time, c.micros-time-in-Some-2.ensures.value) (omega arith);
         follows = rw (← c.micros-time-in-Some-2.ensures.value) (c.in_ok-put-in-Some-2.ensures.ok c.tokens.invariant.0 i.follows);
-        rest = (sym (one_change c.tokens.invariant.0 (micros_of c.args.start.exponent (units_of c.args.start.exponent c.tokens.clock)) c.in-Some-2.high (changes_from any_word c.args.start.code.now c.args.start.exponent (units_of c.args.start.exponent c.tokens.clock) (words_left c.take_level.new.tokens))) ∙ (ap (behind c.tokens.invariant.0) (sym k) ∙ i.rest));
+        rest = (sym (one_change c.tokens.invariant.0 (micros_of c.args.start.exponent (units_of c.args.start.exponent c.tokens.clock)) c.in-Some-2.high (changes_from any_word c.args.start.code.now c.args.start.exponent (units_of c.args.start.exponent c.tokens.clock) c.take_level.new.tokens)) ∙ (ap (behind c.tokens.invariant.0) (sym k) ∙ i.rest));
       },
     )
 
 pub tokens-preserved-in-None : goal.tokens-preserved-in-None
 tokens-preserved-in-None c =
     let i = c.tokens.invariant.1 in
-    let next : words_left c.next_short.new.self ≡ word_of c.in-Some.token ∷ words_left c.next.new.self = search rules in
+    let next : c.next_short.new.self ≡ word_of c.in-Some.token ∷ c.next.new.self = search rules in
     let left = sym c.in-Other.ensures ∙ next in
     let hash : is_hash (word_of c.in-Some.token).kind ≡ false = search rules in
     let is : c.in_ok-take_level.field-0 ≡ None = search rules in
-    let read : level_read (word_of c.in-Some.token).kind c.args.start.code.now (word_of c.in-Some.token) (words_left c.next.new.self) ≡ Ok (None, words_left c.take_level.new.tokens) = rw (← is) c.in_ok-take_level.ensures.exact in
+    let read : level_read (word_of c.in-Some.token).kind c.args.start.code.now (word_of c.in-Some.token) c.next.new.self ≡ Ok (None, c.take_level.new.tokens) = rw (← is) c.in_ok-take_level.ensures.exact in
     let k = on_level _ _ _ _ (word_of c.in-Some.token) _ _ None left hash read in
     (c.tokens.invariant.0, record { time = i.time; late = i.late; follows = i.follows; rest = ap (behind c.tokens.invariant.0) (sym k) ∙ i.rest })
 
@@ -67,7 +66,7 @@ pub returns-in_err-take_level-clause-exact : goal.returns-in_err-take_level-clau
 returns-in_err-take_level-clause-exact c =
     let p = err_from_is_err_and c.from_residual-in_err-take_level.result c.from_residual-in_err-take_level.ensures.1 in
     let i = c.tokens.invariant.1 in
-    let next : words_left c.next_short.new.self ≡ word_of c.in-Some.token ∷ words_left c.next.new.self = search rules in
+    let next : c.next_short.new.self ≡ word_of c.in-Some.token ∷ c.next.new.self = search rules in
     let left = sym c.in-Other.ensures ∙ next in
     let hash : is_hash (word_of c.in-Some.token).kind ≡ false = search rules in
     let k = on_word c.args.start.code.now c.args.start.exponent (units_of c.args.start.exponent c.tokens.clock) _ (word_of c.in-Some.token) _ left hash in
@@ -96,13 +95,13 @@ tokens-preserved-in-Bit c =
     let b = c.in-Bit.ensures.1 in
     let some = c.is_plain-is_plain.ensures.some c.in-Bit.ensures.0 in
     let hash : is_hash b.word.kind ≡ false = ap is_hash b.kind in
-    let read = bit_level c.in-Bit.high c.args.start.code.now b.word (words_left c.next_short.new.self) some b.kind b.bytes in
+    let read = bit_level c.in-Bit.high c.args.start.code.now b.word c.next_short.new.self some b.kind b.bytes in
     let k = on_level _ _ _ _ b.word _ _ (Some c.in-Bit.high) b.left hash read in (
       c.tokens.invariant.0 ++ record { time = micros_of c.args.start.exponent (units_of c.args.start.exponent c.tokens.clock); high = c.in-Bit.high } ∷ [],
       record {
         time = i.time;
         late = rw (c.in_ok-put-in-Bit.ensures.time, c.micros-time.ensures.value) (omega arith);
         follows = rw (← c.micros-time.ensures.value) (c.in_ok-put-in-Bit.ensures.ok c.tokens.invariant.0 i.follows);
-        rest = (sym (one_change c.tokens.invariant.0 (micros_of c.args.start.exponent (units_of c.args.start.exponent c.tokens.clock)) c.in-Bit.high (changes_from any_word c.args.start.code.now c.args.start.exponent (units_of c.args.start.exponent c.tokens.clock) (words_left c.next_short.new.self))) ∙ (ap (behind c.tokens.invariant.0) (sym k) ∙ i.rest));
+        rest = (sym (one_change c.tokens.invariant.0 (micros_of c.args.start.exponent (units_of c.args.start.exponent c.tokens.clock)) c.in-Bit.high (changes_from any_word c.args.start.code.now c.args.start.exponent (units_of c.args.start.exponent c.tokens.clock) c.next_short.new.self)) ∙ (ap (behind c.tokens.invariant.0) (sym k) ∙ i.rest));
       },
     )

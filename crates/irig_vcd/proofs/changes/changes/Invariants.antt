@@ -1,5 +1,4 @@
 use Rattle.std.proofs.Common.{◌≡◌, ◌≤◌, List, length}
-use Rattle.irig_vcd.specs.Code.Tokens.{words_left}
 use Rattle.irig_vcd.specs.Code.Time.{IsTime, units_of}
 use Rattle.irig_vcd.specs.Times.{micros_of}
 use Rattle.irig_vcd.specs.Code.Trace.{Follows}
@@ -14,8 +13,8 @@ invariant-tokens l = (before : List Change) × record {
   time : IsTime l.start.exponent l.clock;
   late : l.trace.time ≤ micros_of l.start.exponent (units_of l.start.exponent l.clock);
   follows : Follows before l.trace;
-  rest : behind before (changes_from any_word l.start.code.now l.start.exponent (units_of l.start.exponent l.clock) (words_left l.tokens)) ≡ changes_from any_word l.start.code.now l.start.exponent 0 (words_left l.fn.tokens);
+  rest : behind before (changes_from any_word l.start.code.now l.start.exponent (units_of l.start.exponent l.clock) l.tokens) ≡ changes_from any_word l.start.code.now l.start.exponent 0 l.fn.tokens;
 }
 
 abbrev pub decreases-tokens : goal.decreases-tokens
-decreases-tokens l = length (words_left l.tokens)
+decreases-tokens l = length l.tokens
