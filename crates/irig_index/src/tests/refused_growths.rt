@@ -1,0 +1,62 @@
+//! What a growth that is refused leaves of a track and its index: run with each growth refused in
+//! turn, by `tests/no_memory`.
+
+use super::helpers::positions;
+use crate::Index;
+use irig_codes::{Format, Kind};
+use irig_track::Track;
+use std::alloc::Global;
+
+/// The index of a track; a refusal is asked for again.
+fn built(alloc: Global, track: &Track) -> Option<Index> {
+    let format = Format::new(Kind::G, 2).ok()?;
+    match Index::build(alloc, &mut track.lens(), format) {
+        Ok(index) => Some(index),
+        Err(_) => Index::build(alloc, &mut track.lens(), format).ok(),
+    }
+}
+
+/// Whether pulse k, from 0, of eight rises within a hundred microseconds of 100 k.
+fn has_pulses(track: &Track) -> bool {
+    for k in 0..track.len() {
+        if track.pulse(k).rise / 100 != k as u64 {
+            return false;
+        }
+    }
+    track.len() == 8
+}
+
+/// Whether each pulse but the first of eight is a marker.
+fn has_markers(index: &Index) -> bool {
+    for k in 0..index.len() {
+        if index.record(k).marker != k + 1 {
+            return false;
+        }
+    }
+    index.len() == 7
+}
+
+/// Whether both make room; a refusal leaves the index's room, and the next call makes it.
+fn both_reserve(track: &mut Track, index: &mut Index) -> bool {
+    let room = index.room();
+    (track.reserve(100).is_ok() || track.reserve(100).is_ok())
+        && (index.reserve(100).is_ok() || index.room() == room && index.reserve(100).is_ok())
+}
+
+/// Whether pulses and frames stand where both have made room.
+fn are_kept(alloc: Global, track: &mut Track) -> bool {
+    match built(alloc, track) {
+        Some(mut index) => {
+            both_reserve(track, &mut index) && has_pulses(track) && has_markers(&index)
+        }
+        None => false,
+    }
+}
+
+// A call that is refused for want of memory leaves pulses and frames, and then succeeds.
+#[test]
+fn a_refused_call_leaves_pulses_and_frames(rt: HostRuntime) {
+    if let Ok(mut track) = positions(rt.alloc()) {
+        assert!(rt; are_kept(rt.alloc(), &mut track));
+    }
+}
