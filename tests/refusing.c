@@ -1,5 +1,5 @@
-/* Refuses one growth of a program. Preloaded, it gives no memory to the growth of the number REFUSED, from 1, and writes a byte
-   to the descriptor TOLD when it does. */
+/* Refuses growths of a program. Preloaded, it gives no memory to COUNT growths from that of the number REFUSED on, from 1, and
+   writes a byte to the descriptor TOLD for each. */
 #define _GNU_SOURCE
 #include <dlfcn.h>
 #include <errno.h>
@@ -10,8 +10,11 @@ static long growths;
 
 static int is_refused(void)
 {
-    const char *number = getenv("REFUSED"), *told = getenv("TOLD");
-    if (number == NULL || told == NULL || ++growths != atol(number))
+    const char *number = getenv("REFUSED"), *count = getenv("COUNT"), *told = getenv("TOLD");
+    if (number == NULL || count == NULL || told == NULL)
+        return 0;
+    long past = ++growths - atol(number);
+    if (atol(number) == 0 || past < 0 || past >= atol(count))
         return 0;
     if (write(atoi(told), "!", 1) != 1)
         abort();
