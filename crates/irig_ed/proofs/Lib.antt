@@ -1,1 +1,3 @@
-pub mod TrackLemmas
+pub mod WholeReads
+pub mod PutsAt
+pub mod EditsBy

@@ -1,3 +1,4 @@
 pub mod CommandLine
+pub mod Files
+pub mod Ending
 pub mod Statuses
-pub mod FileShelf

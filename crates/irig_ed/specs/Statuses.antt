@@ -1,8 +1,11 @@
 -- The statuses of the program as a process. This project's own.
-use Rattle.std.specs.Prelude.{◌≢◌, ℕ, Result, Ok, Err}
+use Rattle.std.specs.Prelude.{◌≡◌, ◌≢◌, ℕ, Result, Ok, Err}
 use Rattle.clap.specs.declared.error.Error.{Error}
 use Rattle.clap.specs.Words.{kind_of}
 use Rattle.clap.specs.declared.error.kind.ErrorKind.TheVariants.{DisplayHelp, DisplayVersion}
+use Rattle.irig_ed.specs.declared.command_line.chosen.UsageFault.TheVariants.{Words, BadExpression}
+use Rattle.irig_ed.specs.declared.ending.Ending.{Ending}
+use Rattle.irig_ed.specs.declared.ending.Ending.TheVariants.{Usage, Unread, Edited}
 use Rattle.irig_script.specs.declared.obey.status.Status.{Status}
 use Rattle.irig_script.specs.declared.obey.status.Status.TheVariants.{AllAccepted, SomeRefused}
 use Rattle.irig_script.specs.declared.obey.editing.EditFault.{EditFault}
@@ -18,3 +21,10 @@ status_number (Err (Run fault)) = 4
 -- an error of the command line that is no call for help
 abbrev pub IsMistake : Error → Type 0
 IsMistake error = (kind_of error ≢ DisplayHelp) × (kind_of error ≢ DisplayVersion)
+
+-- the status of the process for how the program ended
+abbrev pub HasStatus : Ending → ℕ → Type 0
+HasStatus (Usage (Words error)) status = IsMistake error → status ≡ 2
+HasStatus (Usage BadExpression) status = status ≡ 2
+HasStatus (Unread path fault) status = status ≡ 3
+HasStatus (Edited path result) status = status ≡ status_number result

@@ -2,15 +2,29 @@
 
 ghost use Rattle.std.specs.Prelude.{◌≡◌};
 ghost use Rattle.std.specs.Process.{exit_status};
-ghost use Rattle.irig_ed.specs.Statuses.{IsMistake, status_number};
+ghost use Rattle.irig_ed.specs.Statuses.{IsMistake, HasStatus, status_number};
 
-use crate::files::track::TrackFault;
+use crate::command_line::chosen::UsageFault;
+use crate::ending::Ending;
+use crate::files::dump_file::DumpFileFault;
 use irig_script::{EditFault, RunFault, Status};
 use std::fmt::Display;
 use std::process::ExitCode;
 
+/// The status of the process for how the program ended, which is told where it is a fault.
+pub fn report<R: Print + Eprint>(rt: &R, ending: &Ending<'_>) -> ExitCode
+    ensures { HasStatus ending.now (exit_status result) }
+{
+    match ending {
+        Ending::Usage(UsageFault::Words(error)) => explain(rt, error),
+        Ending::Usage(UsageFault::BadExpression) => tell(rt, &"E6 BadExpression"),
+        Ending::Unread(path, fault) => tell_unread(rt, path, *fault),
+        Ending::Edited(path, outcome) => tell_ended(rt, path, *outcome),
+    }
+}
+
 /// Says why nothing was begun.
-pub fn told<R: Eprint, T: Display>(rt: &R, why: &T) -> ExitCode
+pub fn tell<R: Eprint, T: Display>(rt: &R, why: &T) -> ExitCode
     ensures { exit_status result ≡ 2 }
 {
     let _ = eprintln!(rt; "irig_ed: {why}");
@@ -18,31 +32,31 @@ pub fn told<R: Eprint, T: Display>(rt: &R, why: &T) -> ExitCode
 }
 
 /// Prints what `clap` says: help on the standard output, a mistake on the standard error.
-pub fn explained<R: Print + Eprint>(rt: &R, error: &clap::Error) -> ExitCode
+pub fn explain<R: Print + Eprint>(rt: &R, error: &clap::Error) -> ExitCode
     ensures { IsMistake error.now → exit_status result ≡ 2 }
 {
     match error.print(rt) {
         _ if error.use_stderr() => ExitCode::from(2),
         Ok(()) => ExitCode::SUCCESS,
-        Err(_) => ended(rt, "", Err(EditFault::Run(RunFault::PrintFailed))),
+        Err(_) => tell_ended(rt, "", Err(EditFault::Run(RunFault::PrintFailed))),
     }
 }
 
 /// Says why a track was not read.
-pub fn unread<R: Eprint>(rt: &R, name: &str, fault: TrackFault) -> ExitCode
+fn tell_unread<R: Eprint>(rt: &R, name: &str, fault: DumpFileFault) -> ExitCode
     ensures { exit_status result ≡ 3 }
 {
     let why = match fault {
-        TrackFault::CannotBeRead => "cannot be read",
-        TrackFault::TooLong => "too long",
-        TrackFault::OutOfMemory => "V14 OutOfMemory",
+        DumpFileFault::CannotBeRead => "cannot be read",
+        DumpFileFault::TooLong => "too long",
+        DumpFileFault::OutOfMemory => "V14 OutOfMemory",
     };
     let _ = eprintln!(rt; "irig_ed: {name}: {why}");
     ExitCode::from(3)
 }
 
 /// The exit status for how an edit ended; a fault is told on the standard error.
-pub fn ended<R: Eprint>(rt: &R, name: &str, outcome: Result<Status, EditFault>) -> ExitCode
+fn tell_ended<R: Eprint>(rt: &R, name: &str, outcome: Result<Status, EditFault>) -> ExitCode
     ensures { exit_status result ≡ status_number outcome }
 {
     match outcome {

@@ -1,66 +1,47 @@
 //! A shelf that is a file.
 
-ghost use Rattle.std.specs.Prelude.{◌≡◌, None, OnErr, OnOk};
-ghost use Rattle.irig_ed.specs.FileShelf.{file_shelf_view};
-ghost use Rattle.irig_script.specs.Obey.Desk.{Fails};
+ghost use Rattle.std.specs.Prelude.{◌≡◌, ◌∷◌};
+ghost use Rattle.irig_script.specs.Shelf.Shelved.{shelved};
+ghost use Rattle.irig_ed.specs.Files.Puts.{texts_at};
 
-use crate::files::putting::put_file;
+use crate::files::disk::Disk;
 use irig_script::{Shelf, ShelfFault};
-use std::marker::Model;
-use std::rt::Files;
 
 /// A shelf that is a file: each put replaces the file at a path whole.
-///
-/// What a file holds is promised by no contract; `docs/SCRIPT.md` says what was tested. A put that
-/// fails leaves the file as it was.
 #[derive(Drop)]
-pub struct FileShelf<'a, R> {
-    runtime: &'a R,
-    path: &'a str,
+pub struct FileShelf<'d, 'p, D: Disk> {
+    disk: &'d mut D,
+    path: &'p str,
     failures: u64,
 }
 
-impl<'a, R> Model for FileShelf<'a, R> {
-    ghost use Rattle.irig_ed.specs.FileShelf.{FileShelfView, file_shelf_view};
-
-    ghost Value = { FileShelfView };
-
-    ghost view = { λ s. file_shelf_view s.path.now s.failures };
-}
-
-impl<'a, R> FileShelf<'a, R> {
+impl<'d, 'p, D: Disk> FileShelf<'d, 'p, D> {
     /// The shelf of the file at a path, which need not be there.
-    pub fn new(runtime: &'a R, path: &'a str) -> FileShelf<'a, R>
-        ensures { result ≡ file_shelf_view path.now 0 }
+    pub fn new(disk: &'d mut D, path: &'p str) -> FileShelf<'d, 'p, D>
+        ensures same_disk { result.disk.ghost_name ≡ disk.entry.ghost_name }
+        ensures disk { result.disk.now ≡ disk.old }
+        ensures path { result.path.now ≡ path.now }
+        ensures none_failed { result.failures ≡ 0 }
     {
         FileShelf {
-            runtime,
+            disk,
             path,
             failures: 0,
         }
     }
-
-    /// Counts a put that failed, and answers how it ended.
-    fn counted(&mut self, outcome: Result<(), ShelfFault>) -> Result<(), ShelfFault>
-        ensures same { result ≡ outcome }
-        ensures path { self.new.path ≡ self.old.path }
-        ensures fault { OnErr result (Fails self.old.failures self.new.failures 1) }
-        ensures count { OnOk result (self.new.failures ≡ self.old.failures) }
-    {
-        if outcome.is_err() {
-            self.failures = self.failures.saturating_add(1);
-        }
-        outcome
-    }
 }
 
-impl<R: Files + Print + AllocGlobal> Shelf for FileShelf<'_, R> {
-    ghost failures = { λ s. s.failures };
+impl<'d, 'p, D: Disk> Shelf for FileShelf<'d, 'p, D> {
+    ghost known = { λ s. shelved (texts_at s.path.now (D.puts s.disk.now)) s.failures
+        (s.disk.ghost_name ∷ s.path.now) };
 
-    ghost texts = { λ s. None };
-
-    fn put(&mut self, bytes: &[u8]) -> Result<(), ShelfFault> {
-        let outcome = put_file(self.runtime, self.path, bytes);
-        self.counted(outcome)
+    fn put(&mut self, text: &[u8]) -> Result<(), ShelfFault> {
+        match self.disk.put(self.path, text) {
+            Ok(()) => Ok(()),
+            Err(fault) => {
+                self.failures = self.failures.saturating_add(1);
+                Err(fault)
+            }
+        }
     }
 }

@@ -1,7 +1,7 @@
 use Rattle.std.proofs.Common.{◌≡◌, ◌<◌, length, take, rules}
 use Rattle.std.specs.Prelude.{IfSome, option_map}
-use Rattle.irig_ed.proofs.TrackLemmas.{whole_read}
-use Rattle.irig_ed.proofs.files.track.read_whole.Goals as goal
+use Rattle.irig_ed.proofs.WholeReads.{whole_read}
+use Rattle.irig_ed.proofs.files.dump_file.read_whole.Goals as goal
 
 pub returns-clause-whole : goal.returns-clause-whole
 returns-clause-whole g c =

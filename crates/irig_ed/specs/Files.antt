@@ -1,0 +1,2 @@
+-- Files.
+pub mod Puts

@@ -1,0 +1,82 @@
+//! From the words of a command line to what is printed and put.
+
+ghost use Rattle.std.specs.Prelude.{◌≡◌, ◌≤◌, ◌^◌, map, option_map, vec_len};
+ghost use Rattle.irig_ed.specs.Ending.{EditsBy, EndsBy, Obeys, ends};
+
+use crate::command_line::chosen::Settings;
+use crate::command_line::command_line::settings;
+use crate::ending::Ending;
+use crate::files::disk::Disk;
+use crate::files::file_shelf::FileShelf;
+use irig_script::{EditFault, Status, edit};
+use std::alloc::Global;
+use std::io::{Read, Write};
+
+/// Edits the track that the words of a command line name, the program's name being the first.
+pub fn obey_words<'a, D: Disk, R: Read, W: Write>(
+    alloc: Global,
+    words: &'a [&'a str],
+    disk: &mut D,
+    script: &mut R,
+    out: &mut W,
+) -> Ending<'a>
+    ensures { EndsBy (map (λ w. w.now) words.entry.now) (D.held disk.old)
+        (ends (W.contents out.old) (D.puts disk.old) (R.remaining script.old))
+        (ends (W.contents out.new) (D.puts disk.new) (R.remaining script.new)) result }
+{
+    match settings(alloc, words) {
+        Ok(chosen) => edit_track(alloc, &chosen, disk, script, out),
+        Err(fault) => Ending::Usage(fault),
+    }
+}
+
+/// Edits the track of the settings.
+fn edit_track<'a, D: Disk, R: Read, W: Write>(
+    alloc: Global,
+    chosen: &Settings<'a>,
+    disk: &mut D,
+    script: &mut R,
+    out: &mut W,
+) -> Ending<'a>
+    ensures { Obeys (D.held disk.old)
+        (ends (W.contents out.old) (D.puts disk.old) (R.remaining script.old))
+        (ends (W.contents out.new) (D.puts disk.new) (R.remaining script.new))
+        chosen.now result }
+{
+    match disk.read(chosen.track) {
+        Ok(source) => {
+            let result = edit_bytes(alloc, chosen, source, disk, script, out);
+            Ending::Edited(chosen.track, result)
+        }
+        Err(fault) => Ending::Unread(chosen.track, fault),
+    }
+}
+
+/// Obeys a script on the bytes of a dump, by the wire, the format and the path of the settings.
+fn edit_bytes<D: Disk, R: Read, W: Write>(
+    alloc: Global,
+    chosen: &Settings<'_>,
+    source: Vec<u8>,
+    disk: &mut D,
+    script: &mut R,
+    out: &mut W,
+) -> Result<Status, EditFault>
+    requires { vec_len source ≤ 2 ^ 28 }
+    ensures { EditsBy chosen.now source.items
+        (ends (W.contents out.old) (D.puts disk.old) (R.remaining script.old))
+        (ends (W.contents out.new) (D.puts disk.new) (R.remaining script.new)) result }
+{
+    let wire = wire_of(chosen);
+    let mut shelf = FileShelf::new(disk, chosen.out);
+    edit(alloc, source, wire, chosen.format, script, out, &mut shelf)
+}
+
+/// The bytes of the wire's name, where one is given.
+fn wire_of<'a>(chosen: &Settings<'a>) -> Option<&'a [u8]>
+    ensures { option_map (λ w. w.now) result ≡ option_map (λ w. w.now) chosen.now.wire }
+{
+    match chosen.wire {
+        Some(wire) => Some(wire.as_bytes()),
+        None => None,
+    }
+}
