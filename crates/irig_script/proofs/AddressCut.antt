@@ -13,7 +13,7 @@ use Rattle.irig_script.specs.declared.script.address.Base.TheVariants.{Number, C
 use Rattle.irig_script.specs.declared.script.cutting.Stop.TheVariants.{Comma, Sign}
 use Rattle.irig_script.specs.declared.script.range.Range.{Range}
 use Rattle.irig_script.specs.declared.script.range.Range.TheVariants.{One, Two}
-use Rattle.irig_script.proofs.WordLemmas.{BeginsAt, Lacks, before_front, cut_begins, cut_whole, onward_back}
+use Rattle.irig_script.proofs.WordLemmas.{BeginsAt, Lacks, before_front, cut_begins, cut_whole, joined, onward_back}
 
 -- the bytes of a base
 abbrev is_base_byte : ℕ → Bool
@@ -42,9 +42,6 @@ sign_in_address : (b : ℕ) → is_sign b ≡ true → is_address_byte b ≡ tru
 sign_in_address b h = grind (arith, nat_tests)
 
 -- what holds of each byte of a text
-joined : (x y : Bool) → x ≡ true → y ≡ true → (x && y) ≡ true
-joined x y h k = rw (h, k) refl
-
 all_weaker : (p q : ℕ → Bool) → ((b : ℕ) → p b ≡ true → q b ≡ true) → (s : List ℕ) → list_all p s ≡ true → list_all q s ≡ true
 all_weaker p q f [] h = refl
 all_weaker p q f (b ∷ s) h = go (p b) refl h (all_weaker p q f s)

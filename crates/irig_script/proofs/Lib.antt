@@ -2,6 +2,11 @@ pub mod WordLemmas
 pub mod Spacing
 pub mod AddressCut
 pub mod RangeCut
+pub mod SameAddress
+pub mod SameCommand
+pub mod OrderParts
+pub mod Orders
+pub mod LineReading
 pub mod NumberLemmas
 pub mod Known
 pub mod Desks
@@ -16,7 +21,5 @@ pub mod Pieces
 pub mod Numbered
 pub mod MarkLines
 pub mod FrameLines
-pub mod SameCommand
-pub mod Orders
 pub mod SameReply
 pub mod SameRun

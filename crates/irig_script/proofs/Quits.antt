@@ -1,5 +1,5 @@
 -- Which lines end a script.
-use Rattle.std.proofs.Common.{◌≡◌, ◌≢◌, ◌&&◌, ◌≤◌, ◌∷◌, ◌++◌, [], ℕ, Bool, true, false, not, List, length, nat_lt, refl, sym, ap, ◌∙◌, subst, arith, inl, inr}
+use Rattle.std.proofs.Common.{◌≡◌, ◌≢◌, ◌≤◌, ◌∷◌, ◌++◌, [], ℕ, Bool, true, false, not, List, length, nat_lt, refl, sym, ap, ◌∙◌, subst, arith, inl, inr}
 use Rattle.std.proofs.lemmas.Bool.Decides.{nat_tests}
 use Rattle.irig_script.specs.Script.Commands.{Asks}
 use Rattle.irig_script.specs.Script.Grammar.{AsksIn, Does, IsOrder, Means}
@@ -12,9 +12,11 @@ use Rattle.irig_script.specs.declared.script.keyword.Keyword.TheVariants as word
 use Rattle.irig_script.specs.declared.script.command.Command.{Command}
 use Rattle.irig_script.specs.declared.script.command.Command.TheVariants as command
 use Rattle.irig_script.proofs.KnownWords.{next_word}
-use Rattle.irig_script.proofs.Orders.{found_words, means_one, means_onward, order_of}
+use Rattle.irig_script.proofs.LineReading.{order_of}
+use Rattle.irig_script.proofs.OrderParts.{found_words}
+use Rattle.irig_script.proofs.Orders.{means_one, means_onward}
 use Rattle.irig_script.proofs.Spacing.{words_onward}
-use Rattle.irig_script.proofs.WordLemmas.{words_split}
+use Rattle.irig_script.proofs.WordLemmas.{both, words_split}
 
 -- no other word asks for the end of a script
 only_quit : (k : Keyword) (range : List ℕ) (args : List (List ℕ)) → Asks k range args command.Quit → k ≡ word.Quit
@@ -69,11 +71,6 @@ quit_ends text h m = go (means_onward text command.Quit m)
         let short : nat_lt 1000 (length text) ≡ false = grind (arith, nat_tests) in
         let there : are_quit (words_of text) ≡ true = ap are_quit (words_onward text) ∙ quit_order (onward Text text) d.0 d.1 d.2 d.3 in
         rw (short, there) refl
-
-both : (x y : Bool) → (x && y) ≡ true → (x ≡ true) × (y ≡ true)
-both true true e = (refl, refl)
-both true false e = absurd (cc)
-both false y e = absurd (cc)
 
 quit_word : (words : List (List ℕ)) → are_quit words ≡ true → (w : List ℕ) × (words ≡ w ∷ []) × (keyword_of w ≡ word.Quit)
 quit_word [] e = absurd (cc)

@@ -1,140 +1,23 @@
 -- A range, a word and arguments ask for one command at most.
-use Rattle.std.proofs.Common.{◌≡◌, ◌==◌, ◌+◌, ◌++◌, ℕ, ℤ, pos, negsuc, Bool, true, false, List, [], ◌∷◌, Option, Some, refl, sym, ap, ap₂, ◌∙◌, subst, arith, if◌then◌else◌}
-use Rattle.std.proofs.lemmas.Bool.Decides.{nat_tests}
-use Rattle.std.specs.List.{list_all}
+use Rattle.std.proofs.Common.{◌≡◌, ◌+◌, ℕ, ℤ, List, [], ◌∷◌, Option, Some, refl, sym, ap, ap₂, ◌∙◌, subst, arith}
 use Rattle.irig_codes.specs.declared.format.Kind.{Kind}
 use Rattle.irig_codes.specs.declared.format.Kind.TheVariants as kind
 use Rattle.irig_codes.specs.declared.width.Element.{Element}
 use Rattle.irig_codes.specs.declared.width.Element.TheVariants as element
 use Rattle.irig_moment.specs.Moment.{MomentView}
 use Rattle.irig_moment.specs.Written.{moment_of}
-use Rattle.irig_track.specs.Shifts.{ahead, back}
-use Rattle.irig_script.specs.Script.Addresses.{IsMark, IsBase, IsOffset, IsAddress, IsPair, IsPlace, IsRange, IsTime, is_here}
 use Rattle.irig_codes.specs.Words.{element_word, kind_word}
+use Rattle.irig_script.specs.Script.Addresses.{IsTime}
 use Rattle.irig_script.specs.Script.Arguments.{AreControls, AreFrames, AreTimes, IsExpression}
 use Rattle.irig_script.specs.Script.Commands.{Asks}
-use Rattle.irig_script.specs.Script.Numbers.{IsControl, IsDistance, IsNumber, IsSigned, first_of, is_digit, size, unsigned}
-use Rattle.irig_script.specs.declared.script.address.Address.{Address}
-use Rattle.irig_script.specs.declared.script.address.Base.{Base}
-use Rattle.irig_script.specs.declared.script.address.Base.TheVariants.{Number, Current, Last, Mark}
+use Rattle.irig_script.specs.Script.Numbers.{IsDistance, IsNumber, first_of, size, unsigned}
 use Rattle.irig_script.specs.declared.script.command.Command.{Command}
 use Rattle.irig_script.specs.declared.script.command.Command.TheVariants as command
 use Rattle.irig_script.specs.declared.script.keyword.Keyword.{Keyword}
 use Rattle.irig_script.specs.declared.script.keyword.Keyword.TheVariants as word
-use Rattle.irig_script.specs.declared.script.range.Range.{Range}
-use Rattle.irig_script.specs.declared.script.range.Range.TheVariants.{One, Two}
 use Rattle.irig_script.specs.declared.script.time.Time.{Time}
 use Rattle.irig_script.specs.declared.script.time.Time.TheVariants as time
-use Rattle.irig_script.proofs.AddressCut.{address_cut, pair_cut, place_uncut}
-
--- numbers
-number_one : (text : List ℕ) (n m : ℕ) → IsNumber text n → IsNumber text m → n ≡ m
-number_one text n m h k = h.value ∙ sym k.value
-
-control_one : (text : List ℕ) (n m : ℕ) → IsControl text n → IsControl text m → n ≡ m
-control_one text n m h k = h.value ∙ sym k.value
-
--- a distance is told by how far it goes on and back
-distance_told : (d e : ℤ) → ahead d ≡ ahead e → back d ≡ back e → d ≡ e
-distance_told (pos n) (pos m) h k = ap pos h
-distance_told (pos n) (negsuc m) h k = absurd (cc)
-distance_told (negsuc n) (pos m) h k = absurd (cc)
-distance_told (negsuc n) (negsuc m) h k = let same : n ≡ m = cc in ap negsuc same
-
-signed_one : (sign : ℕ) (d e : ℤ) → IsSigned sign d → IsSigned sign e → size d ≡ size e → d ≡ e
-signed_one sign d e h k s = go (sign == 45) h k
-  where
-    go : (v : Bool) → (if v then ahead d else back d) ≡ 0 → (if v then ahead e else back e) ≡ 0 → d ≡ e
-    go true p q = distance_told d e (p ∙ sym q) (omega (arith, p, q, s))
-    go false p q = distance_told d e (omega (arith, p, q, s)) (p ∙ sym q)
-
--- a number is no other base
-number_not_here : (text : List ℕ) (n : ℕ) → IsNumber text n → is_here text ≡ true → ⊥
-number_not_here [] n h e = omega (arith, h.some)
-number_not_here (b ∷ []) n h e =
-    let same : b ≡ 46 = grind (arith, nat_tests) in
-    let bad = subst (λ (c : ℕ). list_all is_digit (c ∷ []) ≡ true) same h.digits in
-    cc
-number_not_here (b ∷ c ∷ bs) n h e = cc
-
-number_not_last : (text : List ℕ) (n : ℕ) → IsNumber text n → text ≡ 36 ∷ [] → ⊥
-number_not_last text n h e = let bad = subst (λ (t : List ℕ). list_all is_digit t ≡ true) e h.digits in cc
-
-number_not_mark : (text : List ℕ) (n letter : ℕ) → IsNumber text n → IsMark text letter → ⊥
-number_not_mark text n letter h e = let bad = subst (λ (t : List ℕ). list_all is_digit t ≡ true) e.0 h.digits in cc
-
-here_not_last : (text : List ℕ) → is_here text ≡ true → text ≡ 36 ∷ [] → ⊥
-here_not_last text h e = let bad = subst (λ (t : List ℕ). is_here t ≡ true) e h in cc
-
-here_not_mark : (text : List ℕ) (letter : ℕ) → is_here text ≡ true → IsMark text letter → ⊥
-here_not_mark text letter h e = let bad = subst (λ (t : List ℕ). is_here t ≡ true) e.0 h in cc
-
-last_not_mark : (text : List ℕ) (letter : ℕ) → text ≡ 36 ∷ [] → IsMark text letter → ⊥
-last_not_mark text letter h e = let bad = sym h ∙ e.0 in cc
-
-mark_one : (text : List ℕ) (l m : ℕ) → IsMark text l → IsMark text m → l ≡ m
-mark_one text l m h k = let same = sym h.0 ∙ k.0 in cc
-
-base_one : (text : List ℕ) (a b : Base) → IsBase text a → IsBase text b → a ≡ b
-base_one text (Number n) (Number m) h k = ap Number (number_one text n m h k)
-base_one text (Number n) Current h k = absurd (number_not_here text n h k)
-base_one text (Number n) Last h k = absurd (number_not_last text n h k)
-base_one text (Number n) (Mark l) h k = absurd (number_not_mark text n l h k)
-base_one text Current (Number n) h k = absurd (number_not_here text n k h)
-base_one text Current Current h k = refl
-base_one text Current Last h k = absurd (here_not_last text h k)
-base_one text Current (Mark l) h k = absurd (here_not_mark text l h k)
-base_one text Last (Number n) h k = absurd (number_not_last text n k h)
-base_one text Last Current h k = absurd (here_not_last text k h)
-base_one text Last Last h k = refl
-base_one text Last (Mark l) h k = absurd (last_not_mark text l h k)
-base_one text (Mark l) (Number n) h k = absurd (number_not_mark text n l k h)
-base_one text (Mark l) Current h k = absurd (here_not_mark text l k h)
-base_one text (Mark l) Last h k = absurd (last_not_mark text l k h)
-base_one text (Mark l) (Mark m) h k = ap Mark (mark_one text l m h k)
-
-offset_one : (text : List ℕ) (d e : ℤ) → IsOffset text d → IsOffset text e → d ≡ e
-offset_one [] d e h k = h ∙ sym k
-offset_one (sign ∷ []) d e h k = signed_one sign d e h.1 k.1 (h.2 ∙ sym k.2)
-offset_one (sign ∷ b ∷ bs) d e h k = signed_one sign d e h.1 k.1 (number_one (b ∷ bs) (size d) (size e) h.2 k.2)
-
-address_one : (text : List ℕ) (a b : Address) → IsAddress text a → IsAddress text b → a ≡ b
-address_one text a b h k =
-    let x = address_cut text a h in
-    let y = address_cut text b k in
-    let front : h.front ≡ k.front = sym x.0 ∙ y.0 in
-    let back : h.back ≡ k.back = sym x.1 ∙ y.1 in
-    let base = base_one k.front a.base b.base (subst (λ (t : List ℕ). IsBase t a.base) front h.base) k.base in
-    let offset = offset_one k.back a.offset b.offset (subst (λ (t : List ℕ). IsOffset t a.offset) back h.offset) k.offset in
-    λ i. record { base = base i; offset = offset i }
-
-place_one : (text : List ℕ) (a b : Address) → IsPlace text a → IsPlace text b → a ≡ b
-place_one [] a b h k = h ∙ sym k
-place_one (c ∷ text) a b h k = address_one (c ∷ text) a b h k
-
-pair_one : (first second : List ℕ) (a b c d : Address) → IsPair first second a b → IsPair first second c d → (a ≡ c) × (b ≡ d)
-pair_one [] [] a b c d h k = (h.0 ∙ sym k.0, h.1 ∙ sym k.1)
-pair_one [] (y ∷ second) a b c d h k = absurd (h.0.some refl)
-pair_one (x ∷ first) second a b c d h k = (address_one (x ∷ first) a c h.0 k.0, address_one second b d h.1 k.1)
-
-no_pair : (text first second : List ℕ) (a b c : Address) → IsPlace text a → text ≡ first ++ 44 ∷ second → IsPair first second b c → ⊥
-no_pair text first second a b c h e k =
-    let none : 44 ∷ second ≡ [] = sym (pair_cut text first second b c e k).1 ∙ place_uncut text a h in
-    cc
-
-range_one : (text : List ℕ) (r s : Range) → IsRange text r → IsRange text s → r ≡ s
-range_one text (One a) (One b) h k = ap One (place_one text a b h k)
-range_one text (One a) (Two b c) h k = absurd (no_pair text k.0 k.1 a b c h k.2 k.3)
-range_one text (Two b c) (One a) h k = absurd (no_pair text h.0 h.1 a b c k h.2 h.3)
-range_one text (Two a b) (Two c d) h k =
-    let x = pair_cut text h.0 h.1 a b h.2 h.3 in
-    let y = pair_cut text k.0 k.1 c d k.2 k.3 in
-    let first : h.0 ≡ k.0 = sym x.0 ∙ y.0 in
-    let after : 44 ∷ h.1 ≡ 44 ∷ k.1 = sym x.1 ∙ y.1 in
-    let second : h.1 ≡ k.1 = cc in
-    let moved : IsPair k.0 k.1 a b = subst (λ (t : List ℕ). IsPair k.0 t a b) second (subst (λ (t : List ℕ). IsPair t h.1 a b) first h.3) in
-    let both = pair_one k.0 k.1 a b c d moved k.3 in
-    ap₂ Two both.0 both.1
+use Rattle.irig_script.proofs.SameAddress.{address_one, control_one, mark_one, number_not_mark, number_one, place_one, range_one, signed_one}
 
 -- times, distances and the other arguments
 time_one : (text : List ℕ) (s t : Time) → IsTime text s → IsTime text t → s ≡ t

@@ -1,21 +1,13 @@
 -- White space, words, and the words that a text is put together of.
-use Rattle.std.proofs.Common.{◌≡◌, ◌≢◌, ℕ, ◌++◌, Bool, true, false, not, ◌&&◌, List, [], ◌∷◌, refl, sym, ap, ap₂, ◌∙◌, subst, append_assoc}
+use Rattle.std.proofs.Common.{◌≡◌, ◌≢◌, ℕ, ◌++◌, Bool, true, false, not, List, [], ◌∷◌, refl, sym, ap, ap₂, ◌∙◌, subst, append_assoc}
 use Rattle.std.proofs.lemmas.List.{append-nil}
 use Rattle.std.specs.List.{list_all}
 use Rattle.irig_script.specs.Script.Grammar.{AreArguments, AreWords, IsBlank, IsWord}
 use Rattle.irig_script.specs.Script.Words.{before, is_space, onward, words_of}
 use Rattle.irig_script.specs.declared.script.cutting.Stop.TheVariants.{Blank, Text}
-use Rattle.irig_script.proofs.WordLemmas.{BeginsAt, Lacks, before_at, before_front, before_on, cut_whole, lacks_first, onward_at, onward_back, onward_on, words_begun, words_blank}
+use Rattle.irig_script.proofs.WordLemmas.{BeginsAt, Lacks, before_at, before_front, before_on, both, cut_whole, joined, lacks_first, onward_at, onward_back, onward_on, words_begun, words_blank}
 
 -- a byte of white space more
-both : (x y : Bool) → (x && y) ≡ true → (x ≡ true) × (y ≡ true)
-both true true e = (refl, refl)
-both true false e = absurd (cc)
-both false y e = absurd (cc)
-
-joined : (x y : Bool) → x ≡ true → y ≡ true → (x && y) ≡ true
-joined x y h k = rw (h, k) refl
-
 blank_first : (b : ℕ) (s : List ℕ) → IsBlank (b ∷ s) → (is_space b ≡ true) × IsBlank s
 blank_first b s h = both (is_space b) (list_all is_space s) h
 

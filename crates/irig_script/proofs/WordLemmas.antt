@@ -7,6 +7,15 @@ use Rattle.irig_script.specs.Script.Words.{is_space, is_stop, before, onward, be
 use Rattle.irig_script.specs.declared.script.cutting.Stop.{Stop}
 use Rattle.irig_script.specs.declared.script.cutting.Stop.TheVariants.{Blank, Text}
 
+-- two tests in one
+pub both : (x y : Bool) → (x && y) ≡ true → (x ≡ true) × (y ≡ true)
+both true true e = (refl, refl)
+both true false e = absurd (cc)
+both false y e = absurd (cc)
+
+pub joined : (x y : Bool) → x ≡ true → y ≡ true → (x && y) ≡ true
+joined x y h k = rw (h, k) refl
+
 pub opened : (s : List ℕ) (i : ℕ) → i < length s → drop i s ≡ get_or s i 0 ∷ drop (i + 1) s
 opened s i h = rw (add-one, drop-cons s i 0) refl
 
