@@ -10,19 +10,19 @@ use Rattle.irig_ed.specs.Ending.{EditsBy, ends}
 use Rattle.irig_ed.specs.Files.Puts.{Put, texts_at}
 use Rattle.irig_ed.specs.declared.command_line.chosen.Settings.{Settings}
 
--- places that are the same name the same path
+-- labels that are the same name the same path
 pub same_path : (x y : ℕ) (xs ys : List ℕ) → x ∷ xs ≡ y ∷ ys → xs ≡ ys
 same_path x y xs ys e = cc
 
 -- the shelf stood at the path of the settings, from the start to the end
-pub edits_by : (chosen : Settings) (source : List ℕ) (wire out out_new script left : Option (List ℕ)) (path path_new place place_new : List ℕ) (puts mid new : Option (List Put)) (failures failures_new : ℕ) (result : Result Status EditFault)
-    → wire ≡ option_map (λ w. w.now) chosen.wire → place_new ≡ place → path ≡ chosen.out.now → path_new ≡ chosen.out.now → mid ≡ puts → failures ≡ 0
-    → EditsAs wire chosen.format source script left (desk out (shelved (texts_at path mid) failures place)) (desk out_new (shelved (texts_at path_new new) failures_new place_new)) result
+pub edits_by : (chosen : Settings) (source : List ℕ) (wire out out_new script left : Option (List ℕ)) (path path_new label label_new : List ℕ) (puts mid new : Option (List Put)) (failures failures_new : ℕ) (result : Result Status EditFault)
+    → wire ≡ option_map (λ w. w.now) chosen.wire → label_new ≡ label → path ≡ chosen.out.now → path_new ≡ chosen.out.now → mid ≡ puts → failures ≡ 0
+    → EditsAs wire chosen.format source script left (desk out (shelved (texts_at path mid) failures label)) (desk out_new (shelved (texts_at path_new new) failures_new label_new)) result
     → EditsBy chosen source (ends out puts script) (ends out_new new left) result
-edits_by chosen source wire out out_new script left path path_new place place_new puts mid new failures failures_new result w e p q m z h = record {
-  place = place;
+edits_by chosen source wire out out_new script left path path_new label label_new puts mid new failures failures_new result w e p q m z h = record {
+  label = label;
   failures = failures_new;
-  edits = subst (λ (v : Option (List ℕ)). EditsAs v chosen.format source script left (desk out (shelved (texts_at chosen.out.now puts) 0 place)) (desk out_new (shelved (texts_at chosen.out.now new) failures_new place)) result) w
-      (subst (λ (d : Desk). EditsAs wire chosen.format source script left d (desk out_new (shelved (texts_at chosen.out.now new) failures_new place)) result) (λ j. desk out (shelved (texts_at (p j) (m j)) (z j) place))
-      (subst (λ (d : Desk). EditsAs wire chosen.format source script left (desk out (shelved (texts_at path mid) failures place)) d result) (λ j. desk out_new (shelved (texts_at (q j) new) failures_new (e j))) h));
+  edits = subst (λ (v : Option (List ℕ)). EditsAs v chosen.format source script left (desk out (shelved (texts_at chosen.out.now puts) 0 label)) (desk out_new (shelved (texts_at chosen.out.now new) failures_new label)) result) w
+      (subst (λ (d : Desk). EditsAs wire chosen.format source script left d (desk out_new (shelved (texts_at chosen.out.now new) failures_new label)) result) (λ j. desk out (shelved (texts_at (p j) (m j)) (z j) label))
+      (subst (λ (d : Desk). EditsAs wire chosen.format source script left (desk out (shelved (texts_at path mid) failures label)) d result) (λ j. desk out_new (shelved (texts_at (q j) new) failures_new (e j))) h));
 }

@@ -22,6 +22,7 @@ pub record Ends : Type 0 where
   pub puts : Option (List Put)
   pub script : Option (List ℕ)
 
+-- the ends with these
 abbrev pub ends : Option (List ℕ) → Option (List Put) → Option (List ℕ) → Ends
 ends out puts script = record { out = out; puts = puts; script = script }
 
@@ -29,12 +30,12 @@ ends out puts script = record { out = out; puts = puts; script = script }
 -- their path to write
 pub record EditsBy (chosen : Settings) (source : List ℕ) (old new : Ends)
     (result : Result Status EditFault) : Type 0 where
-  pub place : List ℕ
+  pub label : List ℕ
   pub failures : ℕ
   pub edits : EditsAs (option_map (λ w. w.now) chosen.wire) chosen.format source
       old.script new.script
-      (desk old.out (shelved (texts_at chosen.out.now old.puts) 0 place))
-      (desk new.out (shelved (texts_at chosen.out.now new.puts) failures place)) result
+      (desk old.out (shelved (texts_at chosen.out.now old.puts) 0 label))
+      (desk new.out (shelved (texts_at chosen.out.now new.puts) failures label)) result
 
 -- the dump of the settings was edited; or it was not read, and nothing else was done
 abbrev pub Obeys : (List ℕ → Option (List ℕ)) → Ends → Ends → Settings → Ending → Type 0

@@ -14,7 +14,7 @@ use Rattle.irig_script.specs.Print.Printed.{Answer, printed}
 use Rattle.irig_script.specs.Obey.Desk.{Desk, desk, Tells, status_after}
 use Rattle.irig_script.specs.Shelf.Shelved.{Shelved}
 use Rattle.irig_script.specs.Obey.Run.{Runs, Ran, Broke, Goes, IsPlain, IsObeyed, unlines}
-use Rattle.irig_script.specs.Obey.Going.{Holds, Obeyed, BrokeIn}
+use Rattle.irig_script.specs.Obey.Progress.{Holds, Obeyed, BrokeIn}
 use Rattle.irig_script.specs.declared.obey.status.Status.{Status}
 use Rattle.irig_script.specs.declared.script.line.Line.{Line}
 use Rattle.irig_script.proofs.Desks.{status_after-append, tells_none, tells-tells, tells-answers}

@@ -1,5 +1,5 @@
 -- Which lines end a script.
-use Rattle.std.proofs.Common.{◌≡◌, ◌≢◌, ◌≤◌, ◌∷◌, ◌++◌, [], ℕ, Bool, true, false, not, List, length, nat_lt, refl, sym, ap, ◌∙◌, subst, arith, inl, inr}
+use Rattle.std.proofs.Common.{◌≡◌, ◌≢◌, ◌<◌, ◌≤◌, ◌∷◌, ◌++◌, [], ℕ, Bool, true, false, not, List, length, nat_lt, refl, sym, ap, ◌∙◌, subst, arith, inl, inr}
 use Rattle.std.proofs.lemmas.Bool.Decides.{nat_tests}
 use Rattle.irig_script.specs.Script.Commands.{Asks}
 use Rattle.irig_script.specs.Script.Grammar.{AsksIn, Does, IsOrder, Means}
@@ -102,3 +102,9 @@ bad_goes_on text h = go (is_quit text) refl
     go : (v : Bool) → is_quit text ≡ v → is_quit text ≡ false
     go true e = absurd (h command.Quit (quit_means text e))
     go false e = e
+
+-- nor does a line that is too long
+pub long_goes_on : (text : List ℕ) → 1000 < length text → is_quit text ≡ false
+long_goes_on text h =
+    let long : nat_lt 1000 (length text) ≡ true = grind (arith, nat_tests) in
+    rw long refl

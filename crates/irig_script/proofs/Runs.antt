@@ -9,7 +9,7 @@ use Rattle.irig_script.specs.Script.Lines.{until_quit, script_lines, lines_of}
 use Rattle.irig_script.specs.Print.Printed.{Answer, printed}
 use Rattle.irig_script.specs.Obey.Desk.{Desk, Tells, status_after}
 use Rattle.irig_script.specs.Obey.Run.{Runs, Ran, Broke, Stopped, unlines}
-use Rattle.irig_script.specs.Obey.Going.{Holds, Obeyed, BrokeIn}
+use Rattle.irig_script.specs.Obey.Progress.{Holds, Obeyed, BrokeIn}
 use Rattle.irig_script.specs.declared.obey.status.Status.{Status}
 use Rattle.irig_script.specs.declared.script.line.Line.{Line}
 use Rattle.irig_script.proofs.Desks.{tells-tells, tells-answers, status_after-append}

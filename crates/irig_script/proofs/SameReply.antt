@@ -15,9 +15,10 @@ use Rattle.irig_edit.specs.State.{recording_of}
 use Rattle.irig_edit.specs.declared.refusal.Refusal.{Refusal}
 use Rattle.irig_edit.specs.declared.refusal.Refusal.TheVariants as refusal
 use Rattle.irig_script.specs.Obey.Machine.{Machine}
-use Rattle.irig_script.specs.Obey.Obeying.{Calls, Formats, Lists, Obeys, Shows, Writes, format, reply_to}
+use Rattle.irig_script.specs.Obey.Obeying.{Obeys}
+use Rattle.irig_script.specs.Obey.Replies.{Calls, Formats, Lists, Shows, Writes, format, reply_to}
 use Rattle.irig_script.specs.Obey.OneRun.{tells_failed_put, wants_memory}
-use Rattle.irig_script.specs.Obey.Places.{base_of, counted, first_of, join_last_of, last_of, place_of, pulse_at, time_of}
+use Rattle.irig_script.specs.Obey.PulseNumbers.{base_of, counted, first_of, join_last_of, last_of, number_at, pulse_at, time_of}
 use Rattle.irig_script.specs.declared.script.address.Address.{Address}
 use Rattle.irig_script.specs.declared.script.address.Base.{Base}
 use Rattle.irig_script.specs.declared.script.address.Base.TheVariants.{Number, Current, Last, Mark}
@@ -44,20 +45,20 @@ base_same (Mark letter) o p e = ap (λ k. base_of (Mark letter) (bare k)) e
 pulse_same : (by : ℕ) (a : Address) (o p : Machine) → machine_in o ≡ machine_in p → pulse_at by a o ≡ pulse_at by a p
 pulse_same by a o p e = ap₂ (λ b n. counted b by a.offset n) (base_same a.base o p e) (ap (λ k. length k.present.state.pulses) e)
 
-place_same : (a : Address) (o p : Machine) → machine_in o ≡ machine_in p → place_of a o ≡ place_of a p
-place_same a o p e = pulse_same 0 a o p e
+number_same : (a : Address) (o p : Machine) → machine_in o ≡ machine_in p → number_at a o ≡ number_at a p
+number_same a o p e = pulse_same 0 a o p e
 
 first_same : (r : Range) (o p : Machine) → machine_in o ≡ machine_in p → first_of r o ≡ first_of r p
-first_same (One a) o p e = place_same a o p e
-first_same (Two a b) o p e = place_same a o p e
+first_same (One a) o p e = number_same a o p e
+first_same (Two a b) o p e = number_same a o p e
 
 last_same : (r : Range) (o p : Machine) → machine_in o ≡ machine_in p → last_of r o ≡ last_of r p
-last_same (One a) o p e = place_same a o p e
-last_same (Two a b) o p e = place_same b o p e
+last_same (One a) o p e = number_same a o p e
+last_same (Two a b) o p e = number_same b o p e
 
 join_last_same : (r : Range) (o p : Machine) → machine_in o ≡ machine_in p → join_last_of r o ≡ join_last_of r p
 join_last_same (One a) o p e = pulse_same 1 a o p e
-join_last_same (Two a b) o p e = place_same b o p e
+join_last_same (Two a b) o p e = number_same b o p e
 
 time_same : (t : Time) (o p : Machine) → machine_in o ≡ machine_in p → time_of t o ≡ time_of t p
 time_same (time.At t) o p e = refl
@@ -211,7 +212,7 @@ module _ (outcome : OneOutcome) where
   pub obeys_one : (c : Command) (o p : Machine) → machine_in o ≡ machine_in p → (r s : Reply) (a b : Machine) → Obeys c o r a → Obeys c p s b
       → wants_memory r ≡ wants_memory s → tells_failed_put r ≡ tells_failed_put s → (r ≡ s) × (machine_in a ≡ machine_in b)
   obeys_one command.Nothing o p e r s a b h k w f = (h.0 ∙ sym k.0, stays o p a b e h.1 k.1)
-  obeys_one (command.Show x) o p e r s a b h k w f = shows_one (place_of x o) (place_of x p) (place_same x o p e) o p e r s a b h k w
+  obeys_one (command.Show x) o p e r s a b h k w f = shows_one (number_at x o) (number_at x p) (number_same x o p e) o p e r s a b h k w
   obeys_one (command.List x) o p e r s a b h k w f =
       (lists_one _ _ _ _ (first_same x o p e) (last_same x o p e) o p e r s h.0 k.0, stays o p a b e h.1 k.1)
   obeys_one (command.Delete x) o p e r s a b h k w f =
@@ -221,12 +222,12 @@ module _ (outcome : OneOutcome) where
   obeys_one (command.Join x) o p e r s a b h k w f =
       makes_one _ _ (ap₂ Edit.Join (first_same x o p e) (join_last_same x o p e)) o p e r s a b h k w
   obeys_one (command.Split x t u) o p e r s a b h k w f =
-      let place = place_same x o p e in
+      let place = number_same x o p e in
       let from = time_same t o p e in
       let to = time_same u o p e in
       makes_one _ _ (λ i. Edit.Split (place i) (from i) (to i)) o p e r s a b h k w
   obeys_one (command.Force x g) o p e r s a b h k w f =
-      makes_one _ _ (ap (λ i. Edit.Force i g) (place_same x o p e)) o p e r s a b h k w
+      makes_one _ _ (ap (λ i. Edit.Force i g) (number_same x o p e)) o p e r s a b h k w
   obeys_one (command.Insert t u) o p e r s a b h k w f =
       makes_one _ _ (ap₂ Edit.Insert (time_same t o p e) (time_same u o p e)) o p e r s a b h k w
   obeys_one (command.Invert t u) o p e r s a b h k w f =

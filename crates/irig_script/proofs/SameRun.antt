@@ -6,7 +6,7 @@ use Rattle.irig_vcd.specs.FileText.{file_text}
 use Rattle.irig_edit.specs.Runs.{OneOutcome}
 use Rattle.irig_edit.specs.Session.{machine_in}
 use Rattle.irig_edit.specs.State.{recording_of}
-use Rattle.irig_script.specs.Obey.Answer.{Answered, Step, texts_put}
+use Rattle.irig_script.specs.Obey.Answer.{Answered, IsBad, IsObeyedAs, IsTooLong, Step, texts_put}
 use Rattle.irig_script.specs.Obey.Desk.{status_after}
 use Rattle.irig_script.specs.Shelf.Shelved.{GrowsBy}
 use Rattle.irig_script.specs.Obey.Machine.{Machine}
@@ -35,27 +35,11 @@ put_same : (r : Reply) (a b : Machine) → machine_in a ≡ machine_in b → tex
 put_same (told.Written count) a b e = ap (λ k. file_text (recording_of k.present.state) ∷ []) e
 put_same _ a b e = refl
 
--- a line is too long, or none of the language, or it asks for a command
-abbrev IsLong : Machine → List ℕ → Reply → Machine → Type 0
-IsLong old line r new = (1000 < length line) × (r ≡ told.LineTooLong) × (new ≡ old)
-
-abbrev IsBad : Machine → List ℕ → Reply → Machine → Type 0
-IsBad old line r new = (length line ≤ 1000) × ((c : Command) → Means c line → ⊥) × (r ≡ told.BadLine) × (new ≡ old)
-
-abbrev IsAsked : Machine → List ℕ → Reply → Machine → Type 0
-IsAsked old line r new = (length line ≤ 1000) × ((c : Command) × Means c line × Obeys c old r new)
-
-step_told : (old : Machine) (line : List ℕ) (r : Reply) (new : Machine) → Step old line r new
-    → IsLong old line r new ⊎ (IsBad old line r new ⊎ IsAsked old line r new)
-step_told old line told.LineTooLong new h = inl (h.0, refl, h.1)
-step_told old line told.BadLine new h = inr (inl (h.0, h.1, refl, h.2))
-step_told old line _ new h = inr (inr h)
-
 stays : (o p a b : Machine) → machine_in o ≡ machine_in p → a ≡ o → b ≡ p → machine_in a ≡ machine_in b
 stays o p a b e h k = ap machine_in h ∙ e ∙ sym (ap machine_in k)
 
 module _ (outcome : OneOutcome) where
-  asked_one : (o p : Machine) (line : List ℕ) → machine_in o ≡ machine_in p → (r s : Reply) (a b : Machine) → IsAsked o line r a → IsAsked p line s b
+  asked_one : (o p : Machine) (line : List ℕ) → machine_in o ≡ machine_in p → (r s : Reply) (a b : Machine) → IsObeyedAs o line r a → IsObeyedAs p line s b
       → wants_memory r ≡ wants_memory s → tells_failed_put r ≡ tells_failed_put s → (r ≡ s) × (machine_in a ≡ machine_in b)
   asked_one o p line e r s a b h k w f =
       let same : h.1.0 ≡ k.1.0 = means_one line h.1.0 k.1.0 h.1.1 k.1.1 in
@@ -65,9 +49,9 @@ module _ (outcome : OneOutcome) where
   -- a line has one outcome
   line_one : (o p : Machine) (line : List ℕ) → machine_in o ≡ machine_in p → (r s : Reply) (a b : Machine) → Step o line r a → Step p line s b
       → wants_memory r ≡ wants_memory s → tells_failed_put r ≡ tells_failed_put s → (r ≡ s) × (machine_in a ≡ machine_in b)
-  line_one o p line e r s a b h k w f = go (step_told o line r a h) (step_told p line s b k)
+  line_one o p line e r s a b h k w f = go h k
     where
-      go : IsLong o line r a ⊎ (IsBad o line r a ⊎ IsAsked o line r a) → IsLong p line s b ⊎ (IsBad p line s b ⊎ IsAsked p line s b)
+      go : IsTooLong o line r a ⊎ (IsBad o line r a ⊎ IsObeyedAs o line r a) → IsTooLong p line s b ⊎ (IsBad p line s b ⊎ IsObeyedAs p line s b)
           → (r ≡ s) × (machine_in a ≡ machine_in b)
       go (inl x) (inl y) = (x.1 ∙ sym y.1, stays o p a b e x.2 y.2)
       go (inl x) (inr (inl y)) = absurd (omega (arith, x.0, y.0))

@@ -1,11 +1,12 @@
 -- What is done for the lines of a script.
 pub mod Machine
-pub mod Places
+pub mod PulseNumbers
+pub mod Replies
 pub mod Obeying
 pub mod Answer
 pub mod Desk
 pub mod Run
 pub mod OneRun
 pub mod Ending
-pub mod Going
+pub mod Progress
 pub mod Editing

@@ -4,5 +4,5 @@ pub mod calls;
 pub mod editing;
 pub mod engine;
 pub mod obeying;
-pub mod places;
+pub mod pulse_numbers;
 pub mod status;

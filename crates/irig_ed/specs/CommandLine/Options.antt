@@ -12,10 +12,11 @@ abbrev pub TakesJust : List Text → ValueParser → Type 0
 TakesJust texts (Names names) = map (λ n. n.now) names.now ≡ texts
 TakesJust texts _ = ⊥
 
--- the kinds of time code, and the numbers of expressions
+-- the kinds of time code
 abbrev pub letters : List Text
 letters = map kind_word kinds
 
+-- the numbers of expressions
 abbrev pub digits : List Text
 digits =
     codes "0" ∷ codes "1" ∷ codes "2" ∷ codes "3" ∷ codes "4" ∷ codes "5" ∷ codes "6"
@@ -55,9 +56,11 @@ pub record HasChoices (with_choices : Rule → Rule → App) (app : App) : Type 
   pub is_digit : IsChoice (codes "expression") digits expression
   pub shape : app ≡ with_choices format expression
 
+-- it says how the track is read
 abbrev pub IsReading : App → Type 0
 IsReading app = HasChoices reading_with app
 
+-- it is the command line of the program
 abbrev pub IsCommand : App → Type 0
 IsCommand app = HasChoices command_with app
 

@@ -20,10 +20,11 @@ kind_or_b text = unwrap_or (kind_named text) kind.B
 abbrev pub digit_named : Text → ℕ
 digit_named text = slice_index text 0 - 48
 
--- the kind and the expression that matches ask for: B and 2 where none is given
+-- the kind that matches ask for: B where none is given
 abbrev pub kind_of : Found → Kind
 kind_of f = kind_or_b (unwrap_or (first_value f (codes "format")) (codes "B"))
 
+-- the expression that matches ask for: 2 where none is given
 abbrev pub expression_of : Found → ℕ
 expression_of f = digit_named (unwrap_or (first_value f (codes "expression")) (codes "2"))
 

@@ -1,6 +1,6 @@
 //! The command line, read by `clap`.
 
-ghost use Rattle.std.specs.Prelude.{◌≡◌, IfOk, None, false, map, codes};
+ghost use Rattle.std.specs.Prelude.{◌≡◌, IfOk, None, false, map};
 ghost use Rattle.clap.specs.Words.{app_of, found_of, rule_of};
 ghost use Rattle.irig_ed.specs.CommandLine.Options.{IsCommand, IsReading, IsChoice, IsParsed, option, track};
 ghost use Rattle.irig_ed.specs.Statuses.{IsMistake};

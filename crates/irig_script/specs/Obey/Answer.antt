@@ -1,5 +1,5 @@
 -- What the session answers to a line of a script. This project's own.
-use Rattle.std.specs.Prelude.{◌≡◌, ◌<◌, ◌≤◌, ℕ, List, [], ◌∷◌, length}
+use Rattle.std.specs.Prelude.{◌≡◌, ◌<◌, ◌≤◌, ◌⊎◌, ℕ, List, [], ◌∷◌, length}
 use Rattle.irig_vcd.specs.FileText.{file_text}
 use Rattle.irig_edit.specs.State.{recording_of}
 use Rattle.irig_script.specs.Obey.Machine.{Machine}
@@ -10,15 +10,26 @@ use Rattle.irig_script.specs.declared.script.command.Command.{Command}
 use Rattle.irig_script.specs.declared.print.reply.Reply.{Reply}
 use Rattle.irig_script.specs.declared.print.reply.Reply.TheVariants.{Written, BadLine, LineTooLong}
 
--- the session may give this reply to this line: that it is too long, before that it is none of the
--- language, before all that a command can meet
-abbrev pub Step : Machine → List ℕ → Reply → Machine → Type 0
-Step old line LineTooLong new = (1000 < length line) × (new ≡ old)
-Step old line BadLine new =
-    (length line ≤ 1000) × ((command : Command) → Means command line → ⊥) × (new ≡ old)
-Step old line reply new =
+-- the line is too long, which is told before anything else of it
+abbrev pub IsTooLong : Machine → List ℕ → Reply → Machine → Type 0
+IsTooLong old line reply new = (1000 < length line) × (reply ≡ LineTooLong) × (new ≡ old)
+
+-- the line is none of the language
+abbrev pub IsBad : Machine → List ℕ → Reply → Machine → Type 0
+IsBad old line reply new =
+    (length line ≤ 1000) × ((command : Command) → Means command line → ⊥)
+    × (reply ≡ BadLine) × (new ≡ old)
+
+-- the line means a command, to which the session may give this reply
+abbrev pub IsObeyedAs : Machine → List ℕ → Reply → Machine → Type 0
+IsObeyedAs old line reply new =
     (length line ≤ 1000)
     × ((command : Command) × Means command line × Obeys command old reply new)
+
+-- the session may give this reply to this line
+abbrev pub Step : Machine → List ℕ → Reply → Machine → Type 0
+Step old line reply new =
+    IsTooLong old line reply new ⊎ (IsBad old line reply new ⊎ IsObeyedAs old line reply new)
 
 -- the session may give this answer to this line: it prints what its reply does as all stands then
 abbrev pub Answered : Machine → List ℕ → Answer → Machine → Type 0

@@ -46,6 +46,7 @@ pub record Desk : Type 0 where
   pub out : Option (List ℕ)
   pub shelf : Shelved
 
+-- the desk with these
 abbrev pub desk : Option (List ℕ) → Shelved → Desk
 desk out shelf = record { out = out; shelf = shelf }
 

@@ -44,10 +44,11 @@ pub record Broke (from to : Desk) (old new : Machine) (script : List ℕ) : Type
   pub told : Tells from to (printed answers ++ front) (answers ++ last ∷ []) texts
   pub runs : Runs old lines (answers ++ last ∷ []) texts new
 
--- a line that is obeyed has no newline in it, and does not end the script
+-- the text has no newline in it
 abbrev pub IsPlain : List ℕ → Type 0
 IsPlain text = list_all (λ b. not (b == 10)) text ≡ true
 
+-- the line has no newline in it, and does not end the script
 abbrev pub IsObeyed : List ℕ → Type 0
 IsObeyed line = IsPlain line × (is_quit line ≡ false)
 

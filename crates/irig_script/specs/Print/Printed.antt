@@ -58,5 +58,6 @@ pub record Answer : Type 0 where
 abbrev pub answer_with : Machine → Reply → Answer
 answer_with m reply = record { reply = reply; text = reply_text m reply }
 
+-- what some answers print, one after another
 abbrev pub printed : List Answer → List ℕ
 printed answers = flat_map (λ answer. answer.text) answers

@@ -11,18 +11,20 @@ GrowsBy (Some xs) (Some ys) more = ys ≡ xs ++ more
 abbrev pub Fails : ℕ → ℕ → ℕ → Type 0
 Fails old new count = min (old + count) (2 ^ 64 - 1) ≤ new
 
--- the texts put, where the shelf tells them, how often a put failed, and what tells its place
+-- the texts put, where the shelf tells them, how often a put failed, and what tells the shelf from
+-- others
 pub record Shelved : Type 0 where
   pub texts : Option (List (List ℕ))
   pub failures : ℕ
-  pub place : List ℕ
+  pub label : List ℕ
 
+-- the shelf with these
 abbrev pub shelved : Option (List (List ℕ)) → ℕ → List ℕ → Shelved
-shelved texts failures place = record { texts = texts; failures = failures; place = place }
+shelved texts failures label = record { texts = texts; failures = failures; label = label }
 
--- just these texts were put, so many puts failed, and the shelf stands where it stood
+-- just these texts were put, so many puts failed, and the shelf is still that one
 pub record Puts (old new : Shelved) (texts : List (List ℕ)) (count : ℕ) : Type 0 where
   pub put : GrowsBy old.texts new.texts texts
   pub failed : Fails old.failures new.failures count
   pub quiet : count ≡ 0 → new.failures ≡ old.failures
-  pub place : new.place ≡ old.place
+  pub label : new.label ≡ old.label

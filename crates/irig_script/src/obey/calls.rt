@@ -3,10 +3,10 @@
 ghost use Rattle.std.specs.Prelude.{◌≡◌, ◌-◌, Some, None};
 ghost use Rattle.irig_codes.specs.Format.{is_permitted};
 ghost use Rattle.irig_edit.specs.Calls.{Call, Edit};
-ghost use Rattle.irig_script.specs.Obey.Obeying.{Calls, Formats, Lists, Makes, Shows, format, reply_to};
-ghost use Rattle.irig_script.specs.Obey.Places.{place_of, first_of, last_of, join_last_of, time_of};
+ghost use Rattle.irig_script.specs.Obey.Replies.{Calls, Formats, Lists, Makes, Shows, format, reply_to};
+ghost use Rattle.irig_script.specs.Obey.PulseNumbers.{number_at, first_of, last_of, join_last_of, time_of};
 
-use crate::obey::places::{ends, join_ends, place, time};
+use crate::obey::pulse_numbers::{ends, join_ends, number_at, time};
 use crate::print::reply::Reply;
 use crate::script::address::Address;
 use crate::script::letter::Letter;
@@ -28,11 +28,11 @@ fn edited(outcome: Result<(), Refusal>) -> Reply
 
 /// Puts the cursor at a pulse, and lists it.
 pub fn show(session: &mut Session, address: Address) -> Reply
-    ensures { Shows (place_of address session.old) session.old result session.new }
+    ensures { Shows (number_at address session.old) session.old result session.new }
 {
-    let place = place(session, &address);
-    match session.go(place) {
-        Ok(()) => Reply::Listed(place.saturating_sub(1), 1),
+    let number = number_at(session, &address);
+    match session.go(number) {
+        Ok(()) => Reply::Listed(number.saturating_sub(1), 1),
         Err(why) => Reply::Refused(why),
     }
 }
@@ -78,20 +78,20 @@ pub fn join(session: &mut Session, range: Range) -> Reply
 
 /// Makes the level low inside of a pulse.
 pub fn split(session: &mut Session, address: Address, from: Time, to: Time) -> Reply
-    ensures { Makes (Edit.Split (place_of address session.old) (time_of from session.old)
+    ensures { Makes (Edit.Split (number_at address session.old) (time_of from session.old)
         (time_of to session.old)) session.old result session.new }
 {
-    let i = place(session, &address);
+    let i = number_at(session, &address);
     let (a, b) = (time(session, &from), time(session, &to));
     edited(session.split(i, a, b))
 }
 
 /// Gives a pulse the width of an element.
 pub fn force(session: &mut Session, address: Address, element: Element) -> Reply
-    ensures { Makes (Edit.Force (place_of address session.old) element)
+    ensures { Makes (Edit.Force (number_at address session.old) element)
         session.old result session.new }
 {
-    let i = place(session, &address);
+    let i = number_at(session, &address);
     edited(session.force(i, element))
 }
 

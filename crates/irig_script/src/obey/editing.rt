@@ -41,7 +41,7 @@ pub fn edit<R: Read, W: Write, S: Shelf>(
         (R.remaining script.old) (R.remaining script.new)
         (desk (W.contents out.old) (S.known shelf.old))
         (desk (W.contents out.new) (S.known shelf.new)) result }
-    ensures place { (S.known shelf.new).place ≡ (S.known shelf.old).place }
+    ensures label { (S.known shelf.new).label ≡ (S.known shelf.old).label }
 {
     let recording = match recorded(alloc, source, wire) {
         Ok(recording) => recording,

@@ -2,12 +2,11 @@
 
 ghost use Rattle.std.specs.Prelude.{◌≡◌, ◌++◌, ◌∷◌, [], ℕ, List, IfOk, OnOk, OnErr};
 ghost use Rattle.std.specs.Io.KnownBytes.{Appends};
-ghost use Rattle.irig_script.specs.Script.Lines.{is_quit};
 ghost use Rattle.irig_script.specs.Print.Printed.{answer_with, reply_text};
 ghost use Rattle.irig_script.specs.Obey.Desk.{desk, status_after};
 ghost use Rattle.irig_script.specs.Obey.Ending.{EndsAs};
 ghost use Rattle.irig_script.specs.Obey.Run.{Ran, Broke};
-ghost use Rattle.irig_script.specs.Obey.Going.{BrokeIn, Holds, Obeyed};
+ghost use Rattle.irig_script.specs.Obey.Progress.{BrokeIn, Holds, Obeyed};
 ghost use Rattle.irig_script.specs.Print.Front.{AppendsFront};
 
 use crate::obey::obeying::obey_line;
@@ -33,7 +32,7 @@ pub fn run<R: Read, W: Write, S: Shelf>(
     ensures ends { EndsAs (R.remaining script.old) (R.remaining script.new)
         (desk (W.contents out.old) (S.known shelf.old))
         (desk (W.contents out.new) (S.known shelf.new)) session.old session.new result }
-    ensures place { (S.known shelf.new).place ≡ (S.known shelf.old).place }
+    ensures label { (S.known shelf.new).label ≡ (S.known shelf.old).label }
 {
     let mut line = Line::new();
     let mut buffer = [0; 4096];

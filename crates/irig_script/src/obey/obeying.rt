@@ -1,11 +1,12 @@
 //! What is replied to a line of a script, and done for it.
 
-ghost use Rattle.std.specs.Prelude.{◌≡◌, ◌≢◌};
-ghost use Rattle.irig_script.specs.Obey.Obeying.{Obeys, Writes};
+ghost use Rattle.std.specs.Prelude.{◌≢◌};
+ghost use Rattle.irig_script.specs.Obey.Obeying.{Obeys};
+ghost use Rattle.irig_script.specs.Obey.Replies.{Writes};
 ghost use Rattle.irig_script.specs.Shelf.Shelved.{Puts};
 ghost use Rattle.irig_script.specs.Obey.Answer.{texts_put};
 ghost use Rattle.irig_script.specs.Obey.Desk.{IsQuiet, PutsFor, failures_of};
-ghost use Rattle.irig_script.specs.Obey.Going.{Answers};
+ghost use Rattle.irig_script.specs.Obey.Progress.{Answers};
 ghost use Rattle.irig_script.specs.declared.script.command.Command.{Command};
 
 use crate::obey::calls::{

@@ -1,6 +1,6 @@
 //! The line that the command `frames` prints of a record.
 
-ghost use Rattle.std.specs.Prelude.{◌≡◌, ◌≤◌, ◌+◌, ◌++◌, length, decimal, codes};
+ghost use Rattle.std.specs.Prelude.{◌≡◌, ◌≤◌, ◌+◌, ◌++◌, length};
 ghost use Rattle.irig_script.specs.Print.FrameLine.{cause_word, name_word, note_text, time_text, parts_text, verdict_text, frame_line, hundredths_text, clock_text};
 
 use crate::print::row::Row;

@@ -1,6 +1,6 @@
 //! The line that the command `info` prints.
 
-ghost use Rattle.std.specs.Prelude.{◌≡◌, ◌≤◌, ◌+◌, ◌++◌, OnOk, OnErr, length, codes, decimal};
+ghost use Rattle.std.specs.Prelude.{◌≡◌, ◌≤◌, ◌+◌, ◌++◌, OnOk, OnErr, length, decimal};
 ghost use Rattle.std.specs.Io.KnownBytes.{Appends};
 ghost use Rattle.irig_script.specs.Print.Front.{AppendsFront};
 ghost use Rattle.irig_script.specs.Print.Listings.{info_text};

@@ -23,8 +23,8 @@ pub fn print_frames<W: Write>(session: &Session, out: &mut W) -> Result<(), Prin
 {
     let mut block = Block::new();
     let mut row = Row::new();
-    for place in 0..session.frames() {
-        put_record(&mut row, session, place + 1);
+    for index in 0..session.frames() {
+        put_record(&mut row, session, index + 1);
         block.put(out, row.text())?;
     }
     block.flush(out)

@@ -1,6 +1,6 @@
 //! The listing of the marks.
 
-ghost use Rattle.std.specs.Prelude.{◌≡◌, ◌≤◌, ◌++◌, OnOk, OnErr, length};
+ghost use Rattle.std.specs.Prelude.{◌≡◌, OnOk, OnErr};
 ghost use Rattle.std.specs.Io.KnownBytes.{Appends};
 ghost use Rattle.irig_script.specs.Print.Front.{AppendsFront};
 ghost use Rattle.irig_script.specs.Print.Listings.{marks_text, mark_line};

@@ -1,8 +1,7 @@
 //! The listing of pulses.
 
-ghost use Rattle.std.specs.Prelude.{◌≡◌, ◌≤◌, ◌<◌, ◌+◌, ◌++◌, OnOk, OnErr, Some, length, slice_get};
+ghost use Rattle.std.specs.Prelude.{◌≡◌, ◌≤◌, ◌<◌, ◌+◌, OnOk, OnErr, length};
 ghost use Rattle.std.specs.Io.KnownBytes.{Appends};
-ghost use Rattle.irig_track.specs.declared.pulse.Pulse.{Pulse};
 ghost use Rattle.irig_script.specs.Print.Front.{AppendsFront};
 ghost use Rattle.irig_script.specs.Print.Listings.{list_text, pulse_line};
 

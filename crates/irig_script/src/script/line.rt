@@ -15,7 +15,7 @@ pub struct Line {
 }
 
 impl Line {
-    ghost use Rattle.irig_script.specs.Obey.Going.{Holds};
+    ghost use Rattle.irig_script.specs.Obey.Progress.{Holds};
 
     /// An empty line.
     pub fn new() -> Line

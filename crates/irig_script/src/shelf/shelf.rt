@@ -10,7 +10,7 @@ pub struct ShelfFault;
 /// Where `write` puts the text of the track.
 pub trait Shelf {
     /// What is known of it: the texts put, where it tells them, how many puts have failed, up to
-    /// 2^64 - 1, and its place.
+    /// 2^64 - 1, and its label.
     ghost known: { Self → Shelved };
 
     /// Puts a text. A fault leaves the texts as they were.

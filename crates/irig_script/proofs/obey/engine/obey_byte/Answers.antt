@@ -1,6 +1,6 @@
 use Rattle.std.proofs.Common.{refl, List, ℕ, ◌++◌, ◌∷◌, []}
 use Rattle.irig_script.specs.Obey.Desk.{desk}
-use Rattle.irig_script.specs.Obey.Going.{Holds, BrokeIn}
+use Rattle.irig_script.specs.Obey.Progress.{Holds, BrokeIn}
 use Rattle.irig_script.proofs.Desks.{tells_one, tells_front}
 use Rattle.irig_script.proofs.Lines.{obeyed_none, obeyed_line, obeyed_end, broke_line, given}
 use Rattle.irig_script.specs.Print.Printed.{answer_with}

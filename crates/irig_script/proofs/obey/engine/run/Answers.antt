@@ -17,25 +17,25 @@ returns-in_default-clause-ends g c =
     let all = rw append-nil at (consumes-consumes _ _ _ i.bytes [] i.read none) in
     run_broken _ _ _ _ _ _ _ _ _ _ i.bytes c.loop-reads.line all at_end i.obeyed c.in_default.ensures.err
 
-pub returns-in_default-clause-place : goal.returns-in_default-clause-place
-returns-in_default-clause-place g c =
+pub returns-in_default-clause-label : goal.returns-in_default-clause-label
+returns-in_default-clause-label g c =
     let i = c.loop-reads.invariant in
-    (c.in_default.ensures.err i.obeyed.ends.0 i.obeyed.ends.2).told.put.place ∙ i.obeyed.told.put.place
+    (c.in_default.ensures.err i.obeyed.ends.0 i.obeyed.ends.2).told.put.label ∙ i.obeyed.told.put.label
 
-pub returns-in-Ok-eq0-clause-place : goal.returns-in-Ok-eq0-clause-place
-returns-in-Ok-eq0-clause-place g c =
+pub returns-in-Ok-eq0-clause-label : goal.returns-in-Ok-eq0-clause-label
+returns-in-Ok-eq0-clause-label g c =
     let i = c.loop-reads.invariant in
-    (c.in-Ok-finish.ensures.ok i.obeyed.ends.0 i.obeyed.ends.2).told.put.place ∙ i.obeyed.told.put.place
+    (c.in-Ok-finish.ensures.ok i.obeyed.ends.0 i.obeyed.ends.2).told.put.label ∙ i.obeyed.told.put.label
 
-pub returns-in-Err-obey_part-clause-place : goal.returns-in-Err-obey_part-clause-place
-returns-in-Err-obey_part-clause-place g c =
+pub returns-in-Err-obey_part-clause-label : goal.returns-in-Err-obey_part-clause-label
+returns-in-Err-obey_part-clause-label g c =
     let i = c.loop-reads.invariant in
-    (c.in-Err-obey_part.ensures.err i.obeyed.ends.0 i.obeyed.ends.2).told.put.place ∙ i.obeyed.told.put.place
+    (c.in-Err-obey_part.ensures.err i.obeyed.ends.0 i.obeyed.ends.2).told.put.label ∙ i.obeyed.told.put.label
 
-pub returns-in-Ok-true-clause-place : goal.returns-in-Ok-true-clause-place
-returns-in-Ok-true-clause-place g c =
+pub returns-in-Ok-true-clause-label : goal.returns-in-Ok-true-clause-label
+returns-in-Ok-true-clause-label g c =
     let i = c.loop-reads.invariant in
-    (c.in-Ok-true.ensures.ok i.obeyed.ends.0 i.obeyed.ends.2).told.put.place ∙ i.obeyed.told.put.place
+    (c.in-Ok-true.ensures.ok i.obeyed.ends.0 i.obeyed.ends.2).told.put.label ∙ i.obeyed.told.put.label
 
 pub returns-in-Ok-eq0-clause-ends : goal.returns-in-Ok-eq0-clause-ends
 returns-in-Ok-eq0-clause-ends g c =

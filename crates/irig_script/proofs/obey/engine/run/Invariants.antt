@@ -1,7 +1,7 @@
 use Rattle.std.proofs.Common.{List, ℕ, ◌≤◌, false, length}
 use Rattle.std.specs.Io.KnownBytes.{Consumes}
 use Rattle.irig_script.specs.Obey.Desk.{desk}
-use Rattle.irig_script.specs.Obey.Going.{Obeyed}
+use Rattle.irig_script.specs.Obey.Progress.{Obeyed}
 use Rattle.irig_script.specs.declared.obey.status.Status.TheVariants.{AllAccepted}
 use Rattle.irig_script.proofs.obey.engine.run.Given as goal
 

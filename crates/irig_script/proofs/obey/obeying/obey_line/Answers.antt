@@ -1,10 +1,15 @@
-use Rattle.std.proofs.Common.{rules, ◌≢◌, refl, List, ℕ, subst}
+use Rattle.std.proofs.Common.{rules, ◌≢◌, refl, List, ℕ, subst, inl, inr}
 use Rattle.irig_script.specs.Script.Grammar.{Means}
 use Rattle.irig_script.specs.declared.script.command.Command.{Command}
 use Rattle.irig_script.specs.declared.script.command.Command.TheVariants as command
-use Rattle.irig_script.proofs.Quits.{bad_goes_on, other_goes_on, quit_ends}
-use Rattle.irig_script.proofs.Steps.{obeyed_step, quiet_puts}
+use Rattle.irig_script.proofs.Quits.{bad_goes_on, long_goes_on, other_goes_on, quit_ends}
+use Rattle.irig_script.proofs.Steps.{quiet_puts}
 use Rattle.irig_script.proofs.obey.obeying.obey_line.Goals as goal
+
+pub returns-in_default-clause-answer : goal.returns-in_default-clause-answer
+returns-in_default-clause-answer g c = λ text h.
+    let long = c.in_default.ensures.long text h in
+    (long_goes_on text long, inl (long, refl, refl))
 
 pub returns-in-Ok-Quit-clause-answer : goal.returns-in-Ok-Quit-clause-answer
 returns-in-Ok-Quit-clause-answer g c =
@@ -21,7 +26,7 @@ returns-in-Ok-Write-clause-answer g c = λ text h.
     let whole = c.in-Some.ensures.whole text h in
     let told : Means command.Write text = subst (λ (l : List ℕ). Means command.Write l) whole.0 meant in
     let more : command.Write ≢ command.Quit = search rules in
-    (other_goes_on command.Write text told more, obeyed_step command.Write c.args.session.now c.args.session.now text c.write.result whole.1 told (c.write.ensures.answer, refl))
+    (other_goes_on command.Write text told more, inr (inr (whole.1, (command.Write, told, (c.write.ensures.answer, refl)))))
 
 pub returns-in-Ok : goal.returns-in-Ok
 returns-in-Ok g c =
@@ -30,7 +35,7 @@ returns-in-Ok g c =
       answer = λ text h.
           (let whole = c.in-Some.ensures.whole text h in
           let meant : Means c.in-Ok.command text = subst (λ (l : List ℕ). Means c.in-Ok.command l) whole.0 c.in-Ok.ensures.meant in
-          (other_goes_on c.in-Ok.command text meant more, obeyed_step c.in-Ok.command c.args.session.now c.obey.new.session text c.obey.result whole.1 meant c.obey.ensures.answer));
+          (other_goes_on c.in-Ok.command text meant more, inr (inr (whole.1, (c.in-Ok.command, meant, c.obey.ensures.answer)))));
       put = quiet_puts _ c.args.session.now _ c.obey.ensures.quiet;
     }
 
@@ -38,4 +43,4 @@ pub returns-in-Err-clause-answer : goal.returns-in-Err-clause-answer
 returns-in-Err-clause-answer g c = λ text h.
     let whole = c.in-Some.ensures.whole text h in
     let bad : (asked : Command) → Means asked text → ⊥ = subst (λ (l : List ℕ). (asked : Command) → Means asked l → ⊥) whole.0 c.in-Err.ensures.bad in
-    (bad_goes_on text bad, (whole.1, bad, refl))
+    (bad_goes_on text bad, inr (inl (whole.1, bad, refl, refl)))

@@ -12,38 +12,38 @@ use Rattle.irig_script.proofs.print.listing.print_frames.Goals as goal
 pub returns-in_err-put-clause-err : goal.returns-in_err-put-clause-err
 returns-in_err-put-clause-err g c =
     let s = c.args.session.now.present.state in
-    let k = c.loop-place.place in
+    let k = c.loop-index.index in
     let rs = frames_of s in
     let within : k < length rs = search rules in
     let place : k + 1 ≡ 1 + k = omega arith in
     let line : c.text.result.now ≡ record_line s (1 + k) (get_or rs k no_record) =
     c.text.ensures.text ∙ c.put_record.ensures _ (record_here rs k within) ∙ ap (λ n. record_line s n (get_or rs k no_record)) place in
-    let p = listed_front (record_line s) 1 rs k no_record _ _ _ _ _ within line c.loop-place.invariant c.in_err-put.ensures.err in
+    let p = listed_front (record_line s) 1 rs k no_record _ _ _ _ _ within line c.loop-index.invariant c.in_err-put.ensures.err in
     search (rules, p)
 
-pub loop-place-preserved : goal.loop-place-preserved
-loop-place-preserved g c =
+pub loop-index-preserved : goal.loop-index-preserved
+loop-index-preserved g c =
     let s = c.args.session.now.present.state in
-    let k = c.loop-place.place in
+    let k = c.loop-index.index in
     let rs = frames_of s in
     let within : k < length rs = search rules in
     let place : k + 1 ≡ 1 + k = omega arith in
     let line : c.text.result.now ≡ record_line s (1 + k) (get_or rs k no_record) =
     c.text.ensures.text ∙ c.put_record.ensures _ (record_here rs k within) ∙ ap (λ n. record_line s n (get_or rs k no_record)) place in
-    listed_more (record_line s) 1 rs k no_record _ _ _ _ _ _ within line c.loop-place.invariant c.in_ok-put.ensures.ok
+    listed_more (record_line s) 1 rs k no_record _ _ _ _ _ _ within line c.loop-index.invariant c.in_ok-put.ensures.ok
 
 pub returns-clause-ok : goal.returns-clause-ok
 returns-clause-ok g c =
     let s = c.args.session.now.present.state in
     let rs = frames_of s in
-    let done : c.loop-place.place ≡ length rs = search rules in
-    let all = rw (done, take-length) at c.loop-place.invariant in
+    let done : c.loop-index.index ≡ length rs = search rules in
+    let all = rw (done, take-length) at c.loop-index.invariant in
     on_ok_weaker c.flush.result (λ f. sends_all _ _ _ _ (numbered (record_line s) 1 rs) all f) c.flush.ensures.ok
 
 pub returns-clause-err : goal.returns-clause-err
 returns-clause-err g c =
     let s = c.args.session.now.present.state in
     let rs = frames_of s in
-    let done : c.loop-place.place ≡ length rs = search rules in
-    let all = rw (done, take-length) at c.loop-place.invariant in
+    let done : c.loop-index.index ≡ length rs = search rules in
+    let all = rw (done, take-length) at c.loop-index.invariant in
     on_err_weaker c.flush.result (λ f. sends_end _ _ _ _ (numbered (record_line s) 1 rs) all f) c.flush.ensures.err

@@ -7,7 +7,7 @@ returns-in-Ok-clause-ok g c = record {
   put = texts_at-put c.args.self.now.path.now c.args.text.now (g.D.Disk.puts c.args.self.now.disk.now) (g.D.Disk.puts c.put.new.self) c.in-Ok.ensures.ok;
   failed = search rules;
   quiet = λ z. refl;
-  place = refl;
+  label = refl;
 }
 
 pub returns-in-Err-clause-err : goal.returns-in-Err-clause-err
@@ -15,5 +15,5 @@ returns-in-Err-clause-err g c = record {
   put = texts_at-none c.args.self.now.path.now (g.D.Disk.puts c.args.self.now.disk.now) (g.D.Disk.puts c.put.new.self) c.in-Err.ensures.err;
   failed = search rules;
   quiet = λ z. absurd (omega (arith, z));
-  place = refl;
+  label = refl;
 }

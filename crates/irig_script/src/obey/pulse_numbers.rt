@@ -1,8 +1,8 @@
-//! What addresses, ranges and times stand for in a session.
+//! The numbers of the pulses that addresses and ranges stand for in a session, and its times.
 
-ghost use Rattle.std.specs.Prelude.{◌≡◌, ◌+◌, ◌-◌, ◌^◌, option_map, IfSome, IfNone};
+ghost use Rattle.std.specs.Prelude.{◌≡◌, ◌+◌, ◌-◌};
 ghost use Rattle.irig_track.specs.Shifts.{ahead, back};
-ghost use Rattle.irig_script.specs.Obey.Places.{mark_of, base_of, pulse_at, place_of, first_of, last_of, join_last_of, time_of};
+ghost use Rattle.irig_script.specs.Obey.PulseNumbers.{mark_of, base_of, pulse_at, number_at, first_of, last_of, join_last_of, time_of};
 
 use crate::script::address::{Address, Base};
 use crate::script::letter::Letter;
@@ -52,17 +52,17 @@ fn pulse_at(session: &Session, by: u64, address: &Address) -> usize
     let Some(number) = base(session, &address.base) else {
         return 0;
     };
-    let place = counted(number, by, address.offset);
-    if place <= session.len() as u128 {
-        place as usize
+    let number = counted(number, by, address.offset);
+    if number <= session.len() as u128 {
+        number as usize
     } else {
         0
     }
 }
 
 /// The pulse of an address, from 1; 0 where there is none.
-pub fn place(session: &Session, address: &Address) -> usize
-    ensures { result ≡ place_of address.now session.now }
+pub fn number_at(session: &Session, address: &Address) -> usize
+    ensures { result ≡ number_at address.now session.now }
 {
     pulse_at(session, 0, address)
 }
@@ -73,10 +73,10 @@ pub fn ends(session: &Session, range: &Range) -> (usize, usize)
 {
     match range {
         Range::One(address) => {
-            let place = place(session, address);
-            (place, place)
+            let number = number_at(session, address);
+            (number, number)
         }
-        Range::Two(first, last) => (place(session, first), place(session, last)),
+        Range::Two(first, last) => (number_at(session, first), number_at(session, last)),
     }
 }
 
@@ -85,8 +85,8 @@ pub fn join_ends(session: &Session, range: &Range) -> (usize, usize)
     ensures { result ≡ (first_of range.now session.now, join_last_of range.now session.now) }
 {
     match range {
-        Range::One(address) => (place(session, address), pulse_at(session, 1, address)),
-        Range::Two(first, last) => (place(session, first), place(session, last)),
+        Range::One(address) => (number_at(session, address), pulse_at(session, 1, address)),
+        Range::Two(first, last) => (number_at(session, first), number_at(session, last)),
     }
 }
 

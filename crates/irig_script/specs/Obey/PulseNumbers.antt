@@ -34,23 +34,24 @@ counted (Some n) by offset count =
 abbrev pub pulse_at : ℕ → Address → Machine → ℕ
 pulse_at by a m = counted (base_of a.base m) by a.offset (length m.present.state.pulses)
 
--- the pulse of an address
-abbrev pub place_of : Address → Machine → ℕ
-place_of a m = pulse_at 0 a m
+-- the number of the pulse of an address
+abbrev pub number_at : Address → Machine → ℕ
+number_at a m = pulse_at 0 a m
 
 -- the first pulse of a range
 abbrev pub first_of : Range → Machine → ℕ
-first_of (One a) m = place_of a m
-first_of (Two a b) m = place_of a m
+first_of (One a) m = number_at a m
+first_of (Two a b) m = number_at a m
 
--- its last pulse; for `join` one address stands for a pulse and the next
+-- the last pulse of a range
 abbrev pub last_of : Range → Machine → ℕ
-last_of (One a) m = place_of a m
-last_of (Two a b) m = place_of b m
+last_of (One a) m = number_at a m
+last_of (Two a b) m = number_at b m
 
+-- the last pulse of a range that is joined: one address stands for a pulse and the next
 abbrev pub join_last_of : Range → Machine → ℕ
 join_last_of (One a) m = pulse_at 1 a m
-join_last_of (Two a b) m = place_of b m
+join_last_of (Two a b) m = number_at b m
 
 -- a time; that of a mark which is not set is beyond every length
 abbrev pub time_of : Time → Machine → ℕ

@@ -1,0 +1,60 @@
+-- What the session replies to a call, a listing, a write and a choice of format: memory may be
+-- wanting, and the shelf may fail. This project's own.
+use Rattle.std.specs.Prelude.{◌≡◌, ◌+◌, ◌-◌, ℕ, Bool, true, false, length, Result, Ok, Err}
+use Rattle.irig_vcd.specs.FileText.{file_text}
+use Rattle.irig_codes.specs.Format.{FormatView}
+use Rattle.irig_codes.specs.declared.format.Kind.{Kind}
+use Rattle.irig_edit.specs.State.{recording_of}
+use Rattle.irig_edit.specs.Calls.{Call, Edit}
+use Rattle.irig_edit.specs.Conditions.{are_pulses}
+use Rattle.irig_edit.specs.Session.{Steps}
+use Rattle.irig_edit.specs.declared.refusal.Refusal.{Refusal}
+use Rattle.irig_edit.specs.declared.refusal.Refusal.TheVariants as refusal
+use Rattle.irig_script.specs.Obey.Machine.{Machine}
+use Rattle.irig_script.specs.declared.print.reply.Reply.{Reply}
+use Rattle.irig_script.specs.declared.print.reply.Reply.TheVariants.{Silent, Written, Listed, Refused, WriteFailed}
+
+-- a call of the session was accepted in silence, or refused
+abbrev pub Calls : Call → Machine → Reply → Machine → Type 0
+Calls call old Silent new = Steps call old (Ok tt) new
+Calls call old (Refused why) new = Steps call old (Err why) new
+Calls call old _ new = ⊥
+
+-- an edit was made or refused
+abbrev pub Makes : Edit → Machine → Reply → Machine → Type 0
+Makes edit old reply new = Calls (Call.Make edit) old reply new
+
+-- the text was put and its bytes are told, or its memory was wanting, or the shelf failed
+abbrev pub Writes : Machine → Reply → Type 0
+Writes m (Written count) = count ≡ length (file_text (recording_of m.present.state))
+Writes m (Refused why) = why ≡ refusal.OutOfMemory
+Writes m WriteFailed = Unit {0}
+Writes m _ = ⊥
+
+-- the reply to an edit
+abbrev pub reply_to : Result (Unit {0}) Refusal → Reply
+reply_to (Ok done) = Silent
+reply_to (Err why) = Refused why
+
+-- pulses i to j are listed, or there are no such pulses
+abbrev pub Lists : ℕ → ℕ → Machine → Reply → Type 0
+Lists i j m (Listed before count) =
+    (are_pulses i j m.present.state ≡ true) × (before ≡ i - 1) × (count ≡ j + 1 - i)
+Lists i j m (Refused why) = (are_pulses i j m.present.state ≡ false) × (why ≡ refusal.NoPulse)
+Lists i j m _ = ⊥
+
+-- the cursor goes to pulse i, which is listed, or there is no such pulse
+abbrev pub Shows : ℕ → Machine → Reply → Machine → Type 0
+Shows i old (Listed before count) new =
+    Steps (Call.Go i) old (Ok tt) new × (before ≡ i - 1) × (count ≡ 1)
+Shows i old (Refused why) new = Steps (Call.Go i) old (Err why) new
+Shows i old _ new = ⊥
+
+-- a kind with an expression, permitted or not
+abbrev pub format : Kind → ℕ → FormatView
+format kind n = record { kind = kind; expression = n }
+
+-- a format is set that permits the expression, or the pair is none
+abbrev pub Formats : Bool → FormatView → Machine → Reply → Machine → Type 0
+Formats true f old reply new = Makes (Edit.SetFormat f) old reply new
+Formats false f old reply new = (reply ≡ Refused refusal.BadExpression) × (new ≡ old)
