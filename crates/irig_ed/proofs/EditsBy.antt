@@ -1,5 +1,5 @@
 -- An edit on the shelf of a file, as one by the settings.
-use Rattle.std.proofs.Common.{◌≡◌, ◌∷◌, ℕ, List, Option, Result, sym, subst}
+use Rattle.std.proofs.Common.{◌≡◌, ◌∷◌, ℕ, List, Option, Result, subst}
 use Rattle.std.specs.Prelude.{option_map}
 use Rattle.irig_script.specs.Obey.Desk.{Desk, desk}
 use Rattle.irig_script.specs.Obey.Editing.{EditsAs}

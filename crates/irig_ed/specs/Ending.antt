@@ -12,7 +12,6 @@ use Rattle.irig_ed.specs.Files.Puts.{Put, texts_at}
 use Rattle.irig_ed.specs.declared.command_line.chosen.Settings.{Settings}
 use Rattle.irig_ed.specs.declared.ending.Ending.{Ending}
 use Rattle.irig_ed.specs.declared.ending.Ending.TheVariants.{Usage, Unread, Edited}
-use Rattle.irig_ed.specs.declared.files.dump_file.DumpFileFault.{DumpFileFault}
 use Rattle.irig_ed.specs.declared.files.dump_file.DumpFileFault.TheVariants.{TooLong}
 
 -- what is known of the ends of the program: what was printed, what was put, and what is left of

@@ -11,6 +11,7 @@ pub mod NumberLemmas
 pub mod Known
 pub mod Desks
 pub mod Lines
+pub mod LastLines
 pub mod Runs
 pub mod Quits
 pub mod Steps
