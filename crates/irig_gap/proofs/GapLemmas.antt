@@ -64,9 +64,6 @@ module _ {X : Type 0} where
         (ap (λ z. live (set cs (a - 1) z) (g - 1) (a - 1)) (sym is) ∙ live-left cs (g - 1) (a - 1) (omega arith) (omega arith) ∙ (λ t. live cs (up t) (up2 t)) ∙ s.items)
         (omega arith) (omega arith)
 
-    pub right_inside : v.place < length v.items → (a < length cs) × (g < length cs)
-    right_inside some = let s = shows cs g a v e h in (omega arith, omega arith)
-
     pub right_full : v.place < length v.items → IsFull cs a
     right_full some =
         let s = shows cs g a v e h in let t = cut_at v.items g (omega arith) in let none : a + (g - g) ≡ a = omega arith in

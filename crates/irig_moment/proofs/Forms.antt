@@ -15,11 +15,6 @@ other-length [] (c ∷ cs) h = refl
 other-length (f ∷ fs) [] h = refl
 other-length (f ∷ fs) (c ∷ cs) h = ap (λ b. fits_form_of f c && b) (other-length fs cs (λ e. h (ap suc e))) ∙ and-false (fits_form_of f c)
 
--- one step along a form
-pub form-step : (fs cs : List ℕ) (i : ℕ) → i < length fs → i < length cs →
-    has_form_of (drop i fs) (drop i cs) ≡ (fits_form_of (get_or fs i 0) (get_or cs i 0) && has_form_of (drop (i + 1) fs) (drop (i + 1) cs))
-form-step fs cs i h k = ap (λ xs. has_form_of xs (drop i cs)) (drop_more fs i 0 h) ∙ ap (λ ys. has_form_of (get_or fs i 0 ∷ drop (i + 1) fs) ys) (drop_more cs i 0 k)
-
 -- one more digit
 pub digit-step : (v i n m : ℕ) (cs : List ℕ) → i < length cs → n ≡ suc m →
     digits_after v (take n (drop i cs)) ≡ digits_after (10 * v + (get_or cs i 0 - 48)) (take m (drop (i + 1) cs))
