@@ -1,8 +1,8 @@
 //! The fifteen numbers that a frame carries, by its elements that are One.
 
-ghost use Rattle.std.specs.Prelude.{◌≡◌, ◌<◌, ◌+◌, ◌*◌, ◌^◌};
+ghost use Rattle.std.specs.Prelude.{◌≡◌, ◌<◌, ◌+◌, ◌*◌, ◌^◌, [], ◌∷◌};
 ghost use Rattle.irig_codes.specs.Ones.{bits_in};
-ghost use Rattle.irig_codes.specs.OnesDigits.{hundredths_units_in, hundredths_tens_in, seconds_units_in, year_units_in, year_tens_in, sbs_in, control_in, digits_in};
+ghost use Rattle.irig_codes.specs.OnesDigits.{control_number, hundredths_units_in, hundredths_tens_in, seconds_units_in, year_units_in, year_tens_in, sbs_in, control_in, digits_in};
 
 use crate::format::{Format, Kind};
 use crate::ones::Ones;
@@ -70,15 +70,24 @@ fn sbs(there: bool, ones: Ones) -> u64
     }
 }
 
-/// Nine control elements and the number of those after them.
+/// The number of nine control elements from one on, and of those after them.
 #[inline(always)]
-fn control_from(ones: Ones, from: u8, after: u64) -> u64
+fn nine_at(ones: Ones, from: u8, after: u64) -> u64
     requires within { from < 100 }
     requires room { after < 2 ^ 36 }
     ensures value { result ≡ bits_in ones from 9 + 512 * after }
     ensures bound { result < 512 * (after + 1) }
 {
     ones.bits(from, 9) + 512 * after
+}
+
+/// The number of the control elements from 70 to 98, as E and G have them.
+#[inline(always)]
+fn from_70(ones: Ones) -> u64
+    ensures value { result ≡ control_number ones (70 ∷ 80 ∷ 90 ∷ []) }
+    ensures bound { result < 2 ^ 27 }
+{
+    nine_at(ones, 70, nine_at(ones, 80, nine_at(ones, 90, 0)))
 }
 
 /// The control elements as one number, where they are there.
@@ -89,33 +98,11 @@ fn control(kind: Kind, there: bool, year: bool, ones: Ones) -> u64
         return 0;
     }
     match (kind, year) {
-        (Kind::A | Kind::B, true) => control_from(ones, 60, control_from(ones, 70, 0)),
-        (Kind::A | Kind::B, false) => control_from(
-            ones,
-            50,
-            control_from(ones, 60, control_from(ones, 70, 0)),
-        ),
-        (Kind::E, true) | (Kind::G, false) => {
-            control_from(
-                ones,
-                60,
-                control_from(ones, 70, control_from(ones, 80, control_from(ones, 90, 0))),
-            )
-        }
-        (Kind::E, false) => control_from(
-            ones,
-            50,
-            control_from(
-                ones,
-                60,
-                control_from(ones, 70, control_from(ones, 80, control_from(ones, 90, 0))),
-            ),
-        ),
-        (Kind::G, true) => control_from(
-            ones,
-            70,
-            control_from(ones, 80, control_from(ones, 90, 0)),
-        ),
+        (Kind::A | Kind::B, true) => nine_at(ones, 60, nine_at(ones, 70, 0)),
+        (Kind::A | Kind::B, false) => nine_at(ones, 50, nine_at(ones, 60, nine_at(ones, 70, 0))),
+        (Kind::E, true) | (Kind::G, false) => nine_at(ones, 60, from_70(ones)),
+        (Kind::E, false) => nine_at(ones, 50, nine_at(ones, 60, from_70(ones))),
+        (Kind::G, true) => from_70(ones),
     }
 }
 
