@@ -32,6 +32,7 @@ pub used-parts : (f : FormatView) (k : Kind) (c s y : Bool) (a b d e : ℕ) → 
     a + b + d + e ≡ used_of (slots_at f)
 used-parts f k c s y a b d e kind has there year p q r t = rw (p, q, r, t, there, has, year, kind) (used-whole f)
 
+-- whether a slot carries a bit
 abbrev is_bit : Slot → Bool
 is_bit (Bit d p) = true
 is_bit _ = false

@@ -26,8 +26,8 @@ control_mask (e ∷ es) = mask_of e 9 + control_mask es
 -- the elements of the time of year
 abbrev pub time_used : Kind → ℕ
 time_used k =
-    units k + (mask_of 6 3 + (mask_of 10 4 + (mask_of 15 3 + (mask_of 20 4 + (mask_of 25 2 + (mask_of 30 4
-    + (mask_of 35 4 + mask_of 40 2))))))) where
+    units k + (mask_of 6 3 + (mask_of 10 4 + (mask_of 15 3 + (mask_of 20 4 + (mask_of 25 2
+    + (mask_of 30 4 + (mask_of 35 4 + mask_of 40 2))))))) where
       units : Kind → ℕ
       units A = mask_of 1 4 + mask_of 45 4
       units B = mask_of 1 4

@@ -5,6 +5,7 @@ use Rattle.std.proofs.lemmas.List.{length-take, take-append-drop, drop-take, tak
 use Rattle.irig_gap.specs.Cells.{laid}
 
 module _ {X : Type 0} (cs : List (Option X)) (at : ℕ) (ps : List (Option X)) where
+  -- what lies behind the places
   abbrev rest : List (Option X)
   rest = drop (at + length ps) cs
 
@@ -35,6 +36,7 @@ module _ {X : Type 0} (cs : List (Option X)) (at : ℕ) (ps : List (Option X)) w
       (λ t. drop (past t) (sym (append_assoc (take at cs) ps rest) t)) ∙ drop-append-add (take at cs ++ ps) rest m ∙ drop-drop m (at + length ps) cs ∙ ap (λ j. drop j cs) up
 
 module _ {X : Type 0} (cs : List X) (low high n : ℕ) (apart : low + n ≤ high) (inside : high + n ≤ length cs) where
+  -- what lies between the two
   abbrev pub between : List X
   between = take (high - (low + n)) (drop (low + n) cs)
 
@@ -60,6 +62,7 @@ module _ {X : Type 0} (cs : List X) (low high n : ℕ) (apart : low + n ≤ high
   exchanged ps qs = take low cs ++ (ps ++ (between ++ (qs ++ drop (high + n) cs)))
 
 module _ {X : Type 0} (cs : List (Option X)) (low high n : ℕ) (apart : low + n ≤ high) (inside : high + n ≤ length cs) (ps qs : List (Option X)) (lp : length ps ≡ n) (lq : length qs ≡ n) where
+  -- the row with both laid
   abbrev two : List (Option X)
   two = exchanged cs low high n apart inside ps qs
 

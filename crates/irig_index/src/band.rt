@@ -1,5 +1,5 @@
-//! What a pulse stands for, straight from its width and the interval of the format. A loop over pulses
-//! asks for the interval once.
+//! What a pulse stands for, straight from its width and the interval of the format. A loop over
+//! pulses asks for the interval once.
 
 ghost use Rattle.std.specs.Prelude.{◌≡◌, true, unwrap_or};
 ghost use Rattle.irig_codes.specs.declared.width.Element.TheVariants.{Zero};

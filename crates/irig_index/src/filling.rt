@@ -1,7 +1,6 @@
 //! What is made of the markers of a part of a track: their records, or their number.
 
 ghost use Rattle.std.specs.Prelude.{◌≡◌, ℕ, ◌+◌, ◌-◌, ◌*◌, ◌<◌, ◌≤◌, ◌++◌, length, min, OnOk, IsOk};
-ghost use Rattle.irig_track.specs.Track.{IsTrack};
 ghost use Rattle.irig_index.specs.Checked.{looks_of};
 ghost use Rattle.irig_index.specs.Frames.{frames, records_in};
 ghost use Rattle.irig_index.specs.Looked.{Looked};
@@ -53,6 +52,7 @@ pub fn fill(
     ensures looked { Looked lens.old lens.new looks.old looks.new
         (min (101 * (to - from)) (3 * (to - from) + 98)) }
 {
+    // Read for its bound alone.
     let _len = lens.len();
     let mut place = from;
     while let Some((before, first)) = next_marker(lens, looks, format, place, to) {

@@ -128,6 +128,7 @@ pub fn put(records: &mut Gap<Record>, found: Record) -> Result<(), AllocError>
         → IsOk result × (records.new.capacity ≡ records.old.capacity) }
 {
     records.reserve(1)?;
+    // Read for its bound alone.
     let _place = records.gap_at();
     records.put(found);
     Ok(())

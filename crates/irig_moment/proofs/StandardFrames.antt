@@ -11,6 +11,7 @@ use Rattle.irig_moment.specs.Moment.{MomentView}
 use Rattle.irig_moment.specs.Generated.{fields_at, frame_fields}
 use Rattle.irig_moment.proofs.Days.{in-year, next-year}
 
+-- the format of a kind and an expression
 abbrev format : Kind → ℕ → FormatView
 format k n = record { kind = k; expression = n }
 

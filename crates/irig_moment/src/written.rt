@@ -22,6 +22,7 @@ pub fn has_form(form: &[u8], text: &[u8]) -> bool
     true
 }
 
+/// Whether a byte is what a form has there: any digit in the place of a 0, and else that byte.
 fn fits_form(form: u8, byte: u8) -> bool
     ensures { result ≡ fits_form_of form byte }
 {

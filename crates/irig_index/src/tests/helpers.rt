@@ -122,10 +122,12 @@ pub(crate) fn repaired(
     requires { index.old.records ≡ frames format track.old.pulses }
     ensures { OnOk result (index.new.records ≡ frames format track.new.pulses) }
 {
+    // Read for its bound alone.
     let _before = track.len();
     let Some(span) = make(alloc, track, edit)? else {
         return Ok(true);
     };
+    // Read for its bound alone.
     let _after = track.len();
     let before = index.looks();
     index.reserve(span.new + 100)?;

@@ -10,7 +10,8 @@ use irig_track::Track;
 use std::alloc::{AllocError, Global};
 use std::test::Fail;
 
-/// Makes an edit, if it can be made, and repairs the index. Whether one built from nothing is the same.
+/// Makes an edit, if it can be made, and repairs the index. Whether one built from nothing is the
+/// same.
 fn agrees(
     alloc: Global,
     track: &mut Track,
