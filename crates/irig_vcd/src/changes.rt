@@ -10,11 +10,11 @@ ghost use Rattle.irig_vcd.specs.Events.{any_word};
 
 use crate::event::take_level;
 use crate::fault::VcdFault;
-use crate::header::Start;
 use crate::short::{LONGEST_CODE, Short};
 use crate::time::{Clock, micros, number_time, time};
 use crate::token::{Kind, Tokens};
 use crate::trace::Trace;
+use crate::unit::Unit;
 use crate::variable::is_code;
 use std::alloc::Global;
 
@@ -50,25 +50,24 @@ fn digits_of(word: &[u8]) -> &[u8]
 pub fn changes(
     alloc: Global,
     tokens: &mut Tokens,
-    start: Start<'_>,
+    unit: Unit,
+    code: &[u8],
 ) -> Result<(u64, Vec<u64>), VcdFault>
-    requires { start.exponent ≤ 17 }
     ensures exact { KeepsEdges result
-        (changes_from any_word start.entry.code.now start.entry.exponent 0
-        tokens.old) }
+        (changes_from any_word code.now unit 0 tokens.old) }
     ensures short { IfOk result (λ x. x.0 ≤ 2 ^ 40) }
 {
-    let is_plain = is_plain(start.code);
+    let is_plain = is_plain(code);
     let mut trace = Trace::new(alloc);
     let mut clock = Clock { whole: 0, rest: 0 };
     'tokens: loop {
-        match tokens.next_short(start.code, is_plain) {
+        match tokens.next_short(code, is_plain) {
             Short::Time(number) => {
-                clock = number_time(start.exponent, clock, number.value, number.offset)?;
+                clock = number_time(unit, clock, number.value, number.offset)?;
                 continue;
             }
             Short::Bit(high) => {
-                let time = micros(start.exponent, clock);
+                let time = micros(unit, clock);
                 trace.put(time, high)?;
                 continue;
             }
@@ -78,18 +77,18 @@ pub fn changes(
             break;
         };
         if is_hash(token.kind) {
-            clock = time(start.exponent, clock, digits_of(token.slice), token.offset)?;
+            clock = time(unit, clock, digits_of(token.slice), token.offset)?;
         } else {
-            match take_level(start.code, token, tokens)? {
+            match take_level(code, token, tokens)? {
                 None => {}
                 Some(high) => {
-                    let time = micros(start.exponent, clock);
+                    let time = micros(unit, clock);
                     trace.put(time, high)?;
                 }
             }
         }
     }
-    let end = micros(start.exponent, clock);
+    let end = micros(unit, clock);
     let edges = trace.finish(end)?;
     Ok((end, edges))
 }

@@ -18,6 +18,7 @@ mod time;
 mod timescale;
 mod token;
 mod trace;
+mod unit;
 mod variable;
 mod writer;
 

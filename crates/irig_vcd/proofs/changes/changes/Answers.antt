@@ -17,10 +17,10 @@ pub tokens-init : goal.tokens-init
 tokens-init c = (
   [],
   record {
-    time = starts c.args.start.exponent;
+    time = starts c.args.unit;
     late = rw c.new-trace.ensures.start (omega arith);
     follows = c.new-trace.ensures.follows;
-    rest = rw (no_units c.args.start.exponent) (behind_none _);
+    rest = rw (no_units c.args.unit) (behind_none _);
   },
 )
 
@@ -31,7 +31,7 @@ tokens-preserved-then-is_hash c =
     let left = sym c.in-Other.ensures ∙ next in
     let hash : is_hash (word_of c.in-Some.token).kind ≡ true = search rules in
     let k = on_time _ _ _ _ (word_of c.in-Some.token) _ _ left hash (rw (← c.digits_of.ensures) c.in_ok-clock.ensures.exact) in
-    (c.tokens.invariant.0, record { time = c.in_ok-clock.ensures.time; late = let up = later c.args.start.exponent c.tokens.clock c.in_ok-clock.clock i.time c.in_ok-clock.ensures.time c.in_ok-clock.ensures.forward in omega (arith, up, i.late); follows = i.follows; rest = ap (behind c.tokens.invariant.0) (sym k) ∙ i.rest })
+    (c.tokens.invariant.0, record { time = c.in_ok-clock.ensures.time; late = let up = later c.args.unit c.tokens.clock c.in_ok-clock.clock i.time c.in_ok-clock.ensures.time c.in_ok-clock.ensures.forward in omega (arith, up, i.late); follows = i.follows; rest = ap (behind c.tokens.invariant.0) (sym k) ∙ i.rest })
 
 pub tokens-preserved : goal.tokens-preserved
 tokens-preserved c =
@@ -40,14 +40,14 @@ tokens-preserved c =
     let left = sym c.in-Other.ensures ∙ next in
     let hash : is_hash (word_of c.in-Some.token).kind ≡ false = search rules in
     let is : c.in_ok-take_level.field-0 ≡ Some c.in-Some-2.high = search rules in
-    let read : level_read (word_of c.in-Some.token).kind c.args.start.code.now (word_of c.in-Some.token) c.next.new.self ≡ Ok (Some c.in-Some-2.high, c.take_level.new.tokens) = rw (← is) c.in_ok-take_level.ensures.exact in
+    let read : level_read (word_of c.in-Some.token).kind c.args.code.now (word_of c.in-Some.token) c.next.new.self ≡ Ok (Some c.in-Some-2.high, c.take_level.new.tokens) = rw (← is) c.in_ok-take_level.ensures.exact in
     let k = on_level _ _ _ _ (word_of c.in-Some.token) _ _ (Some c.in-Some-2.high) left hash read in (
-      c.tokens.invariant.0 ++ record { time = micros_of c.args.start.exponent (units_of c.args.start.exponent c.tokens.clock); high = c.in-Some-2.high } ∷ [],
+      c.tokens.invariant.0 ++ record { time = micros_of c.args.unit (units_of c.args.unit c.tokens.clock); high = c.in-Some-2.high } ∷ [],
       record {
         time = i.time;
         late = rw (c.in_ok-put-in-Some-2.ensures.time, c.micros-time-in-Some-2.ensures.value) (omega arith);
         follows = rw (← c.micros-time-in-Some-2.ensures.value) (c.in_ok-put-in-Some-2.ensures.ok c.tokens.invariant.0 i.follows);
-        rest = (sym (one_change c.tokens.invariant.0 (micros_of c.args.start.exponent (units_of c.args.start.exponent c.tokens.clock)) c.in-Some-2.high (changes_from any_word c.args.start.code.now c.args.start.exponent (units_of c.args.start.exponent c.tokens.clock) c.take_level.new.tokens)) ∙ (ap (behind c.tokens.invariant.0) (sym k) ∙ i.rest));
+        rest = (sym (one_change c.tokens.invariant.0 (micros_of c.args.unit (units_of c.args.unit c.tokens.clock)) c.in-Some-2.high (changes_from any_word c.args.code.now c.args.unit (units_of c.args.unit c.tokens.clock) c.take_level.new.tokens)) ∙ (ap (behind c.tokens.invariant.0) (sym k) ∙ i.rest));
       },
     )
 
@@ -58,7 +58,7 @@ tokens-preserved-in-None c =
     let left = sym c.in-Other.ensures ∙ next in
     let hash : is_hash (word_of c.in-Some.token).kind ≡ false = search rules in
     let is : c.in_ok-take_level.field-0 ≡ None = search rules in
-    let read : level_read (word_of c.in-Some.token).kind c.args.start.code.now (word_of c.in-Some.token) c.next.new.self ≡ Ok (None, c.take_level.new.tokens) = rw (← is) c.in_ok-take_level.ensures.exact in
+    let read : level_read (word_of c.in-Some.token).kind c.args.code.now (word_of c.in-Some.token) c.next.new.self ≡ Ok (None, c.take_level.new.tokens) = rw (← is) c.in_ok-take_level.ensures.exact in
     let k = on_level _ _ _ _ (word_of c.in-Some.token) _ _ None left hash read in
     (c.tokens.invariant.0, record { time = i.time; late = i.late; follows = i.follows; rest = ap (behind c.tokens.invariant.0) (sym k) ∙ i.rest })
 
@@ -69,8 +69,8 @@ returns-in_err-take_level-clause-exact c =
     let next : c.next_short.new.self ≡ word_of c.in-Some.token ∷ c.next.new.self = search rules in
     let left = sym c.in-Other.ensures ∙ next in
     let hash : is_hash (word_of c.in-Some.token).kind ≡ false = search rules in
-    let k = on_word c.args.start.code.now c.args.start.exponent (units_of c.args.start.exponent c.tokens.clock) _ (word_of c.in-Some.token) _ left hash in
-    let fault = k ∙ ap (goes_on c.args.start.code.now c.args.start.exponent (units_of c.args.start.exponent c.tokens.clock)) c.in_err-take_level.ensures.exact in
+    let k = on_word c.args.code.now c.args.unit (units_of c.args.unit c.tokens.clock) _ (word_of c.in-Some.token) _ left hash in
+    let fault = k ∙ ap (goes_on c.args.code.now c.args.unit (units_of c.args.unit c.tokens.clock)) c.in_err-take_level.ensures.exact in
     rw (p.1, p.2) (fails_now c.in_err-take_level.field-0.0 _ (sym i.rest ∙ ap (behind c.tokens.invariant.0) fault))
 
 pub tokens-preserved-in-Time : goal.tokens-preserved-in-Time
@@ -78,12 +78,12 @@ tokens-preserved-in-Time c =
     let i = c.tokens.invariant.1 in
     let n = c.in-Time.ensures in
     let hash : is_hash n.word.kind ≡ true = ap is_hash n.kind in
-    let read : time_of c.args.start.exponent (units_of c.args.start.exponent c.tokens.clock) (rest_of n.word.bytes) n.word.offset ≡ Ok (units_of c.args.start.exponent c.in_ok-clock-in-Time.clock) = rw n.offset (c.in_ok-clock-in-Time.ensures.exact (rest_of n.word.bytes) n.digits n.value) in
+    let read : time_of c.args.unit (units_of c.args.unit c.tokens.clock) (rest_of n.word.bytes) n.word.offset ≡ Ok (units_of c.args.unit c.in_ok-clock-in-Time.clock) = rw n.offset (c.in_ok-clock-in-Time.ensures.exact (rest_of n.word.bytes) n.digits n.value) in
     let k = on_time _ _ _ _ n.word _ _ n.left hash read in (
       c.tokens.invariant.0,
       record {
         time = c.in_ok-clock-in-Time.ensures.time;
-        late = let up = later c.args.start.exponent c.tokens.clock c.in_ok-clock-in-Time.clock i.time c.in_ok-clock-in-Time.ensures.time c.in_ok-clock-in-Time.ensures.forward in omega (arith, up, i.late);
+        late = let up = later c.args.unit c.tokens.clock c.in_ok-clock-in-Time.clock i.time c.in_ok-clock-in-Time.ensures.time c.in_ok-clock-in-Time.ensures.forward in omega (arith, up, i.late);
         follows = i.follows;
         rest = ap (behind c.tokens.invariant.0) (sym k) ∙ i.rest;
       },
@@ -95,13 +95,13 @@ tokens-preserved-in-Bit c =
     let b = c.in-Bit.ensures.1 in
     let some = c.is_plain-is_plain.ensures.some c.in-Bit.ensures.0 in
     let hash : is_hash b.word.kind ≡ false = ap is_hash b.kind in
-    let read = bit_level c.in-Bit.high c.args.start.code.now b.word c.next_short.new.self some b.kind b.bytes in
+    let read = bit_level c.in-Bit.high c.args.code.now b.word c.next_short.new.self some b.kind b.bytes in
     let k = on_level _ _ _ _ b.word _ _ (Some c.in-Bit.high) b.left hash read in (
-      c.tokens.invariant.0 ++ record { time = micros_of c.args.start.exponent (units_of c.args.start.exponent c.tokens.clock); high = c.in-Bit.high } ∷ [],
+      c.tokens.invariant.0 ++ record { time = micros_of c.args.unit (units_of c.args.unit c.tokens.clock); high = c.in-Bit.high } ∷ [],
       record {
         time = i.time;
         late = rw (c.in_ok-put-in-Bit.ensures.time, c.micros-time.ensures.value) (omega arith);
         follows = rw (← c.micros-time.ensures.value) (c.in_ok-put-in-Bit.ensures.ok c.tokens.invariant.0 i.follows);
-        rest = (sym (one_change c.tokens.invariant.0 (micros_of c.args.start.exponent (units_of c.args.start.exponent c.tokens.clock)) c.in-Bit.high (changes_from any_word c.args.start.code.now c.args.start.exponent (units_of c.args.start.exponent c.tokens.clock) c.next_short.new.self)) ∙ (ap (behind c.tokens.invariant.0) (sym k) ∙ i.rest));
+        rest = (sym (one_change c.tokens.invariant.0 (micros_of c.args.unit (units_of c.args.unit c.tokens.clock)) c.in-Bit.high (changes_from any_word c.args.code.now c.args.unit (units_of c.args.unit c.tokens.clock) c.next_short.new.self)) ∙ (ap (behind c.tokens.invariant.0) (sym k) ∙ i.rest));
       },
     )

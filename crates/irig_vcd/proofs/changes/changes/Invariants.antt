@@ -10,10 +10,10 @@ use Rattle.irig_vcd.proofs.changes.changes.Given as goal
 
 abbrev pub invariant-tokens : goal.invariant-tokens
 invariant-tokens l = (before : List Change) × record {
-  time : IsTime l.start.exponent l.clock;
-  late : l.trace.time ≤ micros_of l.start.exponent (units_of l.start.exponent l.clock);
+  time : IsTime l.unit l.clock;
+  late : l.trace.time ≤ micros_of l.unit (units_of l.unit l.clock);
   follows : Follows before l.trace;
-  rest : behind before (changes_from any_word l.start.code.now l.start.exponent (units_of l.start.exponent l.clock) l.tokens) ≡ changes_from any_word l.start.code.now l.start.exponent 0 l.fn.tokens;
+  rest : behind before (changes_from any_word l.code l.unit (units_of l.unit l.clock) l.tokens) ≡ changes_from any_word l.code l.unit 0 l.fn.tokens;
 }
 
 abbrev pub decreases-tokens : goal.decreases-tokens

@@ -1,0 +1,103 @@
+//! The unit of time of a dump.
+
+ghost use Rattle.std.specs.Prelude.{◌≡◌, ◌≤◌, ◌-◌, ◌==◌};
+ghost use Rattle.irig_vcd.specs.Code.Time.{factor_of, limit_of};
+
+use std::marker::Model;
+
+/// A unit of time: a power of ten of femtoseconds, from 0 to 17.
+#[derive(Clone, Copy)]
+pub struct Unit {
+    exponent: u8,
+}
+
+impl Model for Unit {
+    ghost use Rattle.std.specs.Prelude.{ℕ, ◌≤◌};
+
+    ghost Value = { ℕ };
+
+    ghost view = { λ u. u.exponent };
+
+    ghost invariant = { λ u. u.exponent ≤ 17 };
+
+    ghost inverse = { λ v. record { exponent = v } };
+}
+
+impl Unit {
+    /// The unit of a power of ten of femtoseconds.
+    pub fn new(exponent: u8) -> Unit
+        requires { exponent ≤ 17 }
+        ensures { result ≡ exponent }
+    {
+        Unit { exponent }
+    }
+
+    /// Whether it is a microsecond.
+    #[inline(always)]
+    pub fn is_microsecond(self) -> bool
+        ensures { result ≡ (self == 9) }
+    {
+        self.exponent == 9
+    }
+
+    /// How many digits of a number of units stand below one microsecond.
+    #[inline(always)]
+    pub fn digits_below(self) -> u8
+        ensures value { result ≡ 9 - self }
+        ensures within { result ≤ 9 }
+    {
+        9u8.saturating_sub(self.exponent)
+    }
+
+    /// The largest whole part of a time that is within 2^40 microseconds.
+    pub fn limit(self) -> u64
+        ensures { result ≡ limit_of self }
+    {
+        limit(self.exponent)
+    }
+
+    /// How many microseconds one of the whole part of a time counts.
+    pub fn factor(self) -> u64
+        ensures { result ≡ factor_of self }
+    {
+        factor(self.exponent)
+    }
+}
+
+/// The largest whole part of a time within 2^40 microseconds, by the power of ten of its unit.
+#[tactic(auto, unfolding(crate::specs::Code::Time::limit_of))]
+fn limit(exponent: u8) -> u64
+    requires { exponent ≤ 17 }
+    ensures { result ≡ limit_of exponent }
+{
+    match exponent {
+        10 => 109951162777,
+        11 => 10995116277,
+        12 => 1099511627,
+        13 => 109951162,
+        14 => 10995116,
+        15 => 1099511,
+        16 => 109951,
+        17 => 10995,
+        _ => 1 << 40,
+    }
+}
+
+/// How many microseconds one of the whole part counts, by the power of ten of the unit.
+#[tactic(auto, unfolding(crate::specs::Code::Time::factor_of))]
+fn factor(exponent: u8) -> u64
+    requires { exponent ≤ 17 }
+    ensures { result ≡ factor_of exponent }
+{
+    match exponent {
+        10 => 10,
+        11 => 100,
+        12 => 1000,
+        13 => 10000,
+        14 => 100000,
+        15 => 1000000,
+        16 => 10000000,
+        17 => 100000000,
+        _ => 1,
+    }
+}
