@@ -1,25 +1,32 @@
-pub mod RecordingLemmas
+-- Words of a text, a byte at a time, and those that are read in one step.
 pub mod Runs
-pub mod Sizes
-pub mod Cuts
-pub mod Steps
-pub mod Levels
-pub mod Playing
+pub mod DigitRuns
+pub mod CodeRuns
+-- Numbers of digits, and times in two parts.
 pub mod Digits
+pub mod Sizes
+pub mod DecimalLemmas
 pub mod Clocks
 pub mod TimeLemmas
+-- The declarations, a section at a time.
+pub mod Cuts
+pub mod Steps
+-- The changes, a word at a time, and the edges of their level.
+pub mod ChangeSteps
+pub mod Levels
+pub mod PlainLemmas
 pub mod Lawful
 pub mod LevelLaw
-pub mod Reading
-pub mod Writing
-pub mod DigitRuns
-pub mod PlainLemmas
-pub mod StandardFacts
-pub mod DecimalLemmas
-pub mod WrittenEdges
-pub mod WrittenText
+pub mod RecordingLemmas
+-- The whole of a dump.
+pub mod WholeDump
+-- The text of a recording, its words and its changes: what is written is read back.
+pub mod TextParts
 pub mod WrittenWords
+pub mod WrittenEdges
 pub mod WrittenChanges
-pub mod ReadBack
-pub mod CodeRuns
+pub mod WrittenText
 pub mod TextLength
+pub mod ReadBack
+-- Known values.
+pub mod StandardFacts

@@ -10,6 +10,7 @@ pub mod Wire
 pub mod Declarations
 pub mod Level
 pub mod Times
+pub mod Values
 pub mod Events
 pub mod Changes
 pub mod Dump

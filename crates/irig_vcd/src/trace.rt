@@ -8,7 +8,8 @@ ghost use Rattle.irig_vcd.specs.Code.Trace.{edges_kept, Follows};
 use crate::recording::EDGES_LIMIT;
 use std::alloc::{AllocError, Global};
 
-/// A level that was followed up to a time: the edges before it, and the levels before it and there.
+/// A level that was followed up to a time: the edges before it, and the levels before it and
+/// there.
 #[derive(Drop)]
 pub struct Trace {
     time: u64,

@@ -1,8 +1,10 @@
 -- What a token of the changes says together with those that go with it, read at once.
-use Rattle.std.specs.Prelude.{ℕ, Bool, true, false, List, [], ◌∷◌, Option, None, Result, Ok, Err, if◌then◌else◌}
+use Rattle.std.specs.Prelude.{ℕ, Bool, true, false, List, [], ◌∷◌, Option, None, Result, Ok, Err}
+use Rattle.std.specs.Prelude.{if◌then◌else◌}
 use Rattle.irig_vcd.specs.Answer.{◌>>=◌, pair_of}
 use Rattle.irig_vcd.specs.Code.Section.{after_end}
-use Rattle.irig_vcd.specs.Events.{scalar_level, vector_level, is_mark, is_comment}
+use Rattle.irig_vcd.specs.Events.{is_mark, is_comment}
+use Rattle.irig_vcd.specs.Values.{scalar_level, vector_level}
 use Rattle.irig_vcd.specs.Words.{Word, WordKind, dollar, hash, scalar, vector, real, text, other}
 use Rattle.irig_vcd.specs.declared.fault.VcdFault.{VcdFault}
 use Rattle.irig_vcd.specs.declared.fault.VcdFault.TheVariants.{BadToken}

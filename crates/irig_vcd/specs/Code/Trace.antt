@@ -3,7 +3,8 @@ use Rattle.std.specs.Prelude.{◌≡◌, ◌≤◌, ℕ, Bool, List, Result, Ok,
 use Rattle.std.specs.Global.{Vec}
 use Rattle.std.specs.List.{AllByRecursion}
 use Rattle.irig_vcd.specs.Answer.{Fails}
-use Rattle.irig_vcd.specs.Level.{Change, change, level_by_changes, level_before, edges_below, edges_up_to}
+use Rattle.irig_vcd.specs.Level.{Change, change, level_by_changes, level_before, edges_below}
+use Rattle.irig_vcd.specs.Level.{edges_up_to}
 use Rattle.irig_vcd.specs.declared.fault.VcdFault.{VcdFault}
 use Rattle.irig_vcd.specs.declared.trace.Trace.{Trace}
 

@@ -6,8 +6,8 @@ use Rattle.irig_vcd.specs.Times.{time_of, micros_of}
 use Rattle.irig_vcd.specs.Events.{any_word}
 use Rattle.irig_vcd.specs.Changes.{changes_from}
 use Rattle.irig_vcd.specs.Code.Event.{is_hash, level_read}
-use Rattle.irig_vcd.proofs.Playing.{behind, goes_on, one_change, on_time, on_word, on_level, behind_none}
-use Rattle.irig_vcd.proofs.Reading.{fails_now}
+use Rattle.irig_vcd.proofs.ChangeSteps.{behind, goes_on, one_change, on_time, on_word, on_level, behind_none}
+use Rattle.irig_vcd.proofs.WholeDump.{fails_now}
 use Rattle.std.proofs.lemmas.Result.{err_from_is_err_and}
 use Rattle.irig_vcd.proofs.CodeRuns.{bit_level}
 use Rattle.irig_vcd.proofs.Clocks.{starts, no_units, later}

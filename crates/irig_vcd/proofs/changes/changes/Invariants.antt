@@ -5,7 +5,7 @@ use Rattle.irig_vcd.specs.Code.Trace.{Follows}
 use Rattle.irig_vcd.specs.Changes.{changes_from}
 use Rattle.irig_vcd.specs.Events.{any_word}
 use Rattle.irig_vcd.specs.Level.{Change}
-use Rattle.irig_vcd.proofs.Playing.{behind}
+use Rattle.irig_vcd.proofs.ChangeSteps.{behind}
 use Rattle.irig_vcd.proofs.changes.changes.Given as goal
 
 abbrev pub invariant-tokens : goal.invariant-tokens

@@ -1,5 +1,5 @@
 use Rattle.std.proofs.Common.{◌∙◌, ◌≤◌, length, Ok, ap, sym, arith}
-use Rattle.irig_vcd.proofs.Reading.{too_many, few_edges, few_enough, is_lawful}
+use Rattle.irig_vcd.proofs.WholeDump.{too_many, few_edges, few_enough, is_lawful}
 use Rattle.irig_vcd.proofs.reader.kept.Goals as goal
 
 pub returns-then-len-gt-EDGES_LIMIT : goal.returns-then-len-gt-EDGES_LIMIT

@@ -1,6 +1,6 @@
 use Rattle.std.proofs.Common.{◌≡◌, ◌∙◌, ◌++◌, ◌∷◌, ◌+◌, ◌-◌, [], ℕ, List, set, length, decimal, ap, arith}
 use mir.Val.{bool_byte}
-use Rattle.irig_vcd.proofs.Writing.{cut_line, level_byte, level_set, digits_before}
+use Rattle.irig_vcd.proofs.TextParts.{cut_line, level_byte, level_set, digits_before}
 use Rattle.irig_vcd.proofs.writer.put_lines.Goals as goal
 
 pub returns-clause-text : goal.returns-clause-text
