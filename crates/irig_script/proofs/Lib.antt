@@ -1,13 +1,17 @@
+-- texts, words and white space; addresses and ranges
 pub mod WordLemmas
 pub mod Spacing
 pub mod AddressCut
 pub mod RangeCut
+pub mod NumberLemmas
+pub mod KnownWords
+-- what a line asks for, and that it is one command
 pub mod SameAddress
 pub mod SameCommand
 pub mod OrderParts
 pub mod Orders
 pub mod LineReading
-pub mod NumberLemmas
+-- lines, and the runs of scripts
 pub mod Known
 pub mod Desks
 pub mod Lines
@@ -15,12 +19,14 @@ pub mod LastLines
 pub mod Runs
 pub mod Quits
 pub mod Steps
-pub mod KnownWords
+-- that a script has one run
+pub mod SameReply
+pub mod SameRun
+pub mod SameEdit
+-- what is printed
 pub mod RowLemmas
 pub mod Blocks
 pub mod Pieces
 pub mod Numbered
 pub mod MarkLines
 pub mod FrameLines
-pub mod SameReply
-pub mod SameRun

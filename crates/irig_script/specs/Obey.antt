@@ -10,3 +10,4 @@ pub mod OneRun
 pub mod Ending
 pub mod Progress
 pub mod Editing
+pub mod OneEdit

@@ -1,6 +1,7 @@
 //! What holds of lines and of the runs of scripts.
 
 ghost use Rattle.irig_script.specs.Script.OneCommand.{OneCommand};
+ghost use Rattle.irig_script.specs.Obey.OneEdit.{OneEdit};
 ghost use Rattle.irig_script.specs.Obey.OneRun.{OneRun};
 
 use irig_edit::calls_give_back;
@@ -14,9 +15,10 @@ pub fn lines_ask_for_one_command()
 ///
 /// Two runs of one script from one machine that meet want of memory and failed puts at the same
 /// lines print the same bytes, put the same texts, end with the same status and leave the same
-/// machine.
+/// machine. So do two runs from the bytes of one dump.
 pub fn scripts_have_one_run()
     ensures same { OneRun }
+    ensures edited { OneEdit }
 {
     calls_give_back();
 }
