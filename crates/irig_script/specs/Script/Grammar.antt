@@ -1,8 +1,9 @@
 -- The script language: how a line is put together, and what it asks for. This project's own, after
--- the lines of ed. In brackets stands what may be missing, and before a star what stands any number
--- of times, where `blank` is white space or nothing, and `space` is white space:
+-- the lines of ed. `blank` is white space or nothing, and `space` is white space; in brackets stands
+-- what may be missing, and before a star what stands any number of times:
 --
--- line := blank [range] blank [word (space argument)*] blank
+-- line  := blank | blank comment | blank order
+-- order := [range] blank [word (space argument)*] blank
 use Rattle.std.specs.Prelude.{◌≡◌, ◌≢◌, ◌⊎◌, ◌==◌, ℕ, Bool, true, not, ◌||◌, List, [], ◌∷◌, ◌++◌}
 use Rattle.std.specs.List.{list_all}
 use Rattle.irig_script.specs.Script.Commands.{Asks}

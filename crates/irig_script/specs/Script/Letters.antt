@@ -5,6 +5,7 @@ use Rattle.std.specs.Prelude.{ℕ, ◌≤◌, ◌&&◌, nat_le, Bool, if◌then�
 abbrev pub is_letter : ℕ → Bool
 is_letter b = nat_le 97 b && nat_le b 122
 
+-- the same as a fact
 abbrev pub IsLetter : ℕ → Type 0
 IsLetter b = (97 ≤ b) × (b ≤ 122)
 

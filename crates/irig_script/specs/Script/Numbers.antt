@@ -54,6 +54,7 @@ hex_digit b =
     else (if nat_le 97 b && nat_le b 102 then b - 87
     else (if nat_le 65 b && nat_le b 70 then b - 55 else 16))
 
+-- the byte is a hexadecimal digit
 abbrev pub is_hex_digit : ℕ → Bool
 is_hex_digit b = nat_le (hex_digit b) 15
 

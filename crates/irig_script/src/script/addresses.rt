@@ -1,6 +1,6 @@
 //! Addresses, ranges and times of a script, read.
 
-ghost use Rattle.std.specs.Prelude.{◌≡◌, ℕ, ℤ, pos, List, [], ◌∷◌, true, IfOk, OnErr};
+ghost use Rattle.std.specs.Prelude.{◌≡◌, ℤ, [], true, IfOk, OnErr};
 ghost use Rattle.irig_script.specs.Script.Letters.{is_letter};
 ghost use Rattle.irig_script.specs.Script.Addresses.{IsBase, IsOffset, IsAddress, IsPair, IsPlace, IsRange, IsTime, at};
 ghost use Rattle.irig_script.specs.declared.script.address.Base.{Base};

@@ -1,7 +1,7 @@
 //! Numbers of a script.
 
-ghost use Rattle.std.specs.Prelude.{◌≡◌, ◌≤◌, ◌<◌, ◌^◌, ℕ, ℤ, IfOk, OnErr};
-ghost use Rattle.irig_script.specs.Script.Numbers.{IsNumber, IsDistance, IsControl, IsSigned, is_digit, size, unsigned, first_of, hex_digit};
+ghost use Rattle.std.specs.Prelude.{◌≡◌, ◌<◌, ◌^◌, ℕ, ℤ, IfOk, OnErr};
+ghost use Rattle.irig_script.specs.Script.Numbers.{IsNumber, IsDistance, IsControl, IsSigned, is_digit, size, hex_digit};
 
 use crate::script::command::BadLine;
 use crate::script::cutting::is_sign;
