@@ -1,17 +1,22 @@
-pub mod Allowed
+-- Rising lists of edges, as lists and as sets.
+pub mod Rising
 pub mod Below
-pub mod Carried
-pub mod Finding
-pub mod Inverses
-pub mod Laws
-pub mod Meaning
-pub mod Moving
+pub mod Sets
+-- Pulses and their edges.
 pub mod Pairs
 pub mod Places
+pub mod Finding
 pub mod Recordings
-pub mod Rising
-pub mod Sets
-pub mod Spans
-pub mod Standing
 pub mod Texts
+-- When an edit may be made.
+pub mod Standing
+pub mod Allowed
+-- What the edits do to pulses and edges, and where.
+pub mod Carried
+pub mod MovedPulses
 pub mod Turns
+pub mod Spans
+-- Laws of edits for the crates above.
+pub mod Laws
+pub mod Meaning
+pub mod Inverses

@@ -1,5 +1,6 @@
 -- The edges of pulses: a rising list of times, and by membership a set. This project's own.
-use Rattle.std.specs.Prelude.{ℕ, ◌<◌, ◌==◌, nat_le, List, [], ◌∷◌, Bool, true, false, cond, not, ◌&&◌, ◌||◌}
+use Rattle.std.specs.Prelude.{ℕ, ◌<◌, ◌==◌, nat_le, List, [], ◌∷◌, Bool, true, false, cond, not}
+use Rattle.std.specs.Prelude.{◌&&◌, ◌||◌}
 use Rattle.irig_track.specs.declared.pulse.Pulse.{Pulse}
 
 -- the pulse that is high from a to b, in microseconds

@@ -2,14 +2,14 @@
 //!
 //! None of them takes memory or can fail: the test and the room come before.
 
-ghost use Rattle.std.specs.Prelude.{◌≡◌, ◌+◌, ◌-◌, ◌^◌, ◌<◌, ◌≤◌, ◌↔◌, ℕ, length, take, drop, [], IsTrue};
+ghost use Rattle.std.specs.Prelude.{◌≡◌, ◌+◌, ◌-◌, ◌^◌, ◌<◌, ◌≤◌, ◌↔◌, ℕ, length, take, drop, []};
+ghost use Rattle.std.specs.Prelude.{IsTrue};
 ghost use Rattle.irig_track.specs.Edges.{edges_of, is_edge, replaced, inverted};
 ghost use Rattle.irig_track.specs.Free.{following, first_or};
 ghost use Rattle.irig_track.specs.Shifts.{shifted, moved, count_to, CanShift};
 ghost use Rattle.irig_track.specs.Splices.{spliced, piece, CanSplice, IsSpan};
 ghost use Rattle.irig_track.specs.Splices.{risen_by, ended_before};
 ghost use Rattle.irig_track.specs.Toggles.{toggled, CanToggle};
-ghost use Rattle.irig_track.specs.Track.{IsTrack};
 
 use crate::pulse::Pulse;
 use crate::shift::{ahead_of, back_of, move_pulses};

@@ -1,7 +1,8 @@
 //! The pulses on both sides of a gap.
 
-ghost use Rattle.std.specs.Prelude.{◌≡◌, ◌+◌, ◌<◌, ◌≤◌, ◌++◌, ◌∷◌, [], length, slice_get, Some, IsSome};
-ghost use Rattle.irig_track.specs.Sides.{left_of, right_of, Took, Wrote};
+ghost use Rattle.std.specs.Prelude.{◌≡◌, ◌+◌, ◌<◌, ◌≤◌, ◌++◌, ◌∷◌, [], length, slice_get, Some};
+ghost use Rattle.std.specs.Prelude.{IsSome};
+ghost use Rattle.irig_track.specs.Sides.{right_of, Took, Wrote};
 ghost use Rattle.irig_track.specs.Edges.{pulse};
 ghost use Rattle.irig_track.specs.declared.pulse.Pulse.{Pulse};
 

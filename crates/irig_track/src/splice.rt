@@ -1,6 +1,6 @@
 //! Moves pulses from one gap buffer to another.
 
-ghost use Rattle.std.specs.Prelude.{◌≡◌, ◌+◌, ◌<◌, ◌≤◌, ◌++◌, [], length, take, drop};
+ghost use Rattle.std.specs.Prelude.{◌≡◌, ◌+◌, ◌<◌, ◌≤◌, ◌++◌, [], length};
 ghost use Rattle.irig_gap.specs.Items.{gap_view};
 ghost use Rattle.irig_track.specs.Splices.{spliced, piece};
 

@@ -1,6 +1,6 @@
 //! Whether pulses can stand between two times.
 
-ghost use Rattle.std.specs.Prelude.{◌≡◌, ◌+◌, ◌<◌, ◌≤◌, ◌++◌, ◌∷◌, [], length, IsTrue, ◌↔◌};
+ghost use Rattle.std.specs.Prelude.{◌≡◌, ◌+◌, ◌<◌, ◌≤◌, ◌++◌, ◌∷◌, [], IsTrue, ◌↔◌};
 ghost use Rattle.irig_vcd.specs.Recording.{RisesFrom};
 ghost use Rattle.irig_track.specs.Edges.{edges_of};
 

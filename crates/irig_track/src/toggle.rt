@@ -3,11 +3,12 @@
 //! After the first time an odd number of edges stands: pulses left of the gap, a rise that waits
 //! for its fall, and pulses right of the gap.
 
-ghost use Rattle.std.specs.Prelude.{◌≡◌, ◌+◌, ◌-◌, ◌<◌, ◌≤◌, ◌++◌, ◌∷◌, [], length, drop, take};
+ghost use Rattle.std.specs.Prelude.{◌≡◌, ◌+◌, ◌-◌, ◌<◌, ◌≤◌, ◌++◌, ◌∷◌, [], length};
 ghost use Rattle.irig_vcd.specs.Recording.{RisesFrom};
 ghost use Rattle.irig_track.specs.Edges.{edges_of, Under};
 ghost use Rattle.irig_track.specs.Toggles.{toggled};
-ghost use Rattle.irig_track.specs.Sides.{left_of, right_of, waiting, ReachesFrom, Stays, Begun, Finished};
+ghost use Rattle.irig_track.specs.Sides.{left_of, right_of, waiting, ReachesFrom, Stays, Begun};
+ghost use Rattle.irig_track.specs.Sides.{Finished};
 
 use crate::pulse::Pulse;
 use crate::sides::{next, put_last, take_next};

@@ -1,10 +1,9 @@
 //! A length and pulses in order.
 
-ghost use Rattle.std.specs.Prelude.{◌≡◌, ◌+◌, ◌-◌, ◌^◌, ◌/◌, ◌<◌, ◌≤◌, ℕ, length, [], slice_get, Some};
-ghost use Rattle.std.specs.Prelude.{Bool, true, IfOk, OnOk, OnErr};
+ghost use Rattle.std.specs.Prelude.{◌≡◌, ◌+◌, ◌-◌, ◌^◌, ◌/◌, ◌<◌, ◌≤◌, length, [], slice_get, Some};
+ghost use Rattle.std.specs.Prelude.{true, IfOk, OnOk, OnErr};
 ghost use Rattle.irig_vcd.specs.FileText.{file_text, begins_high};
 ghost use Rattle.irig_vcd.specs.Recording.{recording_view, is_even_long};
-ghost use Rattle.irig_gap.specs.Items.{gap_view};
 ghost use Rattle.irig_track.specs.Edges.{edges_of, is_edge};
 ghost use Rattle.irig_track.specs.Splices.{risen_by, ended_before};
 ghost use Rattle.irig_track.specs.Track.{IsTrack};

@@ -2,7 +2,7 @@ use Rattle.std.proofs.Common.{arith, ◌≡◌, ◌∙◌, ◌+◌, ◌-◌, ◌
 use Rattle.irig_gap.specs.Items.{GapView, gap_view}
 use Rattle.irig_track.specs.declared.pulse.Pulse.{Pulse}
 use Rattle.irig_track.specs.Edges.{pulse}
-use Rattle.irig_track.proofs.Moving.{next_unmoved, more_moved}
+use Rattle.irig_track.proofs.MovedPulses.{next_unmoved, more_moved}
 use Rattle.irig_track.proofs.Places.{rise_within, pulse_within}
 use Rattle.irig_track.proofs.shift.move_pulses.Goals as goal
 

@@ -1,6 +1,6 @@
 use Rattle.std.proofs.Common.{◌-◌, ◌≡◌, ◌≤◌}
 use Rattle.irig_gap.specs.Items.{gap_view}
-use Rattle.irig_track.proofs.Moving.{moved_so_far}
+use Rattle.irig_track.proofs.MovedPulses.{moved_so_far}
 use Rattle.irig_track.proofs.shift.move_pulses.Given as goal
 
 abbrev pub invariant-loop-moved : goal.invariant-loop-moved
