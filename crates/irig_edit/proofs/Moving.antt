@@ -15,9 +15,9 @@ use Rattle.irig_edit.specs.Edits.{IsAfter, pulse_of}
 use Rattle.irig_edit.specs.Marks.{moved_time, moved_mark}
 use Rattle.irig_edit.specs.Calls.Edit.{Shift}
 use Rattle.irig_edit.specs.Becoming.{Becomes}
-use Rattle.irig_edit.specs.Delta.{turned}
+use Rattle.irig_edit.specs.Single.{turned_single}
 use Rattle.irig_edit.specs.Marks.{AllMayMove, marks_moved, stands}
-use Rattle.irig_edit.specs.Delta.Delta.{Shifted}
+use Rattle.irig_edit.specs.Single.SingleDelta.{Shifted}
 use Rattle.irig_edit.proofs.Marking.{may_between, moved_between}
 use Rattle.irig_edit.proofs.Shifting.{pulse_there}
 
@@ -86,7 +86,7 @@ marks_may i j d s lawful first order last can =
 
 -- the state after a shift of pulses, and of the marks that stand on them, is that after the call
 pub shifted_becomes : (i j : ℕ) (d : ℤ) (s : State) → IsState s → 1 ≤ i → i ≤ j → j ≤ length s.pulses → CanShift s.micros (i - 1) (j - 1) d s.pulses
-    → Becomes (Shift i j d) s (turned s (Shifted (i - 1) (j - 1) d (map (stands (pulse_of i s).rise (pulse_of j s).fall) s.marks))).0 j
+    → Becomes (Shift i j d) s (turned_single s (Shifted (i - 1) (j - 1) d (map (stands (pulse_of i s).rise (pulse_of j s).fall) s.marks))).0 j
 shifted_becomes i j d s lawful first order last can =
     record {
       after = shifted_after i j d s (shifted (i - 1) (j - 1) d s.pulses) (marks_moved d (map (stands (pulse_of i s).rise (pulse_of j s).fall) s.marks) s.marks)

@@ -9,9 +9,9 @@ use Rattle.irig_track.proofs.Rising.{length-edges_of}
 use Rattle.irig_track.proofs.Recordings.{can_toggle_room, can_toggle_first, can_toggle_second, cannot_toggle}
 use Rattle.irig_edit.specs.Becoming.{Becomes}
 use Rattle.irig_edit.specs.Calls.Edit.{Invert}
-use Rattle.irig_edit.specs.Delta.{turned}
-use Rattle.irig_edit.specs.Delta.Delta.{Toggled}
-use Rattle.irig_edit.specs.Laws.State.{IsState-turned}
+use Rattle.irig_edit.specs.Single.{turned_single}
+use Rattle.irig_edit.specs.Single.SingleDelta.{Toggled}
+use Rattle.irig_edit.specs.Laws.State.{IsState-turned_single}
 use Rattle.irig_edit.specs.Laws.Edges.{edges_of-toggled}
 use Rattle.irig_edit.specs.State.{State, IsState}
 use Rattle.irig_edit.specs.Conditions.{is_overfull, is_full}
@@ -39,14 +39,14 @@ overfull a b s lawful order within cannot = by_case (is_full s) refl (is_edge a 
   by_case true is false f false g = rw is (rw f (rw g refl))
 
 -- the state after a toggle is that after an inversion
-pub toggled_becomes : (a b place : ℕ) (s : State) → IsState s → CanToggle s.micros a b s.pulses → place ≡ risen_by b (turned s (Toggled a b)).0.pulses
-    → place ≤ length (turned s (Toggled a b)).0.pulses → Becomes (Invert a b) s (turned s (Toggled a b)).0 place
+pub toggled_becomes : (a b place : ℕ) (s : State) → IsState s → CanToggle s.micros a b s.pulses → place ≡ risen_by b (turned_single s (Toggled a b)).0.pulses
+    → place ≤ length (turned_single s (Toggled a b)).0.pulses → Becomes (Invert a b) s (turned_single s (Toggled a b)).0 place
 toggled_becomes a b place s is can count within =
     let edges = edges_of-toggled s.micros a b s.pulses can in
     record {
       after = record {
         length = refl;
-        track = (IsState-turned s (Toggled a b) is can).track;
+        track = (IsState-turned_single s (Toggled a b) is can).track;
         edges = λ t. ap (has t) edges ∙ has-toggled t a b (edges_of s.pulses) can.order is.track.rises;
         format = refl;
         marks = refl;
@@ -65,10 +65,10 @@ length-flipped t (x ∷ xs) = by_tests (nat_lt t x) (x == t) (length-flipped t x
   by_tests false false rest = omega arith
 
 -- at most one pulse more
-pub length-toggled : (s : State) (a b : ℕ) → CanToggle s.micros a b s.pulses → length (turned s (Toggled a b)).0.pulses ≤ length s.pulses + 1
+pub length-toggled : (s : State) (a b : ℕ) → CanToggle s.micros a b s.pulses → length (turned_single s (Toggled a b)).0.pulses ≤ length s.pulses + 1
 length-toggled s a b can =
     let edges = edges_of-toggled s.micros a b s.pulses can in
     let first = length-flipped a (edges_of s.pulses) in
     let both = length-flipped b (flipped a (edges_of s.pulses)) in
     let long = ap length edges in
-    omega (arith, length-edges_of s.pulses, length-edges_of (turned s (Toggled a b)).0.pulses)
+    omega (arith, length-edges_of s.pulses, length-edges_of (turned_single s (Toggled a b)).0.pulses)

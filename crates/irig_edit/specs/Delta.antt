@@ -1,59 +1,42 @@
--- What a change of a state is, when it can be made, what it leaves, and how much it holds. This
--- project's own.
-use Rattle.std.specs.Prelude.{ℕ, ℤ, ◌<◌, Bool, List, [], ◌∷◌, Option, None, length, get_or, slice_set, neg_ℤ}
-use Rattle.irig_codes.specs.Format.{FormatView}
-use Rattle.irig_track.specs.declared.pulse.Pulse.{Pulse}
-use Rattle.irig_track.specs.Edges.{pulse, edges_of}
-use Rattle.irig_track.specs.Shifts.{CanShift, shifted}
-use Rattle.irig_track.specs.Splices.{CanSplice, piece, spliced}
-use Rattle.irig_track.specs.Toggles.{CanToggle, toggled}
-use Rattle.irig_edit.specs.State.{State, IsMark, state, with_pulses}
-use Rattle.irig_edit.specs.Marks.{AllMayMove, marks_moved}
+-- What a change of a state is: one, or several in a group. This project's own.
+use Rattle.std.specs.Prelude.{ℕ, ◌-◌, ◌^◌, List, [], ◌∷◌, flat_map, min}
+use Rattle.std.specs.List.{sum_by}
+use Rattle.irig_journal.specs.Turns.{FitAll, left_by, ways_back}
+use Rattle.irig_edit.specs.Single.{FitsSingle, SingleDelta, held_in, turned_single}
+use Rattle.irig_edit.specs.State.{State}
 
--- Pulses count from 0 here, and a letter a to z is a number from 0. A splice takes as many pulses
--- from a place on, and puts others in their stead; a toggle turns two times; a shift moves pulses,
--- both included, by a distance, and with them the marks of the letters named.
+-- a single change alone, or several to be made together, one after another
 pub data Delta : Type 0 where
-  Spliced : ℕ → ℕ → List Pulse → Delta
-  Toggled : ℕ → ℕ → Delta
-  Shifted : ℕ → ℕ → ℤ → List Bool → Delta
-  Formatted : FormatView → Delta
-  Marked : ℕ → Option ℕ → Delta
+  Alone : SingleDelta → Delta
+  Together : List SingleDelta → Delta
 
--- the pulses of edges, taken two by two
-abbrev pub pulses_of : List ℕ → List Pulse
-pulses_of [] = []
-pulses_of (rise ∷ []) = []
-pulses_of (rise ∷ fall ∷ edges) = pulse rise fall ∷ pulses_of edges
-
--- the change can be made
+-- the change can be made: of a group, each single in its turn
 abbrev pub Fits : State → Delta → Type 0
-Fits s (Spliced at count put) = CanSplice s.micros at count put s.pulses
-Fits s (Toggled a b) = CanToggle s.micros a b s.pulses
-Fits s (Shifted i j d named) =
-    CanShift s.micros i j d s.pulses × AllMayMove s.micros d named s.marks
-Fits s (Formatted f) = Unit {0}
-Fits s (Marked letter time) = (letter < 26) × IsMark s.micros time
+Fits s (Alone single) = FitsSingle s single
+Fits s (Together singles) = FitAll FitsSingle turned_single s singles
 
--- the state that a change leaves, and the change that leads back
+-- the state that a change leaves, and the change that leads back: of a group, what leads back from
+-- its singles in the opposite order
 abbrev pub turned : State → Delta → State × Delta
-turned s (Spliced at count put) = (
-  with_pulses (spliced at count put s.pulses) s,
-  Spliced at (length put) (piece at count s.pulses),
-)
-turned s (Toggled a b) =
-    (with_pulses (pulses_of (toggled a b (edges_of s.pulses))) s, Toggled a b)
-turned s (Shifted i j d named) = (
-  state s.micros (shifted i j d s.pulses) s.format (marks_moved d named s.marks),
-  Shifted i j (neg_ℤ d) named,
-)
-turned s (Formatted f) = (state s.micros s.pulses f s.marks, Formatted s.format)
-turned s (Marked letter time) = (
-  state s.micros s.pulses s.format (slice_set s.marks letter time),
-  Marked letter (get_or s.marks letter None),
-)
+turned s (Alone single) = ((turned_single s single).0, Alone (turned_single s single).1)
+turned s (Together singles) =
+    (left_by turned_single s singles, Together (ways_back turned_single s singles))
 
--- how many pulses a change holds
+-- how many pulses a change holds, those of a group counted up to 2^64 - 1
 abbrev pub weight_of : Delta → ℕ
-weight_of (Spliced at count put) = length put
-weight_of change = 0
+weight_of (Alone single) = held_in single
+weight_of (Together singles) = min (sum_by held_in singles) (2 ^ 64 - 1)
+
+-- the single changes of a change
+abbrev pub singles_of : Delta → List SingleDelta
+singles_of (Alone single) = single ∷ []
+singles_of (Together singles) = singles
+
+-- the group of the single changes of several
+abbrev pub gathered : List Delta → Delta
+gathered changes = Together (flat_map singles_of changes)
+
+-- the changes on which the test whether they can be made is exact
+abbrev pub IsAlone : Delta → Type 0
+IsAlone (Alone single) = Unit {0}
+IsAlone (Together singles) = ⊥

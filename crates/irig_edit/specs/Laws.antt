@@ -1,6 +1,8 @@
 -- Lemmas that the laws of changes rest on. What a contract means needs none of them.
 pub mod Delta
 pub mod Edges
+pub mod Groups
 pub mod Marks
 pub mod SetMarks
+pub mod Single
 pub mod State

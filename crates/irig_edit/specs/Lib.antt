@@ -4,10 +4,12 @@ pub mod Conditions
 pub mod Delta
 pub mod Edits
 pub mod Exchanges
+pub mod GroupRuns
 pub mod Held
 pub mod Keeping
 pub mod Kept
 pub mod Laws
+pub mod Limits
 pub mod Looks
 pub mod Machine
 pub mod Marks
@@ -18,4 +20,5 @@ pub mod Regenerated
 pub mod Room
 pub mod Runs
 pub mod Session
+pub mod Single
 pub mod State

@@ -5,17 +5,23 @@ mod change;
 mod edits;
 mod frames;
 mod getters;
+mod groups;
 mod law;
 mod marks;
 mod present;
 mod refusal;
+mod room;
 mod session;
+mod single;
+mod singles;
+mod splice;
 #[cfg(test)]
 mod tests;
 mod turn;
+mod turns;
 
 pub use irig_index::{Cause, Record, Verdict};
 pub use irig_track::Pulse;
-pub use law::{calls_give_back, generated_frames_read_back};
+pub use law::{calls_give_back, generated_frames_read_back, groups_give_back};
 pub use refusal::Refusal;
 pub use session::Session;

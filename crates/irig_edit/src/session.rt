@@ -1,10 +1,10 @@
 //! A track under edit.
 
 ghost use Rattle.std.specs.Prelude.{◌≡◌, ◌≤◌, ◌<◌, ◌-◌, length, IfOk, OnOk, OnErr, IsErrOf, None, Ok};
-ghost use Rattle.irig_journal.specs.Machine.{recorded};
+ghost use Rattle.irig_journal.specs.Groups.{recorded_over};
 ghost use Rattle.irig_edit.specs.State.{recording_of, with_pulses};
 ghost use Rattle.irig_edit.specs.Machine.{NoMarks};
-ghost use Rattle.irig_edit.specs.Session.{LooksAfter, LooksWithin, Steps, machine_in, started};
+ghost use Rattle.irig_edit.specs.Session.{LooksAfter, LooksWithin, Steps, grouped_in, started};
 ghost use Rattle.irig_edit.specs.Kept.{exchange, kept};
 ghost use Rattle.irig_edit.specs.Exchanges.{exchange_by};
 ghost use Rattle.irig_edit.specs.Keeping.{exchange_of};
@@ -16,9 +16,11 @@ ghost use Rattle.irig_edit.specs.Calls.Call.{Make, Undo, Redo, Go};
 ghost use Rattle.irig_edit.specs.Calls.Edit.{SetFormat, SetMark};
 ghost use Rattle.irig_track.specs.Splices.{spliced, CanSplice};
 
-use crate::change::{Change, Splice};
+use crate::change::Change;
 use crate::present::Present;
 use crate::refusal::Refusal;
+use crate::single::Single;
+use crate::splice::Splice;
 use irig_codes::Format;
 use irig_gap::Gap;
 use irig_journal::{Journal, JournalFault};
@@ -42,19 +44,19 @@ pub struct Session {
 
 impl Model for Session {
     ghost use Rattle.irig_journal.specs.Journal.{FitsState};
-    ghost use Rattle.irig_edit.specs.Keeping.{machine_at};
+    ghost use Rattle.irig_edit.specs.Keeping.{grouped_at};
     ghost use Rattle.irig_edit.specs.Session.{SessionView, session_view};
-    ghost use Rattle.irig_edit.specs.Machine.{IsMachine};
+    ghost use Rattle.irig_edit.specs.Limits.{IsGrouped};
     ghost use Rattle.irig_edit.specs.Delta.{Fits, turned};
     ghost use Rattle.irig_edit.specs.Held.{delta_of};
 
     ghost Value = { SessionView };
 
     ghost view = { λ s.
-        session_view (machine_at s.present.state s.cursor s.journal) s.present.index.looks
+        session_view (grouped_at s.present.state s.cursor s.journal) s.present.index.looks
         s.last_looks };
 
-    ghost invariant = { λ s. IsMachine (machine_at s.present.state s.cursor s.journal)
+    ghost invariant = { λ s. IsGrouped (grouped_at s.present.state s.cursor s.journal)
         × FitsState Fits turned delta_of s.present.state s.journal };
 }
 
@@ -83,7 +85,7 @@ impl Session {
         ensures looks { LooksAfter (Make (SetFormat format)) self.old result self.new }
     {
         let cursor = self.cursor;
-        self.change(Change::SetFormat(format), cursor)
+        self.change(Change::One(Single::SetFormat(format)), cursor)
     }
 
     /// Sets the mark of a letter a to z to a time in microseconds, or clears it.
@@ -97,10 +99,12 @@ impl Session {
         }
         let letter = (letter - b'a') as usize;
         let cursor = self.cursor;
-        self.change(Change::SetMark { letter, time }, cursor)
+        self.change(Change::One(Single::SetMark { letter, time }), cursor)
     }
 
     /// Takes the newest step back.
+    ///
+    /// E9 where there is none; E14 where it was made before the open group was begun.
     pub fn undo(&mut self) -> Result<(), Refusal>
         ensures step { Steps Undo self.old result self.new }
         ensures looks { LooksAfter Undo self.old result self.new }
@@ -112,11 +116,14 @@ impl Session {
                 Ok(())
             }
             Err(JournalFault::NothingToUndo) => Err(Refusal::NothingToUndo),
+            Err(JournalFault::GroupFloor) => Err(Refusal::GroupFloor),
             Err(_) => Err(Refusal::OutOfMemory),
         }
     }
 
     /// Makes the step again that was taken back last.
+    ///
+    /// E10 where there is none.
     pub fn redo(&mut self) -> Result<(), Refusal>
         ensures step { Steps Redo self.old result self.new }
         ensures looks { LooksAfter Redo self.old result self.new }
@@ -167,7 +174,7 @@ impl Session {
         ensures looks { LooksWithin self.new.present.made.forth self.old result self.new }
     {
         let splice = Splice::new(self.alloc, at, count, put);
-        self.change(Change::Splice(splice), cursor)
+        self.change(Change::One(Single::Splice(splice)), cursor)
     }
 
     /// Makes a change, as a step that leaves the cursor at a place.
@@ -182,7 +189,7 @@ impl Session {
             ≡ exchange_by edit self.old.present.state
             → Steps (Make edit) self.old result self.new }
         ensures looks { LooksWithin self.new.present.made.forth self.old result self.new }
-        ensures ok { OnOk result (machine_in self.new ≡ recorded (machine_in self.old)
+        ensures ok { OnOk result (grouped_in self.new ≡ recorded_over (grouped_in self.old)
             (kept (turned self.old.present.state (delta_of change)).0 cursor
             (exchange_of self.old.present.state (delta_of change)))) }
         ensures err { OnErr result ((self.new ≡ self.old) × IsErrOf result Refusal.OutOfMemory) }

@@ -2,6 +2,7 @@
 //! at.
 
 mod beside;
+mod grouping;
 mod held;
 mod helpers;
 mod leaving;

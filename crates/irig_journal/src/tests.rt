@@ -1,19 +1,28 @@
-//! Calls of a journal, with the state, the cursor and the counts that they leave, worked out by
-//! hand.
+//! Calls of a journal over the stack, with what each answers and leaves, worked out by hand.
 
 ghost use Rattle.irig_journal.specs.Journal.{FitsState};
+ghost use Rattle.irig_journal.specs.Stack.{CanEdit, edited};
 
-use crate::stack::{Edit, Stack};
-use crate::{Journal, JournalFault, Reversible, machine_gives_back, turn_gives_back};
+use crate::stack::{Edit, Single, Stack};
+use crate::{
+    Journal, JournalFault, Reversible, gathered_is_all, groups_give_back, machine_gives_back,
+    turn_gives_back,
+};
+use std::alloc::Global;
+use std::process::Abort;
 use std::test::Fail;
 
-/// What a user asks for: an edit with the cursor that it leaves, or a move of the cursor.
-#[derive(Drop)]
-enum Call<C> {
-    Make(C, usize),
+/// What a user asks for: an edit with the cursor that it leaves, a move of the cursor, or a step.
+#[derive(Clone, Copy, Debug)]
+enum Call {
+    Push(u8, usize),
+    Pop(usize),
     Go(usize),
     Undo,
     Redo,
+    Begin,
+    End,
+    Abort,
 }
 
 /// What a call answers. `Unfit` where the edit does not apply.
@@ -24,137 +33,207 @@ enum Reply {
     Refused(JournalFault),
 }
 
-/// Obeys a call over any state.
-fn obey<R: Reversible>(
+const NO_STEP_BACK: Reply = Reply::Refused(JournalFault::NothingToUndo);
+
+const NO_STEP_ON: Reply = Reply::Refused(JournalFault::NothingToRedo);
+
+const OPEN: Reply = Reply::Refused(JournalFault::GroupOpen);
+
+const NONE_OPEN: Reply = Reply::Refused(JournalFault::NoGroup);
+
+const AT_FLOOR: Reply = Reply::Refused(JournalFault::GroupFloor);
+
+/// A call, its reply, then the bytes, the cursor, the steps back and forward, the turns made, and
+/// what past and future hold.
+type Row<'a> = (
+    Call,
+    Reply,
+    &'a [u8],
+    usize,
+    usize,
+    usize,
+    u64,
+    (u128, u128),
+);
+
+/// Takes steps back, makes them again or groups them, over any state.
+fn step<R: Reversible>(
     journal: &mut Journal<R>,
     state: &mut R,
     cursor: &mut usize,
-    call: Call<R::Change>,
+    call: Call,
+) -> Result<(), JournalFault>
+    requires { FitsState R.fits R.turned R.delta (R.content state.old) journal.old }
+    ensures { FitsState R.fits R.turned R.delta (R.content state.new) journal.new }
+{
+    match call {
+        Call::Undo => journal.undo(state, cursor),
+        Call::Redo => journal.redo(state, cursor),
+        Call::Begin => journal.begin(*cursor),
+        Call::End => journal.end(state),
+        Call::Abort => journal.abort(state, cursor),
+        _ => Ok(()),
+    }
+}
+
+/// Makes a change where it applies, over any state.
+fn make<R: Reversible>(
+    journal: &mut Journal<R>,
+    state: &mut R,
+    cursor: &mut usize,
+    change: R::Change,
+    after: usize,
 ) -> Reply
     requires { FitsState R.fits R.turned R.delta (R.content state.old) journal.old }
     ensures { FitsState R.fits R.turned R.delta (R.content state.new) journal.new }
 {
-    let answer = match call {
-        Call::Undo => journal.undo(state, cursor),
-        Call::Redo => journal.redo(state, cursor),
-        Call::Go(place) => {
-            *cursor = place;
-            Ok(())
-        }
-        Call::Make(change, after) => {
-            if !state.applies(&change) {
-                return Reply::Unfit;
-            }
-            let before = *cursor;
-            *cursor = after;
-            journal.record(state, change, before)
-        }
-    };
+    if !state.applies(&change) {
+        return Reply::Unfit;
+    }
+    let before = *cursor;
+    *cursor = after;
+    reply_to(journal.record(state, change, before))
+}
+
+/// What an answer is told as.
+fn reply_to(answer: Result<(), JournalFault>) -> Reply {
     match answer {
         Ok(()) => Reply::Done,
         Err(fault) => Reply::Refused(fault),
     }
 }
 
-#[test]
-fn a_journal_is_the_machine_of_whole_states(rt: HostRuntime) -> Result<(), Fail> {
-    let nothing_to_undo = Reply::Refused(JournalFault::NothingToUndo);
-    let nothing_to_redo = Reply::Refused(JournalFault::NothingToRedo);
-    // the call, its reply, then the bytes, the cursor, the steps back and forward, the turns made
-    let rows = [
-        (Call::Undo, nothing_to_undo, "", 0, 0, 0, 0),
-        (Call::Redo, nothing_to_redo, "", 0, 0, 0, 0),
-        (Call::Make(Edit::Pop, 9), Reply::Unfit, "", 0, 0, 0, 0),
-        (
-            Call::Make(Edit::Push(b'a'), 1),
-            Reply::Done,
-            "a",
-            1,
-            1,
-            0,
-            1,
-        ),
-        (
-            Call::Make(Edit::Push(b'b'), 2),
-            Reply::Done,
-            "ab",
-            2,
-            2,
-            0,
-            2,
-        ),
-        (Call::Make(Edit::Pop, 5), Reply::Done, "a", 5, 3, 0, 3),
-        (Call::Redo, nothing_to_redo, "a", 5, 3, 0, 3),
-        (Call::Undo, Reply::Done, "ab", 2, 2, 1, 4),
-        (Call::Undo, Reply::Done, "a", 1, 1, 2, 5),
-        (Call::Redo, Reply::Done, "ab", 2, 2, 1, 6),
-        (Call::Redo, Reply::Done, "a", 5, 3, 0, 7),
-        // A redo gives back the cursor that stood at the undo, and not the one that the edit left.
-        (Call::Go(4), Reply::Done, "a", 4, 3, 0, 7),
-        (Call::Undo, Reply::Done, "ab", 2, 2, 1, 8),
-        (Call::Go(6), Reply::Done, "ab", 6, 2, 1, 8),
-        (Call::Redo, Reply::Done, "a", 4, 3, 0, 9),
-        (Call::Undo, Reply::Done, "ab", 6, 2, 1, 10),
-        (Call::Undo, Reply::Done, "a", 1, 1, 2, 11),
-        (Call::Undo, Reply::Done, "", 0, 0, 3, 12),
-        // A refused edit keeps what can be made again, and an accepted one does not.
-        (Call::Make(Edit::Pop, 9), Reply::Unfit, "", 0, 0, 3, 12),
-        (Call::Undo, nothing_to_undo, "", 0, 0, 3, 12),
-        (Call::Redo, Reply::Done, "a", 1, 1, 2, 13),
-        (
-            Call::Make(Edit::Push(b'c'), 3),
-            Reply::Done,
-            "ac",
-            3,
-            2,
-            0,
-            14,
-        ),
-        (Call::Redo, nothing_to_redo, "ac", 3, 2, 0, 14),
-    ];
+/// Obeys a call.
+fn obey(journal: &mut Journal<Stack>, stack: &mut Stack, cursor: &mut usize, call: Call) -> Reply
+    requires { FitsState CanEdit edited (λ d. d) stack.old.items.items journal.old }
+    ensures { FitsState CanEdit edited (λ d. d) stack.new.items.items journal.new }
+{
+    match call {
+        Call::Push(x, after) => make(journal, stack, cursor, Edit::One(Single::Push(x)), after),
+        Call::Pop(after) => make(journal, stack, cursor, Edit::One(Single::Pop), after),
+        Call::Go(place) => {
+            *cursor = place;
+            Reply::Done
+        }
+        _ => reply_to(step(journal, stack, cursor, call)),
+    }
+}
+
+/// Obeys calls from an empty stack on, and compares what each answers and leaves.
+fn check(rt: &impl Abort, alloc: Global, rows: &[Row<'_>]) {
     let mut stack = Stack {
-        items: Vec::new(rt.alloc()),
+        items: Vec::new(alloc),
         turns: 0,
     };
-    let mut journal = Journal::new(rt.alloc());
+    let mut journal = Journal::new(alloc);
     let mut cursor = 0;
-    for (call, reply, bytes, place, back, forward, turns) in rows {
-        assert_eq!(rt; obey(&mut journal, &mut stack, &mut cursor, call), reply);
-        assert_eq!(rt; stack.items.as_slice(), bytes.as_bytes());
-        assert_eq!(rt; cursor, place);
-        assert_eq!(rt; journal.steps_back(), back);
-        assert_eq!(rt; journal.steps_forward(), forward);
-        assert_eq!(rt; stack.turns, turns);
+    for (call, reply, bytes, place, back, forward, turns, held) in rows {
+        let answer = obey(&mut journal, &mut stack, &mut cursor, *call);
+        assert!(rt; answer == *reply && stack.items.as_slice() == *bytes && cursor == *place);
+        assert!(rt; journal.steps_back() == *back && journal.steps_forward() == *forward);
+        assert!(rt; stack.turns == *turns && journal.weights() == *held);
     }
+}
+
+#[test]
+fn a_journal_is_the_machine_of_whole_states(rt: HostRuntime) -> Result<(), Fail> {
+    let rows: [Row<'_>; 23] = [
+        (Call::Undo, NO_STEP_BACK, b"", 0, 0, 0, 0, (0, 0)),
+        (Call::Redo, NO_STEP_ON, b"", 0, 0, 0, 0, (0, 0)),
+        (Call::Pop(9), Reply::Unfit, b"", 0, 0, 0, 0, (0, 0)),
+        (Call::Push(b'a', 1), Reply::Done, b"a", 1, 1, 0, 1, (0, 0)),
+        (Call::Push(b'b', 2), Reply::Done, b"ab", 2, 2, 0, 2, (0, 0)),
+        (Call::Pop(5), Reply::Done, b"a", 5, 3, 0, 3, (1, 0)),
+        (Call::Redo, NO_STEP_ON, b"a", 5, 3, 0, 3, (1, 0)),
+        (Call::Undo, Reply::Done, b"ab", 2, 2, 1, 4, (0, 0)),
+        (Call::Undo, Reply::Done, b"a", 1, 1, 2, 5, (0, 1)),
+        (Call::Redo, Reply::Done, b"ab", 2, 2, 1, 6, (0, 0)),
+        (Call::Redo, Reply::Done, b"a", 5, 3, 0, 7, (1, 0)),
+        // A redo gives back the cursor that stood at the undo, and not the one that the edit left.
+        (Call::Go(4), Reply::Done, b"a", 4, 3, 0, 7, (1, 0)),
+        (Call::Undo, Reply::Done, b"ab", 2, 2, 1, 8, (0, 0)),
+        (Call::Go(6), Reply::Done, b"ab", 6, 2, 1, 8, (0, 0)),
+        (Call::Redo, Reply::Done, b"a", 4, 3, 0, 9, (1, 0)),
+        (Call::Undo, Reply::Done, b"ab", 6, 2, 1, 10, (0, 0)),
+        (Call::Undo, Reply::Done, b"a", 1, 1, 2, 11, (0, 1)),
+        (Call::Undo, Reply::Done, b"", 0, 0, 3, 12, (0, 2)),
+        // A refused edit keeps what can be made again, and an accepted one does not.
+        (Call::Pop(9), Reply::Unfit, b"", 0, 0, 3, 12, (0, 2)),
+        (Call::Undo, NO_STEP_BACK, b"", 0, 0, 3, 12, (0, 2)),
+        (Call::Redo, Reply::Done, b"a", 1, 1, 2, 13, (0, 1)),
+        (Call::Push(b'c', 3), Reply::Done, b"ac", 3, 2, 0, 14, (0, 0)),
+        (Call::Redo, NO_STEP_ON, b"ac", 3, 2, 0, 14, (0, 0)),
+    ];
+    check(&rt, rt.alloc(), &rows);
     turn_gives_back::<Stack>();
+    gathered_is_all::<Stack>();
     machine_gives_back::<Stack>();
+    groups_give_back::<Stack>();
     Ok(())
 }
 
 #[test]
-fn steps_weigh_what_their_changes_hold(rt: HostRuntime) -> Result<(), Fail> {
-    // the call, then the weights of the past and of the future
-    let rows = [
-        (Call::Make(Edit::Push(b'a'), 1), (0, 0)),
-        (Call::Make(Edit::Push(b'b'), 2), (0, 0)),
-        (Call::Make(Edit::Pop, 1), (1, 0)),
-        (Call::Undo, (0, 0)),
-        (Call::Undo, (0, 1)),
-        (Call::Undo, (0, 2)),
-        (Call::Redo, (0, 1)),
+fn a_group_is_taken_back_whole(rt: HostRuntime) -> Result<(), Fail> {
+    let rows: [Row<'_>; 27] = [
+        (Call::End, NONE_OPEN, b"", 0, 0, 0, 0, (0, 0)),
+        (Call::Begin, Reply::Done, b"", 0, 0, 0, 0, (0, 0)),
+        (Call::Undo, NO_STEP_BACK, b"", 0, 0, 0, 0, (0, 0)),
+        (Call::End, Reply::Done, b"", 0, 0, 0, 0, (0, 0)),
+        (Call::Push(b'a', 1), Reply::Done, b"a", 1, 1, 0, 1, (0, 0)),
+        (Call::Begin, Reply::Done, b"a", 1, 1, 0, 1, (0, 0)),
+        (Call::Begin, OPEN, b"a", 1, 1, 0, 1, (0, 0)),
+        (Call::Undo, AT_FLOOR, b"a", 1, 1, 0, 1, (0, 0)),
+        (Call::Pop(5), Reply::Done, b"", 5, 2, 0, 2, (1, 0)),
+        (Call::Push(b'b', 6), Reply::Done, b"b", 6, 3, 0, 3, (1, 0)),
+        (Call::Go(7), Reply::Done, b"b", 7, 3, 0, 3, (1, 0)),
+        // The joined step keeps the cursor of its oldest state.
+        (Call::End, Reply::Done, b"b", 7, 2, 0, 3, (1, 0)),
+        (Call::Undo, Reply::Done, b"a", 1, 1, 1, 4, (0, 1)),
+        (Call::Redo, Reply::Done, b"b", 7, 2, 0, 5, (1, 0)),
+        (Call::Undo, Reply::Done, b"a", 1, 1, 1, 6, (0, 1)),
+        // A group with no step makes none, and keeps what can be made again.
+        (Call::Begin, Reply::Done, b"a", 1, 1, 1, 6, (0, 1)),
+        (Call::End, Reply::Done, b"a", 1, 1, 1, 6, (0, 1)),
+        // A group made again in a group gives its changes singly.
+        (Call::Begin, Reply::Done, b"a", 1, 1, 1, 6, (0, 1)),
+        (Call::Redo, Reply::Done, b"b", 7, 2, 0, 7, (1, 0)),
+        (Call::Push(b'c', 3), Reply::Done, b"bc", 3, 3, 0, 8, (1, 0)),
+        (Call::End, Reply::Done, b"bc", 3, 2, 0, 8, (1, 0)),
+        (Call::Undo, Reply::Done, b"a", 1, 1, 1, 9, (0, 2)),
+        (Call::Redo, Reply::Done, b"bc", 3, 2, 0, 10, (1, 0)),
+        // One step alone stays as it is.
+        (Call::Begin, Reply::Done, b"bc", 3, 2, 0, 10, (1, 0)),
+        (Call::Pop(8), Reply::Done, b"b", 8, 3, 0, 11, (2, 0)),
+        (Call::End, Reply::Done, b"b", 8, 3, 0, 11, (2, 0)),
+        (Call::Undo, Reply::Done, b"bc", 3, 2, 1, 12, (1, 0)),
     ];
-    let mut stack = Stack {
-        items: Vec::new(rt.alloc()),
-        turns: 0,
-    };
-    let mut journal = Journal::new(rt.alloc());
-    let mut cursor = 0;
-    for (call, weights) in rows {
-        assert_eq!(rt;
-            obey(&mut journal, &mut stack, &mut cursor, call),
-            Reply::Done
-        );
-        assert_eq!(rt; journal.weights(), weights);
-    }
+    check(&rt, rt.alloc(), &rows);
+    Ok(())
+}
+
+#[test]
+fn an_abort_gives_back_what_stood_at_the_begin(rt: HostRuntime) -> Result<(), Fail> {
+    let rows: [Row<'_>; 17] = [
+        (Call::Abort, NONE_OPEN, b"", 0, 0, 0, 0, (0, 0)),
+        (Call::Push(b'a', 1), Reply::Done, b"a", 1, 1, 0, 1, (0, 0)),
+        (Call::Begin, Reply::Done, b"a", 1, 1, 0, 1, (0, 0)),
+        (Call::Go(9), Reply::Done, b"a", 9, 1, 0, 1, (0, 0)),
+        (Call::Push(b'b', 2), Reply::Done, b"ab", 2, 2, 0, 2, (0, 0)),
+        (Call::Undo, Reply::Done, b"a", 9, 1, 1, 3, (0, 1)),
+        (Call::Redo, Reply::Done, b"ab", 2, 2, 0, 4, (0, 0)),
+        (Call::Pop(4), Reply::Done, b"a", 4, 3, 0, 5, (1, 0)),
+        (Call::Pop(5), Reply::Done, b"", 5, 4, 0, 6, (2, 0)),
+        (Call::Undo, Reply::Done, b"a", 4, 3, 1, 7, (1, 0)),
+        // All in one turn, to the cursor that stood at the begin, also after the going to 9.
+        (Call::Abort, Reply::Done, b"a", 1, 1, 0, 8, (0, 0)),
+        (Call::Redo, NO_STEP_ON, b"a", 1, 1, 0, 8, (0, 0)),
+        // Where there is no step there is no turn, and nothing is left to be made again.
+        (Call::Undo, Reply::Done, b"", 0, 0, 1, 9, (0, 1)),
+        (Call::Begin, Reply::Done, b"", 0, 0, 1, 9, (0, 1)),
+        (Call::Abort, Reply::Done, b"", 0, 0, 0, 9, (0, 0)),
+        (Call::Redo, NO_STEP_ON, b"", 0, 0, 0, 9, (0, 0)),
+        (Call::End, NONE_OPEN, b"", 0, 0, 0, 9, (0, 0)),
+    ];
+    check(&rt, rt.alloc(), &rows);
     Ok(())
 }

@@ -139,6 +139,9 @@ asks_one word.Unmark range args c d h k =
     h.1 ∙ ap command.Unmark letter ∙ sym k.1
 asks_one word.Undo range args c d h k = h.0 ∙ sym k.0
 asks_one word.Redo range args c d h k = h.0 ∙ sym k.0
+asks_one word.Begin range args c d h k = h.0 ∙ sym k.0
+asks_one word.End range args c d h k = h.0 ∙ sym k.0
+asks_one word.Abort range args c d h k = h.0 ∙ sym k.0
 asks_one word.Frames range args c d h k = h.0 ∙ sym k.0
 asks_one word.Marks range args c d h k = h.0 ∙ sym k.0
 asks_one word.Info range args c d h k = h.0 ∙ sym k.0

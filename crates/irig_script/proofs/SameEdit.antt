@@ -1,6 +1,7 @@
 -- A dump has one state that it is read as, and so a script edits it in one way.
 use Rattle.std.proofs.Common.{◌≡◌, ℕ, List, Option, refl, sym, ap, ◌∙◌}
-use Rattle.std.specs.Prelude.{Ok}
+use Rattle.std.specs.Prelude.{Ok, None}
+use Rattle.irig_journal.specs.Groups.{over}
 use Rattle.irig_vcd.specs.Dump.{dump}
 use Rattle.irig_vcd.specs.Recording.{RecordingView}
 use Rattle.irig_codes.specs.Format.{FormatView}
@@ -35,7 +36,7 @@ pub one_edit : OneOutcome → OneEdit
 one_edit outcome wire chosen source script one other printed put met =
     let begin : BeginTheSame (run_in one) (run_in other) = record {
       status = refl;
-      machine = ap machine.started (first_one wire chosen source script one other);
+      machine = ap (λ (s : State). over None (machine.started s)) (first_one wire chosen source script one other);
       printed = printed;
       put = put;
     } in

@@ -3,14 +3,14 @@ use Rattle.std.proofs.Common.{◌≡◌, ◌+◌, ◌-◌, ℕ, Bool, true, fals
 use Rattle.std.specs.Prelude.{Result, Ok, Err}
 use Rattle.irig_vcd.specs.FileText.{file_text}
 use Rattle.irig_codes.specs.Format.{FormatView, is_permitted}
-use Rattle.irig_journal.specs.Machine.{Machine as Whole}
+use Rattle.irig_journal.specs.Groups.{Grouped as Whole}
 use Rattle.irig_edit.specs.Calls.{Call, Edit}
 use Rattle.irig_edit.specs.Conditions.{are_pulses}
 use Rattle.irig_edit.specs.Kept.{Kept}
 use Rattle.irig_edit.specs.Machine.{Steps}
 use Rattle.irig_edit.specs.Refusals.{refusal_of}
 use Rattle.irig_edit.specs.Runs.{OneOutcome}
-use Rattle.irig_edit.specs.Session.{machine_in, session_view}
+use Rattle.irig_edit.specs.Session.{grouped_in, session_view}
 use Rattle.irig_edit.specs.State.{recording_of}
 use Rattle.irig_edit.specs.declared.refusal.Refusal.{Refusal}
 use Rattle.irig_edit.specs.declared.refusal.Refusal.TheVariants as refusal
@@ -36,31 +36,31 @@ abbrev pub bare : Whole Kept → Machine
 bare k = session_view k 0 0
 
 -- addresses and times stand for the same in machines that differ in their looks alone
-base_same : (b : Base) (o p : Machine) → machine_in o ≡ machine_in p → base_of b o ≡ base_of b p
+base_same : (b : Base) (o p : Machine) → grouped_in o ≡ grouped_in p → base_of b o ≡ base_of b p
 base_same (Number n) o p e = refl
 base_same Current o p e = ap (λ k. base_of Current (bare k)) e
 base_same Last o p e = ap (λ k. base_of Last (bare k)) e
 base_same (Mark letter) o p e = ap (λ k. base_of (Mark letter) (bare k)) e
 
-pulse_same : (by : ℕ) (a : Address) (o p : Machine) → machine_in o ≡ machine_in p → pulse_at by a o ≡ pulse_at by a p
-pulse_same by a o p e = ap₂ (λ b n. counted b by a.offset n) (base_same a.base o p e) (ap (λ k. length k.present.state.pulses) e)
+pulse_same : (by : ℕ) (a : Address) (o p : Machine) → grouped_in o ≡ grouped_in p → pulse_at by a o ≡ pulse_at by a p
+pulse_same by a o p e = ap₂ (λ b n. counted b by a.offset n) (base_same a.base o p e) (ap (λ k. length k.machine.present.state.pulses) e)
 
-number_same : (a : Address) (o p : Machine) → machine_in o ≡ machine_in p → number_at a o ≡ number_at a p
+number_same : (a : Address) (o p : Machine) → grouped_in o ≡ grouped_in p → number_at a o ≡ number_at a p
 number_same a o p e = pulse_same 0 a o p e
 
-first_same : (r : Range) (o p : Machine) → machine_in o ≡ machine_in p → first_of r o ≡ first_of r p
+first_same : (r : Range) (o p : Machine) → grouped_in o ≡ grouped_in p → first_of r o ≡ first_of r p
 first_same (One a) o p e = number_same a o p e
 first_same (Two a b) o p e = number_same a o p e
 
-last_same : (r : Range) (o p : Machine) → machine_in o ≡ machine_in p → last_of r o ≡ last_of r p
+last_same : (r : Range) (o p : Machine) → grouped_in o ≡ grouped_in p → last_of r o ≡ last_of r p
 last_same (One a) o p e = number_same a o p e
 last_same (Two a b) o p e = number_same b o p e
 
-join_last_same : (r : Range) (o p : Machine) → machine_in o ≡ machine_in p → join_last_of r o ≡ join_last_of r p
+join_last_same : (r : Range) (o p : Machine) → grouped_in o ≡ grouped_in p → join_last_of r o ≡ join_last_of r p
 join_last_same (One a) o p e = pulse_same 1 a o p e
 join_last_same (Two a b) o p e = number_same b o p e
 
-time_same : (t : Time) (o p : Machine) → machine_in o ≡ machine_in p → time_of t o ≡ time_of t p
+time_same : (t : Time) (o p : Machine) → grouped_in o ≡ grouped_in p → time_of t o ≡ time_of t p
 time_same (time.At t) o p e = refl
 time_same (time.Mark letter) o p e = ap (λ k. time_of (time.Mark letter) (bare k)) e
 
@@ -76,6 +76,9 @@ refused_for call old new refusal.BadTime h e = h.0
 refused_for call old new refusal.BadControl h e = h.0
 refused_for call old new refusal.NothingToUndo h e = h.0
 refused_for call old new refusal.NothingToRedo h e = h.0
+refused_for call old new refusal.GroupOpen h e = h.0
+refused_for call old new refusal.NoGroup h e = h.0
+refused_for call old new refusal.GroupFloor h e = h.0
 refused_for call old new refusal.OutOfMemory h e = absurd (cc)
 
 only_memory : (why : Refusal) → wants_memory (told.Refused why) ≡ true → why ≡ refusal.OutOfMemory
@@ -121,21 +124,21 @@ module _ (outcome : OneOutcome) where
       (t ∙ ap tell one ∙ sym u, step_one same p a b y (subst (λ (z : Result Unit Refusal). Steps same p z a) one g) k)
 
   called : (call : Call) (old : Machine) (r : Reply) (new : Machine) → Calls call old r new
-      → (x : Result Unit Refusal) × (r ≡ reply_to x) × Steps call (machine_in old) x (machine_in new)
+      → (x : Result Unit Refusal) × (r ≡ reply_to x) × Steps call (grouped_in old) x (grouped_in new)
   called call old told.Silent new h = (Ok tt, refl, h)
   called call old (told.Refused why) new h = (Err why, refl, h)
   called call old _ new h = absurd h
 
-  calls_one : (call same : Call) → call ≡ same → (o p : Machine) → machine_in o ≡ machine_in p → (r s : Reply) (a b : Machine)
-      → Calls call o r a → Calls same p s b → wants_memory r ≡ wants_memory s → (r ≡ s) × (machine_in a ≡ machine_in b)
+  calls_one : (call same : Call) → call ≡ same → (o p : Machine) → grouped_in o ≡ grouped_in p → (r s : Reply) (a b : Machine)
+      → Calls call o r a → Calls same p s b → wants_memory r ≡ wants_memory s → (r ≡ s) × (grouped_in a ≡ grouped_in b)
   calls_one call same f o p e r s a b h k w =
       let x = called call o r a h in
       let y = called same p s b k in
-      tell_one reply_to (λ z. refl) call same f (machine_in o) (machine_in p) (machine_in a) (machine_in b) e r s x.0 y.0 x.1 y.1 x.2 y.2 w
+      tell_one reply_to (λ z. refl) call same f (grouped_in o) (grouped_in p) (grouped_in a) (grouped_in b) e r s x.0 y.0 x.1 y.1 x.2 y.2 w
 
-  makes_one : (edit same : Edit) → edit ≡ same → (o p : Machine) → machine_in o ≡ machine_in p → (r s : Reply) (a b : Machine)
+  makes_one : (edit same : Edit) → edit ≡ same → (o p : Machine) → grouped_in o ≡ grouped_in p → (r s : Reply) (a b : Machine)
       → Calls (Call.Make edit) o r a → Calls (Call.Make same) p s b → wants_memory r ≡ wants_memory s
-      → (r ≡ s) × (machine_in a ≡ machine_in b)
+      → (r ≡ s) × (grouped_in a ≡ grouped_in b)
   makes_one edit same f = calls_one (Call.Make edit) (Call.Make same) (ap Call.Make f)
 
   -- the pulse that a cursor went to
@@ -148,23 +151,23 @@ module _ (outcome : OneOutcome) where
   shown_wants i (Err why) = refl
 
   showed : (i : ℕ) (old : Machine) (r : Reply) (new : Machine) → Shows i old r new
-      → (x : Result Unit Refusal) × (r ≡ shown i x) × Steps (Call.Go i) (machine_in old) x (machine_in new)
+      → (x : Result Unit Refusal) × (r ≡ shown i x) × Steps (Call.Go i) (grouped_in old) x (grouped_in new)
   showed i old (told.Listed b n) new h = (Ok tt, ap₂ told.Listed h.1 h.2, h.0)
   showed i old (told.Refused why) new h = (Err why, refl, h)
   showed i old _ new h = absurd h
 
-  shows_one : (i j : ℕ) → i ≡ j → (o p : Machine) → machine_in o ≡ machine_in p → (r s : Reply) (a b : Machine)
-      → Shows i o r a → Shows j p s b → wants_memory r ≡ wants_memory s → (r ≡ s) × (machine_in a ≡ machine_in b)
+  shows_one : (i j : ℕ) → i ≡ j → (o p : Machine) → grouped_in o ≡ grouped_in p → (r s : Reply) (a b : Machine)
+      → Shows i o r a → Shows j p s b → wants_memory r ≡ wants_memory s → (r ≡ s) × (grouped_in a ≡ grouped_in b)
   shows_one i j f o p e r s a b h k w =
       let x = showed i o r a h in
       let y = showed j p s b k in
       let u : r ≡ shown j x.0 = x.1 ∙ ap (λ n. shown n x.0) f in
-      tell_one (shown j) (shown_wants j) (Call.Go i) (Call.Go j) (ap Call.Go f) (machine_in o) (machine_in p) (machine_in a) (machine_in b) e r s x.0 y.0 u y.1 x.2 y.2 w
+      tell_one (shown j) (shown_wants j) (Call.Go i) (Call.Go j) (ap Call.Go f) (grouped_in o) (grouped_in p) (grouped_in a) (grouped_in b) e r s x.0 y.0 u y.1 x.2 y.2 w
 
-  formats_one : (v : Bool) (f : FormatView) (o p : Machine) → machine_in o ≡ machine_in p → (r s : Reply) (a b : Machine)
-      → Formats v f o r a → Formats v f p s b → wants_memory r ≡ wants_memory s → (r ≡ s) × (machine_in a ≡ machine_in b)
+  formats_one : (v : Bool) (f : FormatView) (o p : Machine) → grouped_in o ≡ grouped_in p → (r s : Reply) (a b : Machine)
+      → Formats v f o r a → Formats v f p s b → wants_memory r ≡ wants_memory s → (r ≡ s) × (grouped_in a ≡ grouped_in b)
   formats_one true f o p e r s a b h k w = makes_one (Edit.SetFormat f) (Edit.SetFormat f) refl o p e r s a b h k w
-  formats_one false f o p e r s a b h k w = (h.0 ∙ sym k.0, ap machine_in h.1 ∙ e ∙ sym (ap machine_in k.1))
+  formats_one false f o p e r s a b h k w = (h.0 ∙ sym k.0, ap grouped_in h.1 ∙ e ∙ sym (ap grouped_in k.1))
 
   -- a listing, as it is told
   abbrev listed : Bool → ℕ → ℕ → Reply
@@ -176,11 +179,11 @@ module _ (outcome : OneOutcome) where
   lists i j m (told.Refused why) h = ap told.Refused h.1 ∙ sym (ap (λ v. listed v i j) h.0)
   lists i j m _ h = absurd h
 
-  lists_one : (i j k l : ℕ) → i ≡ k → j ≡ l → (o p : Machine) → machine_in o ≡ machine_in p → (r s : Reply)
+  lists_one : (i j k l : ℕ) → i ≡ k → j ≡ l → (o p : Machine) → grouped_in o ≡ grouped_in p → (r s : Reply)
       → Lists i j o r → Lists k l p s → r ≡ s
   lists_one i j k l f g o p e r s h n =
       lists i j o r h
-      ∙ (λ t. listed (are_pulses (f t) (g t) (e t).present.state) (f t) (g t))
+      ∙ (λ t. listed (are_pulses (f t) (g t) (e t).machine.present.state) (f t) (g t))
       ∙ sym (lists k l p s n)
 
   -- a put, as it is told
@@ -195,22 +198,22 @@ module _ (outcome : OneOutcome) where
   writes m told.WriteFailed h = refl
   writes m _ h = absurd h
 
-  written_same : (v f : Bool) (o p : Machine) → machine_in o ≡ machine_in p → written o v f ≡ written p v f
+  written_same : (v f : Bool) (o p : Machine) → grouped_in o ≡ grouped_in p → written o v f ≡ written p v f
   written_same true f o p e = refl
   written_same false true o p e = refl
   written_same false false o p e = ap (λ k. written (bare k) false false) e
 
-  writes_one : (o p : Machine) → machine_in o ≡ machine_in p → (r s : Reply) → Writes o r → Writes p s
+  writes_one : (o p : Machine) → grouped_in o ≡ grouped_in p → (r s : Reply) → Writes o r → Writes p s
       → wants_memory r ≡ wants_memory s → tells_failed_put r ≡ tells_failed_put s → r ≡ s
   writes_one o p e r s h k w f =
       writes o r h ∙ ap₂ (written o) w f ∙ written_same (wants_memory s) (tells_failed_put s) o p e ∙ sym (writes p s k)
 
-  stays : (o p a b : Machine) → machine_in o ≡ machine_in p → a ≡ o → b ≡ p → machine_in a ≡ machine_in b
-  stays o p a b e h k = ap machine_in h ∙ e ∙ sym (ap machine_in k)
+  stays : (o p a b : Machine) → grouped_in o ≡ grouped_in p → a ≡ o → b ≡ p → grouped_in a ≡ grouped_in b
+  stays o p a b e h k = ap grouped_in h ∙ e ∙ sym (ap grouped_in k)
 
   -- what a command asks for
-  pub obeys_one : (c : Command) (o p : Machine) → machine_in o ≡ machine_in p → (r s : Reply) (a b : Machine) → Obeys c o r a → Obeys c p s b
-      → wants_memory r ≡ wants_memory s → tells_failed_put r ≡ tells_failed_put s → (r ≡ s) × (machine_in a ≡ machine_in b)
+  pub obeys_one : (c : Command) (o p : Machine) → grouped_in o ≡ grouped_in p → (r s : Reply) (a b : Machine) → Obeys c o r a → Obeys c p s b
+      → wants_memory r ≡ wants_memory s → tells_failed_put r ≡ tells_failed_put s → (r ≡ s) × (grouped_in a ≡ grouped_in b)
   obeys_one command.Nothing o p e r s a b h k w f = (h.0 ∙ sym k.0, stays o p a b e h.1 k.1)
   obeys_one (command.Show x) o p e r s a b h k w f = shows_one (number_at x o) (number_at x p) (number_same x o p e) o p e r s a b h k w
   obeys_one (command.List x) o p e r s a b h k w f =
@@ -242,6 +245,9 @@ module _ (outcome : OneOutcome) where
       makes_one (Edit.SetMark (l - 97) None) (Edit.SetMark (l - 97) None) refl o p e r s a b h k w
   obeys_one command.Undo o p e r s a b h k w f = calls_one Call.Undo Call.Undo refl o p e r s a b h k w
   obeys_one command.Redo o p e r s a b h k w f = calls_one Call.Redo Call.Redo refl o p e r s a b h k w
+  obeys_one command.Begin o p e r s a b h k w f = calls_one Call.Begin Call.Begin refl o p e r s a b h k w
+  obeys_one command.End o p e r s a b h k w f = calls_one Call.End Call.End refl o p e r s a b h k w
+  obeys_one command.Abort o p e r s a b h k w f = calls_one Call.Abort Call.Abort refl o p e r s a b h k w
   obeys_one command.Frames o p e r s a b h k w f = (h.0 ∙ sym k.0, stays o p a b e h.1 k.1)
   obeys_one command.Marks o p e r s a b h k w f = (h.0 ∙ sym k.0, stays o p a b e h.1 k.1)
   obeys_one command.Info o p e r s a b h k w f = (h.0 ∙ sym k.0, stays o p a b e h.1 k.1)

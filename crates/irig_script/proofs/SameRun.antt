@@ -4,7 +4,7 @@ use Rattle.std.specs.Prelude.{IsSome}
 use Rattle.std.specs.Io.KnownBytes.{Appends}
 use Rattle.irig_vcd.specs.FileText.{file_text}
 use Rattle.irig_edit.specs.Runs.{OneOutcome}
-use Rattle.irig_edit.specs.Session.{machine_in}
+use Rattle.irig_edit.specs.Session.{grouped_in}
 use Rattle.irig_edit.specs.State.{recording_of}
 use Rattle.irig_script.specs.Obey.Answer.{Answered, IsBad, IsObeyedAs, IsTooLong, Step, texts_put}
 use Rattle.irig_script.specs.Obey.Desk.{status_after}
@@ -24,35 +24,35 @@ use Rattle.irig_script.proofs.Orders.{means_one}
 use Rattle.irig_script.proofs.SameReply.{bare, obeys_one}
 
 -- what a reply prints and puts does not hang on the looks
-text_same : (r : Reply) (a b : Machine) → machine_in a ≡ machine_in b → reply_text a r ≡ reply_text b r
-text_same (told.Listed before count) a b e = ap (λ k. list_text before count k.present.state) e
-text_same told.Frames a b e = ap (λ k. frames_text k.present.state) e
-text_same told.Marks a b e = ap (λ k. marks_text k.present.state) e
+text_same : (r : Reply) (a b : Machine) → grouped_in a ≡ grouped_in b → reply_text a r ≡ reply_text b r
+text_same (told.Listed before count) a b e = ap (λ k. list_text before count k.machine.present.state) e
+text_same told.Frames a b e = ap (λ k. frames_text k.machine.present.state) e
+text_same told.Marks a b e = ap (λ k. marks_text k.machine.present.state) e
 text_same told.Info a b e = ap (λ k. info_text (bare k)) e
 text_same _ a b e = refl
 
-put_same : (r : Reply) (a b : Machine) → machine_in a ≡ machine_in b → texts_put a r ≡ texts_put b r
-put_same (told.Written count) a b e = ap (λ k. file_text (recording_of k.present.state) ∷ []) e
+put_same : (r : Reply) (a b : Machine) → grouped_in a ≡ grouped_in b → texts_put a r ≡ texts_put b r
+put_same (told.Written count) a b e = ap (λ k. file_text (recording_of k.machine.present.state) ∷ []) e
 put_same _ a b e = refl
 
-stays : (o p a b : Machine) → machine_in o ≡ machine_in p → a ≡ o → b ≡ p → machine_in a ≡ machine_in b
-stays o p a b e h k = ap machine_in h ∙ e ∙ sym (ap machine_in k)
+stays : (o p a b : Machine) → grouped_in o ≡ grouped_in p → a ≡ o → b ≡ p → grouped_in a ≡ grouped_in b
+stays o p a b e h k = ap grouped_in h ∙ e ∙ sym (ap grouped_in k)
 
 module _ (outcome : OneOutcome) where
-  asked_one : (o p : Machine) (line : List ℕ) → machine_in o ≡ machine_in p → (r s : Reply) (a b : Machine) → IsObeyedAs o line r a → IsObeyedAs p line s b
-      → wants_memory r ≡ wants_memory s → tells_failed_put r ≡ tells_failed_put s → (r ≡ s) × (machine_in a ≡ machine_in b)
+  asked_one : (o p : Machine) (line : List ℕ) → grouped_in o ≡ grouped_in p → (r s : Reply) (a b : Machine) → IsObeyedAs o line r a → IsObeyedAs p line s b
+      → wants_memory r ≡ wants_memory s → tells_failed_put r ≡ tells_failed_put s → (r ≡ s) × (grouped_in a ≡ grouped_in b)
   asked_one o p line e r s a b h k w f =
       let same : h.1.0 ≡ k.1.0 = means_one line h.1.0 k.1.0 h.1.1 k.1.1 in
       let obeyed : Obeys k.1.0 o r a = subst (λ (c : Command). Obeys c o r a) same h.1.2 in
       obeys_one outcome k.1.0 o p e r s a b obeyed k.1.2 w f
 
   -- a line has one outcome
-  line_one : (o p : Machine) (line : List ℕ) → machine_in o ≡ machine_in p → (r s : Reply) (a b : Machine) → Step o line r a → Step p line s b
-      → wants_memory r ≡ wants_memory s → tells_failed_put r ≡ tells_failed_put s → (r ≡ s) × (machine_in a ≡ machine_in b)
+  line_one : (o p : Machine) (line : List ℕ) → grouped_in o ≡ grouped_in p → (r s : Reply) (a b : Machine) → Step o line r a → Step p line s b
+      → wants_memory r ≡ wants_memory s → tells_failed_put r ≡ tells_failed_put s → (r ≡ s) × (grouped_in a ≡ grouped_in b)
   line_one o p line e r s a b h k w f = go h k
     where
       go : IsTooLong o line r a ⊎ (IsBad o line r a ⊎ IsObeyedAs o line r a) → IsTooLong p line s b ⊎ (IsBad p line s b ⊎ IsObeyedAs p line s b)
-          → (r ≡ s) × (machine_in a ≡ machine_in b)
+          → (r ≡ s) × (grouped_in a ≡ grouped_in b)
       go (inl x) (inl y) = (x.1 ∙ sym y.1, stays o p a b e x.2 y.2)
       go (inl x) (inr (inl y)) = absurd (omega (arith, x.0, y.0))
       go (inl x) (inr (inr y)) = absurd (omega (arith, x.0, y.0))
@@ -63,8 +63,8 @@ module _ (outcome : OneOutcome) where
       go (inr (inr x)) (inr (inl y)) = absurd (y.1 x.1.0 x.1.1)
       go (inr (inr x)) (inr (inr y)) = asked_one o p line e r s a b x y w f
 
-  answer_one : (o p : Machine) (line : List ℕ) → machine_in o ≡ machine_in p → (x y : Answer) (a b : Machine) → Answered o line x a → Answered p line y b
-      → wants_memory x.reply ≡ wants_memory y.reply → tells_failed_put x.reply ≡ tells_failed_put y.reply → (x ≡ y) × (machine_in a ≡ machine_in b)
+  answer_one : (o p : Machine) (line : List ℕ) → grouped_in o ≡ grouped_in p → (x y : Answer) (a b : Machine) → Answered o line x a → Answered p line y b
+      → wants_memory x.reply ≡ wants_memory y.reply → tells_failed_put x.reply ≡ tells_failed_put y.reply → (x ≡ y) × (grouped_in a ≡ grouped_in b)
   answer_one o p line e x y a b h k w f =
       let both = line_one o p line e x.reply y.reply a b h.0 k.0 w f in
       let text : x.text ≡ y.text = h.1 ∙ text_same x.reply a b both.1 ∙ ap (reply_text b) both.0 ∙ sym k.1 in
@@ -72,11 +72,11 @@ module _ (outcome : OneOutcome) where
       (λ i. record { reply = reply i; text = text i }, both.1)
 
   -- the lines of a script, one after another
-  lines_one : (lines : List (List ℕ)) (o p : Machine) → machine_in o ≡ machine_in p → (xs ys : List Answer) (ts us : List (List ℕ)) (a b : Machine)
+  lines_one : (lines : List (List ℕ)) (o p : Machine) → grouped_in o ≡ grouped_in p → (xs ys : List Answer) (ts us : List (List ℕ)) (a b : Machine)
       → Runs o lines xs ts a → Runs p lines ys us b
       → map (λ x. wants_memory x.reply) xs ≡ map (λ x. wants_memory x.reply) ys
       → map (λ x. tells_failed_put x.reply) xs ≡ map (λ x. tells_failed_put x.reply) ys
-      → (xs ≡ ys) × (ts ≡ us) × (machine_in a ≡ machine_in b)
+      → (xs ≡ ys) × (ts ≡ us) × (grouped_in a ≡ grouped_in b)
   lines_one [] o p e [] [] ts us a b h k w f = (refl, h.0 ∙ sym k.0, stays o p a b e h.1 k.1)
   lines_one [] o p e [] (y ∷ ys) ts us a b h k w f = absurd k
   lines_one [] o p e (x ∷ xs) ys ts us a b h k w f = absurd h

@@ -1,61 +1,47 @@
 -- A change is taken back by the change that it leaves. This project's own.
-use Rattle.std.proofs.Common.{◌≡◌, ◌<◌, ◌≤◌, ℕ, neg_ℤ, List, length, refl, ap, ◌∙◌, arith}
-use Rattle.std.proofs.Math.IntN.{neg_ℤ-neg_ℤ}
-use Rattle.irig_track.specs.Edges.{edges_of}
-use Rattle.irig_track.specs.Splices.{piece}
-use Rattle.irig_track.specs.Toggles.{toggled}
-use Rattle.irig_track.proofs.Inverses.{piece-spliced, spliced-spliced, can_splice_back, toggled-toggled, can_toggle_back, Opposite-neg, shifted-shifted, can_shift_back}
-use Rattle.irig_track.proofs.Carried.{length-piece}
-use Rattle.irig_edit.specs.State.{State, IsState, state, with_pulses}
-use Rattle.irig_edit.specs.Laws.Edges.{edges_of-toggled, pulses_of-edges_of}
-use Rattle.irig_edit.specs.Laws.Marks.{marks_back, may_move_back}
-use Rattle.irig_edit.specs.Laws.SetMarks.{mark_back, mark_read, mark_within}
-use Rattle.irig_edit.specs.Delta.{Delta, Fits, turned, pulses_of}
-use Rattle.irig_edit.specs.Delta.Delta.{Spliced, Toggled, Shifted, Formatted, Marked}
+use Rattle.std.proofs.Common.{◌≡◌, List, ap, ap₂}
+use Rattle.irig_journal.specs.Laws.Backs.{LeadsBack, lead_all_back, ways_back-ways_back}
+use Rattle.irig_journal.specs.Laws.Turns.{keeps_all}
+use Rattle.irig_edit.specs.Delta.{Delta, Fits, turned}
+use Rattle.irig_edit.specs.Delta.Delta.{Alone, Together}
+use Rattle.irig_edit.specs.Single.{SingleDelta, FitsSingle, turned_single}
+use Rattle.irig_edit.specs.Laws.Single.{FitsSingle-turned, turned_single-turned}
+use Rattle.irig_edit.specs.Laws.State.{IsState-turned_single}
+use Rattle.irig_edit.specs.State.{State, IsState}
+
+-- each single change leads back
+singles_lead_back : LeadsBack IsState FitsSingle turned_single
+singles_lead_back = record {
+  keeps = IsState-turned_single;
+  back_fits = FitsSingle-turned;
+  back = turned_single-turned;
+}
+
+-- a change leaves a state within the limits
+pub IsState-turned : (s : State) (d : Delta) → IsState s → Fits s d → IsState (turned s d).0
+IsState-turned s (Alone d) is can = IsState-turned_single s d is can
+IsState-turned s (Together ds) is can =
+    keeps_all IsState FitsSingle turned_single IsState-turned_single s ds is can
 
 -- the change that leads back can be made
 pub Fits-turned : (s : State) (d : Delta) → IsState s → Fits s d
     → Fits (turned s d).0 (turned s d).1
-Fits-turned s (Spliced at count put) is can =
-    can_splice_back s.micros at count put s.pulses is.track can.there
-Fits-turned s (Toggled a b) is can =
-    can_toggle_back s.micros a b s.pulses (pulses_of (toggled a b (edges_of s.pulses))) is.track can
-    (edges_of-toggled s.micros a b s.pulses can)
-Fits-turned s (Shifted i j d named) is can = (
-  can_shift_back s.micros i j d (neg_ℤ d) s.pulses (Opposite-neg d) can.0 is.track,
-  may_move_back s.micros d (neg_ℤ d) named s.marks (Opposite-neg d) is.marks can.1,
-)
-Fits-turned s (Formatted f) is can = tt
-Fits-turned s (Marked letter time) is can =
-    (can.0, mark_within s.micros letter s.marks (omega (arith, is.letters, can.0)) is.marks)
+Fits-turned s (Alone d) is can = FitsSingle-turned s d is can
+Fits-turned s (Together ds) is can =
+    (lead_all_back IsState FitsSingle turned_single singles_lead_back s ds is can).fit
+
+-- a state, with a single change
+abbrev with_alone : State × SingleDelta → State × Delta
+with_alone p = (p.0, Alone p.1)
+
+-- a state, with a group
+abbrev pub with_together : State → List SingleDelta → State × Delta
+with_together s ds = (s, Together ds)
 
 -- and gives back the state and the change
 pub turned-turned : (s : State) (d : Delta) → IsState s → Fits s d
     → turned (turned s d).0 (turned s d).1 ≡ (s, d)
-turned-turned s (Spliced at count put) is can =
-    let there = can.there in
-    let start : at ≤ length s.pulses = omega arith in
-    let state_is = spliced-spliced at count put s.pulses start in
-    let long : length (piece at count s.pulses) ≡ count = length-piece s.pulses at count there in
-    let put_is = piece-spliced at count put s.pulses start in
-    (λ k. (with_pulses (state_is k) s, Spliced at (long k) (put_is k)))
-turned-turned s (Toggled a b) is can =
-    let edges = edges_of-toggled s.micros a b s.pulses can in
-    let pulses : pulses_of (toggled a b (edges_of (pulses_of (toggled a b (edges_of s.pulses)))))
-    ≡ s.pulses =
-    ap (λ (es : List ℕ). pulses_of (toggled a b es)) edges
-    ∙ (ap pulses_of (toggled-toggled a b (edges_of s.pulses) can.order is.track.rises)
-    ∙ pulses_of-edges_of s.pulses) in
-    (λ k. (with_pulses (pulses k) s, Toggled a b))
-turned-turned s (Shifted i j d named) is can =
-    let opposite = Opposite-neg d in
-    let pulses = shifted-shifted s.micros i j d (neg_ℤ d) s.pulses opposite can.0 in
-    let marks = marks_back s.micros d (neg_ℤ d) named s.marks opposite can.1 in
-    let distance = neg_ℤ-neg_ℤ d in
-    (λ k. (state s.micros (pulses k) s.format (marks k), Shifted i j (distance k) named))
-turned-turned s (Formatted f) is can = refl
-turned-turned s (Marked letter time) is can =
-    let there : letter < length s.marks = omega (arith, is.letters, can.0) in
-    let marks = mark_back letter time s.marks there in
-    let read = mark_read letter time s.marks there in
-    (λ k. (state s.micros s.pulses s.format (marks k), Marked letter (read k)))
+turned-turned s (Alone d) is can = ap with_alone (turned_single-turned s d is can)
+turned-turned s (Together ds) is can =
+    let laws = lead_all_back IsState FitsSingle turned_single singles_lead_back s ds is can in
+    ap₂ with_together laws.state (ways_back-ways_back FitsSingle turned_single s ds laws)

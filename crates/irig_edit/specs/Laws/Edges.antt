@@ -4,7 +4,7 @@ use Rattle.irig_vcd.specs.Recording.{is_even_long}
 use Rattle.irig_track.specs.declared.pulse.Pulse.{Pulse}
 use Rattle.irig_track.specs.Edges.{edges_of}
 use Rattle.irig_track.specs.Toggles.{CanToggle, toggled}
-use Rattle.irig_edit.specs.Delta.{pulses_of}
+use Rattle.irig_edit.specs.Single.{pulses_of}
 
 -- pulses are told by their edges
 pub pulses_of-edges_of : (ps : List Pulse) → pulses_of (edges_of ps) ≡ ps

@@ -11,6 +11,7 @@ use crate::change::Change;
 use crate::present::Present;
 use crate::refusal::Refusal;
 use crate::session::Session;
+use crate::single::Single;
 
 /// Whether the level can be turned over from `a` to `b`.
 fn plan(present: &Present, a: u64, b: u64) -> Result<(), Refusal>
@@ -40,7 +41,7 @@ impl Session {
         ensures looks { LooksAfter (Make (Invert a b)) self.old result self.new }
     {
         plan(&self.present, a, b)?;
-        self.change(Change::Toggle { a, b }, 0)?;
+        self.change(Change::One(Single::Toggle { a, b }), 0)?;
         self.cursor = self.present.find(b);
         Ok(())
     }

@@ -7,15 +7,17 @@ ghost use Rattle.irig_edit.specs.Calls.Call.{Make};
 ghost use Rattle.irig_edit.specs.Calls.Edit.{Shift};
 ghost use Rattle.irig_edit.specs.Conditions.{leaves};
 ghost use Rattle.irig_edit.specs.Delta.{Fits, turned};
-ghost use Rattle.irig_edit.specs.Delta.Delta.{Shifted};
+ghost use Rattle.irig_edit.specs.Delta.Delta.{Alone};
 ghost use Rattle.irig_edit.specs.Exchanges.{exchange_by};
 ghost use Rattle.irig_edit.specs.Keeping.{exchange_of};
 ghost use Rattle.irig_edit.specs.Session.{LooksAfter, Steps};
+ghost use Rattle.irig_edit.specs.Single.SingleDelta.{Shifted};
 
-use crate::change::{Change, Shift as Move};
+use crate::change::Change;
 use crate::present::Present;
 use crate::refusal::Refusal;
 use crate::session::Session;
+use crate::single::{Shift as Move, Single};
 
 /// Whether the pulses `i` to `j`, moved by `by` microseconds, leave the track.
 fn leaves(present: &Present, i: usize, j: usize, by: i64) -> bool
@@ -61,11 +63,11 @@ fn plan(present: &Present, i: usize, j: usize, by: i64) -> Result<Move, Refusal>
     ensures allowed { OnOk result (judgement_of (Shift i j by) present.now.state ≡ None) }
     ensures there { OnOk result (j ≤ length present.now.state.pulses) }
     ensures fits { IfOk result (λ m.
-        Fits present.now.state (Shifted m.i m.j m.by m.letters)) }
+        Fits present.now.state (Alone (Shifted m.i m.j m.by m.letters))) }
     ensures becomes { IfOk result (λ m. Becomes (Shift i j by) present.now.state
-        (turned present.now.state (Shifted m.i m.j m.by m.letters)).0 j) }
+        (turned present.now.state (Alone (Shifted m.i m.j m.by m.letters))).0 j) }
     ensures exchange { IfOk result (λ m.
-        exchange_of present.now.state (Shifted m.i m.j m.by m.letters)
+        exchange_of present.now.state (Alone (Shifted m.i m.j m.by m.letters))
         ≡ exchange_by (Shift i j by) present.now.state) }
 {
     judge(present, i, j, by)?;
@@ -91,6 +93,6 @@ impl Session {
         ensures looks { LooksAfter (Make (Shift i j by)) self.old result self.new }
     {
         let shift = plan(&self.present, i, j, by)?;
-        self.change(Change::Shift(shift), j)
+        self.change(Change::One(Single::Shift(shift)), j)
     }
 }

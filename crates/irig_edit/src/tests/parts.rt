@@ -2,9 +2,12 @@
 
 use super::helpers::{format_of, two_pulses};
 use crate::Session;
-use crate::change::{Change, Shift, Splice};
+use crate::change::Change;
 use crate::marks::{Letters, Marks};
 use crate::present::Present;
+use crate::single::{Shift, Single};
+use crate::singles::Singles;
+use crate::splice::Splice;
 use irig_codes::{Format, Kind};
 use irig_gap::Gap;
 use irig_index::Index;
@@ -67,24 +70,39 @@ fn shift_parts(shift: &Shift) -> usize {
     *i
 }
 
-/// A change is of one of these kinds.
-fn change_parts(change: &Change) -> usize {
-    match change {
-        Change::Splice(splice) => splice_parts(splice),
-        Change::Toggle { a, b } => {
+/// A single change is of one of these kinds.
+fn single_parts(single: &Single) -> usize {
+    match single {
+        Single::Splice(splice) => splice_parts(splice),
+        Single::Toggle { a, b } => {
             let _a: &u64 = a;
             let _b: &u64 = b;
             0
         }
-        Change::Shift(shift) => shift_parts(shift),
-        Change::SetFormat(format) => {
+        Single::Shift(shift) => shift_parts(shift),
+        Single::SetFormat(format) => {
             let _format: &Format = format;
             0
         }
-        Change::SetMark { letter, time } => {
+        Single::SetMark { letter, time } => {
             let _time: &Option<u64> = time;
             *letter
         }
+    }
+}
+
+/// A group keeps a list of single changes.
+fn singles_parts(singles: &Singles) -> usize {
+    let Singles { items } = singles;
+    let _items: &Vec<Single> = items;
+    items.len()
+}
+
+/// A change is a single one or a group.
+fn change_parts(change: &Change) -> usize {
+    match change {
+        Change::One(single) => single_parts(single),
+        Change::Group(singles) => singles_parts(singles),
     }
 }
 
@@ -93,6 +111,6 @@ fn a_session_keeps_one_state_and_its_changes(rt: HostRuntime) -> Result<(), Fail
     let session = two_pulses(rt.alloc(), format_of(Kind::G, 2)?)?;
     let splice = Splice::new(rt.alloc(), 1, 2, Gap::new(rt.alloc()));
     assert!(rt; state_parts(session_parts(&session)) == 2);
-    assert!(rt; change_parts(&Change::Splice(splice)) == 2);
+    assert!(rt; change_parts(&Change::One(Single::Splice(splice))) == 2);
     Ok(())
 }

@@ -16,11 +16,22 @@ fn next(seed: &mut u64) -> usize {
     (*seed >> 33) as usize
 }
 
-/// One call of all, every third time an undo or a redo.
+/// The end of a group, or its abort.
+fn group_call(number: usize) -> Call {
+    if number % 2 == 0 {
+        Call::End
+    } else {
+        Call::Abort
+    }
+}
+
+/// One call of all, every third time an undo or a redo, and now and then that of a group.
 fn next_call(seed: &mut u64, calls: &[Call]) -> Call {
-    match next(seed) % 6 {
-        0 => Call::Undo,
-        1 => Call::Redo,
+    match next(seed) % 18 {
+        0 | 1 | 2 => Call::Undo,
+        3 | 4 | 5 => Call::Redo,
+        6 => Call::Begin,
+        7 => group_call(next(seed)),
         _ => match calls.get(next(seed) % calls.len().max(1)) {
             Some(call) => *call,
             None => Call::Undo,

@@ -26,6 +26,9 @@ refusal_text refusal.BadControl = codes "? E8 BadControl\n"
 refusal_text refusal.NothingToUndo = codes "? E9 NothingToUndo\n"
 refusal_text refusal.NothingToRedo = codes "? E10 NothingToRedo\n"
 refusal_text refusal.OutOfMemory = codes "? E11 OutOfMemory\n"
+refusal_text refusal.GroupOpen = codes "? E12 GroupOpen\n"
+refusal_text refusal.NoGroup = codes "? E13 NoGroup\n"
+refusal_text refusal.GroupFloor = codes "? E14 GroupFloor\n"
 
 -- the line of a frame with this number: its marker's pulse counts from 1
 abbrev pub record_line : State → ℕ → Record → List ℕ

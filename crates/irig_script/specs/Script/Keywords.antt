@@ -12,6 +12,7 @@ keywords =
     ∷ (codes "force", word.Force) ∷ (codes "insert", word.Insert) ∷ (codes "invert", word.Invert)
     ∷ (codes "regen", word.Regen) ∷ (codes "format", word.Format) ∷ (codes "mark", word.Mark)
     ∷ (codes "unmark", word.Unmark) ∷ (codes "undo", word.Undo) ∷ (codes "redo", word.Redo)
+    ∷ (codes "begin", word.Begin) ∷ (codes "end", word.End) ∷ (codes "abort", word.Abort)
     ∷ (codes "frames", word.Frames) ∷ (codes "marks", word.Marks) ∷ (codes "info", word.Info)
     ∷ (codes "write", word.Write) ∷ (codes "quit", word.Quit) ∷ []
 

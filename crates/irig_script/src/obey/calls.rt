@@ -162,3 +162,24 @@ pub fn redo(session: &mut Session) -> Reply
 {
     edited(session.redo())
 }
+
+/// Opens a group.
+pub fn begin(session: &mut Session) -> Reply
+    ensures { Calls Call.Begin session.old result session.new }
+{
+    edited(session.begin())
+}
+
+/// Makes one step of what was done since the group was opened.
+pub fn end(session: &mut Session) -> Reply
+    ensures { Calls Call.End session.old result session.new }
+{
+    edited(session.end())
+}
+
+/// Takes back what was done since the group was opened.
+pub fn abort(session: &mut Session) -> Reply
+    ensures { Calls Call.Abort session.old result session.new }
+{
+    edited(session.abort())
+}

@@ -10,8 +10,8 @@ ghost use Rattle.irig_script.specs.Obey.Progress.{Answers};
 ghost use Rattle.irig_script.specs.declared.script.command.Command.{Command};
 
 use crate::obey::calls::{
-    delete, force, insert, invert, join, list, mark, redo, regen, set_format, shift, show, split,
-    undo, unmark,
+    abort, begin, delete, end, force, insert, invert, join, list, mark, redo, regen, set_format,
+    shift, show, split, undo, unmark,
 };
 use crate::print::reply::Reply;
 use crate::script::command::{BadLine, Command};
@@ -62,6 +62,9 @@ fn obey(command: Command, session: &mut Session) -> Reply
         Command::Unmark(letter) => unmark(session, letter),
         Command::Undo => undo(session),
         Command::Redo => redo(session),
+        Command::Begin => begin(session),
+        Command::End => end(session),
+        Command::Abort => abort(session),
         Command::Frames => Reply::Frames,
         Command::Marks => Reply::Marks,
         Command::Info => Reply::Info,

@@ -89,6 +89,9 @@ fn refusal_line(why: Refusal) -> &'static [u8]
         Refusal::NothingToUndo => b"? E9 NothingToUndo\n",
         Refusal::NothingToRedo => b"? E10 NothingToRedo\n",
         Refusal::OutOfMemory => b"? E11 OutOfMemory\n",
+        Refusal::GroupOpen => b"? E12 GroupOpen\n",
+        Refusal::NoGroup => b"? E13 NoGroup\n",
+        Refusal::GroupFloor => b"? E14 GroupFloor\n",
     }
 }
 

@@ -43,6 +43,12 @@ pub enum Command {
     Undo,
     /// Do the step again that was taken back last.
     Redo,
+    /// Open a group.
+    Begin,
+    /// Make one step of what was done since the group was opened.
+    End,
+    /// Take back what was done since the group was opened.
+    Abort,
     /// List the frames.
     Frames,
     /// List the marks.

@@ -24,6 +24,9 @@ pub enum Keyword {
     Unmark,
     Undo,
     Redo,
+    Begin,
+    End,
+    Abort,
     Frames,
     Marks,
     Info,
@@ -34,7 +37,7 @@ pub enum Keyword {
 }
 
 /// The words of the language, each with what it stands for; nothing is the word that is missing.
-static WORDS: [(&[u8], Keyword); 20] = [
+static WORDS: [(&[u8], Keyword); 23] = [
     (b"", Keyword::Missing),
     (b"list", Keyword::List),
     (b"delete", Keyword::Delete),
@@ -50,6 +53,9 @@ static WORDS: [(&[u8], Keyword); 20] = [
     (b"unmark", Keyword::Unmark),
     (b"undo", Keyword::Undo),
     (b"redo", Keyword::Redo),
+    (b"begin", Keyword::Begin),
+    (b"end", Keyword::End),
+    (b"abort", Keyword::Abort),
     (b"frames", Keyword::Frames),
     (b"marks", Keyword::Marks),
     (b"info", Keyword::Info),

@@ -2,7 +2,6 @@
 
 ghost use Rattle.std.specs.Prelude.{◌≡◌, ◌++◌, ◌&&◌, ◌||◌, not, ℕ, List, [], true, IfOk, OnOk, OnErr};
 ghost use Rattle.irig_script.specs.Script.Addresses.{IsRange};
-ghost use Rattle.irig_script.specs.Script.Arguments.{AreTimes};
 ghost use Rattle.irig_script.specs.Script.Commands.{Asks};
 ghost use Rattle.irig_script.specs.Script.Letters.{is_letter};
 ghost use Rattle.irig_script.specs.Script.Words.{is_space, words_of};
@@ -19,7 +18,6 @@ use crate::script::cutting::{Stop, cut, is_space};
 use crate::script::keyword::{Keyword, keyword_of};
 use crate::script::numbers::{distance, number};
 use crate::script::range::Range;
-use crate::script::time::Time;
 use crate::script::words::{no_word, one_word, split_word, two_words};
 
 /// What a line asks for, its newline left out; `BadLine` where it is none of the language.
@@ -90,20 +88,17 @@ fn asked(front: &[u8], word: Keyword, arguments: &[u8]) -> Result<Command, BadLi
         Keyword::Join => Ok(Command::Join(ranged(front, arguments)?)),
         Keyword::Split => split(front, arguments),
         Keyword::Force => force(front, arguments),
-        Keyword::Insert => {
-            let (a, b) = bare_times(front, arguments)?;
-            Ok(Command::Insert(a, b))
-        }
-        Keyword::Invert => {
-            let (a, b) = bare_times(front, arguments)?;
-            Ok(Command::Invert(a, b))
-        }
+        Keyword::Insert => insert(front, arguments),
+        Keyword::Invert => invert(front, arguments),
         Keyword::Regen => regen(front, arguments),
         Keyword::Format => format(front, arguments),
         Keyword::Mark => set_mark(front, arguments),
         Keyword::Unmark => unmark(front, arguments),
         Keyword::Undo => alone(front, arguments, Command::Undo),
         Keyword::Redo => alone(front, arguments, Command::Redo),
+        Keyword::Begin => alone(front, arguments, Command::Begin),
+        Keyword::End => alone(front, arguments, Command::End),
+        Keyword::Abort => alone(front, arguments, Command::Abort),
         Keyword::Frames => alone(front, arguments, Command::Frames),
         Keyword::Marks => alone(front, arguments, Command::Marks),
         Keyword::Info => alone(front, arguments, Command::Info),
@@ -146,16 +141,6 @@ fn ranged(front: &[u8], arguments: &[u8]) -> Result<Range, BadLine>
     range(front)
 }
 
-/// Two times, where no range stands.
-fn bare_times(front: &[u8], arguments: &[u8]) -> Result<(Time, Time), BadLine>
-    ensures ok { IfOk result (λ t. (front.now ≡ []) × AreTimes (words_of arguments.now) t.0 t.1) }
-    ensures err { OnErr result ((s : Time) → (t : Time) → front.now ≡ []
-        → AreTimes (words_of arguments.now) s t → ⊥) }
-{
-    no_range(front)?;
-    times(arguments)
-}
-
 /// What a range and the arguments of `shift` ask for.
 fn shift(front: &[u8], arguments: &[u8]) -> Result<Command, BadLine>
     ensures ok { IfOk result (Asks Keyword.Shift front.now (words_of arguments.now)) }
@@ -184,6 +169,28 @@ fn force(front: &[u8], arguments: &[u8]) -> Result<Command, BadLine>
 {
     let name = one_word(arguments)?;
     Ok(Command::Force(place(front)?, element(name)?))
+}
+
+/// What the arguments of `insert` ask for, where no range stands.
+fn insert(front: &[u8], arguments: &[u8]) -> Result<Command, BadLine>
+    ensures ok { IfOk result (Asks Keyword.Insert front.now (words_of arguments.now)) }
+    ensures err { OnErr result ((c : Command)
+        → Asks Keyword.Insert front.now (words_of arguments.now) c → ⊥) }
+{
+    no_range(front)?;
+    let (a, b) = times(arguments)?;
+    Ok(Command::Insert(a, b))
+}
+
+/// What the arguments of `invert` ask for, where no range stands.
+fn invert(front: &[u8], arguments: &[u8]) -> Result<Command, BadLine>
+    ensures ok { IfOk result (Asks Keyword.Invert front.now (words_of arguments.now)) }
+    ensures err { OnErr result ((c : Command)
+        → Asks Keyword.Invert front.now (words_of arguments.now) c → ⊥) }
+{
+    no_range(front)?;
+    let (a, b) = times(arguments)?;
+    Ok(Command::Invert(a, b))
 }
 
 /// What the arguments of `format` ask for, where no range stands.

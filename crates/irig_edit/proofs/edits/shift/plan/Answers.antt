@@ -4,8 +4,8 @@ use Rattle.irig_track.specs.declared.pulse.Pulse.{Pulse}
 use Rattle.irig_track.specs.Shifts.{CanShift}
 use Rattle.irig_edit.specs.Becoming.{Becomes}
 use Rattle.irig_edit.specs.Calls.Edit.{Shift}
-use Rattle.irig_edit.specs.Delta.{turned}
-use Rattle.irig_edit.specs.Delta.Delta.{Shifted}
+use Rattle.irig_edit.specs.Single.{turned_single}
+use Rattle.irig_edit.specs.Single.SingleDelta.{Shifted}
 use Rattle.irig_edit.specs.Edits.{pulse_of}
 use Rattle.irig_edit.specs.Marks.{AllMayMove, stands}
 use Rattle.irig_edit.proofs.Moving.{marks_may, shifted_becomes}
@@ -42,5 +42,5 @@ returns-clause-becomes c =
     let letters : c.letters_from-letters.result ≡ map (stands (pulse_of i s).rise (pulse_of j s).fall) s.marks =
     c.letters_from-letters.ensures ∙ (λ k. map (stands (rise k) (fall k)) s.marks) in
     let becomes = shifted_becomes i j d s c.pulse-low.ensures.state there.0 there.1 there.2 can in
-    let named = subst (λ (ls : List Bool). Becomes (Shift i j d) s (turned s (Shifted (i - 1) (j - 1) d ls)).0 j) (sym letters) becomes in
-    subst (λ (e : ℤ). Becomes (Shift i j d) s (turned s (Shifted (i - 1) (j - 1) e c.letters_from-letters.result)).0 j) (sym passed) named
+    let named = subst (λ (ls : List Bool). Becomes (Shift i j d) s (turned_single s (Shifted (i - 1) (j - 1) d ls)).0 j) (sym letters) becomes in
+    subst (λ (e : ℤ). Becomes (Shift i j d) s (turned_single s (Shifted (i - 1) (j - 1) e c.letters_from-letters.result)).0 j) (sym passed) named

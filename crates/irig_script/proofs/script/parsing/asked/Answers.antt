@@ -42,17 +42,15 @@ returns-in-Unmark-clause-err c =
     let e : c.args.word ≡ word.Unmark = search rules in
     refused word.Unmark c.args.word c.args.front.now (words_of c.args.arguments.now) _ e c.unmark.ensures.err
 
-pub returns-in_err-a-in-Insert-clause-err : goal.returns-in_err-a-in-Insert-clause-err
-returns-in_err-a-in-Insert-clause-err c =
+pub returns-in-Insert-clause-err : goal.returns-in-Insert-clause-err
+returns-in-Insert-clause-err c =
     let e : c.args.word ≡ word.Insert = search rules in
-    let no : (asked : Command) → Asks word.Insert c.args.front.now (words_of c.args.arguments.now) asked → ⊥ = λ asked a. c.in_err-a-in-Insert.ensures.err a.0 a.1 a.3 a.4 in
-    refused word.Insert c.args.word c.args.front.now (words_of c.args.arguments.now) _ e (given _ no)
+    refused word.Insert c.args.word c.args.front.now (words_of c.args.arguments.now) _ e c.insert.ensures.err
 
-pub returns-in_err-a-in-Invert-clause-err : goal.returns-in_err-a-in-Invert-clause-err
-returns-in_err-a-in-Invert-clause-err c =
+pub returns-in-Invert-clause-err : goal.returns-in-Invert-clause-err
+returns-in-Invert-clause-err c =
     let e : c.args.word ≡ word.Invert = search rules in
-    let no : (asked : Command) → Asks word.Invert c.args.front.now (words_of c.args.arguments.now) asked → ⊥ = λ asked a. c.in_err-a-in-Invert.ensures.err a.0 a.1 a.3 a.4 in
-    refused word.Invert c.args.word c.args.front.now (words_of c.args.arguments.now) _ e (given _ no)
+    refused word.Invert c.args.word c.args.front.now (words_of c.args.arguments.now) _ e c.invert.ensures.err
 
 pub returns-in_err-address-in-Missing-clause-err : goal.returns-in_err-address-in-Missing-clause-err
 returns-in_err-address-in-Missing-clause-err c =

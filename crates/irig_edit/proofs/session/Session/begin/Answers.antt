@@ -1,0 +1,60 @@
+use Rattle.std.proofs.Common.{rules, IsErr, Ok, Err, Bool, List, [], ◌∷◌, sym, subst, ap, ◌∙◌}
+use Rattle.irig_journal.specs.declared.step.Step.{Step}
+use Rattle.irig_journal.specs.Groups.{Grouped}
+use Rattle.irig_journal.specs.History.{FitInTurn, steps_of}
+use Rattle.irig_journal.specs.Journal.{FitsState, Steps as Journaled, past_of, future_of}
+use Rattle.irig_edit.specs.Calls.Call.{Begin}
+use Rattle.irig_edit.specs.Delta.{Fits, turned}
+use Rattle.irig_edit.specs.Held.{delta_of}
+use Rattle.irig_edit.specs.Keeping.{grouped_at, machine_at}
+use Rattle.irig_edit.specs.Kept.{Kept}
+use Rattle.irig_edit.specs.Limits.{IsGrouped}
+use Rattle.irig_edit.specs.Machine.{Steps}
+use Rattle.irig_edit.specs.Refusals.{first_of, refusal_of}
+use Rattle.irig_edit.specs.Session.{SessionView, grouped_in}
+use Rattle.irig_edit.specs.declared.change.Change.{Change}
+use Rattle.irig_edit.specs.declared.refusal.Refusal.TheVariants.{GroupOpen}
+use Rattle.irig_edit.proofs.Endings.{grouped-began, is_open-some}
+use Rattle.irig_edit.proofs.Floors.{IsGrouped-begun}
+use Rattle.irig_edit.proofs.Stepping.{Steps-begun}
+use Rattle.irig_edit.proofs.session.Session.begin.Goals.{in-Ok, in-Err}
+use Rattle.irig_edit.proofs.session.Session.begin.Goals as goal
+
+pub invariant_of-self : goal.invariant_of-self
+invariant_of-self c =
+    let s = c.self.inside in
+    let t = c.begin.new.self in
+    let kept = c.begin.ensures.steps in
+    let past = ap (steps_of delta_of) kept.0 in
+    let future = ap (steps_of delta_of) kept.1 in
+    let fits : FitsState Fits turned delta_of s.present.state t = (
+      subst (FitInTurn Fits turned s.present.state) (sym past) c.self.invariant.1.0,
+      subst (FitInTurn Fits turned s.present.state) (sym future) c.self.invariant.1.1,
+    ) in
+    elim c.match-begin.branch [
+      | in-Ok w ↦
+          let step = grouped-began s.present.state s.cursor (past_of delta_of s.journal) (future_of delta_of s.journal) (past_of delta_of t) (future_of delta_of t)
+          s.journal.floor t.floor (w.in-Ok.ensures.grouped s.present.state) past future in
+          (IsGrouped-begun (grouped_at s.present.state s.cursor s.journal) (grouped_at s.present.state s.cursor t) c.self.invariant.0 step, fits)
+      | in-Err w ↦ (subst (λ (j : Journaled Change). IsGrouped (grouped_at s.present.state s.cursor j)) (sym w.in-Err.ensures.err.1) c.self.invariant.0, fits)
+    ]
+
+pub returns-clause-step : goal.returns-clause-step
+returns-clause-step c =
+    let s = c.self.inside in
+    let t = c.begin.new.self in
+    let kept = c.begin.ensures.steps in
+    elim c.match-begin.branch [
+      | in-Ok w ↦
+          let step = grouped-began s.present.state s.cursor (past_of delta_of s.journal) (future_of delta_of s.journal) (past_of delta_of t) (future_of delta_of t)
+          s.journal.floor t.floor (w.in-Ok.ensures.grouped s.present.state) (ap (steps_of delta_of) kept.0) (ap (steps_of delta_of) kept.1) in
+          rw w.result-is (subst (λ (v : SessionView). Steps Begin (grouped_in v) (Ok tt) (grouped_at s.present.state s.cursor t)) c.self.view_is
+          (Steps-begun (grouped_at s.present.state s.cursor s.journal) (grouped_at s.present.state s.cursor t) step))
+      | in-Err w ↦
+          let failed : IsErr c.begin.result = search rules in
+          let open_now = is_open-some (machine_at s.present.state s.cursor s.journal) s.journal.floor (c.begin.ensures.open.0 failed) in
+          rw w.result-is (
+            ap (λ (v : SessionView). refusal_of Begin (grouped_in v)) (sym c.self.view_is) ∙ ap (λ (test : Bool). first_of ((test, GroupOpen) ∷ [])) open_now,
+            ap (λ (j : Journaled Change). grouped_at s.present.state s.cursor j) w.in-Err.ensures.err.1 ∙ ap grouped_in c.self.view_is,
+          )
+    ]

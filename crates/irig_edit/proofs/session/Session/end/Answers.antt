@@ -1,0 +1,70 @@
+use Rattle.std.proofs.Common.{rules, IsErrOf, Ok, Err, Bool, not, List, [], ◌∷◌, sym, subst, ap, ◌∙◌}
+use Rattle.irig_journal.specs.declared.fault.JournalFault.TheVariants as fault
+use Rattle.irig_journal.specs.Groups.{Grouped}
+use Rattle.irig_journal.specs.History.{steps_of}
+use Rattle.irig_journal.specs.Journal.{past_of, future_of}
+use Rattle.irig_edit.specs.Calls.Call.{End}
+use Rattle.irig_edit.specs.Held.{delta_of}
+use Rattle.irig_edit.specs.Keeping.{grouped_at, machine, machine_at}
+use Rattle.irig_edit.specs.Kept.{Kept}
+use Rattle.irig_edit.specs.Limits.{IsGrouped}
+use Rattle.irig_edit.specs.Machine.{Steps}
+use Rattle.irig_edit.specs.Refusals.{first_of, refusal_of}
+use Rattle.irig_edit.specs.Session.{SessionView, grouped_in}
+use Rattle.irig_edit.specs.declared.refusal.Refusal.TheVariants.{NoGroup}
+use Rattle.irig_edit.proofs.Endings.{IsGrouped-ended, grouped-ended, is_open-none, is_open-not_none}
+use Rattle.irig_edit.proofs.Floors.{over_opening}
+use Rattle.irig_edit.proofs.Machines.{history}
+use Rattle.irig_edit.proofs.Stepping.{Steps-ended}
+use Rattle.irig_edit.proofs.session.Session.end.Goals.{in-Ok, in-Err-NoGroup, in-Err}
+use Rattle.irig_edit.proofs.session.Session.end.Goals as goal
+
+pub invariant_of-self : goal.invariant_of-self
+invariant_of-self c =
+    let s = c.self.inside in
+    let t = c.end.new in
+    let stays = c.end.ensures.stays in
+    let future = ap (steps_of delta_of) stays.2 in
+    elim c.match-end.branch [
+      | in-Ok w ↦
+          let step = grouped-ended s.present.state t.state.state s.cursor (past_of delta_of s.journal) (future_of delta_of s.journal) (past_of delta_of t.self) (future_of delta_of t.self)
+          s.journal.floor t.self.floor (w.in-Ok.ensures.grouped s.cursor) w.in-Ok.ensures.steps stays.0 future c.self.invariant.0.machine.present.state c.self.invariant.1.0 in
+          (IsGrouped-ended (grouped_at s.present.state s.cursor s.journal) (grouped_at t.state.state s.cursor t.self) c.self.invariant.0 step, c.end.ensures.fits)
+      | in-Err-NoGroup w ↦
+          let same = w.in-Err-NoGroup.ensures.err in
+          (subst (λ (g : Grouped Kept). IsGrouped g) (λ k. over_opening (sym same.1 k) (machine (history (sym stays.0 k) s.cursor (sym same.0 k) (sym future k)))) c.self.invariant.0, c.end.ensures.fits)
+      | in-Err w ↦
+          let same = w.in-Err.ensures.err in
+          (subst (λ (g : Grouped Kept). IsGrouped g) (λ k. over_opening (sym same.1 k) (machine (history (sym stays.0 k) s.cursor (sym same.0 k) (sym future k)))) c.self.invariant.0, c.end.ensures.fits)
+    ]
+
+pub returns-clause-step : goal.returns-clause-step
+returns-clause-step c =
+    let s = c.self.inside in
+    let t = c.end.new in
+    let stays = c.end.ensures.stays in
+    let future = ap (steps_of delta_of) stays.2 in
+    elim c.match-end.branch [
+      | in-Ok w ↦
+          let step = grouped-ended s.present.state t.state.state s.cursor (past_of delta_of s.journal) (future_of delta_of s.journal) (past_of delta_of t.self) (future_of delta_of t.self)
+          s.journal.floor t.self.floor (w.in-Ok.ensures.grouped s.cursor) w.in-Ok.ensures.steps stays.0 future c.self.invariant.0.machine.present.state c.self.invariant.1.0 in
+          rw w.result-is (subst (λ (v : SessionView). Steps End (grouped_in v) (Ok tt) (grouped_at t.state.state s.cursor t.self)) c.self.view_is
+          (Steps-ended (grouped_at s.present.state s.cursor s.journal) (grouped_at t.state.state s.cursor t.self) step))
+      | in-Err-NoGroup w ↦
+          let same = w.in-Err-NoGroup.ensures.err in
+          let none : IsErrOf c.end.result fault.NoGroup = search rules in
+          let shut = is_open-none (machine_at s.present.state s.cursor s.journal) s.journal.floor (c.end.ensures.none.0 none) in
+          rw w.result-is (
+            ap (λ (v : SessionView). refusal_of End (grouped_in v)) (sym c.self.view_is) ∙ ap (λ (test : Bool). first_of ((not test, NoGroup) ∷ [])) shut,
+            (λ k. over_opening (same.1 k) (machine (history (stays.0 k) s.cursor (same.0 k) (future k)))) ∙ ap grouped_in c.self.view_is,
+          )
+      | in-Err w ↦
+          let same = w.in-Err.ensures.err in
+          let some : IsErrOf c.end.result fault.NoGroup → ⊥ = search rules in
+          let open_now = is_open-not_none (machine_at s.present.state s.cursor s.journal) s.journal.floor (λ none. some (c.end.ensures.none.1 none)) in
+          rw w.result-is (
+            ap (λ (v : SessionView). refusal_of End (grouped_in v)) (sym c.self.view_is) ∙ ap (λ (test : Bool). first_of ((not test, NoGroup) ∷ [])) open_now,
+            (λ k. over_opening (same.1 k) (machine (history (stays.0 k) s.cursor (same.0 k) (future k)))) ∙ ap grouped_in c.self.view_is,
+            tt,
+          )
+    ]

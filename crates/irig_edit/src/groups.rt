@@ -1,0 +1,56 @@
+//! Groups: several edits that are one step.
+
+ghost use Rattle.irig_edit.specs.Calls.Call.{Begin, End, Abort};
+ghost use Rattle.irig_edit.specs.Session.{LooksAfter, Steps};
+
+use crate::refusal::Refusal;
+use crate::session::Session;
+use irig_journal::JournalFault;
+
+impl Session {
+    /// Opens a group: what is edited up to its end becomes one step. This takes no memory.
+    ///
+    /// E12 where a group is open.
+    pub fn begin(&mut self) -> Result<(), Refusal>
+        ensures step { Steps Begin self.old result self.new }
+        ensures looks { LooksAfter Begin self.old result self.new }
+    {
+        match self.journal.begin(self.cursor) {
+            Ok(()) => Ok(()),
+            Err(_) => Err(Refusal::GroupOpen),
+        }
+    }
+
+    /// Closes the open group: its steps become one. What was taken back can still be made again.
+    ///
+    /// E13 where no group is open.
+    pub fn end(&mut self) -> Result<(), Refusal>
+        ensures step { Steps End self.old result self.new }
+        ensures looks { LooksAfter End self.old result self.new }
+    {
+        match self.journal.end(&mut self.present) {
+            Ok(()) => Ok(()),
+            Err(JournalFault::NoGroup) => Err(Refusal::NoGroup),
+            Err(_) => Err(Refusal::OutOfMemory),
+        }
+    }
+
+    /// Closes the open group and takes its steps back for good: the present is that of its begin,
+    /// with the cursor that stood there, and nothing is left to be made again.
+    ///
+    /// E13 where no group is open.
+    pub fn abort(&mut self) -> Result<(), Refusal>
+        ensures step { Steps Abort self.old result self.new }
+        ensures looks { LooksAfter Abort self.old result self.new }
+    {
+        let before = self.present.looks();
+        match self.journal.abort(&mut self.present, &mut self.cursor) {
+            Ok(()) => {
+                self.last_looks = self.present.looks_since(before);
+                Ok(())
+            }
+            Err(JournalFault::NoGroup) => Err(Refusal::NoGroup),
+            Err(_) => Err(Refusal::OutOfMemory),
+        }
+    }
+}

@@ -1,0 +1,27 @@
+-- Where the open group of a journal was begun. This project's own.
+use Rattle.std.specs.Prelude.{ℕ, ◌≤◌, List, Option, Some, None}
+use Rattle.irig_journal.specs.declared.opening.Opening.{Opening}
+use Rattle.irig_journal.specs.declared.step.Step.{Step}
+use Rattle.irig_journal.specs.Groups.{Floor}
+use Rattle.irig_journal.specs.Joining.{beyond, changes_of}
+use Rattle.irig_journal.specs.Machine.{Kept, kept}
+use Rattle.irig_journal.specs.Turns.{left_by}
+
+-- the past is no longer than it was at the begin of the open group
+abbrev pub AtFloor : Option Opening → ℕ → Type 0
+AtFloor None long = ⊥
+AtFloor (Some opening) long = long ≤ opening.steps
+
+-- the past is at least as long as it was at the begin of the open group
+abbrev pub StandsOnFloor : Option Opening → ℕ → Type 0
+StandsOnFloor None long = Unit {0}
+StandsOnFloor (Some opening) long = opening.steps ≤ long
+
+module _ {S D : Type 0} where
+  -- the floor of a group begun here, at a state with these steps back: the steps beyond it lead to
+  -- the state that stood there
+  abbrev pub floor_at : (S → D → S × D) → S → List (Step D) → Opening → Floor (Kept S)
+  floor_at turned s past opening = record {
+    height = opening.steps;
+    present = kept (left_by turned s (changes_of (beyond opening.steps past))) opening.cursor;
+  }
