@@ -81,6 +81,18 @@ class Run:
         self.machine.redo()
         return []
 
+    def begin(self):
+        self.machine.begin()
+        return []
+
+    def end(self):
+        self.machine.end()
+        return []
+
+    def abort(self):
+        self.machine.abort()
+        return []
+
     def write(self):
         text = dump.text(self.machine.present.length, self.machine.present.edges)
         machine.need(self.put(text), "S3")

@@ -7,8 +7,9 @@ from reference.machine import MOST_FRAMES
 WEIGHTS = {
     "go": 6, "list": 6, "delete": 3, "shift": 9, "join": 5, "split": 6, "force": 6, "insert": 8, "invert": 8,
     "regen": 10, "format": 4, "mark": 7, "unmark": 2, "undo": 9, "redo": 7, "frames": 6, "marks": 3, "info": 7,
-    "write": 2, "quit": 0.3,
+    "begin": 7, "end": 5, "abort": 4, "write": 2, "quit": 0.3,
 }
+BARE = ("undo", "redo", "frames", "marks", "info", "begin", "end", "abort", "write", "quit")
 
 
 class Lines(Places):
@@ -32,12 +33,13 @@ class Lines(Places):
         ready = {
             "undo": self.machine.past, "redo": self.machine.future, "join": len(state.pulses()) > 1,
             "regen": state.length >= 100 * state.interval(),
+            "begin": self.machine.floor is None, "end": self.machine.floor, "abort": self.machine.floor,
         }
         return chosen if ready.get(chosen, True) or self.random.random() < 0.1 else self.word()
 
     def well_formed(self):
         word = self.word()
-        if word in ("undo", "redo", "frames", "marks", "info", "write", "quit"):
+        if word in BARE:
             return word
         return getattr(self, word)()
 

@@ -11,6 +11,7 @@ MOST_FRAMES = 10000
 NAMES = {
     "E1": "OutOfRange", "E2": "NoPulse", "E3": "Touching", "E4": "NotInside", "E5": "TooMany", "E6": "BadExpression",
     "E7": "BadTime", "E8": "BadControl", "E9": "NothingToUndo", "E10": "NothingToRedo",
+    "E12": "GroupOpen", "E13": "NoGroup", "E14": "GroupFloor",
     "S1": "BadLine", "S2": "LineTooLong", "S3": "WriteFailed",
 }
 
@@ -166,10 +167,13 @@ def unmark(state, letter):
 
 
 class Machine:
-    """All former states, the present one, and the states that undos took back, the next to be redone last."""
+    """All former states, the present one, the states that undos took back, the next to be redone last, and the floor.
+
+    The floor is None where no group is open; else the number of former states at its `begin`, and the state then.
+    """
 
     def __init__(self, length, edges, kind, expression):
-        self.past, self.future = [], []
+        self.past, self.future, self.floor = [], [], None
         self.present = State(length, edges, kind, expression, {}, len(edges) // 2)
 
     def edit(self, change, *arguments):
@@ -179,6 +183,7 @@ class Machine:
 
     def undo(self):
         need(self.past, "E9")
+        need(self.floor is None or len(self.past) > self.floor[0], "E14")
         self.future.append(self.present)
         self.present = self.past.pop()
 
@@ -186,6 +191,21 @@ class Machine:
         need(self.future, "E10")
         self.past.append(self.present)
         self.present = self.future.pop()
+
+    def begin(self):
+        need(self.floor is None, "E12")
+        self.floor = len(self.past), self.present
+
+    def end(self):
+        """Of the states since the `begin` the oldest alone stays: one undo leads back to it."""
+        need(self.floor is not None, "E13")
+        self.past, self.floor = self.past[:self.floor[0] + 1], None
+
+    def abort(self):
+        """Past and present are those of the `begin`."""
+        need(self.floor is not None, "E13")
+        height, self.present = self.floor
+        self.past, self.future, self.floor = self.past[:height], [], None
 
     def go(self, i):
         need(self.present.has_pulses(i, i), "E2")
