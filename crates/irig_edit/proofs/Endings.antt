@@ -25,9 +25,9 @@ use Rattle.irig_edit.specs.Refusals.{is_open}
 use Rattle.irig_edit.specs.Session.{made_since}
 use Rattle.irig_edit.specs.State.{State, IsState}
 use Rattle.irig_edit.proofs.Floors.{grouped-begun, over_opening}
-use Rattle.irig_edit.proofs.Looking.{counted}
+use Rattle.irig_edit.proofs.LooksOfSteps.{counted}
 use Rattle.irig_edit.proofs.Machines.{history, length-kept_back}
-use Rattle.irig_edit.proofs.Stepping.{allowed_some}
+use Rattle.irig_edit.proofs.MachineSteps.{allowed_some}
 use Rattle.irig_edit.proofs.Sums.{looks_first, together-gathered}
 
 -- the states behind so many steps

@@ -12,7 +12,7 @@ use Rattle.irig_edit.specs.Limits.{IsFloor, IsGrouped, IsKept, IsMachine}
 use Rattle.irig_edit.specs.Machine.{with_cursor}
 use Rattle.irig_edit.specs.State.{State, IsState}
 use Rattle.irig_edit.proofs.Machines.{IsMachine-recorded, IsMachine-redone, IsMachine-undone}
-use Rattle.irig_edit.proofs.Stepping.{allowed_some, over_some}
+use Rattle.irig_edit.proofs.MachineSteps.{allowed_some, over_some}
 
 -- a machine over the floor of its open group, if one is open
 abbrev pub over_opening : Option Opening → Machine Kept → Grouped Kept

@@ -13,8 +13,8 @@ use Rattle.irig_edit.specs.Machine.{Accepts, Edits, Steps, with_cursor, with_gro
 use Rattle.irig_edit.specs.Runs.{Answered, Runs, accepted_of}
 use Rattle.irig_edit.specs.State.{State}
 use Rattle.irig_edit.specs.declared.refusal.Refusal.{Refusal}
-use Rattle.irig_edit.proofs.Running.{redone_alone, refused_same}
-use Rattle.irig_edit.proofs.Stepping.{allowed_some, over_some}
+use Rattle.irig_edit.proofs.CallRuns.{redone_alone, refused_same}
+use Rattle.irig_edit.proofs.MachineSteps.{allowed_some, over_some}
 
 -- the oldest of a state and those before it
 abbrev oldest_of : Kept → List Kept → Kept

@@ -5,7 +5,7 @@ use Rattle.irig_vcd.specs.Recording.{RisesFrom}
 use Rattle.irig_track.specs.declared.pulse.Pulse.{Pulse}
 use Rattle.irig_track.specs.Edges.{edges_of}
 use Rattle.irig_track.specs.Splices.{piece, risen_by}
-use Rattle.irig_track.proofs.Finding.{below_or_not}
+use Rattle.irig_track.proofs.Searches.{below_or_not}
 use Rattle.irig_edit.specs.Regenerated.{rising_before, rising_in}
 
 -- one pulse more that rises before a time, or not

@@ -17,8 +17,8 @@ use Rattle.irig_edit.specs.Single.SingleDelta.{Spliced, Toggled, Shifted, Format
 use Rattle.irig_edit.specs.State.{State, IsState, frames_of}
 use Rattle.irig_edit.specs.declared.single.Single.{Single}
 use Rattle.irig_edit.specs.declared.single.Single.TheVariants.{Splice, Toggle, Shift, SetFormat, SetMark}
-use Rattle.irig_edit.proofs.Moving.{length-shifted}
-use Rattle.irig_edit.proofs.Toggling.{length-toggled}
+use Rattle.irig_edit.proofs.ShiftedStates.{length-shifted}
+use Rattle.irig_edit.proofs.Toggles.{length-toggled}
 
 -- what a group needs while single changes are left to be turned
 pub record StaysReady (p : PresentView) (left : List Single) : Type 0 where

@@ -10,8 +10,8 @@ use Rattle.irig_track.specs.Splices.{piece, CanSplice}
 use Rattle.irig_track.specs.Track.{IsTrack}
 use Rattle.irig_track.proofs.Carried.{length-spliced, length-piece, first_of_drop}
 use Rattle.irig_track.proofs.Laws.{edges_of-three, edges_of-parts}
-use Rattle.irig_track.proofs.Rising.{rises_left, rises_right, rises_more}
-use Rattle.irig_track.proofs.Standing.{here, rises_split, rises_joined, rises_first, rises_cut, following-last}
+use Rattle.irig_track.proofs.RisingLists.{rises_left, rises_right, rises_more}
+use Rattle.irig_track.proofs.PulsesBetween.{here, rises_split, rises_joined, rises_first, rises_cut, following-last}
 
 -- numbers up to a bound stand below the next number
 bounded : (low top : ℕ) (xs : List ℕ) → RisesFrom low xs → UpTo top xs → low ≤ top + 1 → RisesFrom low (xs ++ (top + 1) ∷ [])

@@ -6,8 +6,8 @@ use Rattle.irig_track.specs.declared.pulse.Pulse.{Pulse}
 use Rattle.irig_track.specs.Edges.{edges_of}
 use Rattle.irig_track.specs.Toggles.{flipped, toggled}
 use Rattle.irig_track.specs.Splices.{ended_before}
-use Rattle.irig_track.proofs.Rising.{three, flip_low, flip_same, flip_high, RisesFrom-flipped}
-use Rattle.irig_track.proofs.Finding.{below_or_not, ended_yes, ended_no, ended_none}
+use Rattle.irig_track.proofs.RisingLists.{three, flip_low, flip_same, flip_high, RisesFrom-flipped}
+use Rattle.irig_track.proofs.Searches.{below_or_not, ended_yes, ended_no, ended_none}
 
 -- how many numbers are below t
 abbrev below : ℕ → List ℕ → ℕ

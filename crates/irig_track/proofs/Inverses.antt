@@ -16,7 +16,7 @@ use Rattle.irig_track.proofs.Places.{rise_within}
 use Rattle.irig_track.proofs.Carried.{length-spliced, length-piece}
 use Rattle.irig_track.proofs.Laws.{parts, has-toggled}
 use Rattle.irig_track.proofs.Recordings.{recording_of}
-use Rattle.irig_track.proofs.Rising.{RisesFrom-flipped, edges_of-append}
+use Rattle.irig_track.proofs.RisingLists.{RisesFrom-flipped, edges_of-append}
 use Rattle.irig_track.proofs.Sets.{only_list, edges_of-inj}
 
 -- what was put stands where it was put

@@ -7,7 +7,7 @@ use Rattle.irig_vcd.specs.Recording.{RisesFrom, UpTo}
 use Rattle.irig_track.specs.Edges.{Under, has, edges_of, is_edge, with_both, replaced, without, without_between, inverted, pulse}
 use Rattle.irig_track.specs.Toggles.{flipped, toggled}
 use Rattle.irig_track.specs.Splices.{spliced, piece}
-use Rattle.irig_track.proofs.Rising.{rises_left, rises_right, has_there, edges_of-append, has-flipped_same, has-flipped_other, RisesFrom-flipped, test_eq, test_ne, under_next}
+use Rattle.irig_track.proofs.RisingLists.{rises_left, rises_right, has_there, edges_of-append, has-flipped_same, has-flipped_other, RisesFrom-flipped, test_eq, test_ne, under_next}
 use Rattle.irig_track.proofs.Sets.{has-append, has-splice, same_or_not}
 
 pub parts : (at count : ℕ) (ps : List Pulse) → take at ps ++ (piece at count ps ++ drop (at + count) ps) ≡ ps

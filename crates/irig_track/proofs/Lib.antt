@@ -1,15 +1,15 @@
 -- Rising lists of edges, as lists and as sets.
-pub mod Rising
+pub mod RisingLists
 pub mod Below
 pub mod Sets
 -- Pulses and their edges.
 pub mod Pairs
 pub mod Places
-pub mod Finding
+pub mod Searches
 pub mod Recordings
 pub mod Texts
 -- When an edit may be made.
-pub mod Standing
+pub mod PulsesBetween
 pub mod Allowed
 -- What the edits do to pulses and edges, and where.
 pub mod Carried

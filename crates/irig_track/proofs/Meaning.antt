@@ -8,9 +8,9 @@ use Rattle.irig_track.specs.Edges.{pulse, edges_of, has, is_edge, with_both, rep
 use Rattle.irig_track.specs.Splices.{spliced, piece}
 use Rattle.irig_track.proofs.Laws.{is_edge-spliced, is_edge-joined, two}
 use Rattle.irig_track.proofs.Places.{pulse_order}
-use Rattle.irig_track.proofs.Rising.{has_here, has_there, test_ne}
+use Rattle.irig_track.proofs.RisingLists.{has_here, has_there, test_ne}
 use Rattle.irig_track.proofs.Sets.{same_or_not}
-use Rattle.irig_track.proofs.Standing.{here}
+use Rattle.irig_track.proofs.PulsesBetween.{here}
 
 piece-one : (at : ℕ) (p : Pulse) (ps : List Pulse) → slice_get ps at ≡ Some p → piece at 1 ps ≡ p ∷ []
 piece-one at p ps is = ap (take 1) (here ps at p is)

@@ -6,7 +6,7 @@ use Rattle.irig_track.specs.declared.pulse.Pulse.{Pulse}
 use Rattle.irig_track.specs.Shifts.{moved_pulse}
 use Rattle.irig_track.specs.Splices.{spliced, piece}
 use Rattle.irig_track.proofs.Carried.{first_of_drop, length-piece}
-use Rattle.irig_track.proofs.Standing.{here}
+use Rattle.irig_track.proofs.PulsesBetween.{here}
 
 -- the pulses with the first m of those from at on moved
 abbrev pub moved_so_far : ℕ → ℕ → ℕ → ℕ → List Pulse → List Pulse

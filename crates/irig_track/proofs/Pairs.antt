@@ -8,7 +8,7 @@ use Rattle.irig_vcd.specs.Recording.{is_even_long}
 use Rattle.irig_track.specs.declared.pulse.Pulse.{Pulse}
 use Rattle.irig_track.specs.Edges.{edges_of, pulse}
 use Rattle.irig_track.proofs.Recordings.{not-not}
-use Rattle.irig_track.proofs.Rising.{edges_of-append}
+use Rattle.irig_track.proofs.RisingLists.{edges_of-append}
 
 -- one more pulse taken apart
 pub edges_more : (i : ℕ) (p : Pulse) (ps : List Pulse) → slice_get ps i ≡ Some p → (edges_of (take i ps) ++ p.rise ∷ []) ++ p.fall ∷ [] ≡ edges_of (take (i + 1) ps)

@@ -5,10 +5,10 @@ use Rattle.irig_track.specs.declared.pulse.Pulse.{Pulse}
 use Rattle.irig_track.specs.Edges.{edges_of, has, is_edge}
 use Rattle.irig_track.specs.Splices.{risen_by}
 use Rattle.irig_track.specs.Free.{first_or}
-use Rattle.irig_track.proofs.Rising.{has_there, has_none}
+use Rattle.irig_track.proofs.RisingLists.{has_there, has_none}
 use Rattle.irig_track.proofs.Sets.{has-append}
 use Rattle.irig_track.proofs.Laws.{two, or_none}
-use Rattle.irig_track.proofs.Finding.{below_or_not, risen_yes, risen_none, risen_ends}
+use Rattle.irig_track.proofs.Searches.{below_or_not, risen_yes, risen_none, risen_ends}
 
 -- a pulse rises before it falls
 pub pulse_order : (low i : ℕ) (p : Pulse) (ps : List Pulse) → RisesFrom low (edges_of ps) → slice_get ps i ≡ Some p → p.rise < p.fall

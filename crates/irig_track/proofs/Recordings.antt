@@ -5,7 +5,7 @@ use Rattle.irig_track.specs.declared.pulse.Pulse.{Pulse}
 use Rattle.irig_track.specs.Edges.{edges_of, has, is_edge}
 use Rattle.irig_track.specs.Toggles.{flipped, toggled, CanToggle}
 use Rattle.irig_track.specs.Track.{IsTrack}
-use Rattle.irig_track.proofs.Rising.{three, flip_low, flip_same, flip_high, has_here, has_there, has_none, has-flipped_other, length-edges_of, RisesFrom-flipped, UpTo-flipped}
+use Rattle.irig_track.proofs.RisingLists.{three, flip_low, flip_same, flip_high, has_here, has_there, has_none, has-flipped_other, length-edges_of, RisesFrom-flipped, UpTo-flipped}
 
 pub not-not : (b : Bool) → not (not b) ≡ b
 not-not true = refl

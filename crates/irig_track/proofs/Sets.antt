@@ -3,7 +3,7 @@ use Rattle.std.proofs.Common.{◌≡◌, ℕ, ◌+◌, ◌≢◌, ◌==◌, Bool
 use Rattle.irig_track.specs.declared.pulse.Pulse.{Pulse}
 use Rattle.irig_vcd.specs.Recording.{RisesFrom}
 use Rattle.irig_track.specs.Edges.{has, edges_of, is_edge, pulse}
-use Rattle.irig_track.proofs.Rising.{three, rises_right, has_here, has_there, has_none}
+use Rattle.irig_track.proofs.RisingLists.{three, rises_right, has_here, has_there, has_none}
 
 pub has-append : (t : ℕ) (xs ys : List ℕ) → has t (xs ++ ys) ≡ (has t xs || has t ys)
 has-append t [] ys = refl

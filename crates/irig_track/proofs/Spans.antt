@@ -13,7 +13,7 @@ use Rattle.irig_track.proofs.Laws.{parts}
 use Rattle.irig_track.proofs.Turns.{RiseUpTo-append}
 use Rattle.irig_track.proofs.Below.{same_below-ended}
 use Rattle.irig_track.proofs.Carried.{length-piece}
-use Rattle.irig_track.proofs.Finding.{below_or_not, risen_yes, risen_none, risen_by-le, ended_yes, ended_no, ended_none}
+use Rattle.irig_track.proofs.Searches.{below_or_not, risen_yes, risen_none, risen_by-le, ended_yes, ended_no, ended_none}
 
 span_parts : (xs gone made ys : List Pulse) → IsSpan (length xs) (length gone) (length made) (xs ++ (gone ++ ys)) (xs ++ (made ++ ys))
 span_parts xs gone made ys = record {

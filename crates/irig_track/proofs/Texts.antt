@@ -8,7 +8,7 @@ use Rattle.irig_vcd.proofs.WrittenText.{all_lines, whole_text}
 use Rattle.irig_track.specs.declared.pulse.Pulse.{Pulse}
 use Rattle.irig_track.specs.Edges.{edges_of}
 use Rattle.irig_track.specs.Track.{IsTrack}
-use Rattle.irig_track.proofs.Standing.{here}
+use Rattle.irig_track.proofs.PulsesBetween.{here}
 
 pub first_high : (p : Pulse) (ps : List Pulse) → slice_get ps 0 ≡ Some p → (p.rise == 0) ≡ begins_high (edges_of ps)
 first_high p ps is = sym (ap (λ qs. begins_high (edges_of qs)) (here ps 0 p is))

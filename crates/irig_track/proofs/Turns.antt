@@ -8,7 +8,7 @@ use Rattle.irig_vcd.specs.Recording.{RisesFrom}
 use Rattle.irig_track.specs.Edges.{Under, edges_of, pulse}
 use Rattle.irig_track.specs.Toggles.{flipped}
 use Rattle.irig_track.specs.Sides.{left_of, right_of, waiting, RiseUpTo, Stays, Took, Wrote, Begun, Finished}
-use Rattle.irig_track.proofs.Rising.{flip_low, flip_same, flip_high, flipped-past, Under-more, rises_right, rises_more, edges_of-append}
+use Rattle.irig_track.proofs.RisingLists.{flip_low, flip_same, flip_high, flipped-past, Under-more, rises_right, rises_more, edges_of-append}
 
 pub edges_of-sides : (v : GapView Pulse) → edges_of v.items ≡ edges_of (left_of v) ++ edges_of (right_of v)
 edges_of-sides v = sym (ap edges_of (take-append-drop v.place v.items)) ∙ edges_of-append (left_of v) (right_of v)

@@ -5,7 +5,7 @@ use Rattle.std.proofs.lemmas.List.{flat_map_more, length-set, take_more_set}
 use Rattle.std.proofs.Math.Seq.{map-set_same}
 use Rattle.irig_edit.specs.Held.{delta_of, parts_of}
 use Rattle.irig_edit.specs.Room.{TakesIn}
-use Rattle.irig_edit.proofs.Grouping.{all-append}
+use Rattle.irig_edit.proofs.GroupTurns.{all-append}
 use Rattle.irig_edit.proofs.change.reserve_taken_in.Goals as goal
 
 pub returns-in_err-reserve_taken-clause-same : goal.returns-in_err-reserve_taken-clause-same

@@ -1,7 +1,7 @@
 use Rattle.std.proofs.Common.{ℤ, ◌≡◌, true, false, sym, subst, arith, ◌∙◌, to_z, of_z, w64, refl}
 use Rattle.std.proofs.lemmas.Int.{to_z-of_z}
 use Rattle.irig_edit.specs.Marks.{AllMayMove}
-use Rattle.irig_edit.proofs.Marking.{may_more, may_all, may_one}
+use Rattle.irig_edit.proofs.MovedMarks.{may_more, may_all, may_one}
 use Rattle.irig_edit.proofs.marks.all_may_move.Goals as goal
 use Rattle.irig_edit.proofs.marks.all_may_move.Goals.{else-letters-letter-via-then-letters-letter+else-not-may_move, else-letters-letter-via-else-letters-letter}
 

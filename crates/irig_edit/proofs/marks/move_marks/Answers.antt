@@ -3,7 +3,7 @@ use Rattle.std.proofs.lemmas.Int.{to_z-of_z}
 use Rattle.irig_edit.specs.Marks.{marks_moved, moved_if}
 use Rattle.irig_edit.specs.Laws.SetMarks.{mark_within}
 use Rattle.irig_edit.specs.State.{IsMark}
-use Rattle.irig_edit.proofs.Marking.{made_first-more, made_first-next, moved_all}
+use Rattle.irig_edit.proofs.MovedMarks.{made_first-more, made_first-next, moved_all}
 use Rattle.irig_edit.proofs.marks.move_marks.Goals as goal
 
 pub moved_if-requires : goal.moved_if-requires

@@ -1,6 +1,6 @@
 use Rattle.std.proofs.Common.{◌≡◌}
 use Rattle.irig_edit.specs.Marks.{moved_if}
-use Rattle.irig_edit.proofs.Marking.{made_first}
+use Rattle.irig_edit.proofs.MovedMarks.{made_first}
 use Rattle.irig_edit.proofs.marks.move_marks.Given as goal
 
 abbrev pub invariant-loop-letter : goal.invariant-loop-letter

@@ -4,9 +4,9 @@ use Rattle.irig_moment.specs.Generated.{starts_in}
 use Rattle.irig_edit.specs.Conditions.{are_frames, is_met, are_too_many, is_wide}
 use Rattle.irig_edit.specs.Regenerated.{frame_elements, frames_end, frames_pulses, rising_before, rising_in}
 use Rattle.irig_edit.specs.Kept.{exchange}
-use Rattle.irig_edit.proofs.Generating.{frames_many}
-use Rattle.irig_edit.proofs.Judging.{end_said, frames_said, too_many_yes, too_many_no, is_wide_yes, is_wide_no}
-use Rattle.irig_edit.proofs.Regenerating.{regenerated}
+use Rattle.irig_edit.proofs.GeneratedPulses.{frames_many}
+use Rattle.irig_edit.proofs.GenerationTests.{end_said, frames_said, too_many_yes, too_many_no, is_wide_yes, is_wide_no}
+use Rattle.irig_edit.proofs.Regenerations.{regenerated}
 use Rattle.irig_edit.proofs.Risings.{before_end}
 use Rattle.irig_edit.proofs.edits.regen.plan.Goals as goal
 

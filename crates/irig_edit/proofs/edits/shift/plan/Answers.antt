@@ -8,7 +8,7 @@ use Rattle.irig_edit.specs.Single.{turned_single}
 use Rattle.irig_edit.specs.Single.SingleDelta.{Shifted}
 use Rattle.irig_edit.specs.Edits.{pulse_of}
 use Rattle.irig_edit.specs.Marks.{AllMayMove, stands}
-use Rattle.irig_edit.proofs.Moving.{marks_may, shifted_becomes}
+use Rattle.irig_edit.proofs.ShiftedStates.{marks_may, shifted_becomes}
 use Rattle.irig_edit.proofs.edits.shift.plan.Goals as goal
 
 pub returns-clause-fits : goal.returns-clause-fits

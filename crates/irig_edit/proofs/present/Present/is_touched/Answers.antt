@@ -1,5 +1,5 @@
 use Rattle.std.proofs.Common.{sym}
-use Rattle.irig_edit.proofs.Touching.{is_touched-last, is_touched-none}
+use Rattle.irig_edit.proofs.TouchedStretches.{is_touched-last, is_touched-none}
 use Rattle.irig_edit.proofs.present.Present.is_touched.Goals as goal
 
 pub returns-then-risen-gt0 : goal.returns-then-risen-gt0

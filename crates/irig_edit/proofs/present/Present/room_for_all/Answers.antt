@@ -1,6 +1,6 @@
 use Rattle.std.proofs.Common.{◌≡◌, ◌-◌, ◌^◌, min, ap, sym, subst, ◌∙◌}
 use Rattle.irig_edit.specs.Room.{HasPlacesFor, brought}
-use Rattle.irig_edit.proofs.Grouping.{brought_same, on_err}
+use Rattle.irig_edit.proofs.GroupTurns.{brought_same, on_err}
 use Rattle.irig_edit.proofs.present.Present.room_for_all.Goals as goal
 
 pub returns-clause-refused : goal.returns-clause-refused

@@ -2,7 +2,7 @@ use Rattle.std.proofs.Common.{List, length, ap, ◌∙◌, arith}
 use Rattle.std.specs.Prelude.{flat_map}
 use Rattle.irig_edit.specs.Held.{parts_of}
 use Rattle.irig_edit.specs.declared.change.Change.{Change}
-use Rattle.irig_edit.proofs.Grouping.{parts-many}
+use Rattle.irig_edit.proofs.GroupTurns.{parts-many}
 use Rattle.irig_edit.proofs.present.Present.room_to_gather.Goals as goal
 
 pub returns-clause-places : goal.returns-clause-places

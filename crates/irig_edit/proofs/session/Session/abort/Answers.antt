@@ -15,8 +15,8 @@ use Rattle.irig_edit.specs.Session.{SessionView, grouped_in, machine_in, made_si
 use Rattle.irig_edit.specs.declared.refusal.Refusal.TheVariants.{NoGroup}
 use Rattle.irig_edit.proofs.Endings.{IsGrouped-aborted, aborted_rose, grouped-aborted, is_open-none, is_open-not_none}
 use Rattle.irig_edit.proofs.Floors.{over_opening}
-use Rattle.irig_edit.proofs.Looking.{risen_within}
-use Rattle.irig_edit.proofs.Stepping.{Steps-aborted}
+use Rattle.irig_edit.proofs.LooksOfSteps.{risen_within}
+use Rattle.irig_edit.proofs.MachineSteps.{Steps-aborted}
 use Rattle.irig_edit.proofs.session.Session.abort.Goals as goal
 
 pub invariant_of-self : goal.invariant_of-self

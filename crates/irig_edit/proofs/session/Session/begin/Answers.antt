@@ -16,7 +16,7 @@ use Rattle.irig_edit.specs.declared.change.Change.{Change}
 use Rattle.irig_edit.specs.declared.refusal.Refusal.TheVariants.{GroupOpen}
 use Rattle.irig_edit.proofs.Endings.{grouped-began, is_open-some}
 use Rattle.irig_edit.proofs.Floors.{IsGrouped-begun}
-use Rattle.irig_edit.proofs.Stepping.{Steps-begun}
+use Rattle.irig_edit.proofs.MachineSteps.{Steps-begun}
 use Rattle.irig_edit.proofs.session.Session.begin.Goals.{in-Ok, in-Err}
 use Rattle.irig_edit.proofs.session.Session.begin.Goals as goal
 

@@ -14,8 +14,8 @@ use Rattle.irig_edit.specs.Looks.{Within, looks_of}
 use Rattle.irig_edit.specs.Session.{SessionView, grouped_in}
 use Rattle.irig_edit.proofs.Floors.{IsGrouped-recorded, grouped-recorded, over_opening}
 use Rattle.irig_edit.proofs.Machines.{history, machine-made}
-use Rattle.irig_edit.proofs.Looking.{risen_within}
-use Rattle.irig_edit.proofs.Stepping.{steps_becomes}
+use Rattle.irig_edit.proofs.LooksOfSteps.{risen_within}
+use Rattle.irig_edit.proofs.MachineSteps.{steps_becomes}
 use Rattle.irig_edit.proofs.session.Session.change.Goals as goal
 
 pub record-requires-clause-applies : goal.record-requires-clause-applies

@@ -15,7 +15,7 @@ use Rattle.irig_edit.specs.declared.refusal.Refusal.TheVariants.{NoGroup}
 use Rattle.irig_edit.proofs.Endings.{IsGrouped-ended, grouped-ended, is_open-none, is_open-not_none}
 use Rattle.irig_edit.proofs.Floors.{over_opening}
 use Rattle.irig_edit.proofs.Machines.{history}
-use Rattle.irig_edit.proofs.Stepping.{Steps-ended}
+use Rattle.irig_edit.proofs.MachineSteps.{Steps-ended}
 use Rattle.irig_edit.proofs.session.Session.end.Goals.{in-Ok, in-Err-NoGroup, in-Err}
 use Rattle.irig_edit.proofs.session.Session.end.Goals as goal
 

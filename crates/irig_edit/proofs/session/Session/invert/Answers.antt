@@ -12,8 +12,8 @@ use Rattle.irig_edit.specs.Single.SingleDelta.{Toggled}
 use Rattle.irig_edit.specs.Machine.{with_cursor}
 use Rattle.irig_edit.specs.State.{State, IsState}
 use Rattle.irig_edit.proofs.Floors.{IsGrouped-moved, grouped-moved}
-use Rattle.irig_edit.proofs.Stepping.{accepts_becomes}
-use Rattle.irig_edit.proofs.Toggling.{toggled_becomes}
+use Rattle.irig_edit.proofs.MachineSteps.{accepts_becomes}
+use Rattle.irig_edit.proofs.Toggles.{toggled_becomes}
 use Rattle.irig_edit.proofs.session.Session.invert.Goals as goal
 use Rattle.irig_edit.specs.Keeping.{exchange_of, machine_at}
 use Rattle.irig_edit.specs.Kept.{Kept, holding_none}

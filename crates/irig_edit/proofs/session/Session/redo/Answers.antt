@@ -11,9 +11,9 @@ use Rattle.irig_edit.specs.Limits.{IsGrouped}
 use Rattle.irig_edit.specs.Machine.{Steps}
 use Rattle.irig_edit.specs.Session.{SessionView, grouped_in}
 use Rattle.irig_edit.proofs.Floors.{IsGrouped-redone, grouped-redone, over_opening}
-use Rattle.irig_edit.proofs.Looking.{risen_within, redone_rose}
+use Rattle.irig_edit.proofs.LooksOfSteps.{risen_within, redone_rose}
 use Rattle.irig_edit.proofs.Machines.{machine-redone}
-use Rattle.irig_edit.proofs.Stepping.{Steps-redone, no_refusal_forward}
+use Rattle.irig_edit.proofs.MachineSteps.{Steps-redone, no_refusal_forward}
 use Rattle.irig_edit.proofs.session.Session.redo.Goals as goal
 
 pub invariant_of-self : goal.invariant_of-self

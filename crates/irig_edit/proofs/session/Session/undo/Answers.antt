@@ -13,9 +13,9 @@ use Rattle.irig_edit.specs.Refusals.{refusal_of}
 use Rattle.irig_edit.specs.Session.{SessionView, grouped_in}
 use Rattle.irig_edit.proofs.Endings.{above_floor}
 use Rattle.irig_edit.proofs.Floors.{IsGrouped-undone, grouped-undone, is_at_floor-yes, not_at_floor, over_opening}
-use Rattle.irig_edit.proofs.Looking.{risen_within, undone_rose}
+use Rattle.irig_edit.proofs.LooksOfSteps.{risen_within, undone_rose}
 use Rattle.irig_edit.proofs.Machines.{length-kept_back, machine-undone}
-use Rattle.irig_edit.proofs.Stepping.{Steps-undone, floor_refusal, no_refusal_back}
+use Rattle.irig_edit.proofs.MachineSteps.{Steps-undone, floor_refusal, no_refusal_back}
 use Rattle.irig_edit.proofs.session.Session.undo.Goals as goal
 
 pub invariant_of-self : goal.invariant_of-self

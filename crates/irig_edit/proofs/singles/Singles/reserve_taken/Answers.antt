@@ -4,7 +4,7 @@ use Rattle.std.proofs.lemmas.List.{drop-drop, drop-set-lt, length-set, take_more
 use Rattle.std.proofs.Math.Seq.{map-set_same}
 use Rattle.irig_edit.specs.Held.{single_of}
 use Rattle.irig_edit.specs.Room.{TakesIn}
-use Rattle.irig_edit.proofs.Grouping.{all-append}
+use Rattle.irig_edit.proofs.GroupTurns.{all-append}
 use Rattle.irig_edit.proofs.singles.Singles.reserve_taken.Goals as goal
 
 pub returns-in_err-reserve_taken-clause-same : goal.returns-in_err-reserve_taken-clause-same

@@ -1,5 +1,5 @@
 use Rattle.std.proofs.Common.{◌≡◌, length, take, drop}
-use Rattle.irig_edit.proofs.Grouping.{TurnedSoFar}
+use Rattle.irig_edit.proofs.GroupTurns.{TurnedSoFar}
 use Rattle.irig_edit.proofs.singles.Singles.turn.Given as goal
 
 -- what is turned so far, and what is left to be turned

@@ -2,7 +2,7 @@ use Rattle.std.proofs.Common.{List, map, ap, ◌∙◌}
 use Rattle.irig_edit.specs.Delta.Delta.{Together}
 use Rattle.irig_edit.specs.Held.{single_of}
 use Rattle.irig_edit.specs.declared.single.Single.{Single}
-use Rattle.irig_edit.proofs.Grouping.{parts-gathered}
+use Rattle.irig_edit.proofs.GroupTurns.{parts-gathered}
 use Rattle.irig_edit.proofs.turn.PresentReversible.gather.Goals as goal
 
 pub returns-in-Ok-clause-one : goal.returns-in-Ok-clause-one

@@ -6,7 +6,7 @@ use Rattle.irig_track.specs.Edges.{edges_of}
 use Rattle.irig_track.specs.Free.{first_or}
 use Rattle.irig_track.specs.Shifts.{ahead, back}
 use Rattle.irig_track.proofs.Allowed.{shift_stands, stands_shift}
-use Rattle.irig_track.proofs.Rising.{test_lt}
+use Rattle.irig_track.proofs.RisingLists.{test_lt}
 use Rattle.irig_track.proofs.track.Track.can_shift.Goals as goal
 
 below : (x y : ℕ) → nat_lt x y ≡ true → x < y

@@ -1,7 +1,7 @@
 use Rattle.std.proofs.Common.{arith, ◌≡◌, ◌≤◌, sym, ◌∙◌, true, false, inl, inr}
 use Rattle.irig_track.proofs.Laws.{true_or_false}
 use Rattle.irig_track.proofs.Recordings.{can_toggle_room, can_toggle_first, can_toggle_second, cannot_toggle}
-use Rattle.irig_track.proofs.Rising.{test_lt}
+use Rattle.irig_track.proofs.RisingLists.{test_lt}
 use Rattle.irig_track.proofs.track.Track.can_toggle.Goals as goal
 use Rattle.irig_track.proofs.track.Track.can_toggle.Goals.{then-room-gt0, else-room-gt0}
 

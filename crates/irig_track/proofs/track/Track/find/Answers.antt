@@ -1,5 +1,5 @@
 use Rattle.std.proofs.Common.{arith}
-use Rattle.irig_track.proofs.Finding.{risen_above, risen_below, risen_by-le}
+use Rattle.irig_track.proofs.Searches.{risen_above, risen_below, risen_by-le}
 use Rattle.irig_track.proofs.track.Track.find.Goals as goal
 
 pub loop-low-preserved-then-get-time : goal.loop-low-preserved-then-get-time

@@ -1,6 +1,6 @@
 use Rattle.std.proofs.Common.{◌≡◌, ◌-◌, ◌==◌, ◌||◌, ◌∙◌, ap, sym, true, false, arith}
 use Rattle.irig_track.proofs.Places.{is_edge_none, is_edge_last}
-use Rattle.irig_track.proofs.Rising.{test_eq, test_ne}
+use Rattle.irig_track.proofs.RisingLists.{test_eq, test_ne}
 use Rattle.irig_track.proofs.track.Track.is_edge_at.Goals as goal
 
 pub returns-then-risen-eq0 : goal.returns-then-risen-eq0

@@ -4,7 +4,7 @@ use Rattle.std.proofs.lemmas.Bool.Decides.{nat_tests}
 use Rattle.std.proofs.lemmas.Nat.{pow_pos}
 use Rattle.std.proofs.Math.Nat.{div-eq_of_lt, div-lt_iff_lt-mul}
 use Rattle.irig_codes.specs.Format.{control_count_of}
-use Rattle.irig_track.proofs.Finding.{below_or_not}
+use Rattle.irig_track.proofs.Searches.{below_or_not}
 use Rattle.irig_edit.specs.Conditions.{are_frames, are_too_many, is_wide}
 use Rattle.irig_edit.specs.Regenerated.{frames_end, rising_before, rising_in}
 use Rattle.irig_edit.specs.State.{State}

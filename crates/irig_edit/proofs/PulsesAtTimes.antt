@@ -5,7 +5,7 @@ use Rattle.std.specs.List.{list_any}
 use Rattle.irig_vcd.specs.Recording.{RisesFrom}
 use Rattle.irig_track.specs.declared.pulse.Pulse.{Pulse}
 use Rattle.irig_track.specs.Edges.{edges_of, Under}
-use Rattle.irig_track.proofs.Finding.{below_or_not}
+use Rattle.irig_track.proofs.Searches.{below_or_not}
 use Rattle.irig_edit.specs.Conditions.{is_met}
 use Rattle.irig_edit.specs.Regenerated.{rising_before}
 use Rattle.irig_edit.specs.State.{State, IsState}

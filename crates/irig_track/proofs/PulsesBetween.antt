@@ -4,7 +4,7 @@ use Rattle.irig_track.specs.declared.pulse.Pulse.{Pulse}
 use Rattle.irig_vcd.specs.Recording.{RisesFrom}
 use Rattle.irig_track.specs.Edges.{edges_of}
 use Rattle.irig_track.specs.Free.{following}
-use Rattle.irig_track.proofs.Rising.{rises_right}
+use Rattle.irig_track.proofs.RisingLists.{rises_right}
 use Rattle.irig_track.proofs.Turns.{first_right}
 use Rattle.irig_track.proofs.Carried.{first_of_drop}
 

@@ -18,8 +18,8 @@ use Rattle.irig_edit.specs.Becoming.{Becomes}
 use Rattle.irig_edit.specs.Single.{turned_single}
 use Rattle.irig_edit.specs.Marks.{AllMayMove, marks_moved, stands}
 use Rattle.irig_edit.specs.Single.SingleDelta.{Shifted}
-use Rattle.irig_edit.proofs.Marking.{may_between, moved_between}
-use Rattle.irig_edit.proofs.Shifting.{pulse_there}
+use Rattle.irig_edit.proofs.MovedMarks.{may_between, moved_between}
+use Rattle.irig_edit.proofs.Shifts.{pulse_there}
 
 -- the edges of moved pulses are their moved edges
 edges_of-moved : (d : ℤ) (ps : List Pulse) → edges_of (moved d ps) ≡ map (moved_time d) (edges_of ps)
