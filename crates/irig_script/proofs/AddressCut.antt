@@ -3,7 +3,7 @@ use Rattle.std.proofs.Common.{◌≡◌, ◌==◌, ◌<◌, ◌≤◌, ℕ, ℤ,
 use Rattle.std.proofs.lemmas.Bool.Decides.{nat_tests}
 use Rattle.std.proofs.lemmas.List.{append-nil}
 use Rattle.std.specs.List.{list_all}
-use Rattle.irig_script.specs.Script.Addresses.{IsAddress, IsBase, IsOffset, IsPair, IsPlace, IsRange}
+use Rattle.irig_script.specs.Script.Addresses.{IsAddress, IsBase, IsOffset, IsPair, IsAddressOrCursor, IsRange}
 use Rattle.irig_script.specs.Script.Letters.{is_letter}
 use Rattle.irig_script.specs.Script.Numbers.{is_digit, is_sign}
 use Rattle.irig_script.specs.Script.Words.{before, onward}
@@ -96,12 +96,12 @@ address_lacks text a h =
     let all : list_all is_address_byte (h.front ++ h.back) ≡ true = all-append is_address_byte h.front h.back front (offset_bytes h.back a.offset h.offset) in
     all_weaker is_address_byte (λ b. not (b == 44)) address_no_comma text (subst (λ (t : List ℕ). list_all is_address_byte t ≡ true) (sym h.whole) all)
 
-place_lacks : (text : List ℕ) (a : Address) → IsPlace text a → Lacks Comma text
+place_lacks : (text : List ℕ) (a : Address) → IsAddressOrCursor text a → Lacks Comma text
 place_lacks [] a h = refl
 place_lacks (b ∷ bs) a h = address_lacks (b ∷ bs) a h
 
 -- one address has no comma to be cut at, and two are cut at theirs
-pub place_uncut : (text : List ℕ) (a : Address) → IsPlace text a → onward Comma text ≡ []
+pub place_uncut : (text : List ℕ) (a : Address) → IsAddressOrCursor text a → onward Comma text ≡ []
 place_uncut text a h = ap (onward Comma) (sym (append-nil text)) ∙ onward_back Comma text [] (place_lacks text a h) tt
 
 pair_lacks : (first second : List ℕ) (a b : Address) → IsPair first second a b → Lacks Comma first
@@ -171,7 +171,7 @@ no_byte : (s : List ℕ) → length s < 1 → s ≡ []
 no_byte [] h = refl
 no_byte (b ∷ s) h = absurd (omega (arith, h))
 
-pub uncut_range : (text rest : List ℕ) (r : Range) → rest ≡ onward Comma text → length rest < 1 → IsRange text r → (a : Address) × IsPlace text a
+pub uncut_range : (text rest : List ℕ) (r : Range) → rest ≡ onward Comma text → length rest < 1 → IsRange text r → (a : Address) × IsAddressOrCursor text a
 uncut_range text rest (One a) e h k = (a, k)
 uncut_range text rest (Two a b) e h k =
     let bad : [] ≡ 44 ∷ k.1 = sym (no_byte rest h) ∙ e ∙ (pair_cut text k.0 k.1 a b k.2 k.3).1 in

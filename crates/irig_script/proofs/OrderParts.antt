@@ -3,7 +3,7 @@ use Rattle.std.proofs.Common.{◌≡◌, ℕ, ◌++◌, Bool, true, false, ◌||
 use Rattle.std.proofs.lemmas.Slice.Eq.{bytes_eq-Decides}
 use Rattle.std.specs.List.{list_all}
 use Rattle.std.specs.Str.{bytes_eq}
-use Rattle.irig_script.specs.Script.Addresses.{IsAddress, IsPlace, IsRange, at}
+use Rattle.irig_script.specs.Script.Addresses.{IsAddress, IsAddressOrCursor, IsRange, at}
 use Rattle.irig_script.specs.Script.Commands.{Asks}
 use Rattle.irig_script.specs.Script.Grammar.{AreWords, AsksIn, IsBlank, IsOrder, IsWord, follows_range}
 use Rattle.irig_script.specs.Script.Keywords.{keyword_of, keywords}
@@ -45,7 +45,7 @@ known_letters w range args c h = go (found w keywords) refl h
 ranged : (k : Keyword) (range : List ℕ) (args : List (List ℕ)) (c : Command) → Asks k range args c → (r : Range) × IsRange range r
 ranged word.Missing range args c h = (One h.0, placed range h.2)
   where
-    placed : (text : List ℕ) → IsAddress text h.0 → IsPlace text h.0
+    placed : (text : List ℕ) → IsAddress text h.0 → IsAddressOrCursor text h.0
     placed [] k = absurd (k.some refl)
     placed (b ∷ bs) k = k
 ranged word.List range args c h = (h.0, h.2)
@@ -54,22 +54,22 @@ ranged word.Join range args c h = (h.0, h.2)
 ranged word.Shift range args c h = (h.0, h.4)
 ranged word.Split range args c h = (One h.0, h.4)
 ranged word.Force range args c h = (One h.0, h.3)
-ranged word.Insert range args c h = (One (at Current), subst (λ (t : List ℕ). IsPlace t (at Current)) (sym h.3) refl)
-ranged word.Invert range args c h = (One (at Current), subst (λ (t : List ℕ). IsPlace t (at Current)) (sym h.3) refl)
-ranged word.Regen range args c h = (One (at Current), subst (λ (t : List ℕ). IsPlace t (at Current)) (sym h.5) refl)
-ranged word.Format range args c h = (One (at Current), subst (λ (t : List ℕ). IsPlace t (at Current)) (sym h.4) refl)
-ranged word.Mark range args c h = (One (at Current), subst (λ (t : List ℕ). IsPlace t (at Current)) (sym h.4) refl)
-ranged word.Unmark range args c h = (One (at Current), subst (λ (t : List ℕ). IsPlace t (at Current)) (sym h.2) refl)
-ranged word.Undo range args c h = (One (at Current), subst (λ (t : List ℕ). IsPlace t (at Current)) (sym h.1) refl)
-ranged word.Redo range args c h = (One (at Current), subst (λ (t : List ℕ). IsPlace t (at Current)) (sym h.1) refl)
-ranged word.Begin range args c h = (One (at Current), subst (λ (t : List ℕ). IsPlace t (at Current)) (sym h.1) refl)
-ranged word.End range args c h = (One (at Current), subst (λ (t : List ℕ). IsPlace t (at Current)) (sym h.1) refl)
-ranged word.Abort range args c h = (One (at Current), subst (λ (t : List ℕ). IsPlace t (at Current)) (sym h.1) refl)
-ranged word.Frames range args c h = (One (at Current), subst (λ (t : List ℕ). IsPlace t (at Current)) (sym h.1) refl)
-ranged word.Marks range args c h = (One (at Current), subst (λ (t : List ℕ). IsPlace t (at Current)) (sym h.1) refl)
-ranged word.Info range args c h = (One (at Current), subst (λ (t : List ℕ). IsPlace t (at Current)) (sym h.1) refl)
-ranged word.Write range args c h = (One (at Current), subst (λ (t : List ℕ). IsPlace t (at Current)) (sym h.1) refl)
-ranged word.Quit range args c h = (One (at Current), subst (λ (t : List ℕ). IsPlace t (at Current)) (sym h.1) refl)
+ranged word.Insert range args c h = (One (at Current), subst (λ (t : List ℕ). IsAddressOrCursor t (at Current)) (sym h.3) refl)
+ranged word.Invert range args c h = (One (at Current), subst (λ (t : List ℕ). IsAddressOrCursor t (at Current)) (sym h.3) refl)
+ranged word.Regen range args c h = (One (at Current), subst (λ (t : List ℕ). IsAddressOrCursor t (at Current)) (sym h.5) refl)
+ranged word.Format range args c h = (One (at Current), subst (λ (t : List ℕ). IsAddressOrCursor t (at Current)) (sym h.4) refl)
+ranged word.Mark range args c h = (One (at Current), subst (λ (t : List ℕ). IsAddressOrCursor t (at Current)) (sym h.4) refl)
+ranged word.Unmark range args c h = (One (at Current), subst (λ (t : List ℕ). IsAddressOrCursor t (at Current)) (sym h.2) refl)
+ranged word.Undo range args c h = (One (at Current), subst (λ (t : List ℕ). IsAddressOrCursor t (at Current)) (sym h.1) refl)
+ranged word.Redo range args c h = (One (at Current), subst (λ (t : List ℕ). IsAddressOrCursor t (at Current)) (sym h.1) refl)
+ranged word.Begin range args c h = (One (at Current), subst (λ (t : List ℕ). IsAddressOrCursor t (at Current)) (sym h.1) refl)
+ranged word.End range args c h = (One (at Current), subst (λ (t : List ℕ). IsAddressOrCursor t (at Current)) (sym h.1) refl)
+ranged word.Abort range args c h = (One (at Current), subst (λ (t : List ℕ). IsAddressOrCursor t (at Current)) (sym h.1) refl)
+ranged word.Frames range args c h = (One (at Current), subst (λ (t : List ℕ). IsAddressOrCursor t (at Current)) (sym h.1) refl)
+ranged word.Marks range args c h = (One (at Current), subst (λ (t : List ℕ). IsAddressOrCursor t (at Current)) (sym h.1) refl)
+ranged word.Info range args c h = (One (at Current), subst (λ (t : List ℕ). IsAddressOrCursor t (at Current)) (sym h.1) refl)
+ranged word.Write range args c h = (One (at Current), subst (λ (t : List ℕ). IsAddressOrCursor t (at Current)) (sym h.1) refl)
+ranged word.Quit range args c h = (One (at Current), subst (λ (t : List ℕ). IsAddressOrCursor t (at Current)) (sym h.1) refl)
 ranged word.Unknown range args c h = absurd h
 
 pub ranged_in : (range : List ℕ) (words : List (List ℕ)) (c : Command) → AsksIn range words c → (r : Range) × IsRange range r

@@ -3,7 +3,7 @@ use Rattle.std.proofs.Common.{◌≡◌, ◌==◌, ℕ, ℤ, suc, ◌+◌, ◌<�
 use Rattle.std.proofs.Math.Seq.{take-append_seam, drop-append_seam}
 use Rattle.std.proofs.lemmas.Bool.Decides.{nat_tests}
 use Rattle.std.specs.List.{list_all}
-use Rattle.irig_script.specs.Script.Addresses.{IsAddress, IsBase, IsMark, IsOffset, IsPair, IsPlace, IsRange, is_here}
+use Rattle.irig_script.specs.Script.Addresses.{IsAddress, IsBase, IsMark, IsOffset, IsPair, IsAddressOrCursor, IsRange, is_cursor}
 use Rattle.irig_script.specs.Script.Grammar.{follows_range}
 use Rattle.irig_script.specs.Script.Letters.{is_letter}
 use Rattle.irig_script.specs.Script.Numbers.{is_digit, is_sign}
@@ -72,16 +72,16 @@ passed_mark text letter h = subst IsPassed (sym h.0) (λ rest.
     (let stays = letter_stays letter h.1 in
     rw (stays.0, stays.1) (omega arith)))
 
-passed_here : (text : List ℕ) → is_here text ≡ true → IsPassed text
-passed_here [] h = passed_none
-passed_here (b ∷ []) h =
+passed_cursor : (text : List ℕ) → is_cursor text ≡ true → IsPassed text
+passed_cursor [] h = passed_none
+passed_cursor (b ∷ []) h =
     let same : b ≡ 46 = grind (arith, nat_tests) in
     subst (λ (c : ℕ). IsPassed (c ∷ [])) (sym same) (λ rest. omega arith)
-passed_here (b ∷ c ∷ bs) h = absurd (cc)
+passed_cursor (b ∷ c ∷ bs) h = absurd (cc)
 
 passed_base : (text : List ℕ) (b : Base) → IsBase text b → IsPassed text
 passed_base text (Number n) h = passed_digits text h.digits
-passed_base text Current h = passed_here text h
+passed_base text Current h = passed_cursor text h
 passed_base text Last h = subst IsPassed (sym h) (λ rest. omega arith)
 passed_base text (Mark letter) h = passed_mark text letter h
 
@@ -99,9 +99,9 @@ passed_address : (text : List ℕ) (a : Address) → IsAddress text a → IsPass
 passed_address text a h = subst IsPassed (sym h.whole)
     (passed-append h.front h.back (passed_base h.front a.base h.base) (passed_offset h.back a.offset h.offset))
 
-passed_place : (text : List ℕ) (a : Address) → IsPlace text a → IsPassed text
-passed_place [] a h = passed_none
-passed_place (b ∷ bs) a h = passed_address (b ∷ bs) a h
+passed_address_or_cursor : (text : List ℕ) (a : Address) → IsAddressOrCursor text a → IsPassed text
+passed_address_or_cursor [] a h = passed_none
+passed_address_or_cursor (b ∷ bs) a h = passed_address (b ∷ bs) a h
 
 passed_comma : (second : List ℕ) → IsPassed second → IsPassed (44 ∷ second)
 passed_comma second h = passed-append (44 ∷ []) second (λ rest. omega arith) h
@@ -113,7 +113,7 @@ passed_pair (x ∷ first) second a b h =
     passed-append (x ∷ first) (44 ∷ second) (passed_address (x ∷ first) a h.0) (passed_comma second (passed_address second b h.1))
 
 passed_range : (text : List ℕ) (r : Range) → IsRange text r → IsPassed text
-passed_range text (One a) h = passed_place text a h
+passed_range text (One a) h = passed_address_or_cursor text a h
 passed_range text (Two a b) h = subst IsPassed (sym h.2) (passed_pair h.0 h.1 a b h.3)
 
 -- no range goes on behind it

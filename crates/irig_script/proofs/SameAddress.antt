@@ -3,7 +3,7 @@ use Rattle.std.proofs.Common.{◌≡◌, ◌==◌, ◌++◌, ℕ, ℤ, pos, negs
 use Rattle.std.proofs.lemmas.Bool.Decides.{nat_tests}
 use Rattle.std.specs.List.{list_all}
 use Rattle.irig_track.specs.Shifts.{ahead, back}
-use Rattle.irig_script.specs.Script.Addresses.{IsMark, IsBase, IsOffset, IsAddress, IsPair, IsPlace, IsRange, is_here}
+use Rattle.irig_script.specs.Script.Addresses.{IsMark, IsBase, IsOffset, IsAddress, IsPair, IsAddressOrCursor, IsRange, is_cursor}
 use Rattle.irig_script.specs.Script.Numbers.{IsControl, IsNumber, IsSigned, is_digit, size}
 use Rattle.irig_script.specs.declared.script.address.Address.{Address}
 use Rattle.irig_script.specs.declared.script.address.Base.{Base}
@@ -34,13 +34,13 @@ signed_one sign d e h k s = go (sign == 45) h k
     go false p q = distance_told d e (omega (arith, p, q, s)) (p ∙ sym q)
 
 -- a number is no other base
-number_not_here : (text : List ℕ) (n : ℕ) → IsNumber text n → is_here text ≡ true → ⊥
-number_not_here [] n h e = omega (arith, h.some)
-number_not_here (b ∷ []) n h e =
+number_not_cursor : (text : List ℕ) (n : ℕ) → IsNumber text n → is_cursor text ≡ true → ⊥
+number_not_cursor [] n h e = omega (arith, h.some)
+number_not_cursor (b ∷ []) n h e =
     let same : b ≡ 46 = grind (arith, nat_tests) in
     let bad = subst (λ (c : ℕ). list_all is_digit (c ∷ []) ≡ true) same h.digits in
     cc
-number_not_here (b ∷ c ∷ bs) n h e = cc
+number_not_cursor (b ∷ c ∷ bs) n h e = cc
 
 number_not_last : (text : List ℕ) (n : ℕ) → IsNumber text n → text ≡ 36 ∷ [] → ⊥
 number_not_last text n h e = let bad = subst (λ (t : List ℕ). list_all is_digit t ≡ true) e h.digits in cc
@@ -48,11 +48,11 @@ number_not_last text n h e = let bad = subst (λ (t : List ℕ). list_all is_dig
 pub number_not_mark : (text : List ℕ) (n letter : ℕ) → IsNumber text n → IsMark text letter → ⊥
 number_not_mark text n letter h e = let bad = subst (λ (t : List ℕ). list_all is_digit t ≡ true) e.0 h.digits in cc
 
-here_not_last : (text : List ℕ) → is_here text ≡ true → text ≡ 36 ∷ [] → ⊥
-here_not_last text h e = let bad = subst (λ (t : List ℕ). is_here t ≡ true) e h in cc
+cursor_not_last : (text : List ℕ) → is_cursor text ≡ true → text ≡ 36 ∷ [] → ⊥
+cursor_not_last text h e = let bad = subst (λ (t : List ℕ). is_cursor t ≡ true) e h in cc
 
-here_not_mark : (text : List ℕ) (letter : ℕ) → is_here text ≡ true → IsMark text letter → ⊥
-here_not_mark text letter h e = let bad = subst (λ (t : List ℕ). is_here t ≡ true) e.0 h in cc
+cursor_not_mark : (text : List ℕ) (letter : ℕ) → is_cursor text ≡ true → IsMark text letter → ⊥
+cursor_not_mark text letter h e = let bad = subst (λ (t : List ℕ). is_cursor t ≡ true) e.0 h in cc
 
 last_not_mark : (text : List ℕ) (letter : ℕ) → text ≡ 36 ∷ [] → IsMark text letter → ⊥
 last_not_mark text letter h e = let bad = sym h ∙ e.0 in cc
@@ -62,19 +62,19 @@ mark_one text l m h k = let same = sym h.0 ∙ k.0 in cc
 
 base_one : (text : List ℕ) (a b : Base) → IsBase text a → IsBase text b → a ≡ b
 base_one text (Number n) (Number m) h k = ap Number (number_one text n m h k)
-base_one text (Number n) Current h k = absurd (number_not_here text n h k)
+base_one text (Number n) Current h k = absurd (number_not_cursor text n h k)
 base_one text (Number n) Last h k = absurd (number_not_last text n h k)
 base_one text (Number n) (Mark l) h k = absurd (number_not_mark text n l h k)
-base_one text Current (Number n) h k = absurd (number_not_here text n k h)
+base_one text Current (Number n) h k = absurd (number_not_cursor text n k h)
 base_one text Current Current h k = refl
-base_one text Current Last h k = absurd (here_not_last text h k)
-base_one text Current (Mark l) h k = absurd (here_not_mark text l h k)
+base_one text Current Last h k = absurd (cursor_not_last text h k)
+base_one text Current (Mark l) h k = absurd (cursor_not_mark text l h k)
 base_one text Last (Number n) h k = absurd (number_not_last text n k h)
-base_one text Last Current h k = absurd (here_not_last text k h)
+base_one text Last Current h k = absurd (cursor_not_last text k h)
 base_one text Last Last h k = refl
 base_one text Last (Mark l) h k = absurd (last_not_mark text l h k)
 base_one text (Mark l) (Number n) h k = absurd (number_not_mark text n l k h)
-base_one text (Mark l) Current h k = absurd (here_not_mark text l k h)
+base_one text (Mark l) Current h k = absurd (cursor_not_mark text l k h)
 base_one text (Mark l) Last h k = absurd (last_not_mark text l k h)
 base_one text (Mark l) (Mark m) h k = ap Mark (mark_one text l m h k)
 
@@ -93,22 +93,22 @@ address_one text a b h k =
     let offset = offset_one k.back a.offset b.offset (subst (λ (t : List ℕ). IsOffset t a.offset) back h.offset) k.offset in
     λ i. record { base = base i; offset = offset i }
 
-pub place_one : (text : List ℕ) (a b : Address) → IsPlace text a → IsPlace text b → a ≡ b
-place_one [] a b h k = h ∙ sym k
-place_one (c ∷ text) a b h k = address_one (c ∷ text) a b h k
+pub address_or_cursor_one : (text : List ℕ) (a b : Address) → IsAddressOrCursor text a → IsAddressOrCursor text b → a ≡ b
+address_or_cursor_one [] a b h k = h ∙ sym k
+address_or_cursor_one (c ∷ text) a b h k = address_one (c ∷ text) a b h k
 
 pair_one : (first second : List ℕ) (a b c d : Address) → IsPair first second a b → IsPair first second c d → (a ≡ c) × (b ≡ d)
 pair_one [] [] a b c d h k = (h.0 ∙ sym k.0, h.1 ∙ sym k.1)
 pair_one [] (y ∷ second) a b c d h k = absurd (h.0.some refl)
 pair_one (x ∷ first) second a b c d h k = (address_one (x ∷ first) a c h.0 k.0, address_one second b d h.1 k.1)
 
-no_pair : (text first second : List ℕ) (a b c : Address) → IsPlace text a → text ≡ first ++ 44 ∷ second → IsPair first second b c → ⊥
+no_pair : (text first second : List ℕ) (a b c : Address) → IsAddressOrCursor text a → text ≡ first ++ 44 ∷ second → IsPair first second b c → ⊥
 no_pair text first second a b c h e k =
     let none : 44 ∷ second ≡ [] = sym (pair_cut text first second b c e k).1 ∙ place_uncut text a h in
     cc
 
 pub range_one : (text : List ℕ) (r s : Range) → IsRange text r → IsRange text s → r ≡ s
-range_one text (One a) (One b) h k = ap One (place_one text a b h k)
+range_one text (One a) (One b) h k = ap One (address_or_cursor_one text a b h k)
 range_one text (One a) (Two b c) h k = absurd (no_pair text k.0 k.1 a b c h k.2 k.3)
 range_one text (Two b c) (One a) h k = absurd (no_pair text h.0 h.1 a b c k h.2 h.3)
 range_one text (Two a b) (Two c d) h k =

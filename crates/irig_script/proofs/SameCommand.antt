@@ -17,7 +17,7 @@ use Rattle.irig_script.specs.declared.script.keyword.Keyword.{Keyword}
 use Rattle.irig_script.specs.declared.script.keyword.Keyword.TheVariants as word
 use Rattle.irig_script.specs.declared.script.time.Time.{Time}
 use Rattle.irig_script.specs.declared.script.time.Time.TheVariants as time
-use Rattle.irig_script.proofs.SameAddress.{address_one, control_one, mark_one, number_not_mark, number_one, place_one, range_one, signed_one}
+use Rattle.irig_script.proofs.SameAddress.{address_one, control_one, mark_one, number_not_mark, number_one, address_or_cursor_one, range_one, signed_one}
 
 -- times, distances and the other arguments
 time_one : (text : List ℕ) (s t : Time) → IsTime text s → IsTime text t → s ≡ t
@@ -105,13 +105,13 @@ asks_one word.Shift range args c d h k =
     let by = distance_one k.2 h.1 k.1 (subst (λ (w : List ℕ). IsDistance w h.1) same h.6) k.6 in
     h.3 ∙ ap₂ command.Shift (range_one range h.0 k.0 h.4 k.4) by ∙ sym k.3
 asks_one word.Split range args c d h k =
-    let a = place_one range h.0 k.0 h.4 k.4 in
+    let a = address_or_cursor_one range h.0 k.0 h.4 k.4 in
     let t = times_one args h.1 h.2 k.1 k.2 h.5 k.5 in
     h.3 ∙ (λ i. command.Split (a i) (t.0 i) (t.1 i)) ∙ sym k.3
 asks_one word.Force range args c d h k =
     let words : element_word h.1 ∷ [] ≡ element_word k.1 ∷ [] = sym h.4 ∙ k.4 in
     let same : element_word h.1 ≡ element_word k.1 = cc in
-    h.2 ∙ ap₂ command.Force (place_one range h.0 k.0 h.3 k.3) (element_one h.1 k.1 same) ∙ sym k.2
+    h.2 ∙ ap₂ command.Force (address_or_cursor_one range h.0 k.0 h.3 k.3) (element_one h.1 k.1 same) ∙ sym k.2
 asks_one word.Insert range args c d h k =
     let t = times_one args h.0 h.1 k.0 k.1 h.4 k.4 in
     h.2 ∙ ap₂ command.Insert t.0 t.1 ∙ sym k.2

@@ -22,15 +22,15 @@ abbrev pub IsMark : List ℕ → ℕ → Type 0
 IsMark text letter = (text ≡ 39 ∷ letter ∷ []) × (is_letter letter ≡ true)
 
 -- nothing, or a dot
-abbrev pub is_here : List ℕ → Bool
-is_here [] = true
-is_here (b ∷ []) = b == 46
-is_here _ = false
+abbrev pub is_cursor : List ℕ → Bool
+is_cursor [] = true
+is_cursor (b ∷ []) = b == 46
+is_cursor _ = false
 
 -- what an address counts from; where nothing stands it counts from the cursor
 abbrev pub IsBase : List ℕ → Base → Type 0
 IsBase text (Number n) = IsNumber text n
-IsBase text Current = is_here text ≡ true
+IsBase text Current = is_cursor text ≡ true
 IsBase text Last = text ≡ 36 ∷ []
 IsBase text (Mark letter) = IsMark text letter
 
@@ -54,9 +54,9 @@ abbrev pub at : Base → Address
 at base = record { base = base; offset = pos 0 }
 
 -- an address; where nothing stands it is that of the cursor
-abbrev pub IsPlace : List ℕ → Address → Type 0
-IsPlace [] a = a ≡ at Current
-IsPlace text a = IsAddress text a
+abbrev pub IsAddressOrCursor : List ℕ → Address → Type 0
+IsAddressOrCursor [] a = a ≡ at Current
+IsAddressOrCursor text a = IsAddress text a
 
 -- what stands before a comma and behind it: two addresses, or nothing, which is 1,$
 abbrev pub IsPair : List ℕ → List ℕ → Address → Address → Type 0
@@ -65,7 +65,7 @@ IsPair first second a b = IsAddress first a × IsAddress second b
 
 -- a range: nothing, an address, two round a comma, or a comma
 abbrev pub IsRange : List ℕ → Range → Type 0
-IsRange text (One a) = IsPlace text a
+IsRange text (One a) = IsAddressOrCursor text a
 IsRange text (Two a b) = (first : List ℕ) × (second : List ℕ)
     × (text ≡ first ++ 44 ∷ second) × IsPair first second a b
 

@@ -3,7 +3,7 @@ use Rattle.std.specs.Prelude.{◌≡◌, ℕ, ℤ, true, List, [], ◌∷◌}
 use Rattle.irig_codes.specs.declared.format.Kind.{Kind}
 use Rattle.irig_codes.specs.declared.width.Element.{Element}
 use Rattle.irig_moment.specs.Moment.{MomentView}
-use Rattle.irig_script.specs.Script.Addresses.{IsAddress, IsPlace, IsRange, IsTime}
+use Rattle.irig_script.specs.Script.Addresses.{IsAddress, IsAddressOrCursor, IsRange, IsTime}
 use Rattle.irig_codes.specs.Words.{element_word, kind_word}
 use Rattle.irig_script.specs.Script.Arguments.{AreFrames, AreTimes, IsExpression}
 use Rattle.irig_script.specs.Script.Letters.{is_letter}
@@ -28,9 +28,9 @@ Asks word.Join range args asked = (r : Range) × (asked ≡ command.Join r)
 Asks word.Shift range args asked = (r : Range) × (d : ℤ) × (x : List ℕ)
     × (asked ≡ command.Shift r d) × IsRange range r × (args ≡ x ∷ []) × IsDistance x d
 Asks word.Split range args asked = (a : Address) × (s : Time) × (t : Time)
-    × (asked ≡ command.Split a s t) × IsPlace range a × AreTimes args s t
+    × (asked ≡ command.Split a s t) × IsAddressOrCursor range a × AreTimes args s t
 Asks word.Force range args asked = (a : Address) × (e : Element) × (asked ≡ command.Force a e)
-    × IsPlace range a × (args ≡ element_word e ∷ [])
+    × IsAddressOrCursor range a × (args ≡ element_word e ∷ [])
 Asks word.Insert range args asked = (s : Time) × (t : Time) × (asked ≡ command.Insert s t)
     × (range ≡ []) × AreTimes args s t
 Asks word.Invert range args asked = (s : Time) × (t : Time) × (asked ≡ command.Invert s t)

@@ -8,8 +8,8 @@ GrowsBy (Some xs) None more = ⊥
 GrowsBy (Some xs) (Some ys) more = ys ≡ xs ++ more
 
 -- the count of failures rose by so many at least, or stands at its last value
-abbrev pub Fails : ℕ → ℕ → ℕ → Type 0
-Fails old new count = min (old + count) (2 ^ 64 - 1) ≤ new
+abbrev pub RisesBy : ℕ → ℕ → ℕ → Type 0
+RisesBy old new count = min (old + count) (2 ^ 64 - 1) ≤ new
 
 -- the texts put, where the shelf tells them, how often a put failed, and what tells the shelf from
 -- others
@@ -25,6 +25,6 @@ shelved texts failures label = record { texts = texts; failures = failures; labe
 -- just these texts were put, so many puts failed, and the shelf is still that one
 pub record Puts (old new : Shelved) (texts : List (List ℕ)) (count : ℕ) : Type 0 where
   pub put : GrowsBy old.texts new.texts texts
-  pub failed : Fails old.failures new.failures count
+  pub failed : RisesBy old.failures new.failures count
   pub quiet : count ≡ 0 → new.failures ≡ old.failures
   pub label : new.label ≡ old.label

@@ -2,7 +2,7 @@
 
 ghost use Rattle.std.specs.Prelude.{◌≡◌, ℤ, [], true, IfOk, OnErr};
 ghost use Rattle.irig_script.specs.Script.Letters.{is_letter};
-ghost use Rattle.irig_script.specs.Script.Addresses.{IsBase, IsOffset, IsAddress, IsPair, IsPlace, IsRange, IsTime, at};
+ghost use Rattle.irig_script.specs.Script.Addresses.{IsBase, IsOffset, IsAddress, IsPair, IsAddressOrCursor, IsRange, IsTime, at};
 ghost use Rattle.irig_script.specs.declared.script.address.Base.{Base};
 ghost use Rattle.irig_script.specs.declared.script.address.Address.{Address};
 ghost use Rattle.irig_script.specs.declared.script.range.Range.{Range};
@@ -87,9 +87,9 @@ fn at(base: Base) -> Address
 }
 
 /// An address, or that of the cursor where none stands.
-pub fn place(text: &[u8]) -> Result<Address, BadLine>
-    ensures ok { IfOk result (IsPlace text.now) }
-    ensures err { OnErr result ((a : Address) → IsPlace text.now a → ⊥) }
+pub fn address_or_cursor(text: &[u8]) -> Result<Address, BadLine>
+    ensures ok { IfOk result (IsAddressOrCursor text.now) }
+    ensures err { OnErr result ((a : Address) → IsAddressOrCursor text.now a → ⊥) }
 {
     if text.is_empty() {
         Ok(at(Base::Current))
@@ -105,7 +105,7 @@ pub fn range(text: &[u8]) -> Result<Range, BadLine>
 {
     let (first, rest) = cut(text, Stop::Comma);
     match rest {
-        [] => Ok(Range::One(place(text)?)),
+        [] => Ok(Range::One(address_or_cursor(text)?)),
         [_, second @ ..] => {
             let (first, last) = pair(first, second)?;
             Ok(Range::Two(first, last))

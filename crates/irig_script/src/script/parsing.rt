@@ -11,7 +11,7 @@ ghost use Rattle.irig_script.specs.declared.script.time.Time.{Time};
 ghost use Rattle.irig_script.specs.Script.Grammar.{Means, Orders, follows_range, is_nothing};
 ghost use Rattle.irig_script.specs.declared.script.command.Command.{Command};
 
-use crate::script::addresses::{address, place, range, time};
+use crate::script::addresses::{address, address_or_cursor, range, time};
 use crate::script::arguments::{controls, element, expression, kind, mark, moment, times};
 use crate::script::command::{BadLine, Command};
 use crate::script::cutting::{Stop, cut, is_space};
@@ -158,7 +158,7 @@ fn split(front: &[u8], arguments: &[u8]) -> Result<Command, BadLine>
         → Asks Keyword.Split front.now (words_of arguments.now) c → ⊥) }
 {
     let (a, b) = times(arguments)?;
-    Ok(Command::Split(place(front)?, a, b))
+    Ok(Command::Split(address_or_cursor(front)?, a, b))
 }
 
 /// What an address and the arguments of `force` ask for.
@@ -168,7 +168,7 @@ fn force(front: &[u8], arguments: &[u8]) -> Result<Command, BadLine>
         → Asks Keyword.Force front.now (words_of arguments.now) c → ⊥) }
 {
     let name = one_word(arguments)?;
-    Ok(Command::Force(place(front)?, element(name)?))
+    Ok(Command::Force(address_or_cursor(front)?, element(name)?))
 }
 
 /// What the arguments of `insert` ask for, where no range stands.

@@ -5,11 +5,11 @@ use Rattle.irig_script.proofs.Lines.{given}
 use Rattle.irig_script.proofs.WordLemmas.{rest_whole}
 use Rattle.irig_script.proofs.script.addresses.range.Goals as goal
 
-pub returns-in_err-place-in-empty-clause-err : goal.returns-in_err-place-in-empty-clause-err
-returns-in_err-place-in-empty-clause-err c =
+pub returns-in_err-address_or_cursor-in-empty-clause-err : goal.returns-in_err-address_or_cursor-in-empty-clause-err
+returns-in_err-address_or_cursor-in-empty-clause-err c =
     let no : (r : Range) → IsRange c.args.text.now r → ⊥ = λ r h.
-    (let place = uncut_range c.args.text.now _ r c.cut.ensures.onward c.in-empty.len_below h in
-    c.in_err-place-in-empty.ensures.err place.0 place.1) in
+    (let found = uncut_range c.args.text.now _ r c.cut.ensures.onward c.in-empty.len_below h in
+    c.in_err-address_or_cursor-in-empty.ensures.err found.0 found.1) in
     given _ no
 
 pub returns-in_err-first-in-len1-up-clause-err : goal.returns-in_err-first-in-len1-up-clause-err
