@@ -67,31 +67,53 @@ fn check(rt: &impl Abort, alloc: Global, rows: &[(Call, &[u64])]) -> Result<(), 
     Ok(())
 }
 
+/// The edges of the track of two pulses, in microseconds.
+const START: &[u64] = &[100, 120, 200, 280];
+
 #[test]
-fn edits_say_where_they_took_place(rt: HostRuntime) -> Result<(), Fail> {
-    let start: &[u64] = &[100, 120, 200, 280];
+fn a_track_tells_its_pulses(rt: HostRuntime) -> Result<(), Fail> {
     check(
         &rt,
         rt.alloc(),
         &[
-            (Call::Len(2), start),
-            (Call::Length(1000), start),
-            (Call::Room(4_194_302), start),
-            (Call::Pulse(1, 200, 280), start),
-            (Call::Find(99, 0), start),
-            (Call::Find(100, 1), start),
-            (Call::Find(u64::MAX, 2), start),
-            (Call::Splice(1, 0, 130, 200, None), start),
+            (Call::Len(2), START),
+            (Call::Length(1000), START),
+            (Call::Room(4_194_302), START),
+            (Call::Pulse(1, 200, 280), START),
+            (Call::Find(99, 0), START),
+            (Call::Find(100, 1), START),
+            (Call::Find(u64::MAX, 2), START),
+        ],
+    )
+}
+
+#[test]
+fn a_splice_says_where_it_took_place(rt: HostRuntime) -> Result<(), Fail> {
+    check(
+        &rt,
+        rt.alloc(),
+        &[
+            (Call::Splice(1, 0, 130, 200, None), START),
             (
                 Call::Splice(1, 0, 130, 199, span(1, 0, 1)),
                 &[100, 120, 130, 199, 200, 280],
             ),
             (Call::Splice(0, 2, 0, 1000, span(0, 2, 1)), &[0, 1000]),
-            (Call::Splice(2, 0, 300, 300, None), start),
-            (Call::Splice(2, 0, 300, 1001, None), start),
-            (Call::Splice(2, 0, 300, u64::MAX, None), start),
-            (Call::Splice(3, 0, 300, 400, None), start),
-            (Call::Splice(1, usize::MAX, 300, 400, None), start),
+            (Call::Splice(2, 0, 300, 300, None), START),
+            (Call::Splice(2, 0, 300, 1001, None), START),
+            (Call::Splice(2, 0, 300, u64::MAX, None), START),
+            (Call::Splice(3, 0, 300, 400, None), START),
+            (Call::Splice(1, usize::MAX, 300, 400, None), START),
+        ],
+    )
+}
+
+#[test]
+fn a_toggle_says_where_it_took_place(rt: HostRuntime) -> Result<(), Fail> {
+    check(
+        &rt,
+        rt.alloc(),
+        &[
             (
                 Call::Toggle(110, 250, span(0, 2, 3)),
                 &[100, 110, 120, 200, 250, 280],
@@ -102,22 +124,32 @@ fn edits_say_where_they_took_place(rt: HostRuntime) -> Result<(), Fail> {
                 Call::Toggle(130, 150, span(1, 0, 1)),
                 &[100, 120, 130, 150, 200, 280],
             ),
-            (Call::Toggle(250, 110, None), start),
-            (Call::Toggle(110, 110, None), start),
-            (Call::Toggle(110, 1001, None), start),
-            (Call::Shift(0, 0, 80, None), start),
+            (Call::Toggle(250, 110, None), START),
+            (Call::Toggle(110, 110, None), START),
+            (Call::Toggle(110, 1001, None), START),
+        ],
+    )
+}
+
+#[test]
+fn a_shift_says_where_it_took_place(rt: HostRuntime) -> Result<(), Fail> {
+    check(
+        &rt,
+        rt.alloc(),
+        &[
+            (Call::Shift(0, 0, 80, None), START),
             (Call::Shift(0, 0, 79, span(0, 1, 1)), &[179, 199, 200, 280]),
             (
                 Call::Shift(0, 1, 720, span(0, 2, 2)),
                 &[820, 840, 920, 1000],
             ),
-            (Call::Shift(0, 1, 721, None), start),
+            (Call::Shift(0, 1, 721, None), START),
             (Call::Shift(0, 1, -100, span(0, 2, 2)), &[0, 20, 100, 180]),
-            (Call::Shift(0, 1, -101, None), start),
-            (Call::Shift(1, 0, 0, None), start),
-            (Call::Shift(0, 2, 0, None), start),
-            (Call::Shift(0, 1, i64::MIN, None), start),
-            (Call::Shift(0, 1, i64::MAX, None), start),
+            (Call::Shift(0, 1, -101, None), START),
+            (Call::Shift(1, 0, 0, None), START),
+            (Call::Shift(0, 2, 0, None), START),
+            (Call::Shift(0, 1, i64::MIN, None), START),
+            (Call::Shift(0, 1, i64::MAX, None), START),
         ],
     )
 }
