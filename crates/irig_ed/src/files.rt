@@ -3,5 +3,5 @@
 pub mod disk;
 pub mod dump_file;
 pub mod file_shelf;
-mod putting;
+mod put_file;
 pub mod system;

@@ -20,7 +20,7 @@ static DIGITS: [&str; 8] = ["0", "1", "2", "3", "4", "5", "6", "7"];
 pub fn settings<'a>(alloc: Global, words: &'a [&'a str]) -> Result<Settings<'a>, UsageFault>
     ensures { Reads (map (λ w. w.now) words.entry.now) result }
 {
-    match parsed(alloc, words) {
+    match parse_words(alloc, words) {
         Ok(matches) => chosen_of(&matches),
         Err(error) => Err(UsageFault::Words(error)),
     }
@@ -84,7 +84,7 @@ fn digit_named(text: &str) -> u8
 }
 
 /// The matches of a command line that is accepted.
-fn parsed<'a>(alloc: Global, words: &'a [&'a str]) -> Result<ArgMatches<'a>, Error>
+fn parse_words<'a>(alloc: Global, words: &'a [&'a str]) -> Result<ArgMatches<'a>, Error>
     ensures { IfOk result (IsParsed (map (λ w. w.now) words.entry.now)) }
 {
     command(alloc)?.try_get_matches_from(words)

@@ -4,7 +4,7 @@ ghost use Rattle.std.specs.Prelude.{None};
 
 use crate::files::disk::Disk;
 use crate::files::dump_file::{DumpFileFault, read_dump};
-use crate::files::putting::put_file;
+use crate::files::put_file::put_file;
 use irig_script::ShelfFault;
 use std::rt::Files;
 

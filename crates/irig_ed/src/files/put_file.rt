@@ -18,7 +18,7 @@ const LINKS: u32 = 40;
 const NAMES: u32 = 10_000;
 
 /// What a call gives, of whose error nothing is told.
-fn told<T: Drop, E: Drop>(outcome: Result<T, E>) -> Result<T, ShelfFault>
+fn or_shelf_fault<T: Drop, E: Drop>(outcome: Result<T, E>) -> Result<T, ShelfFault>
     ensures given { IfOk result (λ value. outcome ≡ Ok value) }
     ensures failed { OnErr result (IsErr outcome) }
 {
@@ -49,18 +49,18 @@ fn put_over<R: Files + Print + AllocGlobal>(
     bytes: &[u8],
 ) -> Result<(), ShelfFault> {
     if is_standard_output(rt, old) {
-        told(io::writer(rt).write_all(bytes))
+        or_shelf_fault(io::writer(rt).write_all(bytes))
     } else if old.is_file() {
         replace(rt, path, true, bytes)
     } else {
-        let mut file = opened(rt, path)?;
+        let mut file = open_to_write(rt, path)?;
         write_whole(&mut file, bytes)
     }
 }
 
 /// A file that is there, to be written.
-fn opened<R: Files>(rt: &R, path: &str) -> Result<R::File, ShelfFault> {
-    told(OpenOptions::new().write(true).open(rt, path))
+fn open_to_write<R: Files>(rt: &R, path: &str) -> Result<R::File, ShelfFault> {
+    or_shelf_fault(OpenOptions::new().write(true).open(rt, path))
 }
 
 /// Whether both describe one file.
@@ -83,7 +83,7 @@ fn replace<R: Files + AllocGlobal>(
     is_there: bool,
     bytes: &[u8],
 ) -> Result<(), ShelfFault> {
-    let target = followed(rt, path)?;
+    let target = follow_links(rt, path)?;
     let target = target.as_str();
     if is_there {
         let old = writable(rt, target)?;
@@ -94,10 +94,10 @@ fn replace<R: Files + AllocGlobal>(
 }
 
 /// The path that a chain of symbolic links leads to.
-fn followed<R: Files + AllocGlobal>(rt: &R, path: &str) -> Result<PathBuf, ShelfFault> {
-    let mut target = told(PathBuf::from_str(rt.alloc(), path))?;
+fn follow_links<R: Files + AllocGlobal>(rt: &R, path: &str) -> Result<PathBuf, ShelfFault> {
+    let mut target = or_shelf_fault(PathBuf::from_str(rt.alloc(), path))?;
     for _ in 0..LINKS {
-        match follow(rt, &mut target) {
+        match follow_link(rt, &mut target) {
             Ok(true) => {}
             Ok(false) => return Ok(target),
             Err(fault) => return Err(fault),
@@ -107,20 +107,20 @@ fn followed<R: Files + AllocGlobal>(rt: &R, path: &str) -> Result<PathBuf, Shelf
 }
 
 /// Follows a symbolic link, and tells whether there was one.
-fn follow<R: Files + AllocGlobal>(rt: &R, target: &mut PathBuf) -> Result<bool, ShelfFault> {
+fn follow_link<R: Files + AllocGlobal>(rt: &R, target: &mut PathBuf) -> Result<bool, ShelfFault> {
     let next = match fs::read_link(rt, target.as_str()) {
         Ok(next) => next,
         Err(e) if e.kind() == ErrorKind::OutOfMemory => return Err(ShelfFault),
         Err(_) => return Ok(false),
     };
     target.pop();
-    told(target.push(next.as_str()))?;
+    or_shelf_fault(target.push(next.as_str()))?;
     Ok(true)
 }
 
 /// What describes a regular file that may be written: one that may not is not replaced either.
 fn writable<R: Files>(rt: &R, target: &str) -> Result<Metadata, ShelfFault> {
-    let there = opened(rt, target)?;
+    let there = open_to_write(rt, target)?;
     match there.metadata() {
         Ok(old) if old.is_file() => Ok(old),
         _ => Err(ShelfFault),
@@ -154,8 +154,8 @@ fn name_beside<R: AllocGlobal>(rt: &R, target: &str, number: u32) -> Result<Path
     };
     // a folder takes no name of more than 255 bytes
     let kept = if name.len() <= 200 { name } else { "" };
-    let marked = told(format!(in rt.alloc(); ".{kept}.irig_ed-new-{number}"))?;
-    told(target.with_file_name(rt.alloc(), marked.as_str()))
+    let marked = or_shelf_fault(format!(in rt.alloc(); ".{kept}.irig_ed-new-{number}"))?;
+    or_shelf_fault(target.with_file_name(rt.alloc(), marked.as_str()))
 }
 
 /// Writes a new file, and gives it the target's name; false where its own name is taken, so that
@@ -167,10 +167,10 @@ fn replace_by<R: Files>(
     old: Option<&Metadata>,
     bytes: &[u8],
 ) -> Result<bool, ShelfFault> {
-    match created(rt, beside, old.is_some()) {
+    match create_new_file(rt, beside, old.is_some()) {
         Ok(mut file) => {
             let put = match fill(&mut file, old, bytes) {
-                Ok(()) => told(fs::rename(rt, beside, target)),
+                Ok(()) => or_shelf_fault(fs::rename(rt, beside, target)),
                 Err(fault) => Err(fault),
             };
             if put.is_err() {
@@ -184,7 +184,7 @@ fn replace_by<R: Files>(
 }
 
 /// A new file; one that takes the rights of another is its owner's alone until then.
-fn created<R: Files>(rt: &R, path: &str, hidden: bool) -> io::Result<R::File> {
+fn create_new_file<R: Files>(rt: &R, path: &str, hidden: bool) -> io::Result<R::File> {
     let mut how = OpenOptions::new();
     how.write(true).create_new(true);
     if hidden {
@@ -202,15 +202,15 @@ fn fill<F: OpenFile + Write>(
     ensures { OnOk result (Appends (F.contents file.old) (F.contents file.new) bytes.now) }
 {
     if let Some(old) = old {
-        told(file.set_permissions(old.permissions()))?;
+        or_shelf_fault(file.set_permissions(old.permissions()))?;
     }
     write_whole(file, bytes)?;
-    told(file.sync_all())
+    or_shelf_fault(file.sync_all())
 }
 
 /// Writes all of the bytes.
 fn write_whole<F: Write>(file: &mut F, bytes: &[u8]) -> Result<(), ShelfFault>
     ensures { OnOk result (Appends (F.contents file.old) (F.contents file.new) bytes.now) }
 {
-    told(file.write_all(bytes))
+    or_shelf_fault(file.write_all(bytes))
 }
