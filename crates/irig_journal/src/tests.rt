@@ -3,6 +3,8 @@
 ghost use Rattle.irig_journal.specs.Journal.{FitsState};
 ghost use Rattle.irig_journal.specs.Stack.{CanEdit, edited};
 
+mod sides;
+
 use crate::stack::{Edit, Single, Stack};
 use crate::{
     Journal, JournalFault, Reversible, gathered_is_all, groups_give_back, machine_gives_back,

@@ -1,0 +1,52 @@
+//! The steps that a journal shows, and what becomes of them where it is turned round.
+
+ghost use Rattle.std.specs.Prelude.{◌≡◌};
+ghost use Rattle.irig_journal.specs.Journal.{FitsState};
+ghost use Rattle.irig_journal.specs.Stack.{CanEdit, edited};
+
+use crate::Journal;
+use crate::stack::{Edit, Single, Stack};
+use std::test::Fail;
+
+/// Pushes a byte on a stack whose cursor stands here. Without memory nothing is pushed.
+fn push(journal: &mut Journal<Stack>, stack: &mut Stack, byte: u8, cursor: usize)
+    requires fits { FitsState CanEdit edited (λ d. d) stack.old.items.items journal.old }
+    ensures fits { FitsState CanEdit edited (λ d. d) stack.new.items.items journal.new }
+    ensures floor { journal.new.floor ≡ journal.old.floor }
+{
+    let _done = journal.record(stack, Edit::One(Single::Push(byte)), cursor);
+}
+
+/// The cursor of the step back of a number, from 0, where it is there.
+fn back(journal: &Journal<Stack>, number: usize) -> Option<usize> {
+    if number < journal.steps_back() {
+        Some(journal.past(number).cursor)
+    } else {
+        None
+    }
+}
+
+/// The cursor of the step forward of a number, from 0, where it is there.
+fn forward(journal: &Journal<Stack>, number: usize) -> Option<usize> {
+    if number < journal.steps_forward() {
+        Some(journal.future(number).cursor)
+    } else {
+        None
+    }
+}
+
+#[test]
+fn the_newest_step_back_becomes_the_next_forward(rt: HostRuntime) -> Result<(), Fail> {
+    let mut stack = Stack {
+        items: Vec::new(rt.alloc()),
+        turns: 0,
+    };
+    let mut journal = Journal::new(rt.alloc());
+    push(&mut journal, &mut stack, b'a', 7);
+    push(&mut journal, &mut stack, b'b', 8);
+    assert!(rt; back(&journal, 0) == Some(7) && back(&journal, 1) == Some(8));
+    journal.turn_round();
+    assert!(rt; forward(&journal, 0) == Some(8) && forward(&journal, 1) == Some(7));
+    assert!(rt; back(&journal, 0).is_none() && forward(&journal, 2).is_none());
+    Ok(())
+}
