@@ -1,5 +1,5 @@
 -- The last line of a script, which has no newline.
-use Rattle.std.proofs.Common.{◌≡◌, ◌≢◌, ◌==◌, ◌+◌, ◌++◌, ◌∷◌, [], ℕ, Option, true, false, List, length, refl, ap, sym, ◌∙◌, subst, arith}
+use Rattle.std.proofs.Common.{◌≡◌, ◌≢◌, ◌==◌, ◌++◌, ◌∷◌, [], ℕ, Option, true, false, List, length, refl, ap, sym, ◌∙◌, subst, arith}
 use Rattle.std.proofs.lemmas.Bool.Decides.{nat_tests}
 use Rattle.irig_script.specs.Obey.Machine.{Machine}
 use Rattle.irig_script.specs.Script.Lines.{until_quit, script_lines, is_quit}

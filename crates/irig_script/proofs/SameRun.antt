@@ -1,5 +1,5 @@
 -- A script has one run, but for the lines that meet want of memory or a failed put.
-use Rattle.std.proofs.Common.{◌≡◌, ◌<◌, ◌≤◌, ◌++◌, ◌∷◌, [], ℕ, Option, Some, None, List, length, map, refl, sym, ap, ap₂, ◌∙◌, subst, arith, ◌⊎◌, inl, inr}
+use Rattle.std.proofs.Common.{◌≡◌, ◌++◌, ◌∷◌, [], ℕ, Option, Some, None, List, map, refl, sym, ap, ap₂, ◌∙◌, subst, arith, ◌⊎◌, inl, inr}
 use Rattle.std.specs.Prelude.{IsSome}
 use Rattle.std.specs.Io.KnownBytes.{Appends}
 use Rattle.irig_vcd.specs.FileText.{file_text}
@@ -15,7 +15,6 @@ use Rattle.irig_script.specs.Obey.OneRun.{OneRun, tells_failed_put, wants_memory
 use Rattle.irig_script.specs.Obey.Run.{Runs}
 use Rattle.irig_script.specs.Print.Listings.{info_text, list_text, marks_text}
 use Rattle.irig_script.specs.Print.Printed.{Answer, frames_text, printed, reply_text}
-use Rattle.irig_script.specs.Script.Grammar.{Means}
 use Rattle.irig_script.specs.Script.Lines.{script_lines}
 use Rattle.irig_script.specs.declared.print.reply.Reply.{Reply}
 use Rattle.irig_script.specs.declared.print.reply.Reply.TheVariants as told

@@ -7,7 +7,7 @@ use Rattle.irig_script.specs.Print.Numbered.{numbered}
 use Rattle.irig_script.proofs.Blocks.{sends_all, sends_end}
 use Rattle.irig_script.proofs.Pieces.{length-piece, no_pulse, pulse_in_piece}
 use Rattle.irig_script.proofs.Numbered.{listed_front, listed_more}
-use Rattle.irig_script.proofs.print.pulse_lines.print_pulses.Goals as goal
+use Rattle.irig_script.proofs.print.pulse_lines.print_in_blocks.Goals as goal
 
 pub returns-in_err-put-clause-err : goal.returns-in_err-put-clause-err
 returns-in_err-put-clause-err g c =
