@@ -13,6 +13,8 @@ pub mod Cuts
 pub mod Steps
 -- The changes, a word at a time, and the edges of their level.
 pub mod ChangeSteps
+pub mod JournalWords
+pub mod JournalPlaces
 pub mod Levels
 pub mod PlainLemmas
 pub mod Lawful

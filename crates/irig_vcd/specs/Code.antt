@@ -7,4 +7,5 @@ pub mod Timescale
 pub mod Header
 pub mod Time
 pub mod Event
+pub mod Journals
 pub mod Trace

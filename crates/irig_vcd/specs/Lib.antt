@@ -14,5 +14,7 @@ pub mod Values
 pub mod Events
 pub mod Changes
 pub mod Dump
+pub mod Journals
+pub mod Parts
 pub mod FileText
 pub mod Code

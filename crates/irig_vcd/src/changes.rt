@@ -6,10 +6,13 @@ ghost use Rattle.irig_vcd.specs.Words.{rest_of, is_code};
 ghost use Rattle.irig_vcd.specs.Changes.{changes_from};
 ghost use Rattle.irig_vcd.specs.Code.Event.{is_hash};
 ghost use Rattle.irig_vcd.specs.Code.Trace.{KeepsEdges};
+ghost use Rattle.irig_vcd.specs.Code.Journals.{Holds};
 ghost use Rattle.irig_vcd.specs.Events.{any_word};
+ghost use Rattle.irig_vcd.specs.Journals.{journals_among};
 
 use crate::event::take_level;
 use crate::fault::VcdFault;
+use crate::journals::Journals;
 use crate::short::{LONGEST_CODE, Short};
 use crate::time::{Clock, micros, number_time, time};
 use crate::token::{Kind, Tokens};
@@ -44,21 +47,31 @@ fn digits_of(word: &[u8]) -> &[u8]
     }
 }
 
-/// The last time and the edges that the changes make. A function of its own for the machine too:
-/// what it is called from would take its registers.
+/// What stands behind the declarations: the last time in microseconds, the edges, and the journals.
+#[derive(Drop)]
+pub struct Body {
+    pub end: u64,
+    pub edges: Vec<u64>,
+    pub journals: Journals,
+}
+
+/// Reads what stands behind the declarations. A function of its own for the machine too: what it
+/// is called from would take its registers.
 #[inline(never)]
 pub fn changes(
     alloc: Global,
     tokens: &mut Tokens,
     unit: Unit,
     code: &[u8],
-) -> Result<(u64, Vec<u64>), VcdFault>
+) -> Result<Body, VcdFault>
     ensures exact { KeepsEdges result
         (changes_from any_word code.now unit 0 tokens.old) }
-    ensures short { IfOk result (λ x. x.0 ≤ 2 ^ 40) }
+    ensures journals { IfOk result (λ x. Holds (journals_among tokens.old) x.journals) }
+    ensures short { IfOk result (λ x. x.end ≤ 2 ^ 40) }
 {
     let is_plain = is_plain(code);
     let mut trace = Trace::new(alloc);
+    let mut journals = Journals::new();
     let mut clock = Clock { whole: 0, rest: 0 };
     'tokens: loop {
         match tokens.next_short(code, is_plain) {
@@ -79,7 +92,7 @@ pub fn changes(
         if is_hash(token.kind) {
             clock = time(unit, clock, digits_of(token.slice), token.offset)?;
         } else {
-            match take_level(code, token, tokens)? {
+            match take_level(code, token, tokens, &mut journals)? {
                 None => {}
                 Some(high) => {
                     let time = micros(unit, clock);
@@ -90,5 +103,9 @@ pub fn changes(
     }
     let end = micros(unit, clock);
     let edges = trace.finish(end)?;
-    Ok((end, edges))
+    Ok(Body {
+        end,
+        edges,
+        journals,
+    })
 }

@@ -5,6 +5,7 @@ mod changes;
 mod event;
 mod fault;
 mod header;
+mod journals;
 mod law;
 #[cfg(test)]
 mod plain;
@@ -24,7 +25,7 @@ mod writer;
 
 pub use fault::VcdFault;
 pub use law::{edges_tell_levels, read_back};
-pub use reader::read;
+pub use reader::{read, read_parts};
 pub use recording::Recording;
 pub use token::{Kind, Token, Tokens};
 pub use writer::{TextWriter, text};

@@ -22,6 +22,11 @@ abbrev pub after_end : List Word → Result (List Word) VcdFault
 after_end [] = Err Unclosed
 after_end (w ∷ ws) = if is_end w.bytes then Ok ws else after_end ws
 
+-- the place of the next $end, and the words after it
+abbrev pub end_read : List Word → Result (ℕ × List Word) VcdFault
+end_read [] = Err Unclosed
+end_read (w ∷ ws) = if is_end w.bytes then Ok (w.offset, ws) else end_read ws
+
 -- the words of a section behind those before, and the words after its end
 abbrev pub section_words : List (List ℕ) → List Word → Result (List (List ℕ) × List Word) VcdFault
 section_words before [] = Err Unclosed

@@ -1,10 +1,10 @@
 -- What a trace has kept of the changes that it followed.
 use Rattle.std.specs.Prelude.{◌≡◌, ◌≤◌, ℕ, Bool, List, Result, Ok, Err, take}
-use Rattle.std.specs.Global.{Vec}
 use Rattle.std.specs.List.{AllByRecursion}
 use Rattle.irig_vcd.specs.Answer.{Fails}
 use Rattle.irig_vcd.specs.Level.{Change, change, level_by_changes, level_before, edges_below}
 use Rattle.irig_vcd.specs.Level.{edges_up_to}
+use Rattle.irig_vcd.specs.declared.changes.Body.{Body}
 use Rattle.irig_vcd.specs.declared.fault.VcdFault.{VcdFault}
 use Rattle.irig_vcd.specs.declared.trace.Trace.{Trace}
 
@@ -29,8 +29,8 @@ IsKept changes end edges = edges ≡ take edges_kept (edges_up_to changes end)
 
 -- the last time and the edges that are kept are those of the changes that were read, or it is the
 -- fault unless memory ran out
-abbrev pub KeepsEdges : Result (ℕ × Vec ℕ) VcdFault → Result (List Change × ℕ) VcdFault → Type 0
+abbrev pub KeepsEdges : Result Body VcdFault → Result (List Change × ℕ) VcdFault → Type 0
 KeepsEdges (Ok x) read =
-    (changes : List Change) × (read ≡ Ok (changes, x.0))
-    × IsKept changes x.0 x.1.items
+    (changes : List Change) × (read ≡ Ok (changes, x.end))
+    × IsKept changes x.end x.edges.items
 KeepsEdges (Err e) read = Fails e read

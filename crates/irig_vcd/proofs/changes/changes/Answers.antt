@@ -1,4 +1,4 @@
-use Rattle.std.proofs.Common.{◌≡◌, ◌∙◌, ◌++◌, ◌∷◌, [], true, false, Some, None, Ok, ap, sym, rules, arith}
+use Rattle.std.proofs.Common.{◌≡◌, ◌∙◌, ◌++◌, ◌∷◌, [], true, false, Some, None, Ok, refl, ap, sym, rules, arith}
 use Rattle.irig_vcd.specs.Code.Token.{word_of}
 use Rattle.irig_vcd.specs.Words.{rest_of}
 use Rattle.irig_vcd.specs.Code.Time.{units_of}
@@ -7,6 +7,8 @@ use Rattle.irig_vcd.specs.Events.{any_word}
 use Rattle.irig_vcd.specs.Changes.{changes_from}
 use Rattle.irig_vcd.specs.Code.Event.{is_hash, level_read}
 use Rattle.irig_vcd.proofs.ChangeSteps.{behind, goes_on, one_change, on_time, on_word, on_level, behind_none}
+use Rattle.irig_vcd.specs.Journals.{journals_among}
+use Rattle.irig_vcd.proofs.JournalWords.{keeps_past, keeps_on, past_time, past_level, holds_all}
 use Rattle.irig_vcd.proofs.WholeDump.{fails_now}
 use Rattle.std.proofs.lemmas.Result.{err_from_is_err_and}
 use Rattle.irig_vcd.proofs.CodeRuns.{bit_level}
@@ -21,6 +23,7 @@ tokens-init c = (
     late = rw c.new-trace.ensures.start (omega arith);
     follows = c.new-trace.ensures.follows;
     rest = rw (no_units c.args.unit) (behind_none _);
+    journals = ([], c.new-journals.ensures, refl);
   },
 )
 
@@ -31,7 +34,7 @@ tokens-preserved-then-is_hash c =
     let left = sym c.in-Other.ensures ∙ next in
     let hash : is_hash (word_of c.in-Some.token).kind ≡ true = search rules in
     let k = on_time _ _ _ _ (word_of c.in-Some.token) _ _ left hash (rw (← c.digits_of.ensures) c.in_ok-clock.ensures.exact) in
-    (c.tokens.invariant.0, record { time = c.in_ok-clock.ensures.time; late = let up = later c.args.unit c.tokens.clock c.in_ok-clock.clock i.time c.in_ok-clock.ensures.time c.in_ok-clock.ensures.forward in omega (arith, up, i.late); follows = i.follows; rest = ap (behind c.tokens.invariant.0) (sym k) ∙ i.rest })
+    (c.tokens.invariant.0, record { time = c.in_ok-clock.ensures.time; late = let up = later c.args.unit c.tokens.clock c.in_ok-clock.clock i.time c.in_ok-clock.ensures.time c.in_ok-clock.ensures.forward in omega (arith, up, i.late); follows = i.follows; rest = ap (behind c.tokens.invariant.0) (sym k) ∙ i.rest; journals = keeps_past _ _ _ _ i.journals (past_time _ (word_of c.in-Some.token) _ left hash) })
 
 pub tokens-preserved : goal.tokens-preserved
 tokens-preserved c =
@@ -48,6 +51,7 @@ tokens-preserved c =
         late = rw (c.in_ok-put-in-Some-2.ensures.time, c.micros-time-in-Some-2.ensures.value) (omega arith);
         follows = rw (← c.micros-time-in-Some-2.ensures.value) (c.in_ok-put-in-Some-2.ensures.ok c.tokens.invariant.0 i.follows);
         rest = (sym (one_change c.tokens.invariant.0 (micros_of c.args.unit (units_of c.args.unit c.tokens.clock)) c.in-Some-2.high (changes_from any_word c.args.code.now c.args.unit (units_of c.args.unit c.tokens.clock) c.take_level.new.tokens)) ∙ (ap (behind c.tokens.invariant.0) (sym k) ∙ i.rest));
+        journals = keeps_on _ _ _ _ _ (keeps_past _ _ _ _ i.journals (ap journals_among left)) c.in_ok-take_level.ensures.kept;
       },
     )
 
@@ -60,7 +64,7 @@ tokens-preserved-in-None c =
     let is : c.in_ok-take_level.field-0 ≡ None = search rules in
     let read : level_read (word_of c.in-Some.token).kind c.args.code.now (word_of c.in-Some.token) c.next.new.self ≡ Ok (None, c.take_level.new.tokens) = rw (← is) c.in_ok-take_level.ensures.exact in
     let k = on_level _ _ _ _ (word_of c.in-Some.token) _ _ None left hash read in
-    (c.tokens.invariant.0, record { time = i.time; late = i.late; follows = i.follows; rest = ap (behind c.tokens.invariant.0) (sym k) ∙ i.rest })
+    (c.tokens.invariant.0, record { time = i.time; late = i.late; follows = i.follows; rest = ap (behind c.tokens.invariant.0) (sym k) ∙ i.rest; journals = keeps_on _ _ _ _ _ (keeps_past _ _ _ _ i.journals (ap journals_among left)) c.in_ok-take_level.ensures.kept })
 
 pub returns-in_err-take_level-clause-exact : goal.returns-in_err-take_level-clause-exact
 returns-in_err-take_level-clause-exact c =
@@ -86,6 +90,7 @@ tokens-preserved-in-Time c =
         late = let up = later c.args.unit c.tokens.clock c.in_ok-clock-in-Time.clock i.time c.in_ok-clock-in-Time.ensures.time c.in_ok-clock-in-Time.ensures.forward in omega (arith, up, i.late);
         follows = i.follows;
         rest = ap (behind c.tokens.invariant.0) (sym k) ∙ i.rest;
+        journals = keeps_past _ _ _ _ i.journals (past_time _ n.word _ n.left hash);
       },
     )
 
@@ -103,5 +108,11 @@ tokens-preserved-in-Bit c =
         late = rw (c.in_ok-put-in-Bit.ensures.time, c.micros-time.ensures.value) (omega arith);
         follows = rw (← c.micros-time.ensures.value) (c.in_ok-put-in-Bit.ensures.ok c.tokens.invariant.0 i.follows);
         rest = (sym (one_change c.tokens.invariant.0 (micros_of c.args.unit (units_of c.args.unit c.tokens.clock)) c.in-Bit.high (changes_from any_word c.args.code.now c.args.unit (units_of c.args.unit c.tokens.clock) c.next_short.new.self)) ∙ (ap (behind c.tokens.invariant.0) (sym k) ∙ i.rest));
+        journals = keeps_past _ _ _ _ i.journals (past_level _ b.word _ b.left b.kind);
       },
     )
+
+pub returns-clause-journals : goal.returns-clause-journals
+returns-clause-journals c =
+    let none : c.next_short.new.self ≡ [] = search rules in
+    holds_all _ c.tokens.tokens _ c.tokens.invariant.1.journals (sym c.in-Other.ensures ∙ none)
