@@ -30,5 +30,6 @@ pub mod WrittenChanges
 pub mod WrittenText
 pub mod TextLength
 pub mod ReadBack
+pub mod WrittenJournal
 -- Known values.
 pub mod StandardFacts

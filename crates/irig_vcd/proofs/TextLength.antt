@@ -18,7 +18,7 @@ length-edge_lines high top (edge ∷ edges) short within =
     let more = length-edge_lines (not high) top edges short within.1 in
     omega (arith, line, more, length-append (time_line edge ++ level_line high) (edge_lines (not high) edges), length-append (time_line edge) (level_line high))
 
-length-header_text : (high : Bool) → length (header_text high) ≡ 125
+pub length-header_text : (high : Bool) → length (header_text high) ≡ 125
 unfolding head_text
 length-header_text true = refl
 length-header_text false = refl
@@ -36,7 +36,7 @@ length-later_edges : (edges : List ℕ) → length (later_edges edges) ≤ lengt
 length-later_edges [] = omega arith
 length-later_edges (edge ∷ edges) = without (edge == 0) edge edges
 
-later_up : (top : ℕ) (edges : List ℕ) → UpTo top edges → UpTo top (later_edges edges)
+pub later_up : (top : ℕ) (edges : List ℕ) → UpTo top edges → UpTo top (later_edges edges)
 later_up top [] within = within
 later_up top (edge ∷ edges) within = without_up (edge == 0) top edge edges within
 

@@ -1,7 +1,6 @@
 -- The changes of the lines that are written.
 use Rattle.std.proofs.Common.{◌≡◌, ◌≤◌, ◌+◌, ◌++◌, ◌∷◌, ◌&&◌, ◌==◌, [], ℕ, Bool, true, false, not, List, nat_lt, decimal, Some, Result, Ok, Err, refl, ap, sym, ◌∙◌, arith, inl, inr, append_assoc}
 use Rattle.std.specs.List.{list_any}
-use Rattle.std.proofs.lemmas.List.{append-nil}
 use Rattle.std.proofs.lemmas.Bool.{le-ltb, ltb-false, and_cases, cases_Bool, eqb-true, or_cases, not-false, false≢true}
 use Rattle.irig_vcd.specs.Words.{Word, words_from, rest_of, scalar}
 use Rattle.irig_vcd.specs.Times.{time_of, micros_of}
@@ -83,25 +82,31 @@ last_top (x ∷ y ∷ ys) low last top r u h = elim (or_cases (x == top) (list_a
   | inr more ↦ last_top (y ∷ ys) (x + 1) x top r.1 u.1 more
 ]
 
-ends_with_line : (last at top : ℕ) → last ≤ top → top ≤ 1099511627776 → changes_from any_word (33 ∷ []) 9 last (words_from at false (time_line top)) ≡ Ok ([], top)
-ends_with_line last at top up low =
-    let w = time_word top at [] (omega arith) in
-    let left : words_from at false (time_line top) ≡ w.word ∷ [] = ap (words_from at false) (sym (append-nil (time_line top))) ∙ w.words in
+-- a text behind the lines that changes nothing
+abbrev pub SaysNothing : List ℕ → Type 0
+SaysNothing rest = (last at : ℕ) → changes_from any_word (33 ∷ []) 9 last (words_from at false rest) ≡ pair_of [] (micros_of 9 last)
+
+pub says_nothing : SaysNothing []
+says_nothing last at = refl
+
+ends_with_line : (last at top : ℕ) (rest : List ℕ) → SaysNothing rest → last ≤ top → top ≤ 1099511627776 → changes_from any_word (33 ∷ []) 9 last (words_from at false (time_line top ++ rest)) ≡ Ok ([], top)
+ends_with_line last at top rest says up low =
+    let w = time_word top at rest (omega arith) in
     let set : time_of 9 last (rest_of w.word.bytes) w.word.offset ≡ Ok top = rw w.digits (decimal_time last top w.word.offset up low) in
-    let one = on_time (33 ∷ []) 9 last (words_from at false (time_line top)) w.word [] top left (ap is_hash w.kind) set in
-    one ∙ ap (λ t. pair_of [] t) (same_micros top)
+    let one = on_time (33 ∷ []) 9 last (words_from at false (time_line top ++ rest)) w.word (words_from w.next false rest) top w.words (ap is_hash w.kind) set in
+    one ∙ (says top w.next ∙ ap (λ t. pair_of [] t) (same_micros top))
 
 -- the line of the length, where there is one
-pub ending : (last at top : ℕ) (edges : List ℕ) → last ≤ top → top ≤ 1099511627776 → (list_any (λ edge. edge == top) edges ≡ true → last ≡ top)
-    → changes_from any_word (33 ∷ []) 9 last (words_from at false (end_line (recording_view top edges))) ≡ Ok ([], top)
-ending last at top edges up low there = elim (cases_Bool (nat_lt 0 top && not (list_any (λ edge. edge == top) edges))) [
-  | inl line ↦ rw line (ends_with_line last at top up low)
+pub ending : (last at top : ℕ) (edges rest : List ℕ) → SaysNothing rest → last ≤ top → top ≤ 1099511627776 → (list_any (λ edge. edge == top) edges ≡ true → last ≡ top)
+    → changes_from any_word (33 ∷ []) 9 last (words_from at false (end_line (recording_view top edges) ++ rest)) ≡ Ok ([], top)
+ending last at top edges rest says up low there = elim (cases_Bool (nat_lt 0 top && not (list_any (λ edge. edge == top) edges))) [
+  | inl line ↦ rw line (ends_with_line last at top rest says up low)
   | inr none ↦
       let same : last ≡ top = elim (and_cases (nat_lt 0 top) (not (list_any (λ edge. edge == top) edges)) none) [
         | inl zero_long ↦ (let z = ltb-false 0 top zero_long in omega arith)
         | inr some ↦ there (not-false (list_any (λ edge. edge == top) edges) some)
       ] in
-      (rw none (ap (λ t. pair_of [] t) (same_micros last ∙ same)))
+      (rw none (says last at ∙ ap (λ t. pair_of [] t) (same_micros last ∙ same)))
 ]
 
 pub last_up : (edges : List ℕ) (last top : ℕ) → last ≤ top → UpTo top edges → last_or last edges ≤ top

@@ -24,7 +24,7 @@ mod variable;
 mod writer;
 
 pub use fault::VcdFault;
-pub use law::{edges_tell_levels, read_back};
+pub use law::{edges_tell_levels, read_back, read_back_parts};
 pub use reader::{read, read_parts};
 pub use recording::Recording;
 pub use token::{Kind, Token, Tokens};
