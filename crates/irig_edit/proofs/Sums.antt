@@ -75,6 +75,12 @@ looks_first s d rest =
 changes_lead_back : LeadsBack IsState Fits turned
 changes_lead_back = record { keeps = IsState-turned; back_fits = Fits-turned; back = turned-turned }
 
+-- what leads back from a change and from others after it
+parts_back : (s : State) (d : Delta) (ds : List Delta)
+    → all_singles (ways_back turned s (d ∷ ds)) ≡ all_singles (ways_back turned (turned s d).0 ds) ++ (singles_of (turned s d).1 ++ [])
+parts_back s d ds =
+    ap all_singles (ways_back-cons turned s d ds) ∙ flat_map-append singles_of (ways_back turned (turned s d).0 ds) ((turned s d).1 ∷ [])
+
 -- the bound of what leads back from a change, and from others after it
 forth_along : (s : State) (d : Delta) (ds : List Delta) → IsState s → Fits s d → FitAll Fits turned (turned s d).0 ds
     → both (looks_of (turned s d).0 (turned s d).1)
@@ -88,8 +94,7 @@ forth_along s d ds is can fit =
     let there : left_by turned_single t (all_singles w) ≡ after =
     ap (λ (p : State × Delta). p.0) (turned-gathered t w)
     ∙ (lead_all_back IsState Fits turned changes_lead_back after ds (IsState-turned s d is can) fit).state in
-    let parts : all_singles (ways_back turned s (d ∷ ds)) ≡ all_singles w ++ (singles_of b ++ []) =
-    ap all_singles (ways_back-cons turned s d ds) ∙ flat_map-append singles_of w (b ∷ []) in
+    let parts = parts_back s d ds in
     both-swap (looks_of after b) (looks_along t (all_singles w))
     ∙ (ap (both (looks_along t (all_singles w))) (looks_alone after b)
     ∙ (ap (λ (x : State). both (looks_along t (all_singles w)) (looks_along x (singles_of b ++ []))) (sym there)
@@ -144,6 +149,26 @@ sum_forth (suc k) s (near ∷ steps) there is fit =
     ap (both (looks_of after (turned s near.change).1)) (sum_forth k after steps (omega (arith, there)) (IsState-turned s near.change is fit.0) fit.1)
     ∙ forth_along s near.change (changes_of (take (suc k) steps)) is fit.0 (fit-take (suc k) after steps fit.1)
 
+-- the singles of the change that takes them back, and of the one that makes them
+singles_way_back : (k : ℕ) (s : State) (steps : List (Step Delta)) → k < length steps
+    → singles_of (sum_of k s steps).way_back ≡ all_singles (changes_of (take (suc k) steps))
+singles_way_back k s [] there = absurd (omega (arith, there))
+singles_way_back zero s (near ∷ steps) there = sym (append-nil (singles_of near.change))
+singles_way_back (suc k) s (near ∷ steps) there =
+    let after = (turned s near.change).0 in
+    ap (λ (xs : List SingleDelta). singles_of near.change ++ xs)
+    (append-nil (singles_of (sum_of k after steps).way_back) ∙ singles_way_back k after steps (omega (arith, there)))
+
+singles_way_on : (k : ℕ) (s : State) (steps : List (Step Delta)) → k < length steps
+    → singles_of (sum_of k s steps).way_on ≡ all_singles (ways_back turned s (changes_of (take (suc k) steps)))
+singles_way_on k s [] there = absurd (omega (arith, there))
+singles_way_on zero s (near ∷ steps) there =
+    sym (append-nil (singles_of (turned s near.change).1)) ∙ sym (parts_back s near.change [])
+singles_way_on (suc k) s (near ∷ steps) there =
+    let after = (turned s near.change).0 in
+    ap (λ (xs : List SingleDelta). xs ++ (singles_of (turned s near.change).1 ++ [])) (singles_way_on k after steps (omega (arith, there)))
+    ∙ sym (parts_back s near.change (changes_of (take (suc k) steps)))
+
 sum_by-reverse : (f : Delta → ℕ) (ds : List Delta) → sum_by f (reverse ds) ≡ sum_by f ds
 sum_by-reverse f [] = refl
 sum_by-reverse f (d ∷ ds) =
@@ -164,6 +189,8 @@ together-gathered k s (near ∷ steps) there is fit =
     omega (arith, sum_put (suc k) s (near ∷ steps) there, weight_of-gathered (ways_back turned s ds), sum_by-reverse weight_of (backs turned s ds)) in
     let back : sum.back ≡ looks_of s (gathered ds) = sum_back (suc k) s (near ∷ steps) there in
     let forth : sum.forth ≡ looks_of (left_by turned s ds) (gathered (ways_back turned s ds)) = sum_forth (suc k) s (near ∷ steps) there is fit in
+    let way_back : sum.way_back ≡ gathered ds = ap (λ (xs : List SingleDelta). Together xs) (singles_way_back (suc k) s (near ∷ steps) there) in
+    let way_on : sum.way_on ≡ gathered (ways_back turned s ds) = ap (λ (xs : List SingleDelta). Together xs) (singles_way_on (suc k) s (near ∷ steps) there) in
     let whole : sum ≡ exchange_across (gathered ds) (gathered (ways_back turned s ds)) (left_by turned s ds) s =
-    (λ i. record { taken = taken i; put = put i; back = back i; forth = forth i }) in
+    (λ i. record { taken = taken i; put = put i; back = back i; forth = forth i; way_back = way_back i; way_on = way_on i }) in
     whole ∙ ap (λ (p : State × Delta). exchange_across (gathered ds) p.1 p.0 s) (sym turn)

@@ -1,5 +1,6 @@
 pub mod Becoming
 pub mod Calls
+pub mod Changes
 pub mod Conditions
 pub mod Delta
 pub mod Edits

@@ -11,9 +11,11 @@ ghost use Rattle.irig_edit.specs.Keeping.{exchange_of};
 ghost use Rattle.irig_edit.specs.Becoming.{Becomes, judgement_of};
 ghost use Rattle.irig_edit.specs.Calls.{Edit};
 ghost use Rattle.irig_edit.specs.Delta.{Fits, turned};
+ghost use Rattle.irig_edit.specs.Delta.Delta.{Alone};
 ghost use Rattle.irig_edit.specs.Held.{delta_of};
 ghost use Rattle.irig_edit.specs.Calls.Call.{Make, Undo, Redo, Go};
 ghost use Rattle.irig_edit.specs.Calls.Edit.{SetFormat, SetMark};
+ghost use Rattle.irig_edit.specs.Single.SingleDelta.{Spliced};
 ghost use Rattle.irig_track.specs.Splices.{spliced, CanSplice};
 
 use crate::change::Change;
@@ -169,7 +171,9 @@ impl Session {
             → Becomes edit self.old.present.state (with_pulses
             (spliced at count put.items self.old.present.state.pulses)
             self.old.present.state) cursor
-            → exchange count (length put.items) ≡ exchange_by edit self.old.present.state
+            → exchange count (length put.items) (turned self.old.present.state
+            (Alone (Spliced at count put.items))).1 (Alone (Spliced at count put.items))
+            ≡ exchange_by edit self.old.present.state
             → Steps (Make edit) self.old result self.new }
         ensures looks { LooksWithin self.new.present.made.forth self.old result self.new }
     {

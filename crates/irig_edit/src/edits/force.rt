@@ -5,8 +5,11 @@ ghost use Rattle.irig_track.specs.Splices.{spliced, CanSplice};
 ghost use Rattle.irig_edit.specs.Becoming.{Becomes, judgement_of};
 ghost use Rattle.irig_edit.specs.Calls.Call.{Make};
 ghost use Rattle.irig_edit.specs.Calls.Edit.{Force};
+ghost use Rattle.irig_edit.specs.Changes.{change_by};
+ghost use Rattle.irig_edit.specs.Delta.Delta.{Alone};
 ghost use Rattle.irig_edit.specs.Session.{LooksAfter, Steps};
 ghost use Rattle.irig_edit.specs.Conditions.{meets_next};
+ghost use Rattle.irig_edit.specs.Single.SingleDelta.{Spliced};
 ghost use Rattle.irig_edit.specs.State.{with_pulses};
 
 use super::one;
@@ -26,6 +29,8 @@ fn plan(present: &Present, i: usize, element: Element) -> Result<Pulse, Refusal>
         CanSplice present.now.state.micros (i - 1) 1 (p ∷ []) present.now.state.pulses) }
     ensures becomes { IfOk result (λ p. Becomes (Force i element) present.now.state
         (with_pulses (spliced (i - 1) 1 (p ∷ []) present.now.state.pulses) present.now.state) i) }
+    ensures change { IfOk result (λ p. Alone (Spliced (i - 1) 1 (p ∷ []))
+        ≡ change_by (Force i element) present.now.state) }
 {
     if i == 0 || i > present.len() {
         return Err(Refusal::NoPulse);

@@ -6,7 +6,10 @@ ghost use Rattle.irig_track.specs.Splices.{spliced, CanSplice};
 ghost use Rattle.irig_edit.specs.Calls.Call.{Make};
 ghost use Rattle.irig_edit.specs.Calls.Edit.{Insert};
 ghost use Rattle.irig_edit.specs.Becoming.{Becomes, judgement_of};
+ghost use Rattle.irig_edit.specs.Changes.{change_by};
+ghost use Rattle.irig_edit.specs.Delta.Delta.{Alone};
 ghost use Rattle.irig_edit.specs.Session.{LooksAfter, Steps};
+ghost use Rattle.irig_edit.specs.Single.SingleDelta.{Spliced};
 ghost use Rattle.irig_edit.specs.State.{with_pulses};
 
 use super::one;
@@ -24,6 +27,8 @@ fn plan(present: &Present, a: u64, b: u64) -> Result<usize, Refusal>
     ensures becomes { IfOk result (λ at. Becomes (Insert a b) present.now.state
         (with_pulses (spliced at 0 (pulse a b ∷ []) present.now.state.pulses)
         present.now.state) (at + 1)) }
+    ensures change { IfOk result (λ at. Alone (Spliced at 0 (pulse a b ∷ []))
+        ≡ change_by (Insert a b) present.now.state) }
 {
     if a >= b || b > present.length() {
         return Err(Refusal::OutOfRange);

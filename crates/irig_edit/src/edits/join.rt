@@ -5,7 +5,10 @@ ghost use Rattle.irig_track.specs.Splices.{spliced, CanSplice};
 ghost use Rattle.irig_edit.specs.Becoming.{Becomes, judgement_of};
 ghost use Rattle.irig_edit.specs.Calls.Call.{Make};
 ghost use Rattle.irig_edit.specs.Calls.Edit.{Join};
+ghost use Rattle.irig_edit.specs.Changes.{change_by};
+ghost use Rattle.irig_edit.specs.Delta.Delta.{Alone};
 ghost use Rattle.irig_edit.specs.Session.{LooksAfter, Steps};
+ghost use Rattle.irig_edit.specs.Single.SingleDelta.{Spliced};
 ghost use Rattle.irig_edit.specs.State.{with_pulses};
 
 use super::one;
@@ -24,6 +27,8 @@ fn plan(present: &Present, i: usize, j: usize) -> Result<Pulse, Refusal>
     ensures becomes { IfOk result (λ p. Becomes (Join i j) present.now.state
         (with_pulses (spliced (i - 1) (j + 1 - i) (p ∷ []) present.now.state.pulses)
         present.now.state) i) }
+    ensures change { IfOk result (λ p. Alone (Spliced (i - 1) (j + 1 - i) (p ∷ []))
+        ≡ change_by (Join i j) present.now.state) }
 {
     if i == 0 || i >= j || j > present.len() {
         return Err(Refusal::NoPulse);

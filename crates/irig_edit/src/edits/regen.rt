@@ -8,10 +8,11 @@ ghost use Rattle.irig_edit.specs.Becoming.{Becomes, judgement_of};
 ghost use Rattle.irig_edit.specs.Calls.Call.{Make};
 ghost use Rattle.irig_edit.specs.Calls.Edit.{Regen};
 ghost use Rattle.irig_edit.specs.Conditions.{are_frames, is_met};
-ghost use Rattle.irig_edit.specs.Exchanges.{exchange_by};
-ghost use Rattle.irig_edit.specs.Kept.{exchange};
+ghost use Rattle.irig_edit.specs.Changes.{change_by};
+ghost use Rattle.irig_edit.specs.Delta.Delta.{Alone};
 ghost use Rattle.irig_edit.specs.Session.{LooksAfter, Steps};
 ghost use Rattle.irig_edit.specs.Regenerated.{frames_end, frames_pulses, rising_before};
+ghost use Rattle.irig_edit.specs.Single.SingleDelta.{Spliced};
 ghost use Rattle.irig_edit.specs.State.{IsState, with_pulses};
 
 use crate::frames::{pulses_of, span};
@@ -91,9 +92,11 @@ fn plan(
         present.now.state.pulses) present.now.state)
         (p.at + 100 * frames)) }
     ensures few { IfOk result (λ p. p.at ≤ 2 ^ 22) }
-    ensures exchange { IfOk result (λ p. exchange p.count
-        (length (frames_pulses present.now.state.format start frames moment control))
-        ≡ exchange_by (Regen start frames moment control) present.now.state) }
+    ensures change { IfOk result (λ p. Alone (Spliced p.at p.count
+        (frames_pulses present.now.state.format start frames moment control))
+        ≡ change_by (Regen start frames moment control) present.now.state) }
+    ensures many { OnOk result (100 * frames
+        ≡ length (frames_pulses present.now.state.format start frames moment control)) }
 {
     let Some(end) = end_of(present, start, frames) else {
         return Err(Refusal::OutOfRange);

@@ -6,7 +6,10 @@ ghost use Rattle.irig_track.specs.Splices.{spliced, CanSplice};
 ghost use Rattle.irig_edit.specs.Becoming.{Becomes, judgement_of};
 ghost use Rattle.irig_edit.specs.Calls.Call.{Make};
 ghost use Rattle.irig_edit.specs.Calls.Edit.{Split};
+ghost use Rattle.irig_edit.specs.Changes.{change_by};
+ghost use Rattle.irig_edit.specs.Delta.Delta.{Alone};
 ghost use Rattle.irig_edit.specs.Session.{LooksAfter, Steps};
+ghost use Rattle.irig_edit.specs.Single.SingleDelta.{Spliced};
 ghost use Rattle.irig_edit.specs.State.{with_pulses};
 
 use super::two;
@@ -26,6 +29,8 @@ fn plan(present: &Present, i: usize, a: u64, b: u64) -> Result<Pulse, Refusal>
         (with_pulses (spliced (i - 1) 1
         (pulse p.rise a ∷ pulse b p.fall ∷ []) present.now.state.pulses)
         present.now.state) (i + 1)) }
+    ensures change { IfOk result (λ p. Alone (Spliced (i - 1) 1
+        (pulse p.rise a ∷ pulse b p.fall ∷ [])) ≡ change_by (Split i a b) present.now.state) }
 {
     if a >= b || b > present.length() {
         return Err(Refusal::OutOfRange);

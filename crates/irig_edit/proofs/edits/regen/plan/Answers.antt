@@ -3,7 +3,8 @@ use Rattle.irig_codes.specs.Format.{FormatView, control_count_of}
 use Rattle.irig_moment.specs.Generated.{starts_in}
 use Rattle.irig_edit.specs.Conditions.{are_frames, is_met, are_too_many, is_wide}
 use Rattle.irig_edit.specs.Regenerated.{frame_elements, frames_end, frames_pulses, rising_before, rising_in}
-use Rattle.irig_edit.specs.Kept.{exchange}
+use Rattle.irig_edit.specs.Delta.Delta.{Alone}
+use Rattle.irig_edit.specs.Single.SingleDelta.{Spliced}
 use Rattle.irig_edit.proofs.GeneratedPulses.{frames_many}
 use Rattle.irig_edit.proofs.GenerationTests.{end_said, frames_said, too_many_yes, too_many_no, is_wide_yes, is_wide_no}
 use Rattle.irig_edit.proofs.Regenerations.{regenerated}
@@ -102,14 +103,17 @@ returns-clause-becomes c =
     (regenerated s c.args.start c.args.frames c.args.moment c.args.control c.rising_before-at.result (c.rising_before.result - c.rising_before-at.result)
     c.rising_before.ensures.state within free few c.rising_before-at.ensures.count (both ∙ is_end) (omega (arith, both, c.rising_before.ensures.within))).1
 
-pub returns-clause-exchange : goal.returns-clause-exchange
-returns-clause-exchange c =
+pub returns-clause-change : goal.returns-clause-change
+returns-clause-change c =
     let s = c.args.present.now.state in
     let said = end_said (are_frames c.args.start c.args.frames s) (frames_end s.format c.args.start c.args.frames) c.in-Some.end (sym c.end_of.ensures ∙ c.in-Some.is) in
     let is_end = c.rising_before.ensures.count ∙ ap (λ t. length (rising_before t s.pulses)) (sym said.1) in
     let sum = before_end c.args.start (frames_end s.format c.args.start c.args.frames) s.pulses (omega arith) in
     let is_at = c.rising_before-at.ensures.count in
     let gone : c.rising_before.result - c.rising_before-at.result ≡ length (rising_in c.args.start (frames_end s.format c.args.start c.args.frames) s.pulses) = omega arith in
-    let come : length (frames_pulses s.format c.args.start c.args.frames c.args.moment c.args.control) ≡ 100 * c.args.frames =
-    frames_many s.format c.args.start (frame_elements s.format c.args.moment c.args.control) 0 c.args.frames in
-    (λ k. exchange (gone k) (come k))
+    (λ k. Alone (Spliced (is_at k) (gone k) (frames_pulses s.format c.args.start c.args.frames c.args.moment c.args.control)))
+
+pub returns-clause-many : goal.returns-clause-many
+returns-clause-many c =
+    let s = c.args.present.now.state in
+    sym (frames_many s.format c.args.start (frame_elements s.format c.args.moment c.args.control) 0 c.args.frames)

@@ -1,12 +1,15 @@
-use Rattle.std.proofs.Common.{◌≡◌, ◌-◌, ℤ, List, Bool, map, ap, sym, ◌∙◌, subst, w64}
+use Rattle.std.proofs.Common.{◌≡◌, ◌+◌, ◌-◌, ℤ, neg_ℤ, List, Bool, map, ap, sym, ◌∙◌, subst, w64, arith}
 use Rattle.std.proofs.lemmas.Int.{to_z-of_z}
 use Rattle.irig_track.specs.declared.pulse.Pulse.{Pulse}
-use Rattle.irig_track.specs.Shifts.{CanShift}
+use Rattle.irig_track.specs.Shifts.{CanShift, count_to}
 use Rattle.irig_edit.specs.Becoming.{Becomes}
 use Rattle.irig_edit.specs.Calls.Edit.{Shift}
+use Rattle.irig_edit.specs.Delta.Delta.{Alone}
 use Rattle.irig_edit.specs.Single.{turned_single}
 use Rattle.irig_edit.specs.Single.SingleDelta.{Shifted}
 use Rattle.irig_edit.specs.Edits.{pulse_of}
+use Rattle.irig_edit.specs.Kept.{holding_none}
+use Rattle.irig_edit.specs.Looks.{window}
 use Rattle.irig_edit.specs.Marks.{AllMayMove, stands}
 use Rattle.irig_edit.proofs.ShiftedStates.{marks_may, shifted_becomes}
 use Rattle.irig_edit.proofs.edits.shift.plan.Goals as goal
@@ -44,3 +47,17 @@ returns-clause-becomes c =
     let becomes = shifted_becomes i j d s c.pulse-low.ensures.state there.0 there.1 there.2 can in
     let named = subst (λ (ls : List Bool). Becomes (Shift i j d) s (turned_single s (Shifted (i - 1) (j - 1) d ls)).0 j) (sym letters) becomes in
     subst (λ (e : ℤ). Becomes (Shift i j d) s (turned_single s (Shifted (i - 1) (j - 1) e c.letters_from-letters.result)).0 j) (sym passed) named
+
+pub returns-clause-exchange : goal.returns-clause-exchange
+returns-clause-exchange c =
+    let i = c.args.i in
+    let j = c.args.j in
+    let s = c.args.present.now.state in
+    let there = c.in_ok-judge.ensures.there in
+    let passed = to_z-of_z w64 c.args.by c.ranges.by in
+    let rise = ap (λ (p : Pulse). p.rise) c.pulse-low.ensures.pulse in
+    let fall = ap (λ (p : Pulse). p.fall) c.pulse-high.ensures.pulse in
+    let letters : c.letters_from-letters.result ≡ map (stands (pulse_of i s).rise (pulse_of j s).fall) s.marks =
+    c.letters_from-letters.ensures ∙ (λ k. map (stands (rise k) (fall k)) s.marks) in
+    let size : count_to (i - 1) (j - 1) ≡ j + 1 - i = omega (arith, there.0, there.1) in
+    (λ k. holding_none (window (size k)) (window (size k)) (Alone (Shifted (i - 1) (j - 1) (neg_ℤ (passed k)) (letters k))) (Alone (Shifted (i - 1) (j - 1) (passed k) (letters k))))

@@ -1,5 +1,5 @@
-use Rattle.std.proofs.Common.{◌≡◌, ◌-◌, ◌^◌, min, ap, sym, subst, ◌∙◌}
-use Rattle.irig_edit.specs.Room.{HasPlacesFor, brought}
+use Rattle.std.proofs.Common.{◌-◌, ◌^◌, min, ap, sym, subst, ◌∙◌}
+use Rattle.irig_edit.specs.Room.{HasPlacesFor}
 use Rattle.irig_edit.proofs.GroupTurns.{brought_same, on_err}
 use Rattle.irig_edit.proofs.present.Present.room_for_all.Goals as goal
 

@@ -1,4 +1,4 @@
-use Rattle.std.proofs.Common.{rules, IsErrOf, IsNone, Option, Ok, Bool, not, List, [], ◌∷◌, length, refl, sym, subst, ℕ, ◌-◌, ap, ◌∙◌}
+use Rattle.std.proofs.Common.{rules, IsErrOf, IsNone, Option, Ok, Bool, not, [], ◌∷◌, refl, sym, subst, ℕ, ◌-◌, ap, ◌∙◌}
 use Rattle.irig_journal.specs.Groups.{Grouped}
 use Rattle.irig_journal.specs.Journal.{past_of, future_of}
 use Rattle.irig_journal.specs.declared.fault.JournalFault.TheVariants as fault

@@ -1,13 +1,10 @@
-use Rattle.std.proofs.Common.{rules, IsErr, Ok, Err, Bool, List, [], ◌∷◌, sym, subst, ap, ◌∙◌}
-use Rattle.irig_journal.specs.declared.step.Step.{Step}
-use Rattle.irig_journal.specs.Groups.{Grouped}
+use Rattle.std.proofs.Common.{rules, IsErr, Ok, Bool, [], ◌∷◌, sym, subst, ap, ◌∙◌}
 use Rattle.irig_journal.specs.History.{FitInTurn, steps_of}
 use Rattle.irig_journal.specs.Journal.{FitsState, Steps as Journaled, past_of, future_of}
 use Rattle.irig_edit.specs.Calls.Call.{Begin}
 use Rattle.irig_edit.specs.Delta.{Fits, turned}
 use Rattle.irig_edit.specs.Held.{delta_of}
 use Rattle.irig_edit.specs.Keeping.{grouped_at, machine_at}
-use Rattle.irig_edit.specs.Kept.{Kept}
 use Rattle.irig_edit.specs.Limits.{IsGrouped}
 use Rattle.irig_edit.specs.Machine.{Steps}
 use Rattle.irig_edit.specs.Refusals.{first_of, refusal_of}

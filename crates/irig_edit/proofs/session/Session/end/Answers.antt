@@ -1,4 +1,4 @@
-use Rattle.std.proofs.Common.{rules, IsErrOf, Ok, Err, Bool, not, List, [], ◌∷◌, sym, subst, ap, ◌∙◌}
+use Rattle.std.proofs.Common.{rules, IsErrOf, Ok, Bool, not, [], ◌∷◌, sym, subst, ap, ◌∙◌}
 use Rattle.irig_journal.specs.declared.fault.JournalFault.TheVariants as fault
 use Rattle.irig_journal.specs.Groups.{Grouped}
 use Rattle.irig_journal.specs.History.{steps_of}

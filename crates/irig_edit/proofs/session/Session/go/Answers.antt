@@ -1,4 +1,4 @@
-use Rattle.std.proofs.Common.{◌≡◌, ◌≤◌, length, Bool, true, not, List, [], ◌∷◌, Ok, ap, subst, arith}
+use Rattle.std.proofs.Common.{◌≡◌, ◌≤◌, length, Bool, true, not, [], ◌∷◌, Ok, ap, subst, arith}
 use Rattle.std.proofs.lemmas.Bool.Decides.{nat_tests}
 use Rattle.irig_edit.specs.Calls.Call.{Go}
 use Rattle.irig_edit.specs.Conditions.{are_pulses}

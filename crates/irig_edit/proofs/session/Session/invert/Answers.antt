@@ -1,4 +1,4 @@
-use Rattle.std.proofs.Common.{◌≡◌, ◌≤◌, length, None, refl, ap, sym, ◌∙◌, subst, ◌-◌}
+use Rattle.std.proofs.Common.{◌≡◌, ◌≤◌, length, None, ap, sym, ◌∙◌, subst, ◌-◌}
 use Rattle.irig_journal.specs.Groups.{Grouped, over}
 use Rattle.irig_track.specs.Splices.{risen_by}
 use Rattle.irig_track.specs.Toggles.{CanToggle}
@@ -47,7 +47,7 @@ returns-clause-step c =
     let becomes = toggled_becomes a b place s is can count within in
     let law = turned-turned s (Alone (Toggled a b)) is can in
     let exchanged : exchange_of s (Alone (Toggled a b)) ≡ exchange_by (Invert a b) s =
-    ap (λ (p : State × Delta). holding_none (window (standing_in a b p.0.pulses)) (window (standing_in a b (turned s (Alone (Toggled a b))).0.pulses))) law in
+    ap (λ (p : State × Delta). holding_none (window (standing_in a b p.0.pulses)) (window (standing_in a b (turned s (Alone (Toggled a b))).0.pulses)) (Alone (Toggled a b)) (Alone (Toggled a b))) law in
     (none, accepts_becomes (Invert a b) (grouped_in c.args.self.now) _ (turned s (Alone (Toggled a b))).0 place (exchange_of s (Alone (Toggled a b))) becomes exchanged new)
 
 pub returns-clause-looks : goal.returns-clause-looks

@@ -1,7 +1,6 @@
-use Rattle.std.proofs.Common.{◌≡◌, ◌<◌, ◌+◌, ◌++◌, ◌∷◌, [], List, length, map, take, drop, reverse, ap, sym, subst, ◌∙◌, arith}
+use Rattle.std.proofs.Common.{◌≡◌, ◌+◌, ◌++◌, ◌∷◌, [], List, take, drop, ap, sym, subst, ◌∙◌, arith}
 use Rattle.std.proofs.Math.ListN.{set}
 use Rattle.std.proofs.lemmas.List.{drop_more, drop-set-lt, length-set, take_more_set}
-use Rattle.irig_edit.specs.Held.{single_of}
 use Rattle.irig_edit.specs.declared.single.Single.{Single}
 use Rattle.irig_edit.proofs.GroupTurns.{TurnedSoFar, turned_all, turned_more}
 use Rattle.irig_edit.proofs.Rooms.{room_next}
