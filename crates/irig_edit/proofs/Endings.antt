@@ -16,10 +16,10 @@ use Rattle.irig_journal.specs.Openings as openings
 use Rattle.irig_journal.specs.Turns.{left_by}
 use Rattle.irig_edit.specs.Delta.{Delta, Fits, gathered, singles_of, turned}
 use Rattle.irig_edit.specs.Keeping.{behind, exchange_back, floor_at, floor_of, kept_back, kept_forward, machine}
-use Rattle.irig_edit.specs.Kept.{Exchange, Kept, kept, looks_back, together}
+use Rattle.irig_edit.specs.Kept.{Kept, kept, looks_back, together}
 use Rattle.irig_edit.specs.Laws.Groups.{turned-gathered}
-use Rattle.irig_edit.specs.Limits.{IsFloor, IsGrouped, IsKept, IsMachine}
-use Rattle.irig_edit.specs.Looks.{RoseWithin, both, looks_along, looks_of}
+use Rattle.irig_edit.specs.Limits.{IsFloor, IsGrouped, IsKept}
+use Rattle.irig_edit.specs.Looks.{RoseWithin, both, looks_of}
 use Rattle.irig_edit.specs.Machine.{with_group}
 use Rattle.irig_edit.specs.Refusals.{is_open}
 use Rattle.irig_edit.specs.Session.{made_since}

@@ -8,7 +8,7 @@ use Rattle.irig_journal.specs.Machine.{Machine, mirrored, recorded, redone, take
 use Rattle.irig_journal.specs.Openings.{AtFloor}
 use Rattle.irig_edit.specs.Keeping.{behind, floor_at, floor_of}
 use Rattle.irig_edit.specs.Kept.{Exchange, Kept, kept}
-use Rattle.irig_edit.specs.Limits.{IsFloor, IsGrouped, IsKept, IsMachine}
+use Rattle.irig_edit.specs.Limits.{IsFloor, IsGrouped}
 use Rattle.irig_edit.specs.Machine.{with_cursor}
 use Rattle.irig_edit.specs.State.{State, IsState}
 use Rattle.irig_edit.proofs.Machines.{IsMachine-recorded, IsMachine-redone, IsMachine-undone}

@@ -1,17 +1,16 @@
 -- What a group leaves, whatever is done in it.
-use Rattle.std.proofs.Common.{◌≡◌, ◌≤◌, ◌<◌, ◌+◌, ◌-◌, ◌⊎◌, inl, inr, ℕ, suc, zero, Bool, true, false, List, [], ◌∷◌, ◌++◌, length, drop, nat_le, Option, Some, None, option_map, Result, Ok, Err, refl, ap, sym, ◌∙◌, subst, if◌then◌else◌, arith, length-append}
+use Rattle.std.proofs.Common.{◌≡◌, ◌-◌, inl, inr, ℕ, suc, zero, false, List, [], ◌∷◌, ◌++◌, length, drop, nat_le, Option, Some, None, option_map, Result, Ok, Err, refl, ap, sym, ◌∙◌, subst, if◌then◌else◌, arith, length-append}
 use Rattle.std.specs.List.{AllByRecursion}
 use Rattle.std.specs.Prelude.{is_ok}
 use Rattle.std.proofs.lemmas.Bool.{leb-false}
-use Rattle.irig_journal.specs.Groups.{Floor, Grouped, aborted, begun, dropped_over, ended, floored, is_at_floor, joined_over, over, redone_over, undone_over}
-use Rattle.irig_journal.specs.Machine.{Machine, mirrored, recorded, redone, taken_back, undone}
+use Rattle.irig_journal.specs.Groups.{Floor, Grouped, begun, dropped_over, floored, is_at_floor, joined_over, over, redone_over, undone_over}
+use Rattle.irig_journal.specs.Machine.{Machine, mirrored, redone, taken_back, undone}
 use Rattle.irig_edit.specs.Calls.{Call}
 use Rattle.irig_edit.specs.Calls.Call.{Make, Undo, Redo, Go, Begin, End, Abort}
 use Rattle.irig_edit.specs.GroupRuns.{AbortGivesBack, EndLeavesOneStep, IsAtMostOneMore, IsInGroup, StaysOpen}
 use Rattle.irig_edit.specs.Kept.{Kept, kept}
-use Rattle.irig_edit.specs.Machine.{Accepts, Edits, Steps, with_cursor, with_group}
+use Rattle.irig_edit.specs.Machine.{Accepts, Steps, with_cursor, with_group}
 use Rattle.irig_edit.specs.Runs.{Answered, Runs, accepted_of}
-use Rattle.irig_edit.specs.State.{State}
 use Rattle.irig_edit.specs.declared.refusal.Refusal.{Refusal}
 use Rattle.irig_edit.proofs.CallRuns.{redone_alone, refused_same}
 use Rattle.irig_edit.proofs.MachineSteps.{allowed_some, over_some}

@@ -12,9 +12,9 @@ use Rattle.irig_edit.specs.Delta.Delta.{Together}
 use Rattle.irig_edit.specs.Held.{delta_of, parts_of, single_of}
 use Rattle.irig_edit.specs.Looks.{RoseWithin, both, looks_along, looks_by}
 use Rattle.irig_edit.specs.Present.{PresentView}
-use Rattle.irig_edit.specs.Room.{HasRoomForAll, KeepsPlaces, TakesIn, brought}
+use Rattle.irig_edit.specs.Room.{HasRoomForAll, KeepsPlaces, brought}
 use Rattle.irig_edit.specs.Single.{FitsSingle, SingleDelta, brought_by, turned_single}
-use Rattle.irig_edit.specs.State.{State, IsState}
+use Rattle.irig_edit.specs.State.{State}
 use Rattle.irig_edit.specs.declared.change.Change.{Change}
 use Rattle.irig_edit.specs.declared.change.Change.TheVariants.{One, Group}
 use Rattle.irig_edit.specs.declared.single.Single.{Single}

@@ -1,12 +1,11 @@
 -- The room of a group serves each of its turns.
-use Rattle.std.proofs.Common.{◌≡◌, ◌≤◌, ◌+◌, ◌-◌, ◌*◌, ◌^◌, ℕ, List, ◌∷◌, length, min, ap, sym, subst, arith}
+use Rattle.std.proofs.Common.{◌≡◌, ◌≤◌, ◌+◌, ◌-◌, ◌*◌, ◌^◌, List, ◌∷◌, length, min, ap, arith}
 use Rattle.std.specs.List.{AllByRecursion}
 use Rattle.std.proofs.lemmas.List.Sums.{sum_by-cons}
 use Rattle.irig_codes.specs.Format.{FormatView}
 use Rattle.irig_index.specs.Frames.{frames}
 use Rattle.irig_index.proofs.MarkerBounds.{length-records_in}
 use Rattle.irig_track.specs.declared.pulse.Pulse.{Pulse}
-use Rattle.irig_track.specs.Shifts.{count_to}
 use Rattle.irig_track.proofs.Carried.{length-spliced}
 use Rattle.irig_edit.specs.Held.{single_of}
 use Rattle.irig_edit.specs.Laws.State.{IsState-turned_single}

@@ -1,5 +1,5 @@
 -- What several steps exchange together is what the group of their changes exchanges.
-use Rattle.std.proofs.Common.{◌≡◌, ◌≤◌, ◌<◌, ◌+◌, ◌-◌, ◌^◌, ◌++◌, ℕ, suc, zero, List, [], ◌∷◌, length, map, reverse, take, Option, Some, None, min, refl, ap, ap₂, sym, ◌∙◌, subst, arith}
+use Rattle.std.proofs.Common.{◌≡◌, ◌<◌, ◌+◌, ◌-◌, ◌^◌, ◌++◌, ℕ, suc, zero, List, [], ◌∷◌, length, reverse, take, Option, Some, None, min, refl, ap, ap₂, sym, ◌∙◌, arith}
 use Rattle.std.specs.Prelude.{flat_map}
 use Rattle.std.specs.List.{sum_by}
 use Rattle.std.proofs.lemmas.List.{append-nil, reverse-append}
@@ -14,7 +14,7 @@ use Rattle.irig_journal.specs.Turns.{FitAll, backs, left_by, ways_back}
 use Rattle.irig_edit.specs.Delta.{Delta, Fits, gathered, singles_of, turned, weight_of}
 use Rattle.irig_edit.specs.Delta.Delta.{Alone, Together}
 use Rattle.irig_edit.specs.Keeping.{exchange_across, exchange_back, kept_back}
-use Rattle.irig_edit.specs.Kept.{Exchange, Kept, added, together}
+use Rattle.irig_edit.specs.Kept.{Exchange, together}
 use Rattle.irig_edit.specs.Laws.Delta.{Fits-turned, IsState-turned, turned-turned}
 use Rattle.irig_edit.specs.Laws.Groups.{turned-gathered, weight_of-gathered}
 use Rattle.irig_edit.specs.Looks.{both, looks_along, looks_by, looks_of}
