@@ -1,0 +1,44 @@
+-- Lines of pulses.
+use Rattle.std.proofs.Common.{◌≡◌, ◌++◌, ◌∷◌, [], ℕ, List, get_or, refl, ap, lit<}
+use Rattle.irig_saved.specs.Lines.{text_of}
+use Rattle.irig_saved.specs.SavedText.{pulse_line, pulse_lines}
+use Rattle.irig_saved.specs.Ranges.{IsPulse}
+use Rattle.irig_saved.specs.Reading.{Stops, Lacks}
+use Rattle.irig_track.specs.declared.pulse.Pulse.{Pulse}
+use Rattle.irig_saved.proofs.Clean.{pulse_lacks}
+use Rattle.irig_saved.proofs.Unique.{Same, same_pulses}
+use Rattle.irig_saved.proofs.Repeats.{Family}
+use Rattle.irig_saved.proofs.Sequences.{line_stops, no_line_stops}
+
+-- the line of a pulse
+abbrev pub one_line : Pulse → List (List ℕ)
+one_line p = pulse_line p ∷ []
+
+pub no_pulse : Pulse
+no_pulse = record { rise = 0; fall = 0 }
+
+pub no_pulse_lawful : IsPulse no_pulse
+unfolding no_pulse
+no_pulse_lawful = (lit< tt, lit< tt)
+
+same_pulse : (p q : Pulse) (r s : List ℕ) → IsPulse p → IsPulse q → text_of (one_line p) ++ r ≡ text_of (one_line q) ++ s → Same p q r s
+same_pulse p q r s hp hq e =
+    let t = same_pulses (p ∷ []) (q ∷ []) r s refl (hp, tt) (hq, tt) e in
+    record { value = ap (λ (l : List Pulse). get_or l 0 p) t.value; rest = t.rest }
+
+pub pulse_family : Family IsPulse one_line pulse_lines
+pulse_family = record {
+  none = refl;
+  next = λ p ps. refl;
+  clean = λ p h. (pulse_lacks p h, tt);
+  law = same_pulse;
+  some = no_pulse;
+  lawful = no_pulse_lawful;
+}
+
+-- a line that is none of a pulse
+pub pulse_stops : (text l rest : List ℕ) → text ≡ l ++ 10 ∷ rest → Lacks 10 l → ((p : Pulse) → IsPulse p → l ≡ pulse_line p → ⊥) → Stops IsPulse one_line text text
+pulse_stops text l rest cut whole none = line_stops IsPulse pulse_line text l rest no_pulse cut whole no_pulse_lawful pulse_lacks none
+
+pub no_pulse_stops : (text : List ℕ) → Lacks 10 text → Stops IsPulse one_line text text
+no_pulse_stops text lacks = no_line_stops IsPulse pulse_line text no_pulse lacks no_pulse_lawful

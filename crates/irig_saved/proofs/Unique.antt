@@ -1,0 +1,386 @@
+-- A text of the form tells what it is the text of, and where it ends.
+use Rattle.std.proofs.Common.{◌≡◌, ◌<◌, ◌≤◌, ◌+◌, ◌^◌, ◌++◌, ◌∷◌, [], ℕ, suc, zero, ℤ, Bool, true, false, Option, Some, None, List, length, drop, get_or, decimal, codes, nat_lt, refl, sym, ap, ap₂, subst, ◌∙◌, append_assoc, arith}
+use Rattle.std.specs.List.{AllByRecursion, list_all}
+use Rattle.std.specs.Fmt.{signed_decimal}
+use Rattle.std.proofs.lemmas.Bool.{and_from, lt-ltb}
+use Rattle.irig_saved.specs.Lines.{behind, line, numbered, text_of}
+use Rattle.irig_saved.specs.SavedText.{letters_from, letters_or_dash, moved_word, time_word, head_of, words_of, single_line, put_of, pulse_lines, single_lines, singles_lines, change_lines, step_lines, steps_lines, mark_lines, counted_lines, saved_lines, journal_text}
+use Rattle.irig_saved.specs.Ranges.{IsNumber, IsTime, IsDistance, IsPulse, IsSingle, IsChange, IsStep, AreSteps, IsSaved}
+use Rattle.irig_codes.specs.Words.{kind_word}
+use Rattle.irig_codes.specs.declared.format.Kind.{Kind}
+use Rattle.irig_codes.specs.declared.format.Kind.TheVariants.{A, B, E, G}
+use Rattle.irig_track.specs.declared.pulse.Pulse.{Pulse}
+use Rattle.irig_saved.specs.declared.single.Single.{Single}
+use Rattle.irig_saved.specs.declared.single.Single.TheVariants.{Splice, Toggle, Shift, SetFormat, SetMark}
+use Rattle.irig_saved.specs.declared.change.Change.{Change}
+use Rattle.irig_saved.specs.declared.change.Change.TheVariants.{One, Group}
+use Rattle.irig_saved.specs.declared.step.Step.{Step}
+use Rattle.irig_saved.specs.declared.saved.Saved.{Saved}
+use Rattle.irig_saved.proofs.Cuts.{IsWord, AreWords, SameLine, same_line}
+use Rattle.irig_saved.proofs.Decimals.{number_is_word, distance_is_word, same_number, same_distance, no_dash}
+use Rattle.irig_saved.proofs.Texts.{text_of_append}
+
+-- the same value, and the same text behind it
+pub record Same {X : Type 0} (x y : X) (r s : List ℕ) : Type 0 where
+  pub value : x ≡ y
+  pub rest : r ≡ s
+
+small_is_number : (n : ℕ) → n ≤ 7 → IsNumber n
+small_is_number n h = omega (arith, h)
+
+-- words, one by one
+word_at : (n : ℕ) (ws vs : List (List ℕ)) → ws ≡ vs → get_or ws n [] ≡ get_or vs n []
+word_at n ws vs e = ap (λ (l : List (List ℕ)). get_or l n []) e
+
+byte_at : (n : ℕ) (w v : List ℕ) → w ≡ v → get_or w n 0 ≡ get_or v n 0
+byte_at n w v e = ap (λ (l : List ℕ). get_or l n 0) e
+
+pub byte_is_word : (b : ℕ) → 32 < b → IsWord (b ∷ [])
+byte_is_word b h = and_from (nat_lt 32 b) true (lt-ltb 32 b h) refl
+
+-- a line of a text
+pub lined : (h g : List ℕ) (ws vs ls ms : List (List ℕ)) (r s : List ℕ) → IsWord h → IsWord g → AreWords ws → AreWords vs
+    → text_of (line h ws ∷ ls) ++ r ≡ text_of (line g vs ∷ ms) ++ s → SameLine h g ws vs (text_of ls ++ r) (text_of ms ++ s)
+lined h g ws vs ls ms r s hh hg hw hv e =
+    same_line h g ws vs (text_of ls ++ r) (text_of ms ++ s) hh hg hw hv
+    (sym (append_assoc (line h ws) (10 ∷ text_of ls) r) ∙ e ∙ append_assoc (line g vs) (10 ∷ text_of ms) s)
+
+-- the letters of the marks that move
+
+pub later_letters : (x y : ℕ) (ms : List Bool) (ys : List ℕ) → letters_from x ms ≡ y ∷ ys → x ≤ y
+later_letters x y [] ys e = absurd (no_nil y ys e) where
+  no_nil : (y : ℕ) (ys : List ℕ) → [] ≡ y ∷ ys → ⊥
+  no_nil y ys e = let n : 0 ≡ suc (length ys) = ap length e in omega (arith, n)
+later_letters x y (true ∷ ms) ys e = let same : x ≡ y = byte_at 0 (x ∷ letters_from (x + 1) ms) (y ∷ ys) e in omega (arith, same)
+later_letters x y (false ∷ ms) ys e = let more : x + 1 ≤ y = later_letters (x + 1) y ms ys e in omega (arith, more)
+
+same_letters : (x : ℕ) (ms ns : List Bool) → length ms ≡ length ns → letters_from x ms ≡ letters_from x ns → ms ≡ ns
+same_letters x [] [] n e = refl
+same_letters x [] (b ∷ ns) n e = absurd (omega (arith, n))
+same_letters x (b ∷ ms) [] n e = absurd (omega (arith, n))
+same_letters x (true ∷ ms) (true ∷ ns) n e = ap (λ (l : List Bool). true ∷ l) (same_letters (x + 1) ms ns (omega (arith, n)) (ap (λ (l : List ℕ). drop 1 l) e))
+same_letters x (false ∷ ms) (false ∷ ns) n e = ap (λ (l : List Bool). false ∷ l) (same_letters (x + 1) ms ns (omega (arith, n)) e)
+same_letters x (true ∷ ms) (false ∷ ns) n e = let bad : x + 1 ≤ x = later_letters (x + 1) x ns (letters_from (x + 1) ms) (sym e) in absurd (omega (arith, bad))
+same_letters x (false ∷ ms) (true ∷ ns) n e = let bad : x + 1 ≤ x = later_letters (x + 1) x ms (letters_from (x + 1) ns) e in absurd (omega (arith, bad))
+
+undash : (us vs : List ℕ) → ((y : ℕ) (ys : List ℕ) → us ≡ y ∷ ys → 97 ≤ y) → ((y : ℕ) (ys : List ℕ) → vs ≡ y ∷ ys → 97 ≤ y)
+    → letters_or_dash us ≡ letters_or_dash vs → us ≡ vs
+undash [] [] hu hv e = refl
+undash [] (v ∷ vs) hu hv e =
+    let same : 45 ≡ v = byte_at 0 (45 ∷ []) (v ∷ vs) e in
+    let high : 97 ≤ v = hv v vs refl in
+    absurd (omega (arith, same, high))
+undash (u ∷ us) [] hu hv e =
+    let same : u ≡ 45 = byte_at 0 (u ∷ us) (45 ∷ []) e in
+    let high : 97 ≤ u = hu u us refl in
+    absurd (omega (arith, same, high))
+undash (u ∷ us) (v ∷ vs) hu hv e = e
+
+same_moved : (ms ns : List Bool) → length ms ≡ length ns → moved_word ms ≡ moved_word ns → ms ≡ ns
+same_moved ms ns n e = same_letters 97 ms ns n (undash (letters_from 97 ms) (letters_from 97 ns) (λ y ys h. later_letters 97 y ms ys h) (λ y ys h. later_letters 97 y ns ys h) e)
+
+letters_are_word : (x : ℕ) (ms : List Bool) → 32 < x → IsWord (letters_from x ms)
+letters_are_word x [] h = refl
+letters_are_word x (true ∷ ms) h = and_from (nat_lt 32 x) _ (lt-ltb 32 x h) (letters_are_word (x + 1) ms (omega (arith, h)))
+letters_are_word x (false ∷ ms) h = letters_are_word (x + 1) ms (omega (arith, h))
+
+dash_is_word : (us : List ℕ) → IsWord us → IsWord (letters_or_dash us)
+dash_is_word [] h = refl
+dash_is_word (u ∷ us) h = h
+
+moved_is_word : (ms : List Bool) → IsWord (moved_word ms)
+moved_is_word ms = dash_is_word (letters_from 97 ms) (letters_are_word 97 ms (omega arith))
+
+-- times and kinds
+
+time_is_word : (t : Option ℕ) → IsTime t → IsWord (time_word t)
+time_is_word None h = refl
+time_is_word (Some t) h = number_is_word t h
+
+same_time : (t u : Option ℕ) → IsTime t → IsTime u → time_word t ≡ time_word u → t ≡ u
+same_time None None ht hu e = refl
+same_time None (Some u) ht hu e = absurd (no_dash u hu (sym e))
+same_time (Some t) None ht hu e = absurd (no_dash t ht e)
+same_time (Some t) (Some u) ht hu e = ap Some (same_number t u ht hu e)
+
+pub kind_is_word : (k : Kind) → IsWord (kind_word k)
+kind_is_word A = refl
+kind_is_word B = refl
+kind_is_word E = refl
+kind_is_word G = refl
+
+pub same_kind : (k l : Kind) → kind_word k ≡ kind_word l → k ≡ l
+same_kind A A e = refl
+same_kind A B e = absurd (let bad : 65 ≡ 66 = byte_at 0 _ _ e in omega (arith, bad))
+same_kind A E e = absurd (let bad : 65 ≡ 69 = byte_at 0 _ _ e in omega (arith, bad))
+same_kind A G e = absurd (let bad : 65 ≡ 71 = byte_at 0 _ _ e in omega (arith, bad))
+same_kind B A e = absurd (let bad : 66 ≡ 65 = byte_at 0 _ _ e in omega (arith, bad))
+same_kind B B e = refl
+same_kind B E e = absurd (let bad : 66 ≡ 69 = byte_at 0 _ _ e in omega (arith, bad))
+same_kind B G e = absurd (let bad : 66 ≡ 71 = byte_at 0 _ _ e in omega (arith, bad))
+same_kind E A e = absurd (let bad : 69 ≡ 65 = byte_at 0 _ _ e in omega (arith, bad))
+same_kind E B e = absurd (let bad : 69 ≡ 66 = byte_at 0 _ _ e in omega (arith, bad))
+same_kind E E e = refl
+same_kind E G e = absurd (let bad : 69 ≡ 71 = byte_at 0 _ _ e in omega (arith, bad))
+same_kind G A e = absurd (let bad : 71 ≡ 65 = byte_at 0 _ _ e in omega (arith, bad))
+same_kind G B e = absurd (let bad : 71 ≡ 66 = byte_at 0 _ _ e in omega (arith, bad))
+same_kind G E e = absurd (let bad : 71 ≡ 69 = byte_at 0 _ _ e in omega (arith, bad))
+same_kind G G e = refl
+
+-- the first line of a change
+
+pub head_is_word : (x : Single) → IsWord (head_of x)
+head_is_word (Splice at count put) = refl
+head_is_word (Toggle a b) = refl
+head_is_word (Shift i j by marks) = refl
+head_is_word (SetFormat kind expression) = refl
+head_is_word (SetMark letter time) = refl
+
+pub words_are_words : (x : Single) → IsSingle x → AreWords (words_of x)
+words_are_words (Splice at count put) h = (number_is_word at h.0, (number_is_word count h.1, (number_is_word (length put) h.2, tt)))
+words_are_words (Toggle a b) h = (number_is_word a h.0, (number_is_word b h.1, tt))
+words_are_words (Shift i j by marks) h = (number_is_word i h.0, (number_is_word j h.1, (distance_is_word by h.2, (moved_is_word marks, tt))))
+words_are_words (SetFormat kind expression) h = (kind_is_word kind, (number_is_word expression (small_is_number expression h), tt))
+words_are_words (SetMark letter time) h = (byte_is_word (97 + letter) (omega arith), (time_is_word time h.1, tt))
+
+-- the same change, but for the pulses that a splice puts, of which only the number is told
+abbrev Alike : Single → Single → Type 0
+Alike x (Splice at count put) = (ps : List Pulse) × (x ≡ Splice at count ps) × (length ps ≡ length put)
+Alike x (Toggle a b) = x ≡ Toggle a b
+Alike x (Shift i j by marks) = x ≡ Shift i j by marks
+Alike x (SetFormat kind expression) = x ≡ SetFormat kind expression
+Alike x (SetMark letter time) = x ≡ SetMark letter time
+
+alike : (x y : Single) → IsSingle x → IsSingle y → head_of x ≡ head_of y → words_of x ≡ words_of y → Alike x y
+alike (Splice at count put) (Splice at' count' put') hx hy h w = (put, ap₂ (λ m n. Splice m n put) (same_number at at' hx.0 hy.0 (word_at 0 _ _ w)) (same_number count count' hx.1 hy.1 (word_at 1 _ _ w)), same_number (length put) (length put') hx.2 hy.2 (word_at 2 _ _ w))
+alike (Splice at count put) (Toggle a' b') hx hy h w = absurd (let bad : 115 ≡ 116 = byte_at 0 _ _ h in omega (arith, bad))
+alike (Splice at count put) (Shift i' j' by' marks') hx hy h w = absurd (let bad : 112 ≡ 104 = byte_at 1 _ _ h in omega (arith, bad))
+alike (Splice at count put) (SetFormat kind' expression') hx hy h w = absurd (let bad : 112 ≡ 101 = byte_at 1 _ _ h in omega (arith, bad))
+alike (Splice at count put) (SetMark letter' time') hx hy h w = absurd (let bad : 112 ≡ 101 = byte_at 1 _ _ h in omega (arith, bad))
+alike (Toggle a b) (Splice at' count' put') hx hy h w = absurd (let bad : 116 ≡ 115 = byte_at 0 _ _ h in omega (arith, bad))
+alike (Toggle a b) (Toggle a' b') hx hy h w = ap₂ Toggle (same_number a a' hx.0 hy.0 (word_at 0 _ _ w)) (same_number b b' hx.1 hy.1 (word_at 1 _ _ w))
+alike (Toggle a b) (Shift i' j' by' marks') hx hy h w = absurd (let bad : 116 ≡ 115 = byte_at 0 _ _ h in omega (arith, bad))
+alike (Toggle a b) (SetFormat kind' expression') hx hy h w = absurd (let bad : 116 ≡ 115 = byte_at 0 _ _ h in omega (arith, bad))
+alike (Toggle a b) (SetMark letter' time') hx hy h w = absurd (let bad : 116 ≡ 115 = byte_at 0 _ _ h in omega (arith, bad))
+alike (Shift i j by marks) (Splice at' count' put') hx hy h w = absurd (let bad : 104 ≡ 112 = byte_at 1 _ _ h in omega (arith, bad))
+alike (Shift i j by marks) (Toggle a' b') hx hy h w = absurd (let bad : 115 ≡ 116 = byte_at 0 _ _ h in omega (arith, bad))
+alike (Shift i j by marks) (Shift i' j' by' marks') hx hy h w = ap₂ (λ m n. Shift m n by marks) (same_number i i' hx.0 hy.0 (word_at 0 _ _ w)) (same_number j j' hx.1 hy.1 (word_at 1 _ _ w)) ∙ ap₂ (λ d ms. Shift i' j' d ms) (same_distance by by' hx.2 hy.2 (word_at 2 _ _ w)) (same_moved marks marks' (hx.3 ∙ sym hy.3) (word_at 3 _ _ w))
+alike (Shift i j by marks) (SetFormat kind' expression') hx hy h w = absurd (let bad : 104 ≡ 101 = byte_at 1 _ _ h in omega (arith, bad))
+alike (Shift i j by marks) (SetMark letter' time') hx hy h w = absurd (let bad : 104 ≡ 101 = byte_at 1 _ _ h in omega (arith, bad))
+alike (SetFormat kind expression) (Splice at' count' put') hx hy h w = absurd (let bad : 101 ≡ 112 = byte_at 1 _ _ h in omega (arith, bad))
+alike (SetFormat kind expression) (Toggle a' b') hx hy h w = absurd (let bad : 115 ≡ 116 = byte_at 0 _ _ h in omega (arith, bad))
+alike (SetFormat kind expression) (Shift i' j' by' marks') hx hy h w = absurd (let bad : 101 ≡ 104 = byte_at 1 _ _ h in omega (arith, bad))
+alike (SetFormat kind expression) (SetFormat kind' expression') hx hy h w = ap₂ SetFormat (same_kind kind kind' (word_at 0 _ _ w)) (same_number expression expression' (small_is_number expression hx) (small_is_number expression' hy) (word_at 1 _ _ w))
+alike (SetFormat kind expression) (SetMark letter' time') hx hy h w = absurd (let bad : 102 ≡ 109 = byte_at 3 _ _ h in omega (arith, bad))
+alike (SetMark letter time) (Splice at' count' put') hx hy h w = absurd (let bad : 101 ≡ 112 = byte_at 1 _ _ h in omega (arith, bad))
+alike (SetMark letter time) (Toggle a' b') hx hy h w = absurd (let bad : 115 ≡ 116 = byte_at 0 _ _ h in omega (arith, bad))
+alike (SetMark letter time) (Shift i' j' by' marks') hx hy h w = absurd (let bad : 101 ≡ 104 = byte_at 1 _ _ h in omega (arith, bad))
+alike (SetMark letter time) (SetFormat kind' expression') hx hy h w = absurd (let bad : 109 ≡ 102 = byte_at 3 _ _ h in omega (arith, bad))
+alike (SetMark letter time) (SetMark letter' time') hx hy h w = ap₂ SetMark (let plus : 97 + letter ≡ 97 + letter' = byte_at 0 _ _ (word_at 0 _ _ w) in omega (arith, plus)) (same_time time time' hx.1 hy.1 (word_at 1 _ _ w))
+
+-- RISE FALL
+
+pulse : ℕ → ℕ → Pulse
+pulse rise fall = record { rise = rise; fall = fall }
+
+same_pulse : (p q : Pulse) → p.rise ≡ q.rise → p.fall ≡ q.fall → p ≡ q
+unfolding pulse
+same_pulse p q rise fall = ap₂ pulse rise fall
+
+pub same_pulses : (ps qs : List Pulse) (r s : List ℕ) → length ps ≡ length qs → AllByRecursion IsPulse ps → AllByRecursion IsPulse qs
+    → text_of (pulse_lines ps) ++ r ≡ text_of (pulse_lines qs) ++ s → Same ps qs r s
+same_pulses [] [] r s n hp hq e = record { value = refl; rest = e }
+same_pulses [] (q ∷ qs) r s n hp hq e = absurd (omega (arith, n))
+same_pulses (p ∷ ps) [] r s n hp hq e = absurd (omega (arith, n))
+same_pulses (p ∷ ps) (q ∷ qs) r s n hp hq e =
+    let l = lined (decimal p.rise) (decimal q.rise) (decimal p.fall ∷ []) (decimal q.fall ∷ []) (pulse_lines ps) (pulse_lines qs) r s
+    (number_is_word p.rise hp.0.0) (number_is_word q.rise hq.0.0) (number_is_word p.fall hp.0.1, tt) (number_is_word q.fall hq.0.1, tt) e in
+    let t = same_pulses ps qs r s (omega (arith, n)) hp.1 hq.1 l.rest in
+    let one = same_pulse p q (same_number p.rise q.rise hp.0.0 hq.0.0 l.head) (same_number p.fall q.fall hp.0.1 hq.0.1 (word_at 0 _ _ l.words)) in
+    record { value = ap₂ (λ (a : Pulse) (l : List Pulse). a ∷ l) one t.value; rest = t.rest }
+
+-- one change
+
+same_put : (x y : Single) (r s : List ℕ) → IsSingle x → IsSingle y → Alike x y
+    → text_of (pulse_lines (put_of x)) ++ r ≡ text_of (pulse_lines (put_of y)) ++ s → Same x y r s
+same_put x (Splice at count put) r s hx hy a e =
+    let h : IsSingle (Splice at count a.0) = subst IsSingle a.1 hx in
+    let t = same_pulses a.0 put r s a.2 h.3 hy.3 (ap (λ (l : Single). text_of (pulse_lines (put_of l)) ++ r) (sym a.1) ∙ e) in
+    record { value = a.1 ∙ ap (λ (ps : List Pulse). Splice at count ps) t.value; rest = t.rest }
+same_put x (Toggle a b) r s hx hy same e = record { value = same; rest = ap (λ (l : Single). text_of (pulse_lines (put_of l)) ++ r) (sym same) ∙ e }
+same_put x (Shift i j by marks) r s hx hy same e = record { value = same; rest = ap (λ (l : Single). text_of (pulse_lines (put_of l)) ++ r) (sym same) ∙ e }
+same_put x (SetFormat kind expression) r s hx hy same e = record { value = same; rest = ap (λ (l : Single). text_of (pulse_lines (put_of l)) ++ r) (sym same) ∙ e }
+same_put x (SetMark letter time) r s hx hy same e = record { value = same; rest = ap (λ (l : Single). text_of (pulse_lines (put_of l)) ++ r) (sym same) ∙ e }
+
+pub same_single : (x y : Single) (r s : List ℕ) → IsSingle x → IsSingle y
+    → text_of (single_lines x) ++ r ≡ text_of (single_lines y) ++ s → Same x y r s
+same_single x y r s hx hy e =
+    let l = lined (head_of x) (head_of y) (words_of x) (words_of y) (pulse_lines (put_of x)) (pulse_lines (put_of y)) r s
+    (head_is_word x) (head_is_word y) (words_are_words x hx) (words_are_words y hy) e in
+    same_put x y r s hx hy (alike x y hx hy l.head l.words) l.rest
+
+-- a text of some lines and others
+pub regroup : (ls ms : List (List ℕ)) (r : List ℕ) → text_of (ls ++ ms) ++ r ≡ text_of ls ++ (text_of ms ++ r)
+regroup ls ms r = ap (λ t. t ++ r) (text_of_append ls ms) ∙ append_assoc (text_of ls) (text_of ms) r
+
+pub same_singles : (xs ys : List Single) (r s : List ℕ) → length xs ≡ length ys → AllByRecursion IsSingle xs → AllByRecursion IsSingle ys
+    → text_of (singles_lines xs) ++ r ≡ text_of (singles_lines ys) ++ s → Same xs ys r s
+same_singles [] [] r s n hx hy e = record { value = refl; rest = e }
+same_singles [] (y ∷ ys) r s n hx hy e = absurd (omega (arith, n))
+same_singles (x ∷ xs) [] r s n hx hy e = absurd (omega (arith, n))
+same_singles (x ∷ xs) (y ∷ ys) r s n hx hy e =
+    let one = same_single x y (text_of (singles_lines xs) ++ r) (text_of (singles_lines ys) ++ s) hx.0 hy.0
+    (sym (regroup (single_lines x) (singles_lines xs) r) ∙ e ∙ regroup (single_lines y) (singles_lines ys) s) in
+    let t = same_singles xs ys r s (omega (arith, n)) hx.1 hy.1 one.rest in
+    record { value = ap₂ (λ (a : Single) (l : List Single). a ∷ l) one.value t.value; rest = t.rest }
+
+-- a change
+
+pub no_group : (x : Single) → head_of x ≡ codes "group" → ⊥
+no_group (Splice at count put) e = let bad : 115 ≡ 103 = byte_at 0 _ _ e in omega (arith, bad)
+no_group (Toggle a b) e = let bad : 116 ≡ 103 = byte_at 0 _ _ e in omega (arith, bad)
+no_group (Shift i j by marks) e = let bad : 115 ≡ 103 = byte_at 0 _ _ e in omega (arith, bad)
+no_group (SetFormat kind expression) e = let bad : 115 ≡ 103 = byte_at 0 _ _ e in omega (arith, bad)
+no_group (SetMark letter time) e = let bad : 115 ≡ 103 = byte_at 0 _ _ e in omega (arith, bad)
+
+counted_is_words : (n : ℕ) → IsNumber n → AreWords (decimal n ∷ [])
+counted_is_words n h = (number_is_word n h, tt)
+
+pub same_change : (c d : Change) (r s : List ℕ) → IsChange c → IsChange d
+    → text_of (change_lines c) ++ r ≡ text_of (change_lines d) ++ s → Same c d r s
+same_change (One x) (One y) r s hc hd e =
+    let t = same_single x y r s hc hd e in
+    record { value = ap One t.value; rest = t.rest }
+same_change (One x) (Group ys) r s hc hd e =
+    let l = lined (head_of x) (codes "group") (words_of x) (decimal (length ys) ∷ []) (pulse_lines (put_of x)) (singles_lines ys) r s
+    (head_is_word x) refl (words_are_words x hc) (counted_is_words (length ys) hd.0) e in
+    absurd (no_group x l.head)
+same_change (Group xs) (One y) r s hc hd e =
+    let l = lined (codes "group") (head_of y) (decimal (length xs) ∷ []) (words_of y) (singles_lines xs) (pulse_lines (put_of y)) r s
+    refl (head_is_word y) (counted_is_words (length xs) hc.0) (words_are_words y hd) e in
+    absurd (no_group y (sym l.head))
+same_change (Group xs) (Group ys) r s hc hd e =
+    let l = lined (codes "group") (codes "group") (decimal (length xs) ∷ []) (decimal (length ys) ∷ []) (singles_lines xs) (singles_lines ys) r s
+    refl refl (counted_is_words (length xs) hc.0) (counted_is_words (length ys) hd.0) e in
+    let t = same_singles xs ys r s (same_number (length xs) (length ys) hc.0 hd.0 (word_at 0 _ _ l.words)) hc.1 hd.1 l.rest in
+    record { value = ap Group t.value; rest = t.rest }
+
+-- steps
+
+step : ℕ → Change → Step
+step cursor change = record { cursor = cursor; change = change }
+
+same_parts : (x y : Step) → x.cursor ≡ y.cursor → x.change ≡ y.change → x ≡ y
+unfolding step
+same_parts x y cursor change = ap₂ step cursor change
+
+pub same_step : (x y : Step) (r s : List ℕ) → IsStep x → IsStep y
+    → text_of (step_lines x) ++ r ≡ text_of (step_lines y) ++ s → Same x y r s
+same_step x y r s hx hy e =
+    let l = lined (codes "at") (codes "at") (decimal x.cursor ∷ []) (decimal y.cursor ∷ []) (change_lines x.change) (change_lines y.change) r s
+    refl refl (counted_is_words x.cursor hx.0) (counted_is_words y.cursor hy.0) e in
+    let t = same_change x.change y.change r s hx.1 hy.1 l.rest in
+    record { value = same_parts x y (same_number x.cursor y.cursor hx.0 hy.0 (word_at 0 _ _ l.words)) t.value; rest = t.rest }
+
+pub same_steps : (xs ys : List Step) (r s : List ℕ) → length xs ≡ length ys → AllByRecursion IsStep xs → AllByRecursion IsStep ys
+    → text_of (steps_lines xs) ++ r ≡ text_of (steps_lines ys) ++ s → Same xs ys r s
+same_steps [] [] r s n hx hy e = record { value = refl; rest = e }
+same_steps [] (y ∷ ys) r s n hx hy e = absurd (omega (arith, n))
+same_steps (x ∷ xs) [] r s n hx hy e = absurd (omega (arith, n))
+same_steps (x ∷ xs) (y ∷ ys) r s n hx hy e =
+    let one = same_step x y (text_of (steps_lines xs) ++ r) (text_of (steps_lines ys) ++ s) hx.0 hy.0
+    (sym (regroup (step_lines x) (steps_lines xs) r) ∙ e ∙ regroup (step_lines y) (steps_lines ys) s) in
+    let t = same_steps xs ys r s (omega (arith, n)) hx.1 hy.1 one.rest in
+    record { value = ap₂ (λ (a : Step) (l : List Step). a ∷ l) one.value t.value; rest = t.rest }
+
+-- a word, how many steps there are, and the steps
+pub same_counted : (h : List ℕ) (xs ys : List Step) (r s : List ℕ) → IsWord h → AreSteps xs → AreSteps ys
+    → text_of (counted_lines h xs) ++ r ≡ text_of (counted_lines h ys) ++ s → Same xs ys r s
+same_counted h xs ys r s hh hx hy e =
+    let l = lined h h (decimal (length xs) ∷ []) (decimal (length ys) ∷ []) (steps_lines xs) (steps_lines ys) r s
+    hh hh (counted_is_words (length xs) hx.0) (counted_is_words (length ys) hy.0) e in
+    same_steps xs ys r s (same_number (length xs) (length ys) hx.0 hy.0 (word_at 0 _ _ l.words)) hx.1 hy.1 l.rest
+
+-- marks
+
+-- a text that begins with the letter p
+abbrev pub IsPast : List ℕ → Type 0
+IsPast r = get_or r 0 0 ≡ 112
+
+mark_words : (x t : ℕ) → 32 < x → IsNumber t → AreWords ((x ∷ []) ∷ decimal t ∷ [])
+mark_words x t high small = (byte_is_word x high, (number_is_word t small, tt))
+
+-- the line of a mark does not stand among those of later ones
+pub no_mark : (x y t : ℕ) (ns : List (Option ℕ)) (ls : List (List ℕ)) (r s : List ℕ) → 32 < x → x < y → IsNumber t → AllByRecursion IsTime ns → IsPast s
+    → text_of (line (codes "mark") ((x ∷ []) ∷ decimal t ∷ []) ∷ ls) ++ r ≡ text_of (mark_lines y ns) ++ s → ⊥
+no_mark x y t [] ls r s high less small hn past e =
+    let bad : 109 ≡ get_or s 0 0 = byte_at 0 _ _ e in omega (arith, bad, past)
+no_mark x y t (None ∷ ns) ls r s high less small hn past e = no_mark x (y + 1) t ns ls r s high (omega (arith, less)) small hn.1 past e
+no_mark x y t (Some u ∷ ns) ls r s high less small hn past e =
+    let l = lined (codes "mark") (codes "mark") ((x ∷ []) ∷ decimal t ∷ []) ((y ∷ []) ∷ decimal u ∷ []) ls (mark_lines (y + 1) ns) r s
+    refl refl (mark_words x t high small) (mark_words y u (omega (arith, high, less)) hn.0) e in
+    let same : x ≡ y = byte_at 0 _ _ (word_at 0 _ _ l.words) in
+    omega (arith, same, less)
+
+pub same_marks : (x : ℕ) (ms ns : List (Option ℕ)) (r s : List ℕ) → 32 < x → length ms ≡ length ns → AllByRecursion IsTime ms → AllByRecursion IsTime ns
+    → IsPast r → IsPast s → text_of (mark_lines x ms) ++ r ≡ text_of (mark_lines x ns) ++ s → Same ms ns r s
+same_marks x [] [] r s high n hm hn pr ps e = record { value = refl; rest = e }
+same_marks x [] (b ∷ ns) r s high n hm hn pr ps e = absurd (omega (arith, n))
+same_marks x (a ∷ ms) [] r s high n hm hn pr ps e = absurd (omega (arith, n))
+same_marks x (None ∷ ms) (None ∷ ns) r s high n hm hn pr ps e =
+    let t = same_marks (x + 1) ms ns r s (omega (arith, high)) (omega (arith, n)) hm.1 hn.1 pr ps e in
+    record { value = ap (λ (l : List (Option ℕ)). None ∷ l) t.value; rest = t.rest }
+same_marks x (Some a ∷ ms) (None ∷ ns) r s high n hm hn pr ps e =
+    absurd (no_mark x (x + 1) a ns (mark_lines (x + 1) ms) r s high (omega arith) hm.0 hn.1 ps e)
+same_marks x (None ∷ ms) (Some b ∷ ns) r s high n hm hn pr ps e =
+    absurd (no_mark x (x + 1) b ms (mark_lines (x + 1) ns) s r high (omega arith) hn.0 hm.1 pr (sym e))
+same_marks x (Some a ∷ ms) (Some b ∷ ns) r s high n hm hn pr ps e =
+    let l = lined (codes "mark") (codes "mark") ((x ∷ []) ∷ decimal a ∷ []) ((x ∷ []) ∷ decimal b ∷ []) (mark_lines (x + 1) ms) (mark_lines (x + 1) ns) r s
+    refl refl (mark_words x a high hm.0) (mark_words x b high hn.0) e in
+    let t = same_marks (x + 1) ms ns r s (omega (arith, high)) (omega (arith, n)) hm.1 hn.1 pr ps l.rest in
+    record { value = ap₂ (λ (m : ℕ) (l : List (Option ℕ)). Some m ∷ l) (same_number a b hm.0 hn.0 (word_at 1 _ _ l.words)) t.value; rest = t.rest }
+
+-- the whole
+
+saved : Kind → ℕ → ℕ → List (Option ℕ) → List Step → List Step → Saved
+saved kind expression cursor marks past future =
+    record { kind = kind; expression = expression; cursor = cursor; marks = marks; past = past; future = future }
+
+same_fields : (s t : Saved) → s.kind ≡ t.kind → s.expression ≡ t.expression → s.cursor ≡ t.cursor → s.marks ≡ t.marks → s.past ≡ t.past → s.future ≡ t.future → s ≡ t
+unfolding saved
+same_fields s t kind expression cursor marks past future =
+    ap₂ (λ k n. saved k n s.cursor s.marks s.past s.future) kind expression
+    ∙ ap₂ (λ n (ms : List (Option ℕ)). saved t.kind t.expression n ms s.past s.future) cursor marks
+    ∙ ap₂ (λ (ps fs : List Step). saved t.kind t.expression t.cursor t.marks ps fs) past future
+
+-- the text of the steps, and what stands behind it
+abbrev after : Saved → List ℕ → List ℕ
+after s r = text_of (counted_lines (codes "past") s.past) ++ (text_of (counted_lines (codes "future") s.future) ++ r)
+
+three : (s : Saved) (r : List ℕ) → text_of (mark_lines 97 s.marks ++ counted_lines (codes "past") s.past ++ counted_lines (codes "future") s.future) ++ r ≡ text_of (mark_lines 97 s.marks) ++ after s r
+three s r =
+    regroup (mark_lines 97 s.marks ++ counted_lines (codes "past") s.past) (counted_lines (codes "future") s.future) r
+    ∙ regroup (mark_lines 97 s.marks) (counted_lines (codes "past") s.past) (text_of (counted_lines (codes "future") s.future) ++ r)
+
+pub same_saved : (s t : Saved) (r q : List ℕ) → IsSaved s → IsSaved t
+    → text_of (saved_lines s) ++ r ≡ text_of (saved_lines t) ++ q → Same s t r q
+same_saved s t r q hs ht e =
+    let tail : Saved → List (List ℕ) = λ s. mark_lines 97 s.marks ++ counted_lines (codes "past") s.past ++ counted_lines (codes "future") s.future in
+    let third : Saved → List (List ℕ) = λ s. numbered (codes "cursor") (s.cursor ∷ []) ∷ tail s in
+    let second : Saved → List (List ℕ) = λ s. line (codes "format") (kind_word s.kind ∷ decimal s.expression ∷ []) ∷ third s in
+    let named = lined (codes "irig-journal-1") (codes "irig-journal-1") [] [] (second s) (second t) r q refl refl tt tt e in
+    let format = lined (codes "format") (codes "format") (kind_word s.kind ∷ decimal s.expression ∷ []) (kind_word t.kind ∷ decimal t.expression ∷ []) (third s) (third t) r q
+    refl refl (kind_is_word s.kind, (number_is_word s.expression (small_is_number s.expression hs.expression), tt)) (kind_is_word t.kind, (number_is_word t.expression (small_is_number t.expression ht.expression), tt)) named.rest in
+    let cursor = lined (codes "cursor") (codes "cursor") (decimal s.cursor ∷ []) (decimal t.cursor ∷ []) (tail s) (tail t) r q
+    refl refl (counted_is_words s.cursor hs.cursor) (counted_is_words t.cursor ht.cursor) format.rest in
+    let marks = same_marks 97 s.marks t.marks (after s r) (after t q) (omega arith) (hs.letters ∙ sym ht.letters) hs.marks ht.marks refl refl
+    (sym (three s r) ∙ cursor.rest ∙ three t q) in
+    let past = same_counted (codes "past") s.past t.past (text_of (counted_lines (codes "future") s.future) ++ r) (text_of (counted_lines (codes "future") t.future) ++ q) refl hs.past ht.past marks.rest in
+    let future = same_counted (codes "future") s.future t.future r q refl hs.future ht.future past.rest in
+    record {
+      value = same_fields s t (same_kind s.kind t.kind (word_at 0 _ _ format.words))
+          (same_number s.expression t.expression (small_is_number s.expression hs.expression) (small_is_number t.expression ht.expression) (word_at 1 _ _ format.words))
+          (same_number s.cursor t.cursor hs.cursor ht.cursor (word_at 0 _ _ cursor.words))
+          marks.value past.value future.value;
+      rest = future.rest;
+    }

@@ -1,0 +1,8 @@
+use Rattle.irig_saved.specs.Ranges.{AreSingles}
+use Rattle.irig_saved.specs.SavedText.{singles_lines}
+use Rattle.irig_saved.specs.Reading.{Reads}
+use Rattle.irig_saved.proofs.parts.singles.Given as goal
+
+-- so many changes as turns stand before the rest
+abbrev pub invariant-loop : goal.invariant-loop
+invariant-loop l = Reads (AreSingles l.counter) singles_lines l.text l.singles l.rest

@@ -1,0 +1,80 @@
+-- The text of a saved journal: docs/FORMATS.md, "The saved journal". This project's own.
+use Rattle.std.specs.Prelude.{◌+◌, ℕ, List, [], ◌∷◌, ◌++◌, Option, Some, None, length, decimal, codes}
+use Rattle.irig_saved.specs.Lines.{line, numbered, text_of}
+pub use Rattle.irig_saved.specs.ChangeWords.{letters_from, letters_or_dash, moved_word, time_word, head_of, words_of, single_line}
+use Rattle.irig_codes.specs.Words.{kind_word}
+use Rattle.irig_track.specs.declared.pulse.Pulse.{Pulse}
+use Rattle.irig_saved.specs.declared.single.Single.{Single}
+use Rattle.irig_saved.specs.declared.single.Single.TheVariants.{Splice, Toggle, Shift, SetFormat, SetMark}
+use Rattle.irig_saved.specs.declared.change.Change.{Change}
+use Rattle.irig_saved.specs.declared.change.Change.TheVariants.{One, Group}
+use Rattle.irig_saved.specs.declared.step.Step.{Step}
+use Rattle.irig_saved.specs.declared.saved.Saved.{Saved}
+
+-- RISE FALL
+abbrev pub pulse_line : Pulse → List ℕ
+pulse_line p = numbered (decimal p.rise) (p.fall ∷ [])
+
+-- a line for each pulse
+abbrev pub pulse_lines : List Pulse → List (List ℕ)
+pulse_lines [] = []
+pulse_lines (p ∷ ps) = pulse_line p ∷ pulse_lines ps
+
+-- the pulses that it puts
+abbrev pub put_of : Single → List Pulse
+put_of (Splice at count put) = put
+put_of (Toggle a b) = []
+put_of (Shift i j by marks) = []
+put_of (SetFormat kind expression) = []
+put_of (SetMark letter time) = []
+
+-- the first line of a change, and those of its pulses
+abbrev pub single_lines : Single → List (List ℕ)
+single_lines x = single_line x ∷ pulse_lines (put_of x)
+
+-- the lines of changes, one after another
+abbrev pub singles_lines : List Single → List (List ℕ)
+singles_lines [] = []
+singles_lines (x ∷ xs) = single_lines x ++ singles_lines xs
+
+-- those of the change alone, or how many changes there are, and theirs
+abbrev pub change_lines : Change → List (List ℕ)
+change_lines (One x) = single_lines x
+change_lines (Group xs) = numbered (codes "group") (length xs ∷ []) ∷ singles_lines xs
+
+-- at CURSOR, and the change
+abbrev pub step_lines : Step → List (List ℕ)
+step_lines s = numbered (codes "at") (s.cursor ∷ []) ∷ change_lines s.change
+
+-- the lines of steps, one after another
+abbrev pub steps_lines : List Step → List (List ℕ)
+steps_lines [] = []
+steps_lines (s ∷ ss) = step_lines s ++ steps_lines ss
+
+-- a line for each set mark, from a letter on
+abbrev pub mark_lines : ℕ → List (Option ℕ) → List (List ℕ)
+mark_lines x [] = []
+mark_lines x (None ∷ ms) = mark_lines (x + 1) ms
+mark_lines x (Some t ∷ ms) = line (codes "mark") ((x ∷ []) ∷ decimal t ∷ []) ∷ mark_lines (x + 1) ms
+
+-- a word with how many steps there are, and the steps
+abbrev pub counted_lines : List ℕ → List Step → List (List ℕ)
+counted_lines head steps = numbered head (length steps ∷ []) ∷ steps_lines steps
+
+-- all lines, from the one that names the journal on
+abbrev pub saved_lines : Saved → List (List ℕ)
+saved_lines s =
+    codes "irig-journal-1"
+    ∷ line (codes "format") (kind_word s.kind ∷ decimal s.expression ∷ [])
+    ∷ numbered (codes "cursor") (s.cursor ∷ [])
+    ∷ mark_lines 97 s.marks
+    ++ counted_lines (codes "past") s.past
+    ++ counted_lines (codes "future") s.future
+
+-- the text of them
+unfoldable pub journal_text : Saved → List ℕ
+journal_text s = text_of (saved_lines s)
+
+-- the section of a dump that holds the journal
+unfoldable pub journal_section : Saved → List ℕ
+journal_section s = codes "$comment\n" ++ journal_text s ++ codes "$end\n"

@@ -1,0 +1,18 @@
+//! What is written tells what it was written of.
+
+ghost use Rattle.std.specs.Prelude.{◌≡◌};
+ghost use Rattle.irig_saved.specs.SavedText.{journal_text};
+ghost use Rattle.irig_saved.specs.Ranges.{IsSaved};
+
+use crate::saved::Saved;
+
+/// The law of the form: two journals of one text are one. It is in the contract, and the body does
+/// nothing.
+pub fn readable(saved: &Saved, other: &Saved)
+    ensures { IsSaved saved.now
+        → IsSaved other.now
+        → journal_text saved.now ≡ journal_text other.now
+        → saved.now ≡ other.now }
+{
+    let _ = saved.cursor == other.cursor;
+}

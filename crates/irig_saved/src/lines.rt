@@ -1,0 +1,143 @@
+//! Lines of a saved journal.
+
+ghost use Rattle.std.specs.Prelude.{◌≡◌, ◌<◌, ◌+◌, ◌++◌, ◌∷◌, [], ℕ, List, MatchOption, decimal, codes};
+ghost use Rattle.std.specs.Fmt.{signed_decimal};
+ghost use Rattle.irig_saved.specs.Lines.{numbered, line};
+ghost use Rattle.irig_saved.specs.Ranges.{IsNumber, IsPulse};
+ghost use Rattle.irig_saved.specs.SavedText.{moved_word, pulse_line, single_line};
+ghost use Rattle.irig_saved.specs.Reading.{Decodes, IsWordy, IsShort, IsFormat, AreThree, words_of_three, words_of_format};
+ghost use Rattle.irig_saved.specs.Values.{AreTwo, IsMark, IsMove, IsShift, words_of_mark, words_of_shift, words_of_two};
+
+use crate::cut::word_of;
+use crate::letter::Letter;
+use crate::single::Single;
+use crate::words::{distance, expression, kind, letter, moved, number, time};
+use irig_codes::Kind;
+use irig_track::Pulse;
+
+/// What stands in a line behind a word and a space.
+fn behind<'a>(head: &[u8], text: &'a [u8]) -> Option<&'a [u8]>
+    requires { IsWordy head.now }
+    ensures { MatchOption result ((rest : List ℕ) → text.now ≡ head.now ++ 32 ∷ rest → ⊥)
+        (λ rest. text.now ≡ head.now ++ 32 ∷ rest.now) }
+{
+    let Some((first, rest)) = word_of(text) else {
+        return None;
+    };
+    if first == head { Some(rest) } else { None }
+}
+
+/// The number in a line of a word and a number.
+pub fn counted(head: &[u8], text: &[u8]) -> Option<u64>
+    requires { IsWordy head.now }
+    ensures { Decodes IsNumber (λ n. numbered head.now (n ∷ [])) text.now result }
+{
+    let Some(word) = behind(head, text) else {
+        return None;
+    };
+    number(word)
+}
+
+/// The format in a line of a word and a format.
+pub fn format(head: &[u8], text: &[u8]) -> Option<(Kind, u8)>
+    requires { IsWordy head.now }
+    ensures { Decodes IsFormat (λ f. line head.now (words_of_format f)) text.now result }
+{
+    let (name, rest) = word_of(behind(head, text)?)?;
+    Some((kind(name)?, expression(rest)?))
+}
+
+/// The time in the line of a mark, where it is the one of this letter.
+pub fn mark(letter_byte: u8, text: &[u8]) -> Option<u64>
+    requires { (32 < letter_byte) × (letter_byte < 127) }
+    ensures { Decodes IsNumber
+        (λ t. line (codes "mark") ((letter_byte ∷ []) ∷ decimal t ∷ [])) text.now result }
+{
+    let (name, rest) = word_of(behind(b"mark", text)?)?;
+    if name == [letter_byte].as_slice() {
+        number(rest)
+    } else {
+        None
+    }
+}
+
+/// Two numbers with a space between them.
+fn pair(text: &[u8]) -> Option<(u64, u64)>
+    ensures { Decodes AreTwo (λ t. numbered (decimal t.0) (t.1 ∷ [])) text.now result }
+{
+    let (first, second) = word_of(text)?;
+    Some((number(first)?, number(second)?))
+}
+
+/// The pulse in a line of its rise and fall.
+pub fn pulse(text: &[u8]) -> Option<Pulse>
+    ensures { Decodes IsPulse pulse_line text.now result }
+{
+    let Some((rise, fall)) = pair(text) else {
+        return None;
+    };
+    Some(Pulse { rise, fall })
+}
+
+/// The first line of a splice: from where on pulses go, how many, and how many come.
+pub fn splice(text: &[u8]) -> Option<(u64, u64, u64)>
+    ensures { Decodes AreThree (λ t. line (codes "splice") (words_of_three t)) text.now result }
+{
+    let (at, rest) = word_of(behind(b"splice", text)?)?;
+    let (count, put) = word_of(rest)?;
+    Some((number(at)?, number(count)?, number(put)?))
+}
+
+/// The change in a line, where it is no splice.
+pub fn short(text: &[u8]) -> Option<Single>
+    ensures { Decodes IsShort single_line text.now result }
+{
+    if let Some((a, b)) = toggle(text) {
+        return Some(Single::Toggle { a, b });
+    }
+    if let Some((kind, expression)) = format(b"setformat", text) {
+        return Some(Single::SetFormat { kind, expression });
+    }
+    if let Some((letter, time)) = set_mark(text) {
+        let letter = Letter::new(letter);
+        return Some(Single::SetMark { letter, time });
+    }
+    let (i, j, by, marks) = shift(text)?;
+    Some(Single::Shift { i, j, by, marks })
+}
+
+/// The two times in the line of a toggle.
+fn toggle(text: &[u8]) -> Option<(u64, u64)>
+    ensures { Decodes AreTwo (λ t. line (codes "toggle") (words_of_two t)) text.now result }
+{
+    let Some(words) = behind(b"toggle", text) else {
+        return None;
+    };
+    pair(words)
+}
+
+/// The letter, from 0, and the time in the line that sets or clears a mark.
+fn set_mark(text: &[u8]) -> Option<(u8, Option<u64>)>
+    ensures { Decodes IsMark (λ t. line (codes "setmark") (words_of_mark t)) text.now result }
+{
+    let (name, rest) = word_of(behind(b"setmark", text)?)?;
+    Some((letter(name)?, time(rest)?))
+}
+
+/// The pulses that move, by how much, and the marks that move with them, in the line of a shift.
+fn shift(text: &[u8]) -> Option<(u64, u64, i64, [bool; 26])>
+    ensures { Decodes IsShift (λ t. line (codes "shift") (words_of_shift t)) text.now result }
+{
+    let (i, rest) = word_of(behind(b"shift", text)?)?;
+    let (j, rest) = word_of(rest)?;
+    let (by, marks) = move_in(rest)?;
+    Some((number(i)?, number(j)?, by, marks))
+}
+
+/// A distance and the marks that move by it.
+fn move_in(text: &[u8]) -> Option<(i64, [bool; 26])>
+    ensures { Decodes IsMove (λ t. line (signed_decimal t.0) (moved_word t.1 ∷ [])) text.now result }
+{
+    let (by, marks) = word_of(text)?;
+    Some((distance(by)?, moved(marks)?))
+}

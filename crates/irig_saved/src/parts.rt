@@ -1,0 +1,178 @@
+//! Parts of a saved journal: each is read from the head of a text, and gives the rest.
+
+ghost use Rattle.std.specs.Prelude.{◌≡◌, ◌<◌, ◌+◌, ◌∷◌, [], codes, length};
+ghost use Rattle.irig_saved.specs.Lines.{numbered};
+ghost use Rattle.irig_saved.specs.Ranges.{IsNumber, IsSingle, IsChange, IsStep, AreSteps, ArePulses, AreSingles, ManySteps};
+ghost use Rattle.irig_saved.specs.SavedText.{pulse_lines, single_lines, singles_lines, change_lines, step_lines, steps_lines, counted_lines, mark_lines};
+ghost use Rattle.irig_saved.specs.Reading.{Parses, IsWordy};
+ghost use Rattle.irig_saved.specs.Leading.{Leads};
+
+use crate::change::Change;
+use crate::cut::line_of;
+use crate::lines::{counted, mark, pulse, short, splice};
+use crate::pulses::Pulses;
+use crate::single::Single;
+use crate::singles::Singles;
+use crate::step::Step;
+use crate::steps::Steps;
+use crate::stop::Stop;
+use std::alloc::Global;
+
+/// Lines of pulses, so many of them.
+pub fn pulses(alloc: Global, count: u64, text: &[u8]) -> Result<(Pulses, &[u8]), Stop<'_>>
+    ensures { Parses (ArePulses count) pulse_lines text.now result }
+{
+    let mut pulses = Pulses::new(alloc);
+    let mut rest = text;
+    for _ in 0..count {
+        let Some((line, next)) = line_of(rest) else {
+            return Err(Stop::At(rest));
+        };
+        let Some(pulse) = pulse(line) else {
+            return Err(Stop::At(rest));
+        };
+        let Ok(()) = pulses.push(pulse) else {
+            return Err(Stop::Memory);
+        };
+        rest = next;
+    }
+    Ok((pulses, rest))
+}
+
+/// One change.
+pub fn single(alloc: Global, text: &[u8]) -> Result<(Single, &[u8]), Stop<'_>>
+    ensures { Parses IsSingle single_lines text.now result }
+{
+    let Some((line, next)) = line_of(text) else {
+        return Err(Stop::At(text));
+    };
+    if let Some((at, count, put)) = splice(line) {
+        return match pulses(alloc, put, next) {
+            Ok((put, rest)) => Ok((Single::Splice { at, count, put }, rest)),
+            Err(stop) => Err(stop),
+        };
+    }
+    match short(line) {
+        Some(single) => Ok((single, next)),
+        None => Err(Stop::At(text)),
+    }
+}
+
+/// Changes, so many of them.
+pub fn singles(alloc: Global, count: u64, text: &[u8]) -> Result<(Singles, &[u8]), Stop<'_>>
+    ensures { Parses (AreSingles count) singles_lines text.now result }
+{
+    let mut singles = Singles::new(alloc);
+    let mut rest = text;
+    for _ in 0..count {
+        let (one, next) = match single(alloc, rest) {
+            Ok(read) => read,
+            Err(stop) => return Err(stop),
+        };
+        let Ok(()) = singles.push(one) else {
+            return Err(Stop::Memory);
+        };
+        rest = next;
+    }
+    Ok((singles, rest))
+}
+
+/// A change, or a group of them.
+pub fn change(alloc: Global, text: &[u8]) -> Result<(Change, &[u8]), Stop<'_>>
+    ensures { Parses IsChange change_lines text.now result }
+{
+    let Some((line, next)) = line_of(text) else {
+        return Err(Stop::At(text));
+    };
+    if let Some(count) = counted(b"group", line) {
+        return match singles(alloc, count, next) {
+            Ok((group, rest)) => Ok((Change::Group(group), rest)),
+            Err(stop) => Err(stop),
+        };
+    }
+    match single(alloc, text) {
+        Ok((one, rest)) => Ok((Change::One(one), rest)),
+        Err(stop) => Err(stop),
+    }
+}
+
+/// A cursor and a change.
+pub fn step(alloc: Global, text: &[u8]) -> Result<(Step, &[u8]), Stop<'_>>
+    ensures { Parses IsStep step_lines text.now result }
+{
+    let Some((line, next)) = line_of(text) else {
+        return Err(Stop::At(text));
+    };
+    let Some(cursor) = counted(b"at", line) else {
+        return Err(Stop::At(text));
+    };
+    match change(alloc, next) {
+        Ok((change, rest)) => Ok((Step { cursor, change }, rest)),
+        Err(stop) => Err(stop),
+    }
+}
+
+/// Steps, so many of them.
+pub fn steps(alloc: Global, count: u64, text: &[u8]) -> Result<(Steps, &[u8]), Stop<'_>>
+    ensures { Parses (ManySteps count) steps_lines text.now result }
+{
+    let mut steps = Steps::new(alloc);
+    let mut rest = text;
+    for _ in 0..count {
+        let (one, next) = match step(alloc, rest) {
+            Ok(read) => read,
+            Err(stop) => return Err(stop),
+        };
+        let Ok(()) = steps.push(one) else {
+            return Err(Stop::Memory);
+        };
+        rest = next;
+    }
+    Ok((steps, rest))
+}
+
+/// A word, how many steps there are, and the steps.
+pub fn counted_steps<'a>(
+    alloc: Global,
+    head: &[u8],
+    text: &'a [u8],
+) -> Result<(Steps, &'a [u8]), Stop<'a>>
+    requires { IsWordy head.now }
+    ensures { Parses AreSteps (counted_lines head.now) text.now result }
+{
+    let Some((line, next)) = line_of(text) else {
+        return Err(Stop::At(text));
+    };
+    let Some(count) = counted(head, line) else {
+        return Err(Stop::At(text));
+    };
+    steps(alloc, count, next)
+}
+
+/// The marks whose lines stand at the head of a text, a to z.
+pub fn marks(text: &[u8]) -> ([Option<u64>; 26], &[u8])
+    ensures { (length result.0 ≡ 26) × Leads 97 result.0 text.now result.1.now }
+{
+    let mut marks = [None; 26];
+    let mut rest = text;
+    for letter in 0..26 {
+        let (time, next) = marked(b'a' + letter, rest);
+        marks[letter as usize] = time;
+        rest = next;
+    }
+    (marks, rest)
+}
+
+/// The time of the mark of this letter, where its line stands at the head of a text.
+fn marked(letter_byte: u8, text: &[u8]) -> (Option<u64>, &[u8])
+    requires { (32 < letter_byte) × (letter_byte < 127) }
+    ensures { Leads letter_byte (result.0 ∷ []) text.now result.1.now }
+{
+    let Some((line, next)) = line_of(text) else {
+        return (None, text);
+    };
+    match mark(letter_byte, line) {
+        Some(time) => (Some(time), next),
+        None => (None, text),
+    }
+}

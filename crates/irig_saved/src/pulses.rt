@@ -1,0 +1,69 @@
+//! Pulses in a list that gives its block away.
+
+ghost use Rattle.std.specs.Prelude.{◌≡◌, ◌<◌, ◌++◌, ◌∷◌, [], OnOk, OnErr, Some, length, slice_get};
+
+use irig_gap::Gap;
+use irig_track::Pulse;
+use std::alloc::{AllocError, Global};
+use std::marker::Model;
+
+/// Pulses that a splice puts, in a buffer with its place behind the last.
+#[derive(Drop)]
+pub struct Pulses {
+    items: Gap<Pulse>,
+}
+
+impl Model for Pulses {
+    ghost use Rattle.std.specs.Prelude.{◌≡◌, List, length};
+    ghost use Rattle.irig_track.specs.declared.pulse.Pulse.{Pulse};
+
+    ghost Value = { List Pulse };
+
+    ghost view = { λ pulses. pulses.items.items };
+
+    ghost invariant = { λ pulses. pulses.items.place ≡ length pulses.items.items };
+}
+
+impl Pulses {
+    /// No pulses.
+    pub fn new(alloc: Global) -> Pulses
+        ensures { result ≡ [] }
+    {
+        Pulses {
+            items: Gap::new(alloc),
+        }
+    }
+
+    /// How many pulses there are.
+    pub fn len(&self) -> usize
+        ensures { result ≡ length self.now }
+    {
+        self.items.len()
+    }
+
+    /// The pulse at `index`, from 0.
+    pub fn get(&self, index: usize) -> Pulse
+        requires { index < length self.now }
+        ensures { slice_get self.now index ≡ Some result }
+    {
+        self.items.get(index)
+    }
+
+    /// Puts a pulse behind the last.
+    pub fn push(&mut self, pulse: Pulse) -> Result<(), AllocError>
+        ensures pushed { OnOk result (self.new ≡ self.old ++ pulse ∷ []) }
+        ensures unchanged { OnErr result (self.new ≡ self.old) }
+    {
+        self.items.reserve(1)?;
+        self.items.put(pulse);
+        Ok(())
+    }
+
+    /// The buffer of the pulses.
+    pub fn into_gap(self) -> Gap<Pulse>
+        ensures items { result.items ≡ self }
+        ensures place { result.place ≡ length self }
+    {
+        self.items
+    }
+}

@@ -1,0 +1,134 @@
+//! A saved journal is read.
+
+ghost use Rattle.std.specs.Prelude.{◌≡◌, ◌==◌, ◌<◌, ◌≤◌, ◌+◌, ◌-◌, ◌^◌, ◌++◌, ◌∷◌, [], ℕ, List, length, take, codes, count_by, MatchOption, MatchResult, IfOk};
+ghost use Rattle.irig_saved.specs.Lines.{line, numbered};
+ghost use Rattle.irig_saved.specs.SavedText.{journal_text, saved_lines};
+ghost use Rattle.irig_saved.specs.Ranges.{IsNumber, IsSaved};
+ghost use Rattle.irig_saved.specs.Reading.{Parses, IsFormat, words_of_format};
+ghost use Rattle.irig_saved.specs.Leading.{FirstLine};
+ghost use Rattle.irig_saved.specs.Faults.{IsRefused};
+
+use crate::cut::line_of;
+use crate::lines::{counted, format};
+use crate::parts::{counted_steps, marks};
+use crate::saved::Saved;
+use crate::stop::Stop;
+use irig_codes::Kind;
+use std::alloc::Global;
+
+/// Why a text is no saved journal.
+#[derive(Clone, Copy, Debug, Drop)]
+pub enum Fault {
+    /// The line of this number, from 1, is the first with which it begins none.
+    Line(usize),
+    /// No memory was found.
+    Memory,
+}
+
+/// The journal of which these bytes are the text: all of it from the line that names it, which is
+/// line 1, up to the newline of its last line. Memory is taken only for lines that were read,
+/// whatever the counts among them say.
+///
+/// An error tells the first line with which the text begins no journal. Where a line is missing,
+/// or more text stands behind the last one, that is the line where the text ends or goes on.
+/// `Fault::Memory` tells nothing of the text. Whether the steps apply is not judged here.
+pub fn parse(alloc: Global, text: &[u8]) -> Result<Saved, Fault>
+    requires { length text.now < 2 ^ 63 }
+    ensures exact { MatchResult result
+        (λ s. IsSaved s × (text.now ≡ journal_text s))
+        (λ fault. IsRefused text.now fault) }
+    ensures short { IfOk result (λ s. length (saved_lines s) ≤ length text.now) }
+{
+    match saved(alloc, text) {
+        Ok((saved, [])) => Ok(saved),
+        Ok((_, rest)) => Err(Fault::Line(line_at(text, rest))),
+        Err(Stop::At(rest)) => Err(Fault::Line(line_at(text, rest))),
+        Err(Stop::Memory) => Err(Fault::Memory),
+    }
+}
+
+/// The number, from 1, of the line with which the rest of a text begins.
+fn line_at(text: &[u8], rest: &[u8]) -> usize
+    requires { length text.now < 2 ^ 63 }
+    ensures { result
+        ≡ 1 + count_by (λ b. b == 10) (take (length text.now - length rest.now) text.now) }
+{
+    let before = text.len().saturating_sub(rest.len());
+    1 + text[..before].iter().filter(|byte| **byte == b'\n').count()
+}
+
+/// A journal from the head of a text, and what stands behind it.
+fn saved(alloc: Global, text: &[u8]) -> Result<(Saved, &[u8]), Stop<'_>>
+    ensures { Parses IsSaved saved_lines text.now result }
+{
+    let Some(rest) = named(text) else {
+        return Err(Stop::At(text));
+    };
+    let Some(((kind, expression), behind)) = format_line(rest) else {
+        return Err(Stop::At(rest));
+    };
+    let Some((cursor, rest)) = cursor_line(behind) else {
+        return Err(Stop::At(behind));
+    };
+    let (marks, rest) = marks(rest);
+    let (past, rest) = match counted_steps(alloc, b"past", rest) {
+        Ok(read) => read,
+        Err(stop) => return Err(stop),
+    };
+    let (future, rest) = match counted_steps(alloc, b"future", rest) {
+        Ok(read) => read,
+        Err(stop) => return Err(stop),
+    };
+    let saved = Saved {
+        kind,
+        expression,
+        cursor,
+        marks,
+        past,
+        future,
+    };
+    Ok((saved, rest))
+}
+
+/// What stands behind the line that names the journal.
+fn named(text: &[u8]) -> Option<&[u8]>
+    ensures { MatchOption result
+        ((more : List ℕ) → text.now ≡ codes "irig-journal-1" ++ 10 ∷ more → ⊥)
+        (λ rest. text.now ≡ codes "irig-journal-1" ++ 10 ∷ rest.now) }
+{
+    let Some((line, rest)) = line_of(text) else {
+        return None;
+    };
+    if line == b"irig-journal-1".as_slice() {
+        Some(rest)
+    } else {
+        None
+    }
+}
+
+/// The format that the first line of a text tells, and what stands behind it.
+fn format_line(text: &[u8]) -> Option<((Kind, u8), &[u8])>
+    ensures { FirstLine IsFormat (λ f. line (codes "format") (words_of_format f))
+        text.now result }
+{
+    let Some((line, rest)) = line_of(text) else {
+        return None;
+    };
+    match format(b"format", line) {
+        Some(format) => Some((format, rest)),
+        None => None,
+    }
+}
+
+/// The cursor that the first line of a text tells, and what stands behind it.
+fn cursor_line(text: &[u8]) -> Option<(u64, &[u8])>
+    ensures { FirstLine IsNumber (λ n. numbered (codes "cursor") (n ∷ [])) text.now result }
+{
+    let Some((line, rest)) = line_of(text) else {
+        return None;
+    };
+    match counted(b"cursor", line) {
+        Some(cursor) => Some((cursor, rest)),
+        None => None,
+    }
+}

@@ -1,0 +1,25 @@
+//! A change and where it leads.
+
+ghost use Rattle.std.specs.Prelude.{◌≡◌, ◌<◌, ◌^◌, length};
+ghost use Rattle.irig_saved.specs.SavedText.{step_lines};
+
+use crate::change::Change;
+
+/// A change with the cursor of the state that it leads to: a pulse, from 1, or 0.
+#[derive(Drop)]
+pub struct Step {
+    /// The cursor, from 1; 0 where there is no pulse.
+    pub cursor: u64,
+    /// The change.
+    pub change: Change,
+}
+
+impl Step {
+    /// How many lines it has.
+    pub fn lines(&self) -> usize
+        requires { length (step_lines self.now) < 2 ^ 63 }
+        ensures { result ≡ length (step_lines self.now) }
+    {
+        1 + self.change.lines()
+    }
+}

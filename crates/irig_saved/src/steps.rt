@@ -1,0 +1,84 @@
+//! Steps in the order in which they stand in the text.
+
+ghost use Rattle.std.specs.Prelude.{◌≡◌, ◌<◌, ◌^◌, ◌++◌, ◌∷◌, [], OnOk, OnErr, MatchOption, length, reverse};
+ghost use Rattle.irig_saved.specs.SavedText.{steps_lines};
+
+use crate::step::Step;
+use std::alloc::{AllocError, Global};
+use std::marker::Model;
+
+/// Steps in the order in which they stand in the text.
+#[derive(Drop)]
+pub struct Steps {
+    items: Vec<Step>,
+}
+
+impl Model for Steps {
+    ghost use Rattle.std.specs.Prelude.{List};
+    ghost use Rattle.irig_saved.specs.declared.step.Step.{Step};
+
+    ghost Value = { List Step };
+
+    ghost view = { λ steps. steps.items.items };
+}
+
+impl Steps {
+    /// No steps.
+    pub fn new(alloc: Global) -> Steps
+        ensures { result ≡ [] }
+    {
+        Steps {
+            items: Vec::new(alloc),
+        }
+    }
+
+    /// How many steps there are.
+    pub fn len(&self) -> usize
+        ensures { result ≡ length self.now }
+    {
+        self.items.len()
+    }
+
+    /// The steps, in order.
+    pub fn as_slice(&self) -> &[Step]
+        ensures { result.now ≡ self.now }
+    {
+        self.items.as_slice()
+    }
+
+    /// Puts a step behind the last.
+    pub fn push(&mut self, step: Step) -> Result<(), AllocError>
+        ensures pushed { OnOk result (self.new ≡ self.old ++ step ∷ []) }
+        ensures unchanged { OnErr result (self.new ≡ self.old) }
+    {
+        self.items.push(step)?;
+        Ok(())
+    }
+
+    /// Takes the last step out, and is None where there is none.
+    pub fn pop(&mut self) -> Option<Step>
+        ensures { MatchOption result ((self.old ≡ []) × (self.new ≡ []))
+            (λ step. self.old ≡ self.new ++ step ∷ []) }
+    {
+        self.items.pop()
+    }
+
+    /// Puts the steps in the opposite order.
+    pub fn reverse(&mut self)
+        ensures { self.new ≡ reverse self.old }
+    {
+        self.items.reverse();
+    }
+
+    /// How many lines they have.
+    pub fn lines(&self) -> usize
+        requires { length (steps_lines self.now) < 2 ^ 63 }
+        ensures { result ≡ length (steps_lines self.now) }
+    {
+        let mut lines = 0;
+        for step in &self.items {
+            lines += step.lines();
+        }
+        lines
+    }
+}

@@ -1,0 +1,109 @@
+//! Words of a saved journal.
+
+ghost use Rattle.std.specs.Prelude.{◌≡◌, ◌<◌, ◌≤◌, ◌+◌, ◌∷◌, [], decimal, length};
+ghost use Rattle.std.specs.Fmt.{signed_decimal};
+ghost use Rattle.irig_codes.specs.Words.{kind_word};
+ghost use Rattle.irig_saved.specs.Ranges.{IsNumber, IsDistance, IsTime};
+ghost use Rattle.irig_saved.specs.SavedText.{moved_word, time_word};
+ghost use Rattle.irig_saved.specs.Reading.{Decodes, AreLetters, Any};
+
+use irig_codes::{Kind, kind_named};
+use itoa::Buffer;
+
+/// The number that a word is in decimal, without a sign or leading zeros.
+pub fn number(word: &[u8]) -> Option<u64>
+    ensures { Decodes IsNumber (λ n. decimal n) word.now result }
+{
+    let Ok(text) = str::from_utf8(word) else {
+        return None;
+    };
+    let Ok(number) = text.parse::<u64>() else {
+        return None;
+    };
+    let mut buffer = Buffer::new();
+    if buffer.format(number).as_bytes() == word {
+        Some(number)
+    } else {
+        None
+    }
+}
+
+/// The distance that a word is: a number with a minus where it is below 0.
+pub fn distance(word: &[u8]) -> Option<i64>
+    ensures { Decodes IsDistance (λ d. signed_decimal d) word.now result }
+{
+    let Ok(text) = str::from_utf8(word) else {
+        return None;
+    };
+    let Ok(number) = text.parse::<i64>() else {
+        return None;
+    };
+    let mut buffer = Buffer::new();
+    if buffer.format(number).as_bytes() == word {
+        Some(number)
+    } else {
+        None
+    }
+}
+
+/// The kind of which a word is the letter.
+pub fn kind(word: &[u8]) -> Option<Kind>
+    ensures { Decodes Any (kind_word) word.now result }
+{
+    kind_named(word)
+}
+
+/// The expression that a word is: a digit 0 to 7.
+pub fn expression(word: &[u8]) -> Option<u8>
+    ensures { Decodes (λ n. n ≤ 7) (λ n. decimal n) word.now result }
+{
+    let value = number(word)?;
+    if value <= 7 { Some(value as u8) } else { None }
+}
+
+/// The letter that a word is, from 0.
+pub fn letter(word: &[u8]) -> Option<u8>
+    ensures { Decodes (λ x. x < 26) (λ x. (97 + x) ∷ []) word.now result }
+{
+    match word {
+        [letter] if b'a' <= *letter && *letter <= b'z' => Some(*letter - b'a'),
+        _ => None,
+    }
+}
+
+/// The time that a word is, or none, which is `-`.
+pub fn time(word: &[u8]) -> Option<Option<u64>>
+    ensures { Decodes IsTime time_word word.now result }
+{
+    if word == b"-".as_slice() {
+        return Some(None);
+    }
+    let Some(time) = number(word) else {
+        return None;
+    };
+    Some(Some(time))
+}
+
+/// The marks of which a word has the letters in order; `-` where there are none.
+pub fn moved(word: &[u8]) -> Option<[bool; 26]>
+    ensures { Decodes AreLetters moved_word word.now result }
+{
+    let mut marks = [false; 26];
+    if word == b"-".as_slice() {
+        return Some(marks);
+    }
+    let mut rest = word;
+    for letter in 0..26 {
+        if let [first, others @ ..] = rest {
+            if *first == b'a' + letter {
+                marks[letter as usize] = true;
+                rest = others;
+            }
+        }
+    }
+    if rest.is_empty() && !word.is_empty() {
+        Some(marks)
+    } else {
+        None
+    }
+}
