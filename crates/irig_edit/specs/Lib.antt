@@ -20,6 +20,7 @@ pub mod Refusals
 pub mod Regenerated
 pub mod Room
 pub mod Runs
+pub mod Saved
 pub mod Session
 pub mod Single
 pub mod State
