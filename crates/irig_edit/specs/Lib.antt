@@ -21,6 +21,7 @@ pub mod Regenerated
 pub mod Room
 pub mod Runs
 pub mod Saved
+pub mod SavedSession
 pub mod Session
 pub mod Single
 pub mod State

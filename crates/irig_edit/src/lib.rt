@@ -11,6 +11,7 @@ mod marks;
 mod present;
 mod refusal;
 mod room;
+mod saved;
 mod saved_text;
 mod session;
 mod single;

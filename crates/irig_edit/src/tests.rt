@@ -11,6 +11,7 @@ mod machine;
 mod parts;
 mod plain;
 mod refusing;
+mod saving;
 mod small;
 mod telling;
 mod walks;

@@ -1,0 +1,41 @@
+-- The text of a saved session, put part by part.
+use Rattle.std.proofs.Common.{◌≡◌, ◌++◌, ℕ, List, [], ◌∷◌, map, reverse, Result, Ok, Err, OnOk, codes, refl, ap, sym, ◌∙◌, append_assoc}
+use Rattle.std.proofs.lemmas.List.{map-append, reverse-append}
+use Rattle.irig_journal.specs.Machine.{Machine}
+use Rattle.irig_saved.specs.Lines.{text_of}
+use Rattle.irig_saved.specs.SavedText.{journal_section, journal_text, saved_lines}
+use Rattle.irig_saved.proofs.Texts.{text_of_append}
+use Rattle.irig_vcd.specs.FileText.{file_text}
+use Rattle.irig_edit.specs.Kept.{Kept}
+use Rattle.irig_edit.specs.SavedSession.{saved_of, saved_text}
+use Rattle.irig_edit.specs.State.{recording_of}
+
+-- what holds on success, said otherwise
+pub on_ok : {E P Q : Type 0} (r : Result Unit E) → (P → Q) → OnOk r P → OnOk r Q
+on_ok (Ok u) f h = f h
+on_ok (Err e) f h = tt
+
+-- two parts, each a line with lines behind it
+pub two_parts : (t0 t1 t2 t3 t4 p f : List ℕ) (ps fs : List (List ℕ)) → t1 ≡ t0 ++ (p ++ 10 ∷ []) → t2 ≡ t1 ++ text_of ps
+    → t3 ≡ t2 ++ (f ++ 10 ∷ []) → t4 ≡ t3 ++ text_of fs → t4 ≡ t0 ++ text_of ((p ∷ ps) ++ (f ∷ fs))
+two_parts t0 t1 t2 t3 t4 p f ps fs first second third fourth =
+    rw (fourth, third, second, first) (simp (append_assoc, text_of_append) refl)
+
+-- a section behind a body: lines between the words that open it and those that shut it
+pub section : (body t1 t2 t3 t4 opens shuts : List ℕ) (ls ms : List (List ℕ)) → t1 ≡ body ++ opens → t2 ≡ t1 ++ text_of ls
+    → t3 ≡ t2 ++ text_of ms → t4 ≡ t3 ++ shuts → t4 ≡ body ++ (opens ++ (text_of (ls ++ ms) ++ shuts))
+section body t1 t2 t3 t4 opens shuts ls ms first second third fourth =
+    rw (fourth, third, second, first) (simp (append_assoc, text_of_append) refl)
+
+-- a list turned over and then shown, and the other way round
+pub map-reverse : {A B : Type 0} (f : A → B) (xs : List A) → map f (reverse xs) ≡ reverse (map f xs)
+map-reverse f [] = refl
+map-reverse f (x ∷ xs) =
+    ap (map f) (reverse-append (x ∷ []) xs) ∙ map-append f (reverse xs) (x ∷ []) ∙ ap (λ ys. ys ++ f x ∷ []) (map-reverse f xs)
+    ∙ sym (reverse-append (f x ∷ []) (map f xs))
+
+-- the text of a machine is a body with such a section
+pub saved_text-parts : (m : Machine Kept) → saved_text m ≡ file_text (recording_of m.present.state)
+    ++ (codes "$comment\n" ++ (text_of (saved_lines (saved_of m)) ++ codes "$end\n"))
+unfolding saved_text journal_section journal_text
+saved_text-parts m = refl
