@@ -1,6 +1,8 @@
 -- Words of a text, a byte at a time, and those that are read in one step.
 pub mod Runs
 pub mod DigitRuns
+pub mod Doubling
+pub mod LaneDigits
 pub mod CodeRuns
 -- Numbers of digits, and times in two parts.
 pub mod Digits

@@ -1,6 +1,7 @@
 -- What the parts of the code show of the definitions. What a dump means needs none of them.
 pub mod Token
 pub mod Short
+pub mod Lanes
 pub mod Section
 pub mod Variable
 pub mod Timescale

@@ -6,6 +6,7 @@ mod event;
 mod fault;
 mod header;
 mod journals;
+mod lanes;
 mod law;
 #[cfg(test)]
 mod plain;

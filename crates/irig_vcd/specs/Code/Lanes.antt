@@ -1,0 +1,12 @@
+-- Digits in lanes: neighbouring ones, joined.
+use Rattle.std.specs.Prelude.{◌%◌, ◌+◌, ◌*◌, ℕ, Bool, List, [], ◌∷◌, nat_le}
+
+-- two digits a number, the first one counting most
+abbrev pub joined : ℕ → List ℕ → List ℕ
+joined base [] = []
+joined base (a ∷ []) = []
+joined base (a ∷ b ∷ digits) = (base * a + b) ∷ joined base digits
+
+-- a byte shows no digit, as it is taken from that of 0
+abbrev pub shows_none : ℕ → Bool
+shows_none b = nat_le 10 ((b + 208) % 256)

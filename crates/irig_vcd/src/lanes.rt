@@ -1,0 +1,124 @@
+//! Digits, sixteen at a time.
+
+ghost use Rattle.std.specs.Prelude.{◌≡◌, ◌≤◌, ◌<◌, ◌+◌, ◌-◌, ◌*◌, ◌^◌, ◌++◌, ℕ, true, length};
+ghost use Rattle.std.specs.Prelude.{drop, take, map, replicate, slice_index};
+ghost use Rattle.std.specs.List.{list_all};
+ghost use Rattle.std.specs.Int.Digits.{number_from_digits, AllBelowBase};
+ghost use Rattle.std.specs.Simd.Lanes.{mask_l};
+ghost use Rattle.irig_vcd.specs.Code.Lanes.{joined, shows_none};
+ghost use Rattle.irig_vcd.specs.Digits.{is_digit, number_from};
+ghost use Rattle.irig_vcd.specs.Words.{words_from, before_space};
+
+use std::simd::prelude::*;
+
+/// Sixteen lanes that go, and sixteen that stay.
+const KEEP: [u8; 32] = [
+    0, 0, 0, 0, 0, 0, 0, 0, 0, 0, 0, 0, 0, 0, 0, 0, 255, 255, 255, 255, 255, 255, 255, 255, 255,
+    255, 255, 255, 255, 255, 255, 255,
+];
+
+/// The numbers of two digits that sixteen digits make.
+#[inline(always)]
+fn twos(digits: u8x16) -> u16x8
+    requires digits { AllBelowBase 10 digits }
+    requires long { length digits ≡ 16 }
+    ensures { result ≡ joined 10 digits }
+{
+    (u16x8::from_le_bytes(digits) * u16x8::splat(2561)) >> u16x8::splat(8)
+}
+
+/// The numbers of four digits that eight of two make.
+#[inline(always)]
+fn fours(twos: u16x8) -> u32x4
+    requires digits { AllBelowBase 100 twos }
+    requires long { length twos ≡ 8 }
+    ensures { result ≡ joined 100 twos }
+{
+    (u32x4::from_le_bytes(twos.to_le_bytes()) * u32x4::splat(6553601)) >> u32x4::splat(16)
+}
+
+/// The number of eight digits that two of four make, which stand in one word.
+#[inline(always)]
+fn eight(pair: u64) -> u64
+    ensures { (a b : ℕ) → pair ≡ a + 2 ^ 32 * b → a < 10000 → b < 10000 → result ≡ 10000 * a + b }
+{
+    pair.wrapping_mul(42949672960001) >> 32
+}
+
+/// The numbers of eight digits that four of four make.
+#[inline(always)]
+fn eights(fours: u32x4) -> [u64; 2]
+    requires digits { AllBelowBase 10000 fours }
+    requires long { length fours ≡ 4 }
+    ensures { result ≡ joined 10000 fours }
+{
+    let pairs = u64x2::from_le_bytes(fours.to_le_bytes()).to_array();
+    [eight(pairs[0]), eight(pairs[1])]
+}
+
+/// The number that sixteen digits spell.
+#[inline(always)]
+pub fn sixteen(digits: u8x16) -> u64
+    requires digits { AllBelowBase 10 digits }
+    requires long { length digits ≡ 16 }
+    ensures { result ≡ number_from_digits 10 digits }
+{
+    let parts = eights(fours(twos(digits)));
+    parts[0] * 100_000_000 + parts[1]
+}
+
+/// A bit for each byte that is no digit.
+#[inline(always)]
+fn no_digits(bytes: u8x16) -> u64
+    ensures { result ≡ mask_l (map shows_none bytes) }
+{
+    (bytes - u8x16::splat(b'0'))
+        .simd_ge(u8x16::splat(10))
+        .to_bitmask()
+}
+
+/// The last lanes, so many of them, and 0 in place of the others.
+#[inline(always)]
+fn last_lanes(lanes: u8x16, count: usize) -> u8x16
+    requires { count ≤ 16 }
+    ensures { result ≡ replicate (16 - count) 0 ++ drop (16 - count) lanes }
+{
+    lanes & u8x16::from_slice(&KEEP[count..])
+}
+
+/// How many digits stand from a place on, at most 15; 0 where more do.
+#[inline(always)]
+fn digits_count(source: &[u8], from: usize) -> usize
+    requires { from + 16 ≤ length source.now }
+    ensures few { result ≤ 16 }
+    ensures digits { (k : ℕ) → from ≤ k → k < from + result
+        → (48 ≤ slice_index source.now k) × (slice_index source.now k ≤ 57) }
+{
+    let found = no_digits(u8x16::from_slice(&source[from..]));
+    if found == 0 {
+        return 0;
+    }
+    found.trailing_zeros() as usize
+}
+
+/// Where the digits from a place on end, and the number that they spell: none of them where they
+/// are more than 15.
+#[inline(always)]
+pub fn lanes_end(source: &[u8], from: usize) -> (usize, u64)
+    requires back { 16 ≤ from }
+    requires room { from + 18 < length source.now }
+    ensures after { from ≤ result.0 }
+    ensures few { result.0 ≤ from + 18 }
+    ensures words { words_from result.0 true (drop result.0 source.now)
+        ≡ words_from from true (drop from source.now) }
+    ensures front { before_space (drop from source.now)
+        ≡ take (result.0 - from) (drop from source.now) ++ before_space
+        (drop result.0 source.now) }
+    ensures digits { list_all is_digit (take (result.0 - from) (drop from source.now)) ≡ true }
+    ensures value { number_from 0 (take (result.0 - from) (drop from source.now)) ≡ result.1 }
+{
+    let count = digits_count(source, from);
+    let end = from + count;
+    let ending = u8x16::from_slice(&source[end - 16..]);
+    (end, sixteen(last_lanes(ending - u8x16::splat(b'0'), count)))
+}
