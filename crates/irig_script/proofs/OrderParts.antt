@@ -69,6 +69,7 @@ ranged word.Frames range args c h = (One (at Current), subst (λ (t : List ℕ).
 ranged word.Marks range args c h = (One (at Current), subst (λ (t : List ℕ). IsAddressOrCursor t (at Current)) (sym h.1) refl)
 ranged word.Info range args c h = (One (at Current), subst (λ (t : List ℕ). IsAddressOrCursor t (at Current)) (sym h.1) refl)
 ranged word.Write range args c h = (One (at Current), subst (λ (t : List ℕ). IsAddressOrCursor t (at Current)) (sym h.1) refl)
+ranged word.Save range args c h = (One (at Current), subst (λ (t : List ℕ). IsAddressOrCursor t (at Current)) (sym h.1) refl)
 ranged word.Quit range args c h = (One (at Current), subst (λ (t : List ℕ). IsAddressOrCursor t (at Current)) (sym h.1) refl)
 ranged word.Unknown range args c h = absurd h
 

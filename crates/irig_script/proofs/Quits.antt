@@ -42,6 +42,7 @@ only_quit word.Frames range args a = let e = a.0 in absurd (cc)
 only_quit word.Marks range args a = let e = a.0 in absurd (cc)
 only_quit word.Info range args a = let e = a.0 in absurd (cc)
 only_quit word.Write range args a = let e = a.0 in absurd (cc)
+only_quit word.Save range args a = let e = a.0 in absurd (cc)
 only_quit word.Quit range args a = refl
 only_quit word.Unknown range args a = absurd a
 

@@ -146,5 +146,6 @@ asks_one word.Frames range args c d h k = h.0 ∙ sym k.0
 asks_one word.Marks range args c d h k = h.0 ∙ sym k.0
 asks_one word.Info range args c d h k = h.0 ∙ sym k.0
 asks_one word.Write range args c d h k = h.0 ∙ sym k.0
+asks_one word.Save range args c d h k = h.0 ∙ sym k.0
 asks_one word.Quit range args c d h k = h.0 ∙ sym k.0
 asks_one word.Unknown range args c d h k = absurd h

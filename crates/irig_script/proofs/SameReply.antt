@@ -10,13 +10,14 @@ use Rattle.irig_edit.specs.Kept.{Kept}
 use Rattle.irig_edit.specs.Machine.{Steps}
 use Rattle.irig_edit.specs.Refusals.{refusal_of}
 use Rattle.irig_edit.specs.Runs.{OneOutcome}
-use Rattle.irig_edit.specs.Session.{grouped_in, session_view}
+use Rattle.irig_edit.specs.SavedSession.{saved_text}
+use Rattle.irig_edit.specs.Session.{grouped_in, machine_in, session_view}
 use Rattle.irig_edit.specs.State.{recording_of}
 use Rattle.irig_edit.specs.declared.refusal.Refusal.{Refusal}
 use Rattle.irig_edit.specs.declared.refusal.Refusal.TheVariants as refusal
 use Rattle.irig_script.specs.Obey.Machine.{Machine}
 use Rattle.irig_script.specs.Obey.Obeying.{Obeys}
-use Rattle.irig_script.specs.Obey.Replies.{Calls, Formats, Lists, Shows, Writes, format, reply_to}
+use Rattle.irig_script.specs.Obey.Replies.{Calls, Formats, Lists, Saves, Shows, Writes, format, reply_to}
 use Rattle.irig_script.specs.Obey.OneRun.{tells_failed_put, wants_memory}
 use Rattle.irig_script.specs.Obey.PulseNumbers.{base_of, counted, first_of, join_last_of, last_of, number_at, pulse_at, time_of}
 use Rattle.irig_script.specs.declared.script.address.Address.{Address}
@@ -208,6 +209,28 @@ module _ (outcome : OneOutcome) where
   writes_one o p e r s h k w f =
       writes o r h ∙ ap₂ (written o) w f ∙ written_same (wants_memory s) (tells_failed_put s) o p e ∙ sym (writes p s k)
 
+  -- the same of a put with the journal
+  abbrev saved : Machine → Bool → Bool → Reply
+  saved m true f = told.Refused refusal.OutOfMemory
+  saved m false true = told.WriteFailed
+  saved m false false = told.Saved (length (saved_text (machine_in m)))
+
+  saves : (m : Machine) (r : Reply) → Saves m r → r ≡ saved m (wants_memory r) (tells_failed_put r)
+  saves m (told.Saved count) h = ap told.Saved h
+  saves m (told.Refused why) h = ap told.Refused h ∙ sym (ap (λ w. saved m (wants_memory (told.Refused w)) false) h)
+  saves m told.WriteFailed h = refl
+  saves m _ h = absurd h
+
+  saved_same : (v f : Bool) (o p : Machine) → grouped_in o ≡ grouped_in p → saved o v f ≡ saved p v f
+  saved_same true f o p e = refl
+  saved_same false true o p e = refl
+  saved_same false false o p e = ap (λ k. saved (bare k) false false) e
+
+  saves_one : (o p : Machine) → grouped_in o ≡ grouped_in p → (r s : Reply) → Saves o r → Saves p s
+      → wants_memory r ≡ wants_memory s → tells_failed_put r ≡ tells_failed_put s → r ≡ s
+  saves_one o p e r s h k w f =
+      saves o r h ∙ ap₂ (saved o) w f ∙ saved_same (wants_memory s) (tells_failed_put s) o p e ∙ sym (saves p s k)
+
   stays : (o p a b : Machine) → grouped_in o ≡ grouped_in p → a ≡ o → b ≡ p → grouped_in a ≡ grouped_in b
   stays o p a b e h k = ap grouped_in h ∙ e ∙ sym (ap grouped_in k)
 
@@ -252,4 +275,5 @@ module _ (outcome : OneOutcome) where
   obeys_one command.Marks o p e r s a b h k w f = (h.0 ∙ sym k.0, stays o p a b e h.1 k.1)
   obeys_one command.Info o p e r s a b h k w f = (h.0 ∙ sym k.0, stays o p a b e h.1 k.1)
   obeys_one command.Write o p e r s a b h k w f = (writes_one o p e r s h.0 k.0 w f, stays o p a b e h.1 k.1)
+  obeys_one command.Save o p e r s a b h k w f = (saves_one o p e r s h.0 k.0 w f, stays o p a b e h.1 k.1)
   obeys_one command.Quit o p e r s a b h k w f = absurd h

@@ -4,6 +4,7 @@ use Rattle.std.specs.Prelude.{IsSome}
 use Rattle.std.specs.Io.KnownBytes.{Appends}
 use Rattle.irig_vcd.specs.FileText.{file_text}
 use Rattle.irig_edit.specs.Runs.{OneOutcome}
+use Rattle.irig_edit.specs.SavedSession.{saved_text}
 use Rattle.irig_edit.specs.Session.{grouped_in}
 use Rattle.irig_edit.specs.State.{recording_of}
 use Rattle.irig_script.specs.Obey.Answer.{Answered, IsBad, IsObeyedAs, IsTooLong, Step, texts_put}
@@ -32,6 +33,7 @@ text_same _ a b e = refl
 
 put_same : (r : Reply) (a b : Machine) → grouped_in a ≡ grouped_in b → texts_put a r ≡ texts_put b r
 put_same (told.Written count) a b e = ap (λ k. file_text (recording_of k.machine.present.state) ∷ []) e
+put_same (told.Saved count) a b e = ap (λ k. saved_text k.machine ∷ []) e
 put_same _ a b e = refl
 
 stays : (o p a b : Machine) → grouped_in o ≡ grouped_in p → a ≡ o → b ≡ p → grouped_in a ≡ grouped_in b

@@ -10,6 +10,7 @@ use Rattle.irig_script.proofs.Desks.{puts_none}
 -- a quiet reply puts nothing
 pub quiet_puts : (shelf : Shelved) (m : Machine) (r : Reply) → IsQuiet r → Puts shelf shelf (texts_put m r) (failures_of r)
 quiet_puts shelf m (told.Written n) q = absurd q
+quiet_puts shelf m (told.Saved n) q = absurd q
 quiet_puts shelf m told.WriteFailed q = absurd q
 quiet_puts shelf m told.Silent q = puts_none shelf
 quiet_puts shelf m (told.Listed b n) q = puts_none shelf

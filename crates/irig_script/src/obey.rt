@@ -5,4 +5,6 @@ pub mod editing;
 pub mod engine;
 pub mod obeying;
 pub mod pulse_numbers;
+pub mod saving;
 pub mod status;
+pub mod writing;

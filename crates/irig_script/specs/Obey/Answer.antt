@@ -1,6 +1,8 @@
 -- What the session answers to a line of a script. This project's own.
 use Rattle.std.specs.Prelude.{◌≡◌, ◌<◌, ◌≤◌, ◌⊎◌, ℕ, List, [], ◌∷◌, length}
 use Rattle.irig_vcd.specs.FileText.{file_text}
+use Rattle.irig_edit.specs.SavedSession.{saved_text}
+use Rattle.irig_edit.specs.Session.{machine_in}
 use Rattle.irig_edit.specs.State.{recording_of}
 use Rattle.irig_script.specs.Obey.Machine.{Machine}
 use Rattle.irig_script.specs.Script.Grammar.{Means}
@@ -8,7 +10,7 @@ use Rattle.irig_script.specs.Obey.Obeying.{Obeys}
 use Rattle.irig_script.specs.Print.Printed.{Answer, reply_text}
 use Rattle.irig_script.specs.declared.script.command.Command.{Command}
 use Rattle.irig_script.specs.declared.print.reply.Reply.{Reply}
-use Rattle.irig_script.specs.declared.print.reply.Reply.TheVariants.{Written, BadLine, LineTooLong}
+use Rattle.irig_script.specs.declared.print.reply.Reply.TheVariants.{Written, Saved, BadLine, LineTooLong}
 
 -- the line is too long, which is told before anything else of it
 abbrev pub IsTooLong : Machine → List ℕ → Reply → Machine → Type 0
@@ -39,4 +41,5 @@ Answered old line answer new =
 -- the texts that a line puts
 abbrev pub texts_put : Machine → Reply → List (List ℕ)
 texts_put m (Written count) = file_text (recording_of m.present.state) ∷ []
+texts_put m (Saved count) = saved_text (machine_in m) ∷ []
 texts_put m _ = []

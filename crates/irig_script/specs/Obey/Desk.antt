@@ -7,7 +7,7 @@ use Rattle.irig_script.specs.Obey.Answer.{texts_put}
 use Rattle.irig_script.specs.Print.Printed.{Answer}
 use Rattle.irig_script.specs.Shelf.Shelved.{Shelved, Puts}
 use Rattle.irig_script.specs.declared.print.reply.Reply.{Reply}
-use Rattle.irig_script.specs.declared.print.reply.Reply.TheVariants.{Written, Refused, BadLine, LineTooLong, WriteFailed}
+use Rattle.irig_script.specs.declared.print.reply.Reply.TheVariants.{Written, Saved, Refused, BadLine, LineTooLong, WriteFailed}
 use Rattle.irig_script.specs.declared.obey.status.Status.{Status}
 use Rattle.irig_script.specs.declared.obey.status.Status.TheVariants.{SomeRefused}
 
@@ -19,6 +19,7 @@ failures_of _ = 0
 -- a reply that tells of no put, and of no failure of the shelf
 abbrev pub IsQuiet : Reply → Type 0
 IsQuiet (Written count) = ⊥
+IsQuiet (Saved count) = ⊥
 IsQuiet WriteFailed = ⊥
 IsQuiet _ = Unit {0}
 

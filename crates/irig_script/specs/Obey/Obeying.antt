@@ -5,7 +5,7 @@ use Rattle.irig_codes.specs.Format.{is_permitted}
 use Rattle.irig_edit.specs.Calls.{Call, Edit}
 use Rattle.irig_script.specs.Obey.Machine.{Machine}
 use Rattle.irig_script.specs.Obey.PulseNumbers.{number_at, first_of, last_of, join_last_of, time_of}
-use Rattle.irig_script.specs.Obey.Replies.{Calls, Formats, Lists, Makes, Shows, Writes, format}
+use Rattle.irig_script.specs.Obey.Replies.{Calls, Formats, Lists, Makes, Saves, Shows, Writes, format}
 use Rattle.irig_script.specs.declared.script.command.Command.{Command}
 use Rattle.irig_script.specs.declared.script.command.Command.TheVariants as command
 use Rattle.irig_script.specs.declared.print.reply.Reply.{Reply}
@@ -47,4 +47,5 @@ Obeys command.Frames old reply new = (reply ≡ told.Frames) × (new ≡ old)
 Obeys command.Marks old reply new = (reply ≡ told.Marks) × (new ≡ old)
 Obeys command.Info old reply new = (reply ≡ told.Info) × (new ≡ old)
 Obeys command.Write old reply new = Writes old reply × (new ≡ old)
+Obeys command.Save old reply new = Saves old reply × (new ≡ old)
 Obeys command.Quit old reply new = ⊥

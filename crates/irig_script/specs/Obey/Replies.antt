@@ -7,12 +7,13 @@ use Rattle.irig_codes.specs.declared.format.Kind.{Kind}
 use Rattle.irig_edit.specs.State.{recording_of}
 use Rattle.irig_edit.specs.Calls.{Call, Edit}
 use Rattle.irig_edit.specs.Conditions.{are_pulses}
-use Rattle.irig_edit.specs.Session.{Steps}
+use Rattle.irig_edit.specs.SavedSession.{saved_text}
+use Rattle.irig_edit.specs.Session.{Steps, machine_in}
 use Rattle.irig_edit.specs.declared.refusal.Refusal.{Refusal}
 use Rattle.irig_edit.specs.declared.refusal.Refusal.TheVariants as refusal
 use Rattle.irig_script.specs.Obey.Machine.{Machine}
 use Rattle.irig_script.specs.declared.print.reply.Reply.{Reply}
-use Rattle.irig_script.specs.declared.print.reply.Reply.TheVariants.{Silent, Written, Listed, Refused, WriteFailed}
+use Rattle.irig_script.specs.declared.print.reply.Reply.TheVariants.{Silent, Written, Saved, Listed, Refused, WriteFailed}
 
 -- a call of the session was accepted in silence, or refused
 abbrev pub Calls : Call → Machine → Reply → Machine → Type 0
@@ -30,6 +31,13 @@ Writes m (Written count) = count ≡ length (file_text (recording_of m.present.s
 Writes m (Refused why) = why ≡ refusal.OutOfMemory
 Writes m WriteFailed = Unit {0}
 Writes m _ = ⊥
+
+-- the same of the text with the journal
+abbrev pub Saves : Machine → Reply → Type 0
+Saves m (Saved count) = count ≡ length (saved_text (machine_in m))
+Saves m (Refused why) = why ≡ refusal.OutOfMemory
+Saves m WriteFailed = Unit {0}
+Saves m _ = ⊥
 
 -- the reply to an edit
 abbrev pub reply_to : Result (Unit {0}) Refusal → Reply

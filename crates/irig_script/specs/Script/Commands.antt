@@ -52,5 +52,6 @@ Asks word.Frames range args asked = (asked ≡ command.Frames) × (range ≡ [])
 Asks word.Marks range args asked = (asked ≡ command.Marks) × (range ≡ []) × (args ≡ [])
 Asks word.Info range args asked = (asked ≡ command.Info) × (range ≡ []) × (args ≡ [])
 Asks word.Write range args asked = (asked ≡ command.Write) × (range ≡ []) × (args ≡ [])
+Asks word.Save range args asked = (asked ≡ command.Save) × (range ≡ []) × (args ≡ [])
 Asks word.Quit range args asked = (asked ≡ command.Quit) × (range ≡ []) × (args ≡ [])
 Asks word.Unknown range args asked = ⊥

@@ -14,7 +14,7 @@ keywords =
     ∷ (codes "unmark", word.Unmark) ∷ (codes "undo", word.Undo) ∷ (codes "redo", word.Redo)
     ∷ (codes "begin", word.Begin) ∷ (codes "end", word.End) ∷ (codes "abort", word.Abort)
     ∷ (codes "frames", word.Frames) ∷ (codes "marks", word.Marks) ∷ (codes "info", word.Info)
-    ∷ (codes "write", word.Write) ∷ (codes "quit", word.Quit) ∷ []
+    ∷ (codes "write", word.Write) ∷ (codes "save", word.Save) ∷ (codes "quit", word.Quit) ∷ []
 
 -- the word that a text is
 abbrev pub keyword_of : List ℕ → Keyword

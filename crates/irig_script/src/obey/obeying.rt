@@ -2,10 +2,7 @@
 
 ghost use Rattle.std.specs.Prelude.{◌≢◌};
 ghost use Rattle.irig_script.specs.Obey.Obeying.{Obeys};
-ghost use Rattle.irig_script.specs.Obey.Replies.{Writes};
-ghost use Rattle.irig_script.specs.Shelf.Shelved.{Puts};
-ghost use Rattle.irig_script.specs.Obey.Answer.{texts_put};
-ghost use Rattle.irig_script.specs.Obey.Desk.{IsQuiet, PutsFor, failures_of};
+ghost use Rattle.irig_script.specs.Obey.Desk.{IsQuiet, PutsFor};
 ghost use Rattle.irig_script.specs.Obey.Progress.{Answers};
 ghost use Rattle.irig_script.specs.declared.script.command.Command.{Command};
 
@@ -13,12 +10,14 @@ use crate::obey::calls::{
     abort, begin, delete, end, force, insert, invert, join, list, mark, redo, regen, set_format,
     shift, show, split, undo, unmark,
 };
+use crate::obey::saving::save;
+use crate::obey::writing::write;
 use crate::print::reply::Reply;
 use crate::script::command::{BadLine, Command};
 use crate::script::line::Line;
 use crate::script::parsing::parse_line;
 use crate::shelf::shelf::Shelf;
-use irig_edit::{Refusal, Session};
+use irig_edit::Session;
 
 /// Obeys a line; `None` where it ends the script.
 pub fn obey_line<S: Shelf>(line: &Line, session: &mut Session, shelf: &mut S) -> Option<Reply>
@@ -31,6 +30,7 @@ pub fn obey_line<S: Shelf>(line: &Line, session: &mut Session, shelf: &mut S) ->
     match parse_line(text) {
         Ok(Command::Quit) => None,
         Ok(Command::Write) => Some(write(session, shelf)),
+        Ok(Command::Save) => Some(save(session, shelf)),
         Ok(command) => Some(obey(command, session)),
         Err(BadLine) => Some(Reply::BadLine),
     }
@@ -39,12 +39,13 @@ pub fn obey_line<S: Shelf>(line: &Line, session: &mut Session, shelf: &mut S) ->
 /// Obeys a command that neither puts a text nor ends the script.
 fn obey(command: Command, session: &mut Session) -> Reply
     requires goes_on { command ≢ Command.Quit }
-    requires puts_none { command ≢ Command.Write }
+    requires writes_none { command ≢ Command.Write }
+    requires saves_none { command ≢ Command.Save }
     ensures answer { Obeys command session.old result session.new }
     ensures quiet { IsQuiet result }
 {
     match command {
-        Command::Nothing | Command::Write | Command::Quit => Reply::Silent,
+        Command::Nothing | Command::Write | Command::Save | Command::Quit => Reply::Silent,
         Command::Show(address) => show(session, address),
         Command::List(range) => list(session, range),
         Command::Delete(range) => delete(session, range),
@@ -68,20 +69,5 @@ fn obey(command: Command, session: &mut Session) -> Reply
         Command::Frames => Reply::Frames,
         Command::Marks => Reply::Marks,
         Command::Info => Reply::Info,
-    }
-}
-
-/// Puts the text of the track.
-fn write<S: Shelf>(session: &Session, shelf: &mut S) -> Reply
-    ensures answer { Writes session.now result }
-    ensures put { Puts (S.known shelf.old) (S.known shelf.new)
-        (texts_put session.now result) (failures_of result) }
-{
-    let Ok(text) = session.text() else {
-        return Reply::Refused(Refusal::OutOfMemory);
-    };
-    match shelf.put(text.as_slice()) {
-        Ok(()) => Reply::Written(text.len() as u64),
-        Err(_) => Reply::WriteFailed,
     }
 }

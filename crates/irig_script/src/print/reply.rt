@@ -21,6 +21,8 @@ pub enum Reply {
     Silent,
     /// A text of this many bytes was put.
     Written(u64),
+    /// A text with the journal, of this many bytes, was put.
+    Saved(u64),
     /// So many pulses are listed, behind so many others.
     Listed(usize, usize),
     /// The frames of the track are listed.
@@ -61,7 +63,7 @@ pub fn print<W: Write>(reply: Reply, session: &Session, out: &mut W) -> Result<(
 {
     match reply {
         Reply::Silent => Ok(()),
-        Reply::Written(count) => put_number(out, count),
+        Reply::Written(count) | Reply::Saved(count) => put_number(out, count),
         Reply::Listed(before, count) => print_pulses(session, before, count, out),
         Reply::Frames => print_frames(session, out),
         Reply::Marks => print_marks(session, out),

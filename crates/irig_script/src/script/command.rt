@@ -57,6 +57,8 @@ pub enum Command {
     Info,
     /// Put the track's dump on the shelf.
     Write,
+    /// Put the dump and the journal on the shelf.
+    Save,
     /// End the script.
     Quit,
 }

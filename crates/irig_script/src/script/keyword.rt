@@ -31,13 +31,14 @@ pub enum Keyword {
     Marks,
     Info,
     Write,
+    Save,
     Quit,
     /// It is none of the language.
     Unknown,
 }
 
 /// The words of the language, each with what it stands for; nothing is the word that is missing.
-static WORDS: [(&[u8], Keyword); 23] = [
+static WORDS: [(&[u8], Keyword); 24] = [
     (b"", Keyword::Missing),
     (b"list", Keyword::List),
     (b"delete", Keyword::Delete),
@@ -60,6 +61,7 @@ static WORDS: [(&[u8], Keyword); 23] = [
     (b"marks", Keyword::Marks),
     (b"info", Keyword::Info),
     (b"write", Keyword::Write),
+    (b"save", Keyword::Save),
     (b"quit", Keyword::Quit),
 ];
 

@@ -103,6 +103,7 @@ fn asked(front: &[u8], word: Keyword, arguments: &[u8]) -> Result<Command, BadLi
         Keyword::Marks => alone(front, arguments, Command::Marks),
         Keyword::Info => alone(front, arguments, Command::Info),
         Keyword::Write => alone(front, arguments, Command::Write),
+        Keyword::Save => alone(front, arguments, Command::Save),
         Keyword::Quit => alone(front, arguments, Command::Quit),
         Keyword::Unknown => Err(BadLine),
     }

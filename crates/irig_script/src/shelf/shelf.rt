@@ -7,7 +7,7 @@ ghost use Rattle.irig_script.specs.Shelf.Shelved.{Shelved, Puts};
 #[derive(Clone, Copy)]
 pub struct ShelfFault;
 
-/// Where `write` puts the text of the track.
+/// Where `write` and `save` put the text of the track.
 pub trait Shelf {
     /// What is known of it: the texts put, where it tells them, how many puts have failed, up to
     /// 2^64 - 1, and its label.

@@ -28,6 +28,14 @@ returns-in-Ok-Write-clause-answer g c = λ text h.
     let more : command.Write ≢ command.Quit = search rules in
     (other_goes_on command.Write text told more, inr (inr (whole.1, (command.Write, told, (c.write.ensures.answer, refl)))))
 
+pub returns-in-Ok-Save-clause-answer : goal.returns-in-Ok-Save-clause-answer
+returns-in-Ok-Save-clause-answer g c = λ text h.
+    let meant : Means command.Save c.in-Some.text.now = search rules in
+    let whole = c.in-Some.ensures.whole text h in
+    let told : Means command.Save text = subst (λ (l : List ℕ). Means command.Save l) whole.0 meant in
+    let more : command.Save ≢ command.Quit = search rules in
+    (other_goes_on command.Save text told more, inr (inr (whole.1, (command.Save, told, (c.save.ensures.answer, refl)))))
+
 pub returns-in-Ok : goal.returns-in-Ok
 returns-in-Ok g c =
     let more : c.in-Ok.command ≢ command.Quit = search rules in

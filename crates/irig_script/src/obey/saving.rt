@@ -1,0 +1,25 @@
+//! The line `save`.
+
+ghost use Rattle.irig_script.specs.Obey.Answer.{texts_put};
+ghost use Rattle.irig_script.specs.Obey.Desk.{failures_of};
+ghost use Rattle.irig_script.specs.Obey.Replies.{Saves};
+ghost use Rattle.irig_script.specs.Shelf.Shelved.{Puts};
+
+use crate::print::reply::Reply;
+use crate::shelf::shelf::Shelf;
+use irig_edit::{Refusal, Session};
+
+/// Puts the text of the track with its journal.
+pub fn save<S: Shelf>(session: &Session, shelf: &mut S) -> Reply
+    ensures answer { Saves session.now result }
+    ensures put { Puts (S.known shelf.old) (S.known shelf.new)
+        (texts_put session.now result) (failures_of result) }
+{
+    let Ok(text) = session.saved() else {
+        return Reply::Refused(Refusal::OutOfMemory);
+    };
+    match shelf.put(text.as_slice()) {
+        Ok(()) => Reply::Saved(text.len() as u64),
+        Err(_) => Reply::WriteFailed,
+    }
+}
