@@ -11,7 +11,7 @@ import sys
 
 sys.dont_write_bytecode = True
 
-from reference import dump, language, listing, machine, timecode  # noqa: E402
+from reference import dump, journal, language, listing, machine, timecode  # noqa: E402
 
 LONGEST_LINE = 1000  # bytes, the newline not counted
 EDITS = {
@@ -24,9 +24,9 @@ EDITS = {
 class Run:
     """A script obeyed line by line. Each word that is no edit has a method, which answers the lines that it prints."""
 
-    def __init__(self, length, edges, kind, expression, put):
+    def __init__(self, opened, put):
         """`put` takes a text and answers whether it was put."""
-        self.machine = machine.Machine(length, edges, kind, expression)
+        self.machine = opened
         self.put = put
         self.is_over = False
         self.some_refused = False
@@ -94,7 +94,12 @@ class Run:
         return []
 
     def write(self):
-        text = dump.text(self.machine.present.length, self.machine.present.edges)
+        return self.put_whole(dump.text(self.machine.present.length, self.machine.present.edges))
+
+    def save(self):
+        return self.put_whole(journal.text(self.machine))
+
+    def put_whole(self, text):
         machine.need(self.put(text), "S3")
         return [str(len(text))]
 
@@ -113,14 +118,20 @@ def settings(words):
     return parser.parse_args(words)
 
 
-def opened(chosen):
-    """The length and the edges of the track, or what is said of it instead."""
+def opened(chosen, source):
+    """The machine that a dump tells; or a Fault."""
+    wire = None if chosen.wire is None else os.fsencode(chosen.wire)
+    return journal.opened(source, wire, chosen.format, int(chosen.expression))
+
+
+def machine_of(chosen):
+    """The machine that the track tells, or what is said of it instead."""
     try:
         with open(chosen.track, "rb") as track:
             source = track.read(dump.MOST_BYTES + 1)
         if len(source) > dump.MOST_BYTES:
             return None, "too long"
-        return dump.read(source, None if chosen.wire is None else os.fsencode(chosen.wire)), None
+        return opened(chosen, source), None
     except OSError:
         return None, "cannot be read"
     except dump.Fault as fault:
@@ -140,15 +151,14 @@ def put_at(path):
 
 def main(words):
     chosen = settings(words)
-    kind, expression = chosen.format, int(chosen.expression)
-    if expression not in timecode.EXPRESSIONS[kind]:
+    if int(chosen.expression) not in timecode.EXPRESSIONS[chosen.format]:
         print("irig_ed: E6 BadExpression", file=sys.stderr)
         return 2
-    track, said = opened(chosen)
+    found, said = machine_of(chosen)
     if said:
         print("irig_ed: %s: %s" % (chosen.track, said), file=sys.stderr)
         return 3
-    run = Run(*track, kind, expression, put_at(chosen.out or chosen.track))
+    run = Run(found, put_at(chosen.out or chosen.track))
     for line in sys.stdin.buffer:
         sys.stdout.buffer.write(run.line(line.removesuffix(b"\n")))
         sys.stdout.buffer.flush()

@@ -7,9 +7,9 @@ from reference.machine import MOST_FRAMES
 WEIGHTS = {
     "go": 6, "list": 6, "delete": 3, "shift": 9, "join": 5, "split": 6, "force": 6, "insert": 8, "invert": 8,
     "regen": 10, "format": 4, "mark": 7, "unmark": 2, "undo": 9, "redo": 7, "frames": 6, "marks": 3, "info": 7,
-    "begin": 7, "end": 5, "abort": 4, "write": 2, "quit": 0.3,
+    "begin": 7, "end": 5, "abort": 4, "write": 2, "save": 2, "quit": 0.3,
 }
-BARE = ("undo", "redo", "frames", "marks", "info", "begin", "end", "abort", "write", "quit")
+BARE = ("undo", "redo", "frames", "marks", "info", "begin", "end", "abort", "write", "save", "quit")
 
 
 class Lines(Places):

@@ -11,6 +11,7 @@ MOST_BYTES = 2**28
 FAULTS = {
     1: "Unclosed", 2: "NoTimescale", 3: "BadTimescale", 4: "BadVar", 5: "NoSuchWire", 6: "ManyWires",
     7: "NotOneBit", 8: "NoEndDefinitions", 9: "BadToken", 10: "Backward", 11: "TimeTooLarge", 12: "TooManyPulses",
+    13: "BadJournal",
 }
 FEMTOSECONDS = {b"s": 10**15, b"ms": 10**12, b"us": 10**9, b"ns": 10**6, b"ps": 10**3, b"fs": 1}
 DUMP_WORDS = (b"$dumpvars", b"$dumpall", b"$dumpon", b"$dumpoff", b"$end")
@@ -20,20 +21,35 @@ WIDE_KINDS = (b"real", b"realtime", b"event", b"parameter", b"string")
 class Fault(Exception):
     """Why a dump is not read."""
 
-    def __init__(self, number, offset=None):
+    def __init__(self, number, offset=None, line=None):
         at = "" if offset is None else " at %d" % offset
         super().__init__("V%d %s%s" % (number, FAULTS[number], at))
+        self.line = line  # of the journal, from 1: it is not told
 
 
-def read(source, wire=None):
-    """The length and the edges, a frozenset, of the wire with this name in a dump; or a Fault."""
+def read_parts(source, wire=None):
+    """The length and the edges, a frozenset, of the wire with this name in a dump, and its journal; or a Fault."""
     tokens = [(token.start(), token.group()) for token in re.finditer(rb"[^\t-\r ]+", source)]
     unit, code, start = declarations(tokens, wire)
     levels, length = changes(tokens, start, unit, code)
     edges = edges_of(levels, length)
     if len(edges) > MOST_EDGES:
         raise Fault(12)
-    return length, frozenset(edges)
+    journals = journals_in(source, tokens, start)
+    if len(journals) > 1:
+        raise Fault(13, line=1)
+    return length, frozenset(edges), journals[0] if journals else None
+
+
+def journals_in(source, tokens, at):
+    """The comments behind the declarations that are journals: from the first word up to the `$end`."""
+    found = []
+    while at < len(tokens):
+        behind = section(tokens, at)[1] if tokens[at][1] == b"$comment" else None
+        if behind and tokens[at + 1][1] == b"irig-journal-1":
+            found.append(source[tokens[at + 1][0]:tokens[behind - 1][0]])
+        at = behind or at + (2 if tokens[at][1][:1] in b"bBrRsS" else 1)
+    return found
 
 
 def declarations(tokens, wire):

@@ -33,7 +33,7 @@ WORDS = {
     b"insert": (0, [TIME, TIME]), b"invert": (0, [TIME, TIME]), b"regen": (0, [TIME, COUNT, MOMENT, CONTROL]),
     b"format": (0, [KIND, EXPRESSION]), b"mark": (0, [LETTER, TIME]), b"unmark": (0, [LETTER]),
     b"undo": (0, []), b"redo": (0, []), b"frames": (0, []), b"marks": (0, []), b"info": (0, []),
-    b"begin": (0, []), b"end": (0, []), b"abort": (0, []), b"write": (0, []), b"quit": (0, []),
+    b"begin": (0, []), b"end": (0, []), b"abort": (0, []), b"write": (0, []), b"save": (0, []), b"quit": (0, []),
 }
 
 

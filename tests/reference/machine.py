@@ -5,7 +5,7 @@ the lower number first. What is said of a pulse holds only where there is one, s
 """
 from typing import NamedTuple
 
-from reference import dump, timecode
+from reference import changes, dump, timecode
 
 MOST_FRAMES = 10000
 NAMES = {
@@ -169,28 +169,34 @@ def unmark(state, letter):
 class Machine:
     """All former states, the present one, the states that undos took back, the next to be redone last, and the floor.
 
-    The floor is None where no group is open; else the number of former states at its `begin`, and the state then.
+    The floor is None where no group is open; else the number of former states at its `begin`, and the state then. `made`
+    has for each former state what the step behind it did, and `unmade` for each later state what the step to it did:
+    a journal is saved from that, and nothing else here looks at it.
     """
 
     def __init__(self, length, edges, kind, expression):
         self.past, self.future, self.floor = [], [], None
+        self.made, self.unmade = [], []
         self.present = State(length, edges, kind, expression, {}, len(edges) // 2)
 
     def edit(self, change, *arguments):
         after = change(self.present, *arguments)
         self.past.append(self.present)
-        self.present, self.future = after, []
+        self.made.append(changes.made_by(change.__name__, self.present, arguments, after))
+        self.present, self.future, self.unmade = after, [], []
 
     def undo(self):
         need(self.past, "E9")
         need(self.floor is None or len(self.past) > self.floor[0], "E14")
         self.future.append(self.present)
         self.present = self.past.pop()
+        self.unmade.append(self.made.pop())
 
     def redo(self):
         need(self.future, "E10")
         self.past.append(self.present)
         self.present = self.future.pop()
+        self.made.append(self.unmade.pop())
 
     def begin(self):
         need(self.floor is None, "E12")
@@ -199,13 +205,17 @@ class Machine:
     def end(self):
         """Of the states since the `begin` the oldest alone stays: one undo leads back to it."""
         need(self.floor is not None, "E13")
-        self.past, self.floor = self.past[:self.floor[0] + 1], None
+        height = self.floor[0]
+        self.past, self.floor = self.past[:height + 1], None
+        if len(self.made) > height + 1:
+            self.made[height:] = [changes.together(self.made[height:])]
 
     def abort(self):
         """Past and present are those of the `begin`."""
         need(self.floor is not None, "E13")
         height, self.present = self.floor
         self.past, self.future, self.floor = self.past[:height], [], None
+        self.made, self.unmade = self.made[:height], []
 
     def go(self, i):
         need(self.present.has_pulses(i, i), "E2")

@@ -41,7 +41,7 @@ ROWS = [
     Row(
         "words and arguments too many or too few", G, TWO_PULSES,
         "lst; List; undo 1; 1 undo; insert 1; insert 1 2 3; 1 frames; mark A 1; mark a; format H 1; "
-        "format G 8; format G 02; 1 force Zero; shift; shift 1.5; shift --1; write x; quit now; begin 1; 1 end; save",
+        "format G 8; format G 02; 1 force Zero; shift; shift 1.5; shift --1; write x; quit now; begin 1; 1 end; saved",
         "; ".join(["? S1 BadLine"] * 21),
     ),
     Row(
