@@ -1,7 +1,8 @@
 -- The lines of a change and of steps, whose first line has a number.
 use Rattle.std.proofs.Common.{◌≡◌, ◌++◌, ◌∷◌, [], ℕ, List, length, get_or, decimal, codes, refl, sym, ap, subst, ◌∙◌, append_assoc, lit<, inl, inr, ◌⊎◌}
 use Rattle.irig_saved.specs.Lines.{line, numbered, text_of}
-use Rattle.irig_saved.specs.SavedText.{head_of, words_of, single_line, put_of, pulse_lines, single_lines, singles_lines, change_lines, step_lines, steps_lines, counted_lines}
+use Rattle.irig_saved.specs.ChangeWords.{head_of, words_of, single_line}
+use Rattle.irig_saved.specs.SavedText.{put_of, pulse_lines, single_lines, singles_lines, change_lines, step_lines, steps_lines, counted_lines}
 use Rattle.irig_saved.specs.Ranges.{IsNumber, IsSingle, IsChange, IsStep, AreSingles, ManySteps, AreSteps}
 use Rattle.irig_saved.specs.Reading.{Reads, Stops, Lacks}
 use Rattle.irig_saved.specs.declared.single.Single.{Single}
@@ -10,7 +11,8 @@ use Rattle.irig_saved.specs.declared.change.Change.TheVariants.{One, Group}
 use Rattle.irig_saved.specs.declared.step.Step.{Step}
 use Rattle.irig_saved.proofs.Cuts.{IsWord}
 use Rattle.irig_saved.proofs.Decimals.{number_is_word, same_number}
-use Rattle.irig_saved.proofs.Unique.{lined, head_is_word, words_are_words, no_group, same_step}
+use Rattle.irig_saved.proofs.SameWords.{head_is_word, words_are_words}
+use Rattle.irig_saved.proofs.Unique.{lined, no_group, same_step}
 use Rattle.irig_saved.proofs.Clean.{counted_lacks, first_lacks, step_clean}
 use Rattle.irig_saved.proofs.Carried.{Differs, carried, first_line_stops, other_line, lineless}
 use Rattle.irig_saved.proofs.Repeats.{Family}

@@ -4,7 +4,8 @@ use Rattle.std.specs.List.{AllByRecursion, list_all}
 use Rattle.std.proofs.lemmas.Bool.{and_from, and_parts, not_from_false, ne_eqb, ltb-true, lt-ltb}
 use Rattle.std.proofs.lemmas.List.Folds.{list_all-append}
 use Rattle.irig_saved.specs.Lines.{behind, line, numbered}
-use Rattle.irig_saved.specs.SavedText.{head_of, words_of, single_line, put_of, pulse_line, pulse_lines, single_lines, singles_lines, change_lines, step_lines, steps_lines, mark_lines, counted_lines, saved_lines}
+use Rattle.irig_saved.specs.ChangeWords.{head_of, words_of, single_line}
+use Rattle.irig_saved.specs.SavedText.{put_of, pulse_line, pulse_lines, single_lines, singles_lines, change_lines, step_lines, steps_lines, mark_lines, counted_lines, saved_lines}
 use Rattle.irig_codes.specs.Words.{kind_word}
 use Rattle.irig_saved.specs.Ranges.{IsNumber, IsTime, IsPulse, IsSingle, IsChange, IsStep, AreSteps, IsSaved}
 use Rattle.irig_saved.specs.Reading.{Lacks}
@@ -18,7 +19,7 @@ use Rattle.irig_saved.specs.declared.step.Step.{Step}
 use Rattle.irig_saved.specs.declared.saved.Saved.{Saved}
 use Rattle.irig_saved.proofs.Cuts.{IsWord, AreWords}
 use Rattle.irig_saved.proofs.Decimals.{number_is_word}
-use Rattle.irig_saved.proofs.Unique.{kind_is_word, head_is_word, words_are_words}
+use Rattle.irig_saved.proofs.SameWords.{kind_is_word, head_is_word, words_are_words}
 
 -- no newline stands within a line
 abbrev pub AreLines : List (List ℕ) → Type 0

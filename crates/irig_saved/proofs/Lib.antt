@@ -2,6 +2,7 @@ pub mod Texts
 pub mod StandardFacts
 pub mod Cuts
 pub mod Decimals
+pub mod SameWords
 pub mod Unique
 pub mod Bytes
 pub mod Parsed

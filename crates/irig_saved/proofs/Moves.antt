@@ -3,8 +3,8 @@ use Rattle.std.proofs.Common.{◌≡◌, ◌<◌, ◌≤◌, ◌+◌, ◌++◌, 
 use Rattle.std.specs.List.{list_all}
 use Rattle.std.proofs.lemmas.Bool.{and_parts, true≢false}
 use Rattle.std.proofs.lemmas.List.{drop_more}
-use Rattle.irig_saved.specs.SavedText.{letters_from}
-use Rattle.irig_saved.proofs.Unique.{later_letters}
+use Rattle.irig_saved.specs.ChangeWords.{letters_from}
+use Rattle.irig_saved.proofs.SameWords.{later_letters}
 
 -- where the first letter is not the one that comes, its mark does not move
 skip : (x : ℕ) (m : Bool) (ms : List Bool) (rest : List ℕ) → rest ≡ letters_from x (m ∷ ms)

@@ -6,13 +6,15 @@ use Rattle.irig_codes.specs.declared.format.Kind.TheVariants.{A}
 use Rattle.irig_saved.specs.Lines.{line, numbered, text_of}
 use Rattle.irig_saved.specs.SavedText.{mark_lines, counted_lines, saved_lines}
 use Rattle.irig_saved.specs.Ranges.{IsNumber, IsTime, AreSteps, IsSaved}
-use Rattle.irig_saved.specs.Reading.{Reads, Stops, Lacks, IsFormat, words_of_format}
+use Rattle.irig_saved.specs.Values.{IsFormat, words_of_format}
+use Rattle.irig_saved.specs.Reading.{Reads, Stops, Lacks}
 use Rattle.irig_saved.specs.Leading.{Leads}
 use Rattle.irig_saved.specs.declared.step.Step.{Step}
 use Rattle.irig_saved.specs.declared.saved.Saved.{Saved}
 use Rattle.irig_saved.proofs.Cuts.{AreWords}
 use Rattle.irig_saved.proofs.Decimals.{number_is_word, same_number}
-use Rattle.irig_saved.proofs.Unique.{lined, regroup, kind_is_word, same_kind, same_counted}
+use Rattle.irig_saved.proofs.SameWords.{kind_is_word, same_kind}
+use Rattle.irig_saved.proofs.Unique.{lined, regroup, same_counted}
 use Rattle.irig_saved.proofs.Clean.{counted_lacks, format_lacks, counted_clean}
 use Rattle.irig_saved.proofs.Sequences.{Both, both, first_stops, second_stops, behind_stops, determined, line_behind_stops}
 use Rattle.irig_saved.proofs.Carried.{carried, first_line_stops}

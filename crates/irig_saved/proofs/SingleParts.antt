@@ -1,15 +1,18 @@
 -- The lines of one change.
 use Rattle.std.proofs.Common.{◌≡◌, ◌++◌, ◌∷◌, [], ℕ, List, length, get_or, decimal, codes, refl, sym, ap, ap₂, subst, ◌∙◌, append_assoc, arith, lit<, inl, inr, ◌⊎◌}
 use Rattle.irig_saved.specs.Lines.{line, text_of}
-use Rattle.irig_saved.specs.SavedText.{head_of, words_of, single_line, put_of, pulse_lines, single_lines, singles_lines}
+use Rattle.irig_saved.specs.ChangeWords.{head_of, words_of, single_line}
+use Rattle.irig_saved.specs.SavedText.{put_of, pulse_lines, single_lines, singles_lines}
 use Rattle.irig_saved.specs.Ranges.{IsNumber, IsSingle, ArePulses}
-use Rattle.irig_saved.specs.Reading.{Reads, Stops, Lacks, AreThree, words_of_three, IsShort}
+use Rattle.irig_saved.specs.Values.{AreThree, words_of_three}
+use Rattle.irig_saved.specs.Reading.{Reads, Stops, Lacks, IsShort}
 use Rattle.irig_track.specs.declared.pulse.Pulse.{Pulse}
 use Rattle.irig_saved.specs.declared.single.Single.{Single}
 use Rattle.irig_saved.specs.declared.single.Single.TheVariants.{Splice, Toggle, Shift, SetFormat, SetMark}
 use Rattle.irig_saved.proofs.Cuts.{AreWords}
 use Rattle.irig_saved.proofs.Decimals.{number_is_word, same_number}
-use Rattle.irig_saved.proofs.Unique.{lined, head_is_word, words_are_words, same_single}
+use Rattle.irig_saved.proofs.SameWords.{head_is_word, words_are_words}
+use Rattle.irig_saved.proofs.Unique.{lined, same_single}
 use Rattle.irig_saved.proofs.Clean.{line_lacks, first_lacks, single_clean}
 use Rattle.irig_saved.proofs.Carried.{Differs, carried, first_line_stops, other_line, lineless}
 use Rattle.irig_saved.proofs.Repeats.{Family}

@@ -4,7 +4,8 @@ use Rattle.std.specs.List.{AllByRecursion, list_all}
 use Rattle.std.specs.Fmt.{signed_decimal}
 use Rattle.std.proofs.lemmas.Bool.{and_from, lt-ltb}
 use Rattle.irig_saved.specs.Lines.{behind, line, numbered, text_of}
-use Rattle.irig_saved.specs.SavedText.{letters_from, letters_or_dash, moved_word, time_word, head_of, words_of, single_line, put_of, pulse_lines, single_lines, singles_lines, change_lines, step_lines, steps_lines, mark_lines, counted_lines, saved_lines, journal_text}
+use Rattle.irig_saved.specs.ChangeWords.{letters_from, letters_or_dash, moved_word, time_word, head_of, words_of, single_line}
+use Rattle.irig_saved.specs.SavedText.{put_of, pulse_lines, single_lines, singles_lines, change_lines, step_lines, steps_lines, mark_lines, counted_lines, saved_lines, journal_text}
 use Rattle.irig_saved.specs.Ranges.{IsNumber, IsTime, IsDistance, IsPulse, IsSingle, IsChange, IsStep, AreSteps, IsSaved}
 use Rattle.irig_codes.specs.Words.{kind_word}
 use Rattle.irig_codes.specs.declared.format.Kind.{Kind}
@@ -19,24 +20,12 @@ use Rattle.irig_saved.specs.declared.saved.Saved.{Saved}
 use Rattle.irig_saved.proofs.Cuts.{IsWord, AreWords, SameLine, same_line}
 use Rattle.irig_saved.proofs.Decimals.{number_is_word, distance_is_word, same_number, same_distance, no_dash}
 use Rattle.irig_saved.proofs.Texts.{text_of_append}
+use Rattle.irig_saved.proofs.SameWords.{small_is_number, word_at, byte_at, byte_is_word, later_letters, kind_is_word, same_kind, head_is_word, words_are_words, Alike, alike}
 
 -- the same value, and the same text behind it
 pub record Same {X : Type 0} (x y : X) (r s : List ℕ) : Type 0 where
   pub value : x ≡ y
   pub rest : r ≡ s
-
-small_is_number : (n : ℕ) → n ≤ 7 → IsNumber n
-small_is_number n h = omega (arith, h)
-
--- words, one by one
-word_at : (n : ℕ) (ws vs : List (List ℕ)) → ws ≡ vs → get_or ws n [] ≡ get_or vs n []
-word_at n ws vs e = ap (λ (l : List (List ℕ)). get_or l n []) e
-
-byte_at : (n : ℕ) (w v : List ℕ) → w ≡ v → get_or w n 0 ≡ get_or v n 0
-byte_at n w v e = ap (λ (l : List ℕ). get_or l n 0) e
-
-pub byte_is_word : (b : ℕ) → 32 < b → IsWord (b ∷ [])
-byte_is_word b h = and_from (nat_lt 32 b) true (lt-ltb 32 b h) refl
 
 -- a line of a text
 pub lined : (h g : List ℕ) (ws vs ls ms : List (List ℕ)) (r s : List ℕ) → IsWord h → IsWord g → AreWords ws → AreWords vs
@@ -44,139 +33,6 @@ pub lined : (h g : List ℕ) (ws vs ls ms : List (List ℕ)) (r s : List ℕ) �
 lined h g ws vs ls ms r s hh hg hw hv e =
     same_line h g ws vs (text_of ls ++ r) (text_of ms ++ s) hh hg hw hv
     (sym (append_assoc (line h ws) (10 ∷ text_of ls) r) ∙ e ∙ append_assoc (line g vs) (10 ∷ text_of ms) s)
-
--- the letters of the marks that move
-
-pub later_letters : (x y : ℕ) (ms : List Bool) (ys : List ℕ) → letters_from x ms ≡ y ∷ ys → x ≤ y
-later_letters x y [] ys e = absurd (no_nil y ys e) where
-  no_nil : (y : ℕ) (ys : List ℕ) → [] ≡ y ∷ ys → ⊥
-  no_nil y ys e = let n : 0 ≡ suc (length ys) = ap length e in omega (arith, n)
-later_letters x y (true ∷ ms) ys e = let same : x ≡ y = byte_at 0 (x ∷ letters_from (x + 1) ms) (y ∷ ys) e in omega (arith, same)
-later_letters x y (false ∷ ms) ys e = let more : x + 1 ≤ y = later_letters (x + 1) y ms ys e in omega (arith, more)
-
-same_letters : (x : ℕ) (ms ns : List Bool) → length ms ≡ length ns → letters_from x ms ≡ letters_from x ns → ms ≡ ns
-same_letters x [] [] n e = refl
-same_letters x [] (b ∷ ns) n e = absurd (omega (arith, n))
-same_letters x (b ∷ ms) [] n e = absurd (omega (arith, n))
-same_letters x (true ∷ ms) (true ∷ ns) n e = ap (λ (l : List Bool). true ∷ l) (same_letters (x + 1) ms ns (omega (arith, n)) (ap (λ (l : List ℕ). drop 1 l) e))
-same_letters x (false ∷ ms) (false ∷ ns) n e = ap (λ (l : List Bool). false ∷ l) (same_letters (x + 1) ms ns (omega (arith, n)) e)
-same_letters x (true ∷ ms) (false ∷ ns) n e = let bad : x + 1 ≤ x = later_letters (x + 1) x ns (letters_from (x + 1) ms) (sym e) in absurd (omega (arith, bad))
-same_letters x (false ∷ ms) (true ∷ ns) n e = let bad : x + 1 ≤ x = later_letters (x + 1) x ms (letters_from (x + 1) ns) e in absurd (omega (arith, bad))
-
-undash : (us vs : List ℕ) → ((y : ℕ) (ys : List ℕ) → us ≡ y ∷ ys → 97 ≤ y) → ((y : ℕ) (ys : List ℕ) → vs ≡ y ∷ ys → 97 ≤ y)
-    → letters_or_dash us ≡ letters_or_dash vs → us ≡ vs
-undash [] [] hu hv e = refl
-undash [] (v ∷ vs) hu hv e =
-    let same : 45 ≡ v = byte_at 0 (45 ∷ []) (v ∷ vs) e in
-    let high : 97 ≤ v = hv v vs refl in
-    absurd (omega (arith, same, high))
-undash (u ∷ us) [] hu hv e =
-    let same : u ≡ 45 = byte_at 0 (u ∷ us) (45 ∷ []) e in
-    let high : 97 ≤ u = hu u us refl in
-    absurd (omega (arith, same, high))
-undash (u ∷ us) (v ∷ vs) hu hv e = e
-
-same_moved : (ms ns : List Bool) → length ms ≡ length ns → moved_word ms ≡ moved_word ns → ms ≡ ns
-same_moved ms ns n e = same_letters 97 ms ns n (undash (letters_from 97 ms) (letters_from 97 ns) (λ y ys h. later_letters 97 y ms ys h) (λ y ys h. later_letters 97 y ns ys h) e)
-
-letters_are_word : (x : ℕ) (ms : List Bool) → 32 < x → IsWord (letters_from x ms)
-letters_are_word x [] h = refl
-letters_are_word x (true ∷ ms) h = and_from (nat_lt 32 x) _ (lt-ltb 32 x h) (letters_are_word (x + 1) ms (omega (arith, h)))
-letters_are_word x (false ∷ ms) h = letters_are_word (x + 1) ms (omega (arith, h))
-
-dash_is_word : (us : List ℕ) → IsWord us → IsWord (letters_or_dash us)
-dash_is_word [] h = refl
-dash_is_word (u ∷ us) h = h
-
-moved_is_word : (ms : List Bool) → IsWord (moved_word ms)
-moved_is_word ms = dash_is_word (letters_from 97 ms) (letters_are_word 97 ms (omega arith))
-
--- times and kinds
-
-time_is_word : (t : Option ℕ) → IsTime t → IsWord (time_word t)
-time_is_word None h = refl
-time_is_word (Some t) h = number_is_word t h
-
-same_time : (t u : Option ℕ) → IsTime t → IsTime u → time_word t ≡ time_word u → t ≡ u
-same_time None None ht hu e = refl
-same_time None (Some u) ht hu e = absurd (no_dash u hu (sym e))
-same_time (Some t) None ht hu e = absurd (no_dash t ht e)
-same_time (Some t) (Some u) ht hu e = ap Some (same_number t u ht hu e)
-
-pub kind_is_word : (k : Kind) → IsWord (kind_word k)
-kind_is_word A = refl
-kind_is_word B = refl
-kind_is_word E = refl
-kind_is_word G = refl
-
-pub same_kind : (k l : Kind) → kind_word k ≡ kind_word l → k ≡ l
-same_kind A A e = refl
-same_kind A B e = absurd (let bad : 65 ≡ 66 = byte_at 0 _ _ e in omega (arith, bad))
-same_kind A E e = absurd (let bad : 65 ≡ 69 = byte_at 0 _ _ e in omega (arith, bad))
-same_kind A G e = absurd (let bad : 65 ≡ 71 = byte_at 0 _ _ e in omega (arith, bad))
-same_kind B A e = absurd (let bad : 66 ≡ 65 = byte_at 0 _ _ e in omega (arith, bad))
-same_kind B B e = refl
-same_kind B E e = absurd (let bad : 66 ≡ 69 = byte_at 0 _ _ e in omega (arith, bad))
-same_kind B G e = absurd (let bad : 66 ≡ 71 = byte_at 0 _ _ e in omega (arith, bad))
-same_kind E A e = absurd (let bad : 69 ≡ 65 = byte_at 0 _ _ e in omega (arith, bad))
-same_kind E B e = absurd (let bad : 69 ≡ 66 = byte_at 0 _ _ e in omega (arith, bad))
-same_kind E E e = refl
-same_kind E G e = absurd (let bad : 69 ≡ 71 = byte_at 0 _ _ e in omega (arith, bad))
-same_kind G A e = absurd (let bad : 71 ≡ 65 = byte_at 0 _ _ e in omega (arith, bad))
-same_kind G B e = absurd (let bad : 71 ≡ 66 = byte_at 0 _ _ e in omega (arith, bad))
-same_kind G E e = absurd (let bad : 71 ≡ 69 = byte_at 0 _ _ e in omega (arith, bad))
-same_kind G G e = refl
-
--- the first line of a change
-
-pub head_is_word : (x : Single) → IsWord (head_of x)
-head_is_word (Splice at count put) = refl
-head_is_word (Toggle a b) = refl
-head_is_word (Shift i j by marks) = refl
-head_is_word (SetFormat kind expression) = refl
-head_is_word (SetMark letter time) = refl
-
-pub words_are_words : (x : Single) → IsSingle x → AreWords (words_of x)
-words_are_words (Splice at count put) h = (number_is_word at h.0, (number_is_word count h.1, (number_is_word (length put) h.2, tt)))
-words_are_words (Toggle a b) h = (number_is_word a h.0, (number_is_word b h.1, tt))
-words_are_words (Shift i j by marks) h = (number_is_word i h.0, (number_is_word j h.1, (distance_is_word by h.2, (moved_is_word marks, tt))))
-words_are_words (SetFormat kind expression) h = (kind_is_word kind, (number_is_word expression (small_is_number expression h), tt))
-words_are_words (SetMark letter time) h = (byte_is_word (97 + letter) (omega arith), (time_is_word time h.1, tt))
-
--- the same change, but for the pulses that a splice puts, of which only the number is told
-abbrev Alike : Single → Single → Type 0
-Alike x (Splice at count put) = (ps : List Pulse) × (x ≡ Splice at count ps) × (length ps ≡ length put)
-Alike x (Toggle a b) = x ≡ Toggle a b
-Alike x (Shift i j by marks) = x ≡ Shift i j by marks
-Alike x (SetFormat kind expression) = x ≡ SetFormat kind expression
-Alike x (SetMark letter time) = x ≡ SetMark letter time
-
-alike : (x y : Single) → IsSingle x → IsSingle y → head_of x ≡ head_of y → words_of x ≡ words_of y → Alike x y
-alike (Splice at count put) (Splice at' count' put') hx hy h w = (put, ap₂ (λ m n. Splice m n put) (same_number at at' hx.0 hy.0 (word_at 0 _ _ w)) (same_number count count' hx.1 hy.1 (word_at 1 _ _ w)), same_number (length put) (length put') hx.2 hy.2 (word_at 2 _ _ w))
-alike (Splice at count put) (Toggle a' b') hx hy h w = absurd (let bad : 115 ≡ 116 = byte_at 0 _ _ h in omega (arith, bad))
-alike (Splice at count put) (Shift i' j' by' marks') hx hy h w = absurd (let bad : 112 ≡ 104 = byte_at 1 _ _ h in omega (arith, bad))
-alike (Splice at count put) (SetFormat kind' expression') hx hy h w = absurd (let bad : 112 ≡ 101 = byte_at 1 _ _ h in omega (arith, bad))
-alike (Splice at count put) (SetMark letter' time') hx hy h w = absurd (let bad : 112 ≡ 101 = byte_at 1 _ _ h in omega (arith, bad))
-alike (Toggle a b) (Splice at' count' put') hx hy h w = absurd (let bad : 116 ≡ 115 = byte_at 0 _ _ h in omega (arith, bad))
-alike (Toggle a b) (Toggle a' b') hx hy h w = ap₂ Toggle (same_number a a' hx.0 hy.0 (word_at 0 _ _ w)) (same_number b b' hx.1 hy.1 (word_at 1 _ _ w))
-alike (Toggle a b) (Shift i' j' by' marks') hx hy h w = absurd (let bad : 116 ≡ 115 = byte_at 0 _ _ h in omega (arith, bad))
-alike (Toggle a b) (SetFormat kind' expression') hx hy h w = absurd (let bad : 116 ≡ 115 = byte_at 0 _ _ h in omega (arith, bad))
-alike (Toggle a b) (SetMark letter' time') hx hy h w = absurd (let bad : 116 ≡ 115 = byte_at 0 _ _ h in omega (arith, bad))
-alike (Shift i j by marks) (Splice at' count' put') hx hy h w = absurd (let bad : 104 ≡ 112 = byte_at 1 _ _ h in omega (arith, bad))
-alike (Shift i j by marks) (Toggle a' b') hx hy h w = absurd (let bad : 115 ≡ 116 = byte_at 0 _ _ h in omega (arith, bad))
-alike (Shift i j by marks) (Shift i' j' by' marks') hx hy h w = ap₂ (λ m n. Shift m n by marks) (same_number i i' hx.0 hy.0 (word_at 0 _ _ w)) (same_number j j' hx.1 hy.1 (word_at 1 _ _ w)) ∙ ap₂ (λ d ms. Shift i' j' d ms) (same_distance by by' hx.2 hy.2 (word_at 2 _ _ w)) (same_moved marks marks' (hx.3 ∙ sym hy.3) (word_at 3 _ _ w))
-alike (Shift i j by marks) (SetFormat kind' expression') hx hy h w = absurd (let bad : 104 ≡ 101 = byte_at 1 _ _ h in omega (arith, bad))
-alike (Shift i j by marks) (SetMark letter' time') hx hy h w = absurd (let bad : 104 ≡ 101 = byte_at 1 _ _ h in omega (arith, bad))
-alike (SetFormat kind expression) (Splice at' count' put') hx hy h w = absurd (let bad : 101 ≡ 112 = byte_at 1 _ _ h in omega (arith, bad))
-alike (SetFormat kind expression) (Toggle a' b') hx hy h w = absurd (let bad : 115 ≡ 116 = byte_at 0 _ _ h in omega (arith, bad))
-alike (SetFormat kind expression) (Shift i' j' by' marks') hx hy h w = absurd (let bad : 101 ≡ 104 = byte_at 1 _ _ h in omega (arith, bad))
-alike (SetFormat kind expression) (SetFormat kind' expression') hx hy h w = ap₂ SetFormat (same_kind kind kind' (word_at 0 _ _ w)) (same_number expression expression' (small_is_number expression hx) (small_is_number expression' hy) (word_at 1 _ _ w))
-alike (SetFormat kind expression) (SetMark letter' time') hx hy h w = absurd (let bad : 102 ≡ 109 = byte_at 3 _ _ h in omega (arith, bad))
-alike (SetMark letter time) (Splice at' count' put') hx hy h w = absurd (let bad : 101 ≡ 112 = byte_at 1 _ _ h in omega (arith, bad))
-alike (SetMark letter time) (Toggle a' b') hx hy h w = absurd (let bad : 115 ≡ 116 = byte_at 0 _ _ h in omega (arith, bad))
-alike (SetMark letter time) (Shift i' j' by' marks') hx hy h w = absurd (let bad : 101 ≡ 104 = byte_at 1 _ _ h in omega (arith, bad))
-alike (SetMark letter time) (SetFormat kind' expression') hx hy h w = absurd (let bad : 109 ≡ 102 = byte_at 3 _ _ h in omega (arith, bad))
-alike (SetMark letter time) (SetMark letter' time') hx hy h w = ap₂ SetMark (let plus : 97 + letter ≡ 97 + letter' = byte_at 0 _ _ (word_at 0 _ _ w) in omega (arith, plus)) (same_time time time' hx.1 hy.1 (word_at 1 _ _ w))
 
 -- RISE FALL
 

@@ -3,7 +3,6 @@ use Rattle.std.specs.Prelude.{◌≡◌, ◌+◌, ◌≤◌, ◌<◌, ◌==◌, 
 use Rattle.std.specs.List.{list_all}
 use Rattle.std.specs.Borrow.{Bor}
 use Rattle.irig_saved.specs.Lines.{text_of}
-pub use Rattle.irig_saved.specs.Values.{IsFormat, words_of_format, AreThree, words_of_three}
 use Rattle.irig_saved.specs.Ranges.{IsSingle}
 use Rattle.irig_saved.specs.declared.single.Single.{Single}
 use Rattle.irig_saved.specs.declared.single.Single.TheVariants.{Splice, Toggle, Shift, SetFormat, SetMark}

@@ -2,7 +2,8 @@
 
 ghost use Rattle.std.specs.Prelude.{◌≡◌, ◌++◌, ◌<◌, ◌∷◌, [], OnOk, codes};
 ghost use Rattle.irig_saved.specs.Lines.{numbered};
-ghost use Rattle.irig_saved.specs.SavedText.{moved_word, pulse_line, single_line};
+ghost use Rattle.irig_saved.specs.ChangeWords.{moved_word, single_line};
+ghost use Rattle.irig_saved.specs.SavedText.{pulse_line};
 ghost use Rattle.irig_saved.specs.declared.single.Single.TheVariants.{Toggle, Shift, SetFormat, SetMark};
 
 use crate::word_writer::{put_formatted, put_number, put_numbered, put_numbers, put_word};

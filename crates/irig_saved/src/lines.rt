@@ -4,9 +4,10 @@ ghost use Rattle.std.specs.Prelude.{◌≡◌, ◌<◌, ◌+◌, ◌++◌, ◌�
 ghost use Rattle.std.specs.Fmt.{signed_decimal};
 ghost use Rattle.irig_saved.specs.Lines.{numbered, line};
 ghost use Rattle.irig_saved.specs.Ranges.{IsNumber, IsPulse};
-ghost use Rattle.irig_saved.specs.SavedText.{moved_word, pulse_line, single_line};
-ghost use Rattle.irig_saved.specs.Reading.{Decodes, IsWordy, IsShort, IsFormat, AreThree, words_of_three, words_of_format};
-ghost use Rattle.irig_saved.specs.Values.{AreTwo, IsMark, IsMove, IsShift, words_of_mark, words_of_shift, words_of_two};
+ghost use Rattle.irig_saved.specs.ChangeWords.{moved_word, single_line};
+ghost use Rattle.irig_saved.specs.SavedText.{pulse_line};
+ghost use Rattle.irig_saved.specs.Reading.{Decodes, IsWordy, IsShort};
+ghost use Rattle.irig_saved.specs.Values.{AreThree, AreTwo, IsFormat, IsMark, IsMove, IsShift, words_of_format, words_of_mark, words_of_shift, words_of_three, words_of_two};
 
 use crate::cut::word_of;
 use crate::letter::Letter;

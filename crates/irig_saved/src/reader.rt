@@ -4,7 +4,8 @@ ghost use Rattle.std.specs.Prelude.{◌≡◌, ◌==◌, ◌<◌, ◌≤◌, ◌
 ghost use Rattle.irig_saved.specs.Lines.{line, numbered};
 ghost use Rattle.irig_saved.specs.SavedText.{journal_text, saved_lines};
 ghost use Rattle.irig_saved.specs.Ranges.{IsNumber, IsSaved};
-ghost use Rattle.irig_saved.specs.Reading.{Parses, IsFormat, words_of_format};
+ghost use Rattle.irig_saved.specs.Values.{IsFormat, words_of_format};
+ghost use Rattle.irig_saved.specs.Reading.{Parses};
 ghost use Rattle.irig_saved.specs.Leading.{FirstLine};
 ghost use Rattle.irig_saved.specs.Faults.{IsRefused};
 

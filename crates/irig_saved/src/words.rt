@@ -4,7 +4,7 @@ ghost use Rattle.std.specs.Prelude.{◌≡◌, ◌<◌, ◌≤◌, ◌+◌, ◌�
 ghost use Rattle.std.specs.Fmt.{signed_decimal};
 ghost use Rattle.irig_codes.specs.Words.{kind_word};
 ghost use Rattle.irig_saved.specs.Ranges.{IsNumber, IsDistance, IsTime};
-ghost use Rattle.irig_saved.specs.SavedText.{moved_word, time_word};
+ghost use Rattle.irig_saved.specs.ChangeWords.{moved_word, time_word};
 ghost use Rattle.irig_saved.specs.Reading.{Decodes, AreLetters, Any};
 
 use irig_codes::{Kind, kind_named};

@@ -1,5 +1,5 @@
 use Rattle.std.proofs.Common.{◌≡◌, ◌≤◌, ◌+◌, ◌++◌, map, drop, take, length, decimal}
-use Rattle.irig_saved.specs.SavedText.{letters_from}
+use Rattle.irig_saved.specs.ChangeWords.{letters_from}
 use Rattle.irig_saved.proofs.change_writer.put_moved.Given as goal
 
 abbrev pub invariant-loop-letter : goal.invariant-loop-letter

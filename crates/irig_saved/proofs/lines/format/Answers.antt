@@ -2,7 +2,7 @@ use Rattle.std.proofs.Common.{◌≡◌, ◌++◌, ◌∷◌, [], decimal, codes
 use Rattle.irig_codes.specs.Words.{kind_word}
 use Rattle.irig_saved.proofs.Bytes.{wordy_lacks}
 use Rattle.irig_saved.proofs.Decimals.{number_is_word}
-use Rattle.irig_saved.proofs.Unique.{kind_is_word}
+use Rattle.irig_saved.proofs.SameWords.{kind_is_word}
 use Rattle.irig_saved.proofs.Decoding.{two_words, behind_head, first_word, no_words}
 use Rattle.irig_saved.proofs.lines.format.Goals as goal
 

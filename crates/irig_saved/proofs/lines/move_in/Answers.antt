@@ -1,6 +1,6 @@
 use Rattle.std.proofs.Common.{◌≡◌, List, ℕ}
 use Rattle.std.specs.Fmt.{signed_decimal}
-use Rattle.irig_saved.specs.SavedText.{moved_word}
+use Rattle.irig_saved.specs.ChangeWords.{moved_word}
 use Rattle.irig_saved.proofs.Bytes.{wordy_lacks}
 use Rattle.irig_saved.proofs.Decimals.{distance_is_word}
 use Rattle.irig_saved.proofs.Decoding.{two_words}

@@ -1,7 +1,7 @@
 use Rattle.std.proofs.Common.{◌≡◌, ◌++◌, ◌+◌, ◌∷◌, [], codes, List, ℕ, refl, arith}
-use Rattle.irig_saved.specs.SavedText.{time_word}
+use Rattle.irig_saved.specs.ChangeWords.{time_word}
 use Rattle.irig_saved.proofs.Bytes.{wordy_lacks}
-use Rattle.irig_saved.proofs.Unique.{byte_is_word}
+use Rattle.irig_saved.proofs.SameWords.{byte_is_word}
 use Rattle.irig_saved.proofs.Decoding.{two_words, behind_head, no_words}
 use Rattle.irig_saved.proofs.lines.set_mark.Goals as goal
 

@@ -1,7 +1,7 @@
 use Rattle.std.proofs.Common.{◌≡◌, ◌++◌, ◌∷◌, [], decimal, codes, List, ℕ}
 use Rattle.std.specs.Fmt.{signed_decimal}
 use Rattle.irig_saved.specs.Lines.{line}
-use Rattle.irig_saved.specs.SavedText.{moved_word}
+use Rattle.irig_saved.specs.ChangeWords.{moved_word}
 use Rattle.irig_saved.proofs.Bytes.{wordy_lacks}
 use Rattle.irig_saved.proofs.Decimals.{number_is_word}
 use Rattle.irig_saved.proofs.Decoding.{behind_head, first_word, no_words}
