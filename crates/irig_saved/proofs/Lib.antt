@@ -17,5 +17,6 @@ pub mod ChangeParts
 pub mod MarkParts
 pub mod SavedParts
 pub mod FaultLines
+pub mod FaultFacts
 pub mod Moves
 pub mod ShortLines
