@@ -5,8 +5,11 @@ use Rattle.irig_saved.specs.Lines.{line}
 use Rattle.irig_saved.specs.Ranges.{IsNumber}
 
 -- the first line is read, with what stands behind it; else the text begins with no such line
-abbrev pub FirstLine : {X : Type 0} → (X → Type 0) → (X → List ℕ) → List ℕ → Option (X × Bor (List ℕ)) → Type 0
-FirstLine {X} Is write text r = MatchOption r ((x : X) (more : List ℕ) → Is x → text ≡ write x ++ 10 ∷ more → ⊥) (λ p. Is p.0 × (text ≡ write p.0 ++ 10 ∷ p.1.now))
+abbrev pub FirstLine : {X : Type 0} → (X → Type 0) → (X → List ℕ) → List ℕ
+    → Option (X × Bor (List ℕ)) → Type 0
+FirstLine {X} Is write text r = MatchOption r
+    ((x : X) (more : List ℕ) → Is x → text ≡ write x ++ 10 ∷ more → ⊥)
+    (λ p. Is p.0 × (text ≡ write p.0 ++ 10 ∷ p.1.now))
 
 -- mark x TIME, where x is a letter's byte
 abbrev pub mark_line : ℕ → ℕ → List ℕ
@@ -14,10 +17,12 @@ mark_line x t = line (codes "mark") ((x ∷ []) ∷ decimal t ∷ [])
 
 -- the text begins with no line of this mark
 abbrev pub LacksMark : ℕ → List ℕ → Type 0
-LacksMark x text = (t : ℕ) (more : List ℕ) → IsNumber t → text ≡ mark_line x t ++ 10 ∷ more → ⊥
+LacksMark x text =
+    (t : ℕ) (more : List ℕ) → IsNumber t → text ≡ mark_line x t ++ 10 ∷ more → ⊥
 
 -- the marks from a letter on, each set where its line stands next in the text, up to the rest
 abbrev pub Leads : ℕ → List (Option ℕ) → List ℕ → List ℕ → Type 0
 Leads x [] text rest = text ≡ rest
 Leads x (None ∷ ms) text rest = LacksMark x text × Leads (x + 1) ms text rest
-Leads x (Some t ∷ ms) text rest = IsNumber t × ((mid : List ℕ) × (text ≡ mark_line x t ++ 10 ∷ mid) × Leads (x + 1) ms mid rest)
+Leads x (Some t ∷ ms) text rest = IsNumber t
+    × ((mid : List ℕ) × (text ≡ mark_line x t ++ 10 ∷ mid) × Leads (x + 1) ms mid rest)
