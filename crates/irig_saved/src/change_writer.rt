@@ -85,11 +85,7 @@ pub fn put_set_format(text: &mut Vec<u8>, kind: Kind, expression: u8) -> Result<
 }
 
 /// The line that sets the mark of a letter, from 0, to a time in microseconds, or clears it.
-pub fn put_set_mark(
-    text: &mut Vec<u8>,
-    letter: u8,
-    time: Option<u64>,
-) -> Result<(), AllocError>
+pub fn put_set_mark(text: &mut Vec<u8>, letter: u8, time: Option<u64>) -> Result<(), AllocError>
     requires { letter < 26 }
     ensures { OnOk result (text.new.items
         ≡ text.old.items ++ (single_line (SetMark letter time) ++ 10 ∷ [])) }

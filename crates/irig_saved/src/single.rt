@@ -12,9 +12,16 @@ use irig_codes::Kind;
 #[derive(Drop)]
 pub enum Single {
     /// Takes `count` pulses from `at` on, and puts others.
-    Splice { at: u64, count: u64, put: Pulses },
+    Splice {
+        at: u64,
+        count: u64,
+        put: Pulses,
+    },
     /// Turns the level over from `a` to `b`.
-    Toggle { a: u64, b: u64 },
+    Toggle {
+        a: u64,
+        b: u64,
+    },
     /// Moves the pulses `i` to `j` by `by` microseconds, and the marks that are told.
     Shift {
         i: u64,
@@ -23,9 +30,15 @@ pub enum Single {
         marks: [bool; 26],
     },
     /// Sets a format, which may be none that is permitted.
-    SetFormat { kind: Kind, expression: u8 },
+    SetFormat {
+        kind: Kind,
+        expression: u8,
+    },
     /// Sets a mark, or clears it.
-    SetMark { letter: Letter, time: Option<u64> },
+    SetMark {
+        letter: Letter,
+        time: Option<u64>,
+    },
 }
 
 impl Single {
