@@ -1,8 +1,8 @@
 -- Places of a byte.
-use Rattle.std.proofs.Common.{◌≡◌, ◌==◌, ◌<◌, ◌≤◌, ◌+◌, ◌++◌, ◌∷◌, [], ℕ, zero, suc, Bool, true, false, not, ◌&&◌, List, length, take, drop, get_or, refl, sym, ap, ◌∙◌, arith, eqb, ap₂, nat_lt}
+use Rattle.std.proofs.Common.{◌≡◌, ◌==◌, ◌<◌, ◌+◌, ◌++◌, ◌∷◌, [], ℕ, zero, suc, Bool, true, false, not, List, length, take, drop, get_or, refl, sym, ap, ◌∙◌, arith, ap₂, nat_lt}
 use Rattle.std.specs.List.{list_all}
-use Rattle.std.proofs.lemmas.Bool.{and_from, not_from_false, ne_eqb, eqb-true, true≢false, eq-eqb, and_parts, ltb-true}
-use Rattle.std.proofs.lemmas.List.{take-append-drop, drop_more, get_or-take}
+use Rattle.std.proofs.lemmas.Bool.{and_from, not_from_false, ne_eqb, true≢false, eq-eqb, and_parts, ltb-true}
+use Rattle.std.proofs.lemmas.List.{take-append-drop, drop_more}
 use Rattle.irig_saved.specs.Reading.{Lacks, IsWordy}
 
 pub lacks_from : (b : ℕ) (bytes : List ℕ) → ((k : ℕ) → k < length bytes → get_or bytes k 0 ≡ b → ⊥) → Lacks b bytes

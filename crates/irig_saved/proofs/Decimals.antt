@@ -1,5 +1,5 @@
 -- Numbers are words, and words tell their numbers.
-use Rattle.std.proofs.Common.{◌≡◌, ◌<◌, ◌≤◌, ◌+◌, ◌%◌, ◌/◌, ◌^◌, ◌++◌, ◌∷◌, [], ℕ, suc, ℤ, pos, negsuc, Bool, true, false, ◌&&◌, List, length, drop, get_or, decimal, nat_lt, refl, sym, ap, ◌∙◌, arith, lit<}
+use Rattle.std.proofs.Common.{◌≡◌, ◌<◌, ◌+◌, ◌%◌, ◌^◌, ◌++◌, ◌∷◌, [], ℕ, suc, ℤ, pos, negsuc, true, List, length, drop, decimal, nat_lt, refl, sym, ap, ◌∙◌, arith, lit<}
 use Rattle.std.specs.List.{list_all}
 use Rattle.std.specs.Fmt.{signed_decimal}
 use Rattle.std.proofs.lemmas.Fmt.{decimal_by_steps, decimal_injective}

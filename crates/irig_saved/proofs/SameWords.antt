@@ -1,25 +1,16 @@
 -- Words tell what they are the words of.
-use Rattle.std.proofs.Common.{◌≡◌, ◌<◌, ◌≤◌, ◌+◌, ◌^◌, ◌++◌, ◌∷◌, [], ℕ, suc, zero, ℤ, Bool, true, false, Option, Some, None, List, length, drop, get_or, decimal, codes, nat_lt, refl, sym, ap, ap₂, subst, ◌∙◌, append_assoc, arith}
-use Rattle.std.specs.List.{AllByRecursion, list_all}
-use Rattle.std.specs.Fmt.{signed_decimal}
+use Rattle.std.proofs.Common.{◌≡◌, ◌<◌, ◌≤◌, ◌+◌, ◌∷◌, [], ℕ, suc, Bool, true, false, Option, Some, None, List, length, drop, get_or, nat_lt, refl, sym, ap, ap₂, ◌∙◌, arith}
 use Rattle.std.proofs.lemmas.Bool.{and_from, lt-ltb}
-use Rattle.irig_saved.specs.Lines.{behind, line, numbered, text_of}
-use Rattle.irig_saved.specs.ChangeWords.{letters_from, letters_or_dash, moved_word, time_word, head_of, words_of, single_line}
-use Rattle.irig_saved.specs.SavedText.{put_of, pulse_lines, single_lines, singles_lines, change_lines, step_lines, steps_lines, mark_lines, counted_lines, saved_lines, journal_text}
-use Rattle.irig_saved.specs.Ranges.{IsNumber, IsTime, IsDistance, IsPulse, IsSingle, IsChange, IsStep, AreSteps, IsSaved}
+use Rattle.irig_saved.specs.ChangeWords.{letters_from, letters_or_dash, moved_word, time_word, head_of, words_of}
+use Rattle.irig_saved.specs.Ranges.{IsNumber, IsTime, IsSingle}
 use Rattle.irig_codes.specs.Words.{kind_word}
 use Rattle.irig_codes.specs.declared.format.Kind.{Kind}
 use Rattle.irig_codes.specs.declared.format.Kind.TheVariants.{A, B, E, G}
 use Rattle.irig_track.specs.declared.pulse.Pulse.{Pulse}
 use Rattle.irig_saved.specs.declared.single.Single.{Single}
 use Rattle.irig_saved.specs.declared.single.Single.TheVariants.{Splice, Toggle, Shift, SetFormat, SetMark}
-use Rattle.irig_saved.specs.declared.change.Change.{Change}
-use Rattle.irig_saved.specs.declared.change.Change.TheVariants.{One, Group}
-use Rattle.irig_saved.specs.declared.step.Step.{Step}
-use Rattle.irig_saved.specs.declared.saved.Saved.{Saved}
-use Rattle.irig_saved.proofs.Cuts.{IsWord, AreWords, SameLine, same_line}
+use Rattle.irig_saved.proofs.Cuts.{IsWord, AreWords}
 use Rattle.irig_saved.proofs.Decimals.{number_is_word, distance_is_word, same_number, same_distance, no_dash}
-use Rattle.irig_saved.proofs.Texts.{text_of_append}
 
 pub small_is_number : (n : ℕ) → n ≤ 7 → IsNumber n
 small_is_number n h = omega (arith, h)

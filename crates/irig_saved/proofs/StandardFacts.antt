@@ -1,11 +1,10 @@
 -- Known values of the form, proved of the definitions by computing: a track of two pulses, of
 -- which the first was deleted; a mark that was set and taken back.
-use Rattle.std.proofs.Common.{◌≡◌, ◌++◌, ℕ, List, [], ◌∷◌, codes, Some, None, Option, true, false, Bool, length, refl, pos, negsuc}
+use Rattle.std.proofs.Common.{◌≡◌, ℕ, List, [], ◌∷◌, codes, Some, None, Option, true, false, length, refl, pos, negsuc}
 use Rattle.std.specs.Fmt.{digits}
 use Rattle.irig_saved.specs.Lines.{text_of}
 use Rattle.irig_saved.specs.SavedText.{journal_text, journal_section, single_lines, change_lines, mark_lines}
 use Rattle.irig_codes.specs.declared.format.Kind.TheVariants.{G, E}
-use Rattle.irig_saved.specs.declared.single.Single.{Single}
 use Rattle.irig_saved.specs.declared.single.Single.TheVariants.{Splice, Toggle, Shift, SetFormat, SetMark}
 use Rattle.irig_saved.specs.declared.change.Change.TheVariants.{One, Group}
 use Rattle.irig_saved.specs.declared.saved.Saved.{Saved}

@@ -1,5 +1,5 @@
 -- What a saved journal may hold: numbers of 64 bits. This project's own.
-use Rattle.std.specs.Prelude.{◌≡◌, ◌<◌, ◌≤◌, ◌^◌, ℕ, ℤ, Bool, List, [], ◌∷◌, Option, Some, None, length, negsuc, pos}
+use Rattle.std.specs.Prelude.{◌≡◌, ◌<◌, ◌≤◌, ◌^◌, ℕ, ℤ, List, Option, Some, None, length, negsuc, pos}
 use Rattle.std.specs.List.{AllByRecursion}
 use Rattle.irig_track.specs.declared.pulse.Pulse.{Pulse}
 use Rattle.irig_saved.specs.declared.single.Single.{Single}

@@ -1,5 +1,5 @@
 -- What reading a word, a line or a part gives. This project's own.
-use Rattle.std.specs.Prelude.{◌≡◌, ◌+◌, ◌≤◌, ◌<◌, ◌==◌, ℕ, Bool, true, not, List, [], ◌∷◌, ◌++◌, Option, Some, None, Result, MatchOption, MatchResult, take, length, nat_lt}
+use Rattle.std.specs.Prelude.{◌≡◌, ◌+◌, ◌≤◌, ◌==◌, ℕ, Bool, true, not, List, ◌∷◌, ◌++◌, Option, Result, MatchOption, MatchResult, take, length, nat_lt}
 use Rattle.std.specs.List.{list_all}
 use Rattle.std.specs.Borrow.{Bor}
 use Rattle.irig_saved.specs.Lines.{text_of}

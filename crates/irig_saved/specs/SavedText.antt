@@ -1,7 +1,7 @@
 -- The text of a saved journal: docs/FORMATS.md, "The saved journal". This project's own.
 use Rattle.std.specs.Prelude.{◌+◌, ℕ, List, [], ◌∷◌, ◌++◌, Option, Some, None, length, decimal, codes}
 use Rattle.irig_saved.specs.Lines.{line, numbered, text_of}
-use Rattle.irig_saved.specs.ChangeWords.{letters_from, letters_or_dash, moved_word, time_word, head_of, words_of, single_line}
+use Rattle.irig_saved.specs.ChangeWords.{single_line}
 use Rattle.irig_codes.specs.Words.{kind_word}
 use Rattle.irig_track.specs.declared.pulse.Pulse.{Pulse}
 use Rattle.irig_saved.specs.declared.single.Single.{Single}

@@ -1,4 +1,4 @@
-use Rattle.std.proofs.Common.{◌≡◌, ◌≤◌, ◌+◌, ◌++◌, map, drop, take, length, decimal}
+use Rattle.std.proofs.Common.{◌≡◌, ◌≤◌, ◌+◌, ◌++◌, drop, take, length}
 use Rattle.irig_saved.specs.ChangeWords.{letters_from}
 use Rattle.irig_saved.proofs.change_writer.put_moved.Given as goal
 

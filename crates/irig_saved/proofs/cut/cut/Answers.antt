@@ -1,7 +1,6 @@
-use Rattle.std.proofs.Common.{arith, ◌≡◌, ◌==◌, ◌++◌, ◌∷◌, ◌+◌, ◌<◌, take, drop, length, get_or, sym, ap, ◌∙◌, true, List, ℕ}
+use Rattle.std.proofs.Common.{arith, ◌++◌, ◌∷◌, ◌+◌, ◌<◌, take, length, get_or, sym, ap, ◌∙◌, List, ℕ}
 use Rattle.std.proofs.lemmas.Bool.{eq-eqb, eqb-true}
 use Rattle.std.proofs.lemmas.List.{take_rest}
-use Rattle.irig_saved.specs.Reading.{CutAt}
 use Rattle.irig_saved.proofs.Bytes.{lacks_from, lacks_take, parts_at}
 use Rattle.irig_saved.proofs.cut.cut.Goals as goal
 

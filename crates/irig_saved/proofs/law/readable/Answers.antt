@@ -1,6 +1,5 @@
-use Rattle.std.proofs.Common.{◌≡◌, ◌++◌, [], refl, sym, ap, ◌∙◌, List, ℕ}
-use Rattle.irig_saved.specs.SavedText.{journal_text, saved_lines}
-use Rattle.irig_saved.specs.Lines.{text_of}
+use Rattle.std.proofs.Common.{◌++◌, [], ap, List, ℕ}
+use Rattle.irig_saved.specs.SavedText.{journal_text}
 use Rattle.irig_saved.proofs.Unique.{same_saved}
 use Rattle.irig_saved.proofs.law.readable.Goals as goal
 

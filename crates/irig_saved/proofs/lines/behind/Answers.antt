@@ -1,4 +1,4 @@
-use Rattle.std.proofs.Common.{◌≡◌, ◌++◌, ◌∷◌, List, ℕ, sym, ap, ◌∙◌, subst}
+use Rattle.std.proofs.Common.{◌++◌, ◌∷◌, List, ℕ, sym, ap, ◌∙◌, subst}
 use Rattle.std.specs.Cmp.Lexicographic.{other_text, same_text}
 use Rattle.irig_saved.specs.Reading.{Lacks}
 use Rattle.irig_saved.proofs.Bytes.{cut_at, not_lacking, wordy_lacks}

@@ -1,4 +1,4 @@
-use Rattle.std.proofs.Common.{◌≡◌, ◌++◌, ◌∷◌, [], ℕ, List, decimal, drop, sym, ap, ◌∙◌}
+use Rattle.std.proofs.Common.{◌++◌, ◌∷◌, [], ℕ, List, decimal, drop, ap}
 use Rattle.std.proofs.lemmas.List.{append-nil, append_cancel_left}
 use Rattle.irig_saved.specs.Lines.{numbered}
 use Rattle.irig_saved.specs.Ranges.{IsNumber}

@@ -1,9 +1,8 @@
-use Rattle.std.proofs.Common.{◌≡◌, ◌++◌, ◌∷◌, [], decimal, codes, List, ℕ, sym, ap, ◌∙◌, refl}
+use Rattle.std.proofs.Common.{◌++◌, ◌∷◌, [], decimal}
 use Rattle.irig_codes.specs.Words.{kind_word}
 use Rattle.irig_saved.proofs.Bytes.{wordy_lacks}
-use Rattle.irig_saved.proofs.Decimals.{number_is_word}
 use Rattle.irig_saved.proofs.SameWords.{kind_is_word}
-use Rattle.irig_saved.proofs.Decoding.{two_words, behind_head, first_word, no_words}
+use Rattle.irig_saved.proofs.Decoding.{two_words, behind_head, no_words}
 use Rattle.irig_saved.proofs.lines.format.Goals as goal
 
 pub returns-in_err-name : goal.returns-in_err-name

@@ -1,5 +1,4 @@
-use Rattle.std.proofs.Common.{◌≡◌, ◌++◌, ◌∷◌, [], decimal, codes, drop, List, ℕ, sym, ap, ◌∙◌, nat_lt, refl}
-use Rattle.std.proofs.lemmas.List.{append_cancel_left}
+use Rattle.std.proofs.Common.{◌∷◌, [], decimal, drop, List, ℕ, sym, ap, ◌∙◌, nat_lt, refl}
 use Rattle.std.proofs.lemmas.Bool.{and_from, lt-ltb}
 use Rattle.std.specs.Cmp.Lexicographic.{other_text}
 use Rattle.irig_saved.proofs.Bytes.{wordy_lacks}

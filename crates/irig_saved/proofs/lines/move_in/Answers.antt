@@ -1,4 +1,3 @@
-use Rattle.std.proofs.Common.{◌≡◌, List, ℕ}
 use Rattle.std.specs.Fmt.{signed_decimal}
 use Rattle.irig_saved.specs.ChangeWords.{moved_word}
 use Rattle.irig_saved.proofs.Bytes.{wordy_lacks}

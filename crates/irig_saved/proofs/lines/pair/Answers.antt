@@ -1,4 +1,4 @@
-use Rattle.std.proofs.Common.{◌≡◌, decimal, List, ℕ}
+use Rattle.std.proofs.Common.{decimal}
 use Rattle.irig_saved.proofs.Bytes.{wordy_lacks}
 use Rattle.irig_saved.proofs.Decimals.{number_is_word}
 use Rattle.irig_saved.proofs.Decoding.{two_words}

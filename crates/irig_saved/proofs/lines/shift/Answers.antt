@@ -1,4 +1,4 @@
-use Rattle.std.proofs.Common.{◌≡◌, ◌++◌, ◌∷◌, [], decimal, codes, List, ℕ}
+use Rattle.std.proofs.Common.{◌++◌, ◌∷◌, [], decimal, codes}
 use Rattle.std.specs.Fmt.{signed_decimal}
 use Rattle.irig_saved.specs.Lines.{line}
 use Rattle.irig_saved.specs.ChangeWords.{moved_word}

@@ -1,4 +1,4 @@
-use Rattle.std.proofs.Common.{◌≡◌, ◌++◌, ◌∷◌, [], decimal, codes, List, ℕ, sym, ap, ◌∙◌, refl}
+use Rattle.std.proofs.Common.{◌++◌, ◌∷◌, [], decimal, codes}
 use Rattle.irig_saved.proofs.Bytes.{wordy_lacks}
 use Rattle.irig_saved.proofs.Decimals.{number_is_word}
 use Rattle.irig_saved.proofs.Decoding.{two_words, behind_head, first_word, no_words}

@@ -1,4 +1,4 @@
-use Rattle.std.proofs.Common.{◌≡◌, ◌≤◌, ◌+◌, ◌++◌, map, drop, take, length, decimal}
+use Rattle.std.proofs.Common.{◌≡◌, ◌++◌, map, drop, decimal}
 use Rattle.irig_saved.specs.Lines.{behind}
 use Rattle.irig_saved.proofs.word_writer.put_numbers.Given as goal
 

@@ -1,4 +1,4 @@
-use Rattle.std.proofs.Common.{◌≡◌, ◌<◌, ◌^◌, decimal, sym, ◌∙◌, arith}
+use Rattle.std.proofs.Common.{◌≡◌, ◌<◌, ◌^◌, sym, ◌∙◌, arith}
 use Rattle.irig_saved.proofs.Decimals.{same_number}
 use Rattle.irig_saved.proofs.words.expression.Goals as goal
 

@@ -1,4 +1,4 @@
-use Rattle.std.proofs.Common.{◌≡◌, ◌+◌, ◌++◌, ℕ, Bool, true, not, List, drop, length}
+use Rattle.std.proofs.Common.{◌≡◌, ◌+◌, ◌++◌, Bool, true, not, List, drop, length}
 use Rattle.std.specs.List.{list_all}
 use Rattle.irig_saved.specs.ChangeWords.{letters_from}
 use Rattle.irig_saved.proofs.words.moved.Given as goal

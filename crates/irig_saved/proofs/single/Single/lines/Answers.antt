@@ -1,5 +1,4 @@
-use Rattle.std.proofs.Common.{◌≡◌, ◌+◌, length, ap, sym, ◌∙◌, rules, arith}
-use Rattle.irig_saved.specs.SavedText.{pulse_lines, put_of, single_lines}
+use Rattle.std.proofs.Common.{rules}
 use Rattle.irig_saved.proofs.Texts.{length-pulse_lines}
 use Rattle.irig_saved.proofs.single.Single.lines.Goals as goal
 
