@@ -7,15 +7,12 @@ use Rattle.irig_vcd.specs.Sections.{is_end}
 use Rattle.irig_vcd.specs.Events.{gives_level, any_word, comment_word, word_event, is_mark, is_comment}
 use Rattle.irig_vcd.specs.Values.{vector_level, scalar_level}
 use Rattle.irig_vcd.specs.Changes.{changes_from, time_after, with_event, with_level}
+use Rattle.irig_vcd.specs.Code.Along.{behind}
 use Rattle.irig_vcd.specs.Code.Event.{is_hash, level_read}
 use Rattle.irig_vcd.specs.Code.Section.{after_end}
 use Rattle.irig_vcd.specs.Level.{Change}
 use Rattle.irig_vcd.specs.declared.fault.VcdFault.{VcdFault}
 use Rattle.irig_vcd.specs.declared.fault.VcdFault.TheVariants.{BadToken}
-
--- what is read behind changes
-abbrev pub behind : List Change → Result (List Change × ℕ) VcdFault → Result (List Change × ℕ) VcdFault
-behind before read = read >>= λ p. pair_of (before ++ p.0) p.1
 
 pub one_change : (before : List Change) (t : ℕ) (b : Bool) (read : Result (List Change × ℕ) VcdFault) → behind before (with_level (Some b) t read) ≡ behind (before ++ record { time = t; high = b } ∷ []) read
 one_change before t b (Ok p) = ap (λ (cs : List Change). pair_of cs p.1) (sym (append_assoc before (record { time = t; high = b } ∷ []) p.0))

@@ -18,6 +18,7 @@ pub mod ChangeSteps
 pub mod JournalWords
 pub mod JournalPlaces
 pub mod Levels
+pub mod PulseSteps
 pub mod PlainLemmas
 pub mod Lawful
 pub mod LevelLaw

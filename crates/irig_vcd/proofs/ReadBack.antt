@@ -15,7 +15,7 @@ use Rattle.irig_vcd.specs.Level.{edges_up_to, Change}
 use Rattle.irig_vcd.specs.Dump.{dump, recorded}
 use Rattle.irig_vcd.specs.FileText.{file_text, head_text, header_text, edge_lines, begins_high, later_edges, end_line}
 use Rattle.irig_vcd.specs.Recording.{RisesFrom, UpTo, RecordingView, recording_view, IsRecording}
-use Rattle.irig_vcd.proofs.ChangeSteps.{behind}
+use Rattle.irig_vcd.specs.Code.Along.{behind}
 use Rattle.irig_vcd.proofs.WholeDump.{behind_start}
 use Rattle.irig_vcd.proofs.WrittenEdges.{turns, high_edges, low_edges}
 use Rattle.irig_vcd.proofs.WrittenWords.{level_word}

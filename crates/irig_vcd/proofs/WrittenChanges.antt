@@ -13,7 +13,8 @@ use Rattle.irig_vcd.specs.Recording.{RisesFrom, UpTo, recording_view}
 use Rattle.irig_vcd.specs.declared.fault.VcdFault.{VcdFault}
 use Rattle.irig_vcd.specs.Level.{Change}
 use Rattle.irig_vcd.proofs.DecimalLemmas.{spells, decimal_is_number}
-use Rattle.irig_vcd.proofs.ChangeSteps.{behind, on_time, on_level, behind_none}
+use Rattle.irig_vcd.specs.Code.Along.{behind}
+use Rattle.irig_vcd.proofs.ChangeSteps.{on_time, on_level, behind_none}
 use Rattle.irig_vcd.proofs.WrittenEdges.{turns}
 use Rattle.irig_vcd.proofs.WrittenWords.{time_word, level_word, level_words}
 

@@ -10,3 +10,4 @@ pub mod Time
 pub mod Event
 pub mod Journals
 pub mod Trace
+pub mod Along

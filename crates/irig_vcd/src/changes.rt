@@ -1,11 +1,16 @@
 //! The changes of a wire.
 
-ghost use Rattle.std.specs.Prelude.{◌≡◌, ◌≤◌, ◌<◌, true, ◌^◌, length, IfOk};
+ghost use Rattle.std.specs.Prelude.{◌≡◌, ◌≤◌, ◌<◌, true, ◌^◌, ℕ, List, Result, length, IfOk};
 ghost use Rattle.irig_vcd.specs.Code.Token.{kind_view};
 ghost use Rattle.irig_vcd.specs.Words.{rest_of, is_code};
 ghost use Rattle.irig_vcd.specs.Changes.{changes_from};
 ghost use Rattle.irig_vcd.specs.Code.Event.{is_hash};
 ghost use Rattle.irig_vcd.specs.Code.Trace.{KeepsEdges};
+ghost use Rattle.irig_vcd.specs.Code.Along.{Along};
+ghost use Rattle.irig_vcd.specs.Code.Time.{IsTime, units_of};
+ghost use Rattle.irig_vcd.specs.Level.{Change};
+ghost use Rattle.irig_vcd.specs.Times.{micros_of};
+ghost use Rattle.irig_vcd.specs.declared.fault.VcdFault.{VcdFault};
 ghost use Rattle.irig_vcd.specs.Code.Journals.{Holds};
 ghost use Rattle.irig_vcd.specs.Events.{any_word};
 ghost use Rattle.irig_vcd.specs.Journals.{journals_among};
@@ -13,13 +18,14 @@ ghost use Rattle.irig_vcd.specs.Journals.{journals_among};
 use crate::event::take_level;
 use crate::fault::VcdFault;
 use crate::journals::Journals;
+use crate::pulses::pulses;
 use crate::short::{LONGEST_CODE, Short};
 use crate::time::{Clock, micros, number_time, time};
 use crate::token::{Kind, Tokens};
 use crate::trace::Trace;
 use crate::unit::Unit;
 use crate::variable::is_code;
-use std::alloc::Global;
+use std::alloc::{AllocError, Global};
 
 /// Whether a token sets a time.
 fn is_hash(kind: Kind) -> bool
@@ -47,6 +53,43 @@ fn digits_of(word: &[u8]) -> &[u8]
     }
 }
 
+/// Whether pulses are taken in one step: in microseconds, on a code of one byte.
+fn is_quick(is_plain: bool, unit: Unit, code: &[u8]) -> bool
+    ensures plain { result ≡ true → is_plain ≡ true }
+    ensures unit { result ≡ true → unit ≡ 9 }
+    ensures one { result ≡ true → length code.now ≡ 1 }
+{
+    is_plain && unit.is_microsecond() && code.len() == 1
+}
+
+/// Takes the pulses that stand here, where they are taken in one step, and gives the time then.
+#[inline(always)]
+fn ahead(
+    is_quick: bool,
+    tokens: &mut Tokens,
+    unit: Unit,
+    code: &[u8],
+    clock: Clock,
+    trace: &mut Trace,
+) -> Result<Clock, AllocError>
+    requires unit { is_quick ≡ true → unit ≡ 9 }
+    requires one { is_quick ≡ true → length code.now ≡ 1 }
+    requires dark { is_quick ≡ true → is_code code.now ≡ true }
+    requires time { IsTime unit clock }
+    requires late { trace.old.time ≤ micros_of unit (units_of unit clock) }
+    ensures along { IfOk result (λ now. (total : Result (List Change × ℕ) VcdFault)
+        → Along code.now unit total trace.old clock tokens.old
+        → Along code.now unit total trace.new now tokens.new) }
+    ensures fewer { length tokens.new ≤ length tokens.old }
+    ensures journals { journals_among tokens.old ≡ journals_among tokens.new }
+{
+    if is_quick && trace.has_fallen() {
+        let whole = pulses(tokens, code[0], clock.whole, trace)?;
+        return Ok(Clock { whole, rest: 0 });
+    }
+    Ok(clock)
+}
+
 /// What stands behind the declarations: the last time in microseconds, the edges, and the journals.
 #[derive(Drop)]
 pub struct Body {
@@ -70,6 +113,7 @@ pub fn changes(
     ensures short { IfOk result (λ x. x.end ≤ 2 ^ 40) }
 {
     let is_plain = is_plain(code);
+    let is_quick = is_quick(is_plain, unit, code);
     let mut trace = Trace::new(alloc);
     let mut journals = Journals::new();
     let mut clock = Clock { whole: 0, rest: 0 };
@@ -82,6 +126,7 @@ pub fn changes(
             Short::Bit(high) => {
                 let time = micros(unit, clock);
                 trace.put(time, high)?;
+                clock = ahead(is_quick, tokens, unit, code, clock, &mut trace)?;
                 continue;
             }
             Short::Other => {}

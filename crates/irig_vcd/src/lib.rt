@@ -10,6 +10,7 @@ mod lanes;
 mod law;
 #[cfg(test)]
 mod plain;
+mod pulses;
 mod reader;
 mod recording;
 mod section;

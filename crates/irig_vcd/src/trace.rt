@@ -1,8 +1,9 @@
 //! A level that is told by its changes, traced.
 
-ghost use Rattle.std.specs.Prelude.{◌≡◌, ◌≤◌, ◌^◌, true, ◌∷◌, [], ◌++◌, ℕ, List, OnOk, OnErr, IfOk};
+ghost use Rattle.std.specs.Prelude.{◌≡◌, ◌≤◌, ◌<◌, ◌+◌, ◌^◌, true, false, ◌∷◌, [], ◌++◌, ℕ, List, OnOk, OnErr, IfOk};
 ghost use Rattle.std.specs.Prelude.{length, take, if◌then◌else◌};
 ghost use Rattle.irig_vcd.specs.Level.{Change, change, edges_up_to, differs};
+ghost use Rattle.irig_vcd.specs.Code.Along.{HasFallen};
 ghost use Rattle.irig_vcd.specs.Code.Trace.{edges_kept, Follows};
 
 use crate::recording::EDGES_LIMIT;
@@ -60,6 +61,41 @@ impl Trace {
     {
         self.advance(time)?;
         self.now = high;
+        Ok(())
+    }
+
+    /// Whether the level was high before the last change, and is low from it on.
+    pub fn has_fallen(&self) -> bool
+        ensures { result ≡ true → HasFallen self.entry.now }
+    {
+        self.before && !self.now
+    }
+
+    /// Whether two edges more are kept.
+    #[tactic(auto, unfolding(crate::specs::Code::Trace::edges_kept))]
+    #[inline(always)]
+    pub fn has_room(&self) -> bool
+        ensures { result ≡ true → length self.entry.now.edges.items + 2 ≤ edges_kept }
+    {
+        self.edges.len() < EDGES_LIMIT
+    }
+
+    /// Takes a rise and a fall behind a fall, at times in microseconds.
+    #[inline(always)]
+    pub fn put_pulse(&mut self, rise: u64, fall: u64) -> Result<(), AllocError>
+        requires fallen { HasFallen self.old }
+        requires room { length self.old.edges.items + 2 ≤ edges_kept }
+        requires first { self.old.time < rise }
+        requires second { rise < fall }
+        ensures ok { OnOk result
+            ((changes : List Change) → Follows changes self.old
+            → Follows (changes ++ change rise true ∷ change fall false ∷ []) self.new) }
+        ensures time { OnOk result (self.new.time ≡ fall) }
+        ensures fallen { OnOk result (HasFallen self.new) }
+    {
+        self.edges.push(self.time)?;
+        self.edges.push(rise)?;
+        self.time = fall;
         Ok(())
     }
 

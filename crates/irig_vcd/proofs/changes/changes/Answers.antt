@@ -6,7 +6,8 @@ use Rattle.irig_vcd.specs.Times.{time_of, micros_of}
 use Rattle.irig_vcd.specs.Events.{any_word}
 use Rattle.irig_vcd.specs.Changes.{changes_from}
 use Rattle.irig_vcd.specs.Code.Event.{is_hash, level_read}
-use Rattle.irig_vcd.proofs.ChangeSteps.{behind, goes_on, one_change, on_time, on_word, on_level, behind_none}
+use Rattle.irig_vcd.specs.Code.Along.{behind, Along}
+use Rattle.irig_vcd.proofs.ChangeSteps.{goes_on, one_change, on_time, on_word, on_level, behind_none}
 use Rattle.irig_vcd.specs.Journals.{journals_among}
 use Rattle.irig_vcd.proofs.JournalWords.{keeps_past, keeps_on, past_time, past_level, holds_all}
 use Rattle.irig_vcd.proofs.WholeDump.{fails_now}
@@ -101,14 +102,25 @@ tokens-preserved-in-Bit c =
     let some = c.is_plain-is_plain.ensures.some c.in-Bit.ensures.0 in
     let hash : is_hash b.word.kind ≡ false = ap is_hash b.kind in
     let read = bit_level c.in-Bit.high c.args.code.now b.word c.next_short.new.self some b.kind b.bytes in
-    let k = on_level _ _ _ _ b.word _ _ (Some c.in-Bit.high) b.left hash read in (
+    let k = on_level _ _ _ _ b.word _ _ (Some c.in-Bit.high) b.left hash read in
+    let here : Along c.args.code.now c.args.unit (changes_from any_word c.args.code.now c.args.unit 0 c.args.tokens.now) c.put.new.self c.tokens.clock c.next_short.new.self = (
       c.tokens.invariant.0 ++ record { time = micros_of c.args.unit (units_of c.args.unit c.tokens.clock); high = c.in-Bit.high } ∷ [],
       record {
         time = i.time;
         late = rw (c.in_ok-put-in-Bit.ensures.time, c.micros-time.ensures.value) (omega arith);
         follows = rw (← c.micros-time.ensures.value) (c.in_ok-put-in-Bit.ensures.ok c.tokens.invariant.0 i.follows);
         rest = (sym (one_change c.tokens.invariant.0 (micros_of c.args.unit (units_of c.args.unit c.tokens.clock)) c.in-Bit.high (changes_from any_word c.args.code.now c.args.unit (units_of c.args.unit c.tokens.clock) c.next_short.new.self)) ∙ (ap (behind c.tokens.invariant.0) (sym k) ∙ i.rest));
-        journals = keeps_past _ _ _ _ i.journals (past_level _ b.word _ b.left b.kind);
+      },
+    ) in
+    let there = c.in_ok-clock-in-Bit.ensures.along _ here in
+    let left = keeps_past _ _ _ _ i.journals (past_level _ b.word _ b.left b.kind) in (
+      there.0,
+      record {
+        time = there.1.time;
+        late = there.1.late;
+        follows = there.1.follows;
+        rest = there.1.rest;
+        journals = keeps_past _ _ _ _ left c.in_ok-clock-in-Bit.ensures.journals;
       },
     )
 

@@ -6,7 +6,7 @@ use Rattle.irig_vcd.specs.Changes.{changes_from}
 use Rattle.irig_vcd.specs.Events.{any_word}
 use Rattle.irig_vcd.specs.Level.{Change}
 use Rattle.irig_vcd.specs.Journals.{journals_among}
-use Rattle.irig_vcd.proofs.ChangeSteps.{behind}
+use Rattle.irig_vcd.specs.Code.Along.{behind}
 use Rattle.irig_vcd.proofs.JournalWords.{HoldsUpTo}
 use Rattle.irig_vcd.proofs.changes.changes.Given as goal
 

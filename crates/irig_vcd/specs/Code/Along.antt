@@ -1,0 +1,54 @@
+-- Where reading stands between two tokens.
+use Rattle.std.specs.Prelude.{◌≡◌, ◌≤◌, ◌<◌, ◌+◌, ◌++◌, ◌∷◌, [], ℕ, List, Bool, true, false, Result}
+use Rattle.std.specs.Prelude.{drop, if◌then◌else◌}
+use Rattle.irig_vcd.specs.Answer.{◌>>=◌, pair_of}
+use Rattle.irig_vcd.specs.Changes.{changes_from}
+use Rattle.irig_vcd.specs.Code.Time.{IsTime, units_of}
+use Rattle.irig_vcd.specs.Code.Trace.{Follows}
+use Rattle.irig_vcd.specs.Digits.{is_number, number_from}
+use Rattle.irig_vcd.specs.Events.{any_word}
+use Rattle.irig_vcd.specs.Level.{Change}
+use Rattle.irig_vcd.specs.Times.{micros_of}
+use Rattle.irig_vcd.specs.Words.{Word, words_from, rest_of, hash, scalar}
+use Rattle.irig_vcd.specs.declared.fault.VcdFault.{VcdFault}
+use Rattle.irig_vcd.specs.declared.pulses.Edge.{Edge}
+use Rattle.irig_vcd.specs.declared.time.Clock.{Clock}
+use Rattle.irig_vcd.specs.declared.trace.Trace.{Trace}
+
+-- what is read behind changes
+abbrev pub behind : List Change → Result (List Change × ℕ) VcdFault
+    → Result (List Change × ℕ) VcdFault
+behind before read = read >>= λ p. pair_of (before ++ p.0) p.1
+
+-- a trace has come to the words that are left, where all words come to total
+abbrev pub Along : List ℕ → ℕ → Result (List Change × ℕ) VcdFault → Trace → Clock → List Word
+    → Type 0
+Along code unit total trace clock words =
+    (before : List Change) × record {
+      time : IsTime unit clock;
+      late : trace.time ≤ micros_of unit (units_of unit clock);
+      follows : Follows before trace;
+      rest : behind before (changes_from any_word code unit (units_of unit clock) words) ≡ total;
+    }
+
+-- a time in whole microseconds
+abbrev pub at_micros : ℕ → Clock
+at_micros n = record { whole = n; rest = 0 }
+
+-- the level was high before the last change, and is low from it on
+pub record HasFallen (t : Trace) : Type 0 where
+  pub before : t.before ≡ true
+  pub now : t.now ≡ false
+
+-- the next words are a time and a value on a code of one byte
+pub record TakesEdge (s : List ℕ) (at : ℕ) (high : Bool) (code : ℕ) (e : Edge) : Type 0 where
+  pub sign : Word
+  pub level : Word
+  pub left : words_from at false (drop at s) ≡ sign ∷ level ∷ words_from e.end false (drop e.end s)
+  pub is_hash : sign.kind ≡ hash
+  pub digits : is_number (rest_of sign.bytes) ≡ true
+  pub value : number_from 0 (rest_of sign.bytes) ≡ e.time
+  pub is_scalar : level.kind ≡ scalar
+  pub bytes : level.bytes ≡ (if high then 49 else 48) ∷ code ∷ []
+  pub after : at < e.end
+  pub near : e.end ≤ at + 32

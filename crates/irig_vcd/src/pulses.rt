@@ -1,0 +1,110 @@
+//! Pulses that are read in one step: a rise and a fall, each a time line and a level line.
+
+ghost use Rattle.std.specs.Prelude.{◌≡◌, ◌≤◌, ◌+◌, ◌∷◌, [], ℕ, List, true, Result, length};
+ghost use Rattle.std.specs.Prelude.{slice_index, IfSome, IfOk};
+ghost use Rattle.irig_vcd.specs.Code.Along.{Along, HasFallen, TakesEdge, at_micros};
+ghost use Rattle.irig_vcd.specs.Journals.{journals_among};
+ghost use Rattle.irig_vcd.specs.Level.{Change};
+ghost use Rattle.irig_vcd.specs.Words.{is_code};
+ghost use Rattle.irig_vcd.specs.declared.fault.VcdFault.{VcdFault};
+
+use crate::lanes::lanes_end;
+use crate::token::Tokens;
+use crate::trace::Trace;
+use std::alloc::AllocError;
+
+/// As many bytes as two edges may have.
+const LONGEST_PULSE: usize = 64;
+
+/// The largest time in microseconds.
+const LAST_TIME: u64 = 1 << 40;
+
+/// A time in microseconds with a value at it, and the place behind both lines, in bytes from 0.
+#[derive(Clone, Copy, Debug)]
+pub struct Edge {
+    pub time: u64,
+    pub end: usize,
+}
+
+/// Whether a newline, a value, a code and a newline stand at a place.
+#[inline(always)]
+fn is_line(source: &[u8], at: usize, value: u8, code: u8) -> bool
+    requires { at + 4 ≤ length source.now }
+    ensures { result ≡ true
+        → (slice_index source.now at ≡ 10)
+        × (slice_index source.now (at + 1) ≡ value)
+        × (slice_index source.now (at + 2) ≡ code)
+        × (slice_index source.now (at + 3) ≡ 10) }
+{
+    let stands = u32::from_le_bytes([source[at], source[at + 1], source[at + 2], source[at + 3]]);
+    let line = u32::from_le_bytes([b'\n', value, code, b'\n']);
+    stands == line
+}
+
+/// The edge that stands at a place, to this level and of this code.
+#[inline(always)]
+fn edge_at(source: &[u8], at: usize, high: bool, code: u8) -> Option<Edge>
+    requires back { 16 ≤ at }
+    requires room { at + 32 ≤ length source.now }
+    requires dark { is_code (code ∷ []) ≡ true }
+    ensures { IfSome result (λ e. TakesEdge source.now at high code e) }
+{
+    if source[at] != b'#' {
+        return None;
+    }
+    let (end, time) = lanes_end(source, at + 1);
+    if end == at + 1 {
+        return None;
+    }
+    let value = if high { b'1' } else { b'0' };
+    if !is_line(source, end, value, code) {
+        return None;
+    }
+    Some(Edge { time, end: end + 4 })
+}
+
+/// Takes the pulses that stand here behind a time in microseconds, and gives the time of the last
+/// fall. It stops at what is no pulse. A function of its own for the machine: its state stays in
+/// registers.
+#[inline(never)]
+pub fn pulses(
+    tokens: &mut Tokens,
+    code: u8,
+    from: u64,
+    trace: &mut Trace,
+) -> Result<u64, AllocError>
+    requires dark { is_code (code ∷ []) ≡ true }
+    requires fallen { HasFallen trace.old }
+    requires late { trace.old.time ≤ from }
+    ensures along { IfOk result (λ time. (total : Result (List Change × ℕ) VcdFault)
+        → Along (code ∷ []) 9 total trace.old (at_micros from) tokens.old
+        → Along (code ∷ []) 9 total trace.new (at_micros time) tokens.new) }
+    ensures fewer { length tokens.new ≤ length tokens.old }
+    ensures journals { journals_among tokens.old ≡ journals_among tokens.new }
+{
+    let source = tokens.source;
+    let mut at = tokens.at;
+    if at < 16 {
+        return Ok(from);
+    }
+    let mut time = from;
+    while source.len() - at >= LONGEST_PULSE {
+        let Some(rise) = edge_at(source, at, true, code) else {
+            break;
+        };
+        let Some(fall) = edge_at(source, rise.end, false, code) else {
+            break;
+        };
+        if rise.time <= time || fall.time <= rise.time || fall.time > LAST_TIME {
+            break;
+        }
+        if !trace.has_room() {
+            break;
+        }
+        trace.put_pulse(rise.time, fall.time)?;
+        time = fall.time;
+        at = fall.end;
+    }
+    tokens.at = at;
+    Ok(time)
+}
