@@ -39,7 +39,8 @@ head_of (SetMark letter time) = codes "setmark"
 abbrev pub words_of : Single → List (List ℕ)
 words_of (Splice at count put) = decimal at ∷ decimal count ∷ decimal (length put) ∷ []
 words_of (Toggle a b) = decimal a ∷ decimal b ∷ []
-words_of (Shift i j by marks) = decimal i ∷ decimal j ∷ signed_decimal by ∷ moved_word marks ∷ []
+words_of (Shift i j by marks) =
+    decimal i ∷ decimal j ∷ signed_decimal by ∷ moved_word marks ∷ []
 words_of (SetFormat kind expression) = kind_word kind ∷ decimal expression ∷ []
 words_of (SetMark letter time) = ((97 + letter) ∷ []) ∷ time_word time ∷ []
 

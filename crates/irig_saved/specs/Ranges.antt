@@ -29,7 +29,8 @@ IsPulse p = IsNumber p.rise × IsNumber p.fall
 
 -- all its numbers are of 64 bits, an expression is a digit 0 to 7, a letter is one of 26
 abbrev pub IsSingle : Single → Type 0
-IsSingle (Splice at count put) = IsNumber at × IsNumber count × IsNumber (length put) × AllByRecursion IsPulse put
+IsSingle (Splice at count put) =
+    IsNumber at × IsNumber count × IsNumber (length put) × AllByRecursion IsPulse put
 IsSingle (Toggle a b) = IsNumber a × IsNumber b
 IsSingle (Shift i j by marks) = IsNumber i × IsNumber j × IsDistance by × (length marks ≡ 26)
 IsSingle (SetFormat kind expression) = expression ≤ 7

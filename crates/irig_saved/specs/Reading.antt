@@ -15,7 +15,8 @@ Lacks b bytes = list_all (λ x. not (x == b)) bytes ≡ true
 
 -- a text is cut at the first place of a byte, where it occurs
 abbrev pub CutAt : ℕ → List ℕ → Option (Bor (List ℕ) × Bor (List ℕ)) → Type 0
-CutAt b text r = MatchOption r (Lacks b text) (λ p. (text ≡ p.0.now ++ b ∷ p.1.now) × Lacks b p.0.now)
+CutAt b text r =
+    MatchOption r (Lacks b text) (λ p. (text ≡ p.0.now ++ b ∷ p.1.now) × Lacks b p.0.now)
 
 -- each byte is above the space
 abbrev pub IsWordy : List ℕ → Type 0
@@ -31,7 +32,8 @@ AreLetters marks = length marks ≡ 26
 
 -- a reading gives the value that the bytes are written of, and none where there is none
 abbrev pub Decodes : {X : Type 0} → (X → Type 0) → (X → List ℕ) → List ℕ → Option X → Type 0
-Decodes {X} Is write bytes r = MatchOption r ((x : X) → Is x → bytes ≡ write x → ⊥) (λ x. Is x × (bytes ≡ write x))
+Decodes {X} Is write bytes r =
+    MatchOption r ((x : X) → Is x → bytes ≡ write x → ⊥) (λ x. Is x × (bytes ≡ write x))
 
 -- a change of one line
 abbrev pub IsShort : Single → Type 0
@@ -42,19 +44,22 @@ IsShort (SetFormat kind expression) = IsSingle (SetFormat kind expression)
 IsShort (SetMark letter time) = IsSingle (SetMark letter time)
 
 -- the text begins with the lines of a part
-pub record Reads {X : Type 0} (Is : X → Type 0) (lines : X → List (List ℕ)) (text : List ℕ) (x : X) (rest : List ℕ) : Type 0 where
+pub record Reads {X : Type 0} (Is : X → Type 0) (lines : X → List (List ℕ))
+    (text : List ℕ) (x : X) (rest : List ℕ) : Type 0 where
   pub lawful : Is x
   pub same : text ≡ text_of (lines x) ++ rest
 
 -- some part has the lines of the text before the rest; none has those and the next; and the text
 -- begins with the lines of none
-pub record Stops {X : Type 0} (Is : X → Type 0) (lines : X → List (List ℕ)) (text rest : List ℕ) : Type 0 where
+pub record Stops {X : Type 0} (Is : X → Type 0) (lines : X → List (List ℕ))
+    (text rest : List ℕ) : Type 0 where
   pub n : ℕ
   pub part : X
   pub lawful : Is part
   pub there : n ≤ length (lines part)
   pub same : text ≡ text_of (take n (lines part)) ++ rest
-  pub wrong : (x : X) (more : List ℕ) → Is x → n + 1 ≤ length (lines x) → text ≡ text_of (take (n + 1) (lines x)) ++ more → ⊥
+  pub wrong : (x : X) (more : List ℕ) → Is x → n + 1 ≤ length (lines x)
+      → text ≡ text_of (take (n + 1) (lines x)) ++ more → ⊥
   pub refused : (x : X) (more : List ℕ) → Is x → text ≡ text_of (lines x) ++ more → ⊥
 
 -- memory is no matter of the text
@@ -63,5 +68,8 @@ IsStop P (At rest) = P rest.now
 IsStop P Memory = Unit {0}
 
 -- a part is read from the head of a text
-abbrev pub Parses : {X : Type 0} → (X → Type 0) → (X → List (List ℕ)) → List ℕ → Result (X × Bor (List ℕ)) Stop → Type 0
-Parses Is lines text r = MatchResult r (λ p. Reads Is lines text p.0 p.1.now) (λ e. IsStop (λ rest. Stops Is lines text rest) e)
+abbrev pub Parses : {X : Type 0} → (X → Type 0) → (X → List (List ℕ)) → List ℕ
+    → Result (X × Bor (List ℕ)) Stop → Type 0
+Parses Is lines text r =
+    MatchResult r (λ p. Reads Is lines text p.0 p.1.now)
+    (λ e. IsStop (λ rest. Stops Is lines text rest) e)

@@ -55,7 +55,8 @@ steps_lines (s ∷ ss) = step_lines s ++ steps_lines ss
 abbrev pub mark_lines : ℕ → List (Option ℕ) → List (List ℕ)
 mark_lines x [] = []
 mark_lines x (None ∷ ms) = mark_lines (x + 1) ms
-mark_lines x (Some t ∷ ms) = line (codes "mark") ((x ∷ []) ∷ decimal t ∷ []) ∷ mark_lines (x + 1) ms
+mark_lines x (Some t ∷ ms) =
+    line (codes "mark") ((x ∷ []) ∷ decimal t ∷ []) ∷ mark_lines (x + 1) ms
 
 -- a word with how many steps there are, and the steps
 abbrev pub counted_lines : List ℕ → List Step → List (List ℕ)
