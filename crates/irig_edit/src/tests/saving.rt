@@ -67,18 +67,35 @@ fn each_step_is_saved_as_the_change_that_leads_there(rt: HostRuntime) -> Result<
 
 #[test]
 fn a_group_is_saved_in_the_order_of_its_turn(rt: HostRuntime) -> Result<(), Fail> {
-    let (delete, insert) = (Call::Delete(1, 1), Call::Insert(300, 350));
     let rows: [([Call; 5], &[u8]); 3] = [
         (
-            [Call::Begin, delete, insert, Call::End, Call::Go(1)],
+            [
+                Call::Begin,
+                Call::Delete(1, 1),
+                Call::Insert(300, 350),
+                Call::End,
+                Call::Go(1),
+            ],
             b"format G 2\ncursor 1\npast 1\nat 2\ngroup 2\nsplice 2 1 0\nsplice 1 0 1\n100 120\nfuture 0\n",
         ),
         (
-            [Call::Begin, delete, insert, Call::End, Call::Undo],
+            [
+                Call::Begin,
+                Call::Delete(1, 1),
+                Call::Insert(300, 350),
+                Call::End,
+                Call::Undo,
+            ],
             b"format G 2\ncursor 2\npast 0\nfuture 1\nat 2\ngroup 2\nsplice 1 1 0\nsplice 2 0 1\n300 350\n",
         ),
         (
-            [delete, Call::Begin, insert, Call::Undo, Call::Redo],
+            [
+                Call::Delete(1, 1),
+                Call::Begin,
+                Call::Insert(300, 350),
+                Call::Undo,
+                Call::Redo,
+            ],
             b"format G 2\ncursor 2\npast 2\nat 2\nsplice 1 0 1\n100 120\nat 1\nsplice 2 1 0\nfuture 0\n",
         ),
     ];
