@@ -14,6 +14,8 @@ pub mod Limits
 pub mod Looks
 pub mod Machine
 pub mod Marks
+pub mod Opened
+pub mod Openings
 pub mod Present
 pub mod ReadBack
 pub mod Refusals
@@ -25,3 +27,6 @@ pub mod SavedSession
 pub mod Session
 pub mod Single
 pub mod State
+pub mod Stops
+pub mod Taken
+pub mod Walk

@@ -6,8 +6,11 @@ mod edits;
 mod frames;
 mod getters;
 mod groups;
+mod head;
 mod law;
 mod marks;
+mod naming;
+mod opening;
 mod present;
 mod refusal;
 mod room;
@@ -17,10 +20,13 @@ mod session;
 mod single;
 mod singles;
 mod splice;
+mod taking;
 #[cfg(test)]
 mod tests;
+mod trial;
 mod turn;
 mod turns;
+mod walk;
 
 pub use irig_index::{Cause, Record, Verdict};
 pub use irig_track::Pulse;

@@ -1,0 +1,24 @@
+use Rattle.std.proofs.Common.{◌≡◌, ◌+◌, ◌-◌, ◌≤◌, ◌<◌, ℕ, suc, List, length, take, drop, ap, sym, subst, ◌∙◌, arith}
+use Rattle.irig_journal.specs.declared.step.Step.{Step}
+use Rattle.irig_journal.specs.History.{History}
+use Rattle.irig_edit.specs.Delta.{Delta}
+use Rattle.irig_edit.specs.State.{State}
+use Rattle.irig_edit.specs.Walk.{ahead_of, gone_along}
+use Rattle.irig_edit.proofs.Walks.{back_more, back_none}
+use Rattle.irig_edit.proofs.walk.Walk.go_back.Goals as goal
+
+pub loop-init : goal.loop-init
+loop-init c = (
+  (λ h ds is can stands none long. back_none h c.args.self.now ds (c.args.count - 0) stands none (omega (arith, long))),
+  c.requires.fitting,
+)
+
+pub loop-preserved : goal.loop-preserved
+loop-preserved c = (
+  (λ h ds is can stands none long.
+      let n = c.args.count - (c.loop.counter + 1) in
+      let more : c.args.count - c.loop.counter ≡ suc n = omega (arith, c.loop-test.true) in
+      let there = subst (λ (m : ℕ). c.loop.self ≡ ahead_of (gone_along h (take m ds)) (drop m ds)) more (c.loop.invariant.0 h ds is can stands none long) in
+      back_more h c.loop.self c.undo.new.self ds n is can (omega (arith, long, more, c.loop-test.true)) there c.in_ok-undo.ensures.back),
+  c.undo.ensures.steps,
+)

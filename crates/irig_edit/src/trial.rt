@@ -1,0 +1,79 @@
+//! Whether a change can be made, whatever it is: a group is made and taken back.
+
+ghost use Rattle.std.specs.Prelude.{◌≡◌, ◌↔◌, IfOk, IsTrue, map};
+ghost use Rattle.irig_journal.specs.Turns.{FitAll, backs, left_by};
+ghost use Rattle.irig_edit.specs.Delta.{Fits};
+ghost use Rattle.irig_edit.specs.Held.{delta_of, single_of};
+ghost use Rattle.irig_edit.specs.Single.{FitsSingle, turned_single};
+
+use crate::change::Change;
+use crate::present::Present;
+use crate::single::Single;
+use crate::singles::Singles;
+use std::alloc::AllocError;
+
+/// Trials. After a change that can be made all is as it was; after another, or want of memory,
+/// nothing is said of state and change.
+impl Present {
+    /// Whether the change can be made.
+    pub(crate) fn can_make(&mut self, change: &mut Change) -> Result<bool, AllocError>
+        ensures can { IfOk result (λ can. IsTrue can ↔ Fits self.old.state (delta_of change.old)) }
+        ensures same { IfOk result (λ can. IsTrue can → (self.new.state ≡ self.old.state)
+            × (delta_of change.new ≡ delta_of change.old)) }
+    {
+        match change {
+            Change::One(single) => Ok(self.allows(single)),
+            Change::Group(singles) => self.can_make_all(singles),
+        }
+    }
+
+    /// Whether single changes can be made one after another.
+    fn can_make_all(&mut self, singles: &mut Singles) -> Result<bool, AllocError>
+        ensures can { IfOk result (λ can. IsTrue can
+            ↔ FitAll FitsSingle turned_single self.old.state (map single_of singles.old)) }
+        ensures same { IfOk result (λ can. IsTrue can → (self.new.state ≡ self.old.state)
+            × (map single_of singles.new ≡ map single_of singles.old)) }
+    {
+        let _len = self.len();
+        if !self.make_all(singles)? {
+            return Ok(false);
+        }
+        singles.items.reverse();
+        self.room_for_all(singles)?;
+        singles.turn(self);
+        Ok(true)
+    }
+
+    /// Makes single changes one after another, up to one that can't be made, and leaves the one
+    /// that leads back in the place of each. The answer tells whether all were made.
+    fn make_all(&mut self, singles: &mut Singles) -> Result<bool, AllocError>
+        ensures can { IfOk result (λ can. IsTrue can
+            ↔ FitAll FitsSingle turned_single self.old.state (map single_of singles.old)) }
+        ensures made { IfOk result (λ can. IsTrue can → (self.new.state
+            ≡ left_by turned_single self.old.state (map single_of singles.old))
+            × (map single_of singles.new
+            ≡ backs turned_single self.old.state (map single_of singles.old))) }
+    {
+        for i in 0..singles.items.len() {
+            if !self.make(&mut singles.items[i])? {
+                return Ok(false);
+            }
+        }
+        Ok(true)
+    }
+
+    /// Makes a single change where it can be made, and leaves the one that leads back.
+    fn make(&mut self, single: &mut Single) -> Result<bool, AllocError>
+        ensures can { IfOk result (λ can.
+            IsTrue can ↔ FitsSingle self.old.state (single_of single.old)) }
+        ensures made { IfOk result (λ can. IsTrue can → (self.new.state, single_of single.new)
+            ≡ turned_single self.old.state (single_of single.old)) }
+    {
+        if !self.allows(single) {
+            return Ok(false);
+        }
+        self.room_for(single)?;
+        self.turn_single(single);
+        Ok(true)
+    }
+}

@@ -1,0 +1,121 @@
+//! A state on its way along steps.
+
+ghost use Rattle.std.specs.Prelude.{◌≡◌, ◌≤◌, Some, None, OnOk, [], length};
+ghost use Rattle.irig_journal.specs.Groups.{over};
+ghost use Rattle.irig_journal.specs.History.{stepped_back, turned_round};
+ghost use Rattle.irig_edit.specs.Delta.{Fits, turned};
+ghost use Rattle.irig_edit.specs.Held.{delta_of};
+ghost use Rattle.irig_edit.specs.Keeping.{machine};
+ghost use Rattle.irig_edit.specs.Session.{session_view};
+ghost use Rattle.irig_edit.specs.State.{IsState};
+ghost use Rattle.irig_edit.specs.Taken.{CanTakeAll};
+ghost use Rattle.irig_edit.specs.Walk.{Fitting, changed, walk};
+
+use crate::change::Change;
+use crate::present::Present;
+use crate::session::Session;
+use irig_journal::Journal;
+use std::alloc::{AllocError, Global};
+use std::marker::Model;
+
+/// A state with its cursor, and the steps that lead back and forward from it. No group is open.
+///
+/// What answers want of memory says nothing of what it leaves.
+#[derive(Drop)]
+pub(crate) struct Walk {
+    pub(crate) present: Present,
+    pub(crate) cursor: usize,
+    pub(crate) journal: Journal<Present>,
+}
+
+impl Model for Walk {
+    ghost use Rattle.std.specs.Prelude.{◌≡◌, None};
+    ghost use Rattle.irig_journal.specs.History.{History};
+    ghost use Rattle.irig_journal.specs.Journal.{history_of};
+    ghost use Rattle.irig_edit.specs.Delta.{Delta};
+    ghost use Rattle.irig_edit.specs.Held.{delta_of};
+    ghost use Rattle.irig_edit.specs.State.{State};
+
+    ghost Value = { History State Delta };
+
+    ghost view = { λ w. history_of delta_of w.present.state w.cursor w.journal };
+
+    ghost invariant = { λ w. w.journal.floor ≡ None };
+}
+
+impl Walk {
+    /// At a state with this cursor, with no steps.
+    pub(crate) fn new(alloc: Global, present: Present, cursor: usize) -> Walk
+        ensures { result ≡ walk present.state cursor [] [] }
+    {
+        Walk {
+            present,
+            cursor,
+            journal: Journal::new(alloc),
+        }
+    }
+
+    /// How many pulses the state has.
+    pub(crate) fn len(&self) -> usize
+        ensures len { result ≡ length self.now.state.pulses }
+        ensures state { IsState self.now.state }
+    {
+        self.present.len()
+    }
+
+    /// Makes a change, and stays at its cursor.
+    pub(crate) fn change(&mut self, change: Change) -> Result<(), AllocError>
+        requires fits { Fits self.old.state (delta_of change) }
+        requires steps { Fitting self.old }
+        ensures changed { OnOk result (self.new ≡ changed self.old (delta_of change)) }
+        ensures steps { Fitting self.new }
+    {
+        match self.journal.record(&mut self.present, change, self.cursor) {
+            Ok(()) => Ok(()),
+            Err(_) => Err(AllocError),
+        }
+    }
+
+    /// Puts the cursor at a place.
+    pub(crate) fn go(&mut self, cursor: usize)
+        ensures { self.new ≡ walk self.old.state cursor self.old.past self.old.future }
+    {
+        self.cursor = cursor;
+    }
+
+    /// Takes the nearest step back.
+    pub(crate) fn undo(&mut self) -> Result<(), AllocError>
+        requires steps { Fitting self.old }
+        ensures back { OnOk result (stepped_back turned self.old ≡ Some self.new) }
+        ensures steps { Fitting self.new }
+    {
+        match self.journal.undo(&mut self.present, &mut self.cursor) {
+            Ok(()) => Ok(()),
+            Err(_) => Err(AllocError),
+        }
+    }
+
+    /// Past and future change over.
+    pub(crate) fn turn_round(&mut self)
+        ensures { self.new ≡ turned_round self.old }
+    {
+        self.journal.turn_round();
+    }
+
+    /// The session, which tells no looks yet.
+    pub(crate) fn into_session(self, alloc: Global) -> Session
+        requires fitting { Fitting self }
+        requires cursor { self.cursor ≤ length self.state.pulses }
+        requires steps { CanTakeAll self.state self.past × CanTakeAll self.state self.future }
+        ensures { result ≡ session_view (over None (machine self)) result.looks 0 }
+    {
+        let _len = self.len();
+        Session {
+            alloc,
+            present: self.present,
+            cursor: self.cursor,
+            journal: self.journal,
+            last_looks: 0,
+        }
+    }
+}
