@@ -28,6 +28,12 @@ pub record IsTextOf (text : List ℕ) (saved : Saved) : Type 0 where
   pub ranges : IsSaved saved
   pub same : text ≡ journal_text saved
 
+-- what a dump says of the wire, and the journal that it carries
+abbrev pub ArePartsOf : Option (List ℕ) → List ℕ → RecordingView → Option Saved → Type 0
+ArePartsOf wire bytes r None = dump_parts wire bytes ≡ Ok (r, None)
+ArePartsOf wire bytes r (Some saved) =
+    (text : List ℕ) × ((dump_parts wire bytes ≡ Ok (r, Some text)) × IsTextOf text saved)
+
 -- of a dump without a journal its session in the format; else the one that the journal makes
 abbrev pub IsOpened : Option (List ℕ) → List ℕ → FormatView → SessionView → Type 0
 IsOpened wire bytes format v =

@@ -1,11 +1,11 @@
 //! A session is opened from a dump, with the journal that it carries.
 
-ghost use Rattle.std.specs.Prelude.{◌≤◌, ◌^◌, IfOk, IfErr, length};
+ghost use Rattle.std.specs.Prelude.{◌≤◌, ◌^◌, IfOk, IfErr, IfSome, length};
+ghost use Rattle.irig_saved.specs.Faults.{IsFault};
 ghost use Rattle.irig_saved.specs.SavedText.{saved_lines};
-ghost use Rattle.irig_saved.specs.declared.saved.Saved.{Saved};
 ghost use Rattle.irig_vcd.specs.Answer.{name_of};
 ghost use Rattle.irig_edit.specs.Opened.{IsAccepted, IsLineAtFault, state_of};
-ghost use Rattle.irig_edit.specs.Openings.{IsBad, IsJournalFault, IsOpened, IsTextOf, IsUnopened};
+ghost use Rattle.irig_edit.specs.Openings.{ArePartsOf, IsBad, IsOpened, IsTextOf, IsUnopened};
 
 use crate::head::start;
 use crate::session::Session;
@@ -17,42 +17,64 @@ use std::alloc::Global;
 impl Session {
     /// The session of a dump's wire, as `irig_vcd::read` takes it. A dump without a journal opens
     /// in this format, as `open` does; else format, marks, cursor, past and future are those of the
-    /// journal.
+    /// journal. The bytes are dropped before the session takes its memory.
     ///
     /// A fault of the dump; V13 with the number of the line at fault of the journal, from 1.
     pub fn open_dump(
         alloc: Global,
-        bytes: &[u8],
+        bytes: Vec<u8>,
         wire: Option<&[u8]>,
         format: Format,
     ) -> Result<Session, VcdFault>
-        requires short { length bytes.now ≤ 2 ^ 28 }
-        ensures opened { IfOk result (λ s. IsOpened (name_of wire.entry) bytes.now format s) }
-        ensures fault { IfErr result (λ e. IsUnopened (name_of wire.entry) bytes.now e) }
+        requires short { length bytes.items ≤ 2 ^ 28 }
+        ensures opened { IfOk result (λ s. IsOpened (name_of wire.entry) bytes.items format s) }
+        ensures fault { IfErr result (λ e. IsUnopened (name_of wire.entry) bytes.items e) }
     {
-        let (recording, journal) = match read_parts(alloc, bytes, wire) {
-            Ok(parts) => parts,
-            Err(fault) => return Err(fault),
-        };
-        match journal {
-            Some(text) => with_journal(alloc, recording, text),
-            None => match Session::open(alloc, recording, format) {
-                Ok(session) => Ok(session),
-                Err(_) => Err(VcdFault::OutOfMemory),
+        match parts_of(alloc, bytes, wire) {
+            Ok((recording, journal)) => match journal {
+                Some(saved) => session_of(alloc, recording, saved),
+                None => match Session::open(alloc, recording, format) {
+                    Ok(session) => Ok(session),
+                    Err(_) => Err(VcdFault::OutOfMemory),
+                },
             },
+            Err(fault) => Err(fault),
         }
     }
 }
 
-/// The session of a recording with the journal of this text.
-fn with_journal(alloc: Global, recording: Recording, text: &[u8]) -> Result<Session, VcdFault>
+/// The recording of a dump, and the journal that it carries, of which no step was tried.
+fn parts_of(
+    alloc: Global,
+    bytes: Vec<u8>,
+    wire: Option<&[u8]>,
+) -> Result<(Recording, Option<Saved>), VcdFault>
+    requires short { length bytes.items ≤ 2 ^ 28 }
+    ensures parts { IfOk result (λ p. ArePartsOf (name_of wire.entry) bytes.items p.0 p.1) }
+    ensures lines { IfOk result (λ p. IfSome p.1 (λ saved. length (saved_lines saved) ≤ 2 ^ 28)) }
+    ensures fault { IfErr result (λ e. IsUnopened (name_of wire.entry) bytes.items e) }
+{
+    match read_parts(alloc, bytes.as_slice(), wire) {
+        Ok((recording, journal)) => match journal {
+            None => Ok((recording, None)),
+            Some(text) => match journal_of(alloc, text) {
+                Ok(saved) => Ok((recording, Some(saved))),
+                Err(fault) => Err(fault),
+            },
+        },
+        Err(fault) => Err(fault),
+    }
+}
+
+/// The journal of this text.
+fn journal_of(alloc: Global, text: &[u8]) -> Result<Saved, VcdFault>
     requires short { length text.now ≤ 2 ^ 28 }
-    ensures opened { IfOk result (λ s. (saved : Saved) × (IsTextOf text.now saved
-        × IsAccepted (state_of recording saved) saved s)) }
-    ensures fault { IfErr result (IsBad (IsJournalFault recording text.now)) }
+    ensures saved { IfOk result (IsTextOf text.now) }
+    ensures lines { IfOk result (λ saved. length (saved_lines saved) ≤ 2 ^ 28) }
+    ensures fault { IfErr result (IsBad (λ line. IsFault line text.now)) }
 {
     match parse(alloc, text) {
-        Ok(saved) => session_of(alloc, recording, saved),
+        Ok(saved) => Ok(saved),
         Err(Fault::Line(line)) => Err(VcdFault::BadJournal(line)),
         Err(Fault::Memory) => Err(VcdFault::OutOfMemory),
     }
