@@ -23,6 +23,7 @@ pub mod Steps
 pub mod SameReply
 pub mod SameRun
 pub mod SameEdit
+pub mod SameOpening
 -- what is printed
 pub mod RowLemmas
 pub mod Blocks

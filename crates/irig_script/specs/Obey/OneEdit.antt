@@ -2,14 +2,13 @@
 -- failed put. This project's own.
 use Rattle.std.specs.Prelude.{◌≡◌, ℕ, List, Option, Some, Ok}
 use Rattle.irig_codes.specs.Format.{FormatView}
-use Rattle.irig_edit.specs.Session.{started}
 use Rattle.irig_script.specs.Obey.Desk.{Desk}
 use Rattle.irig_script.specs.Obey.Editing.{Edited}
 use Rattle.irig_script.specs.Obey.OneRun.{EndTheSame, MeetTheSame, RunOf}
 use Rattle.irig_script.specs.declared.obey.status.Status.{Status}
 use Rattle.irig_script.specs.declared.obey.status.Status.TheVariants.{AllAccepted}
 
--- a dump that was read and edited by a whole script, with what lay round before and afterwards
+-- a dump that was opened and edited by a whole script, with what lay round before and afterwards
 pub record EditOf (wire : Option (List ℕ)) (chosen : FormatView) (source script : List ℕ) : Type 0
   where
     pub from : Desk
@@ -26,7 +25,7 @@ run_in one = record {
   to = one.to;
   before = AllAccepted;
   after = one.status;
-  old = started one.edited.looks one.edited.first;
+  old = one.edited.first;
   new = one.edited.last;
   ran = one.edited.ran;
 }

@@ -1,8 +1,8 @@
 //! A dump edited by a script.
 
-ghost use Rattle.std.specs.Prelude.{◌≡◌, ◌≤◌, ◌^◌, Ok, IfErr, IfOk, length};
-ghost use Rattle.irig_vcd.specs.Dump.{dump};
-ghost use Rattle.irig_vcd.specs.Answer.{Fails, name_of};
+ghost use Rattle.std.specs.Prelude.{◌≡◌, ◌≤◌, ◌^◌, IfErr, IfOk, length};
+ghost use Rattle.irig_edit.specs.Openings.{IsOpened, IsUnopened};
+ghost use Rattle.irig_vcd.specs.Answer.{name_of};
 ghost use Rattle.irig_script.specs.Obey.Desk.{desk};
 ghost use Rattle.irig_script.specs.Obey.Editing.{EditsAs};
 
@@ -11,22 +11,22 @@ use crate::obey::status::{RunFault, Status};
 use crate::shelf::shelf::Shelf;
 use irig_codes::Format;
 use irig_edit::Session;
-use irig_vcd::{Recording, VcdFault};
+use irig_vcd::VcdFault;
 use std::alloc::Global;
 use std::io::{Read, Write};
 
 /// Why a dump was not edited to the end of a script.
 #[derive(Clone, Copy, PartialEq, Eq)]
 pub enum EditFault {
-    /// The dump is no recording: no line of the script was read.
+    /// The dump was not opened: no line of the script was read.
     Dump(VcdFault),
     /// The run of the script was broken off.
     Run(RunFault),
 }
 
-/// Reads a dump and obeys a script on its recording, from the bytes that come in to those that go
-/// out. The wire is chosen by its name, where one is given, and frames are read in the format. The
-/// bytes of the dump are dropped before the script is read.
+/// Opens a dump and obeys a script on its session, from the bytes that come in to those that go out.
+/// The wire is chosen by its name, where one is given, and frames are read in the format, unless the
+/// dump has a journal with another. The bytes of the dump are dropped before the script is read.
 pub fn edit<R: Read, W: Write, S: Shelf>(
     alloc: Global,
     source: Vec<u8>,
@@ -43,13 +43,9 @@ pub fn edit<R: Read, W: Write, S: Shelf>(
         (desk (W.contents out.new) (S.known shelf.new)) result }
     ensures label { (S.known shelf.new).label ≡ (S.known shelf.old).label }
 {
-    let recording = match recorded(alloc, source, wire) {
-        Ok(recording) => recording,
-        Err(fault) => return Err(EditFault::Dump(fault)),
-    };
-    let mut session = match Session::open(alloc, recording, format) {
+    let mut session = match opened(alloc, source, wire, format) {
         Ok(session) => session,
-        Err(_) => return Err(EditFault::Dump(VcdFault::OutOfMemory)),
+        Err(fault) => return Err(EditFault::Dump(fault)),
     };
     match engine::run(&mut session, script, out, shelf) {
         Ok(status) => Ok(status),
@@ -57,11 +53,16 @@ pub fn edit<R: Read, W: Write, S: Shelf>(
     }
 }
 
-/// The recording that a dump tells. The bytes of the dump are dropped.
-fn recorded(alloc: Global, source: Vec<u8>, wire: Option<&[u8]>) -> Result<Recording, VcdFault>
+/// The session that a dump tells. The bytes of the dump are dropped.
+fn opened(
+    alloc: Global,
+    source: Vec<u8>,
+    wire: Option<&[u8]>,
+    format: Format,
+) -> Result<Session, VcdFault>
     requires { length source.items ≤ 2 ^ 28 }
-    ensures read { IfOk result (λ r. dump (name_of wire.entry) source.items ≡ Ok r) }
-    ensures fault { IfErr result (λ e. Fails e (dump (name_of wire.entry) source.items)) }
+    ensures opened { IfOk result (IsOpened (name_of wire.entry) source.items format) }
+    ensures fault { IfErr result (IsUnopened (name_of wire.entry) source.items) }
 {
-    irig_vcd::read(alloc, source.as_slice(), wire)
+    Session::open_dump(alloc, source.as_slice(), wire, format)
 }

@@ -26,6 +26,10 @@ const SHORT: &[u8] =
 const LONG: &[u8] =
     b"$timescale 1 us $end\n$var wire 1 ! code $end\n$enddefinitions $end\n#2000000\n";
 
+/// A session that was saved after a pulse was taken out, a mark set, and the mark taken back.
+const SAVED: &[u8] =
+    b"$timescale 1 us $end\n$scope module irig $end\n$var wire 1 ! code $end\n$upscope $end\n$enddefinitions $end\n#0\n$dumpvars\n0!\n$end\n#200\n1!\n#280\n0!\n#1000\n$comment\nirig-journal-1\nformat G 2\ncursor 1\npast 1\nat 2\nsplice 1 0 1\n100 120\nfuture 1\nat 1\nsetmark a 110\n$end\n";
+
 /// A script over a dump in a format, what it prints, and how it ends.
 #[derive(Clone, Copy)]
 pub struct Row<'a> {
@@ -38,7 +42,7 @@ pub struct Row<'a> {
 }
 
 /// Dumps, scripts and what they print.
-pub static ROWS: [Row<'static>; 40] = [
+pub static ROWS: [Row<'static>; 42] = [
     Row {
         // a dump is read and written
         dump: EMPTY,
@@ -398,5 +402,23 @@ pub static ROWS: [Row<'static>; 40] = [
         script: b"\xff\xfe\n\0\nwrite \x80\nwrite\n",
         printed: b"? S1 BadLine\n? S1 BadLine\n? S1 BadLine\n163\n",
         status: Status::SomeRefused,
+    },
+    Row {
+        // a session is saved with its journal
+        dump: PULSES,
+        kind: Kind::G,
+        expression: 2,
+        script: b"1 delete\nmark a 110\nundo\nsave\nsave x\nwrite\n",
+        printed: b"257\n? S1 BadLine\n147\n",
+        status: Status::SomeRefused,
+    },
+    Row {
+        // a saved session is opened in its own format and gone on with
+        dump: SAVED,
+        kind: Kind::A,
+        expression: 5,
+        script: b"info\nredo\nmarks\nundo\nundo\n,list\n",
+        printed: b"length 1000 pulses 1 frames 0 format G 2 cursor 1 past 1 future 1\na 110\n1 100 120 zero\n2 200 280 position\n",
+        status: Status::AllAccepted,
     },
 ];
