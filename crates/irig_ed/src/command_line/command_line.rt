@@ -95,7 +95,12 @@ fn command<'a>(alloc: Global) -> Result<Command<'a>, AllocError>
     ensures { IfOk result (λ c. IsCommand (app_of c)) }
 {
     reading(alloc)?
-        .arg(option_arg(alloc, "out", "PATH", "what `write` and `save` write, if not TRACK"))?
+        .arg(option_arg(
+            alloc,
+            "out",
+            "PATH",
+            "what `write` and `save` write, if not TRACK",
+        ))?
         .arg(track_arg(alloc))
 }
 
