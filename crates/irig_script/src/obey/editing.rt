@@ -1,7 +1,6 @@
 //! A dump edited by a script.
 
-ghost use Rattle.std.specs.Prelude.{◌≡◌, ◌≤◌, ◌^◌, IfErr, IfOk, length};
-ghost use Rattle.irig_edit.specs.Openings.{IsOpened, IsUnopened};
+ghost use Rattle.std.specs.Prelude.{◌≡◌, ◌≤◌, ◌^◌, length};
 ghost use Rattle.irig_vcd.specs.Answer.{name_of};
 ghost use Rattle.irig_script.specs.Obey.Desk.{desk};
 ghost use Rattle.irig_script.specs.Obey.Editing.{EditsAs};
@@ -43,7 +42,7 @@ pub fn edit<R: Read, W: Write, S: Shelf>(
         (desk (W.contents out.new) (S.known shelf.new)) result }
     ensures label { (S.known shelf.new).label ≡ (S.known shelf.old).label }
 {
-    let mut session = match opened(alloc, source, wire, format) {
+    let mut session = match Session::open_dump(alloc, source, wire, format) {
         Ok(session) => session,
         Err(fault) => return Err(EditFault::Dump(fault)),
     };
@@ -51,18 +50,4 @@ pub fn edit<R: Read, W: Write, S: Shelf>(
         Ok(status) => Ok(status),
         Err(fault) => Err(EditFault::Run(fault)),
     }
-}
-
-/// The session that a dump tells. The bytes of the dump are dropped.
-fn opened(
-    alloc: Global,
-    source: Vec<u8>,
-    wire: Option<&[u8]>,
-    format: Format,
-) -> Result<Session, VcdFault>
-    requires { length source.items ≤ 2 ^ 28 }
-    ensures opened { IfOk result (IsOpened (name_of wire.entry) source.items format) }
-    ensures fault { IfErr result (IsUnopened (name_of wire.entry) source.items) }
-{
-    Session::open_dump(alloc, source.as_slice(), wire, format)
 }
