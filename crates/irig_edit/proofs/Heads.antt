@@ -1,9 +1,8 @@
 -- What a saved journal says above its steps.
-use Rattle.std.proofs.Common.{◌≡◌, ◌≤◌, ◌<◌, ◌+◌, ℕ, Bool, true, false, List, [], ◌∷◌, Option, Some, None, IsTrue, length, nat_lt, not, if◌then◌else◌, refl, ap, sym, ◌∙◌, subst, arith}
+use Rattle.std.proofs.Common.{◌≡◌, ◌≤◌, ◌<◌, ◌+◌, ℕ, Bool, true, false, List, [], ◌∷◌, Option, Some, None, IsTrue, length, nat_lt, not, if◌then◌else◌, refl, ap, sym, ◌∙◌, arith}
 use Rattle.std.proofs.lemmas.Bool.Decides.{nat_tests}
 use Rattle.std.specs.List.{AllByRecursion}
-use Rattle.irig_codes.specs.Format.{FormatView, is_permitted}
-use Rattle.irig_saved.specs.SavedText.{mark_lines, steps_lines}
+use Rattle.irig_codes.specs.Format.{is_permitted}
 use Rattle.irig_saved.specs.declared.saved.Saved.{Saved}
 use Rattle.irig_vcd.specs.Recording.{RecordingView}
 use Rattle.irig_edit.specs.Laws.Edges.{pulses_of-edges_of}

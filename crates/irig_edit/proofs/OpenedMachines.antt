@@ -1,5 +1,5 @@
 -- The machine of steps that can be taken.
-use Rattle.std.proofs.Common.{◌≡◌, ◌≤◌, ℕ, List, [], ◌∷◌, length}
+use Rattle.std.proofs.Common.{◌≤◌, ℕ, List, [], ◌∷◌, length}
 use Rattle.std.specs.List.{AllByRecursion}
 use Rattle.irig_journal.specs.declared.step.Step.{Step}
 use Rattle.irig_edit.specs.Delta.{Delta, turned}

@@ -1,5 +1,5 @@
 -- The steps of a saved journal that were taken so far.
-use Rattle.std.proofs.Common.{Bool, true, false, Result, Ok, Err, ◌≡◌, ◌≤◌, ◌<◌, ◌^◌, ℕ, suc, zero, ◌+◌, ◌++◌, List, [], ◌∷◌, Option, Some, length, map, take, drop, reverse, refl, ap, ap₂, sym, ◌∙◌, subst, arith, append_assoc}
+use Rattle.std.proofs.Common.{Bool, true, false, Result, Ok, Err, ◌≡◌, ◌≤◌, ◌<◌, ◌^◌, ℕ, ◌+◌, ◌++◌, List, [], ◌∷◌, length, map, take, reverse, refl, ap, ap₂, sym, ◌∙◌, subst, arith, append_assoc}
 use Rattle.std.proofs.Math.Seq.{take-append-add, take-append_seam}
 use Rattle.std.proofs.lemmas.List.{append-nil, length-append, map-append, reverse-append}
 use Rattle.irig_saved.specs.SavedText.{step_lines, steps_lines}
@@ -11,10 +11,10 @@ use Rattle.irig_edit.specs.Delta.{Delta, Fits, turned}
 use Rattle.irig_edit.specs.Saved.{saved_change, saved_step}
 use Rattle.irig_edit.specs.State.{State}
 use Rattle.irig_edit.specs.Stops.{StopsAt, Told}
-use Rattle.irig_edit.specs.Taken.{AreTaken, CanTake, CanTakeAll, IsLawful, StopsAfter}
+use Rattle.irig_edit.specs.Taken.{AreTaken, CanTake, CanTakeAll, IsLawful}
 use Rattle.irig_edit.specs.Walk.{Fitting, gone_along, gone_on}
 use Rattle.irig_edit.proofs.Names.{same_change, same_step}
-use Rattle.irig_edit.proofs.Walks.{can_take-append, can_take-next, can_take-first, gone_along-append}
+use Rattle.irig_edit.proofs.Walks.{can_take-append, can_take-next, gone_along-append}
 
 -- the lines of steps and of others
 pub lines-append : (ss ts : List SavedStep) → length (steps_lines (ss ++ ts)) ≡ length (steps_lines ss) + length (steps_lines ts)

@@ -1,9 +1,9 @@
 -- Single changes made one after another as far as they can be made.
-use Rattle.std.proofs.Common.{◌≡◌, ◌≤◌, ◌++◌, ℕ, List, [], ◌∷◌, length, map, take, drop, reverse, refl, ap, ap₂, sym, subst, ◌∙◌, append_assoc}
+use Rattle.std.proofs.Common.{◌≡◌, ◌≤◌, ◌++◌, ℕ, List, [], ◌∷◌, length, map, take, drop, refl, ap, ap₂, sym, subst, ◌∙◌, append_assoc}
 use Rattle.std.proofs.lemmas.List.{append-nil, map-append, take_all}
 use Rattle.std.proofs.Math.ListN.{drop_of_length-le}
 use Rattle.irig_journal.specs.Turns.{FitAll, backs, left_by, ways_back}
-use Rattle.irig_edit.specs.Delta.{Delta, Fits, turned}
+use Rattle.irig_edit.specs.Delta.{Delta}
 use Rattle.irig_edit.specs.Delta.Delta.{Together}
 use Rattle.irig_edit.specs.Held.{single_of}
 use Rattle.irig_edit.specs.Laws.Delta.{Fits-turned, turned-turned}

@@ -1,10 +1,10 @@
 -- A state that goes on along steps, and back again.
-use Rattle.std.proofs.Common.{◌≡◌, ℕ, suc, zero, ◌+◌, ◌++◌, ◌≤◌, List, [], ◌∷◌, Option, Some, length, map, take, drop, refl, ap, ap₂, sym, ◌∙◌, subst, arith}
+use Rattle.std.proofs.Common.{◌≡◌, ℕ, suc, zero, ◌++◌, ◌≤◌, List, [], ◌∷◌, Some, length, take, drop, refl, ap, ap₂, sym, ◌∙◌, subst, arith}
 use Rattle.std.proofs.lemmas.List.{take-append-drop, take_all}
 use Rattle.std.proofs.Math.ListN.{drop_of_length-le}
 use Rattle.irig_journal.specs.declared.step.Step.{Step}
 use Rattle.irig_journal.specs.History.{History, step, stepped_back}
-use Rattle.irig_edit.specs.Delta.{Delta, Fits, turned}
+use Rattle.irig_edit.specs.Delta.{Delta, turned}
 use Rattle.irig_edit.specs.Laws.Delta.{IsState-turned, turned-turned}
 use Rattle.irig_edit.specs.State.{State, IsState}
 use Rattle.irig_edit.specs.Taken.{CanTake, CanTakeAll}

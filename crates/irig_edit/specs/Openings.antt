@@ -5,7 +5,7 @@ use Rattle.irig_saved.specs.Faults.{IsFault}
 use Rattle.irig_saved.specs.Ranges.{IsSaved}
 use Rattle.irig_saved.specs.SavedText.{journal_text}
 use Rattle.irig_saved.specs.declared.saved.Saved.{Saved}
-use Rattle.irig_vcd.specs.Answer.{Fails}
+use Rattle.irig_vcd.specs.Answer.{IsFaultOf}
 use Rattle.irig_vcd.specs.Parts.{dump_parts}
 use Rattle.irig_vcd.specs.Recording.{RecordingView}
 use Rattle.irig_vcd.specs.declared.fault.VcdFault.{VcdFault}
@@ -58,6 +58,6 @@ IsBad P _ = ⊥
 -- the fault of the dump, or else that of its journal
 abbrev pub IsUnopened : Option (List ℕ) → List ℕ → VcdFault → Type 0
 IsUnopened wire bytes fault =
-    Fails fault (dump_parts wire bytes)
+    IsFaultOf fault (dump_parts wire bytes)
     ⊎ ((r : RecordingView) × ((text : List ℕ) × (
     (dump_parts wire bytes ≡ Ok (r, Some text)) × IsBad (IsJournalFault r text) fault)))

@@ -8,6 +8,7 @@ mod helpers;
 mod leaving;
 mod looks;
 mod machine;
+mod opening;
 mod parts;
 mod plain;
 mod refusing;

@@ -33,11 +33,7 @@ pub fn print_pulses<W: Write>(
 
 /// Prints the line of a pulse, from 1. One line needs no block, which would have to be cleared
 /// first.
-fn print_pulse<W: Write>(
-    session: &Session,
-    number: usize,
-    out: &mut W,
-) -> Result<(), PrintFault>
+fn print_pulse<W: Write>(session: &Session, number: usize, out: &mut W) -> Result<(), PrintFault>
     requires { (1 ≤ number) × (number ≤ length session.now.present.state.pulses) }
     ensures ok { OnOk result (Appends (W.contents out.old) (W.contents out.new)
         (list_text (number - 1) 1 session.now.present.state)) }

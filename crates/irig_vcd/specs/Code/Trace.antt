@@ -1,7 +1,7 @@
 -- What a trace has kept of the changes that it followed.
 use Rattle.std.specs.Prelude.{◌≡◌, ◌≤◌, ℕ, Bool, List, Result, Ok, Err, take}
 use Rattle.std.specs.List.{AllByRecursion}
-use Rattle.irig_vcd.specs.Answer.{Fails}
+use Rattle.irig_vcd.specs.Answer.{IsFaultOf}
 use Rattle.irig_vcd.specs.Level.{Change, change, level_by_changes, level_before, edges_below}
 use Rattle.irig_vcd.specs.Level.{edges_up_to}
 use Rattle.irig_vcd.specs.declared.changes.Body.{Body}
@@ -33,4 +33,4 @@ abbrev pub KeepsEdges : Result Body VcdFault → Result (List Change × ℕ) Vcd
 KeepsEdges (Ok x) read =
     (changes : List Change) × (read ≡ Ok (changes, x.end))
     × IsKept changes x.end x.edges.items
-KeepsEdges (Err e) read = Fails e read
+KeepsEdges (Err e) read = IsFaultOf e read

@@ -1,4 +1,4 @@
-use Rattle.std.proofs.Common.{◌≡◌, ◌+◌, ◌≤◌, ℕ, length, drop}
+use Rattle.std.proofs.Common.{◌≡◌, ◌+◌, ◌≤◌, length, drop}
 use Rattle.irig_saved.specs.SavedText.{mark_lines}
 use Rattle.irig_edit.specs.Opened.{mark_beyond}
 use Rattle.irig_edit.proofs.head.line_behind.Given as goal

@@ -1,4 +1,4 @@
-use Rattle.std.proofs.Common.{rules, ◌≡◌, ◌≤◌, ◌<◌, ℕ, [], IsTrue, Some, None, length, ap, subst, ◌∙◌, arith}
+use Rattle.std.proofs.Common.{rules, ◌≡◌, ◌≤◌, ℕ, [], IsTrue, Some, None, length, ap, subst, ◌∙◌, arith}
 use Rattle.irig_codes.specs.Format.{is_permitted}
 use Rattle.irig_edit.specs.Opened.{mark_beyond, state_of}
 use Rattle.irig_edit.specs.State.{State}

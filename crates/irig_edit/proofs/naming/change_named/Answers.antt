@@ -1,4 +1,4 @@
-use Rattle.std.proofs.Common.{◌≡◌, refl}
+use Rattle.std.proofs.Common.{refl}
 use Rattle.irig_edit.proofs.Names.{no_group, none_of}
 use Rattle.irig_edit.proofs.naming.change_named.Goals as goal
 

@@ -1,4 +1,4 @@
-use Rattle.std.proofs.Common.{◌≡◌, ◌<◌, ◌^◌, length, reverse, arith}
+use Rattle.std.proofs.Common.{arith}
 use Rattle.irig_edit.proofs.TakenSteps.{lines-reverse}
 use Rattle.irig_edit.proofs.walk.Walk.follow_both.Goals as goal
 

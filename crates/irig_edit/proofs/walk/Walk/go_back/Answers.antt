@@ -1,8 +1,4 @@
-use Rattle.std.proofs.Common.{◌≡◌, ◌+◌, ◌-◌, ◌≤◌, ◌<◌, ℕ, suc, List, length, take, drop, ap, sym, subst, ◌∙◌, arith}
-use Rattle.irig_journal.specs.declared.step.Step.{Step}
-use Rattle.irig_journal.specs.History.{History}
-use Rattle.irig_edit.specs.Delta.{Delta}
-use Rattle.irig_edit.specs.State.{State}
+use Rattle.std.proofs.Common.{◌≡◌, ◌+◌, ◌-◌, ℕ, suc, take, drop, subst, arith}
 use Rattle.irig_edit.specs.Walk.{ahead_of, gone_along}
 use Rattle.irig_edit.proofs.Walks.{back_more, back_none}
 use Rattle.irig_edit.proofs.walk.Walk.go_back.Goals as goal

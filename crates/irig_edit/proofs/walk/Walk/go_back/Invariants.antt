@@ -1,4 +1,4 @@
-use Rattle.std.proofs.Common.{◌≡◌, ◌-◌, ℕ, List, [], length, take, drop}
+use Rattle.std.proofs.Common.{◌≡◌, ◌-◌, List, [], length, take, drop}
 use Rattle.irig_journal.specs.declared.step.Step.{Step}
 use Rattle.irig_journal.specs.History.{History}
 use Rattle.irig_edit.specs.Delta.{Delta}

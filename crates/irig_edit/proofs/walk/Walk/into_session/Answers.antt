@@ -1,4 +1,4 @@
-use Rattle.std.proofs.Common.{◌≡◌, Option, option_map, sym, subst}
+use Rattle.std.proofs.Common.{Option, option_map, sym, subst}
 use Rattle.irig_journal.specs.declared.opening.Opening.{Opening}
 use Rattle.irig_journal.specs.Groups.{over}
 use Rattle.irig_journal.specs.History.{History}

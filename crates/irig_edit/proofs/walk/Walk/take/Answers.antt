@@ -1,4 +1,3 @@
-use Rattle.std.proofs.Common.{◌≡◌}
 use Rattle.irig_edit.specs.Held.{delta_of}
 use Rattle.irig_edit.proofs.Names.{some_of}
 use Rattle.irig_edit.proofs.TakenSteps.{took}

@@ -1,5 +1,4 @@
-use Rattle.std.proofs.Common.{rules, ◌≡◌, ◌+◌, ◌<◌, ◌^◌, ℕ, true, false, length, reverse, ap, sym, ◌∙◌, arith}
-use Rattle.irig_saved.specs.SavedText.{step_lines}
+use Rattle.std.proofs.Common.{rules, ◌≡◌, ◌+◌, ◌<◌, ◌^◌, true, false, reverse, ap, arith}
 use Rattle.irig_edit.proofs.TakenSteps.{lines_short, taken_more, taken_next, taken_stops, told_no, told_yes}
 use Rattle.irig_edit.proofs.walk.Walk.take_all.Goals as goal
 

@@ -1,4 +1,4 @@
-use Rattle.std.proofs.Common.{◌≡◌, ℕ, length, reverse}
+use Rattle.std.proofs.Common.{length, reverse}
 use Rattle.irig_edit.specs.Walk.{Fitting}
 use Rattle.irig_edit.proofs.TakenSteps.{TakenSoFar}
 use Rattle.irig_edit.proofs.walk.Walk.take_all.Given as goal
