@@ -1,7 +1,10 @@
 //! Scripts and their answers, and what failing ends and refused growths leave.
 
+mod dumps;
+mod edit_rows;
 mod failing_ends;
+mod line_rows;
 mod refused_growths;
+mod row;
 mod rows;
 mod stops;
-mod table;

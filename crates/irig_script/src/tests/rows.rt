@@ -2,7 +2,10 @@
 
 ghost use Rattle.std.specs.Prelude.{◌≤◌, ◌^◌, IfSome, vec_len};
 
-use crate::tests::table::{PULSES, ROWS, Row};
+use crate::tests::dumps::PULSES;
+use crate::tests::edit_rows::EDIT_ROWS;
+use crate::tests::line_rows::LINE_ROWS;
+use crate::tests::row::Row;
 use crate::{MemoryShelf, Status, edit};
 use irig_codes::{Format, Kind};
 use std::alloc::{AllocError, Global};
@@ -39,8 +42,15 @@ fn check(rt: &impl Abort, alloc: Global, row: &Row<'_>) {
 }
 
 #[test]
-fn scripts_print(rt: HostRuntime) {
-    for row in ROWS.iter() {
+fn scripts_edit(rt: HostRuntime) {
+    for row in EDIT_ROWS.iter() {
+        check(&rt, rt.alloc(), row);
+    }
+}
+
+#[test]
+fn lines_of_all_forms_are_obeyed_or_refused(rt: HostRuntime) {
+    for row in LINE_ROWS.iter() {
         check(&rt, rt.alloc(), row);
     }
 }
