@@ -15,6 +15,7 @@ pub mod Cuts
 pub mod Steps
 -- The changes, a word at a time, and the edges of their level.
 pub mod ChangeSteps
+pub mod AlongSteps
 pub mod JournalWords
 pub mod JournalPlaces
 pub mod Levels

@@ -1,7 +1,8 @@
 //! The changes of a wire.
 
-ghost use Rattle.std.specs.Prelude.{◌≡◌, ◌≤◌, ◌<◌, true, ◌^◌, ℕ, List, Result, length, IfOk};
-ghost use Rattle.irig_vcd.specs.Code.Token.{kind_view};
+ghost use Rattle.std.specs.Prelude.{◌≡◌, ◌≤◌, ◌<◌, true, ◌^◌, ◌∷◌, ℕ, List, Result, length, IfOk, IfErr, OnOk};
+ghost use Rattle.irig_vcd.specs.Code.Token.{kind_view, word_of};
+ghost use Rattle.irig_vcd.specs.Answer.{IsFaultOf};
 ghost use Rattle.irig_vcd.specs.Words.{rest_of, is_code};
 ghost use Rattle.irig_vcd.specs.Changes.{changes_from};
 ghost use Rattle.irig_vcd.specs.Code.Event.{is_hash};
@@ -11,7 +12,7 @@ ghost use Rattle.irig_vcd.specs.Code.Time.{IsTime, units_of};
 ghost use Rattle.irig_vcd.specs.Level.{Change};
 ghost use Rattle.irig_vcd.specs.Times.{micros_of};
 ghost use Rattle.irig_vcd.specs.declared.fault.VcdFault.{VcdFault};
-ghost use Rattle.irig_vcd.specs.Code.Journals.{Holds};
+ghost use Rattle.irig_vcd.specs.Code.Journals.{Holds, KeepsJournals};
 ghost use Rattle.irig_vcd.specs.Events.{any_word};
 ghost use Rattle.irig_vcd.specs.Journals.{journals_among};
 
@@ -21,7 +22,7 @@ use crate::journals::Journals;
 use crate::pulses::pulses;
 use crate::short::{LONGEST_CODE, Short};
 use crate::time::{Clock, micros, number_time, time};
-use crate::token::{Kind, Tokens};
+use crate::token::{Kind, Token, Tokens};
 use crate::trace::Trace;
 use crate::unit::Unit;
 use crate::variable::is_code;
@@ -90,6 +91,38 @@ fn ahead(
     Ok(clock)
 }
 
+/// Takes a token with those that go with it, and gives the time then.
+#[inline(always)]
+fn take(
+    token: Token<'_>,
+    tokens: &mut Tokens,
+    unit: Unit,
+    code: &[u8],
+    clock: Clock,
+    trace: &mut Trace,
+    journals: &mut Journals,
+) -> Result<Clock, VcdFault>
+    requires time { IsTime unit clock }
+    requires late { trace.old.time ≤ micros_of unit (units_of unit clock) }
+    ensures along { IfOk result (λ now. (total : Result (List Change × ℕ) VcdFault)
+        → Along code.now unit total trace.old clock (word_of token.entry ∷ tokens.old)
+        → Along code.now unit total trace.new now tokens.new) }
+    ensures fewer { length tokens.new ≤ length tokens.old }
+    ensures kept { OnOk result (KeepsJournals (journals_among (word_of token.entry ∷ tokens.old))
+        (journals_among tokens.new) journals.old journals.new) }
+    ensures fault { IfErr result (λ e. (total : Result (List Change × ℕ) VcdFault)
+        → Along code.now unit total trace.old clock (word_of token.entry ∷ tokens.old)
+        → IsFaultOf e total) }
+{
+    if is_hash(token.kind) {
+        return time(unit, clock, digits_of(token.slice), token.offset);
+    }
+    if let Some(high) = take_level(code, token, tokens, journals)? {
+        trace.put(micros(unit, clock), high)?;
+    }
+    Ok(clock)
+}
+
 /// What stands behind the declarations: the last time in microseconds, the edges, and the journals.
 #[derive(Drop)]
 pub struct Body {
@@ -121,28 +154,16 @@ pub fn changes(
         match tokens.next_short(code, is_plain) {
             Short::Time(number) => {
                 clock = number_time(unit, clock, number.value, number.offset)?;
-                continue;
             }
             Short::Bit(high) => {
-                let time = micros(unit, clock);
-                trace.put(time, high)?;
+                trace.put(micros(unit, clock), high)?;
                 clock = ahead(is_quick, tokens, unit, code, clock, &mut trace)?;
-                continue;
             }
-            Short::Other => {}
-        }
-        let Some(token) = tokens.next() else {
-            break;
-        };
-        if is_hash(token.kind) {
-            clock = time(unit, clock, digits_of(token.slice), token.offset)?;
-        } else {
-            match take_level(code, token, tokens, &mut journals)? {
-                None => {}
-                Some(high) => {
-                    let time = micros(unit, clock);
-                    trace.put(time, high)?;
-                }
+            Short::Other => {
+                let Some(token) = tokens.next() else {
+                    break;
+                };
+                clock = take(token, tokens, unit, code, clock, &mut trace, &mut journals)?;
             }
         }
     }

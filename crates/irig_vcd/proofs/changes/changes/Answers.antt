@@ -1,13 +1,14 @@
-use Rattle.std.proofs.Common.{◌≡◌, ◌∙◌, ◌++◌, ◌∷◌, [], true, false, Some, None, Ok, refl, ap, sym, rules, arith}
+use Rattle.std.proofs.Common.{◌≡◌, ◌∙◌, ◌++◌, ◌∷◌, [], true, false, Some, None, Ok, List, refl, ap, sym, subst, rules, arith}
 use Rattle.irig_vcd.specs.Code.Token.{word_of}
-use Rattle.irig_vcd.specs.Words.{rest_of}
+use Rattle.irig_vcd.specs.Words.{Word, rest_of}
 use Rattle.irig_vcd.specs.Code.Time.{units_of}
 use Rattle.irig_vcd.specs.Times.{time_of, micros_of}
 use Rattle.irig_vcd.specs.Events.{any_word}
 use Rattle.irig_vcd.specs.Changes.{changes_from}
 use Rattle.irig_vcd.specs.Code.Event.{is_hash, level_read}
 use Rattle.irig_vcd.specs.Code.Along.{behind, Along}
-use Rattle.irig_vcd.proofs.ChangeSteps.{goes_on, one_change, on_time, on_word, on_level, behind_none}
+use Rattle.irig_vcd.proofs.AlongSteps.{along_level}
+use Rattle.irig_vcd.proofs.ChangeSteps.{on_time, behind_none}
 use Rattle.irig_vcd.specs.Journals.{journals_among}
 use Rattle.irig_vcd.proofs.JournalWords.{keeps_past, keeps_on, past_time, past_level, holds_all}
 use Rattle.irig_vcd.proofs.WholeDump.{fails_now}
@@ -28,55 +29,24 @@ tokens-init c = (
   },
 )
 
-pub tokens-preserved-then-is_hash : goal.tokens-preserved-then-is_hash
-tokens-preserved-then-is_hash c =
-    let i = c.tokens.invariant.1 in
-    let next : c.next_short.new.self ≡ word_of c.in-Some.token ∷ c.next.new.self = search rules in
-    let left = sym c.in-Other.ensures ∙ next in
-    let hash : is_hash (word_of c.in-Some.token).kind ≡ true = search rules in
-    let k = on_time _ _ _ _ (word_of c.in-Some.token) _ _ left hash (rw (← c.digits_of.ensures) c.in_ok-clock.ensures.exact) in
-    (c.tokens.invariant.0, record { time = c.in_ok-clock.ensures.time; late = let up = later c.args.unit c.tokens.clock c.in_ok-clock.clock i.time c.in_ok-clock.ensures.time c.in_ok-clock.ensures.forward in omega (arith, up, i.late); follows = i.follows; rest = ap (behind c.tokens.invariant.0) (sym k) ∙ i.rest; journals = keeps_past _ _ _ _ i.journals (past_time _ (word_of c.in-Some.token) _ left hash) })
-
 pub tokens-preserved : goal.tokens-preserved
 tokens-preserved c =
     let i = c.tokens.invariant.1 in
     let next : c.next_short.new.self ≡ word_of c.in-Some.token ∷ c.next.new.self = search rules in
     let left = sym c.in-Other.ensures ∙ next in
-    let hash : is_hash (word_of c.in-Some.token).kind ≡ false = search rules in
-    let is : c.in_ok-take_level.field-0 ≡ Some c.in-Some-2.high = search rules in
-    let read : level_read (word_of c.in-Some.token).kind c.args.code.now (word_of c.in-Some.token) c.next.new.self ≡ Ok (Some c.in-Some-2.high, c.take_level.new.tokens) = rw (← is) c.in_ok-take_level.ensures.exact in
-    let k = on_level _ _ _ _ (word_of c.in-Some.token) _ _ (Some c.in-Some-2.high) left hash read in (
-      c.tokens.invariant.0 ++ record { time = micros_of c.args.unit (units_of c.args.unit c.tokens.clock); high = c.in-Some-2.high } ∷ [],
+    let here : Along c.args.code.now c.args.unit (changes_from any_word c.args.code.now c.args.unit 0 c.args.tokens.now) c.tokens.trace c.tokens.clock (word_of c.in-Some.token ∷ c.next.new.self) =
+    subst (λ (ws : List Word). Along c.args.code.now c.args.unit (changes_from any_word c.args.code.now c.args.unit 0 c.args.tokens.now) c.tokens.trace c.tokens.clock ws) left
+    (c.tokens.invariant.0, record { time = i.time; late = i.late; follows = i.follows; rest = i.rest }) in
+    let there = c.in_ok-clock-in-Other.ensures.along _ here in (
+      there.0,
       record {
-        time = i.time;
-        late = rw (c.in_ok-put-in-Some-2.ensures.time, c.micros-time-in-Some-2.ensures.value) (omega arith);
-        follows = rw (← c.micros-time-in-Some-2.ensures.value) (c.in_ok-put-in-Some-2.ensures.ok c.tokens.invariant.0 i.follows);
-        rest = (sym (one_change c.tokens.invariant.0 (micros_of c.args.unit (units_of c.args.unit c.tokens.clock)) c.in-Some-2.high (changes_from any_word c.args.code.now c.args.unit (units_of c.args.unit c.tokens.clock) c.take_level.new.tokens)) ∙ (ap (behind c.tokens.invariant.0) (sym k) ∙ i.rest));
-        journals = keeps_on _ _ _ _ _ (keeps_past _ _ _ _ i.journals (ap journals_among left)) c.in_ok-take_level.ensures.kept;
+        time = there.1.time;
+        late = there.1.late;
+        follows = there.1.follows;
+        rest = there.1.rest;
+        journals = keeps_on _ _ _ _ _ (keeps_past _ _ _ _ i.journals (ap journals_among left)) c.in_ok-clock-in-Other.ensures.kept;
       },
     )
-
-pub tokens-preserved-in-None : goal.tokens-preserved-in-None
-tokens-preserved-in-None c =
-    let i = c.tokens.invariant.1 in
-    let next : c.next_short.new.self ≡ word_of c.in-Some.token ∷ c.next.new.self = search rules in
-    let left = sym c.in-Other.ensures ∙ next in
-    let hash : is_hash (word_of c.in-Some.token).kind ≡ false = search rules in
-    let is : c.in_ok-take_level.field-0 ≡ None = search rules in
-    let read : level_read (word_of c.in-Some.token).kind c.args.code.now (word_of c.in-Some.token) c.next.new.self ≡ Ok (None, c.take_level.new.tokens) = rw (← is) c.in_ok-take_level.ensures.exact in
-    let k = on_level _ _ _ _ (word_of c.in-Some.token) _ _ None left hash read in
-    (c.tokens.invariant.0, record { time = i.time; late = i.late; follows = i.follows; rest = ap (behind c.tokens.invariant.0) (sym k) ∙ i.rest; journals = keeps_on _ _ _ _ _ (keeps_past _ _ _ _ i.journals (ap journals_among left)) c.in_ok-take_level.ensures.kept })
-
-pub returns-in_err-take_level-clause-exact : goal.returns-in_err-take_level-clause-exact
-returns-in_err-take_level-clause-exact c =
-    let p = err_from_is_err_and c.from_residual-in_err-take_level.result c.from_residual-in_err-take_level.ensures.1 in
-    let i = c.tokens.invariant.1 in
-    let next : c.next_short.new.self ≡ word_of c.in-Some.token ∷ c.next.new.self = search rules in
-    let left = sym c.in-Other.ensures ∙ next in
-    let hash : is_hash (word_of c.in-Some.token).kind ≡ false = search rules in
-    let k = on_word c.args.code.now c.args.unit (units_of c.args.unit c.tokens.clock) _ (word_of c.in-Some.token) _ left hash in
-    let fault = k ∙ ap (goes_on c.args.code.now c.args.unit (units_of c.args.unit c.tokens.clock)) c.in_err-take_level.ensures.exact in
-    rw (p.1, p.2) (fails_now c.in_err-take_level.field-0.0 _ (sym i.rest ∙ ap (behind c.tokens.invariant.0) fault))
 
 pub tokens-preserved-in-Time : goal.tokens-preserved-in-Time
 tokens-preserved-in-Time c =
@@ -102,16 +72,9 @@ tokens-preserved-in-Bit c =
     let some = c.is_plain-is_plain.ensures.some c.in-Bit.ensures.0 in
     let hash : is_hash b.word.kind ≡ false = ap is_hash b.kind in
     let read = bit_level c.in-Bit.high c.args.code.now b.word c.next_short.new.self some b.kind b.bytes in
-    let k = on_level _ _ _ _ b.word _ _ (Some c.in-Bit.high) b.left hash read in
-    let here : Along c.args.code.now c.args.unit (changes_from any_word c.args.code.now c.args.unit 0 c.args.tokens.now) c.put.new.self c.tokens.clock c.next_short.new.self = (
-      c.tokens.invariant.0 ++ record { time = micros_of c.args.unit (units_of c.args.unit c.tokens.clock); high = c.in-Bit.high } ∷ [],
-      record {
-        time = i.time;
-        late = rw (c.in_ok-put-in-Bit.ensures.time, c.micros-time.ensures.value) (omega arith);
-        follows = rw (← c.micros-time.ensures.value) (c.in_ok-put-in-Bit.ensures.ok c.tokens.invariant.0 i.follows);
-        rest = (sym (one_change c.tokens.invariant.0 (micros_of c.args.unit (units_of c.args.unit c.tokens.clock)) c.in-Bit.high (changes_from any_word c.args.code.now c.args.unit (units_of c.args.unit c.tokens.clock) c.next_short.new.self)) ∙ (ap (behind c.tokens.invariant.0) (sym k) ∙ i.rest));
-      },
-    ) in
+    let here = along_level c.args.code.now c.args.unit (changes_from any_word c.args.code.now c.args.unit 0 c.args.tokens.now) c.tokens.trace c.put.new.self c.tokens.clock _ b.word _ c.next_short.new.self c.in-Bit.high
+    b.left hash read (rw (c.in_ok-put-in-Bit.ensures.time, c.micros.ensures.value) refl) (rw (← c.micros.ensures.value) c.in_ok-put-in-Bit.ensures.ok)
+    (c.tokens.invariant.0, record { time = i.time; late = i.late; follows = i.follows; rest = i.rest }) in
     let there = c.in_ok-clock-in-Bit.ensures.along _ here in
     let left = keeps_past _ _ _ _ i.journals (past_level _ b.word _ b.left b.kind) in (
       there.0,
