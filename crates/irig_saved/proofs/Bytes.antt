@@ -1,5 +1,5 @@
 -- Places of a byte.
-use Rattle.std.proofs.Common.{◌≡◌, ◌==◌, ◌<◌, ◌+◌, ◌++◌, ◌∷◌, [], ℕ, zero, suc, Bool, true, false, not, List, length, take, drop, get_or, refl, sym, ap, ◌∙◌, arith, ap₂, nat_lt}
+use Rattle.std.proofs.Common.{◌≡◌, ◌==◌, ◌<◌, ◌≤◌, ◌+◌, ◌++◌, ◌∷◌, [], ℕ, zero, suc, Bool, true, false, not, List, length, take, drop, get_or, refl, sym, ap, ◌∙◌, arith, ap₂, nat_lt}
 use Rattle.std.specs.List.{list_all}
 use Rattle.std.proofs.lemmas.Bool.{and_from, not_from_false, ne_eqb, true≢false, eq-eqb, and_parts, ltb-true}
 use Rattle.std.proofs.lemmas.List.{take-append-drop, drop_more}
@@ -49,10 +49,13 @@ pub not_lacking : (b : ℕ) (u r : List ℕ) → Lacks b (u ++ b ∷ r) → ⊥
 not_lacking b [] r h = not_here b b r h refl
 not_lacking b (x ∷ u) r h = not_lacking b u r (rest_lacks b x (u ++ b ∷ r) h)
 
--- a word has no space
-pub wordy_lacks : (w : List ℕ) → IsWordy w → Lacks 32 w
-wordy_lacks [] h = refl
-wordy_lacks (x ∷ w) h =
-    let p = and_parts (nat_lt 32 x) (list_all (λ b. nat_lt 32 b) w) h in
+-- a word has no byte up to the space
+pub dark_lacks : (b : ℕ) (w : List ℕ) → b ≤ 32 → IsWordy w → Lacks b w
+dark_lacks b [] low h = refl
+dark_lacks b (x ∷ w) low h =
+    let p = and_parts (nat_lt 32 x) (list_all (λ y. nat_lt 32 y) w) h in
     let above : 32 < x = ltb-true 32 x p.0 in
-    and_from (not (x == 32)) (list_all (λ y. not (y == 32)) w) (not_from_false (x == 32) (ne_eqb x 32 (λ e. omega (arith, above, e)))) (wordy_lacks w p.1)
+    and_from (not (x == b)) (list_all (λ y. not (y == b)) w) (not_from_false (x == b) (ne_eqb x b (λ e. omega (arith, above, e, low)))) (dark_lacks b w low p.1)
+
+pub wordy_lacks : (w : List ℕ) → IsWordy w → Lacks 32 w
+wordy_lacks w h = dark_lacks 32 w (omega arith) h

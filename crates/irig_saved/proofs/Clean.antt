@@ -1,7 +1,7 @@
--- No newline stands within a line of a saved journal.
-use Rattle.std.proofs.Common.{◌==◌, ◌<◌, ◌≤◌, ◌+◌, ◌++◌, ◌∷◌, [], ℕ, true, not, List, Option, Some, None, length, decimal, codes, nat_lt, refl, ◌∙◌, arith}
+-- Neither a newline nor a dollar stands within a line of a saved journal.
+use Rattle.std.proofs.Common.{◌≡◌, ◌==◌, ◌<◌, ◌≤◌, ◌+◌, ◌++◌, ◌∷◌, [], ℕ, true, not, List, Option, Some, None, length, decimal, codes, nat_lt, refl, ◌∙◌, arith}
 use Rattle.std.specs.List.{AllByRecursion, list_all}
-use Rattle.std.proofs.lemmas.Bool.{and_from, and_parts, not_from_false, ne_eqb, ltb-true, lt-ltb}
+use Rattle.std.proofs.lemmas.Bool.{and_from, and_parts, not_from_false, ne_eqb, ltb-true}
 use Rattle.std.proofs.lemmas.List.Folds.{list_all-append}
 use Rattle.irig_saved.specs.Lines.{behind, line, numbered}
 use Rattle.irig_saved.specs.ChangeWords.{head_of, words_of, single_line}
@@ -17,48 +17,85 @@ use Rattle.irig_saved.specs.declared.change.Change.{Change}
 use Rattle.irig_saved.specs.declared.change.Change.TheVariants.{One, Group}
 use Rattle.irig_saved.specs.declared.step.Step.{Step}
 use Rattle.irig_saved.specs.declared.saved.Saved.{Saved}
-use Rattle.irig_saved.proofs.Cuts.{IsWord, AreWords}
-use Rattle.irig_saved.proofs.Decimals.{number_is_word}
-use Rattle.irig_saved.proofs.SameWords.{kind_is_word, head_is_word, words_are_words}
+use Rattle.irig_saved.proofs.PlainWords.{IsPlain, ArePlain}
+use Rattle.irig_saved.proofs.Decimals.{number_is_plain}
+use Rattle.irig_saved.proofs.SameWords.{byte_is_plain, small_is_number, kind_is_plain, head_is_plain, words_are_plain}
+
+-- a byte that stands in no line: up to the dollar, and not the space
+pub record IsAside (b : ℕ) : Type 0 where
+  pub low : b ≤ 36
+  pub unlike : not (32 == b) ≡ true
+
+pub newline : IsAside 10
+newline = record { low = omega arith; unlike = refl }
+
+pub dollar : IsAside 36
+dollar = record { low = omega arith; unlike = refl }
+
+-- a byte stands in none of them
+abbrev pub AllLack : ℕ → List (List ℕ) → Type 0
+AllLack b [] = Unit {0}
+AllLack b (l ∷ ls) = Lacks b l × AllLack b ls
 
 -- no newline stands within a line
 abbrev pub AreLines : List (List ℕ) → Type 0
-AreLines [] = Unit {0}
-AreLines (l ∷ ls) = Lacks 10 l × AreLines ls
+AreLines ls = AllLack 10 ls
 
-lacks_append : (u v : List ℕ) → Lacks 10 u → Lacks 10 v → Lacks 10 (u ++ v)
-lacks_append u v hu hv = list_all-append (λ x. not (x == 10)) u v ∙ and_from _ _ hu hv
+pub lacks_append : (b : ℕ) (u v : List ℕ) → Lacks b u → Lacks b v → Lacks b (u ++ v)
+lacks_append b u v hu hv = list_all-append (λ x. not (x == b)) u v ∙ and_from _ _ hu hv
 
-word_lacks : (w : List ℕ) → IsWord w → Lacks 10 w
-word_lacks [] h = refl
-word_lacks (x ∷ w) h =
-    let p = and_parts (nat_lt 32 x) (list_all (λ b. nat_lt 32 b) w) h in
-    let above : 32 < x = ltb-true 32 x p.0 in
-    and_from (not (x == 10)) (list_all (λ y. not (y == 10)) w) (not_from_false (x == 10) (ne_eqb x 10 (λ e. omega (arith, above, e)))) (word_lacks w p.1)
+pub all_append : (b : ℕ) (ls ms : List (List ℕ)) → AllLack b ls → AllLack b ms → AllLack b (ls ++ ms)
+all_append b [] ms hl hm = hm
+all_append b (l ∷ ls) ms hl hm = (hl.0, all_append b ls ms hl.1 hm)
 
-behind_lacks : (ws : List (List ℕ)) → AreWords ws → Lacks 10 (behind ws)
-behind_lacks [] h = refl
-behind_lacks (w ∷ ws) h = lacks_append (32 ∷ w) (behind ws) (word_lacks w h.0) (behind_lacks ws h.1)
+-- words
 
-pub line_lacks : (h : List ℕ) (ws : List (List ℕ)) → IsWord h → AreWords ws → Lacks 10 (line h ws)
-line_lacks h ws hh hw = lacks_append h (behind ws) (word_lacks h hh) (behind_lacks ws hw)
+plain_lacks : {b : ℕ} → IsAside b → (w : List ℕ) → IsPlain w → Lacks b w
+plain_lacks a [] h = refl
+plain_lacks {b} a (x ∷ w) h =
+    let p = and_parts (nat_lt 36 x) (list_all (λ y. nat_lt 36 y) w) h in
+    let above : 36 < x = ltb-true 36 x p.0 in
+    let low : b ≤ 36 = a.low in
+    and_from (not (x == b)) (list_all (λ y. not (y == b)) w) (not_from_false (x == b) (ne_eqb x b (λ e. omega (arith, above, e, low)))) (plain_lacks a w p.1)
 
-pub counted_lacks : (h : List ℕ) (n : ℕ) → IsWord h → IsNumber n → Lacks 10 (numbered h (n ∷ []))
-counted_lacks h n hh small = line_lacks h (decimal n ∷ []) hh (number_is_word n small, tt)
+words_lack : {b : ℕ} → IsAside b → (ws : List (List ℕ)) → ArePlain ws → AllLack b ws
+words_lack a [] h = tt
+words_lack a (w ∷ ws) h = (plain_lacks a w h.0, words_lack a ws h.1)
 
-pub lines_append : (ls ms : List (List ℕ)) → AreLines ls → AreLines ms → AreLines (ls ++ ms)
-lines_append [] ms hl hm = hm
-lines_append (l ∷ ls) ms hl hm = (hl.0, lines_append ls ms hl.1 hm)
+pub number_lacks : {b : ℕ} → IsAside b → (n : ℕ) → IsNumber n → Lacks b (decimal n)
+number_lacks a n h = plain_lacks a (decimal n) (number_is_plain n h)
 
-pub pulse_lacks : (p : Pulse) → IsPulse p → Lacks 10 (pulse_line p)
-pulse_lacks p h = counted_lacks (decimal p.rise) p.fall (number_is_word p.rise h.0) h.1
+-- lines
 
-pub pulses_clean : (ps : List Pulse) → AllByRecursion IsPulse ps → AreLines (pulse_lines ps)
-pulses_clean [] h = tt
-pulses_clean (p ∷ ps) h = (pulse_lacks p h.0, pulses_clean ps h.1)
+behind_lacks : {b : ℕ} → IsAside b → (ws : List (List ℕ)) → AllLack b ws → Lacks b (behind ws)
+behind_lacks a [] h = refl
+behind_lacks {b} a (w ∷ ws) h = and_from (not (32 == b)) _ a.unlike (lacks_append b w (behind ws) h.0 (behind_lacks a ws h.1))
 
-pub first_lacks : (x : Single) → IsSingle x → Lacks 10 (single_line x)
-first_lacks x h = line_lacks (head_of x) (words_of x) (head_is_word x) (words_are_words x h)
+pub line_lacks : {b : ℕ} → IsAside b → (h : List ℕ) (ws : List (List ℕ)) → Lacks b h → AllLack b ws → Lacks b (line h ws)
+line_lacks {b} a h ws hh hw = lacks_append b h (behind ws) hh (behind_lacks a ws hw)
+
+pub counted_lacks : {b : ℕ} → IsAside b → (h : List ℕ) (n : ℕ) → Lacks b h → IsNumber n → Lacks b (numbered h (n ∷ []))
+counted_lacks a h n hh small = line_lacks a h (decimal n ∷ []) hh (number_lacks a n small, tt)
+
+pub pulse_lacks : {b : ℕ} → IsAside b → (p : Pulse) → IsPulse p → Lacks b (pulse_line p)
+pulse_lacks a p h = counted_lacks a (decimal p.rise) p.fall (number_lacks a p.rise h.0) h.1
+
+pub first_lacks : {b : ℕ} → IsAside b → (x : Single) → IsSingle x → Lacks b (single_line x)
+first_lacks a x h = line_lacks a (head_of x) (words_of x) (plain_lacks a (head_of x) (head_is_plain x)) (words_lack a (words_of x) (words_are_plain x h))
+
+pub mark_lacks : {b : ℕ} → IsAside b → (x t : ℕ) → Lacks b (x ∷ []) → IsNumber t → Lacks b (line (codes "mark") ((x ∷ []) ∷ decimal t ∷ []))
+mark_lacks a x t other small = line_lacks a (codes "mark") ((x ∷ []) ∷ decimal t ∷ []) (plain_lacks a (codes "mark") refl) (other, (number_lacks a t small, tt))
+
+pub format_lacks : {b : ℕ} → IsAside b → (kind : Kind) (n : ℕ) → n ≤ 7 → Lacks b (line (codes "format") (kind_word kind ∷ decimal n ∷ []))
+format_lacks a kind n small =
+    line_lacks a (codes "format") (kind_word kind ∷ decimal n ∷ []) (plain_lacks a (codes "format") refl)
+    (plain_lacks a (kind_word kind) (kind_is_plain kind), (number_lacks a n (small_is_number n small), tt))
+
+-- the lines of parts
+
+pulses_clean : {b : ℕ} → IsAside b → (ps : List Pulse) → AllByRecursion IsPulse ps → AllLack b (pulse_lines ps)
+pulses_clean a [] h = tt
+pulses_clean a (p ∷ ps) h = (pulse_lacks a p h.0, pulses_clean a ps h.1)
 
 put_are_pulses : (x : Single) → IsSingle x → AllByRecursion IsPulse (put_of x)
 put_are_pulses (Splice at count put) h = h.3
@@ -67,50 +104,42 @@ put_are_pulses (Shift i j by marks) h = tt
 put_are_pulses (SetFormat kind expression) h = tt
 put_are_pulses (SetMark letter time) h = tt
 
-pub single_clean : (x : Single) → IsSingle x → AreLines (single_lines x)
-single_clean x h = (first_lacks x h, pulses_clean (put_of x) (put_are_pulses x h))
+pub single_clean : {b : ℕ} → IsAside b → (x : Single) → IsSingle x → AllLack b (single_lines x)
+single_clean a x h = (first_lacks a x h, pulses_clean a (put_of x) (put_are_pulses x h))
 
-pub singles_clean : (xs : List Single) → AllByRecursion IsSingle xs → AreLines (singles_lines xs)
-singles_clean [] h = tt
-singles_clean (x ∷ xs) h = lines_append (single_lines x) (singles_lines xs) (single_clean x h.0) (singles_clean xs h.1)
+singles_clean : {b : ℕ} → IsAside b → (xs : List Single) → AllByRecursion IsSingle xs → AllLack b (singles_lines xs)
+singles_clean a [] h = tt
+singles_clean {b} a (x ∷ xs) h = all_append b (single_lines x) (singles_lines xs) (single_clean a x h.0) (singles_clean a xs h.1)
 
-pub change_clean : (c : Change) → IsChange c → AreLines (change_lines c)
-change_clean (One x) h = single_clean x h
-change_clean (Group xs) h = (counted_lacks (codes "group") (length xs) refl h.0, singles_clean xs h.1)
+change_clean : {b : ℕ} → IsAside b → (c : Change) → IsChange c → AllLack b (change_lines c)
+change_clean a (One x) h = single_clean a x h
+change_clean a (Group xs) h = (counted_lacks a (codes "group") (length xs) (plain_lacks a (codes "group") refl) h.0, singles_clean a xs h.1)
 
-pub step_clean : (s : Step) → IsStep s → AreLines (step_lines s)
-step_clean s h = (counted_lacks (codes "at") s.cursor refl h.0, change_clean s.change h.1)
+pub step_clean : {b : ℕ} → IsAside b → (s : Step) → IsStep s → AllLack b (step_lines s)
+step_clean a s h = (counted_lacks a (codes "at") s.cursor (plain_lacks a (codes "at") refl) h.0, change_clean a s.change h.1)
 
-pub steps_clean : (ss : List Step) → AllByRecursion IsStep ss → AreLines (steps_lines ss)
-steps_clean [] h = tt
-steps_clean (s ∷ ss) h = lines_append (step_lines s) (steps_lines ss) (step_clean s h.0) (steps_clean ss h.1)
+steps_clean : {b : ℕ} → IsAside b → (ss : List Step) → AllByRecursion IsStep ss → AllLack b (steps_lines ss)
+steps_clean a [] h = tt
+steps_clean {b} a (s ∷ ss) h = all_append b (step_lines s) (steps_lines ss) (step_clean a s h.0) (steps_clean a ss h.1)
 
-pub counted_clean : (head : List ℕ) (ss : List Step) → IsWord head → AreSteps ss → AreLines (counted_lines head ss)
-counted_clean head ss hh h = (counted_lacks head (length ss) hh h.0, steps_clean ss h.1)
+pub counted_clean : {b : ℕ} → IsAside b → (head : List ℕ) (ss : List Step) → Lacks b head → AreSteps ss → AllLack b (counted_lines head ss)
+counted_clean a head ss hh h = (counted_lacks a head (length ss) hh h.0, steps_clean a ss h.1)
 
-pub mark_lacks : (x t : ℕ) → 32 < x → IsNumber t → Lacks 10 (line (codes "mark") ((x ∷ []) ∷ decimal t ∷ []))
-mark_lacks x t high small =
-    line_lacks (codes "mark") ((x ∷ []) ∷ decimal t ∷ []) refl (and_from (nat_lt 32 x) true (lt-ltb 32 x high) refl, (number_is_word t small, tt))
+marks_clean : {b : ℕ} → IsAside b → (x : ℕ) (ms : List (Option ℕ)) → 36 < x → AllByRecursion IsTime ms → AllLack b (mark_lines x ms)
+marks_clean a x [] high h = tt
+marks_clean a x (None ∷ ms) high h = marks_clean a (x + 1) ms (omega (arith, high)) h.1
+marks_clean a x (Some t ∷ ms) high h = (mark_lacks a x t (plain_lacks a (x ∷ []) (byte_is_plain x high)) h.0, marks_clean a (x + 1) ms (omega (arith, high)) h.1)
 
-pub marks_clean : (x : ℕ) (ms : List (Option ℕ)) → 32 < x → AllByRecursion IsTime ms → AreLines (mark_lines x ms)
-marks_clean x [] high h = tt
-marks_clean x (None ∷ ms) high h = marks_clean (x + 1) ms (omega (arith, high)) h.1
-marks_clean x (Some t ∷ ms) high h = (mark_lacks x t high h.0, marks_clean (x + 1) ms (omega (arith, high)) h.1)
-
-pub format_lacks : (head : List ℕ) (kind : Kind) (n : ℕ) → IsWord head → n ≤ 7 → Lacks 10 (line head (kind_word kind ∷ decimal n ∷ []))
-format_lacks head kind n hh small =
-    line_lacks head (kind_word kind ∷ decimal n ∷ []) hh (kind_is_word kind, (number_is_word n (omega (arith, small)), tt))
-
-pub saved_clean : (s : Saved) → IsSaved s → AreLines (saved_lines s)
-saved_clean s h = (
-  refl,
+pub saved_clean : {b : ℕ} → IsAside b → (s : Saved) → IsSaved s → AllLack b (saved_lines s)
+saved_clean {b} a s h = (
+  plain_lacks a (codes "irig-journal-1") refl,
   (
-    format_lacks (codes "format") s.kind s.expression refl h.expression,
+    format_lacks a s.kind s.expression h.expression,
     (
-      counted_lacks (codes "cursor") s.cursor refl h.cursor,
-      lines_append (mark_lines 97 s.marks ++ counted_lines (codes "past") s.past) (counted_lines (codes "future") s.future)
-          (lines_append (mark_lines 97 s.marks) (counted_lines (codes "past") s.past) (marks_clean 97 s.marks (omega arith) h.marks) (counted_clean (codes "past") s.past refl h.past))
-          (counted_clean (codes "future") s.future refl h.future),
+      counted_lacks a (codes "cursor") s.cursor (plain_lacks a (codes "cursor") refl) h.cursor,
+      all_append b (mark_lines 97 s.marks ++ counted_lines (codes "past") s.past) (counted_lines (codes "future") s.future)
+          (all_append b (mark_lines 97 s.marks) (counted_lines (codes "past") s.past) (marks_clean a 97 s.marks (omega arith) h.marks) (counted_clean a (codes "past") s.past (plain_lacks a (codes "past") refl) h.past))
+          (counted_clean a (codes "future") s.future (plain_lacks a (codes "future") refl) h.future),
     ),
   ),
 )

@@ -1,4 +1,4 @@
--- Numbers are words, and words tell their numbers.
+-- Numbers are plain words, and words tell their numbers.
 use Rattle.std.proofs.Common.{◌≡◌, ◌<◌, ◌+◌, ◌%◌, ◌^◌, ◌++◌, ◌∷◌, [], ℕ, suc, ℤ, pos, negsuc, true, List, length, drop, decimal, nat_lt, refl, sym, ap, ◌∙◌, arith, lit<}
 use Rattle.std.specs.List.{list_all}
 use Rattle.std.specs.Fmt.{signed_decimal}
@@ -6,7 +6,8 @@ use Rattle.std.proofs.lemmas.Fmt.{decimal_by_steps, decimal_injective}
 use Rattle.std.proofs.lemmas.List.Folds.{list_all-append}
 use Rattle.std.proofs.lemmas.Bool.{and_from, and_parts, lt-ltb, ltb-true}
 use Rattle.irig_saved.specs.Ranges.{IsDistance, IsNumber}
-use Rattle.irig_saved.proofs.Cuts.{is_dark, IsWord}
+use Rattle.irig_saved.proofs.Cuts.{IsWord}
+use Rattle.irig_saved.proofs.PlainWords.{IsPlain, lower, plain_is_word}
 
 -- each byte is above the minus
 abbrev IsHigh : List ℕ → Type 0
@@ -22,15 +23,11 @@ digits_high n small = decimal_by_steps (λ _ ds. IsHigh ds) (λ m low. (high_one
       longer [] ys h = absurd (omega (arith, h))
       longer (x ∷ xs) ys h = omega arith
 
-dark : (w : List ℕ) → list_all (λ b. nat_lt 47 b) w ≡ true → IsWord w
-dark [] h = refl
-dark (b ∷ bs) h =
-    let p = and_parts (nat_lt 47 b) (list_all (λ x. nat_lt 47 x) bs) h in
-    let above : 47 < b = ltb-true 47 b p.0 in
-    and_from (nat_lt 32 b) (list_all is_dark bs) (lt-ltb 32 b (omega (arith, above))) (dark bs p.1)
+pub number_is_plain : (n : ℕ) → IsNumber n → IsPlain (decimal n)
+number_is_plain n h = lower 47 36 (decimal n) (omega arith) (digits_high n h).0
 
 pub number_is_word : (n : ℕ) → IsNumber n → IsWord (decimal n)
-number_is_word n h = dark (decimal n) (digits_high n h).0
+number_is_word n h = plain_is_word (decimal n) (number_is_plain n h)
 
 wider : (n : ℕ) → n < 2 ^ 63 → suc n < 2 ^ 64
 wider n h = omega (arith, h)
@@ -38,9 +35,12 @@ wider n h = omega (arith, h)
 narrow : (n : ℕ) → n < 2 ^ 63 → n < 2 ^ 64
 narrow n h = omega (arith, h)
 
+pub distance_is_plain : (d : ℤ) → IsDistance d → IsPlain (signed_decimal d)
+distance_is_plain (pos n) h = number_is_plain n (narrow n h)
+distance_is_plain (negsuc n) h = number_is_plain (suc n) (wider n h)
+
 pub distance_is_word : (d : ℤ) → IsDistance d → IsWord (signed_decimal d)
-distance_is_word (pos n) h = number_is_word n (narrow n h)
-distance_is_word (negsuc n) h = number_is_word (suc n) (wider n h)
+distance_is_word d h = plain_is_word (signed_decimal d) (distance_is_plain d h)
 
 -- a number has no minus
 no_minus : (n : ℕ) (w : List ℕ) → n < 2 ^ 64 → decimal n ≡ 45 ∷ w → ⊥

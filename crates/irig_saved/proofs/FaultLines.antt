@@ -12,7 +12,7 @@ use Rattle.irig_saved.specs.Reading.{Reads, Stops, Lacks}
 use Rattle.irig_saved.specs.Faults.{Begins, IsFault}
 use Rattle.irig_saved.specs.declared.saved.Saved.{Saved}
 use Rattle.irig_saved.proofs.Unique.{same_saved}
-use Rattle.irig_saved.proofs.Clean.{AreLines, saved_clean}
+use Rattle.irig_saved.proofs.Clean.{newline, AreLines, saved_clean}
 use Rattle.irig_saved.proofs.Sequences.{lines_take, determined}
 
 -- newlines
@@ -84,7 +84,7 @@ rest_fault s text rest n r left at = record {
         (record { there = omega arith; rest = rest; same = r.same ∙ ap (λ (l : List (List ℕ)). text_of l ++ rest) (sym (take_all (length (saved_lines s)) (saved_lines s) (omega arith))) }),
   );
   wrong = λ t h b.
-      let same = determined IsSaved saved_lines saved_clean same_saved s t text rest b.rest n r.lawful h (omega (arith, at)) r.same b.same in
+      let same = determined IsSaved saved_lines (saved_clean newline) same_saved s t text rest b.rest n r.lawful h (omega (arith, at)) r.same b.same in
       let P : Saved → Type 0 = λ u. n ≤ length (saved_lines u) in
       let few : n ≤ length (saved_lines s) = subst P (sym same) b.there in
       omega (arith, few, at);
@@ -96,14 +96,14 @@ rest_fault s text rest n r left at = record {
 
 pub line_of_stop : (text rest : List ℕ) (n : ℕ) (s : Stops IsSaved saved_lines text rest) → n ≡ 1 + count_by is_newline (take (length text - length rest) text) → IsFault n text
 line_of_stop text rest n s at =
-    let lines = lines_before (take s.n (saved_lines s.part)) text rest (lines_take s.n (saved_lines s.part) (saved_clean s.part s.lawful)) s.same in
+    let lines = lines_before (take s.n (saved_lines s.part)) text rest (lines_take s.n (saved_lines s.part) (saved_clean newline s.part s.lawful)) s.same in
     let size : length (take s.n (saved_lines s.part)) ≡ s.n = length-take-le s.n (saved_lines s.part) s.there in
     stop_fault text rest n s (at ∙ ap (λ k. 1 + k) (lines ∙ size))
 
 pub line_of_rest : (s : Saved) (text rest : List ℕ) (n : ℕ) → Reads IsSaved saved_lines text s rest → 0 < length rest
     → n ≡ 1 + count_by is_newline (take (length text - length rest) text) → IsFault n text
 line_of_rest s text rest n r left at =
-    rest_fault s text rest n r left (at ∙ ap (λ k. 1 + k) (lines_before (saved_lines s) text rest (saved_clean s r.lawful) r.same))
+    rest_fault s text rest n r left (at ∙ ap (λ k. 1 + k) (lines_before (saved_lines s) text rest (saved_clean newline s r.lawful) r.same))
 
 -- all was read
 

@@ -1,6 +1,7 @@
 pub mod Texts
 pub mod StandardFacts
 pub mod Cuts
+pub mod PlainWords
 pub mod Decimals
 pub mod SameWords
 pub mod Unique
@@ -18,5 +19,6 @@ pub mod MarkParts
 pub mod SavedParts
 pub mod FaultLines
 pub mod FaultFacts
+pub mod JournalTexts
 pub mod Moves
 pub mod ShortLines

@@ -1,7 +1,6 @@
 -- The lines of marks.
-use Rattle.std.proofs.Common.{◌≡◌, ◌<◌, ◌+◌, ◌++◌, ◌∷◌, [], ℕ, suc, zero, List, Option, Some, None, length, take, get_or, decimal, codes, nat_lt, refl, sym, ap, ap₂, subst, ◌∙◌, append_assoc, arith}
+use Rattle.std.proofs.Common.{◌≡◌, ◌<◌, ◌+◌, ◌++◌, ◌∷◌, [], ℕ, suc, zero, List, Option, Some, None, length, take, get_or, decimal, codes, refl, sym, ap, ap₂, subst, ◌∙◌, append_assoc, arith}
 use Rattle.std.specs.List.{AllByRecursion}
-use Rattle.std.proofs.lemmas.Bool.{and_from, lt-ltb}
 use Rattle.irig_saved.specs.Lines.{text_of}
 use Rattle.irig_saved.specs.SavedText.{mark_lines, counted_lines}
 use Rattle.irig_saved.specs.Ranges.{IsNumber, IsTime}
@@ -10,9 +9,10 @@ use Rattle.irig_saved.specs.Leading.{mark_line, LacksMark, Leads}
 use Rattle.irig_saved.specs.declared.step.Step.{Step}
 use Rattle.irig_saved.proofs.Cuts.{AreWords}
 use Rattle.irig_saved.proofs.Decimals.{number_is_word, same_number}
+use Rattle.irig_saved.proofs.SameWords.{byte_is_word}
 use Rattle.irig_saved.proofs.Unique.{lined}
-use Rattle.irig_saved.proofs.Clean.{mark_lacks}
-use Rattle.irig_saved.proofs.Bytes.{cut_at, not_lacking}
+use Rattle.irig_saved.proofs.Clean.{newline, mark_lacks}
+use Rattle.irig_saved.proofs.Bytes.{cut_at, not_lacking, dark_lacks}
 
 -- what they are
 
@@ -52,12 +52,12 @@ lineless_lacks x text lacks = λ t more small e. let P : List ℕ → Type 0 = �
 
 pub other_lacks : (x : ℕ) (text l rest : List ℕ) → 32 < x → text ≡ l ++ 10 ∷ rest → Lacks 10 l → ((t : ℕ) → IsNumber t → l ≡ mark_line x t → ⊥) → LacksMark x text
 other_lacks x text l rest high cut whole none = λ t more small e.
-    none t small (cut_at 10 l (mark_line x t) rest more whole (mark_lacks x t high small) (sym cut ∙ e)).0
+    none t small (cut_at 10 l (mark_line x t) rest more whole (mark_lacks newline x t (dark_lacks 10 (x ∷ []) (omega arith) (byte_is_word x high)) small) (sym cut ∙ e)).0
 
 -- the lines up to the one behind them tell them
 
 mark_words : (x t : ℕ) → 32 < x → IsNumber t → AreWords ((x ∷ []) ∷ decimal t ∷ [])
-mark_words x t high small = (and_from (nat_lt 32 x) _ (lt-ltb 32 x high) refl, (number_is_word t small, tt))
+mark_words x t high small = (byte_is_word x high, (number_is_word t small, tt))
 
 -- the steps behind the marks
 abbrev pub step_sections : List Step → List Step → List (List ℕ)

@@ -5,7 +5,7 @@ use Rattle.irig_saved.specs.SavedText.{pulse_line, pulse_lines}
 use Rattle.irig_saved.specs.Ranges.{IsPulse}
 use Rattle.irig_saved.specs.Reading.{Stops, Lacks}
 use Rattle.irig_track.specs.declared.pulse.Pulse.{Pulse}
-use Rattle.irig_saved.proofs.Clean.{pulse_lacks}
+use Rattle.irig_saved.proofs.Clean.{newline, pulse_lacks}
 use Rattle.irig_saved.proofs.Unique.{Same, same_pulses}
 use Rattle.irig_saved.proofs.Repeats.{Family}
 use Rattle.irig_saved.proofs.Sequences.{line_stops, no_line_stops}
@@ -30,7 +30,7 @@ pub pulse_family : Family IsPulse one_line pulse_lines
 pulse_family = record {
   none = refl;
   next = λ p ps. refl;
-  clean = λ p h. (pulse_lacks p h, tt);
+  clean = λ p h. (pulse_lacks newline p h, tt);
   law = same_pulse;
   some = no_pulse;
   lawful = no_pulse_lawful;
@@ -38,7 +38,7 @@ pulse_family = record {
 
 -- a line that is none of a pulse
 pub pulse_stops : (text l rest : List ℕ) → text ≡ l ++ 10 ∷ rest → Lacks 10 l → ((p : Pulse) → IsPulse p → l ≡ pulse_line p → ⊥) → Stops IsPulse one_line text text
-pulse_stops text l rest cut whole none = line_stops IsPulse pulse_line text l rest no_pulse cut whole no_pulse_lawful pulse_lacks none
+pulse_stops text l rest cut whole none = line_stops IsPulse pulse_line text l rest no_pulse cut whole no_pulse_lawful (pulse_lacks newline) none
 
 pub no_pulse_stops : (text : List ℕ) → Lacks 10 text → Stops IsPulse one_line text text
 no_pulse_stops text lacks = no_line_stops IsPulse pulse_line text no_pulse lacks no_pulse_lawful

@@ -10,7 +10,8 @@ use Rattle.irig_track.specs.declared.pulse.Pulse.{Pulse}
 use Rattle.irig_saved.specs.declared.single.Single.{Single}
 use Rattle.irig_saved.specs.declared.single.Single.TheVariants.{Splice, Toggle, Shift, SetFormat, SetMark}
 use Rattle.irig_saved.proofs.Cuts.{IsWord, AreWords}
-use Rattle.irig_saved.proofs.Decimals.{number_is_word, distance_is_word, same_number, same_distance, no_dash}
+use Rattle.irig_saved.proofs.PlainWords.{IsPlain, ArePlain, plain_is_word, plain_are_words}
+use Rattle.irig_saved.proofs.Decimals.{number_is_plain, distance_is_plain, same_number, same_distance, no_dash}
 
 pub small_is_number : (n : ℕ) → n ≤ 7 → IsNumber n
 small_is_number n h = omega (arith, h)
@@ -24,6 +25,9 @@ byte_at n w v e = ap (λ (l : List ℕ). get_or l n 0) e
 
 pub byte_is_word : (b : ℕ) → 32 < b → IsWord (b ∷ [])
 byte_is_word b h = and_from (nat_lt 32 b) true (lt-ltb 32 b h) refl
+
+pub byte_is_plain : (b : ℕ) → 36 < b → IsPlain (b ∷ [])
+byte_is_plain b h = and_from (nat_lt 36 b) true (lt-ltb 36 b h) refl
 
 -- the letters of the marks that move
 
@@ -59,23 +63,23 @@ undash (u ∷ us) (v ∷ vs) hu hv e = e
 same_moved : (ms ns : List Bool) → length ms ≡ length ns → moved_word ms ≡ moved_word ns → ms ≡ ns
 same_moved ms ns n e = same_letters 97 ms ns n (undash (letters_from 97 ms) (letters_from 97 ns) (λ y ys h. later_letters 97 y ms ys h) (λ y ys h. later_letters 97 y ns ys h) e)
 
-letters_are_word : (x : ℕ) (ms : List Bool) → 32 < x → IsWord (letters_from x ms)
-letters_are_word x [] h = refl
-letters_are_word x (true ∷ ms) h = and_from (nat_lt 32 x) _ (lt-ltb 32 x h) (letters_are_word (x + 1) ms (omega (arith, h)))
-letters_are_word x (false ∷ ms) h = letters_are_word (x + 1) ms (omega (arith, h))
+letters_are_plain : (x : ℕ) (ms : List Bool) → 36 < x → IsPlain (letters_from x ms)
+letters_are_plain x [] h = refl
+letters_are_plain x (true ∷ ms) h = and_from (nat_lt 36 x) _ (lt-ltb 36 x h) (letters_are_plain (x + 1) ms (omega (arith, h)))
+letters_are_plain x (false ∷ ms) h = letters_are_plain (x + 1) ms (omega (arith, h))
 
-dash_is_word : (us : List ℕ) → IsWord us → IsWord (letters_or_dash us)
-dash_is_word [] h = refl
-dash_is_word (u ∷ us) h = h
+dash_is_plain : (us : List ℕ) → IsPlain us → IsPlain (letters_or_dash us)
+dash_is_plain [] h = refl
+dash_is_plain (u ∷ us) h = h
 
-moved_is_word : (ms : List Bool) → IsWord (moved_word ms)
-moved_is_word ms = dash_is_word (letters_from 97 ms) (letters_are_word 97 ms (omega arith))
+moved_is_plain : (ms : List Bool) → IsPlain (moved_word ms)
+moved_is_plain ms = dash_is_plain (letters_from 97 ms) (letters_are_plain 97 ms (omega arith))
 
 -- times and kinds
 
-time_is_word : (t : Option ℕ) → IsTime t → IsWord (time_word t)
-time_is_word None h = refl
-time_is_word (Some t) h = number_is_word t h
+time_is_plain : (t : Option ℕ) → IsTime t → IsPlain (time_word t)
+time_is_plain None h = refl
+time_is_plain (Some t) h = number_is_plain t h
 
 same_time : (t u : Option ℕ) → IsTime t → IsTime u → time_word t ≡ time_word u → t ≡ u
 same_time None None ht hu e = refl
@@ -83,11 +87,14 @@ same_time None (Some u) ht hu e = absurd (no_dash u hu (sym e))
 same_time (Some t) None ht hu e = absurd (no_dash t ht e)
 same_time (Some t) (Some u) ht hu e = ap Some (same_number t u ht hu e)
 
+pub kind_is_plain : (k : Kind) → IsPlain (kind_word k)
+kind_is_plain A = refl
+kind_is_plain B = refl
+kind_is_plain E = refl
+kind_is_plain G = refl
+
 pub kind_is_word : (k : Kind) → IsWord (kind_word k)
-kind_is_word A = refl
-kind_is_word B = refl
-kind_is_word E = refl
-kind_is_word G = refl
+kind_is_word k = plain_is_word (kind_word k) (kind_is_plain k)
 
 pub same_kind : (k l : Kind) → kind_word k ≡ kind_word l → k ≡ l
 same_kind A A e = refl
@@ -109,19 +116,25 @@ same_kind G G e = refl
 
 -- the first line of a change
 
+pub head_is_plain : (x : Single) → IsPlain (head_of x)
+head_is_plain (Splice at count put) = refl
+head_is_plain (Toggle a b) = refl
+head_is_plain (Shift i j by marks) = refl
+head_is_plain (SetFormat kind expression) = refl
+head_is_plain (SetMark letter time) = refl
+
 pub head_is_word : (x : Single) → IsWord (head_of x)
-head_is_word (Splice at count put) = refl
-head_is_word (Toggle a b) = refl
-head_is_word (Shift i j by marks) = refl
-head_is_word (SetFormat kind expression) = refl
-head_is_word (SetMark letter time) = refl
+head_is_word x = plain_is_word (head_of x) (head_is_plain x)
+
+pub words_are_plain : (x : Single) → IsSingle x → ArePlain (words_of x)
+words_are_plain (Splice at count put) h = (number_is_plain at h.0, (number_is_plain count h.1, (number_is_plain (length put) h.2, tt)))
+words_are_plain (Toggle a b) h = (number_is_plain a h.0, (number_is_plain b h.1, tt))
+words_are_plain (Shift i j by marks) h = (number_is_plain i h.0, (number_is_plain j h.1, (distance_is_plain by h.2, (moved_is_plain marks, tt))))
+words_are_plain (SetFormat kind expression) h = (kind_is_plain kind, (number_is_plain expression (small_is_number expression h), tt))
+words_are_plain (SetMark letter time) h = (byte_is_plain (97 + letter) (omega arith), (time_is_plain time h.1, tt))
 
 pub words_are_words : (x : Single) → IsSingle x → AreWords (words_of x)
-words_are_words (Splice at count put) h = (number_is_word at h.0, (number_is_word count h.1, (number_is_word (length put) h.2, tt)))
-words_are_words (Toggle a b) h = (number_is_word a h.0, (number_is_word b h.1, tt))
-words_are_words (Shift i j by marks) h = (number_is_word i h.0, (number_is_word j h.1, (distance_is_word by h.2, (moved_is_word marks, tt))))
-words_are_words (SetFormat kind expression) h = (kind_is_word kind, (number_is_word expression (small_is_number expression h), tt))
-words_are_words (SetMark letter time) h = (byte_is_word (97 + letter) (omega arith), (time_is_word time h.1, tt))
+words_are_words x h = plain_are_words (words_of x) (words_are_plain x h)
 
 -- the same change, but for the pulses that a splice puts, of which only the number is told
 abbrev pub Alike : Single → Single → Type 0

@@ -15,7 +15,7 @@ use Rattle.irig_saved.proofs.Cuts.{AreWords}
 use Rattle.irig_saved.proofs.Decimals.{number_is_word, same_number}
 use Rattle.irig_saved.proofs.SameWords.{kind_is_word, same_kind}
 use Rattle.irig_saved.proofs.Unique.{lined, regroup, same_counted}
-use Rattle.irig_saved.proofs.Clean.{counted_lacks, format_lacks, counted_clean}
+use Rattle.irig_saved.proofs.Clean.{newline, counted_lacks, format_lacks, counted_clean}
 use Rattle.irig_saved.proofs.Sequences.{Both, both, first_stops, second_stops, behind_stops, determined, line_behind_stops}
 use Rattle.irig_saved.proofs.Carried.{carried, first_line_stops}
 use Rattle.irig_saved.proofs.ChangeParts.{no_steps_lawful, onward, same_count}
@@ -40,7 +40,7 @@ pub future_stops : (text mid rest : List ℕ) (past : List Step) → Reads AreSt
     → Stops AreSteps (counted_lines (codes "future")) mid rest → Stops AreEnds end_lines text rest
 future_stops text mid rest past r s =
     second_stops AreSteps (λ _. AreSteps) (counted_lines (codes "past")) (counted_lines (codes "future")) past text mid rest r.lawful r.same
-    (λ y n more h many e. determined AreSteps (counted_lines (codes "past")) (λ z hz. counted_clean (codes "past") z refl hz)
+    (λ y n more h many e. determined AreSteps (counted_lines (codes "past")) (λ z hz. counted_clean newline (codes "past") z refl hz)
     (λ x z q v hx hz k. same_counted (codes "past") x z q v refl hx hz k) past y text mid more n r.lawful h many r.same e) s
 
 -- the marks and the steps
@@ -97,7 +97,7 @@ body_lines b = both IsNumber (λ _. IsTail) cursor_lines tail_lines b
 
 pub body_stops : (text mid rest : List ℕ) (n : ℕ) → text ≡ cursor_line n ++ 10 ∷ mid → IsNumber n → Stops IsTail tail_lines mid rest → Stops IsBody body_lines text rest
 body_stops text mid rest n cut h s =
-    line_behind_stops IsNumber (λ _. IsTail) cursor_line tail_lines (λ m hm. counted_lacks (codes "cursor") m refl hm) (same_count (codes "cursor") refl) text (cursor_line n) mid rest n cut h refl s
+    line_behind_stops IsNumber (λ _. IsTail) cursor_line tail_lines (λ m hm. counted_lacks newline (codes "cursor") m refl hm) (same_count (codes "cursor") refl) text (cursor_line n) mid rest n cut h refl s
 
 no_body : Body
 no_body = (0, no_tail)
@@ -129,7 +129,7 @@ abbrev pub whole_lines : Whole → List (List ℕ)
 whole_lines w = both IsFormat (λ _. IsBody) format_lines body_lines w
 
 pub format_clean : (f : Kind × ℕ) → IsFormat f → Lacks 10 (format_line f)
-format_clean f h = format_lacks (codes "format") f.0 f.1 refl h
+format_clean f h = format_lacks newline f.0 f.1 h
 
 small : (n : ℕ) → n ≤ 7 → IsNumber n
 small n h = omega (arith, h)

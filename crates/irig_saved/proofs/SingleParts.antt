@@ -13,7 +13,7 @@ use Rattle.irig_saved.proofs.Cuts.{AreWords}
 use Rattle.irig_saved.proofs.Decimals.{number_is_word, same_number}
 use Rattle.irig_saved.proofs.SameWords.{head_is_word, words_are_words}
 use Rattle.irig_saved.proofs.Unique.{lined, same_single}
-use Rattle.irig_saved.proofs.Clean.{line_lacks, first_lacks, single_clean}
+use Rattle.irig_saved.proofs.Clean.{newline, number_lacks, line_lacks, first_lacks, single_clean}
 use Rattle.irig_saved.proofs.Carried.{Differs, carried, first_line_stops, other_line, lineless}
 use Rattle.irig_saved.proofs.Repeats.{Family}
 use Rattle.irig_saved.proofs.Sequences.{Both, both, line_behind_stops}
@@ -33,7 +33,7 @@ three_are_words : (t : ℕ × ℕ × ℕ) → AreThree t → AreWords (words_of_
 three_are_words t h = (number_is_word t.0 h.0, (number_is_word t.1 h.1, (number_is_word t.2 h.2, tt)))
 
 splice_lacks : (t : ℕ × ℕ × ℕ) → AreThree t → Lacks 10 (splice_line t)
-splice_lacks t h = line_lacks (codes "splice") (words_of_three t) refl (three_are_words t h)
+splice_lacks t h = line_lacks newline (codes "splice") (words_of_three t) refl (number_lacks newline t.0 h.0, (number_lacks newline t.1 h.1, (number_lacks newline t.2 h.2, tt)))
 
 same_three : (t u : ℕ × ℕ × ℕ) → AreThree t → AreThree u → splice_line t ≡ splice_line u → t ≡ u
 same_three t u ht hu e =
@@ -76,7 +76,7 @@ splice_stops text l mid rest t cut whole ht e s =
       )
 
       apart : (x : Single) → IsSingle x → (codes "splice" ≡ head_of x → ⊥) → Differs text (single_lines x)
-      apart x h not = other_line text l mid (single_line x) (pulse_lines (put_of x)) cut whole (first_lacks x h) (λ k. other_head x t h ht not (sym e ∙ k))
+      apart x h not = other_line text l mid (single_line x) (pulse_lines (put_of x)) cut whole (first_lacks newline x h) (λ k. other_head x t h ht not (sym e ∙ k))
 
       from : (z : Single) → IsSingle z → ((p : (ℕ × ℕ × ℕ) × List Pulse) × Both AreThree AreTheirs splice_lines pulse_lines p × (both AreThree AreTheirs splice_lines pulse_lines p ≡ single_lines z)) ⊎ Differs text (single_lines z)
       from (Splice at count put) h = inl (((at, count, length put), put), ((h.0, h.1, h.2), (refl, h.3)), refl)
@@ -119,7 +119,7 @@ pub single_line_stops : (text l rest : List ℕ) → text ≡ l ++ 10 ∷ rest �
     → Stops IsSingle single_lines text text
 single_line_stops text l rest cut whole no_splice no_short =
     first_line_stops IsSingle single_lines text no_change no_change_lawful
-    (λ x h. other_line text l rest (single_line x) (pulse_lines (put_of x)) cut whole (first_lacks x h) (none x h)) where
+    (λ x h. other_line text l rest (single_line x) (pulse_lines (put_of x)) cut whole (first_lacks newline x h) (none x h)) where
       none : (x : Single) → IsSingle x → l ≡ single_line x → ⊥
       none (Splice at count put) h e = no_splice (at, count, length put) (h.0, h.1, h.2) e
       none (Toggle a b) h e = no_short (Toggle a b) h e
@@ -135,7 +135,7 @@ pub single_family : Family IsSingle single_lines singles_lines
 single_family = record {
   none = refl;
   next = λ x xs. refl;
-  clean = single_clean;
+  clean = single_clean newline;
   law = same_single;
   some = no_change;
   lawful = no_change_lawful;
