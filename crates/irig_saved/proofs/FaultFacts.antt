@@ -1,10 +1,17 @@
--- Texts of which it is plain where they go wrong.
+-- Texts of which it is plain where they go wrong, or that they do not.
 use Rattle.std.proofs.Common.{◌≡◌, ◌++◌, ◌∷◌, [], ℕ, List, codes, refl, subst}
 use Rattle.irig_saved.specs.Reading.{Lacks}
 use Rattle.irig_saved.specs.Faults.{IsFault}
+use Rattle.irig_saved.specs.Ranges.{IsSaved}
+use Rattle.irig_saved.specs.SavedText.{journal_text}
+use Rattle.irig_saved.specs.declared.saved.Saved.{Saved}
 use Rattle.irig_saved.proofs.Bytes.{not_lacking}
 use Rattle.irig_saved.proofs.SavedParts.{name_stops, format_stops, saved_stops, format_line}
 use Rattle.irig_saved.proofs.FaultLines.{line_of_stop}
+
+-- a journal's own text goes wrong nowhere
+pub journal_not_at_fault : (s : Saved) → IsSaved s → (n : ℕ) → IsFault n (journal_text s) → ⊥
+journal_not_at_fault s h n f = f.refused s h refl
 
 no_line : (w more : List ℕ) → [] ≡ w ++ 10 ∷ more → ⊥
 no_line w more e = let P : List ℕ → Type 0 = λ l. Lacks 10 l in not_lacking 10 w more (subst P e refl)
