@@ -3,7 +3,7 @@ use Rattle.std.proofs.Common.{◌≡◌, ◌<◌, ◌+◌, ◌++◌, ◌∷◌, 
 use Rattle.std.specs.List.{AllByRecursion}
 use Rattle.irig_saved.specs.Lines.{line, numbered, text_of}
 use Rattle.irig_saved.specs.ChangeWords.{head_of, words_of}
-use Rattle.irig_saved.specs.SavedText.{put_of, pulse_lines, single_lines, singles_lines, change_lines, step_lines, steps_lines, mark_lines, counted_lines, saved_lines}
+use Rattle.irig_saved.specs.SavedText.{put_of, pulse_lines, single_lines, singles_lines, change_lines, step_lines, steps_lines, mark_lines, counted_lines, saved_lines, journal_text}
 use Rattle.irig_saved.specs.Ranges.{IsNumber, IsTime, IsPulse, IsSingle, IsChange, IsStep, AreSteps, IsSaved}
 use Rattle.irig_codes.specs.Words.{kind_word}
 use Rattle.irig_codes.specs.declared.format.Kind.{Kind}
@@ -237,3 +237,8 @@ same_saved s t r q hs ht e =
           marks.value past.value future.value;
       rest = future.rest;
     }
+
+-- one text is that of one journal
+pub same_journal : (s t : Saved) → IsSaved s → IsSaved t → journal_text s ≡ journal_text t → s ≡ t
+unfolding journal_text
+same_journal s t hs ht e = (same_saved s t [] [] hs ht (ap (λ (l : List ℕ). l ++ []) e)).value
