@@ -20,5 +20,6 @@ pub mod SavedParts
 pub mod FaultLines
 pub mod FaultFacts
 pub mod JournalTexts
+pub mod Counts
 pub mod Moves
 pub mod ShortLines
