@@ -26,14 +26,18 @@ pub record Paired (i room : ℕ) (edges : List ℕ) (v : GapView Pulse) : Type 0
   pub made : edges_of v.items ++ drop i edges ≡ edges
   pub even : is_even_long (drop i edges) ≡ true
   pub capacity : v.capacity ≡ room
+  pub last : v.place ≡ length v.items
 
-pub none_paired : (edges : List ℕ) (v : GapView Pulse) → v.items ≡ [] → is_even_long edges ≡ true → Paired 0 v.capacity edges v
-none_paired edges v empty even = record {
+pub none_paired : (at : ℕ) (edges : List ℕ) (u v : GapView Pulse) → u.items ≡ [] → is_even_long edges ≡ true → at ≡ length u.items → v ≡ gap_view u.items at u.capacity → Paired 0 v.capacity edges v
+none_paired at edges u v none even ae ve =
+    let empty : v.items ≡ [] = ap (λ (x : GapView Pulse). x.items) ve ∙ none in
+    record {
   within = omega arith;
   count = omega (arith, ap length empty);
   made = ap (λ ps. edges_of ps ++ edges) empty;
   even = even;
   capacity = refl;
+  last = ap (λ (x : GapView Pulse). x.place) ve ∙ ae ∙ sym (ap (λ (x : GapView Pulse). length x.items) ve);
 }
 
 two_more : (i : ℕ) (edges : List ℕ) → i + 1 < length edges → drop i edges ≡ get_or edges i 0 ∷ get_or edges (i + 1) 0 ∷ drop (i + 2) edges
@@ -42,14 +46,13 @@ two_more i edges lt =
     drop_more edges i 0 (omega arith) ∙ ap (λ xs. get_or edges i 0 ∷ xs) (drop_more edges (i + 1) 0 lt ∙ ap (λ k. get_or edges (i + 1) 0 ∷ drop k edges) up)
 
 -- one more pulse put together
-pub more_paired : (i capacity at : ℕ) (edges : List ℕ) (v u w : GapView Pulse) → Paired i capacity edges v → i + 1 < length edges
-    → at ≡ length v.items → u ≡ gap_view v.items at v.capacity
-    → w ≡ gap_view (insert u.items u.place (pulse (get_or edges i 0) (get_or edges (i + 1) 0))) (u.place + 1) u.capacity
+pub more_paired : (i capacity : ℕ) (edges : List ℕ) (v w : GapView Pulse) → Paired i capacity edges v → i + 1 < length edges
+    → w ≡ gap_view (insert v.items v.place (pulse (get_or edges i 0) (get_or edges (i + 1) 0))) (v.place + 1) v.capacity
     → Paired (i + 2) capacity edges w
-more_paired i capacity at edges v u w h lt ae ue we =
+more_paired i capacity edges v w h lt we =
     let p = pulse (get_or edges i 0) (get_or edges (i + 1) 0) in
     let items : w.items ≡ v.items ++ p ∷ [] =
-    ap (λ (x : GapView Pulse). x.items) we ∙ ap (λ (x : GapView Pulse). insert x.items x.place p) ue ∙ ap (λ k. insert v.items k p) ae ∙ insert_end v.items p in
+    ap (λ (x : GapView Pulse). x.items) we ∙ ap (λ k. insert v.items k p) h.last ∙ insert_end v.items p in
     let cut = two_more i edges lt in
     record {
       within = omega (arith, h.within);
@@ -57,7 +60,8 @@ more_paired i capacity at edges v u w h lt ae ue we =
       made = ap (λ ps. edges_of ps ++ drop (i + 2) edges) items ∙ ap (λ xs. xs ++ drop (i + 2) edges) (edges_of-append v.items (p ∷ []))
           ∙ append_assoc (edges_of v.items) (p.rise ∷ p.fall ∷ []) (drop (i + 2) edges) ∙ ap (λ xs. edges_of v.items ++ xs) (sym cut) ∙ h.made;
       even = sym (not-not (is_even_long (drop (i + 2) edges))) ∙ sym (ap is_even_long cut) ∙ h.even;
-      capacity = ap (λ (x : GapView Pulse). x.capacity) we ∙ ap (λ (x : GapView Pulse). x.capacity) ue ∙ h.capacity;
+      capacity = ap (λ (x : GapView Pulse). x.capacity) we ∙ h.capacity;
+      last = ap (λ (x : GapView Pulse). x.place) we ∙ ap (λ k. k + 1) h.last ∙ omega (arith, ap length items, length-append v.items (p ∷ []));
     }
 
 even_short : (xs : List ℕ) → length xs ≤ 1 → is_even_long xs ≡ true → xs ≡ []

@@ -187,8 +187,8 @@ fn put_pairs(pulses: &mut Gap<Pulse>, edges: &[u64])
     ensures { edges_of pulses.new.items ≡ edges.now }
 {
     let mut index = 0;
+    pulses.move_to(pulses.len());
     while edges.len() - index > 1 {
-        pulses.move_to(pulses.len());
         pulses.put(Pulse {
             rise: edges[index],
             fall: edges[index + 1],
