@@ -1,5 +1,5 @@
 -- The text of a saved journal: docs/FORMATS.md, "The saved journal". This project's own.
-use Rattle.std.specs.Prelude.{◌+◌, ℕ, List, [], ◌∷◌, ◌++◌, Option, Some, None, length, decimal, codes}
+use Rattle.std.specs.Prelude.{◌+◌, ℕ, List, [], ◌∷◌, ◌++◌, Option, Some, None, length, map, decimal, codes}
 use Rattle.irig_saved.specs.Lines.{line, numbered, text_of}
 use Rattle.irig_saved.specs.ChangeWords.{single_line}
 use Rattle.irig_codes.specs.Words.{kind_word}
@@ -17,8 +17,7 @@ pulse_line p = numbered (decimal p.rise) (p.fall ∷ [])
 
 -- a line for each pulse
 abbrev pub pulse_lines : List Pulse → List (List ℕ)
-pulse_lines [] = []
-pulse_lines (p ∷ ps) = pulse_line p ∷ pulse_lines ps
+pulse_lines ps = map pulse_line ps
 
 -- the pulses that it puts
 abbrev pub put_of : Single → List Pulse
