@@ -13,7 +13,8 @@ use Rattle.irig_edit.specs.Machine.{Steps}
 use Rattle.irig_edit.specs.Refusals.{first_of, refusal_of}
 use Rattle.irig_edit.specs.Session.{SessionView, grouped_in, machine_in, made_since}
 use Rattle.irig_edit.specs.declared.refusal.Refusal.TheVariants.{NoGroup}
-use Rattle.irig_edit.proofs.Endings.{IsGrouped-aborted, aborted_rose, grouped-aborted, is_open-none, is_open-not_none}
+use Rattle.irig_edit.proofs.Aborts.{IsGrouped-aborted, aborted_rose, grouped-aborted}
+use Rattle.irig_edit.proofs.Endings.{is_open-none, is_open-not_none}
 use Rattle.irig_edit.proofs.Floors.{over_opening}
 use Rattle.irig_edit.proofs.LooksOfSteps.{risen_within}
 use Rattle.irig_edit.proofs.MachineSteps.{Steps-aborted}

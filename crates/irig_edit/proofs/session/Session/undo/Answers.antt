@@ -11,7 +11,7 @@ use Rattle.irig_edit.specs.Looks.{Within}
 use Rattle.irig_edit.specs.Machine.{Steps}
 use Rattle.irig_edit.specs.Refusals.{refusal_of}
 use Rattle.irig_edit.specs.Session.{SessionView, grouped_in}
-use Rattle.irig_edit.proofs.Endings.{above_floor}
+use Rattle.irig_edit.proofs.Aborts.{above_floor}
 use Rattle.irig_edit.proofs.Floors.{IsGrouped-undone, grouped-undone, is_at_floor-yes, not_at_floor, over_opening}
 use Rattle.irig_edit.proofs.LooksOfSteps.{risen_within, undone_rose}
 use Rattle.irig_edit.proofs.Machines.{length-kept_back, machine-undone}
