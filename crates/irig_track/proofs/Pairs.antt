@@ -32,13 +32,13 @@ pub none_paired : (at : ℕ) (edges : List ℕ) (u v : GapView Pulse) → u.item
 none_paired at edges u v none even ae ve =
     let empty : v.items ≡ [] = ap (λ (x : GapView Pulse). x.items) ve ∙ none in
     record {
-  within = omega arith;
-  count = omega (arith, ap length empty);
-  made = ap (λ ps. edges_of ps ++ edges) empty;
-  even = even;
-  capacity = refl;
-  last = ap (λ (x : GapView Pulse). x.place) ve ∙ ae ∙ sym (ap (λ (x : GapView Pulse). length x.items) ve);
-}
+      within = omega arith;
+      count = omega (arith, ap length empty);
+      made = ap (λ ps. edges_of ps ++ edges) empty;
+      even = even;
+      capacity = refl;
+      last = ap (λ (x : GapView Pulse). x.place) ve ∙ ae ∙ sym (ap (λ (x : GapView Pulse). length x.items) ve);
+    }
 
 two_more : (i : ℕ) (edges : List ℕ) → i + 1 < length edges → drop i edges ≡ get_or edges i 0 ∷ get_or edges (i + 1) 0 ∷ drop (i + 2) edges
 two_more i edges lt =

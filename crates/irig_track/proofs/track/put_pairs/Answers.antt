@@ -1,4 +1,4 @@
-use Rattle.std.proofs.Common.{arith, refl}
+use Rattle.std.proofs.Common.{arith}
 use Rattle.irig_track.proofs.Pairs.{none_paired, more_paired, all_paired}
 use Rattle.irig_track.proofs.track.put_pairs.Goals as goal
 
