@@ -11,7 +11,7 @@ use Rattle.irig_edit.specs.Delta.{Delta, Fits, turned}
 use Rattle.irig_edit.specs.Saved.{saved_change, saved_step}
 use Rattle.irig_edit.specs.State.{State}
 use Rattle.irig_edit.specs.Stops.{StopsAt, Told}
-use Rattle.irig_edit.specs.Taken.{AreTaken, CanTake, CanTakeAll, IsLawful}
+use Rattle.irig_edit.specs.Taken.{AreTaken, CanTake, CanTakeAll}
 use Rattle.irig_edit.specs.Walk.{Fitting, gone_along, gone_on}
 use Rattle.irig_edit.proofs.Names.{same_change, same_step}
 use Rattle.irig_edit.proofs.Walks.{can_take-append, can_take-next, gone_along-append}
@@ -141,19 +141,19 @@ told_no true P Q is h = absurd (cc)
 told_no false P Q is h = h
 
 -- a change made that a step names is the step taken
-pub took : {E : Type 0} (r : Result Bool E) (h new : History State Delta) (s : SavedStep) (d : Delta) → IsLawful d → s.change ≡ saved_change d
+pub took : {E : Type 0} (r : Result Bool E) (h new : History State Delta) (s : SavedStep) (d : Delta) → s.change ≡ saved_change d
     → IfOk r (λ made. Told made
     ((Fits h.state d × (s.cursor ≤ length (turned h.state d).0.pulses)) × ((new ≡ gone_on h (step d s.cursor)) × Fitting new))
     (Fits h.state d → s.cursor ≤ length (turned h.state d).0.pulses → ⊥))
     → IfOk r (λ taken. Told taken
     ((x : Step Delta) × ((s ≡ saved_step x) × (CanTake h.state x × ((new ≡ gone_on h x) × Fitting new))))
     ((x : Step Delta) → s ≡ saved_step x → CanTake h.state x → ⊥))
-took (Ok true) h new s d lawful named made =
-    (step d s.cursor, ((λ k. record { cursor = s.cursor; change = named k }), (record { lawful = lawful; fits = made.0.0; cursor = made.0.1 }, made.1)))
-took (Ok false) h new s d lawful named refused = λ x is can.
+took (Ok true) h new s d named made =
+    (step d s.cursor, ((λ k. record { cursor = s.cursor; change = named k }), (record { fits = made.0.0; cursor = made.0.1 }, made.1)))
+took (Ok false) h new s d named refused = λ x is can.
     let same : x.change ≡ d = same_change x.change d (sym (ap (λ (y : SavedStep). y.change) is) ∙ named) in
     let at : s.cursor ≡ x.cursor = ap (λ (y : SavedStep). y.cursor) is in
     refused (subst (λ (y : Delta). Fits h.state y) same can.fits)
     (subst (λ (n : ℕ). n ≤ length (turned h.state d).0.pulses) (sym at)
     (subst (λ (y : Delta). x.cursor ≤ length (turned h.state y).0.pulses) same can.cursor))
-took (Err e) h new s d lawful named made = tt
+took (Err e) h new s d named made = tt

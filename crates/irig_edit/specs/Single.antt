@@ -1,7 +1,7 @@
 -- What a single change of a state is, when it can be made, what it leaves, and how many pulses it
 -- holds and brings. This project's own.
-use Rattle.std.specs.Prelude.{ℕ, ℤ, ◌<◌, Bool, List, [], ◌∷◌, Option, None, length, get_or, slice_set, neg_ℤ}
-use Rattle.irig_codes.specs.Format.{FormatView}
+use Rattle.std.specs.Prelude.{◌≡◌, ℕ, ℤ, ◌<◌, Bool, IsTrue, List, [], ◌∷◌, Option, None, length, get_or, slice_set, neg_ℤ}
+use Rattle.irig_codes.specs.Format.{FormatView, is_permitted}
 use Rattle.irig_track.specs.declared.pulse.Pulse.{Pulse}
 use Rattle.irig_track.specs.Edges.{pulse, edges_of}
 use Rattle.irig_track.specs.Shifts.{CanShift, shifted}
@@ -31,8 +31,8 @@ abbrev pub FitsSingle : State → SingleDelta → Type 0
 FitsSingle s (Spliced at count put) = CanSplice s.micros at count put s.pulses
 FitsSingle s (Toggled a b) = CanToggle s.micros a b s.pulses
 FitsSingle s (Shifted i j d named) =
-    CanShift s.micros i j d s.pulses × AllMayMove s.micros d named s.marks
-FitsSingle s (Formatted f) = Unit {0}
+    CanShift s.micros i j d s.pulses × AllMayMove s.micros d named s.marks × (length named ≡ 26)
+FitsSingle s (Formatted f) = IsTrue (is_permitted f.kind f.expression)
 FitsSingle s (Marked letter time) = (letter < 26) × IsMark s.micros time
 
 -- the state that a change leaves, and the change that leads back

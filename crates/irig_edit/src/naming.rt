@@ -1,12 +1,12 @@
 //! The changes that a saved journal names.
 
 ghost use Rattle.std.specs.Prelude.{◌≡◌, List, IfOk, MatchOption, map};
-ghost use Rattle.std.specs.List.{AllByRecursion};
-ghost use Rattle.irig_edit.specs.Delta.{Delta};
+ghost use Rattle.irig_journal.specs.Turns.{FitAll};
+ghost use Rattle.irig_edit.specs.Delta.{Delta, Fits};
 ghost use Rattle.irig_edit.specs.Held.{delta_of, single_of};
 ghost use Rattle.irig_edit.specs.Saved.{saved_change, saved_single};
-ghost use Rattle.irig_edit.specs.Single.{SingleDelta};
-ghost use Rattle.irig_edit.specs.Taken.{IsLawful, IsLawfulSingle};
+ghost use Rattle.irig_edit.specs.Single.{FitsSingle, SingleDelta, turned_single};
+ghost use Rattle.irig_edit.specs.State.{State};
 
 use crate::change::Change;
 use crate::single::{Shift, Single};
@@ -15,14 +15,14 @@ use crate::splice::Splice;
 use irig_codes::Format;
 use std::alloc::{AllocError, Global};
 
-/// The change that is named; `None` where there is none, or its format is not permitted.
+/// The change that is named; `None` where there is none that any state allows.
 pub(crate) fn change_named(
     alloc: Global,
     name: irig_saved::Change,
 ) -> Result<Option<Change>, AllocError>
     ensures { IfOk result (λ named. MatchOption named
-        ((d : Delta) → IsLawful d → name ≡ saved_change d → ⊥)
-        (λ change. IsLawful (delta_of change) × (name ≡ saved_change (delta_of change)))) }
+        ((d : Delta) (s : State) → Fits s d → name ≡ saved_change d → ⊥)
+        (λ change. name ≡ saved_change (delta_of change))) }
 {
     match name {
         irig_saved::Change::One(single) => match single_named(alloc, single) {
@@ -36,13 +36,12 @@ pub(crate) fn change_named(
     }
 }
 
-/// The single changes that are named.
+/// The single changes that are named; `None` where there are none that any state allows.
 fn singles_named(alloc: Global, names: irig_saved::Singles) -> Result<Option<Singles>, AllocError>
     ensures { IfOk result (λ named. MatchOption named
-        ((ds : List SingleDelta) → AllByRecursion IsLawfulSingle ds
+        ((ds : List SingleDelta) (s : State) → FitAll FitsSingle turned_single s ds
         → names ≡ map saved_single ds → ⊥)
-        (λ singles. AllByRecursion IsLawfulSingle (map single_of singles)
-        × (names ≡ map saved_single (map single_of singles)))) }
+        (λ singles. names ≡ map saved_single (map single_of singles))) }
 {
     let mut items = Vec::new(alloc);
     let mut left = names.into_vec();
@@ -56,11 +55,11 @@ fn singles_named(alloc: Global, names: irig_saved::Singles) -> Result<Option<Sin
     Ok(Some(Singles { items }))
 }
 
-/// The single change that is named.
+/// The single change that is named; `None` where there is none that any state allows.
 fn single_named(alloc: Global, name: irig_saved::Single) -> Option<Single>
     ensures { MatchOption result
-        ((d : SingleDelta) → IsLawfulSingle d → name ≡ saved_single d → ⊥)
-        (λ single. IsLawfulSingle (single_of single) × (name ≡ saved_single (single_of single))) }
+        ((d : SingleDelta) (s : State) → FitsSingle s d → name ≡ saved_single d → ⊥)
+        (λ single. name ≡ saved_single (single_of single)) }
 {
     match name {
         irig_saved::Single::Splice { at, count, put } => {

@@ -42,10 +42,15 @@ impl Present {
             Single::Splice(splice) => self.track.can_splice(splice.at, splice.count, &splice.put),
             Single::Toggle { a, b } => self.can_toggle(*a, *b),
             Single::Shift(shift) => {
+                // What was read has its length.
+                let _first = shift.letters[0];
                 self.can_shift(shift.i, shift.j, shift.by)
                     && all_may_move(&self.marks, &shift.letters, shift.by, self.track.length())
             }
-            Single::SetFormat(_) => true,
+            Single::SetFormat(format) => {
+                let _expression = format.expression();
+                true
+            }
             Single::SetMark { letter, time } => *letter < 26 && self.may_mark(*time),
         }
     }

@@ -109,6 +109,7 @@ impl Present {
         ensures back { format.new ≡ self.old.state.format }
         ensures places { KeepsPlaces self.old self.new }
     {
+        let _expression = format.expression();
         mem::swap(&mut self.format, format);
         self.index.rebuild(&mut self.track.lens(), self.format);
     }

@@ -24,8 +24,9 @@ FitsSingle-turned s (Toggled a b) is can =
 FitsSingle-turned s (Shifted i j d named) is can = (
   can_shift_back s.micros i j d (neg_ℤ d) s.pulses (Opposite-neg d) can.0 is.track,
   may_move_back s.micros d (neg_ℤ d) named s.marks (Opposite-neg d) is.marks can.1,
+  can.2,
 )
-FitsSingle-turned s (Formatted f) is can = tt
+FitsSingle-turned s (Formatted f) is can = is.permitted
 FitsSingle-turned s (Marked letter time) is can =
     (can.0, mark_within s.micros letter s.marks (omega (arith, is.letters, can.0)) is.marks)
 

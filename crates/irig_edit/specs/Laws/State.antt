@@ -15,26 +15,29 @@ use Rattle.irig_edit.specs.State.{State, IsState}
 pub IsState-turned_single : (s : State) (d : SingleDelta) → IsState s → FitsSingle s d
     → IsState (turned_single s d).0
 IsState-turned_single s (Spliced at count put) is can =
-    record { track = can.track; letters = is.letters; marks = is.marks }
+    record { track = can.track; permitted = is.permitted; letters = is.letters; marks = is.marks }
 IsState-turned_single s (Toggled a b) is can =
     let edges = edges_of-toggled s.micros a b s.pulses can in
     record {
       track = track_of s.micros (pulses_of (toggled a b (edges_of s.pulses)))
           (subst (IsRecording s.micros) (sym edges) can.track);
+      permitted = is.permitted;
       letters = is.letters;
       marks = is.marks;
     }
 IsState-turned_single s (Shifted i j d named) is can = record {
   track = can.0.track;
+  permitted = is.permitted;
   letters = length-marks_moved d named s.marks ∙ is.letters;
   marks = marks_within s.micros d named s.marks is.marks can.1;
 }
 IsState-turned_single s (Formatted f) is can =
-    record { track = is.track; letters = is.letters; marks = is.marks }
+    record { track = is.track; permitted = can; letters = is.letters; marks = is.marks }
 IsState-turned_single s (Marked letter time) is can =
     let there : letter < length s.marks = omega (arith, is.letters, can.0) in
     record {
       track = is.track;
+      permitted = is.permitted;
       letters = length-set letter time s.marks ∙ is.letters;
       marks = all-set s.micros letter time s.marks can.1 is.marks;
     }

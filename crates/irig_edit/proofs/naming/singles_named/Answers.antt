@@ -13,4 +13,4 @@ returns-in_default-single_named c =
     let x = c.in-Some.name in
     let turned_over : reverse c.loop-name.left.items ≡ x ∷ reverse left = ap reverse c.in-Some.ensures.items ∙ reverse-append left (x ∷ []) in
     no_singles done (reverse left) c.args.names x
-    (c.loop-name.invariant.0 ∙ ap (λ (l : List saved.Single). done ++ l) turned_over) c.in_default-single_named.ensures
+    (c.loop-name.invariant ∙ ap (λ (l : List saved.Single). done ++ l) turned_over) c.in_default-single_named.ensures

@@ -1,4 +1,4 @@
-use Rattle.std.proofs.Common.{◌≡◌, ◌+◌, ◌-◌, ℤ, neg_ℤ, List, Bool, map, ap, sym, ◌∙◌, subst, w64, arith}
+use Rattle.std.proofs.Common.{rules, ◌≡◌, ◌+◌, ◌-◌, ℤ, neg_ℤ, List, Bool, length, map, ap, sym, ◌∙◌, subst, w64, arith}
 use Rattle.std.proofs.lemmas.Int.{to_z-of_z}
 use Rattle.irig_track.specs.declared.pulse.Pulse.{Pulse}
 use Rattle.irig_track.specs.Shifts.{CanShift, count_to}
@@ -28,8 +28,9 @@ returns-clause-fits c =
     let letters : c.letters_from-letters.result ≡ map (stands (pulse_of i s).rise (pulse_of j s).fall) s.marks =
     c.letters_from-letters.ensures ∙ (λ k. map (stands (rise k) (fall k)) s.marks) in
     let may = marks_may i j d s c.pulse-low.ensures.state there.0 there.1 there.2 can in
-    let P : ℤ → Type 0 = λ e. CanShift s.micros (i - 1) (j - 1) e s.pulses × AllMayMove s.micros e c.letters_from-letters.result s.marks in
-    subst P (sym passed) (can, subst (λ (ls : List Bool). AllMayMove s.micros d ls s.marks) (sym letters) may)
+    let P : ℤ → Type 0 = λ e. CanShift s.micros (i - 1) (j - 1) e s.pulses × AllMayMove s.micros e c.letters_from-letters.result s.marks × (length c.letters_from-letters.result ≡ 26) in
+    let long : length c.letters_from-letters.result ≡ 26 = search rules in
+    subst P (sym passed) (can, subst (λ (ls : List Bool). AllMayMove s.micros d ls s.marks) (sym letters) may, long)
 
 pub returns-clause-becomes : goal.returns-clause-becomes
 returns-clause-becomes c =

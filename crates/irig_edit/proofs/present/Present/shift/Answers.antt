@@ -1,4 +1,4 @@
-use Rattle.std.proofs.Common.{ap, ◌∙◌}
+use Rattle.std.proofs.Common.{rules, ◌≡◌, ap, length, ◌∙◌}
 use Rattle.irig_index.specs.Frames.{frames}
 use Rattle.irig_track.specs.Looks.{LensView}
 use Rattle.irig_edit.specs.Present.{state_in}
@@ -10,9 +10,10 @@ pub invariant_of-self : goal.invariant_of-self
 invariant_of-self c =
     let p = c.self.inside in
     let x = c.args.shift.now in
-    let new = c.turn_shift-span.new in (
+    let new = c.turn_shift-span.new in
+    let long : length x.letters ≡ 26 = search rules in (
       shift_turned (state p.track.micros p.track.pulses p.format p.marks) c.args.self.now.state x.i x.j x.by x.letters
-          new.track.micros new.track.pulses new.marks (ap state_in c.self.view_is) c.self.invariant.0 (c.requires.can, c.requires.marks)
+          new.track.micros new.track.pulses new.marks (ap state_in c.self.view_is) c.self.invariant.0 (c.requires.can, c.requires.marks, long)
           c.turn_shift-span.ensures.track.0 c.turn_shift-span.ensures.track.1 c.turn_shift-span.ensures.marks,
       c.repair.ensures.frames ∙ ap (λ (l : LensView). frames p.format l.track.pulses) c.lens.ensures,
     )
