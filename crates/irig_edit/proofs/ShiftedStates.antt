@@ -62,7 +62,7 @@ first_or-top top [] within = omega arith
 first_or-top top (x ∷ xs) within = omega (arith, within.0)
 
 -- the moved pulses end within the length
-moved_within : (i j : ℕ) (d : ℤ) (s : State) → IsState s → 1 ≤ i → i ≤ j → j ≤ length s.pulses
+pub moved_within : (i j : ℕ) (d : ℤ) (s : State) → IsState s → 1 ≤ i → i ≤ j → j ≤ length s.pulses
     → CanShift s.micros (i - 1) (j - 1) d s.pulses → (pulse_of j s).fall + ahead d ≤ s.micros + back d
 moved_within i j d s lawful first order last can =
     let fits = shift_stands (i - 1) (j - 1) (pulse_of i s) (pulse_of j s) s.pulses (omega arith) (pulse_there i s first (omega arith)) (pulse_there j s (omega arith) last)
@@ -71,7 +71,7 @@ moved_within i j d s lawful first order last can =
     omega (arith, fits.1, top)
 
 -- the moved pulses do not begin before 0
-moved_from_zero : (i j : ℕ) (d : ℤ) (s : State) → IsState s → 1 ≤ i → i ≤ j → j ≤ length s.pulses
+pub moved_from_zero : (i j : ℕ) (d : ℤ) (s : State) → IsState s → 1 ≤ i → i ≤ j → j ≤ length s.pulses
     → CanShift s.micros (i - 1) (j - 1) d s.pulses → back d ≤ (pulse_of i s).rise + ahead d
 moved_from_zero i j d s lawful first order last can =
     let fits = shift_stands (i - 1) (j - 1) (pulse_of i s) (pulse_of j s) s.pulses (omega arith) (pulse_there i s first (omega arith)) (pulse_there j s (omega arith) last)

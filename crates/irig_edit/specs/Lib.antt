@@ -5,6 +5,7 @@ pub mod Conditions
 pub mod Delta
 pub mod Edits
 pub mod Exchanges
+pub mod GoingOn
 pub mod GroupRuns
 pub mod Held
 pub mod Keeping

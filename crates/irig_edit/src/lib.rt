@@ -30,6 +30,6 @@ mod walk;
 
 pub use irig_index::{Cause, Record, Verdict};
 pub use irig_track::Pulse;
-pub use law::{calls_give_back, generated_frames_read_back, groups_give_back};
+pub use law::{calls_give_back, generated_frames_read_back, groups_give_back, saved_goes_on};
 pub use refusal::Refusal;
 pub use session::Session;
