@@ -32,6 +32,7 @@ pub mod WrittenWords
 pub mod WrittenEdges
 pub mod WrittenChanges
 pub mod WrittenText
+pub mod PulseText
 pub mod TextLength
 pub mod ReadBack
 pub mod WrittenJournal

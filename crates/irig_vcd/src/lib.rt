@@ -10,6 +10,7 @@ mod lanes;
 mod law;
 #[cfg(test)]
 mod plain;
+mod pulse_lines;
 mod pulses;
 mod reader;
 mod recording;

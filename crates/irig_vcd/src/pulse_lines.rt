@@ -1,0 +1,136 @@
+//! The lines of a pulse, kept for the next one.
+
+ghost use Rattle.std.specs.Prelude.{◌≡◌, ◌≤◌, ◌<◌, ◌+◌, ◌-◌, ◌/◌, ◌%◌, ◌^◌, ◌++◌, ◌∷◌, true, false, OnOk};
+ghost use Rattle.std.specs.Prelude.{length, take, drop};
+ghost use Rattle.irig_vcd.specs.Code.PulseLines.{HoldsPulse, IsNear, last_four};
+ghost use Rattle.irig_vcd.specs.FileText.{EndsLines, lines_at};
+
+use crate::writer::put_digits;
+use std::alloc::AllocError;
+
+/// The two digits of each number below 100.
+static PAIRS: [u8; 200] = *b"\
+    0001020304050607080910111213141516171819\
+    2021222324252627282930313233343536373839\
+    4041424344454647484950515253545556575859\
+    6061626364656667686970717273747576777879\
+    8081828384858687888990919293949596979899";
+
+/// The four lines of a pulse at the front of a buffer, `long` bytes for each edge. The digits of its
+/// times in front of the last four are those of `base`, in microseconds.
+#[derive(Drop)]
+pub struct PulseLines {
+    bytes: [u8; 56],
+    long: usize,
+    base: u64,
+}
+
+impl PulseLines {
+    /// The lines of a pulse at 10,000 microseconds.
+    pub fn new() -> PulseLines
+        ensures { HoldsPulse result }
+    {
+        let bytes = *b"#10000\n1!\n#10000\n0!\n                                    ";
+        PulseLines {
+            bytes,
+            long: 10,
+            base: 10000,
+        }
+    }
+
+    /// Whether the times of a pulse, in microseconds, have the digits that are kept.
+    #[inline(always)]
+    pub fn is_near(&self, rise: u64, fall: u64) -> bool
+        ensures { result ≡ true → IsNear self.now rise × IsNear self.now fall }
+    {
+        self.base <= rise
+            && rise - self.base < 10000
+            && self.base <= fall
+            && fall - self.base < 10000
+    }
+
+    /// Makes the lines anew, both edges at a time in microseconds. The line is where they are made.
+    pub fn renew(&mut self, line: &mut [u8], time: u64)
+        requires some { 10000 ≤ time }
+        requires few { time < 10 ^ 15 }
+        requires room { 48 ≤ length line.old }
+        requires lines { EndsLines line.old }
+        ensures holds { HoldsPulse self.new }
+        ensures base { self.new.base ≡ time - time % 10000 }
+        ensures lines { EndsLines line.new }
+    {
+        line[22] = b'1';
+        let start = put_digits(line, time);
+        put_part(&mut self.bytes, 0, line, start);
+        line[22] = b'0';
+        put_part(&mut self.bytes, 25 - start, line, start);
+        self.long = 25 - start;
+        self.base = time - time % 10000;
+    }
+
+    /// Puts the lines of a pulse whose times, in microseconds, have the digits that are kept.
+    #[inline(always)]
+    pub fn put(&mut self, text: &mut Vec<u8>, rise: u64, fall: u64) -> Result<(), AllocError>
+        requires holds { HoldsPulse self.old }
+        requires rise { IsNear self.old rise }
+        requires fall { IsNear self.old fall }
+        ensures text { OnOk result
+            (text.new.items ≡ text.old.items ++ lines_at true rise ++ lines_at false fall) }
+        ensures holds { HoldsPulse self.new }
+    {
+        put_four(&mut self.bytes, self.long - 8, rise - self.base);
+        put_four(&mut self.bytes, 2 * self.long - 8, fall - self.base);
+        let len = text.len();
+        text.extend_from_slice(&self.bytes[..48])?;
+        text.truncate(len + 2 * self.long);
+        Ok(())
+    }
+}
+
+/// Copies 24 bytes of a line from a place on.
+fn put_part(bytes: &mut [u8], at: usize, line: &[u8], start: usize)
+    requires room { at + 24 ≤ length bytes.old }
+    requires some { start + 24 ≤ length line.now }
+    ensures { bytes.new
+        ≡ take at bytes.old ++ (take 24 (drop start line.now) ++ drop (at + 24) bytes.old) }
+{
+    bytes[at..at + 24].copy_from_slice(&line[start..start + 24]);
+}
+
+/// Writes the four digits of a number below 10,000.
+#[inline(always)]
+fn put_four(bytes: &mut [u8], at: usize, number: u64)
+    requires few { number < 10000 }
+    requires room { at + 4 ≤ length bytes.old }
+    ensures before { take at bytes.new ≡ take at bytes.old }
+    ensures written { drop at bytes.new ≡ last_four number ++ drop (at + 4) bytes.old }
+{
+    put_two(bytes, at, number / 100);
+    put_two(bytes, at + 2, number % 100);
+}
+
+/// Writes the two digits of a number below 100.
+#[inline(always)]
+fn put_two(bytes: &mut [u8], at: usize, number: u64)
+    requires few { number < 100 }
+    requires room { at + 2 ≤ length bytes.old }
+    ensures before { take at bytes.new ≡ take at bytes.old }
+    ensures written { drop at bytes.new
+        ≡ (48 + number / 10) ∷ (48 + number % 10) ∷ drop (at + 2) bytes.old }
+{
+    let (tens, ones) = pair(number as usize);
+    bytes[at] = tens;
+    bytes[at + 1] = ones;
+}
+
+/// The two digits of a number below 100.
+#[inline(always)]
+fn pair(number: usize) -> (u8, u8)
+    requires { number < 100 }
+    ensures tens { result.0 ≡ 48 + number / 10 }
+    ensures ones { result.1 ≡ 48 + number % 10 }
+{
+    let at = 2 * number;
+    let (tens, ones) = (PAIRS[at], PAIRS[at + 1]);
+    (tens, ones)
+}
