@@ -22,17 +22,15 @@ regroup : (a b c d : List ℕ) → ((a ++ b) ++ c) ++ d ≡ a ++ (b ++ (c ++ d))
 regroup a b c d = simp append_assoc
 
 -- one more pulse written
-pub more_put : (i : ℕ) (p : Pulse) (ps : List Pulse) (w one two : WriterView) → slice_get ps i ≡ Some p → PutUpTo i ps w
-    → one ≡ writer_view (w.text ++ lines_at true p.rise) p.rise → two ≡ writer_view (one.text ++ lines_at false p.fall) p.fall → PutUpTo (i + 1) ps two
-more_put i p ps w one two is put rise fall =
+pub more_put : (i : ℕ) (p : Pulse) (ps : List Pulse) (w next : WriterView) → slice_get ps i ≡ Some p → PutUpTo i ps w
+    → next ≡ writer_view ((w.text ++ lines_at true p.rise) ++ lines_at false p.fall) p.fall → PutUpTo (i + 1) ps next
+more_put i p ps w next is put lines =
     let cut : drop i ps ≡ p ∷ drop (i + 1) ps = here ps i p is in
     let rest = all_lines true (edges_of (drop (i + 1) ps)) in
-    let text : two.text ≡ (w.text ++ lines_at true p.rise) ++ lines_at false p.fall =
-    ap (λ (v : WriterView). v.text) fall ∙ ap (λ (v : WriterView). v.text ++ lines_at false p.fall) rise in
     record {
-      text = ap (λ (t : List ℕ). t ++ rest) text ∙ regroup w.text (lines_at true p.rise) (lines_at false p.fall) rest
+      text = ap (λ (v : WriterView). v.text ++ rest) lines ∙ regroup w.text (lines_at true p.rise) (lines_at false p.fall) rest
           ∙ sym (ap (λ qs. w.text ++ all_lines true (edges_of qs)) cut) ∙ put.text;
-      last = ap (λ (v : WriterView). last_or v.last (edges_of (drop (i + 1) ps))) fall ∙ sym (ap (λ qs. last_or w.last (edges_of qs)) cut) ∙ put.last;
+      last = ap (λ (v : WriterView). last_or v.last (edges_of (drop (i + 1) ps))) lines ∙ sym (ap (λ qs. last_or w.last (edges_of qs)) cut) ∙ put.last;
     }
 
 -- all pulses written

@@ -76,8 +76,7 @@ impl Track {
         let mut writer = TextWriter::begin(alloc, 2 * count, self.begins_high())?;
         for index in 0..count {
             let pulse = self.pulses.get(index);
-            writer.put_edge(pulse.rise, true)?;
-            writer.put_edge(pulse.fall, false)?;
+            writer.put_pulse(pulse.rise, pulse.fall)?;
         }
         writer.finish(self.micros)
     }

@@ -9,8 +9,8 @@ use Rattle.irig_track.proofs.track.Track.text.Goals as goal
 
 pub loop-index-preserved : goal.loop-index-preserved
 loop-index-preserved c =
-    more_put c.loop-index.index c.get-pulse.result c.self.inside.pulses.items c.loop-index.writer c.put_edge.new.self c.put_edge-in-loop-index.new.self
-    c.get-pulse.ensures c.loop-index.invariant c.in_ok-put_edge.ensures c.in_ok-put_edge-2.ensures
+    more_put c.loop-index.index c.get-pulse.result c.self.inside.pulses.items c.loop-index.writer c.put_pulse.new.self
+    c.get-pulse.ensures c.loop-index.invariant c.in_ok-put_pulse.ensures
 
 pub returns : goal.returns
 returns c =
