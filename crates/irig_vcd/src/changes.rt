@@ -159,6 +159,7 @@ pub fn changes(
                 trace.put(micros(unit, clock), high)?;
                 clock = ahead(is_quick, tokens, unit, code, clock, &mut trace)?;
             }
+            Short::Apart => {}
             Short::Other => {
                 let Some(token) = tokens.next() else {
                     break;

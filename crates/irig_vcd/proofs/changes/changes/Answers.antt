@@ -1,17 +1,19 @@
-use Rattle.std.proofs.Common.{◌≡◌, ◌∙◌, ◌∷◌, [], true, false, Ok, List, refl, ap, sym, subst, rules, arith}
+use Rattle.std.proofs.Common.{◌≡◌, ◌∙◌, ◌++◌, ◌∷◌, [], true, false, Some, None, Ok, List, refl, ap, sym, subst, rules, arith}
 use Rattle.irig_vcd.specs.Code.Token.{word_of}
 use Rattle.irig_vcd.specs.Words.{Word, rest_of}
 use Rattle.irig_vcd.specs.Code.Time.{units_of}
-use Rattle.irig_vcd.specs.Times.{time_of}
+use Rattle.irig_vcd.specs.Times.{time_of, micros_of}
 use Rattle.irig_vcd.specs.Events.{any_word}
 use Rattle.irig_vcd.specs.Changes.{changes_from}
-use Rattle.irig_vcd.specs.Code.Event.{is_hash}
+use Rattle.irig_vcd.specs.Code.Event.{is_hash, level_read}
 use Rattle.irig_vcd.specs.Code.Along.{behind, Along}
 use Rattle.irig_vcd.proofs.AlongSteps.{along_level}
-use Rattle.irig_vcd.proofs.ChangeSteps.{on_time, behind_none}
+use Rattle.irig_vcd.proofs.ChangeSteps.{on_time, on_level, behind_none}
 use Rattle.irig_vcd.specs.Journals.{journals_among}
 use Rattle.irig_vcd.proofs.JournalWords.{keeps_past, keeps_on, past_time, past_level, holds_all}
-use Rattle.irig_vcd.proofs.CodeRuns.{bit_level}
+use Rattle.irig_vcd.proofs.WholeDump.{fails_now}
+use Rattle.std.proofs.lemmas.Result.{err_from_is_err_and}
+use Rattle.irig_vcd.proofs.CodeRuns.{bit_level, apart_level}
 use Rattle.irig_vcd.proofs.Clocks.{starts, no_units, later}
 use Rattle.irig_vcd.proofs.changes.changes.Goals as goal
 
@@ -82,6 +84,21 @@ tokens-preserved-in-Bit c =
         follows = there.1.follows;
         rest = there.1.rest;
         journals = keeps_past _ _ _ _ left c.in_ok-clock-in-Bit.ensures.journals;
+      },
+    )
+
+pub tokens-preserved-in-Apart : goal.tokens-preserved-in-Apart
+tokens-preserved-in-Apart c =
+    let i = c.tokens.invariant.1 in
+    let a = c.in-Apart.ensures in
+    let k = on_level c.args.code.now c.args.unit (units_of c.args.unit c.tokens.clock) _ a.word c.next_short.new.self c.next_short.new.self None a.left (ap is_hash a.kind) (apart_level c.args.code.now a.word c.next_short.new.self a.kind a.level) in (
+      c.tokens.invariant.0,
+      record {
+        time = i.time;
+        late = i.late;
+        follows = i.follows;
+        rest = ap (behind c.tokens.invariant.0) (sym k) ∙ i.rest;
+        journals = keeps_past _ _ _ _ i.journals (past_level _ a.word _ a.left a.kind);
       },
     )
 
