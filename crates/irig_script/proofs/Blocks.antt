@@ -15,6 +15,16 @@ missing_longer (b ∷ x) y h = λ e. absurd (cc)
 pub front_longer : (a b : Option (List ℕ)) (x y : List ℕ) → AppendsFront a b x → AppendsFront a b (x ++ y)
 front_longer a b x y p = record { front = p.front; back = p.back ++ y; part = ap (λ l. l ++ y) p.part ∙ append_assoc p.front p.back y; missing = missing_longer p.back y p.missing; appends = p.appends }
 
+-- some of a text's front, behind a text
+pub front_behind : (a b c : Option (List ℕ)) (x y : List ℕ) → Appends a b x → AppendsFront b c y → AppendsFront a c (x ++ y)
+front_behind a b c x y p q = record {
+  front = x ++ q.front;
+  back = q.back;
+  missing = q.missing;
+  part = ap (λ l. x ++ l) q.part ∙ sym (append_assoc x q.front q.back);
+  appends = appends-appends a b c x q.front p q.appends;
+}
+
 appends_nothing : (a : Option (List ℕ)) → Appends a a []
 appends_nothing None = tt
 appends_nothing (Some s) = sym (append-nil s)

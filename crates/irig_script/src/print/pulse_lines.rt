@@ -1,16 +1,20 @@
 //! The listing of pulses.
 
-ghost use Rattle.std.specs.Prelude.{◌≡◌, ◌≤◌, ◌<◌, ◌+◌, ◌-◌, OnOk, OnErr, length};
+ghost use Rattle.std.specs.Prelude.{◌≡◌, ◌≤◌, ◌-◌, ◌*◌, OnOk, OnErr, length, drop};
 ghost use Rattle.std.specs.Io.KnownBytes.{Appends};
 ghost use Rattle.irig_script.specs.Print.Front.{AppendsFront};
-ghost use Rattle.irig_script.specs.Print.Listings.{list_text, pulse_line};
+ghost use Rattle.irig_script.specs.Print.Listings.{list_text};
 
-use crate::print::block::Block;
 use crate::print::output::{PrintFault, put_all};
-use crate::print::row::Row;
-use irig_codes::{Format, class, class_word};
-use irig_edit::{Pulse, Session};
+use crate::print::pulse_line::{LINE_ROOM, write_pulse};
+use irig_edit::Session;
 use std::io::Write;
+
+/// A listing of so many lines at most goes out by a small block: a block is cleared first.
+const FEW: usize = 14;
+
+/// The bytes of a block of a longer listing: 227 lines have room in it.
+const BLOCK: usize = 16384;
 
 /// Prints a line for each of so many pulses behind the first `before`.
 pub fn print_pulses<W: Write>(
@@ -24,64 +28,56 @@ pub fn print_pulses<W: Write>(
     ensures err { OnErr result (AppendsFront (W.contents out.old) (W.contents out.new)
         (list_text before count session.now.present.state)) }
 {
-    if count == 1 && before < session.len() {
-        print_pulse(session, before + 1, out)
+    if count == 1 {
+        print_in_blocks(session, before, count, &mut [0; LINE_ROOM], out)
+    } else if count <= FEW {
+        print_in_blocks(session, before, count, &mut [0; FEW * LINE_ROOM], out)
     } else {
-        print_in_blocks(session, before, count, out)
+        print_in_blocks(session, before, count, &mut [0; BLOCK], out)
     }
 }
 
-/// Prints the line of a pulse, from 1. One line needs no block, which would have to be cleared
-/// first.
-fn print_pulse<W: Write>(session: &Session, number: usize, out: &mut W) -> Result<(), PrintFault>
-    requires { (1 ≤ number) × (number ≤ length session.now.present.state.pulses) }
-    ensures ok { OnOk result (Appends (W.contents out.old) (W.contents out.new)
-        (list_text (number - 1) 1 session.now.present.state)) }
-    ensures err { OnErr result (AppendsFront (W.contents out.old) (W.contents out.new)
-        (list_text (number - 1) 1 session.now.present.state)) }
-{
-    let mut row = Row::new();
-    let pulse = session.pulse(number);
-    put_pulse(&mut row, session.current_format(), number as u64, pulse);
-    put_all(out, row.text())
-}
-
-/// Prints a line for each of so many pulses behind the first `before`, in blocks.
+/// Prints a line for each of so many pulses behind the first `before`, as many at a time as the
+/// block has room for.
 fn print_in_blocks<W: Write>(
     session: &Session,
     before: usize,
     count: usize,
+    block: &mut [u8],
     out: &mut W,
 ) -> Result<(), PrintFault>
+    requires room { 72 ≤ length block.old }
     ensures ok { OnOk result (Appends (W.contents out.old) (W.contents out.new)
         (list_text before count session.now.present.state)) }
     ensures err { OnErr result (AppendsFront (W.contents out.old) (W.contents out.new)
         (list_text before count session.now.present.state)) }
 {
-    let mut block = Block::new();
-    let mut row = Row::new();
-    let format = session.current_format();
     let there = count.min(session.len().saturating_sub(before));
-    for index in 0..there {
-        let number = before + index + 1;
-        put_pulse(&mut row, format, number as u64, session.pulse(number));
-        block.put(out, row.text())?;
+    let mut done = 0;
+    while done < there {
+        let lines = (there - done).min(block.len() / LINE_ROOM);
+        let start = write_pulses(block, session, before + done + lines, lines);
+        put_all(out, &block[start..])?;
+        done += lines;
     }
-    block.flush(out)
+    Ok(())
 }
 
-/// Puts the line of a pulse into the row.
-fn put_pulse(row: &mut Row, format: Format, number: u64, pulse: Pulse)
-    ensures { row.new ≡ pulse_line format number pulse }
+/// Writes the lines of so many pulses up to the one of number `last`, from 1, so that they end
+/// where the bytes do, and gives where they start. They are written from the last to the first:
+/// so no digit has to be counted or moved before it is put.
+fn write_pulses(bytes: &mut [u8], session: &Session, last: usize, count: usize) -> usize
+    requires room { 72 * count ≤ length bytes.old }
+    requires there { (count ≤ last) × (last ≤ length session.now.present.state.pulses) }
+    ensures within { (result ≤ length bytes.old) × (length bytes.new ≡ length bytes.old) }
+    ensures written { drop result bytes.new
+        ≡ list_text (last - count) count session.now.present.state }
 {
-    row.clear();
-    row.put_number(number);
-    row.put(b" ");
-    row.put_number(pulse.rise);
-    row.put(b" ");
-    row.put_number(pulse.fall);
-    row.put(b" ");
-    let class = class(format, pulse.fall.saturating_sub(pulse.rise));
-    row.put(class_word(class).as_bytes());
-    row.put(b"\n");
+    let format = session.current_format();
+    let mut start = bytes.len();
+    for back in 0..count {
+        let number = last - back;
+        start = write_pulse(bytes, start, format, number as u64, session.pulse(number));
+    }
+    start
 }

@@ -1,53 +1,47 @@
-use Rattle.std.proofs.Common.{rules, ◌≡◌, ◌<◌, ◌+◌, length, get_or, ap, ◌∙◌, arith}
-use Rattle.std.proofs.Math.Seq.{take-length}
-use Rattle.std.proofs.lemmas.Result.{on_ok_weaker, on_err_weaker}
-use Rattle.irig_track.specs.Splices.{piece}
-use Rattle.irig_script.specs.Print.Listings.{pulse_line}
-use Rattle.irig_script.specs.Print.Numbered.{numbered}
-use Rattle.irig_script.proofs.Blocks.{sends_all, sends_end}
-use Rattle.irig_script.proofs.Pieces.{length-piece, no_pulse, pulse_in_piece}
-use Rattle.irig_script.proofs.Numbered.{listed_front, listed_more}
+use Rattle.std.proofs.Common.{rules, ◌≡◌, ◌≤◌, ◌+◌, ◌-◌, ℕ, List, length, take, drop, min, ap, subst, ◌∙◌, arith}
+use Rattle.std.specs.Io.KnownBytes.{Appends}
+use Rattle.irig_script.specs.Print.Listings.{list_text}
+use Rattle.irig_script.proofs.Known.{rest_whole}
+use Rattle.irig_script.proofs.Pieces.{listing_more, listing_front, listing_whole}
 use Rattle.irig_script.proofs.print.pulse_lines.print_in_blocks.Goals as goal
 
-pub returns-in_err-put-clause-err : goal.returns-in_err-put-clause-err
-returns-in_err-put-clause-err g c =
+pub loop-done-preserved : goal.loop-done-preserved
+loop-done-preserved g c =
     let s = c.args.session.now.present.state in
     let b = c.args.before in
-    let k = c.loop-index.index in
-    let ps = piece b c.args.count s.pulses in
-    let within : k < length ps = omega (arith, length-piece b c.args.count s.pulses, c.loop-index-test.true) in
-    let there = pulse_in_piece b c.args.count s.pulses k _ within c.pulse.ensures in
-    let place : b + k + 1 ≡ b + 1 + k = omega arith in
-    let line : c.text.result.now ≡ pulse_line s.format (b + 1 + k) (get_or ps k no_pulse) =
-    c.text.ensures.text ∙ c.put_pulse.ensures ∙ ap (λ f. pulse_line f (b + k + 1) c.pulse.result) c.current_format-format.ensures ∙ ap (λ n. pulse_line s.format n c.pulse.result) place ∙ ap (pulse_line s.format (b + 1 + k)) there in
-    let p = listed_front (pulse_line s.format) (b + 1) ps k no_pulse _ _ _ _ _ within line c.loop-index.invariant c.in_err-put.ensures.err in
-    search (rules, p)
+    let d = c.loop-done.done in
+    let k = c.min-lines.result in
+    let bytes = c.write_pulses-start.new.bytes in
+    let start = c.write_pulses-start.result in
+    let few : d + k ≤ c.min-there.result = omega (arith, c.min-lines.ensures, c.loop-done-test.true) in
+    let within : b + d ≤ length s.pulses = omega (arith, c.loop-done-test.true, c.min-there.ensures, c.saturating_sub.ensures, c.len.ensures) in
+    let place : b + d + k - k ≡ b + d = omega arith in
+    let whole : take (length bytes - start) (drop start bytes) ≡ list_text (b + d) k s =
+    rest_whole bytes start ∙ c.write_pulses-start.ensures.written ∙ ap (λ m. list_text m k s) place in
+    (few, c.write_pulses-start.ensures.within.1 ∙ c.loop-done.invariant.1, listing_more s b d k _ _ _ within c.loop-done.invariant.2 (rw whole at c.in_ok-put_all.ensures.ok))
 
-pub loop-index-preserved : goal.loop-index-preserved
-loop-index-preserved g c =
+pub returns-in_err-put_all-clause-err : goal.returns-in_err-put_all-clause-err
+returns-in_err-put_all-clause-err g c =
     let s = c.args.session.now.present.state in
     let b = c.args.before in
-    let k = c.loop-index.index in
-    let ps = piece b c.args.count s.pulses in
-    let within : k < length ps = omega (arith, length-piece b c.args.count s.pulses, c.loop-index-test.true) in
-    let there = pulse_in_piece b c.args.count s.pulses k _ within c.pulse.ensures in
-    let place : b + k + 1 ≡ b + 1 + k = omega arith in
-    let line : c.text.result.now ≡ pulse_line s.format (b + 1 + k) (get_or ps k no_pulse) =
-    c.text.ensures.text ∙ c.put_pulse.ensures ∙ ap (λ f. pulse_line f (b + k + 1) c.pulse.result) c.current_format-format.ensures ∙ ap (λ n. pulse_line s.format n c.pulse.result) place ∙ ap (pulse_line s.format (b + 1 + k)) there in
-    listed_more (pulse_line s.format) (b + 1) ps k no_pulse _ _ _ _ _ _ within line c.loop-index.invariant c.in_ok-put.ensures.ok
+    let d = c.loop-done.done in
+    let k = c.min-lines.result in
+    let bytes = c.write_pulses-start.new.bytes in
+    let start = c.write_pulses-start.result in
+    let few : d + k ≤ c.args.count = omega (arith, c.min-lines.ensures, c.loop-done-test.true, c.min-there.ensures) in
+    let within : b + (d + k) ≤ length s.pulses = omega (arith, c.min-lines.ensures, c.loop-done-test.true, c.min-there.ensures, c.saturating_sub.ensures, c.len.ensures) in
+    let place : b + d + k - k ≡ b + d = omega arith in
+    let whole : take (length bytes - start) (drop start bytes) ≡ list_text (b + d) k s =
+    rest_whole bytes start ∙ c.write_pulses-start.ensures.written ∙ ap (λ m. list_text m k s) place in
+    let p = listing_front s b d k c.args.count _ _ _ within few c.loop-done.invariant.2 (rw whole at c.in_err-put_all.ensures.err) in
+    search (rules, p)
 
 pub returns-clause-ok : goal.returns-clause-ok
 returns-clause-ok g c =
     let s = c.args.session.now.present.state in
-    let ps = piece c.args.before c.args.count s.pulses in
-    let done : c.loop-index.index ≡ length ps = search (rules, length-piece c.args.before c.args.count s.pulses) in
-    let all = rw (done, take-length) at c.loop-index.invariant in
-    on_ok_weaker c.flush.result (λ f. sends_all _ _ _ _ (numbered (pulse_line s.format) (c.args.before + 1) ps) all f) c.flush.ensures.ok
-
-pub returns-clause-err : goal.returns-clause-err
-returns-clause-err g c =
-    let s = c.args.session.now.present.state in
-    let ps = piece c.args.before c.args.count s.pulses in
-    let done : c.loop-index.index ≡ length ps = search (rules, length-piece c.args.before c.args.count s.pulses) in
-    let all = rw (done, take-length) at c.loop-index.invariant in
-    on_err_weaker c.flush.result (λ f. sends_end _ _ _ _ (numbered (pulse_line s.format) (c.args.before + 1) ps) all f) c.flush.ensures.err
+    let b = c.args.before in
+    let last : c.loop-done.done ≡ c.min-there.result = omega (arith, c.loop-done.invariant.0, c.loop-done-test.false) in
+    let there : c.min-there.result ≡ min c.args.count (length s.pulses - b) =
+    c.min-there.ensures ∙ ap (λ n. min c.args.count n) (c.saturating_sub.ensures ∙ ap (λ n. n - b) c.len.ensures) in
+    let all : list_text b c.loop-done.done s ≡ list_text b c.args.count s = ap (λ k. list_text b k s) (last ∙ there) ∙ listing_whole s b c.args.count in
+    subst (λ (t : List ℕ). Appends (g.W.Write.contents c.args.out.now) (g.W.Write.contents c.loop-done.out) t) all c.loop-done.invariant.2
