@@ -1,18 +1,16 @@
-use Rattle.std.proofs.Common.{◌≡◌, ◌∙◌, ◌++◌, ◌∷◌, [], true, false, Some, None, Ok, List, refl, ap, sym, subst, rules, arith}
+use Rattle.std.proofs.Common.{◌≡◌, ◌∙◌, ◌∷◌, [], true, false, None, Ok, List, refl, ap, sym, subst, rules, arith}
 use Rattle.irig_vcd.specs.Code.Token.{word_of}
 use Rattle.irig_vcd.specs.Words.{Word, rest_of}
 use Rattle.irig_vcd.specs.Code.Time.{units_of}
-use Rattle.irig_vcd.specs.Times.{time_of, micros_of}
+use Rattle.irig_vcd.specs.Times.{time_of}
 use Rattle.irig_vcd.specs.Events.{any_word}
 use Rattle.irig_vcd.specs.Changes.{changes_from}
-use Rattle.irig_vcd.specs.Code.Event.{is_hash, level_read}
+use Rattle.irig_vcd.specs.Code.Event.{is_hash}
 use Rattle.irig_vcd.specs.Code.Along.{behind, Along}
 use Rattle.irig_vcd.proofs.AlongSteps.{along_level}
 use Rattle.irig_vcd.proofs.ChangeSteps.{on_time, on_level, behind_none}
 use Rattle.irig_vcd.specs.Journals.{journals_among}
 use Rattle.irig_vcd.proofs.JournalWords.{keeps_past, keeps_on, past_time, past_level, holds_all}
-use Rattle.irig_vcd.proofs.WholeDump.{fails_now}
-use Rattle.std.proofs.lemmas.Result.{err_from_is_err_and}
 use Rattle.irig_vcd.proofs.CodeRuns.{bit_level, apart_level}
 use Rattle.irig_vcd.proofs.Clocks.{starts, no_units, later}
 use Rattle.irig_vcd.proofs.changes.changes.Goals as goal
