@@ -8,7 +8,7 @@ use crate::command_line::command_line::settings;
 use crate::ending::Ending;
 use crate::files::disk::Disk;
 use crate::files::file_shelf::FileShelf;
-use irig_script::{EditFault, Status, edit};
+use irig_script::{EditFault, Status, run_on_dump};
 use std::alloc::Global;
 use std::io::{Read, Write};
 
@@ -68,7 +68,7 @@ fn edit_bytes<D: Disk, R: Read, W: Write>(
 {
     let wire = wire_of(chosen);
     let mut shelf = FileShelf::new(disk, chosen.out);
-    edit(alloc, source, wire, chosen.format, script, out, &mut shelf)
+    run_on_dump(alloc, source, wire, chosen.format, script, out, &mut shelf)
 }
 
 /// The bytes of the wire's name, where one is given.

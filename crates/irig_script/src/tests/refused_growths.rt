@@ -1,6 +1,6 @@
 //! What a growth that is refused leaves: run with each growth refused in turn, by `tests/no_memory`.
 
-use crate::{EditFault, MemoryShelf, Status, edit};
+use crate::{EditFault, MemoryShelf, Status, run_on_dump};
 use irig_codes::{Format, Kind};
 use irig_edit::{Refusal, Session};
 use irig_vcd::{Recording, VcdFault};
@@ -80,7 +80,7 @@ fn edited(alloc: Global, out: &mut Vec<u8>) -> Option<Result<Status, EditFault>>
     let dump = Vec::from_slice(alloc, DUMP).ok()?;
     let mut script = b"invert 100 120\nwrite\nundo\nwrite\n".as_slice();
     let mut shelf = MemoryShelf::new(alloc, None);
-    Some(edit(alloc, dump, None, format, &mut script, out, &mut shelf))
+    Some(run_on_dump(alloc, dump, None, format, &mut script, out, &mut shelf))
 }
 
 /// Whether just the line that wants memory is refused.

@@ -6,7 +6,7 @@ use crate::tests::dumps::PULSES;
 use crate::tests::edit_rows::EDIT_ROWS;
 use crate::tests::line_rows::LINE_ROWS;
 use crate::tests::row::Row;
-use crate::{MemoryShelf, Status, edit};
+use crate::{MemoryShelf, Status, run_on_dump};
 use irig_codes::{Format, Kind};
 use std::alloc::{AllocError, Global};
 use std::process::Abort;
@@ -32,7 +32,7 @@ fn is_right(alloc: Global, row: &Row<'_>, shelf: &mut MemoryShelf) -> bool {
     };
     let mut script = row.script;
     let mut out = Vec::new(alloc);
-    let outcome = edit(alloc, dump, None, format, &mut script, &mut out, shelf);
+    let outcome = run_on_dump(alloc, dump, None, format, &mut script, &mut out, shelf);
     outcome == Ok(row.status) && out.as_slice() == row.printed
 }
 
