@@ -91,8 +91,9 @@ fn ahead(
     Ok(clock)
 }
 
-/// Takes a token with those that go with it, and gives the time then.
-#[inline(always)]
+/// Takes a token with those that go with it, and gives the time then. A function of its own for the
+/// machine too: the loop over the tokens that are read in one step keeps its registers.
+#[inline(never)]
 fn take(
     token: Token<'_>,
     tokens: &mut Tokens,
