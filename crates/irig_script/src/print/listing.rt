@@ -15,6 +15,7 @@ use irig_edit::Session;
 use std::io::Write;
 
 /// Prints a line for each frame of the track, in blocks.
+#[inline(never)]
 pub fn print_frames<W: Write>(session: &Session, out: &mut W) -> Result<(), PrintFault>
     ensures ok { OnOk result (Appends (W.contents out.old) (W.contents out.new)
         (frames_text session.now.present.state)) }

@@ -12,6 +12,7 @@ use irig_edit::Session;
 use std::io::Write;
 
 /// Prints a line for each mark that is set, a to z.
+#[inline(never)]
 pub fn print_marks<W: Write>(session: &Session, out: &mut W) -> Result<(), PrintFault>
     ensures ok { OnOk result (Appends (W.contents out.old) (W.contents out.new)
         (marks_text session.now.present.state)) }

@@ -33,8 +33,25 @@ pub fn print_pulses<W: Write>(
     } else if count <= FEW {
         print_in_blocks(session, before, count, &mut [0; FEW * LINE_ROOM], out)
     } else {
-        print_in_blocks(session, before, count, &mut [0; BLOCK], out)
+        print_many(session, before, count, out)
     }
+}
+
+/// Prints the lines by a long block. The block is no part of what calls this, so that a short line
+/// does not pay for it.
+#[inline(never)]
+fn print_many<W: Write>(
+    session: &Session,
+    before: usize,
+    count: usize,
+    out: &mut W,
+) -> Result<(), PrintFault>
+    ensures ok { OnOk result (Appends (W.contents out.old) (W.contents out.new)
+        (list_text before count session.now.present.state)) }
+    ensures err { OnErr result (AppendsFront (W.contents out.old) (W.contents out.new)
+        (list_text before count session.now.present.state)) }
+{
+    print_in_blocks(session, before, count, &mut [0; BLOCK], out)
 }
 
 /// Prints a line for each of so many pulses behind the first `before`, as many at a time as the
