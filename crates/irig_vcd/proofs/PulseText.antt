@@ -1,15 +1,14 @@
 -- The lines of a pulse in a buffer: made, with other digits, and put.
-use Rattle.std.proofs.Common.{◌≡◌, ◌&&◌, zero, suc, T, eqb, eqb→eq, eq-zero-or-pos, get_or, inl, inr, ◌≤◌, ◌<◌, ◌+◌, ◌-◌, ◌*◌, ◌/◌, ◌%◌, ◌^◌, ◌==◌, ◌∷◌, ◌++◌, [], ℕ, Bool, true, false, List, cond, length, length-append, take, drop, set, decimal, refl, ap, sym, ◌∙◌, arith, append_assoc}
+use Rattle.std.proofs.Common.{◌≡◌, ◌&&◌, zero, suc, T, eqb, eqb→eq, eq-zero-or-pos, get_or, inl, inr, ◌≤◌, ◌<◌, ◌+◌, ◌-◌, ◌*◌, ◌/◌, ◌%◌, ◌^◌, ◌==◌, ◌∷◌, ◌++◌, [], ℕ, Bool, true, false, List, length, length-append, take, drop, set, decimal, refl, ap, sym, ◌∙◌, arith, append_assoc}
 use lib.Ieee.Fits.{and_l, and_r}
 use Rattle.std.proofs.Math.Seq.{take-append-add, take-append_seam, drop-append_seam, set-append_seam}
 use Rattle.std.proofs.lemmas.Bool.{ne_eqb}
 use Rattle.std.proofs.lemmas.Fmt.{decimal_digit, decimal_step}
 use Rattle.std.proofs.lemmas.List.{take-append-drop, drop-drop, drop-take, drop-set-add}
 use Rattle.irig_vcd.specs.Code.PulseLines.{HoldsPulse, last_four, front, pulse_parts}
-use Rattle.irig_vcd.specs.FileText.{lines_at, time_line, level_line}
+use Rattle.irig_vcd.specs.FileText.{lines_at, level_line}
 use Rattle.irig_vcd.specs.declared.pulse_lines.PulseLines.{PulseLines}
 use Rattle.irig_vcd.specs.declared.pulse_lines.TheConstants.{PAIRS}
-use Rattle.irig_vcd.proofs.TextParts.{level_set}
 
 -- a part of a list between others, written anew
 pub part_put : (old new p a q x : List ℕ) (i : ℕ) → old ≡ p ++ (a ++ q) → length p ≡ i → length a ≡ 4 → take i new ≡ take i old → drop i new ≡ x ++ drop (i + 4) old → new ≡ p ++ (x ++ q)

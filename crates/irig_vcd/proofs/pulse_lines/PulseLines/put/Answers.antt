@@ -1,4 +1,4 @@
-use Rattle.std.proofs.Common.{◌≡◌, ◌∙◌, ◌++◌, ◌∷◌, ◌+◌, ◌-◌, ◌/◌, ◌*◌, [], ℕ, List, true, false, length, refl, ap, sym, arith}
+use Rattle.std.proofs.Common.{◌≡◌, ◌∙◌, ◌++◌, ◌∷◌, ◌-◌, ◌/◌, [], ℕ, List, true, false, length, refl, ap, sym, arith}
 use Rattle.irig_vcd.specs.Code.PulseLines.{last_four, front}
 use Rattle.irig_vcd.specs.FileText.{lines_at}
 use Rattle.irig_vcd.proofs.PulseText.{digits_put, parts_put, edge_line}
