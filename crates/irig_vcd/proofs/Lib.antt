@@ -33,6 +33,7 @@ pub mod WrittenEdges
 pub mod WrittenChanges
 pub mod WrittenText
 pub mod PulseText
+pub mod CountedUp
 pub mod TextLength
 pub mod ReadBack
 pub mod WrittenJournal

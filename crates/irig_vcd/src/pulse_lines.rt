@@ -38,15 +38,15 @@ impl PulseLines {
         }
     }
 
-    /// Whether the times of a pulse, in microseconds, have the digits that are kept.
+    /// Whether the times of a pulse, in microseconds, have the digits that are kept. Where the one in
+    /// front of the last four is one behind, it is counted up first.
     #[inline(always)]
-    pub fn is_near(&self, rise: u64, fall: u64) -> bool
-        ensures { result ≡ true → IsNear self.now rise × IsNear self.now fall }
+    pub fn comes_near(&mut self, rise: u64, fall: u64) -> bool
+        requires holds { HoldsPulse self.old }
+        ensures holds { HoldsPulse self.new }
+        ensures near { result ≡ true → IsNear self.new rise × IsNear self.new fall }
     {
-        self.base <= rise
-            && rise - self.base < 10000
-            && self.base <= fall
-            && fall - self.base < 10000
+        self.catches_up(rise) && self.is_near(fall)
     }
 
     /// Makes the lines anew, both edges at a time in microseconds. The line is where they are made.
@@ -78,12 +78,58 @@ impl PulseLines {
             (text.new.items ≡ text.old.items ++ lines_at true rise ++ lines_at false fall) }
         ensures holds { HoldsPulse self.new }
     {
-        put_four(&mut self.bytes, self.long - 8, rise - self.base);
-        put_four(&mut self.bytes, 2 * self.long - 8, fall - self.base);
+        let (up, down) = (rise - self.base, fall - self.base);
+        put_four(&mut self.bytes, self.long - 8, up);
+        put_four(&mut self.bytes, 2 * self.long - 8, down);
         let len = text.len();
         text.extend_from_slice(&self.bytes[..48])?;
         text.truncate(len + 2 * self.long);
         Ok(())
+    }
+
+    /// Whether a time, in microseconds, has the digits that are kept.
+    #[inline(always)]
+    fn is_near(&self, time: u64) -> bool
+        ensures { result ≡ true → IsNear self.now time }
+    {
+        self.base <= time && time - self.base < 10000
+    }
+
+    /// Whether a time, in microseconds, has the digits that are kept, or has them once these have
+    /// counted up by one.
+    #[inline(always)]
+    fn catches_up(&mut self, time: u64) -> bool
+        requires holds { HoldsPulse self.old }
+        ensures holds { HoldsPulse self.new }
+        ensures near { result ≡ true → IsNear self.new time }
+    {
+        if time < self.base {
+            return false;
+        }
+        let past = time - self.base;
+        if past < 10000 {
+            return true;
+        }
+        past < 20000 && self.count_up()
+    }
+
+    /// Counts up by one the digits in front of the last four, where that changes one digit alone.
+    #[inline(always)]
+    fn count_up(&mut self) -> bool
+        requires holds { HoldsPulse self.old }
+        requires few { self.old.base + 10000 < 2 ^ 64 }
+        ensures holds { HoldsPulse self.new }
+        ensures base { result ≡ true → self.new.base ≡ self.old.base + 10000 }
+    {
+        let place = self.long - 9;
+        let digit = self.bytes[place];
+        if b'9' <= digit {
+            return false;
+        }
+        self.base += 10000;
+        self.bytes[place] = digit + 1;
+        self.bytes[self.long + place] = digit + 1;
+        true
     }
 }
 
