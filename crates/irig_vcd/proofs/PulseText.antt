@@ -156,11 +156,11 @@ line_taken line digits pad start k level four is same long some near =
     ap (λ n. take n (drop start line)) all ∙ (ap (take (length (one_edge k four level) + (start - 1))) whole ∙ take-append-add (one_edge k four level) pad (start - 1))
 
 -- the lines of both edges, copied one behind the other
-pub lines_made : (line high_line low_line old one two pad : List ℕ) (start k : ℕ) (digits four : List ℕ) → digits ≡ decimal k ++ four → length four ≡ 4 → start + 1 + length digits ≡ 21 → 1 ≤ start
+pub lines_made : (high_line low_line old one two pad : List ℕ) (start k : ℕ) (digits four : List ℕ) → digits ≡ decimal k ++ four → length four ≡ 4 → start + 1 + length digits ≡ 21 → 1 ≤ start
     → drop start high_line ≡ 35 ∷ digits ++ (10 ∷ 49 ∷ 33 ∷ 10 ∷ pad) → drop start low_line ≡ 35 ∷ digits ++ (10 ∷ 48 ∷ 33 ∷ 10 ∷ pad)
     → one ≡ take 0 old ++ (take 24 (drop start high_line) ++ drop 24 old) → two ≡ take (25 - start) one ++ (take 24 (drop start low_line) ++ drop (25 - start + 24) one)
     → two ≡ pulse_parts k four four (take (start - 1) pad ++ drop (25 - start + 24) one)
-lines_made line high_line low_line old one two pad start k digits four same of_four at some high low first second =
+lines_made high_line low_line old one two pad start k digits four same of_four at some high low first second =
     let some_digits : length digits ≡ length (decimal k) + 4 = ap length same ∙ (length-append (decimal k) four ∙ omega (arith, of_four)) in
     let long : length (one_edge k four 49) ≡ 25 - start = length-append (front k) (four ++ (10 ∷ 49 ∷ 33 ∷ 10 ∷ [])) ∙ (ap (λ n. length (front k) + n) (length-append four (10 ∷ 49 ∷ 33 ∷ 10 ∷ [])) ∙ omega (arith, of_four, some_digits, at)) in
     let again : length (one_edge k four 48) ≡ 25 - start = length-append (front k) (four ++ (10 ∷ 48 ∷ 33 ∷ 10 ∷ [])) ∙ (ap (λ n. length (front k) + n) (length-append four (10 ∷ 48 ∷ 33 ∷ 10 ∷ [])) ∙ omega (arith, of_four, some_digits, at)) in

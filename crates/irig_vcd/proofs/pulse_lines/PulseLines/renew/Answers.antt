@@ -21,7 +21,7 @@ returns-clause-holds c =
       rise = last_four (time % 10000);
       fall = last_four (time % 10000);
       pad = take (start - 1) lines.pad ++ drop (25 - start + 24) c.put_part.new.bytes;
-      is = rw base (lines_made c.args.line.now c.put_digits-start.new.line (set c.put_digits-start.new.line 22 48) c.args.self.now.bytes c.put_part.new.bytes c.put_part-2.new.bytes lines.pad start (time / 10000) (decimal time) (last_four (time % 10000))
+      is = rw base (lines_made c.put_digits-start.new.line (set c.put_digits-start.new.line 22 48) c.args.self.now.bytes c.put_part.new.bytes c.put_part-2.new.bytes lines.pad start (time / 10000) (decimal time) (last_four (time % 10000))
           digits refl c.put_digits-start.ensures.start (omega (arith, few, c.put_digits-start.ensures.start)) high low c.put_part.ensures c.put_part-2.ensures);
       of_rise = refl;
       of_fall = refl;
