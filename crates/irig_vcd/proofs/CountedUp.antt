@@ -2,7 +2,7 @@
 use Rattle.std.proofs.Common.{◌≡◌, ◌<◌, ◌+◌, ◌-◌, ◌/◌, ◌%◌, ◌^◌, ◌∷◌, ◌++◌, [], ℕ, suc, List, eq-zero-or-pos, inl, inr, get_or, length, length-append, set, decimal, ap, sym, ◌∙◌, arith, append_assoc}
 use Rattle.std.proofs.Math.Seq.{get_or-append_seam, set-append_seam}
 use Rattle.std.proofs.lemmas.Fmt.{decimal_digit, decimal_step}
-use Rattle.irig_vcd.specs.Code.PulseLines.{front, pulse_parts}
+use Rattle.irig_vcd.specs.Code.KeptPulse.{front, pulse_parts}
 
 -- a front by its last digit, which may count up by one
 record ByLast (k : ℕ) : Type 0 where

@@ -5,10 +5,10 @@ use Rattle.std.proofs.Math.Seq.{take-append-add, take-append_seam, drop-append_s
 use Rattle.std.proofs.lemmas.Bool.{ne_eqb}
 use Rattle.std.proofs.lemmas.Fmt.{decimal_digit, decimal_step}
 use Rattle.std.proofs.lemmas.List.{take-append-drop, drop-drop, drop-take, drop-set-add}
-use Rattle.irig_vcd.specs.Code.PulseLines.{HoldsPulse, last_four, front, pulse_parts}
+use Rattle.irig_vcd.specs.Code.KeptPulse.{HoldsPulse, last_four, front, pulse_parts}
 use Rattle.irig_vcd.specs.FileText.{lines_at, level_line}
-use Rattle.irig_vcd.specs.declared.pulse_lines.PulseLines.{PulseLines}
-use Rattle.irig_vcd.specs.declared.pulse_lines.TheConstants.{PAIRS}
+use Rattle.irig_vcd.specs.declared.kept_pulse.KeptPulse.{KeptPulse}
+use Rattle.irig_vcd.specs.declared.kept_pulse.TheConstants.{PAIRS}
 
 -- a part of a list between others, written anew
 pub part_put : (old new p a q x : List ℕ) (i : ℕ) → old ≡ p ++ (a ++ q) → length p ≡ i → length a ≡ 4 → take i new ≡ take i old → drop i new ≡ x ++ drop (i + 4) old → new ≡ p ++ (x ++ q)
@@ -98,7 +98,7 @@ parts_put text bytes rise fall pad k long is four more fits short =
     ∙ (ap (λ (l : List ℕ). text ++ l) (ap (take (2 * long)) first ∙ (ap (λ n. take n ((one ++ two) ++ take (48 - 2 * long) pad)) (sym both) ∙ take-append_seam (one ++ two) (take (48 - 2 * long) pad))) ∙ sym (append_assoc text one two))
 
 -- other digits of both
-pub digits_put : (p : PulseLines) (one two x y : List ℕ) (h : HoldsPulse p) → length x ≡ 4
+pub digits_put : (p : KeptPulse) (one two x y : List ℕ) (h : HoldsPulse p) → length x ≡ 4
     → take (p.long - 8) one ≡ take (p.long - 8) p.bytes → drop (p.long - 8) one ≡ x ++ drop (p.long - 8 + 4) p.bytes
     → take (2 * p.long - 8) two ≡ take (2 * p.long - 8) one → drop (2 * p.long - 8) two ≡ y ++ drop (2 * p.long - 8 + 4) one
     → two ≡ pulse_parts (p.base / 10000) x y h.pad

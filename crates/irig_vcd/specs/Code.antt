@@ -2,7 +2,7 @@
 pub mod Token
 pub mod Short
 pub mod Lanes
-pub mod PulseLines
+pub mod KeptPulse
 pub mod Section
 pub mod Variable
 pub mod Timescale

@@ -6,11 +6,11 @@ mod event;
 mod fault;
 mod header;
 mod journals;
+mod kept_pulse;
 mod lanes;
 mod law;
 #[cfg(test)]
 mod plain;
-mod pulse_lines;
 mod pulses;
 mod reader;
 mod recording;

@@ -1,5 +1,5 @@
 use Rattle.irig_vcd.proofs.PulseText.{pair_told}
-use Rattle.irig_vcd.proofs.pulse_lines.pair.Goals as goal
+use Rattle.irig_vcd.proofs.kept_pulse.pair.Goals as goal
 
 pub returns-clause-tens : goal.returns-clause-tens
 returns-clause-tens c = (pair_told c.args.number c.requires).0

@@ -1,10 +1,10 @@
 use Rattle.std.proofs.Common.{◌≡◌, ◌≤◌, ◌∙◌, ◌++◌, ◌∷◌, ◌+◌, ◌-◌, ◌/◌, ◌%◌, ℕ, List, length, set, take, drop, decimal, refl, ap, arith}
 use Rattle.std.proofs.lemmas.Fmt.{length-decimal-le}
 use Rattle.std.proofs.lemmas.List.{length-append}
-use Rattle.irig_vcd.specs.Code.PulseLines.{last_four}
+use Rattle.irig_vcd.specs.Code.KeptPulse.{last_four}
 use Rattle.irig_vcd.proofs.PulseText.{four_last, level_again, lines_made}
 use Rattle.irig_vcd.proofs.TextParts.{level_set, digits_before}
-use Rattle.irig_vcd.proofs.pulse_lines.PulseLines.renew.Goals as goal
+use Rattle.irig_vcd.proofs.kept_pulse.KeptPulse.renew.Goals as goal
 
 pub returns-clause-holds : goal.returns-clause-holds
 returns-clause-holds c =

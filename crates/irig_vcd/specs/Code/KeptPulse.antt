@@ -1,6 +1,6 @@
 -- What a buffer keeps of a pulse's lines.
 use Rattle.std.specs.Prelude.{◌≡◌, ◌≤◌, ◌<◌, ◌+◌, ◌/◌, ◌%◌, ◌++◌, ◌∷◌, [], ℕ, List, decimal, length}
-use Rattle.irig_vcd.specs.declared.pulse_lines.PulseLines.{PulseLines}
+use Rattle.irig_vcd.specs.declared.kept_pulse.KeptPulse.{KeptPulse}
 
 -- the four digits of a number below 10,000
 abbrev pub last_four : ℕ → List ℕ
@@ -16,7 +16,7 @@ pulse_parts k rise fall pad =
     front k ++ (rise ++ (10 ∷ 49 ∷ 33 ∷ 10 ∷ (front k ++ (fall ++ (10 ∷ 48 ∷ 33 ∷ 10 ∷ pad)))))
 
 -- a buffer begins with the lines of a pulse whose times have the base's digits but the last four
-pub record HoldsPulse (p : PulseLines) : Type 0 where
+pub record HoldsPulse (p : KeptPulse) : Type 0 where
   pub rise : List ℕ
   pub fall : List ℕ
   pub pad : List ℕ
@@ -29,6 +29,6 @@ pub record HoldsPulse (p : PulseLines) : Type 0 where
   pub some : 10000 ≤ p.base
 
 -- a time has the base's digits but the last four
-pub record IsNear (p : PulseLines) (time : ℕ) : Type 0 where
+pub record IsNear (p : KeptPulse) (time : ℕ) : Type 0 where
   pub from : p.base ≤ time
   pub below : time < p.base + 10000

@@ -1,8 +1,8 @@
 use Rattle.std.proofs.Common.{◌≡◌, ◌∙◌, ◌++◌, ◌∷◌, ◌-◌, ◌/◌, [], ℕ, List, true, false, length, refl, ap, sym, arith}
-use Rattle.irig_vcd.specs.Code.PulseLines.{last_four, front}
+use Rattle.irig_vcd.specs.Code.KeptPulse.{last_four, front}
 use Rattle.irig_vcd.specs.FileText.{lines_at}
 use Rattle.irig_vcd.proofs.PulseText.{digits_put, parts_put, edge_line}
-use Rattle.irig_vcd.proofs.pulse_lines.PulseLines.put.Goals as goal
+use Rattle.irig_vcd.proofs.kept_pulse.KeptPulse.put.Goals as goal
 
 pub returns-in_err-extend_from_slice-clause-holds : goal.returns-in_err-extend_from_slice-clause-holds
 returns-in_err-extend_from_slice-clause-holds c =

@@ -1,6 +1,6 @@
 use Rattle.std.proofs.Common.{◌+◌, ◌/◌, ◌%◌}
 use Rattle.irig_vcd.proofs.PulseText.{four_written}
-use Rattle.irig_vcd.proofs.pulse_lines.put_four.Goals as goal
+use Rattle.irig_vcd.proofs.kept_pulse.put_four.Goals as goal
 
 pub returns-clause-written : goal.returns-clause-written
 returns-clause-written c =

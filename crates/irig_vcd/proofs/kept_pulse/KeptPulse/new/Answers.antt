@@ -1,7 +1,7 @@
 use Rattle.std.proofs.Common.{◌∷◌, ◌+◌, [], ℕ, List, codes, length, refl, ap, sym, arith}
 use Rattle.std.proofs.lemmas.Fmt.{decimal_digit}
 use Rattle.irig_vcd.proofs.PulseText.{one_in_front}
-use Rattle.irig_vcd.proofs.pulse_lines.PulseLines.new.Goals as goal
+use Rattle.irig_vcd.proofs.kept_pulse.KeptPulse.new.Goals as goal
 
 pub returns : goal.returns
 returns c = record {

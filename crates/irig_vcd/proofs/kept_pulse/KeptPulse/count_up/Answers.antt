@@ -1,7 +1,7 @@
 use Rattle.std.proofs.Common.{◌≡◌, ◌<◌, ◌+◌, ◌-◌, ◌/◌, ◌%◌, ◌^◌, ◌∙◌, ℕ, List, get_or, set, length, ap, arith}
-use Rattle.irig_vcd.specs.Code.PulseLines.{front}
+use Rattle.irig_vcd.specs.Code.KeptPulse.{front}
 use Rattle.irig_vcd.proofs.CountedUp.{digit_at, counted_up, front_as_long}
-use Rattle.irig_vcd.proofs.pulse_lines.PulseLines.count_up.Goals as goal
+use Rattle.irig_vcd.proofs.kept_pulse.KeptPulse.count_up.Goals as goal
 
 pub returns-clause-holds : goal.returns-clause-holds
 returns-clause-holds c =

@@ -2,7 +2,7 @@
 
 ghost use Rattle.std.specs.Prelude.{◌≡◌, ◌≤◌, ◌<◌, ◌+◌, ◌-◌, ◌/◌, ◌%◌, ◌^◌, ◌++◌, ◌∷◌, true, false, OnOk};
 ghost use Rattle.std.specs.Prelude.{length, take, drop};
-ghost use Rattle.irig_vcd.specs.Code.PulseLines.{HoldsPulse, IsNear, last_four};
+ghost use Rattle.irig_vcd.specs.Code.KeptPulse.{HoldsPulse, IsNear, last_four};
 ghost use Rattle.irig_vcd.specs.FileText.{EndsLines, lines_at};
 
 use crate::writer::put_digits;
@@ -19,19 +19,19 @@ static PAIRS: [u8; 200] = *b"\
 /// The four lines of a pulse at the front of a buffer, `long` bytes for each edge. The digits of its
 /// times in front of the last four are those of `base`, in microseconds.
 #[derive(Drop)]
-pub struct PulseLines {
+pub struct KeptPulse {
     bytes: [u8; 56],
     long: usize,
     base: u64,
 }
 
-impl PulseLines {
+impl KeptPulse {
     /// The lines of a pulse at 10,000 microseconds.
-    pub fn new() -> PulseLines
+    pub fn new() -> KeptPulse
         ensures { HoldsPulse result }
     {
         let bytes = *b"#10000\n1!\n#10000\n0!\n                                    ";
-        PulseLines {
+        KeptPulse {
             bytes,
             long: 10,
             base: 10000,
