@@ -16,14 +16,14 @@ use crate::section::{end_at, is_end};
 use crate::token::Tokens;
 
 /// Where a text begins and where it ends, in bytes of the dump, from 0.
-#[derive(Clone, Copy, Debug)]
+#[derive(Clone, Copy)]
 pub struct Place {
     pub start: usize,
     pub end: usize,
 }
 
 /// The journals so far: the place of the first, and whether there are more.
-#[derive(Clone, Copy, Debug)]
+#[derive(Clone, Copy)]
 pub struct Journals {
     first: Option<Place>,
     many: bool,

@@ -20,7 +20,7 @@ const LONGEST_PULSE: usize = 64;
 const LAST_TIME: u64 = 1 << 40;
 
 /// A time in microseconds with a value at it, and the place behind both lines, in bytes from 0.
-#[derive(Clone, Copy, Debug)]
+#[derive(Clone, Copy)]
 pub struct Edge {
     pub time: u64,
     pub end: usize,
