@@ -1,3 +1,4 @@
 pub mod WholeReads
 pub mod PutsAt
 pub mod EditsBy
+pub mod Moves

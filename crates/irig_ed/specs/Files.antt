@@ -1,2 +1,3 @@
 -- Files.
 pub mod Puts
+pub mod Reads

@@ -1,7 +1,9 @@
 //! The bytes of the file of a dump, read whole.
 
-ghost use Rattle.std.specs.Prelude.{◌≡◌, ◌≢◌, ◌≤◌, ◌<◌, ◌+◌, ◌^◌, ◌⊎◌, Err, Ok, IfOk, IfSome, IsErrOf, length, vec_len};
+ghost use Rattle.std.specs.Prelude.{◌≡◌, ◌≢◌, ◌≤◌, ◌<◌, ◌+◌, ◌^◌, ◌⊎◌, Err, Ok, IfOk, IfSome, IsErrOf, OnOk, ◌++◌, true, length, vec_len};
 ghost use Rattle.std.specs.Fs.{IsFile, file_type, metadata_len};
+ghost use Rattle.std.specs.Io.KnownBytes.{IsAtEnd};
+ghost use Rattle.irig_ed.specs.Files.Reads.{Moves};
 ghost use Rattle.irig_ed.specs.declared.files.dump_file.DumpFileFault.TheVariants.{TooLong};
 
 use std::alloc::Global;
@@ -12,6 +14,10 @@ use std::{fs, io};
 
 /// The most bytes of a dump.
 const DUMP_LIMIT: u64 = 268_435_456;
+
+/// How many bytes are read at a time. Room that a reader is lent is cleared first: here that for a
+/// part, once, and not that for the whole file.
+const PART: usize = 8192;
 
 /// Why the bytes of a dump were not read.
 #[derive(Clone, Copy)]
@@ -49,7 +55,7 @@ pub fn read_dump<R: Files + AllocGlobal>(rt: &R, path: &str) -> Result<Vec<u8>, 
 
 /// The room for the bytes of an open file, as far as the file tells its size.
 fn room_of<F: OpenFile>(file: &F) -> Result<usize, DumpFileFault>
-    ensures { IfOk result (λ room. room ≤ 2 ^ 28 + 1) }
+    ensures { IfOk result (λ room. room ≤ 2 ^ 28) }
 {
     match file.metadata() {
         Ok(described) => room_for(&described),
@@ -57,13 +63,13 @@ fn room_of<F: OpenFile>(file: &F) -> Result<usize, DumpFileFault>
     }
 }
 
-/// The room for the bytes of a file that is so described: of a regular one its size and a byte,
-/// behind which a reader sees the end; none is asked for any other, whose size tells nothing.
+/// The room for the bytes of a file that is so described: of a regular one its size; none is asked
+/// for any other, whose size tells nothing.
 fn room_for(described: &Metadata) -> Result<usize, DumpFileFault>
     ensures long { IsFile (file_type described.now) → 2 ^ 28 < metadata_len described.now
         → result ≡ Err TooLong }
     ensures size { IsFile (file_type described.now) → metadata_len described.now ≤ 2 ^ 28
-        → result ≡ Ok (metadata_len described.now + 1) }
+        → result ≡ Ok (metadata_len described.now) }
     ensures other { IsFile (file_type described.now) ⊎ (result ≡ Ok 0) }
 {
     if !described.is_file() {
@@ -71,7 +77,7 @@ fn room_for(described: &Metadata) -> Result<usize, DumpFileFault>
     } else if described.len() > DUMP_LIMIT {
         Err(DumpFileFault::TooLong)
     } else {
-        Ok(described.len() as usize + 1)
+        Ok(described.len() as usize)
     }
 }
 
@@ -90,9 +96,43 @@ fn read_whole<R: Read + Drop>(
     let Ok(mut bytes) = Vec::with_capacity(alloc, room) else {
         return Err(DumpFileFault::OutOfMemory);
     };
-    reader.take(DUMP_LIMIT + 1).read_to_end(&mut bytes)?;
+    append_all(&mut reader.take(DUMP_LIMIT + 1), &mut bytes)?;
     if bytes.len() as u64 > DUMP_LIMIT {
         return Err(DumpFileFault::TooLong);
     }
     Ok(bytes)
+}
+
+/// Appends all that a reader has left, part by part.
+#[tactic(auto, using(crate::proofs::Moves::moves_none))]
+fn append_all<R: Read>(reader: &mut R, bytes: &mut Vec<u8>) -> io::Result<()>
+    ensures { OnOk result (IfSome (R.remaining reader.old)
+        (λ all. bytes.new.items ≡ bytes.old.items ++ all)) }
+{
+    let mut part = [0; PART];
+    for _ in 0..u64::MAX {
+        if append_part(reader, &mut part, bytes)? {
+            return Ok(());
+        }
+    }
+    Err(io::Error::from(ErrorKind::TimedOut))
+}
+
+/// Appends what a reader gives in one read, and tells whether it had nothing left.
+fn append_part<R: Read>(reader: &mut R, part: &mut [u8], bytes: &mut Vec<u8>) -> io::Result<bool>
+    requires { 0 < length part.old }
+    ensures length { length part.new ≡ length part.old }
+    ensures appended { OnOk result (Moves (R.remaining reader.old) (R.remaining reader.new)
+        bytes.old.items bytes.new.items) }
+    ensures end { IfOk result (λ ended. ended ≡ true → IsAtEnd (R.remaining reader.new)) }
+{
+    match reader.read(part) {
+        Ok(0) => Ok(true),
+        Ok(count) => {
+            bytes.extend_from_slice(&part[..count])?;
+            Ok(false)
+        }
+        Err(error) if error.kind() == ErrorKind::Interrupted => Ok(false),
+        Err(error) => Err(error),
+    }
 }
