@@ -1,6 +1,6 @@
 use Rattle.std.proofs.Common.{rules, ◌∷◌, ◌∙◌, ap}
 use Rattle.irig_ed.proofs.EditsBy.{edits_by, same_path}
-use Rattle.irig_ed.proofs.editing.edit_bytes.Goals as goal
+use Rattle.irig_ed.proofs.dump_run.run_on_bytes.Goals as goal
 
 pub returns : goal.returns
 returns g c =

@@ -1,4 +1,4 @@
-//! From the words of a command line to what is printed and put.
+//! A script run on the file of a dump, as the words of a command line ask.
 
 ghost use Rattle.std.specs.Prelude.{◌≡◌, ◌≤◌, ◌^◌, map, option_map, vec_len};
 ghost use Rattle.irig_ed.specs.Ending.{EditsBy, EndsBy, Obeys, ends};
@@ -12,7 +12,8 @@ use irig_script::{EditFault, Status, run_on_dump};
 use std::alloc::Global;
 use std::io::{Read, Write};
 
-/// Edits the track that the words of a command line name, the program's name being the first.
+/// Runs a script on the dump that the words of a command line name, the program's name being the
+/// first.
 pub fn obey_words<'a, D: Disk, R: Read, W: Write>(
     alloc: Global,
     words: &'a [&'a str],
@@ -25,13 +26,13 @@ pub fn obey_words<'a, D: Disk, R: Read, W: Write>(
         (ends (W.contents out.new) (D.puts disk.new) (R.remaining script.new)) result }
 {
     match settings(alloc, words) {
-        Ok(chosen) => edit_track(alloc, &chosen, disk, script, out),
+        Ok(chosen) => run_on_track(alloc, &chosen, disk, script, out),
         Err(fault) => Ending::Usage(fault),
     }
 }
 
-/// Edits the track of the settings.
-fn edit_track<'a, D: Disk, R: Read, W: Write>(
+/// Runs a script on the dump of the settings.
+fn run_on_track<'a, D: Disk, R: Read, W: Write>(
     alloc: Global,
     chosen: &Settings<'a>,
     disk: &mut D,
@@ -45,15 +46,15 @@ fn edit_track<'a, D: Disk, R: Read, W: Write>(
 {
     match disk.read(chosen.track) {
         Ok(source) => {
-            let result = edit_bytes(alloc, chosen, source, disk, script, out);
+            let result = run_on_bytes(alloc, chosen, source, disk, script, out);
             Ending::Edited(chosen.track, result)
         }
         Err(fault) => Ending::Unread(chosen.track, fault),
     }
 }
 
-/// Obeys a script on the bytes of a dump, by the wire, the format and the path of the settings.
-fn edit_bytes<D: Disk, R: Read, W: Write>(
+/// Runs a script on the bytes of a dump, by the wire, the format and the path of the settings.
+fn run_on_bytes<D: Disk, R: Read, W: Write>(
     alloc: Global,
     chosen: &Settings<'_>,
     source: Vec<u8>,
