@@ -8,7 +8,7 @@ use crate::width::Element;
 use std::marker::Model;
 
 /// Which elements of a frame are One: element k, from 0, is bit k.
-#[derive(Clone, Copy, Debug, PartialEq, Eq)]
+#[derive(Clone, Copy)]
 pub struct Ones {
     pub(crate) bits: u128,
 }
