@@ -1,4 +1,4 @@
 pub mod WholeReads
 pub mod PutsAt
-pub mod EditsBy
+pub mod RunsBy
 pub mod Moves

@@ -3,15 +3,15 @@
 use Rattle.std.specs.Prelude.{◌≡◌, ◌<◌, ◌^◌, ℕ, List, Option, Result, Ok, Err, IfSome, length, option_map}
 use Rattle.clap.specs.Words.{Text}
 use Rattle.irig_script.specs.Obey.Desk.{desk}
-use Rattle.irig_script.specs.Obey.Editing.{EditsAs}
+use Rattle.irig_script.specs.Obey.DumpRun.{RunsOnDump}
 use Rattle.irig_script.specs.Shelf.Shelved.{shelved}
 use Rattle.irig_script.specs.declared.obey.status.Status.{Status}
-use Rattle.irig_script.specs.declared.obey.editing.EditFault.{EditFault}
+use Rattle.irig_script.specs.declared.obey.dump_run.DumpRunFault.{DumpRunFault}
 use Rattle.irig_ed.specs.CommandLine.Settings.{Reads}
 use Rattle.irig_ed.specs.Files.Puts.{Put, texts_at}
 use Rattle.irig_ed.specs.declared.command_line.chosen.Settings.{Settings}
 use Rattle.irig_ed.specs.declared.ending.Ending.{Ending}
-use Rattle.irig_ed.specs.declared.ending.Ending.TheVariants.{Usage, Unread, Edited}
+use Rattle.irig_ed.specs.declared.ending.Ending.TheVariants.{Usage, Unread, Ran}
 use Rattle.irig_ed.specs.declared.files.dump_file.DumpFileFault.TheVariants.{TooLong}
 
 -- what is known of the ends of the program: what was printed, what was put, and what is left of
@@ -25,22 +25,22 @@ pub record Ends : Type 0 where
 abbrev pub ends : Option (List ℕ) → Option (List Put) → Option (List ℕ) → Ends
 ends out puts script = record { out = out; puts = puts; script = script }
 
--- the bytes were edited by the wire and the format of the settings, and what was put was put at
--- their path to write
-pub record EditsBy (chosen : Settings) (source : List ℕ) (old new : Ends)
-    (result : Result Status EditFault) : Type 0 where
+-- the script ran on the bytes, by the wire and the format of the settings, and what was put was put
+-- at their path to write
+pub record RunsBy (chosen : Settings) (source : List ℕ) (old new : Ends)
+    (result : Result Status DumpRunFault) : Type 0 where
   pub label : List ℕ
   pub failures : ℕ
-  pub edits : EditsAs (option_map (λ w. w.now) chosen.wire) chosen.format source
+  pub ran : RunsOnDump (option_map (λ w. w.now) chosen.wire) chosen.format source
       old.script new.script
       (desk old.out (shelved (texts_at chosen.out.now old.puts) 0 label))
       (desk new.out (shelved (texts_at chosen.out.now new.puts) failures label)) result
 
--- the dump of the settings was edited; or it was not read, and nothing else was done
+-- the script ran on the dump of the settings; or that was not read, and nothing else was done
 abbrev pub Obeys : (List ℕ → Option (List ℕ)) → Ends → Ends → Settings → Ending → Type 0
-Obeys held old new chosen (Edited path result) =
+Obeys held old new chosen (Ran path result) =
     (path ≡ chosen.track) × ((source : List ℕ)
-    × IfSome (held chosen.track.now) (λ all. source ≡ all) × EditsBy chosen source old new result)
+    × IfSome (held chosen.track.now) (λ all. source ≡ all) × RunsBy chosen source old new result)
 Obeys held old new chosen (Unread path fault) =
     (path ≡ chosen.track) × (new ≡ old)
     × (fault ≡ TooLong → IfSome (held chosen.track.now) (λ all. 2 ^ 28 < length all))

@@ -5,14 +5,14 @@ use Rattle.clap.specs.Words.{kind_of}
 use Rattle.clap.specs.declared.error.kind.ErrorKind.TheVariants.{DisplayHelp, DisplayVersion}
 use Rattle.irig_ed.specs.declared.command_line.chosen.UsageFault.TheVariants.{Words, BadExpression}
 use Rattle.irig_ed.specs.declared.ending.Ending.{Ending}
-use Rattle.irig_ed.specs.declared.ending.Ending.TheVariants.{Usage, Unread, Edited}
+use Rattle.irig_ed.specs.declared.ending.Ending.TheVariants.{Usage, Unread, Ran}
 use Rattle.irig_script.specs.declared.obey.status.Status.{Status}
 use Rattle.irig_script.specs.declared.obey.status.Status.TheVariants.{AllAccepted, SomeRefused}
-use Rattle.irig_script.specs.declared.obey.editing.EditFault.{EditFault}
-use Rattle.irig_script.specs.declared.obey.editing.EditFault.TheVariants.{Dump, Run}
+use Rattle.irig_script.specs.declared.obey.dump_run.DumpRunFault.{DumpRunFault}
+use Rattle.irig_script.specs.declared.obey.dump_run.DumpRunFault.TheVariants.{Dump, Run}
 
--- the status of the program for how an edit ended
-abbrev pub status_number : Result Status EditFault → ℕ
+-- the status of the program for how a run ended
+abbrev pub status_number : Result Status DumpRunFault → ℕ
 status_number (Ok AllAccepted) = 0
 status_number (Ok SomeRefused) = 1
 status_number (Err (Dump fault)) = 3
@@ -27,4 +27,4 @@ abbrev pub HasStatus : Ending → ℕ → Type 0
 HasStatus (Usage (Words error)) status = IsMistake error → status ≡ 2
 HasStatus (Usage BadExpression) status = status ≡ 2
 HasStatus (Unread path fault) status = status ≡ 3
-HasStatus (Edited path result) status = status ≡ status_number result
+HasStatus (Ran path result) status = status ≡ status_number result

@@ -2,15 +2,15 @@
 
 use crate::command_line::chosen::UsageFault;
 use crate::files::dump_file::DumpFileFault;
-use irig_script::{EditFault, Status};
+use irig_script::{DumpRunFault, Status};
 
 /// How the program ends, before it is told.
 #[derive(Drop)]
 pub enum Ending<'a> {
-    /// The command line asks for no edit.
+    /// The command line asks for no run.
     Usage(UsageFault),
     /// The file at this path is no dump that can be read.
     Unread(&'a str, DumpFileFault),
-    /// The dump at this path was edited, and so the edit ended.
-    Edited(&'a str, Result<Status, EditFault>),
+    /// The script ran on the dump at this path, and so the run ended.
+    Ran(&'a str, Result<Status, DumpRunFault>),
 }

@@ -2,7 +2,7 @@
 #![tactic(auto)]
 
 mod command_line;
-mod dump_run;
+mod file_run;
 mod ending;
 mod files;
 mod statuses;
@@ -10,7 +10,7 @@ mod statuses;
 ghost use Rattle.std.specs.Prelude.{◌≡◌, IfOk, map, string_bytes};
 
 use command_line::command_line::not_text;
-use dump_run::obey_words;
+use file_run::obey_words;
 use ending::Ending;
 use files::system::System;
 use statuses::{explain, report, tell};

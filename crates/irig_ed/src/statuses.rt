@@ -7,7 +7,7 @@ ghost use Rattle.irig_ed.specs.Statuses.{IsMistake, HasStatus, status_number};
 use crate::command_line::chosen::UsageFault;
 use crate::ending::Ending;
 use crate::files::dump_file::DumpFileFault;
-use irig_script::{EditFault, RunFault, Status};
+use irig_script::{DumpRunFault, RunFault, Status};
 use std::fmt::Display;
 use std::process::ExitCode;
 
@@ -19,7 +19,7 @@ pub fn report<R: Print + Eprint>(rt: &R, ending: &Ending<'_>) -> ExitCode
         Ending::Usage(UsageFault::Words(error)) => explain(rt, error),
         Ending::Usage(UsageFault::BadExpression) => tell(rt, &"E6 BadExpression"),
         Ending::Unread(path, fault) => tell_unread(rt, path, *fault),
-        Ending::Edited(path, outcome) => tell_ended(rt, path, *outcome),
+        Ending::Ran(path, outcome) => tell_ended(rt, path, *outcome),
     }
 }
 
@@ -38,7 +38,7 @@ pub fn explain<R: Print + Eprint>(rt: &R, error: &clap::Error) -> ExitCode
     match error.print(rt) {
         _ if error.use_stderr() => ExitCode::from(2),
         Ok(()) => ExitCode::SUCCESS,
-        Err(_) => tell_ended(rt, "", Err(EditFault::Run(RunFault::PrintFailed))),
+        Err(_) => tell_ended(rt, "", Err(DumpRunFault::Run(RunFault::PrintFailed))),
     }
 }
 
@@ -55,18 +55,18 @@ fn tell_unread<R: Eprint>(rt: &R, name: &str, fault: DumpFileFault) -> ExitCode
     ExitCode::from(3)
 }
 
-/// The exit status for how an edit ended; a fault is told on the standard error.
-fn tell_ended<R: Eprint>(rt: &R, name: &str, outcome: Result<Status, EditFault>) -> ExitCode
+/// The exit status for how a run ended; a fault is told on the standard error.
+fn tell_ended<R: Eprint>(rt: &R, name: &str, outcome: Result<Status, DumpRunFault>) -> ExitCode
     ensures { exit_status result ≡ status_number outcome }
 {
     match outcome {
         Ok(Status::AllAccepted) => ExitCode::SUCCESS,
         Ok(Status::SomeRefused) => ExitCode::from(1),
-        Err(EditFault::Dump(fault)) => {
+        Err(DumpRunFault::Dump(fault)) => {
             let _ = eprintln!(rt; "irig_ed: {name}: {fault}");
             ExitCode::from(3)
         }
-        Err(EditFault::Run(fault)) => {
+        Err(DumpRunFault::Run(fault)) => {
             let _ = eprintln!(rt; "irig_ed: {fault}");
             ExitCode::from(4)
         }

@@ -22,7 +22,7 @@ pub mod Steps
 -- that a script has one run
 pub mod SameReply
 pub mod SameRun
-pub mod SameEdit
+pub mod SameDumpRun
 pub mod SameOpening
 -- what is printed
 pub mod RowLemmas

@@ -9,5 +9,5 @@ pub mod Run
 pub mod OneRun
 pub mod Ending
 pub mod Progress
-pub mod Editing
-pub mod OneEdit
+pub mod DumpRun
+pub mod OneDumpRun

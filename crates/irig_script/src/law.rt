@@ -1,7 +1,7 @@
 //! What holds of lines and of the runs of scripts.
 
 ghost use Rattle.irig_script.specs.Script.OneCommand.{OneCommand};
-ghost use Rattle.irig_script.specs.Obey.OneEdit.{OneEdit};
+ghost use Rattle.irig_script.specs.Obey.OneDumpRun.{OneDumpRun};
 ghost use Rattle.irig_script.specs.Obey.OneRun.{OneRun};
 
 use irig_edit::calls_give_back;
@@ -18,7 +18,7 @@ pub fn lines_ask_for_one_command()
 /// machine. So do two runs from the bytes of one dump.
 pub fn scripts_have_one_run()
     ensures same { OneRun }
-    ensures edited { OneEdit }
+    ensures on_dumps { OneDumpRun }
 {
     calls_give_back();
 }

@@ -10,7 +10,7 @@ mod shelf;
 mod tests;
 
 pub use law::{lines_ask_for_one_command, scripts_have_one_run};
-pub use obey::editing::{EditFault, run_on_dump};
+pub use obey::dump_run::{DumpRunFault, run_on_dump};
 pub use obey::engine::run;
 pub use obey::status::{RunFault, Status};
 pub use script::address::{Address, Base};

@@ -1,7 +1,7 @@
 //! Commands as calls of a session, and the run of a script.
 
 pub mod calls;
-pub mod editing;
+pub mod dump_run;
 pub mod engine;
 pub mod obeying;
 pub mod pulse_numbers;

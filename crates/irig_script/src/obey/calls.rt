@@ -17,7 +17,7 @@ use irig_edit::{Refusal, Session};
 use irig_moment::Moment;
 
 /// The reply to an edit.
-fn edited(outcome: Result<(), Refusal>) -> Reply
+fn reply_to(outcome: Result<(), Refusal>) -> Reply
     ensures { result ≡ reply_to outcome }
 {
     match outcome {
@@ -55,7 +55,7 @@ pub fn delete(session: &mut Session, range: Range) -> Reply
         session.old result session.new }
 {
     let (i, j) = ends(session, &range);
-    edited(session.delete(i, j))
+    reply_to(session.delete(i, j))
 }
 
 /// Moves pulses.
@@ -64,7 +64,7 @@ pub fn shift(session: &mut Session, range: Range, by: i64) -> Reply
         session.old result session.new }
 {
     let (i, j) = ends(session, &range);
-    edited(session.shift(i, j, by))
+    reply_to(session.shift(i, j, by))
 }
 
 /// Makes one pulse of several.
@@ -73,7 +73,7 @@ pub fn join(session: &mut Session, range: Range) -> Reply
         session.old result session.new }
 {
     let (i, j) = join_ends(session, &range);
-    edited(session.join(i, j))
+    reply_to(session.join(i, j))
 }
 
 /// Makes the level low inside of a pulse.
@@ -83,7 +83,7 @@ pub fn split(session: &mut Session, address: Address, from: Time, to: Time) -> R
 {
     let i = number_at(session, &address);
     let (a, b) = (time(session, &from), time(session, &to));
-    edited(session.split(i, a, b))
+    reply_to(session.split(i, a, b))
 }
 
 /// Gives a pulse the width of an element.
@@ -92,7 +92,7 @@ pub fn force(session: &mut Session, address: Address, element: Element) -> Reply
         session.old result session.new }
 {
     let i = number_at(session, &address);
-    edited(session.force(i, element))
+    reply_to(session.force(i, element))
 }
 
 /// Puts a pulse in.
@@ -101,7 +101,7 @@ pub fn insert(session: &mut Session, from: Time, to: Time) -> Reply
         session.old result session.new }
 {
     let (a, b) = (time(session, &from), time(session, &to));
-    edited(session.insert(a, b))
+    reply_to(session.insert(a, b))
 }
 
 /// Turns the level between two times.
@@ -110,7 +110,7 @@ pub fn invert(session: &mut Session, from: Time, to: Time) -> Reply
         session.old result session.new }
 {
     let (a, b) = (time(session, &from), time(session, &to));
-    edited(session.invert(a, b))
+    reply_to(session.invert(a, b))
 }
 
 /// Writes frames anew.
@@ -119,7 +119,7 @@ pub fn regen(session: &mut Session, start: Time, frames: u64, from: Moment, cont
         session.old result session.new }
 {
     let start = time(session, &start);
-    edited(session.regen(start, frames, from, control))
+    reply_to(session.regen(start, frames, from, control))
 }
 
 /// Reads frames in another format.
@@ -128,7 +128,7 @@ pub fn set_format(session: &mut Session, kind: Kind, expression: u8) -> Reply
         session.old result session.new }
 {
     match Format::new(kind, expression) {
-        Ok(format) => edited(session.format(format)),
+        Ok(format) => reply_to(session.format(format)),
         Err(_) => Reply::Refused(Refusal::BadExpression),
     }
 }
@@ -139,47 +139,47 @@ pub fn mark(session: &mut Session, letter: Letter, at: Time) -> Reply
         session.old result session.new }
 {
     let time = time(session, &at);
-    edited(session.mark(letter.byte(), Some(time)))
+    reply_to(session.mark(letter.byte(), Some(time)))
 }
 
 /// Clears a mark.
 pub fn unmark(session: &mut Session, letter: Letter) -> Reply
     ensures { Makes (Edit.SetMark (letter - 97) None) session.old result session.new }
 {
-    edited(session.mark(letter.byte(), None))
+    reply_to(session.mark(letter.byte(), None))
 }
 
 /// Takes the newest step back.
 pub fn undo(session: &mut Session) -> Reply
     ensures { Calls Call.Undo session.old result session.new }
 {
-    edited(session.undo())
+    reply_to(session.undo())
 }
 
 /// Does the step again that was taken back last.
 pub fn redo(session: &mut Session) -> Reply
     ensures { Calls Call.Redo session.old result session.new }
 {
-    edited(session.redo())
+    reply_to(session.redo())
 }
 
 /// Opens a group.
 pub fn begin(session: &mut Session) -> Reply
     ensures { Calls Call.Begin session.old result session.new }
 {
-    edited(session.begin())
+    reply_to(session.begin())
 }
 
 /// Makes one step of what was done since the group was opened.
 pub fn end(session: &mut Session) -> Reply
     ensures { Calls Call.End session.old result session.new }
 {
-    edited(session.end())
+    reply_to(session.end())
 }
 
 /// Takes back what was done since the group was opened.
 pub fn abort(session: &mut Session) -> Reply
     ensures { Calls Call.Abort session.old result session.new }
 {
-    edited(session.abort())
+    reply_to(session.abort())
 }

@@ -1,6 +1,6 @@
 //! What a growth that is refused leaves: run with each growth refused in turn, by `tests/no_memory`.
 
-use crate::{EditFault, MemoryShelf, Status, run_on_dump};
+use crate::{DumpRunFault, MemoryShelf, Status, run_on_dump};
 use irig_codes::{Format, Kind};
 use irig_edit::{Refusal, Session};
 use irig_vcd::{Recording, VcdFault};
@@ -75,7 +75,7 @@ static PRINTED: [&[u8]; 7] = [
 ];
 
 /// How a script ends on the dump; nothing where the dump itself found no room.
-fn edited(alloc: Global, out: &mut Vec<u8>) -> Option<Result<Status, EditFault>> {
+fn ran(alloc: Global, out: &mut Vec<u8>) -> Option<Result<Status, DumpRunFault>> {
     let format = Format::new(Kind::G, 2).ok()?;
     let dump = Vec::from_slice(alloc, DUMP).ok()?;
     let mut script = b"invert 100 120\nwrite\nundo\nwrite\n".as_slice();
@@ -84,10 +84,10 @@ fn edited(alloc: Global, out: &mut Vec<u8>) -> Option<Result<Status, EditFault>>
 }
 
 /// Whether just the line that wants memory is refused.
-fn is_expected(outcome: Option<Result<Status, EditFault>>, out: &[u8]) -> bool {
+fn is_expected(outcome: Option<Result<Status, DumpRunFault>>, out: &[u8]) -> bool {
     match outcome {
         None => true,
-        Some(Err(fault)) => fault == EditFault::Dump(VcdFault::OutOfMemory) && out.is_empty(),
+        Some(Err(fault)) => fault == DumpRunFault::Dump(VcdFault::OutOfMemory) && out.is_empty(),
         Some(Ok(_)) => is_printed(out),
     }
 }
@@ -108,6 +108,6 @@ fn a_refused_line_leaves_the_rest(rt: HostRuntime) {
     let Ok(mut out) = Vec::with_capacity(rt.alloc(), 200) else {
         return;
     };
-    let outcome = edited(rt.alloc(), &mut out);
+    let outcome = ran(rt.alloc(), &mut out);
     assert!(rt; is_expected(outcome, out.as_slice()));
 }

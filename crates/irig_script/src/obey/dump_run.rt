@@ -1,9 +1,9 @@
-//! A dump edited by a script.
+//! A script run on a dump.
 
 ghost use Rattle.std.specs.Prelude.{◌≡◌, ◌≤◌, ◌^◌, length};
 ghost use Rattle.irig_vcd.specs.Answer.{name_of};
 ghost use Rattle.irig_script.specs.Obey.Desk.{desk};
-ghost use Rattle.irig_script.specs.Obey.Editing.{EditsAs};
+ghost use Rattle.irig_script.specs.Obey.DumpRun.{RunsOnDump};
 
 use crate::obey::engine;
 use crate::obey::status::{RunFault, Status};
@@ -14,9 +14,9 @@ use irig_vcd::VcdFault;
 use std::alloc::Global;
 use std::io::{Read, Write};
 
-/// Why a dump was not edited to the end of a script.
+/// Why a script did not run on a dump to its end.
 #[derive(Clone, Copy, PartialEq, Eq)]
-pub enum EditFault {
+pub enum DumpRunFault {
     /// The dump was not opened: no line of the script was read.
     Dump(VcdFault),
     /// The run of the script was broken off.
@@ -34,9 +34,9 @@ pub fn run_on_dump<R: Read, W: Write, S: Shelf>(
     script: &mut R,
     out: &mut W,
     shelf: &mut S,
-) -> Result<Status, EditFault>
+) -> Result<Status, DumpRunFault>
     requires { length source.items ≤ 2 ^ 28 }
-    ensures ends { EditsAs (name_of wire.entry) format source.items
+    ensures ends { RunsOnDump (name_of wire.entry) format source.items
         (R.remaining script.old) (R.remaining script.new)
         (desk (W.contents out.old) (S.known shelf.old))
         (desk (W.contents out.new) (S.known shelf.new)) result }
@@ -44,10 +44,10 @@ pub fn run_on_dump<R: Read, W: Write, S: Shelf>(
 {
     let mut session = match Session::open_dump(alloc, source, wire, format) {
         Ok(session) => session,
-        Err(fault) => return Err(EditFault::Dump(fault)),
+        Err(fault) => return Err(DumpRunFault::Dump(fault)),
     };
     match engine::run(&mut session, script, out, shelf) {
         Ok(status) => Ok(status),
-        Err(fault) => Err(EditFault::Run(fault)),
+        Err(fault) => Err(DumpRunFault::Run(fault)),
     }
 }

@@ -4,13 +4,13 @@ use Rattle.irig_ed.specs.CommandLine.Settings.{Reads}
 use Rattle.irig_ed.specs.Ending.{Ends, EndsBy, Obeys}
 use Rattle.irig_ed.specs.declared.command_line.chosen.Settings.{Settings}
 use Rattle.irig_ed.specs.declared.ending.Ending.{Ending}
-use Rattle.irig_ed.specs.declared.ending.Ending.TheVariants.{Usage, Unread, Edited}
-use Rattle.irig_ed.proofs.dump_run.obey_words.Goals as goal
+use Rattle.irig_ed.specs.declared.ending.Ending.TheVariants.{Usage, Unread, Ran}
+use Rattle.irig_ed.proofs.file_run.obey_words.Goals as goal
 
 ends_by : (words : List Text) (held : List ℕ → Option (List ℕ)) (old new : Ends) (chosen : Settings) (ending : Ending) → Reads words (Ok chosen) → Obeys held old new chosen ending → EndsBy words held old new ending
 ends_by words held old new chosen (Usage fault) r o = absurd o
 ends_by words held old new chosen (Unread path fault) r o = (chosen, r, o)
-ends_by words held old new chosen (Edited path result) r o = (chosen, r, o)
+ends_by words held old new chosen (Ran path result) r o = (chosen, r, o)
 
 pub returns-in-Ok : goal.returns-in-Ok
 returns-in-Ok g c = ends_by _ _ _ _ c.in-Ok.chosen c.run_on_track.result c.in-Ok.ensures c.run_on_track.ensures

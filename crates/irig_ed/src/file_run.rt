@@ -1,14 +1,14 @@
 //! A script run on the file of a dump, as the words of a command line ask.
 
 ghost use Rattle.std.specs.Prelude.{◌≡◌, ◌≤◌, ◌^◌, map, option_map, vec_len};
-ghost use Rattle.irig_ed.specs.Ending.{EditsBy, EndsBy, Obeys, ends};
+ghost use Rattle.irig_ed.specs.Ending.{RunsBy, EndsBy, Obeys, ends};
 
 use crate::command_line::chosen::Settings;
 use crate::command_line::command_line::settings;
 use crate::ending::Ending;
 use crate::files::disk::Disk;
 use crate::files::file_shelf::FileShelf;
-use irig_script::{EditFault, Status, run_on_dump};
+use irig_script::{DumpRunFault, Status, run_on_dump};
 use std::alloc::Global;
 use std::io::{Read, Write};
 
@@ -47,7 +47,7 @@ fn run_on_track<'a, D: Disk, R: Read, W: Write>(
     match disk.read(chosen.track) {
         Ok(source) => {
             let result = run_on_bytes(alloc, chosen, source, disk, script, out);
-            Ending::Edited(chosen.track, result)
+            Ending::Ran(chosen.track, result)
         }
         Err(fault) => Ending::Unread(chosen.track, fault),
     }
@@ -61,9 +61,9 @@ fn run_on_bytes<D: Disk, R: Read, W: Write>(
     disk: &mut D,
     script: &mut R,
     out: &mut W,
-) -> Result<Status, EditFault>
+) -> Result<Status, DumpRunFault>
     requires { vec_len source ≤ 2 ^ 28 }
-    ensures { EditsBy chosen.now source.items
+    ensures { RunsBy chosen.now source.items
         (ends (W.contents out.old) (D.puts disk.old) (R.remaining script.old))
         (ends (W.contents out.new) (D.puts disk.new) (R.remaining script.new)) result }
 {

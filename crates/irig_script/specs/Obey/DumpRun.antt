@@ -7,24 +7,24 @@ use Rattle.irig_script.specs.Obey.Desk.{Desk}
 use Rattle.irig_script.specs.Obey.Ending.{EndsAs}
 use Rattle.irig_script.specs.declared.obey.status.Status.{Status}
 use Rattle.irig_script.specs.declared.obey.status.RunFault.{RunFault}
-use Rattle.irig_script.specs.declared.obey.editing.EditFault.{EditFault}
-use Rattle.irig_script.specs.declared.obey.editing.EditFault.TheVariants.{Dump, Run}
+use Rattle.irig_script.specs.declared.obey.dump_run.DumpRunFault.{DumpRunFault}
+use Rattle.irig_script.specs.declared.obey.dump_run.DumpRunFault.TheVariants.{Dump, Run}
 
 -- the dump was opened, with its journal where it has one and in this format where it has none, and
 -- the script was obeyed from there on, until the run ended
-pub record Edited (wire : Option (List ℕ)) (chosen : FormatView) (source : List ℕ)
+pub record RanOnDump (wire : Option (List ℕ)) (chosen : FormatView) (source : List ℕ)
     (script left : Option (List ℕ)) (from to : Desk) (result : Result Status RunFault) : Type 0 where
   pub first : Machine
   pub last : Machine
   pub opened : IsOpened wire source chosen first
   pub ran : EndsAs script left from to first last result
 
--- the dump was not opened, and nothing was printed, put or read of the script; or it was edited
-abbrev pub EditsAs : Option (List ℕ) → FormatView → List ℕ → Option (List ℕ) → Option (List ℕ)
-    → Desk → Desk → Result Status EditFault → Type 0
-EditsAs wire chosen source script left from to (Err (Dump fault)) =
+-- the dump was not opened, and nothing was printed, put or read of the script; or it ran
+abbrev pub RunsOnDump : Option (List ℕ) → FormatView → List ℕ → Option (List ℕ) → Option (List ℕ)
+    → Desk → Desk → Result Status DumpRunFault → Type 0
+RunsOnDump wire chosen source script left from to (Err (Dump fault)) =
     IsUnopened wire source fault × (to ≡ from) × (left ≡ script)
-EditsAs wire chosen source script left from to (Err (Run fault)) =
-    Edited wire chosen source script left from to (Err fault)
-EditsAs wire chosen source script left from to (Ok status) =
-    Edited wire chosen source script left from to (Ok status)
+RunsOnDump wire chosen source script left from to (Err (Run fault)) =
+    RanOnDump wire chosen source script left from to (Err fault)
+RunsOnDump wire chosen source script left from to (Ok status) =
+    RanOnDump wire chosen source script left from to (Ok status)
