@@ -1,6 +1,6 @@
 //! What people call kinds of time code and classes of pulses.
 
-ghost use Rattle.std.specs.Prelude.{◌≡◌, ◌≤◌, MatchOption, Some, length};
+ghost use Rattle.std.specs.Prelude.{◌≡◌, ◌≤◌, MatchOption, Some, length, drop};
 ghost use Rattle.std.specs.Str.{bytes_eq};
 ghost use Rattle.irig_codes.specs.Words.{class_word, element_named, element_word, kind_named, kind_word};
 ghost use Rattle.irig_codes.specs.declared.format.Kind.{Kind};
@@ -48,16 +48,17 @@ fn is_kind(word: &[u8], kind: Kind) -> bool
     word == kind_word(kind).as_bytes()
 }
 
-/// The word of what a pulse stands for: of its element, or `bad` where its width stands for none.
-pub fn class_word(class: Option<Element>) -> &'static str
-    ensures word { result.now ≡ class_word class }
-    ensures short { length result.now ≤ 8 }
+/// The word of what a pulse stands for, of its element, or `bad` where its width stands for none: eight
+/// bytes that end with it, and where in them it begins. So a line is written with one copy of a known length.
+pub fn class_word(class: Option<Element>) -> ([u8; 8], usize)
+    ensures word { drop result.1 result.0 ≡ class_word class }
+    ensures short { result.1 ≤ 8 }
 {
     match class {
-        None => "bad",
-        Some(Element::Zero) => "zero",
-        Some(Element::One) => "one",
-        Some(Element::Position) => "position",
+        None => (*b"     bad", 5),
+        Some(Element::Zero) => (*b"    zero", 4),
+        Some(Element::One) => (*b"     one", 5),
+        Some(Element::Position) => (*b"position", 0),
     }
 }
 
@@ -82,5 +83,6 @@ pub fn element_named(word: &[u8]) -> Option<Element>
 fn is_element(word: &[u8], element: Element) -> bool
     ensures { result ≡ bytes_eq word.now (element_word element) }
 {
-    word == class_word(Some(element)).as_bytes()
+    let (letters, start) = class_word(Some(element));
+    word == &letters[start..]
 }

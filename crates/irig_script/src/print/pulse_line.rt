@@ -5,7 +5,7 @@ ghost use Rattle.irig_codes.specs.Words.{class_word};
 ghost use Rattle.irig_script.specs.Print.Listings.{pulse_line};
 
 use crate::print::backwards::{write_number, write_text};
-use irig_codes::{Element, Format, class};
+use irig_codes::{Element, Format, class, class_word};
 use irig_track::Pulse;
 
 /// The most bytes of the line: three numbers of 20 digits, each with a space, and a word of 8
@@ -36,10 +36,7 @@ fn write_class(bytes: &mut [u8], end: usize, class: Option<Element>) -> usize
     ensures written { drop result bytes.new
         ≡ class_word class ++ 10 ∷ drop end bytes.old }
 {
-    match class {
-        None => write_text(bytes, end, b"bad\n"),
-        Some(Element::Zero) => write_text(bytes, end, b"zero\n"),
-        Some(Element::One) => write_text(bytes, end, b"one\n"),
-        Some(Element::Position) => write_text(bytes, end, b"position\n"),
-    }
+    let (letters, start) = class_word(class);
+    bytes[end - 1] = b'\n';
+    write_text(bytes, end - 1, &letters) + start
 }
