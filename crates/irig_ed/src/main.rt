@@ -2,16 +2,16 @@
 #![tactic(auto)]
 
 mod command_line;
-mod file_run;
 mod ending;
+mod file_run;
 mod files;
 mod statuses;
 
 ghost use Rattle.std.specs.Prelude.{◌≡◌, IfOk, map, string_bytes};
 
 use command_line::command_line::not_text;
-use file_run::obey_words;
 use ending::Ending;
+use file_run::obey_words;
 use files::system::System;
 use statuses::{explain, report, tell};
 use std::alloc::{AllocError, Global};

@@ -11,6 +11,7 @@ mod law;
 mod marks;
 mod naming;
 mod opening;
+mod parts;
 mod present;
 mod refusal;
 mod room;
@@ -21,8 +22,6 @@ mod single;
 mod singles;
 mod splice;
 mod taking;
-#[cfg(test)]
-mod tests;
 mod trial;
 mod turn;
 mod turns;

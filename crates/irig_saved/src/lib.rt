@@ -16,8 +16,6 @@ mod singles;
 mod step;
 mod steps;
 mod stop;
-#[cfg(test)]
-mod tests;
 mod word_writer;
 mod words;
 mod writer;

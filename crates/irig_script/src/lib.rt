@@ -6,8 +6,6 @@ mod obey;
 mod print;
 mod script;
 mod shelf;
-#[cfg(test)]
-mod tests;
 
 pub use law::{lines_ask_for_one_command, scripts_have_one_run};
 pub use obey::dump_run::{DumpRunFault, run_on_dump};

@@ -20,7 +20,6 @@ pub mod JournalWords
 pub mod JournalPlaces
 pub mod Levels
 pub mod PulseSteps
-pub mod PlainLemmas
 pub mod Lawful
 pub mod LevelLaw
 pub mod RecordingLemmas

@@ -9,15 +9,11 @@ mod journals;
 mod kept_pulse;
 mod lanes;
 mod law;
-#[cfg(test)]
-mod plain;
 mod pulses;
 mod reader;
 mod recording;
 mod section;
 mod short;
-#[cfg(test)]
-mod tests;
 mod time;
 mod timescale;
 mod token;

@@ -10,7 +10,7 @@ returns-clause-written c =
     let short : start ≤ length letters = search rules in
     let inside : c.args.end - 1 + 1 ≡ c.args.end = omega (arith, c.requires.0) in
     let newline : drop (c.args.end - 1) (slice_set c.args.bytes.now (c.args.end - 1) 10) ≡ behind =
-        drop-set c.args.bytes.now (c.args.end - 1) 10 (omega (arith, c.requires.0, c.requires.1)) ∙ ap (λ k. 10 ∷ drop k c.args.bytes.now) inside in
+    drop-set c.args.bytes.now (c.args.end - 1) 10 (omega (arith, c.requires.0, c.requires.1)) ∙ ap (λ k. 10 ∷ drop k c.args.bytes.now) inside in
     let line : drop c.write_text.result c.write_text.new.bytes ≡ letters ++ behind = c.write_text.ensures.written ∙ ap (λ rest. letters ++ rest) newline in
     sym (drop-drop start c.write_text.result c.write_text.new.bytes)
     ∙ ap (drop start) line

@@ -1,0 +1,2 @@
+-- The level of a dump, a change at a time.
+pub mod PlainLemmas

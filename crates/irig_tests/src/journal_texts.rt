@@ -1,0 +1,200 @@
+//! The worked journal, a track of two pulses of which the first was deleted and a mark was set and
+//! taken back; and texts at fault.
+
+ghost use Rattle.std.specs.Prelude.{◌<◌, ◌^◌, length};
+
+use irig_codes::Kind;
+use irig_saved::{
+    Change, Fault, Single, Step, parse, put_at, put_cursor, put_format, put_future, put_group,
+    put_marks, put_name, put_past, put_pulse, put_set_format, put_set_mark, put_shift, put_splice,
+    put_toggle,
+};
+use irig_track::Pulse;
+use std::alloc::{AllocError, Global};
+use std::process::Abort;
+
+const WORKED: &[u8] =
+    b"irig-journal-1\nformat G 2\ncursor 1\npast 1\nat 2\nsplice 1 0 1\n100 120\nfuture 1\nat 1\nsetmark a 110\n";
+
+/// The number of the line at fault; 0 where there is none.
+fn fault(alloc: Global, text: &[u8]) -> usize
+    requires { length text.now < 2 ^ 63 }
+{
+    match parse(alloc, text) {
+        Ok(_) => 0,
+        Err(Fault::Line(line)) => line,
+        Err(Fault::Memory) => 1000,
+    }
+}
+
+/// Each text has its fault at the line of its row.
+fn check(rt: &impl Abort, alloc: Global, rows: &[(&[u8], usize)]) {
+    for (text, line) in rows {
+        assert!(rt; text.len() < 1 << 20);
+        assert_eq!(rt; fault(alloc, text), *line);
+    }
+}
+
+#[test]
+fn the_first_line_at_fault_at_the_head_is_told(rt: HostRuntime) {
+    check(
+        &rt,
+        rt.alloc(),
+        &[
+            (b"", 1),
+            (b"irig-journal-1", 1),
+            (b"irig-journal-1 \n", 1),
+            (b"irig-journal-1\r\n", 1),
+            (b"irig-journal-1\nformat C 2\n", 2),
+            (b"irig-journal-1\nformat G 02\n", 2),
+            (b"irig-journal-1\nformat G 8\n", 2),
+            (b"irig-journal-1\nformat G 2\ncursor +1\n", 3),
+            (
+                b"irig-journal-1\nformat G 2\ncursor 18446744073709551616\n",
+                3,
+            ),
+            (
+                b"irig-journal-1\nformat G 2\ncursor 1\nmark b 1\nmark a 1\npast 0\nfuture 0\n",
+                5,
+            ),
+            (
+                b"irig-journal-1\nformat G 2\ncursor 1\nmark b 1\nmark b 1\npast 0\nfuture 0\n",
+                5,
+            ),
+        ],
+    );
+}
+
+#[test]
+fn the_first_line_at_fault_in_a_step_is_told(rt: HostRuntime) {
+    check(
+        &rt,
+        rt.alloc(),
+        &[
+            (
+                b"irig-journal-1\nformat G 2\ncursor 1\npast 18446744073709551615\n",
+                5,
+            ),
+            (
+                b"irig-journal-1\nformat G 2\ncursor 1\npast 1\nat 0\nshift 1 1 -0 -\n",
+                6,
+            ),
+            (
+                b"irig-journal-1\nformat G 2\ncursor 1\npast 1\nat 0\nshift 1 1 9223372036854775808 -\n",
+                6,
+            ),
+            (
+                b"irig-journal-1\nformat G 2\ncursor 1\npast 1\nat 0\nshift 1 1 1 ba\n",
+                6,
+            ),
+            (
+                b"irig-journal-1\nformat G 2\ncursor 1\npast 1\nat 0\ngroup 1\ngroup 0\n",
+                7,
+            ),
+            (
+                b"irig-journal-1\nformat G 2\ncursor 1\npast 1\nat 2\nsplice 1 0 1\n100 120\nfuture 1\nat 1\nsetmark a 0110\n",
+                10,
+            ),
+            (
+                b"irig-journal-1\nformat G 2\ncursor 1\npast 1\nat 2\nsplice 1 0 1\n100 120\nfuture 2\nat 1\nsetmark a 110\n",
+                11,
+            ),
+            (b"irig-journal-1\nformat G 2\ncursor 1\npast 0\nfuture 0", 5),
+            (
+                b"irig-journal-1\nformat G 2\ncursor 1\npast 0\nfuture 0\n\n",
+                6,
+            ),
+            (
+                b"irig-journal-1\nformat G 2\ncursor 1\npast 0\nfuture 0\n  ",
+                6,
+            ),
+            (
+                b"irig-journal-1\nformat A 7\ncursor 0\nmark a 0\nmark z 5\npast 2\nat 0\ngroup 0\nat 5\ngroup 2\nshift 1 2 -20 az\nsetmark c -\nfuture 1\nat 0\nshift 0 0 0 -\n",
+                0,
+            ),
+        ],
+    );
+}
+
+/// Whether a step leads to the second pulse and puts the one that was deleted.
+fn is_splice(step: Step) -> bool {
+    let Step { cursor, change } = step;
+    let Change::One(Single::Splice { at, count, put }) = change else {
+        return false;
+    };
+    cursor == 2
+        && at == 1
+        && count == 0
+        && put.len() == 1
+        && put.get(0)
+            == Pulse {
+                rise: 100,
+                fall: 120,
+            }
+}
+
+/// Whether a step leads to the first pulse and sets the mark a.
+fn is_mark(step: &Step) -> bool {
+    let Change::One(Single::SetMark { letter, time }) = &step.change else {
+        return false;
+    };
+    step.cursor == 1 && letter.place() == 0 && *time == Some(110)
+}
+
+#[test]
+fn the_worked_journal_is_read(rt: HostRuntime) {
+    let mut saved = parse(rt.alloc(), WORKED).expect(&rt, "read");
+    assert!(rt; saved.kind == Kind::G && saved.expression == 2 && saved.cursor == 1);
+    assert!(rt; saved.marks == [None; 26]);
+    assert!(rt; saved.past.pop().is_some_and(is_splice));
+    let future = saved.future.as_slice();
+    assert!(rt; future.len() == 1 && is_mark(&future[0]));
+}
+
+/// The lines of the worked journal before its steps.
+fn put_head(text: &mut Vec<u8>) -> Result<(), AllocError> {
+    put_name(text)?;
+    put_format(text, Kind::G, 2)?;
+    put_cursor(text, 1)?;
+    put_marks(text, &[None; 26])
+}
+
+/// The lines of its steps.
+fn put_steps(text: &mut Vec<u8>) -> Result<(), AllocError> {
+    put_past(text, 1)?;
+    put_at(text, 2)?;
+    put_splice(text, 1, 0, 1)?;
+    put_pulse(
+        text,
+        Pulse {
+            rise: 100,
+            fall: 120,
+        },
+    )?;
+    put_future(text, 1)?;
+    put_at(text, 1)?;
+    put_set_mark(text, 0, Some(110))
+}
+
+/// A group of changes of other kinds.
+fn put_changes(text: &mut Vec<u8>) -> Result<(), AllocError> {
+    let mut marks = [false; 26];
+    marks[0] = true;
+    marks[25] = true;
+    put_group(text, 3)?;
+    put_shift(text, 1, 2, -20, &marks)?;
+    put_toggle(text, 5, 6)?;
+    put_set_format(text, Kind::E, 1)
+}
+
+#[test]
+fn the_lines_are_written(rt: HostRuntime) {
+    let mut text = Vec::new(rt.alloc());
+    assert!(rt; put_head(&mut text).is_ok() && put_steps(&mut text).is_ok());
+    assert!(rt; text.as_slice() == WORKED);
+    let mut text = Vec::new(rt.alloc());
+    assert!(rt; put_changes(&mut text).is_ok());
+    assert!(rt;
+        text.as_slice() == b"group 3\nshift 1 2 -20 az\ntoggle 5 6\nsetformat E 1\n".as_slice()
+    );
+}

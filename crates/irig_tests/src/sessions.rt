@@ -1,0 +1,17 @@
+//! The plain machine of whole states beside a session, and rows of what a session holds and looks
+//! at.
+
+mod beside;
+mod grouping;
+mod held;
+mod helpers;
+mod leaving;
+mod looks;
+mod machine;
+mod opening;
+mod plain;
+mod refusing;
+mod saving;
+mod small;
+mod telling;
+mod walks;
