@@ -2,7 +2,8 @@
 use Rattle.std.proofs.Common.{◌≡◌, ◌<◌, ◌+◌, ◌-◌, ◌/◌, ◌%◌, ◌^◌, ◌∷◌, ◌++◌, [], ℕ, suc, List, eq-zero-or-pos, inl, inr, get_or, length, length-append, set, decimal, ap, sym, ◌∙◌, arith, append_assoc}
 use Rattle.std.proofs.Math.Seq.{get_or-append_seam, set-append_seam}
 use Rattle.std.proofs.lemmas.Fmt.{decimal_digit, decimal_step}
-use Rattle.irig_vcd.specs.Code.KeptPulse.{front, pulse_parts}
+use Rattle.irig_vcd.specs.Code.KeptPulse.{HoldsPulse, front, pulse_parts}
+use Rattle.irig_vcd.specs.declared.kept_pulse.KeptPulse.{KeptPulse}
 
 -- a front by its last digit, which may count up by one
 record ByLast (k : ℕ) : Type 0 where
@@ -49,15 +50,16 @@ fall_set q rise rest a b u i at =
     ∙ (ap (λ n. set (p ++ (b ∷ rest)) n u) (sym long) ∙ (set-append_seam p b rest u ∙ sym (apart (u ∷ rest))))
 
 -- the digit in front of the last four of a rise
-pub digit_at : (k i : ℕ) (rise fall pad : List ℕ) → k + 1 < 2 ^ 64 → length (front k) ≡ i + 1 → get_or (pulse_parts k rise fall pad) i 0 ≡ 48 + k % 10
-digit_at k i rise fall pad few at =
-    let h = by_last k few in
+pub kept_digit : (p : KeptPulse) → HoldsPulse p → p.base + 10000 < 2 ^ 64 → get_or p.bytes (p.long - 9) 0 ≡ 48 + p.base / 10000 % 10
+kept_digit p kept few =
+    let k = p.base / 10000 in
+    let h = by_last k (omega arith) in
     let d = 48 + k % 10 in
-    let rest = fall ++ (10 ∷ 48 ∷ 33 ∷ 10 ∷ pad) in
-    let place : length h.same ≡ i = omega (arith, ap length h.now ∙ length-append h.same (d ∷ []), at) in
-    ap (λ (l : List ℕ). get_or l i 0) (parts_by_digit k d h.same rise fall pad h.now)
-    ∙ (ap (λ n. get_or (digits_apart h.same d d rise rest) n 0) (sym place)
-    ∙ get_or-append_seam h.same d (rise ++ (10 ∷ 49 ∷ 33 ∷ 10 ∷ (h.same ++ (d ∷ rest)))) 0)
+    let rest = kept.fall ++ (10 ∷ 48 ∷ 33 ∷ 10 ∷ kept.pad) in
+    let place : length h.same ≡ p.long - 9 = omega (arith, ap length h.now ∙ length-append h.same (d ∷ []), kept.fits) in
+    ap (λ (l : List ℕ). get_or l (p.long - 9) 0) (kept.is ∙ parts_by_digit k d h.same kept.rise kept.fall kept.pad h.now)
+    ∙ (ap (λ n. get_or (digits_apart h.same d d kept.rise rest) n 0) (sym place)
+    ∙ get_or-append_seam h.same d (kept.rise ++ (10 ∷ 49 ∷ 33 ∷ 10 ∷ (h.same ++ (d ∷ rest)))) 0)
 
 -- both edges' lines with one more in front of the last four digits
 pub counted_up : (k i j : ℕ) (rise fall pad : List ℕ) → k + 1 < 2 ^ 64 → k % 10 < 9 → length rise ≡ 4 → length (front k) ≡ i + 1 → j ≡ i + i + 9

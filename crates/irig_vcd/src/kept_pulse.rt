@@ -1,6 +1,6 @@
 //! The lines of a pulse, kept for the next one.
 
-ghost use Rattle.std.specs.Prelude.{◌≡◌, ◌≤◌, ◌<◌, ◌+◌, ◌-◌, ◌/◌, ◌%◌, ◌^◌, ◌++◌, ◌∷◌, true, false, OnOk};
+ghost use Rattle.std.specs.Prelude.{◌≡◌, ◌↔◌, ◌≤◌, ◌<◌, ◌+◌, ◌-◌, ◌/◌, ◌%◌, ◌^◌, ◌++◌, ◌∷◌, true, false, OnOk};
 ghost use Rattle.std.specs.Prelude.{length, take, drop};
 ghost use Rattle.irig_vcd.specs.Code.KeptPulse.{HoldsPulse, IsNear, last_four};
 ghost use Rattle.irig_vcd.specs.FileText.{EndsLines, lines_at};
@@ -44,7 +44,7 @@ impl KeptPulse {
     pub fn comes_near(&mut self, rise: u64, fall: u64) -> bool
         requires holds { HoldsPulse self.old }
         ensures holds { HoldsPulse self.new }
-        ensures near { result ≡ true → IsNear self.new rise × IsNear self.new fall }
+        ensures near { result ≡ true ↔ IsNear self.new rise × IsNear self.new fall }
     {
         self.catches_up(rise) && self.is_near(fall)
     }
@@ -90,7 +90,7 @@ impl KeptPulse {
     /// Whether a time, in microseconds, has the digits that are kept.
     #[inline(always)]
     fn is_near(&self, time: u64) -> bool
-        ensures { result ≡ true → IsNear self.now time }
+        ensures { result ≡ true ↔ IsNear self.now time }
     {
         self.base <= time && time - self.base < 10000
     }
@@ -101,7 +101,7 @@ impl KeptPulse {
     fn catches_up(&mut self, time: u64) -> bool
         requires holds { HoldsPulse self.old }
         ensures holds { HoldsPulse self.new }
-        ensures near { result ≡ true → IsNear self.new time }
+        ensures near { result ≡ true ↔ IsNear self.new time }
     {
         if time < self.base {
             return false;
@@ -119,7 +119,9 @@ impl KeptPulse {
         requires holds { HoldsPulse self.old }
         requires few { self.old.base + 10000 < 2 ^ 64 }
         ensures holds { HoldsPulse self.new }
-        ensures base { result ≡ true → self.new.base ≡ self.old.base + 10000 }
+        ensures told { result ≡ true ↔ self.old.base / 10000 % 10 < 9 }
+        ensures up { result ≡ true → self.new.base ≡ self.old.base + 10000 }
+        ensures stays { result ≡ false → self.new ≡ self.old }
     {
         let place = self.long - 9;
         let digit = self.bytes[place];

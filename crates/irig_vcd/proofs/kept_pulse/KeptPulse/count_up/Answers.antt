@@ -1,6 +1,6 @@
-use Rattle.std.proofs.Common.{◌≡◌, ◌<◌, ◌+◌, ◌-◌, ◌/◌, ◌%◌, ◌^◌, ◌∙◌, ℕ, List, get_or, set, length, ap, arith}
+use Rattle.std.proofs.Common.{◌≡◌, ◌<◌, ◌+◌, ◌-◌, ◌/◌, ◌%◌, ◌^◌, ◌∙◌, ℕ, List, true≢false, sym, set, length, refl, ap, arith}
 use Rattle.irig_vcd.specs.Code.KeptPulse.{front}
-use Rattle.irig_vcd.proofs.CountedUp.{digit_at, counted_up, front_as_long}
+use Rattle.irig_vcd.proofs.CountedUp.{kept_digit, counted_up, front_as_long}
 use Rattle.irig_vcd.proofs.kept_pulse.KeptPulse.count_up.Goals as goal
 
 pub returns-clause-holds : goal.returns-clause-holds
@@ -11,7 +11,7 @@ returns-clause-holds c =
     let i = p.long - 9 in
     let few : k + 1 < 2 ^ 64 = omega (arith, c.requires.few) in
     let at : length (front k) ≡ i + 1 = omega (arith, h.fits) in
-    let digit : get_or p.bytes i 0 ≡ 48 + k % 10 = ap (λ (l : List ℕ). get_or l i 0) h.is ∙ digit_at k i h.rise h.fall h.pad few at in
+    let digit = kept_digit p h c.requires.few in
     let low : k % 10 < 9 = omega (arith, c.if-digit-ge57.false, digit) in
     let next : (p.base + 10000) / 10000 ≡ k + 1 = omega arith in
     record {
@@ -26,3 +26,10 @@ returns-clause-holds c =
       whole = omega (arith, h.whole);
       some = omega (arith, h.some);
     }
+
+pub returns-then-digit-ge57-clause-told : goal.returns-then-digit-ge57-clause-told
+returns-then-digit-ge57-clause-told c =
+    (λ e. absurd (true≢false (sym e)), λ low. absurd (omega (arith, low, c.if-digit-ge57.true, kept_digit c.args.self.now c.requires.holds c.requires.few)))
+
+pub returns-clause-told : goal.returns-clause-told
+returns-clause-told c = (λ _. omega (arith, c.if-digit-ge57.false, kept_digit c.args.self.now c.requires.holds c.requires.few), λ _. refl)
