@@ -13,6 +13,7 @@ pub mod Tables
 -- the elements that are One, as the bits of a number
 pub mod Bits
 pub mod DigitBounds
+pub mod Masks
 pub mod OnesLemmas
 pub mod OnesSteps
 pub mod Strays

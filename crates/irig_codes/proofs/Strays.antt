@@ -1,36 +1,21 @@
 -- The elements that carry a bit, as a mask, and the first that is One outside it.
-use Rattle.std.proofs.Common.{◌≡◌, ℕ, zero, suc, ◌+◌, ◌-◌, ◌*◌, ◌/◌, ◌^◌, ◌<◌, ◌==◌, Bool, true, false, cond, List, [], ◌∷◌, get_or, length, Option, Some, None, refl, sym, ap, ◌∙◌, arith, bit_and}
+use Rattle.std.proofs.Common.{◌≡◌, ℕ, zero, suc, ◌+◌, ◌-◌, ◌*◌, ◌/◌, ◌^◌, ◌<◌, Bool, true, false, cond, List, [], ◌∷◌, get_or, length, Option, Some, None, refl, sym, ap, ◌∙◌, arith, bit_and}
 use Rattle.std.specs.Int.{bit_at, bit_not, trailing_zeros, w128}
 use Rattle.std.specs.Prelude.{min}
 use Rattle.std.proofs.lemmas.Nat.{and_le_r}
 use Rattle.std.proofs.lemmas.Nat.Bits.{bit_at-suc, bit_at-zero, bit_at-lt, bit_at_and, bit_at_not, bit_at-trailing_zeros}
-use Rattle.std.proofs.lemmas.Bool.{eqb-true}
-use Rattle.irig_codes.specs.Format.{FormatView, has_control, has_sbs, has_year, carries_sbs}
+use Rattle.irig_codes.specs.Format.{FormatView, has_control, has_sbs, has_year}
 use Rattle.irig_codes.specs.Ones.{ones_of, IsLowestOutside}
-use Rattle.irig_codes.specs.Used.{used_of, time_used, year_used, sbs_used, control_used}
+use Rattle.irig_codes.specs.Used.{used_of}
 use Rattle.irig_codes.specs.Reading.{counts, is_one}
-use Rattle.irig_codes.specs.Slots.{slots_of, slots_at}
+use Rattle.irig_codes.specs.Slots.{slots_at}
 use Rattle.irig_codes.specs.Wrong.{is_stray_at, stray_from}
-use Rattle.irig_codes.proofs.Shapes.{from-all}
 use Rattle.irig_codes.proofs.Slots.{length-slots}
-use Rattle.irig_codes.specs.declared.format.Kind.{Kind}
 use Rattle.irig_codes.specs.declared.layout.Slot.{Slot}
 use Rattle.irig_codes.specs.declared.layout.Slot.TheVariants.{Identifier, Unused, Bit}
 use Rattle.irig_codes.specs.declared.width.Element.{Element}
 use Rattle.irig_codes.specs.declared.width.Element.TheVariants.{Zero, One, Position}
-use Rattle.irig_codes.proofs.OnesLemmas.{bit-ones, carried, carried-sbs}
-
--- the mask of a format
-pub used-whole : (f : FormatView) → time_used f.kind + year_used f.kind (has_year f.expression) + sbs_used (carries_sbs f.kind f.expression) + control_used f.kind (has_control f.expression) (has_year f.expression) ≡ used_of (slots_at f)
-unfolding slots_of
-used-whole f =
-    ap (λ b. time_used f.kind + year_used f.kind (has_year f.expression) + sbs_used b + control_used f.kind (has_control f.expression) (has_year f.expression)) (sym (carried-sbs f.kind f.expression))
-    ∙ eqb-true _ _ (from-all (λ k c s y. time_used k + year_used k y + sbs_used (carried k s) + control_used k c y == used_of (slots_of k c s y)) refl f.kind (has_control f.expression) (has_sbs f.expression) (has_year f.expression))
-
-pub used-parts : (f : FormatView) (k : Kind) (c s y : Bool) (a b d e : ℕ) → k ≡ f.kind → c ≡ has_control f.expression → s ≡ carries_sbs f.kind f.expression → y ≡ has_year f.expression →
-    a ≡ time_used k → b ≡ year_used k y → d ≡ sbs_used s → e ≡ control_used k c y →
-    a + b + d + e ≡ used_of (slots_at f)
-used-parts f k c s y a b d e kind has there year p q r t = rw (p, q, r, t, there, has, year, kind) (used-whole f)
+use Rattle.irig_codes.proofs.OnesLemmas.{bit-ones}
 
 -- whether a slot carries a bit
 abbrev is_bit : Slot → Bool

@@ -1,66 +1,99 @@
-//! The elements of a frame that carry a bit, as masks: ten elements a group, the last group first.
+//! The elements of a format that carry a bit, as masks: by kind and expression.
 
-ghost use Rattle.std.specs.Prelude.{◌≡◌, ◌<◌, ◌^◌};
-ghost use Rattle.irig_codes.specs.Used.{used_of, time_used, year_used, sbs_used, control_used};
+ghost use Rattle.std.specs.Prelude.{◌≡◌};
 ghost use Rattle.irig_codes.specs.Slots.{slots_at};
+ghost use Rattle.irig_codes.specs.Used.{masks_of, used_of};
 
 use crate::format::{Format, Kind};
 
-/// The elements of the time of year.
-fn time(kind: Kind) -> u128
-    ensures value { result ≡ time_used kind }
-    ensures bound { result < 2 ^ 100 }
+// The elements of a part that carry a bit: the first of its ten is the lowest bit.
+const NONE: u128 = 0b0000000000;
+
+const SECONDS: u128 = 0b0111011110;
+
+const TENS_OF_SECONDS: u128 = 0b0111000000;
+
+const MINUTES: u128 = 0b0011101111;
+
+const HOURS: u128 = 0b0001101111;
+
+const DAYS: u128 = 0b0111101111;
+
+const HUNDREDS: u128 = 0b0000000011;
+
+const HUNDREDS_AND_TENTHS: u128 = 0b0111100011;
+
+const HUNDREDTHS: u128 = 0b0000001111;
+
+const YEAR: u128 = 0b0111101111;
+
+const CONTROL: u128 = 0b0111111111;
+
+const LOW_SBS: u128 = 0b0111111111;
+
+const HIGH_SBS: u128 = 0b0011111111;
+
+// The mask of a frame by its parts, the first part first.
+macro_rules! row {
+    () => { 0 };
+    ($part:ident $($later:ident)*) => { $part + 1024 * row![$($later)*] };
+}
+
+// The masks of expressions 0 to 7. E and G have one for each, too: those of expressions that they do
+// not permit are never asked for.
+static A: [u128; 8] = [
+    row![SECONDS MINUTES HOURS DAYS HUNDREDS_AND_TENTHS CONTROL CONTROL CONTROL LOW_SBS HIGH_SBS],
+    row![SECONDS MINUTES HOURS DAYS HUNDREDS_AND_TENTHS CONTROL CONTROL CONTROL NONE NONE],
+    row![SECONDS MINUTES HOURS DAYS HUNDREDS_AND_TENTHS NONE NONE NONE NONE NONE],
+    row![SECONDS MINUTES HOURS DAYS HUNDREDS_AND_TENTHS NONE NONE NONE LOW_SBS HIGH_SBS],
+    row![SECONDS MINUTES HOURS DAYS HUNDREDS_AND_TENTHS YEAR CONTROL CONTROL LOW_SBS HIGH_SBS],
+    row![SECONDS MINUTES HOURS DAYS HUNDREDS_AND_TENTHS YEAR CONTROL CONTROL NONE NONE],
+    row![SECONDS MINUTES HOURS DAYS HUNDREDS_AND_TENTHS YEAR NONE NONE NONE NONE],
+    row![SECONDS MINUTES HOURS DAYS HUNDREDS_AND_TENTHS YEAR NONE NONE LOW_SBS HIGH_SBS],
+];
+
+static B: [u128; 8] = [
+    row![SECONDS MINUTES HOURS DAYS HUNDREDS CONTROL CONTROL CONTROL LOW_SBS HIGH_SBS],
+    row![SECONDS MINUTES HOURS DAYS HUNDREDS CONTROL CONTROL CONTROL NONE NONE],
+    row![SECONDS MINUTES HOURS DAYS HUNDREDS NONE NONE NONE NONE NONE],
+    row![SECONDS MINUTES HOURS DAYS HUNDREDS NONE NONE NONE LOW_SBS HIGH_SBS],
+    row![SECONDS MINUTES HOURS DAYS HUNDREDS YEAR CONTROL CONTROL LOW_SBS HIGH_SBS],
+    row![SECONDS MINUTES HOURS DAYS HUNDREDS YEAR CONTROL CONTROL NONE NONE],
+    row![SECONDS MINUTES HOURS DAYS HUNDREDS YEAR NONE NONE NONE NONE],
+    row![SECONDS MINUTES HOURS DAYS HUNDREDS YEAR NONE NONE LOW_SBS HIGH_SBS],
+];
+
+static E: [u128; 8] = [
+    row![TENS_OF_SECONDS MINUTES HOURS DAYS HUNDREDS CONTROL CONTROL CONTROL CONTROL CONTROL],
+    row![TENS_OF_SECONDS MINUTES HOURS DAYS HUNDREDS CONTROL CONTROL CONTROL CONTROL CONTROL],
+    row![TENS_OF_SECONDS MINUTES HOURS DAYS HUNDREDS NONE NONE NONE NONE NONE],
+    row![TENS_OF_SECONDS MINUTES HOURS DAYS HUNDREDS NONE NONE NONE NONE NONE],
+    row![TENS_OF_SECONDS MINUTES HOURS DAYS HUNDREDS YEAR CONTROL CONTROL CONTROL CONTROL],
+    row![TENS_OF_SECONDS MINUTES HOURS DAYS HUNDREDS YEAR CONTROL CONTROL CONTROL CONTROL],
+    row![TENS_OF_SECONDS MINUTES HOURS DAYS HUNDREDS YEAR NONE NONE NONE NONE],
+    row![TENS_OF_SECONDS MINUTES HOURS DAYS HUNDREDS YEAR NONE NONE NONE NONE],
+];
+
+static G: [u128; 8] = [
+    row![SECONDS MINUTES HOURS DAYS HUNDREDS_AND_TENTHS HUNDREDTHS CONTROL CONTROL CONTROL CONTROL],
+    row![SECONDS MINUTES HOURS DAYS HUNDREDS_AND_TENTHS HUNDREDTHS CONTROL CONTROL CONTROL CONTROL],
+    row![SECONDS MINUTES HOURS DAYS HUNDREDS_AND_TENTHS HUNDREDTHS NONE NONE NONE NONE],
+    row![SECONDS MINUTES HOURS DAYS HUNDREDS_AND_TENTHS HUNDREDTHS NONE NONE NONE NONE],
+    row![SECONDS MINUTES HOURS DAYS HUNDREDS_AND_TENTHS HUNDREDTHS YEAR CONTROL CONTROL CONTROL],
+    row![SECONDS MINUTES HOURS DAYS HUNDREDS_AND_TENTHS HUNDREDTHS YEAR CONTROL CONTROL CONTROL],
+    row![SECONDS MINUTES HOURS DAYS HUNDREDS_AND_TENTHS HUNDREDTHS YEAR NONE NONE NONE],
+    row![SECONDS MINUTES HOURS DAYS HUNDREDS_AND_TENTHS HUNDREDTHS YEAR NONE NONE NONE],
+];
+
+/// The masks of the eight expressions.
+fn masks(kind: Kind) -> &'static [u128; 8]
+    ensures { result.now ≡ masks_of kind }
 {
     match kind {
-        Kind::A => 0b0111100011_0111101111_0001101111_0011101111_0111011110,
-        Kind::B => 0b0000000011_0111101111_0001101111_0011101111_0111011110,
-        Kind::E => 0b0000000011_0111101111_0001101111_0011101111_0111000000,
-        Kind::G => 0b0000001111_0111100011_0111101111_0001101111_0011101111_0111011110,
-    }
-}
-
-/// The elements of the year, where the expression has one.
-fn year(kind: Kind, there: bool) -> u128
-    ensures value { result ≡ year_used kind there }
-    ensures bound { result < 2 ^ 100 }
-{
-    match (kind, there) {
-        (_, false) => 0,
-        (Kind::G, true) =>
-            0b0111101111_0000000000_0000000000_0000000000_0000000000_0000000000_0000000000,
-        (Kind::A | Kind::B | Kind::E, true) =>
-            0b0111101111_0000000000_0000000000_0000000000_0000000000_0000000000,
-    }
-}
-
-/// The elements of the straight binary seconds, where they are there.
-fn sbs(there: bool) -> u128
-    ensures value { result ≡ sbs_used there }
-    ensures bound { result < 2 ^ 100 }
-{
-    if there {
-        0b0011111111_0111111111 << 80
-    } else {
-        0
-    }
-}
-
-/// The control elements, where they are there.
-fn control(kind: Kind, there: bool, year: bool) -> u128
-    ensures value { result ≡ control_used kind there year }
-    ensures bound { result < 2 ^ 100 }
-{
-    if !there {
-        return 0;
-    }
-    match (kind, year) {
-        (Kind::A | Kind::B, true) => 0b0111111111_0111111111 << 60,
-        (Kind::A | Kind::B, false) => 0b0111111111_0111111111_0111111111 << 50,
-        (Kind::E, true) | (Kind::G, false) => {
-            0b0111111111_0111111111_0111111111_0111111111 << 60
-        }
-        (Kind::E, false) => 0b0111111111_0111111111_0111111111_0111111111_0111111111 << 50,
-        (Kind::G, true) => 0b0111111111_0111111111_0111111111 << 70,
+        Kind::A => &A,
+        Kind::B => &B,
+        Kind::E => &E,
+        Kind::G => &G,
     }
 }
 
@@ -68,10 +101,5 @@ fn control(kind: Kind, there: bool, year: bool) -> u128
 pub fn used(format: Format) -> u128
     ensures { result ≡ used_of (slots_at format) }
 {
-    let kind = format.kind();
-    let has_year = format.has_year();
-    time(kind)
-        + year(kind, has_year)
-        + sbs(format.has_sbs())
-        + control(kind, format.has_control(), has_year)
+    masks(format.kind())[format.expression() as usize]
 }

@@ -1,0 +1,31 @@
+-- The masks of used elements, by kind and expression.
+use Rattle.std.proofs.Common.{◌≡◌, ℕ, ◌<◌, List, get_or, true, ap, subst, sym, ◌∙◌, arith}
+use Rattle.std.proofs.lemmas.Bool.Decides.{nat_tests}
+use Rattle.std.proofs.lemmas.List.FromFn.{get_or-map-range_with_len}
+use Rattle.std.specs.Bool.{IsTrue}
+use Rattle.irig_codes.specs.Format.{FormatView, is_permitted}
+use Rattle.irig_codes.specs.Slots.{slots_at}
+use Rattle.irig_codes.specs.Used.{masks_of, used_in, used_of}
+use Rattle.irig_codes.proofs.Shapes.{from-list, same_list}
+use Rattle.irig_codes.specs.declared.format.Kind.{Kind}
+use Rattle.irig_codes.specs.declared.format.Kind.TheVariants.{A, B, E, G}
+
+-- a permitted expression is one of eight
+pub permitted-below : (k : Kind) (n : ℕ) → IsTrue (is_permitted k n) → n < 8
+permitted-below A n h = grind (arith, nat_tests)
+permitted-below B n h = grind (arith, nat_tests)
+permitted-below E n h = grind (arith, nat_tests)
+permitted-below G n h = grind (arith, nat_tests)
+
+-- the mask of a format is that of its expression
+pub mask-of : (f : FormatView) (k : Kind) (n : ℕ) (masks : List ℕ) → k ≡ f.kind → n ≡ f.expression → IsTrue (is_permitted f.kind n) → masks ≡ masks_of k →
+    get_or masks n 0 ≡ used_of (slots_at f)
+unfolding masks_of
+mask-of f k n masks kind expression permitted same =
+    let few = subst (λ m. m < 8) expression (permitted-below f.kind n permitted) in
+    ap (λ ms. get_or ms n 0) same ∙ ap (λ j. get_or (masks_of j) n 0) kind ∙ ap (λ m. get_or (masks_of f.kind) m 0) expression
+    ∙ get_or-map-range_with_len (used_in f.kind) 0 8 f.expression f.expression 0 few (omega arith)
+
+-- the masks of a kind, told by a test that computes
+pub masks-are : (k j : Kind) (masks : List ℕ) → j ≡ k → same_list masks (masks_of k) ≡ true → masks ≡ masks_of j
+masks-are k j masks kind same = from-list masks (masks_of k) same ∙ ap masks_of (sym kind)
