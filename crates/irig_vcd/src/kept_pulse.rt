@@ -38,8 +38,8 @@ impl KeptPulse {
         }
     }
 
-    /// Whether the times of a pulse, in microseconds, have the digits that are kept. Where the one in
-    /// front of the last four is one behind, it is counted up first.
+    /// Whether the times of a pulse, in microseconds, have the digits that are kept. Where the one
+    /// in front of the last four is one behind, it is counted up first.
     #[inline(always)]
     pub fn comes_near(&mut self, rise: u64, fall: u64) -> bool
         requires holds { HoldsPulse self.old }
