@@ -1,6 +1,6 @@
 //! The bytes of the file of a dump, read whole.
 
-ghost use Rattle.std.specs.Prelude.{◌≡◌, ◌≢◌, ◌≤◌, ◌<◌, ◌+◌, ◌^◌, ◌⊎◌, Err, Ok, IfOk, IfSome, IsErrOf, OnOk, ◌++◌, true, length, vec_len};
+ghost use Rattle.std.specs.Prelude.{◌≡◌, ◌≢◌, ◌≤◌, ◌<◌, ◌+◌, ◌^◌, ◌⊎◌, Err, Ok, IfErr, IfOk, IfSome, IsErrOf, OnOk, ◌++◌, true, length, vec_len};
 ghost use Rattle.std.specs.Fs.{IsFile, file_type, metadata_len};
 ghost use Rattle.std.specs.Io.KnownBytes.{IsAtEnd};
 ghost use Rattle.irig_ed.specs.Files.Reads.{Moves};
@@ -55,7 +55,8 @@ pub fn read_dump<R: Files + AllocGlobal>(rt: &R, path: &str) -> Result<Vec<u8>, 
 
 /// The room for the bytes of an open file, as far as the file tells its size.
 fn room_of<F: OpenFile>(file: &F) -> Result<usize, DumpFileFault>
-    ensures { IfOk result (λ room. room ≤ 2 ^ 28) }
+    ensures most { IfOk result (λ room. room ≤ 2 ^ 28) }
+    ensures long { IfErr result (λ fault. fault ≡ TooLong) }
 {
     match file.metadata() {
         Ok(described) => room_for(&described),
