@@ -1,0 +1,11 @@
+use Rattle.std.proofs.Common.{refl}
+use Rattle.irig_script.proofs.obey.dump_run.run_on_dump.Goals as goal
+
+pub returns-in-Err-clause-ends : goal.returns-in-Err-clause-ends
+returns-in-Err-clause-ends g c = (c.in-Err.ensures.fault, refl, refl)
+
+pub returns-in-Ok-run-clause-ends : goal.returns-in-Ok-run-clause-ends
+returns-in-Ok-run-clause-ends g c = record { first = _; last = _; opened = c.in-Ok.ensures.opened; ran = c.in-Ok-run.ensures.ends }
+
+pub returns-clause-ends : goal.returns-clause-ends
+returns-clause-ends g c = record { first = _; last = _; opened = c.in-Ok.ensures.opened; ran = c.in-Err-run.ensures.ends }
