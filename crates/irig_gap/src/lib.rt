@@ -5,7 +5,5 @@ mod block;
 mod cells;
 mod gap;
 mod moves;
-#[cfg(test)]
-mod tests;
 
 pub use gap::Gap;

@@ -7,6 +7,3 @@ mod moment;
 mod written;
 
 pub use moment::Moment;
-
-#[cfg(test)]
-mod tests;

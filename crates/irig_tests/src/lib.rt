@@ -1,11 +1,23 @@
-//! The large crates, tested by their public calls. It has no code of its own.
+//! The crates below, tested by their public calls. It has no code of its own.
 #![tactic(auto)]
 
 #[cfg(test)]
+mod codes;
+#[cfg(test)]
 mod dumps;
 #[cfg(test)]
+mod gaps;
+#[cfg(test)]
+mod indexes;
+#[cfg(test)]
 mod journal_texts;
+#[cfg(test)]
+mod journals;
+#[cfg(test)]
+mod moments;
 #[cfg(test)]
 mod scripts;
 #[cfg(test)]
 mod sessions;
+#[cfg(test)]
+mod tracks;

@@ -9,8 +9,6 @@ mod sides;
 mod span;
 mod splice;
 mod stands;
-#[cfg(test)]
-mod tests;
 mod toggle;
 mod track;
 

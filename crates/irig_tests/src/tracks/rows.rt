@@ -1,10 +1,8 @@
 //! The worked rows of a track of two pulses, and a track at its limit.
 
 use super::helpers::{check_edges, pulses_of, shift, splice, toggle, track_of};
-use crate::pulse::Pulse;
-use crate::span::Span;
-use crate::track::Track;
 use irig_gap::Gap;
+use irig_track::{Pulse, Span, Track};
 use std::alloc::Global;
 use std::process::Abort;
 use std::test::Fail;

@@ -4,8 +4,8 @@ ghost use Rattle.std.specs.Prelude.{◌≡◌, OnOk};
 ghost use Rattle.irig_index.specs.Frames.{frames};
 
 use super::helpers::{Edit, back, positions, repaired, same, sound};
-use crate::Index;
 use irig_codes::{Format, Kind};
+use irig_index::Index;
 use irig_track::Track;
 use std::alloc::{AllocError, Global};
 use std::test::Fail;

@@ -4,8 +4,10 @@ ghost use Rattle.std.specs.Prelude.{◌≡◌, OnOk};
 ghost use Rattle.irig_index.specs.Frames.{frames};
 
 use super::helpers::{Edit, back, holds, rebuilt, repaired, sound};
-use crate::{Cause, Index, Record, Verdict, frames_are_the_markers, verdicts_are_first_faults};
 use irig_codes::{Fields, Format, Kind, Note};
+use irig_index::{
+    Cause, Index, Record, Verdict, frames_are_the_markers, verdicts_are_first_faults,
+};
 use irig_track::{Lens, Track};
 use std::alloc::{AllocError, Global};
 use std::test::Fail;

@@ -1,7 +1,7 @@
 //! Rows from outside: texts of moments, and what frames from them on tell.
 
-use super::*;
 use irig_codes::{Fields, Format, Kind};
+use irig_moment::Moment;
 use std::test::Fail;
 
 /// The fields of frame k from the moment on, with no control function set.

@@ -1,9 +1,7 @@
 //! Tracks and gaps for the tests, and edits that are tried before they are made.
 
-use crate::pulse::Pulse;
-use crate::span::Span;
-use crate::track::Track;
 use irig_gap::Gap;
+use irig_track::{Pulse, Span, Track};
 use irig_vcd::Recording;
 use std::alloc::{AllocError, Global};
 use std::process::Abort;

@@ -2,8 +2,8 @@
 //! turn, by `tests/no_memory`.
 
 use super::helpers::positions;
-use crate::Index;
 use irig_codes::{Format, Kind};
+use irig_index::Index;
 use irig_track::Track;
 use std::alloc::Global;
 

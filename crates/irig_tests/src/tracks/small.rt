@@ -5,8 +5,7 @@
 ghost use Rattle.std.specs.Prelude.{◌<◌};
 
 use super::helpers::{check_edges, pulses_of, shift, splice, toggle, track_of};
-use crate::span::Span;
-use crate::track::Track;
+use irig_track::{Span, Track};
 use std::alloc::{AllocError, Global};
 use std::process::Abort;
 use std::test::Fail;

@@ -4,9 +4,9 @@ ghost use Rattle.std.specs.Prelude.{◌≡◌, ◌<◌, ◌≤◌, IfOk, OnOk, M
 ghost use Rattle.irig_index.specs.Frames.{frames};
 ghost use Rattle.irig_track.specs.Splices.{IsSpan};
 
-use crate::{Index, Record};
 use irig_codes::Format;
 use irig_gap::Gap;
+use irig_index::{Index, Record};
 use irig_track::{Span, Track};
 use irig_vcd::Recording;
 use std::alloc::{AllocError, Global};

@@ -5,8 +5,8 @@ ghost use Rattle.irig_journal.specs.Stack.{CanEdit, edited};
 
 mod sides;
 
-use crate::stack::{Edit, Single, Stack};
-use crate::{
+use irig_journal::stack::{Edit, Single, Stack};
+use irig_journal::{
     Journal, JournalFault, Reversible, gathered_is_all, groups_give_back, machine_gives_back,
     turn_gives_back,
 };

@@ -4,8 +4,8 @@ ghost use Rattle.std.specs.Prelude.{◌≡◌, None};
 ghost use Rattle.irig_journal.specs.Journal.{FitsState};
 ghost use Rattle.irig_journal.specs.Stack.{CanEdit, edited};
 
-use crate::Journal;
-use crate::stack::{Edit, Single, Stack};
+use irig_journal::Journal;
+use irig_journal::stack::{Edit, Single, Stack};
 use std::process::Abort;
 use std::test::Fail;
 
