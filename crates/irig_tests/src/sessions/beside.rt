@@ -4,10 +4,10 @@ use super::helpers::{Call, obey};
 use super::machine::Machine;
 use super::plain::Plain;
 use super::telling::tells;
-use irig_codes::Format;
+use irig_codes::{Format, Kind};
 use irig_edit::Session;
 use irig_vcd::Recording;
-use std::alloc::{AllocError, Global};
+use std::alloc::Global;
 
 /// A session and a machine that were told the same calls.
 #[derive(Drop)]
@@ -17,29 +17,27 @@ pub struct Beside {
 }
 
 impl Beside {
-    /// Both on a track of this length with these edges, if they are those of a track.
-    pub fn open(
-        alloc: Global,
-        length: u64,
-        edges: Vec<u64>,
-        format: Format,
-    ) -> Result<Option<Beside>, AllocError> {
-        let Ok(recording) = Recording::new(length, edges.clone()?) else {
-            return Ok(None);
-        };
+    /// Both in format G 2 on a track of this length with these edges, if they are those of a track.
+    pub fn open(alloc: Global, length: u64, edges: Vec<u64>) -> Option<Beside> {
+        let format = Format::new(Kind::G, 2).ok()?;
+        let recording = Recording::new(length, edges.clone().ok()?).ok()?;
+        let session = Session::open(alloc, recording, format).ok()?;
         let machine = Machine::new(alloc, Plain::new(length, edges, format));
-        let session = Session::open(alloc, recording, format)?;
-        Ok(Some(Beside { session, machine }))
+        Some(Beside { session, machine })
     }
 
     /// Whether both answer a call alike, and tell the same afterwards.
-    pub fn agrees(&mut self, alloc: Global, call: Call) -> Result<bool, AllocError> {
-        let refusal = self.machine.obey(alloc, &call)?;
-        Ok(
-            obey(&mut self.session, call) == refusal
-                && tells(&self.session, &self.machine.present)
-                && self.session.steps_back() == self.machine.past.len()
-                && self.session.steps_forward() == self.machine.future.len(),
-        )
+    pub fn agrees(&mut self, alloc: Global, call: Call) -> bool {
+        match self.machine.obey(alloc, &call) {
+            Ok(refusal) => obey(&mut self.session, call) == refusal && self.is_told(),
+            Err(_) => false,
+        }
+    }
+
+    /// Whether the session tells what the machine keeps.
+    fn is_told(&self) -> bool {
+        tells(&self.session, &self.machine.present)
+            && self.session.steps_back() == self.machine.past.len()
+            && self.session.steps_forward() == self.machine.future.len()
     }
 }

@@ -4,11 +4,10 @@ use irig_codes::{Element, Format, Kind};
 use irig_edit::{Refusal, Session};
 use irig_moment::Moment;
 use irig_vcd::Recording;
-use std::alloc::{AllocError, Global};
-use std::test::Fail;
+use std::alloc::Global;
 
-/// A call of the table.
-#[derive(Clone, Copy, Debug)]
+/// A call of the table. Frames are put from the begin of 2024 on, without control bits.
+#[derive(Clone, Copy)]
 pub enum Call {
     Insert(u64, u64),
     Delete(usize, usize),
@@ -17,8 +16,8 @@ pub enum Call {
     Shift(usize, usize, i64),
     Invert(u64, u64),
     Force(usize, Element),
-    Regen(u64, u64, Moment, u64),
-    Format(Format),
+    Regen(u64, u64),
+    Format(Kind, u8),
     Mark(u8, Option<u64>),
     Undo,
     Redo,
@@ -28,36 +27,33 @@ pub enum Call {
     Abort,
 }
 
-/// A session on a track with these edges, or want of memory where they are none of a track.
-pub fn open(
-    alloc: Global,
-    length: u64,
-    times: &[u64],
-    format: Format,
-) -> Result<Session, AllocError> {
-    let mut edges = Vec::new(alloc);
-    for time in times {
-        edges.push(*time)?;
-    }
-    match Recording::new(length, edges) {
-        Ok(recording) => Session::open(alloc, recording, format),
-        Err(_) => Err(AllocError),
-    }
+/// A session in format G 2 on a track with these edges, if they are those of a track.
+pub fn open(alloc: Global, length: u64, edges: &[u64]) -> Option<Session> {
+    let format = Format::new(Kind::G, 2).ok()?;
+    let edges = Vec::from_slice(alloc, edges).ok()?;
+    let recording = Recording::new(length, edges).ok()?;
+    Session::open(alloc, recording, format).ok()
 }
 
 /// Pulses 100 to 120 and 200 to 280 in a track of 1,000 microseconds.
-pub fn two_pulses(alloc: Global, format: Format) -> Result<Session, AllocError> {
-    open(alloc, 1_000, &[100, 120, 200, 280], format)
+pub fn two_pulses(alloc: Global) -> Option<Session> {
+    open(alloc, 1_000, &[100, 120, 200, 280])
 }
 
-/// The format of a kind and an expression.
-pub fn format_of(kind: Kind, expression: u8) -> Result<Format, Fail> {
-    Ok(Format::new(kind, expression).ok().ok_or("no format")?)
+/// Puts frames from the begin of 2024 on.
+fn regen(session: &mut Session, start: u64, frames: u64) -> Result<(), Refusal> {
+    match Moment::parse(b"2024-001T00:00:00") {
+        Some(moment) => session.regen(start, frames, moment, 0),
+        None => Err(Refusal::BadTime),
+    }
 }
 
-/// The moment that a text tells.
-pub fn moment_of(text: &[u8]) -> Result<Moment, Fail> {
-    Ok(Moment::parse(text).ok_or("no moment")?)
+/// Sets the format of a kind and an expression.
+fn set_format(session: &mut Session, kind: Kind, expression: u8) -> Result<(), Refusal> {
+    match Format::new(kind, expression) {
+        Ok(format) => session.format(format),
+        Err(_) => Err(Refusal::BadExpression),
+    }
 }
 
 /// Makes a call. What refuses it, if anything does.
@@ -70,10 +66,8 @@ pub fn obey(session: &mut Session, call: Call) -> Option<Refusal> {
         Call::Shift(i, j, by) => session.shift(i, j, by),
         Call::Invert(a, b) => session.invert(a, b),
         Call::Force(i, element) => session.force(i, element),
-        Call::Regen(start, frames, moment, control) => {
-            session.regen(start, frames, moment, control)
-        }
-        Call::Format(format) => session.format(format),
+        Call::Regen(start, frames) => regen(session, start, frames),
+        Call::Format(kind, expression) => set_format(session, kind, expression),
         Call::Mark(letter, time) => session.mark(b'a' + letter % 26, time),
         Call::Undo => session.undo(),
         Call::Redo => session.redo(),

@@ -89,7 +89,7 @@ pub fn refusal_of(s: &Plain, call: &Call) -> Option<Refusal> {
         Call::Shift(i, j, by) => shift(s, *i, *j, *by),
         Call::Invert(a, b) => only(!is_range(s, *a, *b), Refusal::OutOfRange),
         Call::Force(i, element) => force(s, *i, s.forced(*i, element)),
-        Call::Regen(_, _, _, _) => Some(Refusal::OutOfRange),
+        Call::Regen(_, _) => Some(Refusal::OutOfRange),
         Call::Mark(_, time) => only(*time > Some(s.length), Refusal::OutOfRange),
         Call::Go(i) => only(!s.has(*i, *i), Refusal::NoPulse),
         _ => None,
