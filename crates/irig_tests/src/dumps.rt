@@ -1,5 +1,7 @@
 //! Dumps and what they say, texts and what is read of them.
 
+ghost use Rattle.std.specs.Prelude.{◌≤◌, ◌^◌, length};
+
 mod journals;
 mod pieces;
 mod plain;
@@ -10,43 +12,76 @@ mod whole;
 use irig_vcd::{Recording, VcdFault, read, read_parts};
 use std::alloc::{AllocError, Global};
 use std::process::Abort;
-use std::test::Fail;
 
 /// The declarations of one wire, 63 bytes, before the changes.
 const HEADER: &str = "$timescale 1 us $end $var wire 1 ! c $end $enddefinitions $end ";
 
-/// A length and edges, or the text of a fault.
-fn shown(alloc: Global, outcome: Result<Recording, VcdFault>) -> Result<String, AllocError> {
-    match outcome {
-        Ok(recording) => { format!(in alloc; "{} {:?}", recording.length(), recording.edges()) }
-        Err(fault) => format!(in alloc; "{fault}"),
+/// What a dump is to be read as: a length and edges, or a fault.
+#[derive(Clone, Copy)]
+enum Wanted {
+    Edges(u64, &'static [u64]),
+    Fault(VcdFault),
+}
+
+/// Changes behind that header, and what the dump is to be read as.
+type Row = (&'static str, Wanted);
+
+/// Whether a recording is what is wanted.
+fn is_recording(recording: &Recording, want: &Wanted) -> bool {
+    match want {
+        Wanted::Edges(length, edges) => {
+            recording.length() == *length && recording.edges() == *edges
+        }
+        Wanted::Fault(_) => false,
     }
 }
 
-/// The recording with its journal, where it has none; with one, an empty text.
-fn without_journal(
-    alloc: Global,
-    outcome: Result<(Recording, Option<&[u8]>), VcdFault>,
-) -> Result<String, AllocError> {
-    match outcome {
-        Ok((recording, None)) => shown(alloc, Ok(recording)),
-        Ok((_, Some(_))) => Ok(String::new(alloc)),
-        Err(fault) => shown(alloc, Err(fault)),
+/// Whether a fault is what is wanted.
+fn is_fault(told: VcdFault, want: &Wanted) -> bool {
+    match want {
+        Wanted::Edges(_, _) => false,
+        Wanted::Fault(fault) => told == *fault,
+    }
+}
+
+/// Whether a dump is read as is wanted. It is short.
+fn is_read(alloc: Global, dump: &[u8], wire: Option<&[u8]>, want: &Wanted) -> bool
+    requires { length dump.now ≤ 2 ^ 28 }
+{
+    match read(alloc, dump, wire) {
+        Ok(recording) => is_recording(&recording, want),
+        Err(fault) => is_fault(fault, want),
+    }
+}
+
+/// Whether a dump is read with its parts as is wanted, and has no journal. It is short.
+fn is_read_alone(alloc: Global, dump: &[u8], wire: Option<&[u8]>, want: &Wanted) -> bool
+    requires { length dump.now ≤ 2 ^ 28 }
+{
+    match read_parts(alloc, dump, wire) {
+        Ok((recording, journal)) => journal.is_none() && is_recording(&recording, want),
+        Err(fault) => is_fault(fault, want),
     }
 }
 
 /// A dump without a journal is read as is wanted, with its parts too.
-fn check(
-    rt: &impl Abort,
-    alloc: Global,
-    dump: &[u8],
-    wire: Option<&[u8]>,
-    want: &str,
-) -> Result<(), Fail> {
+fn check(rt: &impl Abort, alloc: Global, dump: &[u8], wire: Option<&[u8]>, want: &Wanted) {
     assert!(rt; dump.len() <= 1 << 28);
-    let got = shown(alloc, read(alloc, dump, wire))?;
-    assert_eq!(rt; got.as_str(), want);
-    let parts = without_journal(alloc, read_parts(alloc, dump, wire))?;
-    assert_eq!(rt; parts.as_str(), want);
-    Ok(())
+    assert!(rt; is_read(alloc, dump, wire, want));
+    assert!(rt; is_read_alone(alloc, dump, wire, want));
+}
+
+/// The dump of these changes behind the header.
+fn dump_of(alloc: Global, changes: &str) -> Result<Vec<u8>, AllocError> {
+    let mut dump = Vec::from_slice(alloc, HEADER.as_bytes())?;
+    dump.extend_from_slice(changes.as_bytes())?;
+    Ok(dump)
+}
+
+/// Reads the dump of each row.
+fn check_rows(rt: &impl Abort, alloc: Global, rows: &[Row]) {
+    for (changes, want) in rows {
+        let dump = dump_of(alloc, changes).expect(rt, "a dump");
+        check(rt, alloc, dump.as_slice(), None, want);
+    }
 }

@@ -1,80 +1,87 @@
 //! Dumps that carry a journal in a comment.
 
-use super::{HEADER, check};
+ghost use Rattle.std.specs.Prelude.{◌≤◌, ◌^◌, length};
+
+use super::Wanted::{Edges, Fault};
+use super::{Row, check, check_rows, dump_of};
 use irig_vcd::{VcdFault, read_parts};
 use std::alloc::Global;
 use std::process::Abort;
-use std::test::Fail;
 
-/// The journal of a dump, or the fault, is what is wanted.
-fn check_journal(
-    rt: &impl Abort,
-    alloc: Global,
-    dump: &[u8],
-    want: Result<Option<&[u8]>, VcdFault>,
-) -> Result<(), Fail> {
+/// Whether a dump gives the journal that is wanted, or the fault. It is short.
+fn gives(alloc: Global, dump: &[u8], want: Result<&[u8], VcdFault>) -> bool
+    requires { length dump.now ≤ 2 ^ 28 }
+{
+    match read_parts(alloc, dump, None) {
+        Ok((_, journal)) => journal.is_some() && journal == want.ok(),
+        Err(fault) => want == Err(fault),
+    }
+}
+
+/// The journal of the dump of these changes, or the fault, is what is wanted.
+fn check_journal(rt: &impl Abort, alloc: Global, changes: &str, want: Result<&[u8], VcdFault>) {
+    let dump = dump_of(alloc, changes).expect(rt, "a dump");
     assert!(rt; dump.len() <= 1 << 28);
-    let got = match read_parts(alloc, dump, None) {
-        Ok((_, journal)) => Ok(journal),
-        Err(fault) => Err(fault),
-    };
-    assert!(rt; got == want);
-    Ok(())
+    assert!(rt; gives(alloc, dump.as_slice(), want));
 }
 
-#[test]
-fn one_journal_is_given(rt: HostRuntime) -> Result<(), Fail> {
-    let rows = [
-        ("#5 $comment irig-journal-1 $end", "irig-journal-1 "),
-        (
-            "#5\n$comment\nirig-journal-1\nformat G 2\n$end\n",
-            "irig-journal-1\nformat G 2\n",
-        ),
-        ("$comment irig-journal-1\t$end #5 1! #6", "irig-journal-1\t"),
-        (
-            "$comment $end $comment x $end $comment  irig-journal-1 a $comment b $end",
-            "irig-journal-1 a $comment b ",
-        ),
-    ];
-    for (tail, want) in rows {
-        let dump = format!(in rt.alloc(); "{HEADER}{tail}")?;
-        check_journal(&rt, rt.alloc(), dump.as_bytes(), Ok(Some(want.as_bytes())))?;
-    }
-    Ok(())
-}
+/// Changes with a comment, and the journal in it.
+static JOURNALS: [(&str, &[u8]); 4] = [
+    ("#5 $comment irig-journal-1 $end", b"irig-journal-1 "),
+    (
+        "#5\n$comment\nirig-journal-1\nformat G 2\n$end\n",
+        b"irig-journal-1\nformat G 2\n",
+    ),
+    (
+        "$comment irig-journal-1\t$end #5 1! #6",
+        b"irig-journal-1\t",
+    ),
+    (
+        "$comment $end $comment x $end $comment  irig-journal-1 a $comment b $end",
+        b"irig-journal-1 a $comment b ",
+    ),
+];
 
 #[test]
-fn other_comments_are_no_journal(rt: HostRuntime) -> Result<(), Fail> {
-    let rows = [
-        ("#5", "5 []"),
-        ("#5 $comment irig-journal-10 $end", "5 []"),
-        ("#5 $comment irig-journal- $end", "5 []"),
-        ("#5 $comment a irig-journal-1 $end", "5 []"),
-        ("#5 b0 $comment r1 $comment #7", "7 []"),
-        ("#5 $comment irig-journal-1", "V1 Unclosed"),
-        (
-            "$comment irig-journal-1 $end $comment irig-journal-1 $end #5 #4",
-            "V10 Backward at 124",
-        ),
-    ];
-    for (tail, want) in rows {
-        let dump = format!(in rt.alloc(); "{HEADER}{tail}")?;
-        check(&rt, rt.alloc(), dump.as_bytes(), None, want)?;
+fn one_journal_is_given(rt: HostRuntime) {
+    for (changes, journal) in JOURNALS.iter() {
+        check_journal(&rt, rt.alloc(), changes, Ok(journal));
     }
-    let before = format!(in rt.alloc(); "$comment irig-journal-1 $end {HEADER}#5")?;
-    check(&rt, rt.alloc(), before.as_bytes(), None, "5 []")
 }
 
+/// Changes with comments that are no journal.
+static OTHERS: [Row; 7] = [
+    ("#5", Edges(5, &[])),
+    ("#5 $comment irig-journal-10 $end", Edges(5, &[])),
+    ("#5 $comment irig-journal- $end", Edges(5, &[])),
+    ("#5 $comment a irig-journal-1 $end", Edges(5, &[])),
+    ("#5 b0 $comment r1 $comment #7", Edges(7, &[])),
+    ("#5 $comment irig-journal-1", Fault(VcdFault::Unclosed)),
+    (
+        "$comment irig-journal-1 $end $comment irig-journal-1 $end #5 #4",
+        Fault(VcdFault::Backward(124)),
+    ),
+];
+
+/// A comment before the declarations.
+const BEFORE: &[u8] =
+    b"$comment irig-journal-1 $end $timescale 1 us $end $var wire 1 ! c $end $enddefinitions $end #5";
+
 #[test]
-fn a_second_journal_is_told(rt: HostRuntime) -> Result<(), Fail> {
-    let many = Err(VcdFault::BadJournal(1));
-    let rows = [
-        "$comment irig-journal-1 $end $comment irig-journal-1 $end",
-        "$comment irig-journal-1 a $end #5 $comment b $end $comment irig-journal-1 c $end #6",
-    ];
-    for tail in rows {
-        let dump = format!(in rt.alloc(); "{HEADER}{tail}")?;
-        check_journal(&rt, rt.alloc(), dump.as_bytes(), many)?;
+fn other_comments_are_no_journal(rt: HostRuntime) {
+    check_rows(&rt, rt.alloc(), &OTHERS);
+    check(&rt, rt.alloc(), BEFORE, None, &Edges(5, &[]));
+}
+
+/// Changes with two journals.
+static SECOND: [&str; 2] = [
+    "$comment irig-journal-1 $end $comment irig-journal-1 $end",
+    "$comment irig-journal-1 a $end #5 $comment b $end $comment irig-journal-1 c $end #6",
+];
+
+#[test]
+fn a_second_journal_is_told(rt: HostRuntime) {
+    for changes in SECOND.iter() {
+        check_journal(&rt, rt.alloc(), changes, Err(VcdFault::BadJournal(1)));
     }
-    Ok(())
 }

@@ -1,80 +1,107 @@
 //! Recordings, tokens and faults by themselves.
 
 use irig_vcd::{Kind, Recording, Tokens, VcdFault};
-use std::test::Fail;
+use std::alloc::Global;
 
-#[test]
-fn edges_that_make_no_recording_are_handed_back(rt: HostRuntime) -> Result<(), Fail> {
-    let alloc = rt.alloc();
-    let rows = [
-        (9, [1, 2, 3, 9].as_slice(), true),
-        (8, [1, 2, 3, 9].as_slice(), false),
-        (9, [1, 2, 2, 9].as_slice(), false),
-        (9, [1, 2, 3].as_slice(), false),
-        (1099511627776, [].as_slice(), true),
-        (1099511627777, [].as_slice(), false),
-    ];
-    for (length, edges, accepted) in rows {
-        match Recording::new(length, edges.to_vec(alloc)?) {
-            Ok(recording) => {
-                assert!(rt; accepted);
-                assert_eq!(rt; recording.length(), length);
-                assert_eq!(rt; recording.edges(), edges);
-                assert_eq!(rt; recording.into_edges().as_slice(), edges);
-            }
-            Err(back) => {
-                assert!(rt; !accepted);
-                assert_eq!(rt; back.as_slice(), edges);
-            }
-        }
+/// A length and edges, and whether they make a recording.
+type Row = (u64, &'static [u64], bool);
+
+static EDGES: [Row; 6] = [
+    (9, &[1, 2, 3, 9], true),
+    (8, &[1, 2, 3, 9], false),
+    (9, &[1, 2, 2, 9], false),
+    (9, &[1, 2, 3], false),
+    (1099511627776, &[], true),
+    (1099511627777, &[], false),
+];
+
+/// Whether a recording gives a length and edges.
+fn gives(recording: Recording, length: u64, edges: &[u64]) -> bool {
+    recording.length() == length
+        && recording.edges() == edges
+        && recording.into_edges().as_slice() == edges
+}
+
+/// Whether edges make a recording that gives them, or are handed back, as their row says.
+fn is_answered(alloc: Global, (length, edges, accepted): &Row) -> bool {
+    let Ok(given) = Vec::from_slice(alloc, edges) else {
+        return false;
+    };
+    match Recording::new(*length, given) {
+        Ok(recording) => *accepted && gives(recording, *length, edges),
+        Err(back) => !*accepted && back.as_slice() == *edges,
     }
-    Ok(())
 }
 
 #[test]
-fn tokens_with_their_places(rt: HostRuntime) -> Result<(), Fail> {
-    let source = b" $var\t#5\r\n1! b01 r1 sH \x0bU";
-    let rows = [
-        (Kind::Dollar, b"$var".as_slice(), 1),
-        (Kind::Hash, b"#5".as_slice(), 6),
-        (Kind::Scalar, b"1!".as_slice(), 10),
-        (Kind::Vector, b"b01".as_slice(), 13),
-        (Kind::Real, b"r1".as_slice(), 17),
-        (Kind::Text, b"sH".as_slice(), 20),
-        (Kind::Other, b"U".as_slice(), 24),
-    ];
-    let mut tokens = Tokens::new(source);
-    for (kind, slice, offset) in rows {
-        let token = tokens.next().ok_or("no token")?;
-        assert_eq!(rt; token.kind, kind);
-        assert_eq!(rt; token.slice, slice);
-        assert_eq!(rt; token.offset, offset);
+fn edges_that_make_no_recording_are_handed_back(rt: HostRuntime) {
+    for row in EDGES.iter() {
+        assert!(rt; is_answered(rt.alloc(), row));
     }
-    assert!(rt; tokens.next().is_none());
-    Ok(())
+}
+
+/// The tokens of the text below, with their places.
+static TOKENS: [(Kind, &[u8], usize); 7] = [
+    (Kind::Dollar, b"$var", 1),
+    (Kind::Hash, b"#5", 6),
+    (Kind::Scalar, b"1!", 10),
+    (Kind::Vector, b"b01", 13),
+    (Kind::Real, b"r1", 17),
+    (Kind::Text, b"sH", 20),
+    (Kind::Other, b"U", 24),
+];
+
+/// Whether the next token is of a kind, and stands at a place.
+fn is_next(tokens: &mut Tokens<'_>, (kind, slice, offset): &(Kind, &[u8], usize)) -> bool {
+    match tokens.next() {
+        Some(token) => token.kind == *kind && token.slice == *slice && token.offset == *offset,
+        None => false,
+    }
+}
+
+/// Whether no token is left.
+fn is_end(tokens: &mut Tokens<'_>) -> bool {
+    tokens.next().is_none()
 }
 
 #[test]
-fn faults_have_their_texts(rt: HostRuntime) -> Result<(), Fail> {
-    let rows = [
-        (VcdFault::Unclosed, "V1 Unclosed"),
-        (VcdFault::NoTimescale, "V2 NoTimescale"),
-        (VcdFault::BadTimescale, "V3 BadTimescale"),
-        (VcdFault::BadVar, "V4 BadVar"),
-        (VcdFault::NoSuchWire, "V5 NoSuchWire"),
-        (VcdFault::ManyWires, "V6 ManyWires"),
-        (VcdFault::NotOneBit, "V7 NotOneBit"),
-        (VcdFault::NoEndDefinitions, "V8 NoEndDefinitions"),
-        (VcdFault::BadToken(63), "V9 BadToken at 63"),
-        (VcdFault::Backward(7), "V10 Backward at 7"),
-        (VcdFault::TimeTooLarge(0), "V11 TimeTooLarge at 0"),
-        (VcdFault::TooManyPulses, "V12 TooManyPulses"),
-        (VcdFault::BadJournal(1), "V13 BadJournal"),
-        (VcdFault::OutOfMemory, "V14 OutOfMemory"),
-    ];
-    for (fault, want) in rows {
-        let got = format!(in rt.alloc(); "{fault}")?;
-        assert_eq!(rt; got.as_str(), want);
+fn tokens_with_their_places(rt: HostRuntime) {
+    let mut tokens = Tokens::new(b" $var\t#5\r\n1! b01 r1 sH \x0bU");
+    for row in TOKENS.iter() {
+        assert!(rt; is_next(&mut tokens, row));
     }
-    Ok(())
+    assert!(rt; is_end(&mut tokens));
+}
+
+/// Faults, and their texts.
+static FAULTS: [(VcdFault, &str); 14] = [
+    (VcdFault::Unclosed, "V1 Unclosed"),
+    (VcdFault::NoTimescale, "V2 NoTimescale"),
+    (VcdFault::BadTimescale, "V3 BadTimescale"),
+    (VcdFault::BadVar, "V4 BadVar"),
+    (VcdFault::NoSuchWire, "V5 NoSuchWire"),
+    (VcdFault::ManyWires, "V6 ManyWires"),
+    (VcdFault::NotOneBit, "V7 NotOneBit"),
+    (VcdFault::NoEndDefinitions, "V8 NoEndDefinitions"),
+    (VcdFault::BadToken(63), "V9 BadToken at 63"),
+    (VcdFault::Backward(7), "V10 Backward at 7"),
+    (VcdFault::TimeTooLarge(0), "V11 TimeTooLarge at 0"),
+    (VcdFault::TooManyPulses, "V12 TooManyPulses"),
+    (VcdFault::BadJournal(1), "V13 BadJournal"),
+    (VcdFault::OutOfMemory, "V14 OutOfMemory"),
+];
+
+/// Whether a fault has this text.
+fn has_text(alloc: Global, fault: VcdFault, text: &str) -> bool {
+    match format!(in alloc; "{fault}") {
+        Ok(told) => told.as_str() == text,
+        Err(_) => false,
+    }
+}
+
+#[test]
+fn faults_have_their_texts(rt: HostRuntime) {
+    for (fault, text) in FAULTS.iter() {
+        assert!(rt; has_text(rt.alloc(), *fault, text));
+    }
 }

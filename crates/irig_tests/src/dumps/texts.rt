@@ -1,10 +1,9 @@
 //! What is written, and that it is read back.
 
+use super::Wanted::Edges;
 use super::check;
 use irig_vcd::{Recording, VcdFault, read, text};
 use std::alloc::{AllocError, Global};
-use std::process::Abort;
-use std::test::Fail;
 
 /// The text of a length and edges.
 fn lines_of(alloc: Global, length: u64, edges: &[u64]) -> Result<Vec<u8>, AllocError> {
@@ -14,7 +13,7 @@ fn lines_of(alloc: Global, length: u64, edges: &[u64]) -> Result<Vec<u8>, AllocE
     }
 }
 
-const EMPTY: &str = "$timescale 1 us $end
+const EMPTY: &[u8] = b"$timescale 1 us $end
 $scope module irig $end
 $var wire 1 ! code $end
 $upscope $end
@@ -25,30 +24,43 @@ $dumpvars
 $end
 ";
 
-/// The text of a length and edges, from a byte on, is what is wanted.
-fn check_text(
-    rt: &impl Abort,
-    alloc: Global,
-    length: u64,
-    edges: &[u64],
-    from: usize,
-    want: &str,
-) -> Result<(), Fail> {
-    let lines = lines_of(alloc, length, edges)?;
-    assert_eq!(rt; lines.as_slice().get(from..), Some(want.as_bytes()));
-    Ok(())
+/// A length and edges, and their text from a byte on.
+static TEXTS: [(u64, &[u64], usize, &[u8]); 3] = [
+    (0, &[], 0, EMPTY),
+    (
+        70,
+        &[0, 5, 9, 70],
+        104,
+        b"#0\n$dumpvars\n1!\n$end\n#5\n0!\n#9\n1!\n#70\n0!\n",
+    ),
+    (1000, &[100, 120], 125, b"#100\n1!\n#120\n0!\n#1000\n"),
+];
+
+/// Whether the text of a length and edges, from a byte on, is this one.
+fn is_text(alloc: Global, length: u64, edges: &[u64], from: usize, text: &[u8]) -> bool {
+    match lines_of(alloc, length, edges) {
+        Ok(lines) => lines.as_slice().get(from..) == Some(text),
+        Err(_) => false,
+    }
 }
 
 #[test]
-fn what_is_written_is_read(rt: HostRuntime) -> Result<(), Fail> {
-    let high = "#0\n$dumpvars\n1!\n$end\n#5\n0!\n#9\n1!\n#70\n0!\n";
-    let late = "#100\n1!\n#120\n0!\n#1000\n";
-    check_text(&rt, rt.alloc(), 0, &[], 0, EMPTY)?;
-    check_text(&rt, rt.alloc(), 70, &[0, 5, 9, 70], 104, high)?;
-    check_text(&rt, rt.alloc(), 1000, &[100, 120], 125, late)?;
-    let lines = lines_of(rt.alloc(), 70, &[0, 5, 9, 70])?;
-    check(&rt, rt.alloc(), lines.as_slice(), None, "70 [0, 5, 9, 70]")?;
-    Ok(())
+fn lines_are_written(rt: HostRuntime) {
+    for (length, edges, from, text) in TEXTS.iter() {
+        assert!(rt; is_text(rt.alloc(), *length, edges, *from, text));
+    }
+}
+
+#[test]
+fn what_is_written_is_read(rt: HostRuntime) {
+    let lines = lines_of(rt.alloc(), 70, &[0, 5, 9, 70]).expect(&rt, "a text");
+    check(
+        &rt,
+        rt.alloc(),
+        lines.as_slice(),
+        None,
+        &Edges(70, &[0, 5, 9, 70]),
+    );
 }
 
 /// The dump of a recording of 2^22 pulses, the most there may be: up from 0 on for a microsecond,
@@ -75,14 +87,13 @@ fn count_of(alloc: Global, dump: &[u8]) -> Result<usize, VcdFault> {
     }
 }
 
+/// The line behind those of a full dump, of one pulse more.
+const MORE: &[u8] = b"1!\n#8388609\n0!\n";
+
 #[test]
-fn a_pulse_above_the_limit_is_told(rt: HostRuntime) -> Result<(), Fail> {
-    let mut dump = full_dump(rt.alloc())?;
-    assert_eq!(rt; count_of(rt.alloc(), dump.as_slice()), Ok(1 << 23));
-    dump.extend_from_slice(b"1!\n#8388609\n0!\n")?;
-    assert_eq!(rt;
-        count_of(rt.alloc(), dump.as_slice()),
-        Err(VcdFault::TooManyPulses)
-    );
-    Ok(())
+fn a_pulse_above_the_limit_is_told(rt: HostRuntime) {
+    let mut dump = full_dump(rt.alloc()).expect(&rt, "a dump");
+    assert!(rt; count_of(rt.alloc(), dump.as_slice()) == Ok(1 << 23));
+    assert!(rt; dump.extend_from_slice(MORE).is_ok());
+    assert!(rt; count_of(rt.alloc(), dump.as_slice()) == Err(VcdFault::TooManyPulses));
 }

@@ -1,7 +1,8 @@
 //! Dumps, by hand from the format and from what simulators write.
 
-use super::{HEADER, check};
-use std::test::Fail;
+use super::Wanted::{self, Edges, Fault};
+use super::{Row, check, check_rows};
+use irig_vcd::VcdFault;
 
 const TWO_PULSES: &str = "$timescale 1 us $end
 $var wire 1 ! code $end
@@ -35,112 +36,129 @@ b1 \"
 #5000000
 ";
 
-#[test]
-fn whole_dumps(rt: HostRuntime) -> Result<(), Fail> {
-    let code = Some(b"!".as_slice());
-    let name = Some(b"irig".as_slice());
-    let wide = Some(b"n".as_slice());
-    let rows = [
-        (TWO_PULSES, None, "1000 [100, 120, 200, 280]"),
-        (SIMULATED, None, "5 [2, 4]"),
-        (SIMULATED, name, "5 [2, 4]"),
-        (SIMULATED, code, "5 [2, 4]"),
-        (SIMULATED, wide, "V7 NotOneBit"),
-        ("", None, "V8 NoEndDefinitions"),
-        ("$timescale 1 us $end $var wire 1", None, "V1 Unclosed"),
-        (
-            "$var wire 1 ! c $end $enddefinitions $end",
-            None,
-            "V2 NoTimescale",
-        ),
-        ("$timescale 5 us $end", None, "V3 BadTimescale"),
-        ("$timescale 10000000ps $end", None, "V3 BadTimescale"),
-        ("$var wire one ! c $end", None, "V4 BadVar"),
-        ("META samplerate: 1", None, "V9 BadToken at 0"),
-        (
-            "$timescale 1 us $end $var wire 1 ! code $end $enddefinitions $end",
-            None,
-            "0 []",
-        ),
-        (
-            "$timescale 1 ns $end $var wire 1 ! c $end $enddefinitions $end #1999 1! #2000 0! #2500 1! #9000 0!",
-            None,
-            "9 [1, 9]",
-        ),
-        (
-            "$timescale 100 s $end $var wire 1 ! c $end $enddefinitions $end #2 1! #3",
-            None,
-            "300000000 [200000000, 300000000]",
-        ),
-        (
-            "$timescale 1fs $end $var wire 1 ! c $end $enddefinitions $end #1099511627776999999999",
-            None,
-            "1099511627776 []",
-        ),
-        (
-            "$timescale 1fs $end $var wire 1 ! c $end $enddefinitions $end #1099511627777000000000",
-            None,
-            "V11 TimeTooLarge at 62",
-        ),
-    ];
-    for (dump, wire, want) in rows {
-        check(&rt, rt.alloc(), dump.as_bytes(), wire, want)?;
-    }
-    Ok(())
-}
+/// Dumps, the wire that is asked for, and what they are to be read as.
+static WHOLE: [(&str, Option<&[u8]>, Wanted); 17] = [
+    (TWO_PULSES, None, Edges(1000, &[100, 120, 200, 280])),
+    (SIMULATED, None, Edges(5, &[2, 4])),
+    (SIMULATED, Some(b"irig"), Edges(5, &[2, 4])),
+    (SIMULATED, Some(b"!"), Edges(5, &[2, 4])),
+    (SIMULATED, Some(b"n"), Fault(VcdFault::NotOneBit)),
+    ("", None, Fault(VcdFault::NoEndDefinitions)),
+    (
+        "$timescale 1 us $end $var wire 1",
+        None,
+        Fault(VcdFault::Unclosed),
+    ),
+    (
+        "$var wire 1 ! c $end $enddefinitions $end",
+        None,
+        Fault(VcdFault::NoTimescale),
+    ),
+    ("$timescale 5 us $end", None, Fault(VcdFault::BadTimescale)),
+    (
+        "$timescale 10000000ps $end",
+        None,
+        Fault(VcdFault::BadTimescale),
+    ),
+    ("$var wire one ! c $end", None, Fault(VcdFault::BadVar)),
+    ("META samplerate: 1", None, Fault(VcdFault::BadToken(0))),
+    (
+        "$timescale 1 us $end $var wire 1 ! code $end $enddefinitions $end",
+        None,
+        Edges(0, &[]),
+    ),
+    (
+        "$timescale 1 ns $end $var wire 1 ! c $end $enddefinitions $end #1999 1! #2000 0! #2500 1! #9000 0!",
+        None,
+        Edges(9, &[1, 9]),
+    ),
+    (
+        "$timescale 100 s $end $var wire 1 ! c $end $enddefinitions $end #2 1! #3",
+        None,
+        Edges(300000000, &[200000000, 300000000]),
+    ),
+    (
+        "$timescale 1fs $end $var wire 1 ! c $end $enddefinitions $end #1099511627776999999999",
+        None,
+        Edges(1099511627776, &[]),
+    ),
+    (
+        "$timescale 1fs $end $var wire 1 ! c $end $enddefinitions $end #1099511627777000000000",
+        None,
+        Fault(VcdFault::TimeTooLarge(62)),
+    ),
+];
 
 #[test]
-fn changes_behind_a_header(rt: HostRuntime) -> Result<(), Fail> {
-    let rows = [
-        ("1", "V9 BadToken at 63"),
-        ("#5 1! #4 0!", "V10 Backward at 69"),
-        ("#1099511627777", "V11 TimeTooLarge at 63"),
-        ("#1099511627776", "1099511627776 []"),
-        ("#999999999999999999999999999999", "V11 TimeTooLarge at 63"),
-        ("#5x 1!", "V9 BadToken at 63"),
-        ("#0000000000000000000000005 1! #7", "7 [5, 7]"),
-        ("1! #3 0! 1! #5 X! #9", "9 [0, 5]"),
-        ("#1 b0101 ! #2 b ! #3", "V9 BadToken at 77"),
-        ("#1 b0101 ! #2 bx10 ! r1.5 ! sH ! #3", "3 [1, 2]"),
-        (
-            "#1 1! $comment #0 $end $dumpoff x! $end #4 $dumpon 1! $end #6",
-            "6 [4, 6]",
-        ),
-        ("#1 1! #2 $comment", "V1 Unclosed"),
-        ("#1 1! #2 U!", "V9 BadToken at 72"),
-    ];
-    for (tail, want) in rows {
-        let dump = format!(in rt.alloc(); "{HEADER}{tail}")?;
-        check(&rt, rt.alloc(), dump.as_bytes(), None, want)?;
+fn whole_dumps(rt: HostRuntime) {
+    for (dump, wire, want) in WHOLE.iter() {
+        check(&rt, rt.alloc(), dump.as_bytes(), *wire, want);
     }
-    Ok(())
 }
 
-#[test]
-fn wires_by_reference_and_by_code(rt: HostRuntime) -> Result<(), Fail> {
-    let dump =
-        b"$timescale 1 us $end $var wire 1 ! c $end $var wire 1 \" d $end $var wire 1 # ! $end $enddefinitions $end #1 1! #2 1\" #3 1# #4";
-    check(&rt, rt.alloc(), dump, None, "V6 ManyWires")?;
-    check(&rt, rt.alloc(), dump, Some(b"q"), "V5 NoSuchWire")?;
-    check(&rt, rt.alloc(), dump, Some(b"c"), "4 [1, 4]")?;
-    check(&rt, rt.alloc(), dump, Some(b"d"), "4 [2, 4]")?;
-    check(&rt, rt.alloc(), dump, Some(b"\""), "4 [2, 4]")?;
-    check(&rt, rt.alloc(), dump, Some(b"!"), "4 [3, 4]")
-}
+/// Changes of each form, and what is wrong with them.
+static CHANGES: [Row; 13] = [
+    ("1", Fault(VcdFault::BadToken(63))),
+    ("#5 1! #4 0!", Fault(VcdFault::Backward(69))),
+    ("#1099511627777", Fault(VcdFault::TimeTooLarge(63))),
+    ("#1099511627776", Edges(1099511627776, &[])),
+    (
+        "#999999999999999999999999999999",
+        Fault(VcdFault::TimeTooLarge(63)),
+    ),
+    ("#5x 1!", Fault(VcdFault::BadToken(63))),
+    ("#0000000000000000000000005 1! #7", Edges(7, &[5, 7])),
+    ("1! #3 0! 1! #5 X! #9", Edges(9, &[0, 5])),
+    ("#1 b0101 ! #2 b ! #3", Fault(VcdFault::BadToken(77))),
+    ("#1 b0101 ! #2 bx10 ! r1.5 ! sH ! #3", Edges(3, &[1, 2])),
+    (
+        "#1 1! $comment #0 $end $dumpoff x! $end #4 $dumpon 1! $end #6",
+        Edges(6, &[4, 6]),
+    ),
+    ("#1 1! #2 $comment", Fault(VcdFault::Unclosed)),
+    ("#1 1! #2 U!", Fault(VcdFault::BadToken(72))),
+];
 
 #[test]
-fn a_torn_dump_says_what_is_left(rt: HostRuntime) -> Result<(), Fail> {
-    let rows = [
-        (15, "V1 Unclosed"),
-        (45, "V8 NoEndDefinitions"),
-        (90, "200 [100, 120]"),
-        (91, "V9 BadToken at 90"),
-        (93, "V10 Backward at 90"),
-        (94, "280 [100, 120, 200, 280]"),
-    ];
-    for (len, want) in rows {
-        let torn = TWO_PULSES.as_bytes().get(..len).ok_or("short")?;
-        check(&rt, rt.alloc(), torn, None, want)?;
+fn changes_behind_a_header(rt: HostRuntime) {
+    check_rows(&rt, rt.alloc(), &CHANGES);
+}
+
+/// A dump of three wires, of which one has the code that is the reference of another.
+const THREE_WIRES: &[u8] =
+    b"$timescale 1 us $end $var wire 1 ! c $end $var wire 1 \" d $end $var wire 1 # ! $end $enddefinitions $end #1 1! #2 1\" #3 1# #4";
+
+/// The wire that is asked for, and what that dump is to be read as.
+static WIRES: [(Option<&[u8]>, Wanted); 6] = [
+    (None, Fault(VcdFault::ManyWires)),
+    (Some(b"q"), Fault(VcdFault::NoSuchWire)),
+    (Some(b"c"), Edges(4, &[1, 4])),
+    (Some(b"d"), Edges(4, &[2, 4])),
+    (Some(b"\""), Edges(4, &[2, 4])),
+    (Some(b"!"), Edges(4, &[3, 4])),
+];
+
+#[test]
+fn wires_by_reference_and_by_code(rt: HostRuntime) {
+    for (wire, want) in WIRES.iter() {
+        check(&rt, rt.alloc(), THREE_WIRES, *wire, want);
     }
-    Ok(())
+}
+
+/// How many bytes of the dump of two pulses are left, and what they are to be read as.
+static TORN: [(usize, Wanted); 6] = [
+    (15, Fault(VcdFault::Unclosed)),
+    (45, Fault(VcdFault::NoEndDefinitions)),
+    (90, Edges(200, &[100, 120])),
+    (91, Fault(VcdFault::BadToken(90))),
+    (93, Fault(VcdFault::Backward(90))),
+    (94, Edges(280, &[100, 120, 200, 280])),
+];
+
+#[test]
+fn a_torn_dump_says_what_is_left(rt: HostRuntime) {
+    for (len, want) in TORN.iter() {
+        let torn = TWO_PULSES.as_bytes().get(..*len).expect(&rt, "short");
+        check(&rt, rt.alloc(), torn, None, want);
+    }
 }

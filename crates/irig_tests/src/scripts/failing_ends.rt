@@ -7,7 +7,7 @@ use crate::scripts::stops::{
 };
 use irig_edit::Session;
 use irig_script::{MemoryShelf, RunFault, Status, run};
-use std::alloc::{AllocError, Global};
+use std::alloc::Global;
 use std::io::{self, ErrorKind, Read, Write};
 use std::process::Abort;
 
@@ -81,13 +81,18 @@ fn is_read(
         && stands(stop, session, &shelf)
 }
 
+/// Whether it is so on a session of its own.
+fn is_read_once(alloc: Global, worked: Worked<'_>, bytes: usize, kind: ErrorKind) -> bool {
+    match opened(alloc) {
+        Some(mut session) => is_read(alloc, &mut session, worked, bytes, kind),
+        None => false,
+    }
+}
+
 /// Each byte of a script is once the one that cannot be read.
 fn check_reads(rt: &impl Abort, alloc: Global, worked: Worked<'_>, kind: ErrorKind) {
     for bytes in 0..=worked.script.len() {
-        match opened(alloc) {
-            Some(mut session) => assert!(rt; is_read(alloc, &mut session, worked, bytes, kind)),
-            None => assert!(rt; false),
-        }
+        assert!(rt; is_read_once(alloc, worked, bytes, kind));
     }
 }
 
@@ -118,13 +123,18 @@ fn is_printed(
         && stands(stop, session, &shelf)
 }
 
+/// Whether it is so on a session of its own.
+fn is_printed_once(alloc: Global, worked: Worked<'_>, room: usize, fails: bool) -> bool {
+    match opened(alloc) {
+        Some(mut session) => is_printed(alloc, &mut session, worked, room, fails),
+        None => false,
+    }
+}
+
 /// Each byte of what a script prints is once the one that is not taken.
 fn check_writes(rt: &impl Abort, alloc: Global, worked: Worked<'_>, fails: bool) {
     for room in 0..worked.printed.len() {
-        match opened(alloc) {
-            Some(mut session) => assert!(rt; is_printed(alloc, &mut session, worked, room, fails)),
-            None => assert!(rt; false),
-        }
+        assert!(rt; is_printed_once(alloc, worked, room, fails));
     }
 }
 
@@ -166,20 +176,31 @@ fn is_put(alloc: Global, session: &mut Session, fails: u64, printed: &[u8]) -> b
         && stands(REFUSED_STOP, session, &shelf)
 }
 
+/// Whether it is so on a session of its own.
+fn is_put_once(alloc: Global, fails: u64, printed: &[u8]) -> bool {
+    match opened(alloc) {
+        Some(mut session) => is_put(alloc, &mut session, fails, printed),
+        None => false,
+    }
+}
+
 #[test]
 fn a_failed_put_refuses_its_line(rt: HostRuntime) {
     for (fails, printed) in REFUSED.iter() {
-        match opened(rt.alloc()) {
-            Some(mut session) => { assert!(rt; is_put(rt.alloc(), &mut session, *fails, printed)) }
-            None => assert!(rt; false),
-        }
+        assert!(rt; is_put_once(rt.alloc(), *fails, printed));
+    }
+}
+
+/// Whether a fault has this text.
+fn has_text(alloc: Global, fault: RunFault, text: &str) -> bool {
+    match format!(in alloc; "{fault}") {
+        Ok(told) => told.as_str() == text,
+        Err(_) => false,
     }
 }
 
 // No script of a test takes so many reads: its text is looked at here alone.
 #[test]
-fn many_reads_have_their_text(rt: HostRuntime) -> Result<(), AllocError> {
-    let text = format!(in rt.alloc(); "{}", RunFault::TooManyReads)?;
-    assert!(rt; text.as_str() == "S5 TooManyReads");
-    Ok(())
+fn many_reads_have_their_text(rt: HostRuntime) {
+    assert!(rt; has_text(rt.alloc(), RunFault::TooManyReads, "S5 TooManyReads"));
 }

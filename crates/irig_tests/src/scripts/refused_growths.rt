@@ -54,12 +54,16 @@ fn redoes(session: &mut Session) -> bool {
     }
 }
 
+/// Whether each of these calls in turn leaves what it says.
+fn is_left(session: &mut Session) -> bool {
+    inserts(session) && undoes(session) && inserts_another(session) && redoes(session)
+}
+
 // A call that is refused for want of memory leaves pulses and steps, and then succeeds.
 #[test]
 fn a_refused_call_leaves_the_session(rt: HostRuntime) {
     if let Some(mut session) = opened(rt.alloc()) {
-        let s = &mut session;
-        assert!(rt; inserts(s) && undoes(s) && inserts_another(s) && redoes(s));
+        assert!(rt; is_left(&mut session));
     }
 }
 
