@@ -4,7 +4,7 @@
 mod beside;
 mod grouping;
 mod held;
-mod helpers;
+pub mod helpers;
 mod leaving;
 mod looks;
 mod machine;

@@ -1,10 +1,10 @@
 //! Runs whose script cannot be read, whose output cannot be written, or whose texts cannot be put,
 //! from each byte and each put on.
 
-use crate::scripts::refused_growths::opened;
 use crate::scripts::stops::{
     DELETED, INVERTED, Stop, Worked, first_printing, front, last_read, stands,
 };
+use crate::sessions::helpers::two_pulses;
 use irig_edit::Session;
 use irig_script::{MemoryShelf, RunFault, Status, run};
 use std::alloc::Global;
@@ -83,7 +83,7 @@ fn is_read(
 
 /// Whether it is so on a session of its own.
 fn is_read_once(alloc: Global, worked: Worked<'_>, bytes: usize, kind: ErrorKind) -> bool {
-    match opened(alloc) {
+    match two_pulses(alloc) {
         Some(mut session) => is_read(alloc, &mut session, worked, bytes, kind),
         None => false,
     }
@@ -125,7 +125,7 @@ fn is_printed(
 
 /// Whether it is so on a session of its own.
 fn is_printed_once(alloc: Global, worked: Worked<'_>, room: usize, fails: bool) -> bool {
-    match opened(alloc) {
+    match two_pulses(alloc) {
         Some(mut session) => is_printed(alloc, &mut session, worked, room, fails),
         None => false,
     }
@@ -178,7 +178,7 @@ fn is_put(alloc: Global, session: &mut Session, fails: u64, printed: &[u8]) -> b
 
 /// Whether it is so on a session of its own.
 fn is_put_once(alloc: Global, fails: u64, printed: &[u8]) -> bool {
-    match opened(alloc) {
+    match two_pulses(alloc) {
         Some(mut session) => is_put(alloc, &mut session, fails, printed),
         None => false,
     }

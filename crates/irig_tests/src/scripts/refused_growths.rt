@@ -1,22 +1,15 @@
 //! What a growth that is refused leaves: run with each growth refused in turn, by `tests/no_memory`.
 
+use crate::sessions::helpers::two_pulses;
 use irig_codes::{Format, Kind};
 use irig_edit::{Refusal, Session};
 use irig_script::{DumpRunFault, MemoryShelf, Status, run_on_dump};
-use irig_vcd::{Recording, VcdFault};
+use irig_vcd::VcdFault;
 use std::alloc::Global;
 
 /// A dump of 1,000 microseconds with pulses 100-120 and 200-280.
 const DUMP: &[u8] =
     b"$timescale 1 us $end $var wire 1 ! c $end $enddefinitions $end #100 1! #120 0! #200 1! #280 0! #1000";
-
-/// A session on the recording of that dump.
-pub fn opened(alloc: Global) -> Option<Session> {
-    let edges = Vec::from_slice(alloc, &[100, 120, 200, 280]).ok()?;
-    let recording = Recording::new(1000, edges).ok()?;
-    let format = Format::new(Kind::G, 2).ok()?;
-    Session::open(alloc, recording, format).ok()
-}
 
 /// Whether a pulse is put in; a refusal leaves pulses and steps, and the next call succeeds.
 fn inserts(session: &mut Session) -> bool {
@@ -62,7 +55,7 @@ fn is_left(session: &mut Session) -> bool {
 // A call that is refused for want of memory leaves pulses and steps, and then succeeds.
 #[test]
 fn a_refused_call_leaves_the_session(rt: HostRuntime) {
-    if let Some(mut session) = opened(rt.alloc()) {
+    if let Some(mut session) = two_pulses(rt.alloc()) {
         assert!(rt; is_left(&mut session));
     }
 }

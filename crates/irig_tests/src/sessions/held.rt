@@ -1,18 +1,24 @@
 //! How many pulses the steps of a session hold, call by call.
 
-use super::helpers::{Call, obey, open, two_pulses};
+use super::helpers::{Call, obey, open};
 use irig_codes::Element;
 use irig_edit::Session;
+use std::alloc::Global;
 use std::process::Abort;
 
 /// A call, and how many pulses past and future hold after it.
 type Row = (Call, (u128, u128));
 
-/// Makes calls, and compares what past and future hold after each.
-fn check(rt: &impl Abort, session: &mut Session, rows: &[Row]) {
-    for (call, held) in rows {
-        let accepted = obey(session, *call).is_none();
-        assert!(rt; accepted && session.held() == *held);
+/// Whether a call is accepted, and past and future then hold what its row says.
+fn leaves(session: &mut Session, (call, held): &Row) -> bool {
+    obey(session, *call).is_none() && session.held() == *held
+}
+
+/// Makes calls on the track of these edges, and compares what past and future hold after each.
+fn check(rt: &impl Abort, alloc: Global, length: u64, edges: &[u64], rows: &[Row]) {
+    let mut session = open(alloc, length, edges).expect(rt, "a session");
+    for row in rows {
+        assert!(rt; leaves(&mut session, row));
     }
 }
 
@@ -35,8 +41,7 @@ static EDITS: [Row; 13] = [
 
 #[test]
 fn a_step_holds_what_its_edit_took_or_put(rt: HostRuntime) {
-    let mut session = two_pulses(rt.alloc()).expect(&rt, "a session");
-    check(&rt, &mut session, &EDITS);
+    check(&rt, rt.alloc(), 1_000, &[100, 120, 200, 280], &EDITS);
 }
 
 /// Frames on a track without a pulse.
@@ -51,6 +56,5 @@ static FRAMES: [Row; 6] = [
 
 #[test]
 fn frames_that_are_taken_back_are_held(rt: HostRuntime) {
-    let mut session = open(rt.alloc(), 20_000, &[]).expect(&rt, "a session");
-    check(&rt, &mut session, &FRAMES);
+    check(&rt, rt.alloc(), 20_000, &[], &FRAMES);
 }

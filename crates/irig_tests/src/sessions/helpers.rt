@@ -76,8 +76,13 @@ pub fn obey(session: &mut Session, call: Call) -> Option<Refusal> {
         Call::End => session.end(),
         Call::Abort => session.abort(),
     };
-    match answer {
-        Ok(()) => None,
-        Err(refusal) => Some(refusal),
+    answer.err()
+}
+
+/// Whether a session is saved as this dump.
+pub fn is_saved(session: &Session, dump: &[u8]) -> bool {
+    match session.saved() {
+        Ok(text) => text.as_slice() == dump,
+        Err(_) => false,
     }
 }

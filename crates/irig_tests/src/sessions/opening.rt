@@ -1,5 +1,6 @@
 //! Dumps with a journal, opened, and the line at fault where one is not.
 
+use super::helpers::is_saved;
 use irig_codes::{Format, Kind};
 use irig_edit::Session;
 use irig_vcd::VcdFault;
@@ -32,17 +33,9 @@ fn opened(alloc: Global, lines: &[u8]) -> Result<Session, VcdFault> {
 }
 
 /// Whether a session is saved as a dump with a journal of these lines.
-fn is_saved(alloc: Global, session: &Session, lines: &[u8]) -> bool {
+fn is_saved_with(alloc: Global, session: &Session, lines: &[u8]) -> bool {
     match dump(alloc, lines) {
-        Ok(same) => is_dump(session, same.as_slice()),
-        Err(_) => false,
-    }
-}
-
-/// Whether a session is saved as this dump.
-fn is_dump(session: &Session, dump: &[u8]) -> bool {
-    match session.saved() {
-        Ok(text) => text.as_slice() == dump,
+        Ok(same) => is_saved(session, same.as_slice()),
         Err(_) => false,
     }
 }
@@ -51,7 +44,7 @@ fn is_dump(session: &Session, dump: &[u8]) -> bool {
 /// it was.
 fn has_fault(alloc: Global, lines: &[u8], line: Option<usize>) -> bool {
     match opened(alloc, lines) {
-        Ok(session) => line.is_none() && is_saved(alloc, &session, lines),
+        Ok(session) => line.is_none() && is_saved_with(alloc, &session, lines),
         Err(VcdFault::BadJournal(told)) => line == Some(told),
         Err(_) => false,
     }

@@ -1,6 +1,6 @@
 //! Sessions saved, beside the lines that their calls ask for.
 
-use super::helpers::{Call, obey, two_pulses};
+use super::helpers::{Call, is_saved, obey, two_pulses};
 use irig_edit::Session;
 use std::alloc::{AllocError, Global};
 use std::process::Abort;
@@ -20,14 +20,6 @@ fn dump_with(session: &Session, lines: &[u8]) -> Result<Vec<u8>, AllocError> {
     let mut text = session.text()?;
     put_journal(&mut text, lines)?;
     Ok(text)
-}
-
-/// Whether a session is saved as this dump.
-fn is_saved(session: &Session, dump: &[u8]) -> bool {
-    match session.saved() {
-        Ok(text) => text.as_slice() == dump,
-        Err(_) => false,
-    }
 }
 
 /// Whether a session is saved after calls as its dump with a journal of these lines.
