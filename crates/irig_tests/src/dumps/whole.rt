@@ -96,7 +96,7 @@ fn whole_dumps(rt: HostRuntime) {
     }
 }
 
-/// Changes of each form, and what is wrong with them.
+/// Changes of each form, and what the dump is to be read as.
 static CHANGES: [Row; 13] = [
     ("1", Fault(VcdFault::BadToken(63))),
     ("#5 1! #4 0!", Fault(VcdFault::Backward(69))),
