@@ -14,7 +14,7 @@ use Rattle.irig_journal.specs.Machine as states
 use Rattle.irig_journal.specs.Openings as openings
 use Rattle.irig_journal.specs.Turns.{left_by}
 use Rattle.irig_edit.specs.Delta.{Delta, Fits, gathered, turned}
-use Rattle.irig_edit.specs.Keeping.{exchange_back, floor_at, floor_of, kept_back, kept_forward, machine}
+use Rattle.irig_edit.specs.Keeping.{exchange_back, floor_of, kept_back, kept_forward, machine}
 use Rattle.irig_edit.specs.Kept.{Kept, kept, together}
 use Rattle.irig_edit.specs.Laws.Groups.{turned-gathered}
 use Rattle.irig_edit.specs.Limits.{IsGrouped}

@@ -3,10 +3,11 @@ use Rattle.std.proofs.Common.{◌≡◌, ◌≤◌, ◌+◌, ◌++◌, ℕ, List
 use Rattle.std.specs.Prelude.{flat_map}
 use Rattle.std.specs.List.{AllByRecursion, sum_by}
 use Rattle.std.specs.Prelude.{Result, Ok, Err, OnErr}
-use Rattle.std.proofs.lemmas.List.{append-nil, length-map, map-append, reverse-append, take_all}
+use Rattle.std.proofs.lemmas.List.{append-nil, length-map, map-append, take_all}
 use Rattle.std.proofs.Math.ListN.{drop_of_length-le}
 use Rattle.std.proofs.lemmas.List.Sums.{sum_by-cons}
 use Rattle.irig_journal.specs.Turns.{FitAll, backs, left_by, ways_back}
+use Rattle.irig_edit.proofs.Reversed.{map-reverse}
 use Rattle.irig_edit.specs.Delta.{Delta, gathered, singles_of}
 use Rattle.irig_edit.specs.Delta.Delta.{Together}
 use Rattle.irig_edit.specs.Held.{delta_of, parts_of, single_of}
@@ -113,14 +114,6 @@ turned_more first now next all done left x y so_far turn looks keeps =
           (subst (λ (s : State). RoseWithin (both (looks_by (single_of x) s.pulses) (looks_along s rest)) now.index.looks most) there
           (rose_then (looks_by (single_of x) next.state.pulses) (looks_along next.state rest) now.index.looks next.index.looks most looks rose));
     }
-
--- a list turned over, item by item
-map-reverse : {X Y : Type 0} (f : X → Y) (xs : List X) → map f (reverse xs) ≡ reverse (map f xs)
-map-reverse f [] = refl
-map-reverse {Y = Y} f (x ∷ xs) =
-    ap (map f) (reverse-append (x ∷ []) xs)
-    ∙ (map-append f (reverse xs) (x ∷ [])
-    ∙ (ap (λ (l : List Y). l ++ f x ∷ []) (map-reverse f xs) ∙ sym (reverse-append (f x ∷ []) (map f xs))))
 
 -- after the last turn what leads back is left, in the opposite order
 pub turned_all : (first now : PresentView) (all xs ys : List Single) (i : ℕ) → length xs ≤ i

@@ -1,6 +1,5 @@
 -- The text of a saved session, put part by part.
-use Rattle.std.proofs.Common.{◌≡◌, ◌++◌, ℕ, List, [], ◌∷◌, map, reverse, Result, Ok, Err, OnOk, codes, refl, ap, sym, ◌∙◌, append_assoc}
-use Rattle.std.proofs.lemmas.List.{map-append, reverse-append}
+use Rattle.std.proofs.Common.{◌≡◌, ◌++◌, ℕ, List, [], ◌∷◌, Result, Ok, Err, OnOk, codes, refl, append_assoc}
 use Rattle.irig_journal.specs.Machine.{Machine}
 use Rattle.irig_saved.specs.Lines.{text_of}
 use Rattle.irig_saved.specs.SavedText.{journal_section, journal_text, saved_lines}
@@ -26,13 +25,6 @@ pub section : (body t1 t2 t3 t4 opens shuts : List ℕ) (ls ms : List (List ℕ)
     → t3 ≡ t2 ++ text_of ms → t4 ≡ t3 ++ shuts → t4 ≡ body ++ (opens ++ (text_of (ls ++ ms) ++ shuts))
 section body t1 t2 t3 t4 opens shuts ls ms first second third fourth =
     rw (fourth, third, second, first) (simp (append_assoc, text_of_append) refl)
-
--- a list turned over and then shown, and the other way round
-pub map-reverse : {A B : Type 0} (f : A → B) (xs : List A) → map f (reverse xs) ≡ reverse (map f xs)
-map-reverse f [] = refl
-map-reverse f (x ∷ xs) =
-    ap (map f) (reverse-append (x ∷ []) xs) ∙ map-append f (reverse xs) (x ∷ []) ∙ ap (λ ys. ys ++ f x ∷ []) (map-reverse f xs)
-    ∙ sym (reverse-append (f x ∷ []) (map f xs))
 
 -- the text of a machine is a body with such a section
 pub saved_text-parts : (m : Machine Kept) → saved_text m ≡ file_text (recording_of m.present.state)

@@ -3,7 +3,7 @@ use Rattle.irig_journal.specs.Turns.{FitAll, left_by, ways_back}
 use Rattle.irig_edit.specs.Held.{single_of}
 use Rattle.irig_edit.specs.Single.{FitsSingle, SingleDelta, turned_single}
 use Rattle.irig_edit.specs.State.{State}
-use Rattle.irig_edit.proofs.SavedSections.{map-reverse}
+use Rattle.irig_edit.proofs.Reversed.{map-reverse}
 use Rattle.irig_edit.proofs.Trials.{ways_fit, ways_state, ways_ways}
 use Rattle.irig_edit.proofs.present.Present.can_make_all.Goals as goal
 

@@ -12,7 +12,8 @@ use Rattle.irig_edit.specs.SavedSession.{saved_of, saved_text, steps_back, steps
 use Rattle.irig_edit.specs.Session.{SessionView, machine_in}
 use Rattle.irig_edit.specs.State.{recording_of}
 use Rattle.irig_edit.proofs.SavedSteps.{steps_back-kept, steps_named, steps_on-kept}
-use Rattle.irig_edit.proofs.SavedSections.{map-reverse, saved_text-parts, section}
+use Rattle.irig_edit.proofs.Reversed.{map-reverse}
+use Rattle.irig_edit.proofs.SavedSections.{saved_text-parts, section}
 use Rattle.irig_edit.proofs.session.Session.saved.Goals as goal
 
 pub put_steps-requires-clause-back : goal.put_steps-requires-clause-back
