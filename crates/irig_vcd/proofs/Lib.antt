@@ -4,6 +4,7 @@ pub mod DigitRuns
 pub mod Doubling
 pub mod LaneDigits
 pub mod CodeRuns
+pub mod ApartWords
 -- Numbers of digits, and times in two parts.
 pub mod Digits
 pub mod Sizes

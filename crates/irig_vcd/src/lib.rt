@@ -1,6 +1,7 @@
 //! Dumps of a digital wire: what a value change dump says of one wire, read and written.
 #![tactic(auto)]
 
+mod apart;
 mod changes;
 mod event;
 mod fault;

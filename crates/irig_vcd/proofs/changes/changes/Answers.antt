@@ -1,4 +1,4 @@
-use Rattle.std.proofs.Common.{◌≡◌, ◌∙◌, ◌∷◌, [], true, false, None, Ok, List, refl, ap, sym, subst, rules, arith}
+use Rattle.std.proofs.Common.{◌≡◌, ◌∙◌, ◌∷◌, [], true, false, Ok, List, refl, ap, sym, subst, rules, arith}
 use Rattle.irig_vcd.specs.Code.Token.{word_of}
 use Rattle.irig_vcd.specs.Words.{Word, rest_of}
 use Rattle.irig_vcd.specs.Code.Time.{units_of}
@@ -8,10 +8,11 @@ use Rattle.irig_vcd.specs.Changes.{changes_from}
 use Rattle.irig_vcd.specs.Code.Event.{is_hash}
 use Rattle.irig_vcd.specs.Code.Along.{behind, Along}
 use Rattle.irig_vcd.proofs.AlongSteps.{along_level}
-use Rattle.irig_vcd.proofs.ChangeSteps.{on_time, on_level, behind_none}
+use Rattle.irig_vcd.proofs.ChangeSteps.{on_time, behind_none}
 use Rattle.irig_vcd.specs.Journals.{journals_among}
 use Rattle.irig_vcd.proofs.JournalWords.{keeps_past, keeps_on, past_time, past_level, holds_all}
-use Rattle.irig_vcd.proofs.CodeRuns.{bit_level, apart_level}
+use Rattle.irig_vcd.proofs.CodeRuns.{bit_level}
+use Rattle.irig_vcd.proofs.ApartWords.{apart_on, apart_journals}
 use Rattle.irig_vcd.proofs.Clocks.{starts, no_units, later}
 use Rattle.irig_vcd.proofs.changes.changes.Goals as goal
 
@@ -88,15 +89,14 @@ tokens-preserved-in-Bit c =
 pub tokens-preserved-in-Apart : goal.tokens-preserved-in-Apart
 tokens-preserved-in-Apart c =
     let i = c.tokens.invariant.1 in
-    let a = c.in-Apart.ensures in
-    let k = on_level c.args.code.now c.args.unit (units_of c.args.unit c.tokens.clock) _ a.word c.next_short.new.self c.next_short.new.self None a.left (ap is_hash a.kind) (apart_level c.args.code.now a.word c.next_short.new.self a.kind a.level) in (
+    let k = apart_on c.args.code.now c.args.unit (units_of c.args.unit c.tokens.clock) _ _ c.in-Apart.ensures in (
       c.tokens.invariant.0,
       record {
         time = i.time;
         late = i.late;
         follows = i.follows;
         rest = ap (behind c.tokens.invariant.0) (sym k) ∙ i.rest;
-        journals = keeps_past _ _ _ _ i.journals (past_level _ a.word _ a.left a.kind);
+        journals = keeps_past _ _ _ _ i.journals (apart_journals c.args.code.now _ _ c.in-Apart.ensures);
       },
     )
 

@@ -1,0 +1,98 @@
+//! Values on other codes of one byte, which are passed over with the newline behind them.
+
+ghost use Rattle.std.specs.Prelude.{◌≡◌, ◌≤◌, ◌<◌, ◌+◌, ◌∷◌, ◌↔◌, [], true, false, length, drop};
+ghost use Rattle.std.specs.Prelude.{IfSome};
+ghost use Rattle.irig_vcd.specs.Words.{words_from};
+ghost use Rattle.irig_vcd.specs.Code.Short.{TakesApart, TakesVector};
+
+/// Whether a code is this byte alone.
+#[inline(always)]
+fn is_byte(code: &[u8], byte: u8) -> bool
+    ensures { (result ≡ true) ↔ (code.now ≡ byte ∷ []) }
+{
+    match code {
+        [only] => *only == byte,
+        _ => false,
+    }
+}
+
+/// Whether a 0 or a 1 stands at a place on another code of one byte, where a newline is behind it.
+#[inline(always)]
+pub fn is_apart(source: &[u8], start: usize, code: &[u8]) -> bool
+    requires room { start + 3 ≤ length source.now }
+    ensures { result ≡ true → TakesApart (words_from start false (drop start source.now))
+        (words_from (start + 3) false (drop (start + 3) source.now)) code.now }
+{
+    let value = source[start];
+    let other = source[start + 1];
+    if value < b'0' || value > b'1' || other < b'!' || other > b'~' {
+        return false;
+    }
+    if is_byte(code, other) {
+        return false;
+    }
+    source[start + 2] == b'\n'
+}
+
+/// How many bytes above a space stand from a place on, 4 of them at most.
+#[inline(always)]
+fn dark_of_four(source: &[u8], from: usize) -> usize
+    requires { from + 4 ≤ length source.now }
+    ensures few { result ≤ 4 }
+    ensures words { words_from (from + result) true (drop (from + result) source.now)
+        ≡ words_from from true (drop from source.now) }
+{
+    let mut count = 0;
+    while count < 4 {
+        if source[from + count] <= b' ' {
+            break;
+        }
+        count += 1;
+    }
+    count
+}
+
+/// Where the bytes above a space end that stand from a place on, or a place among them where few
+/// bytes are left. A function of its own for the machine too: the loop over the tokens keeps its
+/// registers.
+#[inline(never)]
+fn dark_end(source: &[u8], from: usize) -> usize
+    requires { from ≤ length source.now }
+    ensures within { result ≤ length source.now }
+    ensures words { words_from result true (drop result source.now)
+        ≡ words_from from true (drop from source.now) }
+{
+    let mut at = from;
+    while source.len() - at >= 4 {
+        let count = dark_of_four(source, at);
+        at += count;
+        if count < 4 {
+            break;
+        }
+    }
+    at
+}
+
+/// The place behind the vector that stands at a place, where another code of one byte and a newline
+/// are behind it. What its digits are is not looked at.
+#[inline(always)]
+pub fn vector_apart(source: &[u8], start: usize, code: &[u8]) -> Option<usize>
+    requires { start < length source.now }
+    ensures taken { IfSome result (λ end. TakesVector
+        (words_from start false (drop start source.now))
+        (words_from end false (drop end source.now)) code.now) }
+    ensures within { IfSome result (λ end. end ≤ length source.now) }
+{
+    if !matches!(source[start], b'b' | b'B') {
+        return None;
+    }
+    let space = dark_end(source, start + 1);
+    if source.len() - space < 3 || source[space] != b' ' || source[space + 2] != b'\n' {
+        return None;
+    }
+    let other = source[space + 1];
+    if other <= b' ' || is_byte(code, other) {
+        return None;
+    }
+    Some(space + 3)
+}
