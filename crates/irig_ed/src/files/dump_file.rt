@@ -116,6 +116,7 @@ fn append_all<R: Read>(reader: &mut R, bytes: &mut Vec<u8>) -> io::Result<()>
             return Ok(());
         }
     }
+    // no file has so many parts: only a reader that is interrupted again and again comes here
     Err(io::Error::from(ErrorKind::TimedOut))
 }
 
