@@ -5,6 +5,7 @@ pub mod Doubling
 pub mod LaneDigits
 pub mod CodeRuns
 pub mod ApartWords
+pub mod DarkLanes
 -- Numbers of digits, and times in two parts.
 pub mod Digits
 pub mod Sizes

@@ -1,9 +1,13 @@
 //! Values on other codes of one byte, which are passed over with the newline behind them.
 
 ghost use Rattle.std.specs.Prelude.{◌≡◌, ◌≤◌, ◌<◌, ◌+◌, ◌∷◌, ◌↔◌, [], true, false, length, drop};
-ghost use Rattle.std.specs.Prelude.{IfSome};
+ghost use Rattle.std.specs.Prelude.{ℕ, map, slice_index, IfSome};
+ghost use Rattle.std.specs.Simd.Lanes.{mask_l};
+ghost use Rattle.irig_vcd.specs.Code.Lanes.{is_low};
 ghost use Rattle.irig_vcd.specs.Words.{words_from};
 ghost use Rattle.irig_vcd.specs.Code.Short.{TakesApart, TakesVector};
+
+use std::simd::prelude::*;
 
 /// Whether a code is this byte alone.
 #[inline(always)]
@@ -34,22 +38,27 @@ pub fn is_apart(source: &[u8], start: usize, code: &[u8]) -> bool
     source[start + 2] == b'\n'
 }
 
-/// How many bytes above a space stand from a place on, 4 of them at most.
+/// A bit for each byte that is not above a space.
 #[inline(always)]
-fn dark_of_four(source: &[u8], from: usize) -> usize
-    requires { from + 4 ≤ length source.now }
-    ensures few { result ≤ 4 }
-    ensures words { words_from (from + result) true (drop (from + result) source.now)
-        ≡ words_from from true (drop from source.now) }
+fn spaces(bytes: u8x16) -> u64
+    ensures { result ≡ mask_l (map is_low bytes) }
 {
-    let mut count = 0;
-    while count < 4 {
-        if source[from + count] <= b' ' {
-            break;
-        }
-        count += 1;
+    bytes.simd_le(u8x16::splat(b' ')).to_bitmask()
+}
+
+/// How many bytes above a space stand from a place on, 16 of them at most.
+#[inline(always)]
+fn dark_count(source: &[u8], from: usize) -> usize
+    requires { from + 16 ≤ length source.now }
+    ensures few { result ≤ 16 }
+    ensures dark { (k : ℕ) → from ≤ k → k < from + result
+        → is_low (slice_index source.now k) ≡ false }
+{
+    let found = spaces(u8x16::from_slice(&source[from..]));
+    if found == 0 {
+        return 16;
     }
-    count
+    found.trailing_zeros() as usize
 }
 
 /// Where the bytes above a space end that stand from a place on, or a place among them where few
@@ -63,10 +72,10 @@ fn dark_end(source: &[u8], from: usize) -> usize
         ≡ words_from from true (drop from source.now) }
 {
     let mut at = from;
-    while source.len() - at >= 4 {
-        let count = dark_of_four(source, at);
+    while source.len() - at >= 16 {
+        let count = dark_count(source, at);
         at += count;
-        if count < 4 {
+        if count < 16 {
             break;
         }
     }
