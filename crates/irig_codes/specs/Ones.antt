@@ -13,7 +13,7 @@ ones_of (e ∷ es) = (if counts e then 1 else 0) + 2 * ones_of es
 abbrev pub raised : List Element → ℕ
 raised es = ones_of es * 2 ^ (100 - length es)
 
--- the bits from one place on, so many of them
+-- a number of bits from one place on
 abbrev pub bits_in : ℕ → ℕ → ℕ → ℕ
 bits_in n from count = n / 2 ^ from % 2 ^ count
 

@@ -1,4 +1,4 @@
--- The fifteen numbers that a frame carries, told by its elements that are One as the bits of a
+-- The fifteen numbers that a frame carries, from its elements that are One as the bits of a
 -- number: element k is bit k. This project's own.
 use Rattle.std.specs.Prelude.{ℕ, ◌+◌, ◌*◌, Bool, true, false, List, [], ◌∷◌}
 use Rattle.irig_codes.specs.declared.format.Kind.{Kind}
@@ -23,7 +23,7 @@ abbrev pub seconds_units_in : Kind → ℕ → ℕ
 seconds_units_in E n = 0
 seconds_units_in _ n = bits_in n 1 4
 
--- the units of the year, where a format has one
+-- the units of the year, if a format has one
 abbrev pub year_units_in : Kind → Bool → ℕ → ℕ
 year_units_in k false n = 0
 year_units_in G true n = bits_in n 60 4
@@ -35,7 +35,7 @@ year_tens_in k false n = 0
 year_tens_in G true n = bits_in n 65 4
 year_tens_in _ true n = bits_in n 55 4
 
--- the straight binary seconds, where they are there
+-- the straight binary seconds, if a format has them
 abbrev pub sbs_in : Bool → ℕ → ℕ
 sbs_in true n = bits_in n 80 9 + 512 * bits_in n 90 8
 sbs_in false n = 0
@@ -45,7 +45,7 @@ abbrev pub control_number : ℕ → List ℕ → ℕ
 control_number n [] = 0
 control_number n (e ∷ es) = bits_in n e 9 + 512 * control_number n es
 
--- the control functions, where they are there
+-- the control functions, if a format has them
 abbrev pub control_in : Kind → Bool → Bool → ℕ → ℕ
 control_in k false y n = 0
 control_in k true y n = control_number n (control_starts k y)

@@ -20,6 +20,6 @@ abbrev pub used_in : Kind → ℕ → ℕ
 used_in k n = used_of (slots_of k (has_control n) (has_sbs n) (has_year n))
 
 -- those of the expressions 0 to 7, whether or not the kind permits them; shut, so that they are
--- computed only where a proof asks
+-- computed only if a proof asks
 unfoldable pub masks_of : Kind → List ℕ
 masks_of k = map (used_in k) (range_with_len 0 8)

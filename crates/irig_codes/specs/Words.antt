@@ -28,7 +28,7 @@ element_word Zero = codes "zero"
 element_word One = codes "one"
 element_word Position = codes "position"
 
--- the word of what a pulse stands for: its element, or that its width is bad
+-- the word of a pulse's element, or that its width is bad
 abbrev pub class_word : Option Element → List ℕ
 class_word None = codes "bad"
 class_word (Some e) = element_word e

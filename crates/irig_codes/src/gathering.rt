@@ -8,8 +8,8 @@ ghost use Rattle.irig_codes.specs.Reading.{counts};
 use crate::ones::Ones;
 use std::marker::Model;
 
-/// Which elements of a frame are One, as far as it goes: each comes in at the top, and moves the
-/// others one place down, so that no weight is kept.
+/// Which elements of a frame are One, so far. Each new element is the top bit and moves the others
+/// one place down, so no weight has to be kept.
 #[derive(Clone, Copy)]
 pub struct Gathering {
     bits: u128,

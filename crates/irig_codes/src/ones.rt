@@ -43,7 +43,7 @@ impl Ones {
         Ones { bits }
     }
 
-    /// The bits from an element on, so many of them, as a number.
+    /// A number of bits from an element on, as a number.
     #[inline(always)]
     pub fn bits(self, from: u8, count: u8) -> u64
         requires within { from < 100 }
@@ -53,7 +53,7 @@ impl Ones {
         ((self.bits >> from) % (1 << count)) as u64
     }
 
-    /// The lowest that is none of a mask's.
+    /// The lowest element that is One and not in a mask.
     #[inline(always)]
     pub fn lowest_outside(self, mask: u128) -> Option<u8>
         ensures { IsLowestOutside self mask result }

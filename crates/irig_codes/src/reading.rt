@@ -37,7 +37,7 @@ fn seconds_units(kind: Kind, ones: Ones) -> u64
     }
 }
 
-/// The units of the year, where the expression has one.
+/// The units of the year, if the expression has one.
 fn year_units(kind: Kind, year: bool, ones: Ones) -> u64
     ensures { result ≡ year_units_in kind year ones }
 {
@@ -48,7 +48,7 @@ fn year_units(kind: Kind, year: bool, ones: Ones) -> u64
     }
 }
 
-/// The tens of the year, where the expression has one.
+/// The tens of the year, if the expression has one.
 fn year_tens(kind: Kind, year: bool, ones: Ones) -> u64
     ensures { result ≡ year_tens_in kind year ones }
 {
@@ -59,7 +59,7 @@ fn year_tens(kind: Kind, year: bool, ones: Ones) -> u64
     }
 }
 
-/// The straight binary seconds of the day, where they are there.
+/// The straight binary seconds of the day, if the format has them.
 fn sbs(there: bool, ones: Ones) -> u64
     ensures { result ≡ sbs_in there ones }
 {
@@ -90,7 +90,7 @@ fn from_70(ones: Ones) -> u64
     nine_at(ones, 70, nine_at(ones, 80, nine_at(ones, 90, 0)))
 }
 
-/// The control elements as one number, where they are there.
+/// The control elements as one number, if the format has them.
 fn control(kind: Kind, there: bool, year: bool, ones: Ones) -> u64
     ensures { result ≡ control_in kind there year ones }
 {

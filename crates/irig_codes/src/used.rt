@@ -39,8 +39,8 @@ macro_rules! row {
     ($part:ident $($later:ident)*) => { $part + 1024 * row![$($later)*] };
 }
 
-// The masks of expressions 0 to 7. E and G have one for each, too: those of expressions that they
-// do not permit are never asked for.
+// The masks of expressions 0 to 7. E and G have one for each, too; nothing asks for those of
+// expressions that they do not permit.
 static A: [u128; 8] = [
     row![SECONDS MINUTES HOURS DAYS HUNDREDS_AND_TENTHS CONTROL CONTROL CONTROL LOW_SBS HIGH_SBS],
     row![SECONDS MINUTES HOURS DAYS HUNDREDS_AND_TENTHS CONTROL CONTROL CONTROL NONE NONE],

@@ -1,4 +1,4 @@
-//! Elements of a frame, told by the widths of pulses and the steps between them.
+//! Elements of a frame, by the widths of pulses and the steps between them.
 
 ghost use Rattle.std.specs.Prelude.{◌≡◌, ◌<◌};
 ghost use Rattle.irig_codes.specs.Format.{interval_of};
@@ -6,7 +6,7 @@ ghost use Rattle.irig_codes.specs.Width.{HasTwentieths, class_in, class_of, is_i
 
 use crate::format::Format;
 
-/// What a pulse stands for: a binary digit, or the position of an element in its frame.
+/// What a pulse means: a binary digit, or the position of an element in its frame.
 #[derive(Clone, Copy, Debug, PartialEq, Eq)]
 pub enum Element {
     Zero,
@@ -14,7 +14,7 @@ pub enum Element {
     Position,
 }
 
-/// What a pulse of this width in microseconds stands for; `None` where the width is bad.
+/// What a pulse of this width in microseconds means; `None` if the width is bad.
 ///
 /// The bands round the nominal widths are this project's own choice.
 pub fn class(format: Format, width: u64) -> Option<Element>
@@ -45,7 +45,7 @@ pub fn class_in(interval: u64, width: u64) -> Option<Element>
 
 /// Whether two neighbouring rises that are this distance apart, in microseconds, are in step.
 ///
-/// They may miss the interval by a tenth of it, which is this project's own choice.
+/// They may be off by a tenth of the interval, which is this project's own choice.
 pub fn in_step(format: Format, distance: u64) -> bool
     ensures { result ≡ is_in_step format distance }
 {
@@ -59,11 +59,11 @@ pub fn step_in(interval: u64, distance: u64) -> bool
     ensures { result ≡ step_in interval distance }
 {
     let tenth = interval / 10;
-    // A distance below the first of these wraps, so that one comparison tells of both bounds.
+    // A distance below the lower bound wraps, so one comparison tests both bounds.
     distance.wrapping_sub(9 * tenth) <= 2 * tenth
 }
 
-/// The width in microseconds that a pulse of this element is made with; it is told as the element.
+/// The width in microseconds that a pulse of this element is made with. Its class is the element.
 pub fn nominal(format: Format, element: Element) -> u64
     ensures value { result ≡ nominal_of format element }
     ensures told { class_of format result ≡ Some element }

@@ -19,7 +19,7 @@ module _ {S : Type 0} where
   gone_to cursor m =
       record { past = m.past; present = kept m.present.state cursor; future = m.future }
 
-  -- after a deed; none where it cannot be accepted
+  -- after a deed; none if it cannot be accepted
   abbrev pub after_deed : Deed S → Grouped (Kept S) → Option (Grouped (Kept S))
   after_deed (Make after) g = Some (recorded_over g after)
   after_deed Back g = undone_over g
@@ -44,8 +44,8 @@ AbortGivesBack S = (deeds : List (Deed S)) (g start last : Grouped (Kept S))
     → aborted last ≡ Some (over None
     (record { past = g.machine.past; present = g.machine.present; future = [] }))
 
--- a begin, whatever is done, and an end: at most one step stands more, and leads to the state of
--- the begin
+-- a begin, whatever is done, and an end: there is at most one more step, which leads to the state
+-- of the begin
 abbrev pub EndLeavesOneStep : Type 0 → Type 0
 EndLeavesOneStep S = (deeds : List (Deed S)) (g start last after : Grouped (Kept S))
     → begun g ≡ Some start → after_deeds deeds start ≡ Some last → ended last ≡ Some after

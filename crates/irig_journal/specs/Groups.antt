@@ -1,5 +1,4 @@
--- The machine of whole states with a floor, which stands where a group was begun. This project's
--- own.
+-- The machine of whole states with a floor, the begin of the open group. This project's own.
 use Rattle.std.specs.Prelude.{ℕ, ◌-◌, Bool, false, List, [], drop, length, nat_le, Option, Some, None, option_map, if◌then◌else◌}
 use Rattle.irig_journal.specs.Machine.{Machine, recorded, undone, redone}
 
@@ -27,25 +26,25 @@ module _ {K : Type 0} where
   abbrev pub recorded_over : Grouped K → K → Grouped K
   recorded_over g after = over g.floor (recorded g.machine after)
 
-  -- after an undo; none where the past is empty, or no longer than the floor's length
+  -- after an undo; none if the past is empty, or no longer than the floor's length
   abbrev pub undone_over : Grouped K → Option (Grouped K)
   undone_over g = if is_at_floor g.floor g.machine.past
       then None else option_map (over g.floor) (undone g.machine)
 
-  -- after a redo; none where the future is empty
+  -- after a redo; none if the future is empty
   abbrev pub redone_over : Grouped K → Option (Grouped K)
   redone_over g = option_map (over g.floor) (redone g.machine)
 
-  -- a floor at the present; none where there is one
+  -- a floor at the present; none if there is one
   abbrev pub floored : Option (Floor K) → Machine K → Option (Grouped K)
   floored (Some floor) m = None
   floored None m = Some (over (Some (record { height = length m.past; present = m.present })) m)
 
-  -- after a begin: the floor stands here; none where a group is open
+  -- after a begin: the floor is here; none if a group is open
   abbrev pub begun : Grouped K → Option (Grouped K)
   begun g = floored g.floor g.machine
 
-  -- of the states beyond the floor's length the oldest is left; none where there is no floor
+  -- of the states after the floor's length the oldest is left; none if there is no floor
   abbrev pub joined_over : Option (Floor K) → Machine K → Option (Grouped K)
   joined_over None m = None
   joined_over (Some floor) m = Some (over None (record {
@@ -54,12 +53,11 @@ module _ {K : Type 0} where
     future = m.future;
   }))
 
-  -- after an end; none where no group is open
+  -- after an end; none if no group is open
   abbrev pub ended : Grouped K → Option (Grouped K)
   ended g = joined_over g.floor g.machine
 
-  -- past and present are those of the floor, and nothing is left to be made again; none where there
-  -- is no floor
+  -- past and present are those of the floor, and nothing is left to redo; none if there is no floor
   abbrev pub dropped_over : Option (Floor K) → Machine K → Option (Grouped K)
   dropped_over None m = None
   dropped_over (Some floor) m = Some (over None (record {
@@ -68,6 +66,6 @@ module _ {K : Type 0} where
     future = [];
   }))
 
-  -- after an abort; none where no group is open
+  -- after an abort; none if no group is open
   abbrev pub aborted : Grouped K → Option (Grouped K)
   aborted g = dropped_over g.floor g.machine

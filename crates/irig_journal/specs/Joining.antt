@@ -14,7 +14,7 @@ module _ {D : Type 0} where
   paired (d ∷ ds) [] = []
   paired [] ns = []
 
-  -- the steps of a list with the nearest first that stand beyond its n farthest
+  -- of a list with the nearest first, the steps before its n farthest
   abbrev pub beyond : ℕ → List (Step D) → List (Step D)
   beyond n steps = take (length steps - n) steps
 
@@ -22,7 +22,7 @@ module _ {D : Type 0} where
   abbrev pub farthest : ℕ → List (Step D) → List (Step D)
   farthest n steps = drop (length steps - n) steps
 
-  -- the cursor of the farthest step, or this one where there is none
+  -- the cursor of the farthest step, or this one if there is none
   abbrev pub cursor_of_farthest : ℕ → List (Step D) → ℕ
   cursor_of_farthest cursor [] = cursor
   cursor_of_farthest cursor (near ∷ steps) = cursor_of_farthest near.cursor steps
@@ -32,14 +32,14 @@ module _ {D : Type 0} where
   abbrev pub joined : (List D → D) → List (Step D) → Step D
   joined gathered steps = step (gathered (changes_of steps)) (cursor_of_farthest 0 steps)
 
-  -- the steps that stand where those beyond the n farthest were joined; one alone stays as it is
+  -- the list after the steps before its n farthest were joined; one alone stays as it is
   abbrev pub joined_beyond : (List D → D) → ℕ → List (Step D) → List (Step D)
   joined_beyond gathered n steps = if nat_le (length steps) (n + 1)
       then steps else joined gathered (beyond n steps) ∷ farthest n steps
 
 module _ {S D T : Type 0} where
-  -- the tally moved by one turn, that of the change that steps are gathered to; where there are
-  -- none, not at all
+  -- the tally moved by one turn, that of the change that steps are gathered to; without steps, not
+  -- at all
   abbrev pub CountsGathered : (S → D → T → T → Type 0) → (List D → D) → S → List (Step D) → T → T
       → Type 0
   CountsGathered counted gathered s [] old new = new ≡ old

@@ -4,8 +4,8 @@ use Rattle.irig_journal.specs.declared.step.Step.{Step}
 use Rattle.irig_journal.specs.History.{CountsNearest, History, machine}
 use Rattle.irig_journal.specs.Machine.{Kept, Machine}
 
--- one turn, that of the nearest of some steps, led from one history to another: so a move of the
--- machine of whole states tells, and one of the steps; and the tally moved by that turn
+-- one turn, that of the nearest of some steps, led from one history to another: by a move of the
+-- machine of whole states, and by a move of the steps; and the tally moved by that turn
 pub record LedByOneTurn {S D T : Type 0} (turned : S → D → S × D)
     (counted : S → D → T → T → Type 0) (move : Machine (Kept S) → Option (Machine (Kept S)))
     (step : History S D → Option (History S D)) (nearest : List (Step D))

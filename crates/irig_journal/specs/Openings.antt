@@ -1,4 +1,4 @@
--- Where the open group of a journal was begun. This project's own.
+-- The begin of the open group of a journal. This project's own.
 use Rattle.std.specs.Prelude.{ℕ, ◌≤◌, List, Option, Some, None}
 use Rattle.irig_journal.specs.declared.opening.Opening.{Opening}
 use Rattle.irig_journal.specs.declared.step.Step.{Step}
@@ -18,8 +18,8 @@ StandsOnFloor None long = Unit {0}
 StandsOnFloor (Some opening) long = opening.steps ≤ long
 
 module _ {S D : Type 0} where
-  -- the floor of a group begun here, at a state with these steps back: the steps beyond it lead to
-  -- the state that stood there
+  -- the floor of a group begun here, at a state with these steps back: the steps after it lead to
+  -- the state at the begin
   abbrev pub floor_at : (S → D → S × D) → S → List (Step D) → Opening → Floor (Kept S)
   floor_at turned s past opening = record {
     height = opening.steps;

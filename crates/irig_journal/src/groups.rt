@@ -1,4 +1,4 @@
-//! Groups: several edits that one undo takes back.
+//! Groups: several edits that one undo reverses.
 
 ghost use Rattle.std.specs.Prelude.{◌≡◌, ◌⊎◌, ◌+◌, ◌<◌, ◌↔◌, [], ℕ, IsErr, IsErrOf, IsNone, IsSome, IfSome, OnErr, OnOk, None, Some, length, vec_len};
 ghost use Rattle.irig_journal.specs.Groups.{aborted, begun, ended};
@@ -15,8 +15,8 @@ use crate::{JournalFault, Reversible};
 use std::alloc::AllocError;
 
 impl<R: Reversible> Journal<R> {
-    /// Opens a group at the present, whose cursor this is. It takes no memory, and the only
-    /// refusal is `GroupOpen`.
+    /// Opens a group at the present, whose cursor this is. It takes no memory, and the only error
+    /// is `GroupOpen`.
     pub fn begin(&mut self, cursor: usize) -> Result<(), JournalFault>
         ensures grouped { OnOk result ((s : R.Content) →
             begun (grouped_of R.turned R.delta s cursor self.old)
@@ -65,8 +65,8 @@ impl<R: Reversible> Journal<R> {
         Ok(())
     }
 
-    /// Closes the open group and takes its steps back for good: state and cursor become those of
-    /// its begin, and nothing is left to be made again.
+    /// Closes the open group and undoes its steps for good: state and cursor become those of its
+    /// begin, and nothing is left to redo.
     pub fn abort(&mut self, state: &mut R, cursor: &mut usize) -> Result<(), JournalFault>
         requires fits { FitsState R.fits R.turned R.delta (R.content state.old) self.old }
 

@@ -1,16 +1,16 @@
-//! Where a group of steps was begun.
+//! The begin of a group of steps.
 
 ghost use Rattle.std.specs.Prelude.{◌↔◌, IsTrue};
 ghost use Rattle.irig_journal.specs.Openings.{AtFloor};
 
-/// How many steps stood in the past when a group was begun, and the cursor of the present.
+/// How many steps the past had when a group was begun, and the cursor of the present then.
 #[derive(Clone, Copy, Debug, PartialEq, Eq)]
 pub struct Opening {
     pub steps: usize,
     pub cursor: usize,
 }
 
-/// Whether a past of so many steps goes back no further than the begin of the open group.
+/// Whether a past of this many steps goes back no further than the begin of the open group.
 pub(crate) fn is_at_floor(floor: Option<Opening>, long: usize) -> bool
     ensures { IsTrue result ↔ AtFloor floor long }
 {

@@ -11,7 +11,7 @@ use crate::step::Step;
 use std::mem;
 
 impl<R: Reversible> Journal<R> {
-    /// A step that can be taken back, by its number from 0: 0 is the oldest. This takes no memory.
+    /// A step that can be undone, by its number from 0: 0 is the oldest. This takes no memory.
     pub fn past(&self, number: usize) -> &Step<R::Change>
         requires within { number < length (past_of R.delta self.now) }
         ensures { slice_get (reverse (past_of R.delta self.now)) number
@@ -20,7 +20,7 @@ impl<R: Reversible> Journal<R> {
         &self.past[number]
     }
 
-    /// A step that can be made again, by its number from 0: 0 is the next. This takes no memory.
+    /// A step that can be redone, by its number from 0: 0 is the next. This takes no memory.
     pub fn future(&self, number: usize) -> &Step<R::Change>
         requires within { number < length (future_of R.delta self.now) }
         ensures { slice_get (future_of R.delta self.now) number
@@ -29,8 +29,8 @@ impl<R: Reversible> Journal<R> {
         &self.future[self.future.len() - 1 - number]
     }
 
-    /// Changes past and future over: what could be taken back can be made again, and the other way
-    /// round. The oldest step becomes the last to be made again. This takes no memory.
+    /// Swaps past and future: what could be undone can be redone, and the other way round. The
+    /// oldest step becomes the last one to redo. This takes no memory.
     pub fn turn_round(&mut self)
         requires no_group { self.old.floor ≡ None }
         ensures past { past_of R.delta self.new ≡ future_of R.delta self.old }

@@ -11,7 +11,7 @@ day_number y m d = day_count (pos y) m d - 366
 abbrev pub new_year_of : ℕ → ℕ
 new_year_of y = day_number y 1 1
 
--- the greatest year up to n whose 1 January is at or before the day; 0 where there is none
+-- the greatest year up to n whose 1 January is at or before the day; 0 if there is none
 unfoldable pub last_year : ℕ → ℕ → ℕ
 last_year zero day = zero
 last_year (suc n) day = if nat_le (new_year_of (suc n)) day then suc n else last_year n day
@@ -28,13 +28,13 @@ place_of day = day - new_year_of (year_of day) + 1
 abbrev pub is_year : ℕ → Bool
 is_year y = nat_le 1 y && nat_le y 9998
 
--- the number of a day told by its place in the year, where there is such a day
+-- the number of a day by its place in the year, if there is such a day
 abbrev pub ordinal_day_of : ℕ → ℕ → Option ℕ
 ordinal_day_of y d =
     if is_year y && (nat_le 1 d && nat_le d (days_in_year (pos y)))
     then Some (new_year_of y + (d - 1)) else None
 
--- the number of a day told by month and day, where there is such a day
+-- the number of a day by month and day, if there is such a day
 abbrev pub civil_day_of : ℕ → ℕ → ℕ → Option ℕ
 civil_day_of y m d =
     if is_year y && (nat_le 1 m && nat_le m 12)

@@ -19,7 +19,7 @@ starts_in f m = m.hundredths % 6000 % period_of f == 0
 abbrev pub elapsed : FormatView → MomentView → ℕ → ℕ
 elapsed f m k = m.hundredths + k * period_of f
 
--- the fields that tell a day and the hundredths of a second since its midnight
+-- the fields of a day and the hundredths of a second since its midnight
 abbrev pub fields_at : FormatView → ℕ → ℕ → ℕ → Fields
 fields_at f day time control = record {
   hundredths = part (has_hundredths f.kind) (time % 100);

@@ -3,7 +3,7 @@ use Rattle.std.specs.Prelude.{ℕ, ◌+◌, ◌-◌, ◌*◌, ◌==◌, ◌&&◌
 use Rattle.irig_moment.specs.Calendar.{ordinal_day_of, civil_day_of}
 use Rattle.irig_moment.specs.Moment.{MomentView}
 
--- whether a byte stands for a character of a form: a digit for 0, and else the same character
+-- whether a byte fits a character of a form: a digit for 0, and else the same character
 abbrev pub fits_form_of : ℕ → ℕ → Bool
 fits_form_of f c = if f == 48 then nat_le 48 c && nat_le c 57 else c == f
 
@@ -23,13 +23,13 @@ digits_after v (c ∷ cs) = digits_after (10 * v + (c - 48)) cs
 abbrev pub number_at : List ℕ → ℕ → ℕ → ℕ
 number_at text i n = digits_after 0 (take n (drop i text))
 
--- the hundredths of a second from midnight to a time, where there is such a time
+-- the hundredths of a second from midnight to a time, if there is such a time
 abbrev pub hundredths_of : ℕ → ℕ → ℕ → ℕ → Option ℕ
 hundredths_of h m s c =
     if (nat_le h 23 && nat_le m 59) && (nat_le s 59 && nat_le c 99)
     then Some (360000 * h + 6000 * m + 100 * s + c) else None
 
--- the moment of a day and a time, where both are there
+-- the moment of a day and a time, if both are there
 abbrev pub both : Option ℕ → Option ℕ → Option MomentView
 both (Some day) (Some hundredths) = Some (record { day = day; hundredths = hundredths })
 both (Some _) None = None
@@ -43,18 +43,18 @@ ordinal_date text = ordinal_day_of (number_at text 0 4) (number_at text 5 3)
 abbrev pub civil_date : List ℕ → Option ℕ
 civil_date text = civil_day_of (number_at text 0 4) (number_at text 5 2) (number_at text 8 2)
 
--- the time that stands at a place of a text as hh:mm:ss
+-- the time at a place of a text, as hh:mm:ss
 abbrev pub time_at : List ℕ → ℕ → Option ℕ
 time_at text i =
     hundredths_of (number_at text i 2) (number_at text (i + 3) 2) (number_at text (i + 6) 2) 0
 
--- the time that stands at a place of a text as hh:mm:ss.ff
+-- the time at a place of a text, as hh:mm:ss.ff
 abbrev pub fine_time_at : List ℕ → ℕ → Option ℕ
 fine_time_at text i =
     hundredths_of (number_at text i 2) (number_at text (i + 3) 2) (number_at text (i + 6) 2)
     (number_at text (i + 9) 2)
 
--- the moment that a text tells, if it has one of the four forms
+-- the moment of a text, if it has one of the four forms
 abbrev pub moment_of : List ℕ → Option MomentView
 moment_of text =
     if has_form_of (codes "0000-000T00:00:00") text

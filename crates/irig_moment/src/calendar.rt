@@ -18,7 +18,7 @@ fn new_year(year: u32) -> u32
     date(year as i16, 1, 1).to_plain().days_since_min()
 }
 
-/// The number of a day told by its place in the year, where the years 1 to 9998 have such a day.
+/// The number of a day by its place in the year, if the years 1 to 9998 have such a day.
 pub fn ordinal_day(year: u32, day: u32) -> Option<u32>
     ensures value { result ≡ ordinal_day_of year day }
     ensures range { IfSome result IsDay }
@@ -32,7 +32,7 @@ pub fn ordinal_day(year: u32, day: u32) -> Option<u32>
     Some(new_year(year) + (day - 1))
 }
 
-/// The number of a day told by month and day, where the years 1 to 9998 have such a day.
+/// The number of a day by month and day, if the years 1 to 9998 have such a day.
 pub fn civil_day(year: u32, month: u32, day: u32) -> Option<u32>
     ensures value { result ≡ civil_day_of year month day }
     ensures range { IfSome result IsDay }

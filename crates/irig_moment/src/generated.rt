@@ -18,7 +18,7 @@ pub fn period(format: Format) -> u32
     (format.frame_period() / 10_000) as u32
 }
 
-/// The fields that tell a day and the hundredths of a second since its midnight.
+/// The fields of a day and the hundredths of a second since its midnight.
 pub fn fields_at(format: Format, day: u32, time: u32, control: u64) -> Fields
     requires from { new_year_of 1 ≤ day }
     requires before { day < new_year_of 9999 + 365 }

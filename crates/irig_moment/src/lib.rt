@@ -1,4 +1,4 @@
-//! Moments in time, and the fields of the frames that tell them.
+//! Moments in time, and the fields of the frames that carry them.
 #![tactic(auto)]
 
 mod calendar;

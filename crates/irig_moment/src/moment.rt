@@ -32,7 +32,7 @@ impl Model for Moment {
 }
 
 impl Moment {
-    /// The moment that a text tells, as `YYYY-DDDThh:mm:ss[.ff]` or `YYYY-MM-DDThh:mm:ss[.ff]`.
+    /// The moment of a text, as `YYYY-DDDThh:mm:ss[.ff]` or `YYYY-MM-DDThh:mm:ss[.ff]`.
     pub fn parse(text: &[u8]) -> Option<Moment>
         ensures { result ≡ moment_of text.now }
     {
@@ -61,16 +61,16 @@ impl Moment {
         }
     }
 
-    /// Whether a frame of the format begins at the moment, where one begins at each full minute.
+    /// Whether a frame of the format begins at the moment. One begins at each full minute.
     pub fn starts(&self, format: Format) -> bool
         ensures { result ≡ starts_in format self.now }
     {
         self.hundredths % 6_000 % period(format) == 0
     }
 
-    /// The fields of frame k from the moment on, from 0: it tells the moment plus k frame periods.
+    /// The fields of frame k from the moment on, from 0: the moment plus k frame periods.
     ///
-    /// The year is told modulo 100; the lowest bit of `control` is the first control element.
+    /// The year is modulo 100; the lowest bit of `control` is the first control element.
     pub fn fields(&self, format: Format, k: u64, control: u64) -> Fields
         requires starts { IsTrue (starts_in format self.now) }
         requires frames { k < 10000 }

@@ -6,7 +6,7 @@ ghost use Rattle.irig_moment.specs.Written.{has_form_of, fits_form_of, number_at
 
 use crate::calendar::{civil_day, ordinal_day};
 
-/// Whether a text has a form: a digit where the form has 0, and elsewhere the same character.
+/// Whether a text has a form: a digit for each 0 of the form, and else the same character.
 pub fn has_form(form: &[u8], text: &[u8]) -> bool
     ensures value { result ≡ has_form_of form.now text.now }
     ensures long { IsTrue result → length text.now ≡ length form.now }

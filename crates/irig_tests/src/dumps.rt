@@ -16,14 +16,14 @@ use std::process::Abort;
 /// The declarations of one wire, 63 bytes, before the changes.
 const HEADER: &str = "$timescale 1 us $end $var wire 1 ! c $end $enddefinitions $end ";
 
-/// What a dump is to be read as: a length and edges, or a fault.
+/// What a dump has to be read as: a length and edges, or a fault.
 #[derive(Clone, Copy)]
 enum Wanted {
     Edges(u64, &'static [u64]),
     Fault(VcdFault),
 }
 
-/// Changes behind that header, and what the dump is to be read as.
+/// Changes after that header, and what the dump has to be read as.
 type Row = (&'static str, Wanted);
 
 /// Whether a recording is what is wanted.
@@ -71,7 +71,7 @@ fn check(rt: &impl Abort, alloc: Global, dump: &[u8], wire: Option<&[u8]>, want:
     assert!(rt; is_read_alone(alloc, dump, wire, want));
 }
 
-/// The dump of these changes behind the header.
+/// The dump of these changes after the header.
 fn dump_of(alloc: Global, changes: &str) -> Result<Vec<u8>, AllocError> {
     let mut dump = Vec::from_slice(alloc, HEADER.as_bytes())?;
     dump.extend_from_slice(changes.as_bytes())?;

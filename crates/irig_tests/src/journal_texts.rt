@@ -1,5 +1,5 @@
-//! The worked journal, a track of two pulses of which the first was deleted and a mark was set and
-//! taken back; and texts at fault.
+//! The worked journal: of two pulses the first was deleted, and a mark was set and undone. And
+//! texts with a wrong line.
 
 ghost use Rattle.std.specs.Prelude.{◌<◌, ◌^◌, length};
 
@@ -16,7 +16,7 @@ use std::process::Abort;
 const WORKED: &[u8] =
     b"irig-journal-1\nformat G 2\ncursor 1\npast 1\nat 2\nsplice 1 0 1\n100 120\nfuture 1\nat 1\nsetmark a 110\n";
 
-/// The number of the line at fault; 0 where there is none.
+/// The number of the wrong line; 0 if there is none.
 fn fault(alloc: Global, text: &[u8]) -> usize
     requires { length text.now < 2 ^ 63 }
 {
@@ -27,7 +27,7 @@ fn fault(alloc: Global, text: &[u8]) -> usize
     }
 }
 
-/// Each text has its fault at the line of its row.
+/// Each text has its wrong line as its row says.
 fn check(rt: &impl Abort, alloc: Global, rows: &[(&[u8], usize)]) {
     for (text, line) in rows {
         assert!(rt; text.len() < 1 << 20);
@@ -116,7 +116,7 @@ fn the_first_line_at_fault_in_a_step_is_told(rt: HostRuntime) {
     );
 }
 
-/// Whether a step leads to the second pulse and puts the one that was deleted.
+/// Whether a step leads to the second pulse and inserts the one that was deleted.
 fn is_splice(step: Step) -> bool {
     let Step { cursor, change } = step;
     let Change::One(Single::Splice { at, count, put }) = change else {
@@ -146,7 +146,7 @@ fn has_head(saved: &Saved) -> bool {
     saved.kind == Kind::G && saved.expression == 2 && saved.cursor == 1 && saved.marks == [None; 26]
 }
 
-/// Whether the journal has the steps of the worked one; its last step back is taken out.
+/// Whether the journal has the steps of the worked one; its last step back is removed.
 fn has_steps(saved: &mut Saved) -> bool {
     let future = saved.future.as_slice();
     future.len() == 1 && is_mark(&future[0]) && saved.past.pop().is_some_and(is_splice)
@@ -198,7 +198,7 @@ fn put_changes(text: &mut Vec<u8>) -> Result<(), AllocError> {
     put_set_format(text, Kind::E, 1)
 }
 
-/// Whether the lines of the worked journal are put into an empty text.
+/// Whether the lines of the worked journal are written into an empty text.
 fn is_worked_put(text: &mut Vec<u8>) -> bool {
     put_head(text).is_ok()
         && put_back(text).is_ok()
@@ -206,7 +206,7 @@ fn is_worked_put(text: &mut Vec<u8>) -> bool {
         && text.as_slice() == WORKED
 }
 
-/// Whether the lines of that group are put into an empty text.
+/// Whether the lines of that group are written into an empty text.
 fn is_group_put(text: &mut Vec<u8>) -> bool {
     put_changes(text).is_ok()
         && text.as_slice() == b"group 3\nshift 1 2 -20 az\ntoggle 5 6\nsetformat E 1\n".as_slice()

@@ -27,7 +27,7 @@ enum Call {
     Abort,
 }
 
-/// What a call answers. `Unfit` where the edit does not apply.
+/// What a call answers. `Unfit` if the edit does not apply.
 #[derive(Clone, Copy, Debug, PartialEq, Eq)]
 enum Reply {
     Done,
@@ -58,7 +58,7 @@ type Row<'a> = (
     (u128, u128),
 );
 
-/// Takes steps back, makes them again or groups them, over any state.
+/// Undoes, redoes or groups steps, over any state.
 fn step<R: Reversible>(
     journal: &mut Journal<R>,
     state: &mut R,
@@ -78,7 +78,7 @@ fn step<R: Reversible>(
     }
 }
 
-/// Makes a change where it applies, over any state.
+/// Makes a change if it applies, over any state.
 fn make<R: Reversible>(
     journal: &mut Journal<R>,
     state: &mut R,
@@ -97,7 +97,7 @@ fn make<R: Reversible>(
     reply_to(journal.record(state, change, before))
 }
 
-/// What an answer is told as.
+/// The reply for an answer.
 fn reply_to(answer: Result<(), JournalFault>) -> Reply {
     match answer {
         Ok(()) => Reply::Done,
@@ -151,7 +151,7 @@ fn a_journal_is_the_machine_of_whole_states(rt: HostRuntime) -> Result<(), Fail>
         (Call::Undo, Reply::Done, b"a", 1, 1, 2, 5, (0, 1)),
         (Call::Redo, Reply::Done, b"ab", 2, 2, 1, 6, (0, 0)),
         (Call::Redo, Reply::Done, b"a", 5, 3, 0, 7, (1, 0)),
-        // A redo gives back the cursor that stood at the undo, and not the one that the edit left.
+        // A redo gives back the cursor of the undo, and not the one that the edit left.
         (Call::Go(4), Reply::Done, b"a", 4, 3, 0, 7, (1, 0)),
         (Call::Undo, Reply::Done, b"ab", 2, 2, 1, 8, (0, 0)),
         (Call::Go(6), Reply::Done, b"ab", 6, 2, 1, 8, (0, 0)),
@@ -159,7 +159,7 @@ fn a_journal_is_the_machine_of_whole_states(rt: HostRuntime) -> Result<(), Fail>
         (Call::Undo, Reply::Done, b"ab", 6, 2, 1, 10, (0, 0)),
         (Call::Undo, Reply::Done, b"a", 1, 1, 2, 11, (0, 1)),
         (Call::Undo, Reply::Done, b"", 0, 0, 3, 12, (0, 2)),
-        // A refused edit keeps what can be made again, and an accepted one does not.
+        // A refused edit keeps what can be redone, and an accepted one does not.
         (Call::Pop(9), Reply::Unfit, b"", 0, 0, 3, 12, (0, 2)),
         (Call::Undo, NO_STEP_BACK, b"", 0, 0, 3, 12, (0, 2)),
         (Call::Redo, Reply::Done, b"a", 1, 1, 2, 13, (0, 1)),
@@ -193,10 +193,10 @@ fn a_group_is_taken_back_whole(rt: HostRuntime) -> Result<(), Fail> {
         (Call::Undo, Reply::Done, b"a", 1, 1, 1, 4, (0, 1)),
         (Call::Redo, Reply::Done, b"b", 7, 2, 0, 5, (1, 0)),
         (Call::Undo, Reply::Done, b"a", 1, 1, 1, 6, (0, 1)),
-        // A group with no step makes none, and keeps what can be made again.
+        // A group with no step makes none, and keeps what can be redone.
         (Call::Begin, Reply::Done, b"a", 1, 1, 1, 6, (0, 1)),
         (Call::End, Reply::Done, b"a", 1, 1, 1, 6, (0, 1)),
-        // A group made again in a group gives its changes singly.
+        // A group redone in a group gives its changes singly.
         (Call::Begin, Reply::Done, b"a", 1, 1, 1, 6, (0, 1)),
         (Call::Redo, Reply::Done, b"b", 7, 2, 0, 7, (1, 0)),
         (Call::Push(b'c', 3), Reply::Done, b"bc", 3, 3, 0, 8, (1, 0)),
@@ -226,10 +226,10 @@ fn an_abort_gives_back_what_stood_at_the_begin(rt: HostRuntime) -> Result<(), Fa
         (Call::Pop(4), Reply::Done, b"a", 4, 3, 0, 5, (1, 0)),
         (Call::Pop(5), Reply::Done, b"", 5, 4, 0, 6, (2, 0)),
         (Call::Undo, Reply::Done, b"a", 4, 3, 1, 7, (1, 0)),
-        // All in one turn, to the cursor that stood at the begin, also after the going to 9.
+        // All in one turn, to the cursor of the begin, also after the move to 9.
         (Call::Abort, Reply::Done, b"a", 1, 1, 0, 8, (0, 0)),
         (Call::Redo, NO_STEP_ON, b"a", 1, 1, 0, 8, (0, 0)),
-        // Where there is no step there is no turn, and nothing is left to be made again.
+        // Without a step there is no turn, and nothing is left to redo.
         (Call::Undo, Reply::Done, b"", 0, 0, 1, 9, (0, 1)),
         (Call::Begin, Reply::Done, b"", 0, 0, 1, 9, (0, 1)),
         (Call::Abort, Reply::Done, b"", 0, 0, 0, 9, (0, 0)),

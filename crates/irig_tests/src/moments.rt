@@ -1,4 +1,4 @@
-//! Rows from outside: texts of moments, and what frames from them on tell.
+//! Rows from outside: texts of moments, and the frames from them on.
 
 use irig_codes::{Fields, Format, Kind};
 use irig_moment::Moment;

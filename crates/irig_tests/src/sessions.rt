@@ -1,4 +1,4 @@
-//! The plain machine of whole states beside a session, and rows of what a session holds and looks
+//! The plain machine of whole states against a session, and rows of what a session holds and looks
 //! at.
 
 mod beside;

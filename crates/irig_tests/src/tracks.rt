@@ -1,4 +1,4 @@
-//! Worked rows, and the definitions computed slowly beside the edits.
+//! Worked rows, and the definitions, computed slowly, against the edits.
 
 mod helpers;
 mod rows;

@@ -1,4 +1,4 @@
--- Changes turned one after another are taken back by what leads back, in the opposite order. This
+-- Changes turned one after another are reversed by what leads back, in the opposite order. This
 -- project's own.
 use Rattle.std.proofs.Common.{◌≡◌, ◌++◌, ◌∷◌, [], List, reverse, refl, ap, ap₂, sym, subst, ◌∙◌}
 use Rattle.std.proofs.lemmas.List.{reverse-append, reverse-reverse}
@@ -6,7 +6,7 @@ use Rattle.irig_journal.specs.Turns.{FitAll, left_by, backs, ways_back}
 use Rattle.irig_journal.specs.Laws.Turns.{FitAll-append, backs-append, left_by-append, ways_back-cons}
 
 module _ {S D : Type 0} where
-  -- a change leaves a state, from which what it leaves behind leads back
+  -- a change leaves a state, from which the change that it leaves leads back
   pub record LeadsBack (is_state : S → Type 0) (fits : S → D → Type 0)
       (turned : S → D → S × D) : Type 0 where
     pub keeps : (s : S) (d : D) → is_state s → fits s d → is_state (turned s d).0

@@ -1,4 +1,4 @@
--- An edit of a stack is taken back by the edit that it leaves. This project's own.
+-- What an edit of a stack leaves is its inverse. This project's own.
 use Rattle.std.proofs.Common.{◌≡◌, ℕ, List, ap, ap₂}
 use Rattle.irig_journal.specs.declared.stack.Edit.{Edit}
 use Rattle.irig_journal.specs.declared.stack.Edit.TheVariants.{One, Group}

@@ -27,7 +27,7 @@ edit_back xs (Group singles) = refl
 edits_are_of_singles : IsOfParts CanEdit edited CanMake made singles_of
 edits_are_of_singles = record { fit = edit_fit; state = edit_state; back = edit_back }
 
--- the group of edits can be made where they can, one after another
+-- the group of edits can be made if they can, one after another
 pub CanEdit-grouped : (xs : List ℕ) (ds : List Edit) → FitAll CanEdit edited xs ds
     → CanEdit xs (grouped ds)
 CanEdit-grouped xs ds can =

@@ -22,7 +22,7 @@ fn gives(recording: Recording, length: u64, edges: &[u64]) -> bool {
         && recording.into_edges().as_slice() == edges
 }
 
-/// Whether edges make a recording that gives them, or are handed back, as their row says.
+/// Whether edges make a recording that gives them, or come back, as their row says.
 fn is_answered(alloc: Global, (length, edges, accepted): &Row) -> bool {
     let Ok(given) = Vec::from_slice(alloc, edges) else {
         return false;
@@ -51,7 +51,7 @@ static TOKENS: [(Kind, &[u8], usize); 7] = [
     (Kind::Other, b"U", 24),
 ];
 
-/// Whether the next token is of a kind, and stands at a place.
+/// Whether the next token is of a kind, and at a place.
 fn is_next(tokens: &mut Tokens<'_>, (kind, slice, offset): &(Kind, &[u8], usize)) -> bool {
     match tokens.next() {
         Some(token) => token.kind == *kind && token.slice == *slice && token.offset == *offset,

@@ -1,4 +1,4 @@
-//! All dumps of five steps, beside the slow program whose contract is the definition.
+//! All dumps of five steps, against the slow program whose contract is the definition.
 
 use super::HEADER;
 use crate::dumps::plain::plain_edges;
@@ -24,14 +24,14 @@ impl Dump {
         })
     }
 
-    /// Puts a change to a level, which a text tells.
+    /// Adds a change to a level, with its text.
     fn put_change(&mut self, text: &[u8], high: bool) -> Result<(), AllocError> {
         self.text.extend_from_slice(text)?;
         self.changes.push((self.time, high))?;
         Ok(())
     }
 
-    /// Puts a time, so much later.
+    /// Adds a time, this much later.
     fn put_time(&mut self, by: u64) -> Result<(), AllocError> {
         self.time = self.time.saturating_add(by);
         let tens = b'0' + (self.time / 10 % 10) as u8;
@@ -39,7 +39,7 @@ impl Dump {
         self.text.extend_from_slice(&[b'#', tens, units, b' '])
     }
 
-    /// Puts a step, told by a digit to base five.
+    /// Adds a step, by a digit to base five.
     fn put(&mut self, step: u64) -> Result<(), AllocError> {
         match step {
             0 => self.put_change(b"1! ", true),
@@ -50,7 +50,7 @@ impl Dump {
     }
 }
 
-/// The dump of five steps, told by the digits of a number to base five.
+/// The dump of five steps, by the digits of a number to base five.
 fn small_dump(alloc: Global, steps: u64) -> Result<Dump, AllocError> {
     let mut dump = Dump::new(alloc)?;
     let mut left = steps;

@@ -87,7 +87,7 @@ fn count_of(alloc: Global, dump: &[u8]) -> Result<usize, VcdFault> {
     }
 }
 
-/// The line behind those of a full dump, of one pulse more.
+/// The line after those of a full dump, of one more pulse.
 const MORE: &[u8] = b"1!\n#8388609\n0!\n";
 
 #[test]

@@ -124,7 +124,7 @@ fn changes_behind_a_header(rt: HostRuntime) {
     check_rows(&rt, rt.alloc(), &CHANGES);
 }
 
-/// A dump of three wires, of which one has the code that is the reference of another.
+/// A dump of three wires. One has a code that is the reference of another.
 const THREE_WIRES: &[u8] =
     b"$timescale 1 us $end $var wire 1 ! c $end $var wire 1 \" d $end $var wire 1 # ! $end $enddefinitions $end #1 1! #2 1\" #3 1# #4";
 

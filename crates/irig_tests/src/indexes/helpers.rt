@@ -1,4 +1,4 @@
-//! Tracks of format G, expression 2, their edits, and indexes that are kept beside them.
+//! Tracks of format G, expression 2, their edits, and indexes that are kept next to them.
 
 ghost use Rattle.std.specs.Prelude.{◌≡◌, ◌<◌, ◌≤◌, IfOk, OnOk, MatchOption};
 ghost use Rattle.irig_index.specs.Frames.{frames};
@@ -14,11 +14,11 @@ use std::alloc::{AllocError, Global};
 /// What is done to a track.
 #[derive(Clone, Copy)]
 pub(crate) enum Edit {
-    /// The level is turned round from the first time to the second.
+    /// The level is inverted from the first time to the second.
     Invert(u64, u64),
     /// One pulse is moved, by this many microseconds.
     Move(usize, i64),
-    /// From the first pulse on, so many are taken out.
+    /// From the first pulse on, this many are removed.
     Cut(usize, usize),
 }
 
@@ -44,7 +44,7 @@ fn track_of(alloc: Global, length: u64, edges: Vec<u64>) -> Result<Track, AllocE
     }
 }
 
-/// So many pulses of sound frames: element e of frame k rises at (100 k + e) * 100.
+/// This many pulses of sound frames: element e of frame k rises at (100 k + e) * 100.
 pub(crate) fn sound(alloc: Global, count: u64) -> Result<Track, AllocError>
     requires { count ≤ 1000000 }
 {
@@ -66,7 +66,7 @@ pub(crate) fn positions(alloc: Global) -> Result<Track, AllocError> {
     track_of(alloc, 800, edges)
 }
 
-/// Takes `count` pulses out from `at` on, if they are there.
+/// Removes `count` pulses from `at` on, if they are there.
 fn cut(
     alloc: Global,
     track: &mut Track,
@@ -86,7 +86,7 @@ fn cut(
     Ok(Some(track.splice(at, count, &mut put, &mut taken)))
 }
 
-/// Makes an edit, if it can be made, and tells where.
+/// Makes an edit, if it can be made, and returns where.
 fn make(alloc: Global, track: &mut Track, edit: Edit) -> Result<Option<Span>, AllocError>
     ensures micros { OnOk result (track.new.micros ≡ track.old.micros) }
     ensures span { IfOk result (λ made. MatchOption made (track.new.pulses ≡ track.old.pulses)
@@ -103,7 +103,7 @@ fn make(alloc: Global, track: &mut Track, edit: Edit) -> Result<Option<Span>, Al
     }
 }
 
-/// The edit that takes an inversion or a move back.
+/// The edit that reverses an inversion or a move.
 pub(crate) fn back(edit: Edit) -> Edit {
     match edit {
         Edit::Move(pulse, by) => Edit::Move(pulse, 0i64.wrapping_sub(by)),
@@ -111,7 +111,7 @@ pub(crate) fn back(edit: Edit) -> Edit {
     }
 }
 
-/// Makes an edit, if it can be made, and repairs the index. False where too many looks were made.
+/// Makes an edit, if it can be made, and repairs the index. False if too many looks were made.
 pub(crate) fn repaired(
     alloc: Global,
     track: &mut Track,

@@ -7,7 +7,7 @@ use irig_index::Index;
 use irig_track::Track;
 use std::alloc::Global;
 
-/// The index of a track; a refusal is asked for again.
+/// The index of a track; a refused growth is asked for again.
 fn built(alloc: Global, track: &Track) -> Option<Index> {
     let format = Format::new(Kind::G, 2).ok()?;
     match Index::build(alloc, &mut track.lens(), format) {
@@ -36,14 +36,14 @@ fn has_markers(index: &Index) -> bool {
     index.len() == 7
 }
 
-/// Whether both make room; a refusal leaves the index's room, and the next call makes it.
+/// Whether both make room; an error leaves the index's room, and the next call makes it.
 fn both_reserve(track: &mut Track, index: &mut Index) -> bool {
     let room = index.room();
     (track.reserve(100).is_ok() || track.reserve(100).is_ok())
         && (index.reserve(100).is_ok() || index.room() == room && index.reserve(100).is_ok())
 }
 
-/// Whether pulses and frames stand where both have made room.
+/// Whether pulses and frames are as they were after both have made room.
 fn are_kept(alloc: Global, track: &mut Track) -> bool {
     match built(alloc, track) {
         Some(mut index) => {
@@ -53,7 +53,7 @@ fn are_kept(alloc: Global, track: &mut Track) -> bool {
     }
 }
 
-// A call that is refused for want of memory leaves pulses and frames, and then succeeds.
+// A call that runs out of memory leaves pulses and frames, and then succeeds.
 #[test]
 fn a_refused_call_leaves_pulses_and_frames(rt: HostRuntime) {
     if let Ok(mut track) = positions(rt.alloc()) {

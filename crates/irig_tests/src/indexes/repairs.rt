@@ -1,4 +1,4 @@
-//! Repairs beside indexes that are built from nothing.
+//! Repairs against indexes that are built from nothing.
 
 ghost use Rattle.std.specs.Prelude.{◌≡◌, OnOk};
 ghost use Rattle.irig_index.specs.Frames.{frames};
@@ -27,7 +27,7 @@ fn agrees(
     Ok(few && same(index, &built))
 }
 
-/// Edits in turn, each repaired beside an index built from nothing.
+/// Edits in turn, each repaired and compared with an index built from nothing.
 fn all_agree(
     alloc: Global,
     mut track: Track,
@@ -42,7 +42,7 @@ fn all_agree(
     Ok(agree)
 }
 
-/// An edit made and taken back.
+/// An edit made and undone.
 fn both_ways(alloc: Global, format: Format, edit: Edit) -> Result<bool, AllocError> {
     all_agree(alloc, positions(alloc)?, format, &[edit, back(edit)])
 }

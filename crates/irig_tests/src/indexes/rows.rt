@@ -19,7 +19,7 @@ fn broken(marker: usize, element: u8, cause: Cause) -> Record {
     }
 }
 
-/// The second frame: its marker is pulse 100, from 0, where nothing came or went before it.
+/// The second frame: its marker is pulse 100, from 0, if nothing was inserted or removed before it.
 fn second_frame(marker: usize) -> Record {
     let fields = Fields {
         hundredths: Some(1),
@@ -57,10 +57,10 @@ fn both_hold(
 
 /// Whether the two frames of a sound track are read, with as few looks as they take.
 fn is_read(index: &Index, lens: &Lens<'_>) -> bool {
-    // The pass goes over two places where the pulse behind the first is no position identifier:
+    // The pass moves on by two places if the pulse after the first is no position identifier:
     // those are 1, 3, 5, 7 and 10, 12 .. 98 in the first frame, 49 looks. At 9 and 100 it meets
-    // one, and looks at the pulse before it too: 4 looks. The frame of the one marker takes 99 more.
-    // The pass goes on at its last pulse, 199, another position identifier: 2 looks.
+    // one, and looks at the pulse before it too: 4 looks. The frame of the one marker takes 99
+    // more. The pass continues at its last pulse, 199, another position identifier: 2 looks.
     let looks = 49 + 4 + 99 + 2;
     let room = index.room() + index.len() >= 1;
     room && holds(index, &[second_frame(100)]) && index.looks() == looks && lens.looks() == looks
@@ -78,8 +78,8 @@ fn a_sound_track_is_read_with_few_looks(rt: HostRuntime) -> Result<(), Fail> {
     Ok(())
 }
 
-/// Whether both indexes hold the records of each row, and those of the sound track once its edit is
-/// taken back.
+/// Whether both indexes hold the records of each row, and those of the sound track after its edit
+/// is undone.
 fn rows_hold(
     alloc: Global,
     track: &mut Track,
@@ -107,7 +107,7 @@ fn rows_hold(
             Edit::Invert(10_120, 10_180),
             &[broken(100, 1, Cause::Class), broken(101, 8, Cause::Class)],
         ),
-        // A pulse more before the second frame, and one less: its record tells a new number.
+        // A pulse more before the second frame, and one less: its record has a new number.
         (Edit::Invert(8_130, 8_150), &[second_frame(101)]),
         (Edit::Invert(8_100, 8_120), &[second_frame(99)]),
         (Edit::Move(140, 20), &[broken(100, 40, Cause::Step)]),

@@ -1,4 +1,4 @@
-//! The steps that a journal shows, and what becomes of them where it is turned round.
+//! The steps that a journal shows, and what becomes of them when it is turned round.
 
 ghost use Rattle.std.specs.Prelude.{◌≡◌, None};
 ghost use Rattle.irig_journal.specs.Journal.{FitsState};
@@ -9,7 +9,7 @@ use irig_journal::stack::{Edit, Single, Stack};
 use std::process::Abort;
 use std::test::Fail;
 
-/// Pushes a byte on a stack whose cursor stands here. Without memory nothing is pushed.
+/// Pushes a byte on a stack with this cursor. If memory runs out nothing is pushed.
 fn push(journal: &mut Journal<Stack>, stack: &mut Stack, byte: u8, cursor: usize)
     requires fits { FitsState CanEdit edited (λ d. d) stack.old.items.items journal.old }
     ensures fits { FitsState CanEdit edited (λ d. d) stack.new.items.items journal.new }
@@ -18,7 +18,7 @@ fn push(journal: &mut Journal<Stack>, stack: &mut Stack, byte: u8, cursor: usize
     let _done = journal.record(stack, Edit::One(Single::Push(byte)), cursor);
 }
 
-/// The cursor of the step back of a number, from 0, where it is there.
+/// The cursor of the step back of a number, from 0, if it is there.
 fn back(journal: &Journal<Stack>, number: usize) -> Option<usize> {
     if number < journal.steps_back() {
         Some(journal.past(number).cursor)
@@ -27,7 +27,7 @@ fn back(journal: &Journal<Stack>, number: usize) -> Option<usize> {
     }
 }
 
-/// The cursor of the step forward of a number, from 0, where it is there.
+/// The cursor of the step forward of a number, from 0, if it is there.
 fn forward(journal: &Journal<Stack>, number: usize) -> Option<usize> {
     if number < journal.steps_forward() {
         Some(journal.future(number).cursor)

@@ -23,6 +23,6 @@ pub const SHORT: &[u8] =
 pub const LONG: &[u8] =
     b"$timescale 1 us $end\n$var wire 1 ! code $end\n$enddefinitions $end\n#2000000\n";
 
-/// A session that was saved after a pulse was taken out, a mark set, and the mark taken back.
+/// A session that was saved after a pulse was deleted, a mark set, and the mark undone.
 pub const SAVED: &[u8] =
     b"$timescale 1 us $end\n$scope module irig $end\n$var wire 1 ! code $end\n$upscope $end\n$enddefinitions $end\n#0\n$dumpvars\n0!\n$end\n#200\n1!\n#280\n0!\n#1000\n$comment\nirig-journal-1\nformat G 2\ncursor 1\npast 1\nat 2\nsplice 1 0 1\n100 120\nfuture 1\nat 1\nsetmark a 110\n$end\n";

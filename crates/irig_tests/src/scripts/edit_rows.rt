@@ -35,7 +35,7 @@ pub static EDIT_ROWS: [Row<'static>; 26] = [
         status: Status::AllAccepted,
     },
     Row {
-        // an invert is taken back
+        // an invert is undone
         dump: PULSES,
         kind: Kind::G,
         expression: 2,
@@ -44,7 +44,7 @@ pub static EDIT_ROWS: [Row<'static>; 26] = [
         status: Status::AllAccepted,
     },
     Row {
-        // an invert at both edges of a pulse takes it out
+        // an invert at both edges of a pulse removes it
         dump: PULSES,
         kind: Kind::G,
         expression: 2,
@@ -53,7 +53,7 @@ pub static EDIT_ROWS: [Row<'static>; 26] = [
         status: Status::AllAccepted,
     },
     Row {
-        // an invert of the whole track turns every level
+        // an invert of the whole track inverts every level
         dump: PULSES,
         kind: Kind::G,
         expression: 2,
@@ -71,7 +71,7 @@ pub static EDIT_ROWS: [Row<'static>; 26] = [
         status: Status::AllAccepted,
     },
     Row {
-        // a redo gives the cursor that stood at the undo
+        // a redo gives the cursor of the undo
         dump: PULSES,
         kind: Kind::G,
         expression: 2,
@@ -143,7 +143,7 @@ pub static EDIT_ROWS: [Row<'static>; 26] = [
         status: Status::SomeRefused,
     },
     Row {
-        // no more steps are taken back or made again than there are
+        // no more steps are undone or redone than there are
         dump: PULSES,
         kind: Kind::G,
         expression: 2,
@@ -161,7 +161,7 @@ pub static EDIT_ROWS: [Row<'static>; 26] = [
         status: Status::SomeRefused,
     },
     Row {
-        // a pulse is split and joined again, and forced
+        // a pulse is split, joined and forced
         dump: PULSES,
         kind: Kind::G,
         expression: 2,
@@ -179,7 +179,7 @@ pub static EDIT_ROWS: [Row<'static>; 26] = [
         status: Status::SomeRefused,
     },
     Row {
-        // a regeneration is refused that has no room
+        // a regeneration without room is refused
         dump: LONG,
         kind: Kind::B,
         expression: 4,
@@ -188,7 +188,7 @@ pub static EDIT_ROWS: [Row<'static>; 26] = [
         status: Status::SomeRefused,
     },
     Row {
-        // a regeneration is refused that begins within a frame
+        // a regeneration that begins within a frame is refused
         dump: LONG,
         kind: Kind::B,
         expression: 4,
@@ -197,7 +197,7 @@ pub static EDIT_ROWS: [Row<'static>; 26] = [
         status: Status::SomeRefused,
     },
     Row {
-        // a regeneration is refused whose control functions are too many
+        // a regeneration with too many control functions is refused
         dump: LONG,
         kind: Kind::B,
         expression: 4,
@@ -206,7 +206,7 @@ pub static EDIT_ROWS: [Row<'static>; 26] = [
         status: Status::SomeRefused,
     },
     Row {
-        // a moment that there is not is none of the language
+        // a date that does not exist is not a valid line
         dump: LONG,
         kind: Kind::B,
         expression: 4,
@@ -233,7 +233,7 @@ pub static EDIT_ROWS: [Row<'static>; 26] = [
         status: Status::SomeRefused,
     },
     Row {
-        // a saved session is opened in its own format and gone on with
+        // a saved session opens in its own format and continues
         dump: SAVED,
         kind: Kind::A,
         expression: 5,

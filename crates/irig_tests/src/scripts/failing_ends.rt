@@ -1,5 +1,5 @@
-//! Runs whose script cannot be read, whose output cannot be written, or whose texts cannot be put,
-//! from each byte and each put on.
+//! Runs whose script cannot be read, or whose output or texts cannot be written, from each byte and
+//! each write on.
 
 use crate::scripts::stops::{
     DELETED, INVERTED, Stop, Worked, first_printing, front, last_read, stands,
@@ -32,7 +32,7 @@ impl<'a> Read for Broken<'a> {
     }
 }
 
-/// Takes so many bytes, and then fails or takes none.
+/// Takes this many bytes, and then fails or takes none.
 #[derive(Drop)]
 struct Full {
     taken: Vec<u8>,
@@ -56,8 +56,8 @@ impl Write for Full {
     }
 }
 
-/// Whether of a script whose reads fail behind so many bytes just the whole lines are obeyed and
-/// answered.
+/// Whether only the whole lines of a script are obeyed and answered if its reads fail after this
+/// many bytes.
 fn is_read(
     alloc: Global,
     session: &mut Session,
@@ -89,7 +89,7 @@ fn is_read_once(alloc: Global, worked: Worked<'_>, bytes: usize, kind: ErrorKind
     }
 }
 
-/// Each byte of a script is once the one that cannot be read.
+/// Each byte of a script is once the byte that cannot be read.
 fn check_reads(rt: &impl Abort, alloc: Global, worked: Worked<'_>, kind: ErrorKind) {
     for bytes in 0..=worked.script.len() {
         assert!(rt; is_read_once(alloc, worked, bytes, kind));
@@ -102,8 +102,8 @@ fn a_failed_read_ends_the_run(rt: HostRuntime) {
     check_reads(&rt, rt.alloc(), DELETED, ErrorKind::Interrupted);
 }
 
-/// Whether an output that takes so many bytes gets them, and the line whose answer was not printed
-/// whole is the last one obeyed.
+/// Whether an output that takes this many bytes gets them, and the line whose answer was not
+/// printed whole is the last one obeyed.
 fn is_printed(
     alloc: Global,
     session: &mut Session,
@@ -131,7 +131,7 @@ fn is_printed_once(alloc: Global, worked: Worked<'_>, room: usize, fails: bool) 
     }
 }
 
-/// Each byte of what a script prints is once the one that is not taken.
+/// Each byte of what a script prints is once the byte that is not taken.
 fn check_writes(rt: &impl Abort, alloc: Global, worked: Worked<'_>, fails: bool) {
     for room in 0..worked.printed.len() {
         assert!(rt; is_printed_once(alloc, worked, room, fails));
@@ -145,7 +145,7 @@ fn a_failed_write_ends_the_run(rt: HostRuntime) {
     check_writes(&rt, rt.alloc(), DELETED, true);
 }
 
-/// What the script of two writes prints, by the put that fails, from 1.
+/// What the script of two writes prints, by the write that fails, from 1.
 static REFUSED: [(u64, &[u8]); 2] = [
     (
         1,
@@ -157,7 +157,7 @@ static REFUSED: [(u64, &[u8]); 2] = [
     ),
 ];
 
-/// What stands behind that script.
+/// What that script leaves.
 const REFUSED_STOP: Stop = Stop {
     read: 44,
     printed: 91,
@@ -166,7 +166,7 @@ const REFUSED_STOP: Stop = Stop {
     texts: 1,
 };
 
-/// Whether just the line whose put fails is refused.
+/// Whether only the line whose write fails is refused.
 fn is_put(alloc: Global, session: &mut Session, fails: u64, printed: &[u8]) -> bool {
     let mut script = INVERTED.script;
     let mut out = Vec::new(alloc);
@@ -199,7 +199,7 @@ fn has_text(alloc: Global, fault: RunFault, text: &str) -> bool {
     }
 }
 
-// No script of a test takes so many reads: its text is looked at here alone.
+// No script of a test takes that many reads: only its text is tested here.
 #[test]
 fn many_reads_have_their_text(rt: HostRuntime) {
     assert!(rt; has_text(rt.alloc(), RunFault::TooManyReads, "S5 TooManyReads"));

@@ -5,10 +5,10 @@ use crate::scripts::row::Row;
 use irig_codes::Kind;
 use irig_script::Status;
 
-/// Addresses, white space, and lines that are none.
+/// Addresses, white space, and lines that are not valid.
 pub static LINE_ROWS: [Row<'static>; 16] = [
     Row {
-        // an unset mark names no pulse and no time, and words stand in their places
+        // an unset mark names no pulse and no time, and words have their places
         dump: PULSES,
         kind: Kind::G,
         expression: 2,
@@ -53,7 +53,7 @@ pub static LINE_ROWS: [Row<'static>; 16] = [
         status: Status::SomeRefused,
     },
     Row {
-        // a pulse is put where it touches none
+        // a pulse is inserted only if it touches none
         dump: PULSES,
         kind: Kind::G,
         expression: 2,
@@ -80,7 +80,7 @@ pub static LINE_ROWS: [Row<'static>; 16] = [
         status: Status::SomeRefused,
     },
     Row {
-        // a word of no line is refused, and the run goes on
+        // a word of no line is refused, and the run continues
         dump: PULSES,
         kind: Kind::G,
         expression: 2,
@@ -98,7 +98,7 @@ pub static LINE_ROWS: [Row<'static>; 16] = [
         status: Status::AllAccepted,
     },
     Row {
-        // white space stands round words
+        // white space is round words
         dump: PULSES,
         kind: Kind::G,
         expression: 2,

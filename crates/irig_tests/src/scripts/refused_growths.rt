@@ -11,7 +11,7 @@ use std::alloc::Global;
 const DUMP: &[u8] =
     b"$timescale 1 us $end $var wire 1 ! c $end $enddefinitions $end #100 1! #120 0! #200 1! #280 0! #1000";
 
-/// Whether a pulse is put in; a refusal leaves pulses and steps, and the next call succeeds.
+/// Whether a pulse is inserted; an error leaves pulses and steps, and the next call succeeds.
 fn inserts(session: &mut Session) -> bool {
     if session.insert(400, 450) == Err(Refusal::OutOfMemory) {
         session.len() == 2 && session.steps_back() == 0 && session.insert(400, 450) == Ok(())
@@ -20,7 +20,7 @@ fn inserts(session: &mut Session) -> bool {
     }
 }
 
-/// Whether the pulse is taken back; a refusal leaves pulses and steps, and the next call succeeds.
+/// Whether that is undone; an error leaves pulses and steps, and the next call succeeds.
 fn undoes(session: &mut Session) -> bool {
     if session.undo() == Err(Refusal::OutOfMemory) {
         session.len() == 3 && session.steps_back() == 1 && session.undo() == Ok(())
@@ -29,7 +29,7 @@ fn undoes(session: &mut Session) -> bool {
     }
 }
 
-/// Whether another pulse is put in and taken back; a refusal leaves what can be redone.
+/// Whether another pulse is inserted and undone; an error leaves what can be redone.
 fn inserts_another(session: &mut Session) -> bool {
     if session.insert(500, 510) == Err(Refusal::OutOfMemory) {
         session.len() == 2 && session.steps_forward() == 1
@@ -38,7 +38,7 @@ fn inserts_another(session: &mut Session) -> bool {
     }
 }
 
-/// Whether the pulse is put in again; a refusal leaves pulses and steps, and the next call succeeds.
+/// Whether that is redone; an error leaves pulses and steps, and the next call succeeds.
 fn redoes(session: &mut Session) -> bool {
     if session.redo() == Err(Refusal::OutOfMemory) {
         session.len() == 2 && session.steps_forward() == 1 && session.redo() == Ok(())
@@ -52,7 +52,7 @@ fn is_left(session: &mut Session) -> bool {
     inserts(session) && undoes(session) && inserts_another(session) && redoes(session)
 }
 
-// A call that is refused for want of memory leaves pulses and steps, and then succeeds.
+// A call that runs out of memory leaves pulses and steps, and then succeeds.
 #[test]
 fn a_refused_call_leaves_the_session(rt: HostRuntime) {
     if let Some(mut session) = two_pulses(rt.alloc()) {
@@ -71,7 +71,7 @@ static PRINTED: [&[u8]; 7] = [
     b"147\n? S3 WriteFailed\n",
 ];
 
-/// How a script ends on the dump; nothing where the dump itself found no room.
+/// How a script ends on the dump; nothing if the dump itself found no room.
 fn ran(alloc: Global, out: &mut Vec<u8>) -> Option<Result<Status, DumpRunFault>> {
     let format = Format::new(Kind::G, 2).ok()?;
     let dump = Vec::from_slice(alloc, DUMP).ok()?;
@@ -80,7 +80,7 @@ fn ran(alloc: Global, out: &mut Vec<u8>) -> Option<Result<Status, DumpRunFault>>
     Some(run_on_dump(alloc, dump, None, format, &mut script, out, &mut shelf))
 }
 
-/// Whether just the line that wants memory is refused.
+/// Whether only the line that runs out of memory is refused.
 fn is_expected(outcome: Option<Result<Status, DumpRunFault>>, out: &[u8]) -> bool {
     match outcome {
         None => true,
@@ -99,7 +99,7 @@ fn is_printed(out: &[u8]) -> bool {
     false
 }
 
-// In a script just the line that wants memory is refused, and the next ones are obeyed.
+// In a script only the line that runs out of memory is refused, and the next ones are obeyed.
 #[test]
 fn a_refused_line_leaves_the_rest(rt: HostRuntime) {
     let Ok(mut out) = Vec::with_capacity(rt.alloc(), 200) else {

@@ -80,7 +80,7 @@ fn long_lines_are_refused(rt: HostRuntime) -> Result<(), AllocError> {
     Ok(())
 }
 
-// A put that fails is refused, and the next one is not.
+// A write that fails is refused, and the next one is not.
 #[test]
 fn a_failed_put_is_refused(rt: HostRuntime) {
     let row = Row {

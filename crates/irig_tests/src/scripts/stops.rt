@@ -1,10 +1,10 @@
-//! Worked scripts with what stands behind each of their lines.
+//! Worked scripts with what each of their lines leaves.
 
 use irig_edit::Session;
 use irig_script::MemoryShelf;
 
-/// What stands when the lines within the first `read` bytes of a script are obeyed, which print
-/// the first `printed` bytes of what it prints.
+/// What there is after the lines within the first `read` bytes of a script, which print the first
+/// `printed` bytes of what it prints.
 #[derive(Clone, Copy)]
 pub struct Stop {
     pub read: usize,
@@ -14,7 +14,7 @@ pub struct Stop {
     pub texts: usize,
 }
 
-/// A script on pulses 100-120 and 200-280, with a stop before its first line and behind each.
+/// A script on pulses 100-120 and 200-280, with a stop before its first line and after each.
 #[derive(Clone, Copy)]
 pub struct Worked<'a> {
     pub script: &'a [u8],
@@ -106,12 +106,12 @@ pub static DELETED: Worked<'static> = Worked {
     ],
 };
 
-/// The first bytes of a text, so many if it has them.
+/// The first bytes of a text: this many, if it has them.
 pub fn front(text: &[u8], bytes: usize) -> &[u8] {
     text.split_at(bytes.min(text.len())).0
 }
 
-/// The last stop whose lines stand within so many bytes of the script.
+/// The last stop whose lines are within this many bytes of the script.
 pub fn last_read(stops: &[Stop], bytes: usize) -> Option<Stop> {
     let mut last = None;
     for stop in stops {
@@ -122,7 +122,7 @@ pub fn last_read(stops: &[Stop], bytes: usize) -> Option<Stop> {
     last
 }
 
-/// The first stop whose lines print more than so many bytes.
+/// The first stop whose lines print more than this many bytes.
 pub fn first_printing(stops: &[Stop], bytes: usize) -> Option<Stop> {
     for stop in stops {
         if stop.printed > bytes {

@@ -1,4 +1,4 @@
-//! A session beside the machine that keeps every former state whole.
+//! A session next to the machine that keeps every former state whole.
 
 use super::helpers::{Call, obey};
 use super::machine::Machine;
@@ -9,7 +9,7 @@ use irig_edit::Session;
 use irig_vcd::Recording;
 use std::alloc::Global;
 
-/// A session and a machine that were told the same calls.
+/// A session and a machine that got the same calls.
 #[derive(Drop)]
 pub struct Beside {
     session: Session,
@@ -26,7 +26,7 @@ impl Beside {
         Some(Beside { session, machine })
     }
 
-    /// Whether both answer a call alike, and tell the same afterwards.
+    /// Whether both answer a call alike, and show the same afterwards.
     pub fn agrees(&mut self, alloc: Global, call: Call) -> bool {
         match self.machine.obey(alloc, &call) {
             Ok(refusal) => obey(&mut self.session, call) == refusal && self.is_told(),
@@ -34,7 +34,7 @@ impl Beside {
         }
     }
 
-    /// Whether the session tells what the machine keeps.
+    /// Whether the session shows what the machine keeps.
     fn is_told(&self) -> bool {
         tells(&self.session, &self.machine.present)
             && self.session.steps_back() == self.machine.past.len()

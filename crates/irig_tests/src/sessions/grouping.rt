@@ -58,7 +58,7 @@ fn calls_of_groups_are_refused_in_their_order(rt: HostRuntime) {
     check(&rt, rt.alloc(), &REFUSED);
 }
 
-/// A step, and a group behind it that is aborted.
+/// A step, and a group after it that is aborted.
 static ABORTED: [Row; 6] = [
     (Call::Delete(1, 1), None, [1, 1, 0], (1, 0)),
     (Call::Begin, None, [1, 1, 0], (1, 0)),
@@ -73,7 +73,7 @@ fn an_abort_goes_back_to_the_begin(rt: HostRuntime) {
     check(&rt, rt.alloc(), &ABORTED);
 }
 
-/// An empty group while a step can be made again.
+/// An empty group while a step can be redone.
 static EMPTY: [Row; 5] = [
     (Call::Delete(1, 1), None, [1, 1, 0], (1, 0)),
     (Call::Undo, None, [2, 0, 1], (0, 0)),

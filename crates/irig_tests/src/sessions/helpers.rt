@@ -6,7 +6,7 @@ use irig_moment::Moment;
 use irig_vcd::Recording;
 use std::alloc::Global;
 
-/// A call of the table. Frames are put from the begin of 2024 on, without control bits.
+/// A call of the table. Frames are generated from the begin of 2024 on, without control bits.
 #[derive(Clone, Copy)]
 pub enum Call {
     Insert(u64, u64),
@@ -40,7 +40,7 @@ pub fn two_pulses(alloc: Global) -> Option<Session> {
     open(alloc, 1_000, &[100, 120, 200, 280])
 }
 
-/// Puts frames from the begin of 2024 on.
+/// Generates frames from the begin of 2024 on.
 fn regen(session: &mut Session, start: u64, frames: u64) -> Result<(), Refusal> {
     match Moment::parse(b"2024-001T00:00:00") {
         Some(moment) => session.regen(start, frames, moment, 0),

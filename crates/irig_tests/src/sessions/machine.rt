@@ -8,8 +8,8 @@ use irig_edit::Refusal;
 use std::alloc::{AllocError, Global};
 use std::mem;
 
-/// A state, those before it with the newest last, and those taken back with the next last; and how
-/// many stood before the present when a group was begun, with that present.
+/// A state, those before it with the newest last, and those undone with the next last; and how many
+/// were before the present when a group was begun, with that present.
 #[derive(Drop)]
 pub struct Machine {
     pub past: Vec<Plain>,
@@ -53,7 +53,7 @@ impl Machine {
         Ok(None)
     }
 
-    /// Goes on to the state that was taken back last.
+    /// Goes forward to the state that was undone last.
     fn redo(&mut self) -> Result<Option<Refusal>, AllocError> {
         if self.future.is_empty() {
             return Ok(Some(Refusal::NothingToRedo));
@@ -62,7 +62,7 @@ impl Machine {
         Ok(None)
     }
 
-    /// Whether no state stands that was made in the open group.
+    /// Whether there is no state that was made in the open group.
     fn is_at_floor(&self) -> bool {
         match &self.floor {
             None => false,
@@ -70,7 +70,7 @@ impl Machine {
         }
     }
 
-    /// Puts the floor under the present.
+    /// Sets the floor at the present.
     fn begin(&mut self) -> Result<Option<Refusal>, AllocError> {
         if self.floor.is_some() {
             return Ok(Some(Refusal::GroupOpen));

@@ -1,4 +1,4 @@
-//! Dumps with a journal, opened, and the line at fault where one is not.
+//! Dumps with a journal, opened, and the wrong line if one is not.
 
 use super::helpers::is_saved;
 use irig_codes::{Format, Kind};
@@ -7,14 +7,14 @@ use irig_vcd::VcdFault;
 use std::alloc::{AllocError, Global};
 use std::process::Abort;
 
-/// The lines of a journal, behind its name, and the line at fault, if there is one.
+/// The lines of a journal, after its name, and the wrong line, if there is one.
 type Row = (&'static [u8], Option<usize>);
 
 /// A pulse from 200 to 280 in a track of 1,000 microseconds, and the begin of its journal.
 const BEGIN: &[u8] =
     b"$timescale 1 us $end\n$scope module irig $end\n$var wire 1 ! code $end\n$upscope $end\n$enddefinitions $end\n#0\n$dumpvars\n0!\n$end\n#200\n1!\n#280\n0!\n#1000\n$comment\nirig-journal-1\n";
 
-/// The dump with a journal of these lines, behind its name.
+/// The dump with a journal of these lines, after its name.
 fn dump(alloc: Global, lines: &[u8]) -> Result<Vec<u8>, AllocError> {
     let mut text = Vec::new(alloc);
     text.extend_from_slice(BEGIN)?;
@@ -40,8 +40,8 @@ fn is_saved_with(alloc: Global, session: &Session, lines: &[u8]) -> bool {
     }
 }
 
-/// Whether a journal of these lines has this line at fault; where none, it is opened, and saved as
-/// it was.
+/// Whether this line is the wrong one of a journal of these lines. If there is none, the journal is
+/// opened, and saved as it was.
 fn has_fault(alloc: Global, lines: &[u8], line: Option<usize>) -> bool {
     match opened(alloc, lines) {
         Ok(session) => line.is_none() && is_saved_with(alloc, &session, lines),
@@ -50,14 +50,14 @@ fn has_fault(alloc: Global, lines: &[u8], line: Option<usize>) -> bool {
     }
 }
 
-/// Opens the journal of each row, and compares the line at fault.
+/// Opens the journal of each row, and compares the wrong line.
 fn check(rt: &impl Abort, alloc: Global, rows: &[Row]) {
     for (lines, line) in rows {
         assert!(rt; has_fault(alloc, lines, *line));
     }
 }
 
-/// Lines of journals, and of each the line at fault.
+/// Lines of journals, each with its wrong line.
 static ROWS: [Row; 12] = [
     (
         b"format G 2\ncursor 1\npast 1\nat 2\nsplice 1 0 1\n100 120\nfuture 1\nat 1\nsetmark a 110\n",

@@ -19,7 +19,7 @@ fn is_range(s: &Plain, a: u64, b: u64) -> bool {
     a < b && b <= s.length
 }
 
-/// Whether the pulse behind pulse `i` rises at a time or before it.
+/// Whether the pulse after pulse `i` rises at a time or before it.
 fn meets_next(s: &Plain, i: usize, time: u64) -> bool {
     i < s.len() && s.rise(i.saturating_add(1)) <= time
 }
@@ -31,7 +31,7 @@ fn leaves(s: &Plain, i: usize, j: usize, by: i64) -> bool {
     rise.is_none() || fall.is_none() || fall > Some(s.length)
 }
 
-/// Whether the pulses `i` to `j`, moved, meet the pulse before them or the one behind.
+/// Whether the pulses `i` to `j`, moved, meet the pulse before them or the one after them.
 fn meets(s: &Plain, i: usize, j: usize, by: i64) -> bool {
     let rise = s.rise(i).saturating_add_signed(by);
     let fall = s.fall(j).saturating_add_signed(by);

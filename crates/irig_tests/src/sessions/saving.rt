@@ -1,14 +1,14 @@
-//! Sessions saved, beside the lines that their calls ask for.
+//! Sessions saved, against the lines that their calls ask for.
 
 use super::helpers::{Call, is_saved, obey, two_pulses};
 use irig_edit::Session;
 use std::alloc::{AllocError, Global};
 use std::process::Abort;
 
-/// Calls on two pulses, and the lines of the journal that is saved, behind its name.
+/// Calls on two pulses, and the lines of the journal that is saved, after its name.
 type Row = (&'static [Call], &'static [u8]);
 
-/// Puts the comment with a journal of these lines.
+/// Appends the comment with a journal of these lines.
 fn put_journal(text: &mut Vec<u8>, lines: &[u8]) -> Result<(), AllocError> {
     text.extend_from_slice(b"$comment\nirig-journal-1\n")?;
     text.extend_from_slice(lines)?;
@@ -41,7 +41,7 @@ fn check(rt: &impl Abort, alloc: Global, rows: &[Row]) {
     }
 }
 
-/// Steps of each kind, and where they lead.
+/// Steps of each kind, and what they lead to.
 static STEPS: [Row; 4] = [
     (
         &[Call::Delete(1, 1), Call::Mark(0, Some(110)), Call::Undo],
@@ -70,7 +70,7 @@ fn each_step_is_saved_as_the_change_that_leads_there(rt: HostRuntime) {
     check(&rt, rt.alloc(), &STEPS);
 }
 
-/// Groups, made and taken back, and one that is open.
+/// Groups, made and undone, and one that is open.
 static GROUPS: [Row; 3] = [
     (
         &[

@@ -1,9 +1,9 @@
-//! Whether a session tells a state.
+//! Whether a session shows a state.
 
 use super::plain::Plain;
 use irig_edit::Session;
 
-/// Whether a session tells the pulses of a state.
+/// Whether a session shows the pulses of a state.
 fn has_pulses(session: &Session, s: &Plain) -> bool {
     for index in 0..session.len() {
         let pulse = session.pulse(index + 1);
@@ -14,7 +14,7 @@ fn has_pulses(session: &Session, s: &Plain) -> bool {
     session.len() == s.len()
 }
 
-/// Whether a session tells the marks of a state.
+/// Whether a session shows the marks of a state.
 fn has_marks(session: &Session, s: &Plain) -> bool {
     for letter in 0..26 {
         if session.mark_time(b'a' + letter) != s.marks[letter as usize] {
@@ -24,7 +24,7 @@ fn has_marks(session: &Session, s: &Plain) -> bool {
     true
 }
 
-/// Whether a session tells a state, with its cursor.
+/// Whether a session shows a state, with its cursor.
 pub fn tells(session: &Session, s: &Plain) -> bool {
     has_pulses(session, s)
         && has_marks(session, s)

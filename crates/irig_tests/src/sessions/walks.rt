@@ -1,4 +1,4 @@
-//! Walks of edits, undos and redos, beside the machine that keeps every former state whole.
+//! Walks of edits, undos and redos, against the machine that keeps every former state whole.
 
 use super::beside::Beside;
 use super::helpers::Call;
@@ -51,7 +51,7 @@ fn opened(alloc: Global) -> Option<Beside> {
     Beside::open(alloc, 60, edges_in(alloc, 0x66, 10).ok()?)
 }
 
-/// Walks of so many seeds, each on a track of its own.
+/// Walks of this many seeds, each on a track of its own.
 fn check(rt: &impl Abort, alloc: Global, calls: &[Call], seeds: u64) {
     for seed in 0..seeds {
         let mut pair = opened(alloc).expect(rt, "a track");

@@ -42,7 +42,7 @@ pub(crate) fn check_edges(
     Ok(())
 }
 
-/// Makes a splice if it may be made.
+/// Makes a splice if it can be made.
 pub(crate) fn splice(
     rt: &impl Abort,
     alloc: Global,
@@ -63,7 +63,7 @@ pub(crate) fn splice(
     Ok(Some(span))
 }
 
-/// Makes a shift if it may be made.
+/// Makes a shift if it can be made.
 pub(crate) fn shift(track: &mut Track, i: usize, j: usize, by: i64) -> Option<Span> {
     if track.can_shift(i, j, by) {
         Some(track.shift(i, j, by))
@@ -72,7 +72,7 @@ pub(crate) fn shift(track: &mut Track, i: usize, j: usize, by: i64) -> Option<Sp
     }
 }
 
-/// Makes a toggle if it may be made.
+/// Makes a toggle if it can be made.
 pub(crate) fn toggle(track: &mut Track, a: u64, b: u64) -> Result<Option<Span>, AllocError> {
     track.reserve(1)?;
     if track.can_toggle(a, b) {

@@ -7,7 +7,7 @@ use std::alloc::Global;
 use std::process::Abort;
 use std::test::Fail;
 
-/// A call with its answer: for an edit its Span, or None where it may not be made.
+/// A call with its answer: for an edit its Span, or None if it cannot be made.
 #[derive(Clone, Copy)]
 enum Call {
     Len(usize),

@@ -1,6 +1,6 @@
-//! The definitions, computed slowly beside the edits on every track of length up to 6.
+//! The definitions, computed slowly, against the edits on every track of length up to 6.
 //!
-//! A set of edges is a number here: time t is an edge where bit t is 1.
+//! A set of edges is a number here: time t is an edge if bit t is 1.
 
 ghost use Rattle.std.specs.Prelude.{◌<◌};
 
@@ -56,7 +56,7 @@ fn spliced(
     Ok(times)
 }
 
-/// The edges with those of the pulses `i` to `j` moved, or None where one leaves the numbers.
+/// The edges with those of the pulses `i` to `j` moved, or None if one leaves the numbers.
 fn shifted(
     alloc: Global,
     edges: &[u64],
@@ -91,12 +91,12 @@ fn count_of(track: &Track, rise: u64, from: u64, to: u64) -> usize {
     count
 }
 
-/// The track of a length and a set of edges, or None where they are no track.
+/// The track of a length and a set of edges, or None if they are no track.
 fn track_in(alloc: Global, length: u64, bits: u64) -> Result<Option<Track>, AllocError> {
     track_of(alloc, length, times_in(alloc, bits)?)
 }
 
-/// A toggle, beside the set with two memberships turned.
+/// A toggle, against the set with two memberships inverted.
 fn check_toggle(
     rt: &impl Abort,
     alloc: Global,
@@ -124,7 +124,7 @@ fn check_toggle(
     Ok(())
 }
 
-/// A shift, beside the list with some edges moved.
+/// A shift, against the list with some edges moved.
 fn check_shift(
     rt: &impl Abort,
     alloc: Global,
@@ -156,7 +156,7 @@ fn check_shift(
     Ok(())
 }
 
-/// A splice, beside the list with some edges replaced.
+/// A splice, against the list with some edges replaced.
 fn check_splice(
     rt: &impl Abort,
     alloc: Global,
