@@ -7,7 +7,7 @@ ghost use Rattle.irig_codes.specs.Width.{HasTwentieths, class_in, class_of, is_i
 use crate::format::Format;
 
 /// What a pulse means: a binary digit, or the position of an element in its frame.
-#[derive(Clone, Copy, Debug, PartialEq, Eq)]
+#[derive(Clone, Copy, PartialEq, Eq)]
 pub enum Element {
     Zero,
     One,

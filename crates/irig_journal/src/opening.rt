@@ -4,7 +4,7 @@ ghost use Rattle.std.specs.Prelude.{◌↔◌, IsTrue};
 ghost use Rattle.irig_journal.specs.Openings.{AtFloor};
 
 /// How many steps the past had when a group was begun, and the cursor of the present then.
-#[derive(Clone, Copy, Debug, PartialEq, Eq)]
+#[derive(Clone, Copy, PartialEq, Eq)]
 pub struct Opening {
     pub steps: usize,
     pub cursor: usize,

@@ -13,7 +13,7 @@ use irig_codes::{Fields, Format};
 use std::marker::Model;
 
 /// A moment: a day of the years 1 to 9998 and a time of that day, to hundredths of a second.
-#[derive(Clone, Copy, Debug, PartialEq, Eq)]
+#[derive(Clone, Copy, PartialEq, Eq)]
 pub struct Moment {
     day: u32,
     hundredths: u32,

@@ -18,7 +18,7 @@ use irig_codes::Kind;
 use std::alloc::Global;
 
 /// Why a text is no saved journal.
-#[derive(Clone, Copy, Debug, Drop)]
+#[derive(Clone, Copy, Drop)]
 pub enum Fault {
     /// The line of this number, from 1, is the first with which it begins none.
     Line(usize),

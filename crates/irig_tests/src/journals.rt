@@ -15,7 +15,7 @@ use std::process::Abort;
 use std::test::Fail;
 
 /// What a user asks for: an edit with the cursor that it leaves, a move of the cursor, or a step.
-#[derive(Clone, Copy, Debug)]
+#[derive(Clone, Copy)]
 enum Call {
     Push(u8, usize),
     Pop(usize),
@@ -28,7 +28,7 @@ enum Call {
 }
 
 /// What a call answers. `Unfit` if the edit does not apply.
-#[derive(Clone, Copy, Debug, PartialEq, Eq)]
+#[derive(Clone, Copy, PartialEq, Eq)]
 enum Reply {
     Done,
     Unfit,

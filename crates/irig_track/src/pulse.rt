@@ -1,7 +1,7 @@
 //! What a track is made of.
 
 /// A time high: from `rise` on, up to and without `fall`, both in microseconds.
-#[derive(Clone, Copy, Debug, PartialEq, Eq)]
+#[derive(Clone, Copy, PartialEq, Eq)]
 pub struct Pulse {
     /// When the level goes high, in microseconds.
     pub rise: u64,

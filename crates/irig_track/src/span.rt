@@ -1,7 +1,7 @@
 //! Where an edit took place.
 
 /// From pulse `at`, `old` pulses became `new`, and all others stand. Pulses count from 0.
-#[derive(Clone, Copy, Debug, PartialEq, Eq)]
+#[derive(Clone, Copy, PartialEq, Eq)]
 pub struct Span {
     /// The first pulse of the edit, from 0.
     pub at: usize,
