@@ -3,7 +3,7 @@
 //! The places of the block left of `gap` hold the items before the place, and those from `after` on
 //! hold the rest. Nothing is claimed of the places between.
 
-ghost use Rattle.std.specs.Prelude.{◌≡◌, ◌+◌, ◌-◌, ◌/◌, ◌^◌, ◌<◌, ◌≤◌, length, max};
+ghost use Rattle.std.specs.Prelude.{◌≡◌, ◌+◌, ◌-◌, ◌/◌, ◌^◌, ◌<◌, ◌≤◌, length, max, min};
 ghost use Rattle.std.specs.Prelude.{[], slice_get, slice_set, insert, remove, OnOk, OnErr};
 ghost use Rattle.irig_gap.specs.Items.{gap_view};
 
@@ -72,6 +72,8 @@ impl<T: Copy> Gap<T> {
         ensures enough { length self.old.items + more ≤ self.old.capacity → self.new ≡ self.old }
         ensures unchanged { OnErr result (self.new ≡ self.old) }
         ensures refused { OnErr result (self.old.capacity < length self.old.items + more) }
+        ensures generous { OnOk result (self.old.capacity < length self.old.items + more →
+            min (self.old.capacity + self.old.capacity / 2) (2 ^ 64 - 1) ≤ self.new.capacity) }
     {
         let len = self.len();
         if more <= self.capacity() - len {

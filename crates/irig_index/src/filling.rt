@@ -1,6 +1,6 @@
 //! What is made of the markers of a part of a track: their records, or their number.
 
-ghost use Rattle.std.specs.Prelude.{◌≡◌, ℕ, ◌+◌, ◌-◌, ◌*◌, ◌<◌, ◌≤◌, ◌++◌, length, min, OnOk, IsOk};
+ghost use Rattle.std.specs.Prelude.{◌≡◌, ℕ, ◌+◌, ◌-◌, ◌*◌, ◌<◌, ◌≤◌, ◌++◌, length, max, min, OnOk, IsOk};
 ghost use Rattle.irig_index.specs.Checked.{looks_of};
 ghost use Rattle.irig_index.specs.Frames.{frames, records_in};
 ghost use Rattle.irig_index.specs.Looked.{Looked};
@@ -49,6 +49,8 @@ pub fn fill(
     ensures room { length records.old.items
         + length (records_in format lens.old.track.pulses from (to - from)) ≤ records.old.capacity
         → IsOk result × (records.new.capacity ≡ records.old.capacity) }
+    ensures bounded { OnOk result (2 * records.new.capacity
+        ≤ max (2 * records.old.capacity) (3 * length records.new.items)) }
     ensures looked { Looked lens.old lens.new looks.old looks.new
         (min (101 * (to - from)) (3 * (to - from) + 98)) }
 {

@@ -1,6 +1,6 @@
 //! The records on both sides of a gap.
 
-ghost use Rattle.std.specs.Prelude.{◌≡◌, ℕ, ◌+◌, ◌^◌, ◌<◌, ◌≤◌, ◌∷◌, ◌++◌, [], true, false, length, slice_get, Some, IsOk, OnOk};
+ghost use Rattle.std.specs.Prelude.{◌≡◌, ℕ, ◌+◌, ◌*◌, ◌^◌, ◌<◌, ◌≤◌, ◌∷◌, ◌++◌, [], true, false, length, max, slice_get, Some, IsOk, OnOk};
 ghost use Rattle.irig_index.specs.Sides.{turned, left_of, kept_right, right_of, shown, EndsUpTo, BeginsAfter, BeginsUpTo, Dropped};
 
 use crate::record::Record;
@@ -126,6 +126,9 @@ pub fn put(records: &mut Gap<Record>, found: Record) -> Result<(), AllocError>
     ensures right { OnOk result (kept_right records.new ≡ kept_right records.old) }
     ensures room { length records.old.items + 1 ≤ records.old.capacity
         → IsOk result × (records.new.capacity ≡ records.old.capacity) }
+    ensures long { OnOk result (length records.new.items ≡ length records.old.items + 1) }
+    ensures bounded { OnOk result (2 * records.new.capacity
+        ≤ max (2 * records.old.capacity) (3 * length records.new.items)) }
 {
     records.reserve(1)?;
     // Read for its bound alone.

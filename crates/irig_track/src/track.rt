@@ -1,7 +1,7 @@
 //! A length and pulses in order.
 
 ghost use Rattle.std.specs.Prelude.{◌≡◌, ◌+◌, ◌-◌, ◌^◌, ◌/◌, ◌<◌, ◌≤◌, length, [], slice_get, Some};
-ghost use Rattle.std.specs.Prelude.{true, IfOk, OnOk, OnErr};
+ghost use Rattle.std.specs.Prelude.{true, max, IfOk, OnOk, OnErr};
 ghost use Rattle.irig_vcd.specs.FileText.{file_text, begins_high};
 ghost use Rattle.irig_vcd.specs.Recording.{recording_view, is_even_long};
 ghost use Rattle.irig_track.specs.Edges.{edges_of, is_edge};
@@ -43,6 +43,7 @@ impl Track {
     pub fn new(alloc: Global, recording: Recording) -> Result<Track, AllocError>
         ensures length { IfOk result (λ t. t.micros ≡ recording.micros) }
         ensures edges { IfOk result (λ t. edges_of t.pulses ≡ recording.edges) }
+        ensures spare { IfOk result (λ t. t.spare ≡ 0) }
     {
         let edges = recording.edges();
         let mut pulses = Gap::new(alloc);
@@ -93,6 +94,8 @@ impl Track {
         ensures stays { (self.new.micros ≡ self.old.micros) × (self.new.pulses ≡ self.old.pulses) }
         ensures room { OnOk result (more ≤ self.new.spare) }
         ensures grows { self.old.spare ≤ self.new.spare }
+        ensures bounded { OnOk result (self.new.spare
+            ≤ max more (self.old.spare + (length self.old.pulses + self.old.spare) / 2)) }
         ensures enough { more ≤ self.old.spare → self.new ≡ self.old }
         ensures unchanged { OnErr result (self.new ≡ self.old) }
         ensures refused { OnErr result (self.old.spare < more) }
@@ -183,7 +186,8 @@ fn put_pairs(pulses: &mut Gap<Pulse>, edges: &[u64])
     requires empty { pulses.old.items ≡ [] }
     requires even { is_even_long edges.now ≡ true }
     requires room { length edges.now / 2 ≤ pulses.old.capacity }
-    ensures { edges_of pulses.new.items ≡ edges.now }
+    ensures edges { edges_of pulses.new.items ≡ edges.now }
+    ensures capacity { pulses.new.capacity ≡ pulses.old.capacity }
 {
     let mut index = 0;
     pulses.move_to(pulses.len());

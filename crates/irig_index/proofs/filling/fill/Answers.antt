@@ -26,6 +26,7 @@ loop-before-init c =
           ∙ records_in-none c.args.format c.args.lens.now.track.pulses c.args.from) ∙ append-nil (left_of c.args.records.now));
       right = refl;
       room = λ _. refl;
+      bounded = omega arith;
     }
 
 -- a marker that was found has a record
@@ -73,6 +74,7 @@ loop-before-preserved c =
       right = c.in_ok-put.ensures.right ∙ so_far.right;
       room = λ enough. (c.in_ok-put.ensures.room (fits f ps c.args.from place before c.args.to _ _ first so_far.spent.order passed.order c.in-Some.ensures.found.0 passed.none found
           so_far.left so_far.right enough (so_far.room enough))).1 ∙ so_far.room enough;
+      bounded = omega (arith, so_far.bounded, c.in_ok-put.ensures.bounded, c.in_ok-put.ensures.long);
     }
 
 pub returns-in_err-put-clause-room : goal.returns-in_err-put-clause-room

@@ -1,4 +1,4 @@
-use Rattle.std.proofs.Common.{◌≡◌, ◌+◌, ◌-◌, ◌≤◌, ◌++◌, length}
+use Rattle.std.proofs.Common.{◌≡◌, ◌+◌, ◌-◌, ◌*◌, ◌≤◌, ◌++◌, length, max}
 use Rattle.irig_index.specs.Frames.{records_in}
 use Rattle.irig_index.specs.Sides.{left_of, kept_right}
 use Rattle.irig_index.proofs.LookBounds.{Spent}
@@ -13,6 +13,7 @@ invariant-loop-before l = record {
   right : kept_right l.records ≡ kept_right l.fn.records;
   room : length l.fn.records.items + length (records_in l.format l.fn.lens.track.pulses l.from (l.to - l.from)) ≤ l.fn.records.capacity
       → l.records.capacity ≡ l.fn.records.capacity;
+  bounded : 2 * l.records.capacity ≤ max (2 * l.fn.records.capacity) (3 * length l.records.items);
 }
 
 abbrev pub decreases-loop-before : goal.decreases-loop-before

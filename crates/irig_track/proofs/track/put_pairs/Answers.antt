@@ -11,5 +11,5 @@ loop-index-preserved c =
     more_paired c.loop-index.index c.move_to.new.self.capacity c.args.edges.now c.loop-index.pulses c.put.new.self
     c.loop-index.invariant (omega arith) c.put.ensures
 
-pub returns : goal.returns
-returns c = all_paired c.loop-index.index c.move_to.new.self.capacity c.args.edges.now c.loop-index.pulses c.loop-index.invariant (omega arith)
+pub returns-clause-edges : goal.returns-clause-edges
+returns-clause-edges c = all_paired c.loop-index.index c.move_to.new.self.capacity c.args.edges.now c.loop-index.pulses c.loop-index.invariant (omega arith)
