@@ -139,5 +139,5 @@ aborted_rose s cursor past future (Some o) old new counts some =
     ∙ looks_back-along (length past - o.steps) s cursor past in
     subst (λ (most : Option ℕ). RoseWithin most old new) (sym bound) (by_steps (beyond o.steps past) counts) where
       by_steps : (steps : List (Step Delta)) → CountsGathered counted gathered s steps old new → RoseWithin (looks_of s (gathered (changes_of steps))) old new
-      by_steps [] same = omega (arith, same)
+      by_steps [] same = (omega (arith, same), omega (arith, same))
       by_steps (near ∷ steps) counts = counts

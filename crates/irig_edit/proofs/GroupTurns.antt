@@ -70,9 +70,10 @@ on_err (Err e) f h = f h
 -- a rise within one bound, and then within another
 pub rose_then : (most more : Option ℕ) (old mid new : ℕ) → RoseWithin most old mid → RoseWithin more mid new
     → RoseWithin (both most more) old new
-rose_then None more old mid new one other = tt
-rose_then (Some most) None old mid new one other = tt
-rose_then (Some most) (Some more) old mid new one other = omega arith
+rose_then None None old mid new one other = omega (arith, one, other)
+rose_then None (Some more) old mid new one other = omega (arith, one, other.0)
+rose_then (Some most) None old mid new one other = omega (arith, one.0, other)
+rose_then (Some most) (Some more) old mid new one other = (omega (arith, one.0, other.0), omega (arith, one.1, other.1))
 
 -- what is turned so far of single changes, and what is left
 pub record TurnedSoFar (first : PresentView) (all : List Single) (now : PresentView) (done left : List Single) : Type 0 where

@@ -7,7 +7,7 @@ ghost use Rattle.irig_track.specs.Splices.{CanSplice, piece, risen_by, spliced};
 ghost use Rattle.irig_track.specs.Toggles.{CanToggle, toggled};
 ghost use Rattle.irig_index.specs.Frames.{frames};
 ghost use Rattle.irig_edit.specs.Held.{single_of};
-ghost use Rattle.irig_edit.specs.Looks.{RoseWithin, looks_by, standing_in, window};
+ghost use Rattle.irig_edit.specs.Looks.{Rose, RoseWithin, looks_by, standing_in, window};
 ghost use Rattle.irig_edit.specs.Marks.{AllMayMove, marks_moved};
 ghost use Rattle.irig_edit.specs.Room.{HasRoomFor, KeepsPlaces};
 ghost use Rattle.irig_edit.specs.Single.{FitsSingle, pulses_of, turned_single};
@@ -107,6 +107,7 @@ impl Present {
         ensures state { self.new.state ≡ state self.old.state.micros self.old.state.pulses
             format.old self.old.state.marks }
         ensures back { format.new ≡ self.old.state.format }
+        ensures looks { Rose self.old.index.looks self.new.index.looks }
         ensures places { KeepsPlaces self.old self.new }
     {
         let _expression = format.expression();

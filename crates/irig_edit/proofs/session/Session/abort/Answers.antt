@@ -1,4 +1,4 @@
-use Rattle.std.proofs.Common.{rules, IsErrOf, IsNone, Option, Ok, Bool, not, [], ◌∷◌, refl, sym, subst, ℕ, ◌-◌, ap, ◌∙◌}
+use Rattle.std.proofs.Common.{rules, IsErrOf, IsNone, Option, Ok, Bool, not, [], ◌∷◌, refl, sym, subst, ℕ, ◌-◌, ap, ◌∙◌, arith}
 use Rattle.irig_journal.specs.Groups.{Grouped}
 use Rattle.irig_journal.specs.Journal.{past_of, future_of}
 use Rattle.irig_journal.specs.declared.fault.JournalFault.TheVariants as fault
@@ -16,7 +16,7 @@ use Rattle.irig_edit.specs.declared.refusal.Refusal.TheVariants.{NoGroup}
 use Rattle.irig_edit.proofs.Aborts.{IsGrouped-aborted, aborted_rose, grouped-aborted}
 use Rattle.irig_edit.proofs.Endings.{is_open-none, is_open-not_none}
 use Rattle.irig_edit.proofs.Floors.{over_opening}
-use Rattle.irig_edit.proofs.LooksOfSteps.{risen_within}
+use Rattle.irig_edit.proofs.LooksOfSteps.{never_fell, risen_within}
 use Rattle.irig_edit.proofs.MachineSteps.{Steps-aborted}
 use Rattle.irig_edit.proofs.session.Session.abort.Goals as goal
 
@@ -57,6 +57,7 @@ returns-in-Ok-clause-looks c =
     let rose = aborted_rose s.present.state s.cursor (past_of delta_of s.journal) (future_of delta_of s.journal) s.journal.floor old new c.in-Ok.ensures.once
     (λ none. shut (c.abort.ensures.none.1 (subst (λ (f : Option Opening). IsNone f) (sym none) refl))) in
     let most = looks_back (made_since (grouped_at s.present.state s.cursor s.journal).floor (machine_at s.present.state s.cursor s.journal)) in (
+      never_fell most old new c.looks-before.result _ rose c.looks-before.ensures (ap (λ (v : SessionView). v.looks) c.self.view_is) (omega arith),
       c.looks_since-self-inside.ensures ∙ ap (λ (n : ℕ). new - n) (c.looks-before.ensures ∙ ap (λ (v : SessionView). v.looks) c.self.view_is),
       subst (λ (v : SessionView). Within (looks_back (made_since v.floor (machine_in v))) rise) c.self.view_is
           (risen_within most old new c.looks-before.result rise rose c.looks-before.ensures c.looks_since-self-inside.ensures),
@@ -74,7 +75,7 @@ returns-in-Err-NoGroup c =
         ap (λ (v : SessionView). refusal_of Abort (grouped_in v)) (sym c.self.view_is) ∙ refused,
         (λ k. over_opening (same.2 k) (machine (same.0 k))) ∙ ap grouped_in c.self.view_is,
       );
-      looks = ap (λ (v : SessionView). v.last_looks) c.self.view_is;
+      looks = (same.1 ∙ ap (λ (v : SessionView). v.looks) c.self.view_is, ap (λ (v : SessionView). v.last_looks) c.self.view_is);
     }
 
 pub returns-in-Err : goal.returns-in-Err
@@ -90,5 +91,5 @@ returns-in-Err c =
         (λ k. over_opening (same.2 k) (machine (same.0 k))) ∙ ap grouped_in c.self.view_is,
         tt,
       );
-      looks = ap (λ (v : SessionView). v.last_looks) c.self.view_is;
+      looks = (same.1 ∙ ap (λ (v : SessionView). v.looks) c.self.view_is, ap (λ (v : SessionView). v.last_looks) c.self.view_is);
     }

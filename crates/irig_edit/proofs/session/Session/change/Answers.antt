@@ -1,4 +1,4 @@
-use Rattle.std.proofs.Common.{◌≡◌, Ok, ◌≤◌, length, ap, sym, ◌∙◌, subst, ℕ, ◌-◌}
+use Rattle.std.proofs.Common.{◌≡◌, Ok, ◌≤◌, length, ap, sym, ◌∙◌, subst, ℕ, ◌-◌, arith}
 use Rattle.irig_journal.specs.Groups.{Grouped, recorded_over}
 use Rattle.irig_journal.specs.Journal.{past_of, future_of}
 use Rattle.irig_journal.specs.Machine.{Machine}
@@ -14,7 +14,7 @@ use Rattle.irig_edit.specs.Looks.{Within, looks_of}
 use Rattle.irig_edit.specs.Session.{SessionView, grouped_in}
 use Rattle.irig_edit.proofs.Floors.{IsGrouped-recorded, grouped-recorded, over_opening}
 use Rattle.irig_edit.proofs.Machines.{history, machine-made}
-use Rattle.irig_edit.proofs.LooksOfSteps.{risen_within}
+use Rattle.irig_edit.proofs.LooksOfSteps.{never_fell, risen_within}
 use Rattle.irig_edit.proofs.MachineSteps.{steps_becomes}
 use Rattle.irig_edit.proofs.session.Session.change.Goals as goal
 
@@ -85,6 +85,7 @@ returns-in-Ok-clause-looks c =
     let looks = c.looks_since-self-inside.result in
     let rise = risen_within (looks_of s d) c.self.inside.present.index.looks c.record.new.state.index.looks c.looks-before.result looks
     c.in-Ok.ensures.once c.looks-before.ensures c.looks_since-self-inside.ensures in (
+      never_fell (looks_of s d) c.self.inside.present.index.looks c.record.new.state.index.looks c.looks-before.result _ c.in-Ok.ensures.once c.looks-before.ensures (ap (λ (v : SessionView). v.looks) c.self.view_is) (omega arith),
       c.looks_since-self-inside.ensures ∙ ap (λ (n : ℕ). c.record.new.state.index.looks - n) (c.looks-before.ensures ∙ ap (λ (v : SessionView). v.looks) c.self.view_is),
       subst (λ (m : Machine Kept). Within m.present.made.forth looks) (sym made) rise,
     )

@@ -53,4 +53,4 @@ returns-clause-step c =
 pub returns-clause-looks : goal.returns-clause-looks
 returns-clause-looks c =
     let before = c.args.self.now.looks in
-    subst (λ (v : SessionView). (v.last_looks ≡ v.looks - before) × Within v.present.made.forth v.last_looks) (sym c.self-2.view_is) c.in_ok-change.ensures.looks
+    subst (λ (v : SessionView). (before ≤ v.looks) × (v.last_looks ≡ v.looks - before) × Within v.present.made.forth v.last_looks) (sym c.self-2.view_is) c.in_ok-change.ensures.looks

@@ -1,4 +1,4 @@
-use Rattle.std.proofs.Common.{rules, IsErrOf, Ok, sym, subst, ℕ, ◌-◌, ap, ◌∙◌}
+use Rattle.std.proofs.Common.{rules, IsErrOf, Ok, sym, subst, ℕ, ◌-◌, ap, ◌∙◌, arith}
 use Rattle.irig_journal.specs.Groups.{Grouped}
 use Rattle.irig_journal.specs.Journal.{future_of}
 use Rattle.irig_journal.specs.declared.fault.JournalFault.TheVariants.{NothingToRedo}
@@ -11,7 +11,7 @@ use Rattle.irig_edit.specs.Limits.{IsGrouped}
 use Rattle.irig_edit.specs.Machine.{Steps}
 use Rattle.irig_edit.specs.Session.{SessionView, grouped_in}
 use Rattle.irig_edit.proofs.Floors.{IsGrouped-redone, grouped-redone, over_opening}
-use Rattle.irig_edit.proofs.LooksOfSteps.{risen_within, redone_rose}
+use Rattle.irig_edit.proofs.LooksOfSteps.{never_fell, risen_within, redone_rose}
 use Rattle.irig_edit.proofs.Machines.{machine-redone}
 use Rattle.irig_edit.proofs.MachineSteps.{Steps-redone, no_refusal_forward}
 use Rattle.irig_edit.proofs.session.Session.redo.Goals as goal
@@ -44,6 +44,7 @@ returns-in-Ok-clause-looks c =
     let new = c.redo.new.state.index.looks in
     let rise = c.looks_since-self-inside.result in
     let rose = redone_rose _ _ old new c.self.invariant.0.machine.present.state c.self.invariant.1.1 c.in-Ok.ensures.step.steps c.in-Ok.ensures.step.once in (
+      never_fell _ old new c.looks-before.result _ rose c.looks-before.ensures (ap (λ (v : SessionView). v.looks) c.self.view_is) (omega arith),
       c.looks_since-self-inside.ensures ∙ ap (λ (n : ℕ). new - n) (c.looks-before.ensures ∙ ap (λ (v : SessionView). v.looks) c.self.view_is),
       risen_within _ old new c.looks-before.result rise rose c.looks-before.ensures c.looks_since-self-inside.ensures,
     )
@@ -60,5 +61,5 @@ returns-in-Err c =
         (λ k. over_opening (same.2 k) (machine (same.0 k))) ∙ ap grouped_in c.self.view_is,
         tt,
       );
-      looks = ap (λ (v : SessionView). v.last_looks) c.self.view_is;
+      looks = (same.1 ∙ ap (λ (v : SessionView). v.looks) c.self.view_is, ap (λ (v : SessionView). v.last_looks) c.self.view_is);
     }

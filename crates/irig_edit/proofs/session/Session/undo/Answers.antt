@@ -1,4 +1,4 @@
-use Rattle.std.proofs.Common.{rules, length, IsErrOf, Ok, sym, subst, ℕ, ◌-◌, ap, ◌∙◌}
+use Rattle.std.proofs.Common.{rules, length, IsErrOf, Ok, sym, subst, ℕ, ◌-◌, ap, ◌∙◌, arith}
 use Rattle.irig_journal.specs.Groups.{Grouped}
 use Rattle.irig_journal.specs.Journal.{past_of, future_of}
 use Rattle.irig_journal.specs.declared.fault.JournalFault.TheVariants.{NothingToUndo, GroupFloor}
@@ -13,7 +13,7 @@ use Rattle.irig_edit.specs.Refusals.{refusal_of}
 use Rattle.irig_edit.specs.Session.{SessionView, grouped_in}
 use Rattle.irig_edit.proofs.Aborts.{above_floor}
 use Rattle.irig_edit.proofs.Floors.{IsGrouped-undone, grouped-undone, is_at_floor-yes, not_at_floor, over_opening}
-use Rattle.irig_edit.proofs.LooksOfSteps.{risen_within, undone_rose}
+use Rattle.irig_edit.proofs.LooksOfSteps.{never_fell, risen_within, undone_rose}
 use Rattle.irig_edit.proofs.Machines.{length-kept_back, machine-undone}
 use Rattle.irig_edit.proofs.MachineSteps.{Steps-undone, floor_refusal, no_refusal_back}
 use Rattle.irig_edit.proofs.session.Session.undo.Goals as goal
@@ -56,6 +56,7 @@ returns-in-Ok-clause-looks c =
     let new = c.undo.new.state.index.looks in
     let rise = c.looks_since-self-inside.result in
     let rose = undone_rose c.self.inside.present.state (past_of delta_of c.self.inside.journal) old new c.in-Ok.ensures.step.once in (
+      never_fell (exchange_back c.self.inside.present.state (past_of delta_of c.self.inside.journal)).back old new c.looks-before.result _ rose c.looks-before.ensures (ap (λ (v : SessionView). v.looks) c.self.view_is) (omega arith),
       c.looks_since-self-inside.ensures ∙ ap (λ (n : ℕ). new - n) (c.looks-before.ensures ∙ ap (λ (v : SessionView). v.looks) c.self.view_is),
       subst (λ (v : SessionView). Within v.present.made.back rise) c.self.view_is
           (risen_within (exchange_back c.self.inside.present.state (past_of delta_of c.self.inside.journal)).back old new c.looks-before.result rise rose c.looks-before.ensures c.looks_since-self-inside.ensures),
@@ -75,7 +76,7 @@ returns-in-Err-GroupFloor c =
         ap (λ (v : SessionView). refusal_of Undo (grouped_in v)) (sym c.self.view_is) ∙ refused,
         (λ k. over_opening (same.2 k) (machine (same.0 k))) ∙ ap grouped_in c.self.view_is,
       );
-      looks = ap (λ (v : SessionView). v.last_looks) c.self.view_is;
+      looks = (same.1 ∙ ap (λ (v : SessionView). v.looks) c.self.view_is, ap (λ (v : SessionView). v.last_looks) c.self.view_is);
     }
 
 pub returns-in-Err : goal.returns-in-Err
@@ -94,5 +95,5 @@ returns-in-Err c =
         (λ k. over_opening (same.2 k) (machine (same.0 k))) ∙ ap grouped_in c.self.view_is,
         tt,
       );
-      looks = ap (λ (v : SessionView). v.last_looks) c.self.view_is;
+      looks = (same.1 ∙ ap (λ (v : SessionView). v.looks) c.self.view_is, ap (λ (v : SessionView). v.last_looks) c.self.view_is);
     }
