@@ -26,6 +26,6 @@ mask-of f k n masks kind expression permitted same =
     ap (λ ms. get_or ms n 0) same ∙ ap (λ j. get_or (masks_of j) n 0) kind ∙ ap (λ m. get_or (masks_of f.kind) m 0) expression
     ∙ get_or-map-range_with_len (used_in f.kind) 0 8 f.expression f.expression 0 few (omega arith)
 
--- the masks of a kind, told by a test that computes
+-- the masks of a kind, by a test that computes
 pub masks-are : (k j : Kind) (masks : List ℕ) → j ≡ k → same_list masks (masks_of k) ≡ true → masks ≡ masks_of j
 masks-are k j masks kind same = from-list masks (masks_of k) same ∙ ap masks_of (sym kind)

@@ -16,7 +16,7 @@ interval_of-le B = omega arith
 interval_of-le E = omega arith
 interval_of-le G = omega arith
 
--- a frame takes ten seconds at most, told in hundredths
+-- a frame takes ten seconds at most, in hundredths
 pub frame_period_of-le : (k : Kind) → frame_period_of k / 10000 ≤ 1000
 frame_period_of-le A = omega arith
 frame_period_of-le B = omega arith
@@ -32,7 +32,7 @@ is_in_step-interval_of f = by_kind f.kind where
   by_kind E = refl
   by_kind G = refl
 
--- a nominal width stands for its element
+-- a nominal width means its element
 pub class_of-nominal_of : (f : FormatView) (x : Element) → class_of f (nominal_of f x) ≡ Some x
 class_of-nominal_of f x = by_kind f.kind x where
   by_kind : (k : Kind) (x : Element)

@@ -132,7 +132,7 @@ module _ {S D : Type 0} where
       ap (λ (k : ℕ). drop (k - n - 1) (states_along turned s steps)) (length-states turned s steps)
       ∙ past_ended_by turned gathered s n steps (nat_le (length steps) (n + 1)) refl same
 
-  -- a step more does not move the floor, if it leads to where the others stood
+  -- a step more does not move the floor, if it leads to the state of the others
   pub floor_kept : (turned : S → D → S × D) (o : Option Opening) (s after : S) (near : Step D)
       (past more : List (Step D)) → more ≡ near ∷ past → (turned after near.change).0 ≡ s
       → StandsOnFloor o (length past)
@@ -183,7 +183,7 @@ module _ {S D : Type 0} where
         longer = sym (ap (λ (h : History S D). h.future) same);
       }
 
--- a past that goes back beyond the floor stands on it with a step less
+-- a past that is longer than the floor's length still reaches it with a step less
 pub stands_below : (o : Option Opening) (n m : ℕ) → (AtFloor o n → ⊥) → n ≡ suc m → StandsOnFloor o m
 stands_below None n m above longer = tt
 stands_below (Some o) n m above longer = omega (arith, above)
@@ -210,7 +210,7 @@ module _ {S D : Type 0} where
       (ap₂ (λ (l : List (Kept S)) (t : S). machine_of_states l (kept t place) []) states there)
 
 module _ {S C D : Type 0} where
-  -- a group begun here stands on the present
+  -- a group begun here has the present as its floor
   pub begun_by : (turned : S → D → S × D) (delta : C → D) (s : S) (cursor n : ℕ) (past future : List (Step C))
       → n ≡ length past
       → begun (grouped_of turned delta s cursor (floored_at past future None))

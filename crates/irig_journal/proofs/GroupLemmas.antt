@@ -11,7 +11,7 @@ module _ {S : Type 0} where
   abbrev pub machine_of_states : List (Kept S) → Kept S → List (Kept S) → Machine (Kept S)
   machine_of_states past present future = record { past = past; present = present; future = future }
 
-  -- the state of the oldest, or this one where there is none
+  -- the state of the oldest, or this one if there is none
   abbrev pub oldest_state : S → List (Kept S) → S
   oldest_state s [] = s
   oldest_state s (near ∷ past) = oldest_state near.state past

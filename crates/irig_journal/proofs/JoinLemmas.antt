@@ -1,4 +1,4 @@
--- Steps taken out of a list and put back, and what several steps do in turn.
+-- Steps removed from a list and added again, and what several steps do in turn.
 use Rattle.std.proofs.Common.{◌≡◌, ◌∷◌, ◌+◌, ◌-◌, ◌≤◌, ◌++◌, [], ℕ, suc, List, length, get_or, map, refl, ap, sym, subst, ◌∙◌, arith, add-one, append_assoc, length-append}
 use Rattle.std.proofs.lemmas.List.{map-append, length-map, take-append-drop, take_at, drop_at, length-drop}
 use Rattle.irig_journal.specs.declared.step.Step.{Step}
@@ -47,7 +47,7 @@ module _ {D : Type 0} where
       farthest-paired a e ds ns same
       ∙ ap (λ (n : ℕ). get_or (a ∷ ns) n e) (sym last ∙ add-one k)
 
-  -- a list of which the farthest are told
+  -- a list whose farthest steps are given
   pub beyond_at : (steps near rest : List (Step D)) (n : ℕ) → steps ≡ near ++ rest
       → length rest ≡ n → beyond n steps ≡ near
   beyond_at steps near rest n parts long =
@@ -65,7 +65,7 @@ module _ {D : Type 0} where
   pub beyond-farthest : (n : ℕ) (steps : List (Step D)) → beyond n steps ++ farthest n steps ≡ steps
   beyond-farthest n steps = take-append-drop (length steps - n) steps
 
-  -- none stand beyond
+  -- there are none before the farthest
   pub beyond_none : (n : ℕ) (steps : List (Step D)) → length steps ≤ n → beyond n steps ≡ []
   beyond_none n steps short = rw (sub_none (length steps) n short) refl
 
@@ -73,7 +73,7 @@ module _ {D : Type 0} where
   farthest_all n steps short = rw (sub_none (length steps) n short) refl
 
 module _ {C D : Type 0} where
-  -- a step stands last on the one side, or farthest on the other
+  -- a step is last on the one side, or farthest on the other
   pub paired-steps : (delta : C → D) (cs : List C) (ns : List ℕ) (x : Step C) (xs : List (Step C))
       → length cs ≡ length ns
       → paired (map delta (cs ++ x.change ∷ [])) (ns ++ x.cursor ∷ []) ++ steps_of delta xs
@@ -111,7 +111,7 @@ module _ {S D : Type 0} where
       FitInTurn-parts fits turned s (beyond n steps) (farthest n steps)
       (subst (λ (l : List (Step D)). FitInTurn fits turned s l) (sym (beyond-farthest n steps)) fit)
 
-  -- the joined step fits, and the farthest fit behind it
+  -- the joined step fits, and the farthest fit after it
   pub fit_joined : (fits : S → D → Type 0) (turned : S → D → S × D) (gathered : List D → D) (s : S) (n : ℕ)
       (steps : List (Step D)) → fits s (gathered (changes_of (beyond n steps)))
       → (turned s (gathered (changes_of (beyond n steps)))).0 ≡ left_by turned s (changes_of (beyond n steps))

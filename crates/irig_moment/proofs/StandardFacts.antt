@@ -12,7 +12,7 @@ use Rattle.irig_codes.specs.declared.format.Kind.TheVariants.{A, B, E, G}
 pub leap-years : map (λ y. days_in_year (pos y)) (1 ∷ 4 ∷ 1900 ∷ 2000 ∷ 2023 ∷ 2024 ∷ 2100 ∷ 9996 ∷ 9998 ∷ []) ≡ 365 ∷ 366 ∷ 365 ∷ 366 ∷ 365 ∷ 366 ∷ 365 ∷ 366 ∷ 365 ∷ []
 leap-years = refl
 
--- texts that tell no moment
+-- texts that are no moment
 pub no-day-29 : moment_of (codes "2023-02-29T00:00:00") ≡ None
 no-day-29 = refl
 

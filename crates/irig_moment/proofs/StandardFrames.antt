@@ -19,7 +19,7 @@ format k n = record { kind = k; expression = n }
 abbrev at_day : ℕ → ℕ → ℕ → MomentView
 at_day y n time = record { day = new_year_of y + n; hundredths = time }
 
--- what frames tell of a year, a place in it, and a time
+-- what frames carry of a year, a place in it, and a time
 abbrev told : FormatView → ℕ → ℕ → ℕ → Fields
 told f y place t = record {
   hundredths = part (has_hundredths f.kind) (t % 100);
