@@ -82,14 +82,15 @@ carried {X} {Z} IsX IsZ xs zs text rest to from s =
     }
 
 -- where one part stops and another stops there, so do their readings
-pub stopped : {P Q : List ℕ → Type 0} (stop : Stop) → ((rest : List ℕ) → P rest → Q rest) → IsStop P stop → IsStop Q stop
-stopped (At rest) f h = f rest.now h
-stopped Memory f h = tt
+pub stopped : {P Q : List ℕ → Type 0} {M N : Type 0} (stop : Stop) → ((rest : List ℕ) → P rest → Q rest) → (M → N)
+    → IsStop P M stop → IsStop Q N stop
+stopped (At rest) f out h = f rest.now h
+stopped Memory f out h = out h
 
 -- what is read of one part is read of another
-pub reparsed : {X : Type 0} (IsX IsY : X → Type 0) (xs ys : X → List (List ℕ)) (text mid : List ℕ) (r : Result (X × Bor (List ℕ)) Stop)
+pub reparsed : {X : Type 0} (IsX IsY : X → Type 0) (xs ys : X → List (List ℕ)) (OutX OutY : List ℕ → Type 0) (text mid : List ℕ) (r : Result (X × Bor (List ℕ)) Stop)
     → ((x : X) (rest : List ℕ) → Reads IsX xs mid x rest → Reads IsY ys text x rest)
     → ((rest : List ℕ) → Stops IsX xs mid rest → Stops IsY ys text rest)
-    → Parses IsX xs mid r → Parses IsY ys text r
-reparsed IsX IsY xs ys text mid (Ok p) reads stops h = reads p.0 p.1.now h
-reparsed IsX IsY xs ys text mid (Err stop) reads stops h = stopped stop stops h
+    → (OutX mid → OutY text) → Parses IsX xs OutX mid r → Parses IsY ys OutY text r
+reparsed IsX IsY xs ys OutX OutY text mid (Ok p) reads stops out h = reads p.0 p.1.now h
+reparsed IsX IsY xs ys OutX OutY text mid (Err stop) reads stops out h = stopped stop stops out h

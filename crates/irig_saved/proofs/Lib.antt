@@ -17,6 +17,7 @@ pub mod SingleParts
 pub mod ChangeParts
 pub mod MarkParts
 pub mod SavedParts
+pub mod FirstSteps
 pub mod FaultLines
 pub mod FaultFacts
 pub mod JournalTexts

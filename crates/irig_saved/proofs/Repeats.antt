@@ -23,7 +23,7 @@ module _ {X : Type 0} (Is : X → Type 0) (lines : X → List (List ℕ)) (all :
   abbrev pub AreSo : ℕ → List X → Type 0
   AreSo count xs = (length xs ≡ count) × AllByRecursion Is xs
 
-  so_many : (count : ℕ) → (xs : List X) × AreSo count xs
+  pub so_many : (count : ℕ) → (xs : List X) × AreSo count xs
   so_many zero = ([], (refl, tt))
   so_many (suc count) =
       let more = so_many count in

@@ -1,7 +1,7 @@
 -- What a text begins with: docs/FORMATS.md, "The saved journal". This project's own.
-use Rattle.std.specs.Prelude.{◌≡◌, ◌+◌, ℕ, List, [], ◌∷◌, ◌++◌, Option, Some, None, MatchOption, decimal, codes}
+use Rattle.std.specs.Prelude.{◌≡◌, ◌+◌, ◌<◌, ℕ, List, [], ◌∷◌, ◌++◌, Option, Some, None, MatchOption, decimal, codes}
 use Rattle.std.specs.Borrow.{Bor}
-use Rattle.irig_saved.specs.Lines.{line}
+use Rattle.irig_saved.specs.Lines.{line, numbered}
 use Rattle.irig_saved.specs.Ranges.{IsNumber}
 
 -- the first line is read, with what stands behind it; else the text begins with no such line
@@ -26,3 +26,22 @@ Leads x [] text rest = text ≡ rest
 Leads x (None ∷ ms) text rest = LacksMark x text × Leads (x + 1) ms text rest
 Leads x (Some t ∷ ms) text rest = IsNumber t
     × ((mid : List ℕ) × (text ≡ mark_line x t ++ 10 ∷ mid) × Leads (x + 1) ms mid rest)
+
+-- the text begins with the first line of a step
+pub record BeginsStep (text : List ℕ) : Type 0 where
+  pub cursor : ℕ
+  pub number : IsNumber cursor
+  pub more : List ℕ
+  pub same : text ≡ numbered (codes "at") (cursor ∷ []) ++ 10 ∷ more
+
+-- there is to be a step, and the text begins with its first line
+abbrev pub BeginsSome : ℕ → List ℕ → Type 0
+BeginsSome count text = 0 < count × BeginsStep text
+
+-- the text begins with a word and how many steps there are, and with the first line of a step
+pub record BeginsSteps (head text : List ℕ) : Type 0 where
+  pub count : ℕ
+  pub number : IsNumber count
+  pub mid : List ℕ
+  pub same : text ≡ numbered head (count ∷ []) ++ 10 ∷ mid
+  pub some : BeginsSome count mid

@@ -62,14 +62,14 @@ pub record Stops {X : Type 0} (Is : X → Type 0) (lines : X → List (List ℕ)
       → text ≡ text_of (take (n + 1) (lines x)) ++ more → ⊥
   pub refused : (x : X) (more : List ℕ) → Is x → text ≡ text_of (lines x) ++ more → ⊥
 
--- memory is no matter of the text
-abbrev pub IsStop : (List ℕ → Type 0) → Stop → Type 0
-IsStop P (At rest) = P rest.now
-IsStop P Memory = Unit {0}
+-- this holds of the rest where a reading stops, and that if it is out of memory
+abbrev pub IsStop : (List ℕ → Type 0) → Type 0 → Stop → Type 0
+IsStop P M (At rest) = P rest.now
+IsStop P M Memory = M
 
--- a part is read from the head of a text
-abbrev pub Parses : {X : Type 0} → (X → Type 0) → (X → List (List ℕ)) → List ℕ
-    → Result (X × Bor (List ℕ)) Stop → Type 0
-Parses Is lines text r =
+-- a part is read from the head of a text; if the reading is out of memory, this holds of the text
+abbrev pub Parses : {X : Type 0} → (X → Type 0) → (X → List (List ℕ)) → (List ℕ → Type 0)
+    → List ℕ → Result (X × Bor (List ℕ)) Stop → Type 0
+Parses Is lines Out text r =
     MatchResult r (λ p. Reads Is lines text p.0 p.1.now)
-    (λ e. IsStop (λ rest. Stops Is lines text rest) e)
+    (λ e. IsStop (λ rest. Stops Is lines text rest) (Out text) e)

@@ -4,8 +4,8 @@ ghost use Rattle.std.specs.Prelude.{◌≡◌, ◌<◌, ◌+◌, ◌∷◌, [], 
 ghost use Rattle.irig_saved.specs.Lines.{numbered};
 ghost use Rattle.irig_saved.specs.Ranges.{IsNumber, IsSingle, IsChange, IsStep, AreSteps, ArePulses, AreSingles, ManySteps};
 ghost use Rattle.irig_saved.specs.SavedText.{pulse_lines, single_lines, singles_lines, change_lines, step_lines, steps_lines, counted_lines, mark_lines};
-ghost use Rattle.irig_saved.specs.Reading.{Parses, IsWordy};
-ghost use Rattle.irig_saved.specs.Leading.{Leads};
+ghost use Rattle.irig_saved.specs.Reading.{Any, Parses, IsWordy};
+ghost use Rattle.irig_saved.specs.Leading.{BeginsSome, BeginsStep, BeginsSteps, Leads};
 
 use crate::change::Change;
 use crate::cut::line_of;
@@ -20,7 +20,7 @@ use std::alloc::Global;
 
 /// Lines of pulses, so many of them.
 pub fn pulses(alloc: Global, count: u64, text: &[u8]) -> Result<(Pulses, &[u8]), Stop<'_>>
-    ensures { Parses (ArePulses count) pulse_lines text.now result }
+    ensures { Parses (ArePulses count) pulse_lines Any text.now result }
 {
     let mut pulses = Pulses::new(alloc);
     let mut rest = text;
@@ -41,7 +41,7 @@ pub fn pulses(alloc: Global, count: u64, text: &[u8]) -> Result<(Pulses, &[u8]),
 
 /// One change.
 pub fn single(alloc: Global, text: &[u8]) -> Result<(Single, &[u8]), Stop<'_>>
-    ensures { Parses IsSingle single_lines text.now result }
+    ensures { Parses IsSingle single_lines Any text.now result }
 {
     let Some((line, next)) = line_of(text) else {
         return Err(Stop::At(text));
@@ -60,7 +60,7 @@ pub fn single(alloc: Global, text: &[u8]) -> Result<(Single, &[u8]), Stop<'_>>
 
 /// Changes, so many of them.
 pub fn singles(alloc: Global, count: u64, text: &[u8]) -> Result<(Singles, &[u8]), Stop<'_>>
-    ensures { Parses (AreSingles count) singles_lines text.now result }
+    ensures { Parses (AreSingles count) singles_lines Any text.now result }
 {
     let mut singles = Singles::new(alloc);
     let mut rest = text;
@@ -79,7 +79,7 @@ pub fn singles(alloc: Global, count: u64, text: &[u8]) -> Result<(Singles, &[u8]
 
 /// A change, or a group of them.
 pub fn change(alloc: Global, text: &[u8]) -> Result<(Change, &[u8]), Stop<'_>>
-    ensures { Parses IsChange change_lines text.now result }
+    ensures { Parses IsChange change_lines Any text.now result }
 {
     let Some((line, next)) = line_of(text) else {
         return Err(Stop::At(text));
@@ -98,7 +98,7 @@ pub fn change(alloc: Global, text: &[u8]) -> Result<(Change, &[u8]), Stop<'_>>
 
 /// A cursor and a change.
 pub fn step(alloc: Global, text: &[u8]) -> Result<(Step, &[u8]), Stop<'_>>
-    ensures { Parses IsStep step_lines text.now result }
+    ensures { Parses IsStep step_lines BeginsStep text.now result }
 {
     let Some((line, next)) = line_of(text) else {
         return Err(Stop::At(text));
@@ -114,7 +114,7 @@ pub fn step(alloc: Global, text: &[u8]) -> Result<(Step, &[u8]), Stop<'_>>
 
 /// Steps, so many of them.
 pub fn steps(alloc: Global, count: u64, text: &[u8]) -> Result<(Steps, &[u8]), Stop<'_>>
-    ensures { Parses (ManySteps count) steps_lines text.now result }
+    ensures { Parses (ManySteps count) steps_lines (BeginsSome count) text.now result }
 {
     let mut steps = Steps::new(alloc);
     let mut rest = text;
@@ -138,7 +138,7 @@ pub fn counted_steps<'a>(
     text: &'a [u8],
 ) -> Result<(Steps, &'a [u8]), Stop<'a>>
     requires { IsWordy head.now }
-    ensures { Parses AreSteps (counted_lines head.now) text.now result }
+    ensures { Parses AreSteps (counted_lines head.now) (BeginsSteps head.now) text.now result }
 {
     let Some((line, next)) = line_of(text) else {
         return Err(Stop::At(text));

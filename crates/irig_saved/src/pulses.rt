@@ -1,27 +1,29 @@
 //! Pulses in a list that gives its block away.
 
-ghost use Rattle.std.specs.Prelude.{◌≡◌, ◌<◌, ◌++◌, ◌∷◌, [], OnOk, OnErr, Some, length, slice_get};
+ghost use Rattle.std.specs.Prelude.{◌≡◌, ◌≤◌, ◌<◌, ◌+◌, ◌*◌, ◌++◌, ◌∷◌, [], OnOk, OnErr, Some, length, slice_get};
 
 use irig_gap::Gap;
 use irig_track::Pulse;
 use std::alloc::{AllocError, Global};
 use std::marker::Model;
 
-/// Pulses that a splice puts, in a buffer with its place behind the last.
+/// Pulses that a splice puts, in a buffer with its place after the last. The buffer grows by half,
+/// for pulses that are there: no number in a text makes it take memory.
 #[derive(Drop)]
 pub struct Pulses {
     items: Gap<Pulse>,
 }
 
 impl Model for Pulses {
-    ghost use Rattle.std.specs.Prelude.{◌≡◌, List, length};
+    ghost use Rattle.std.specs.Prelude.{◌≡◌, ◌≤◌, ◌+◌, ◌*◌, List, length};
     ghost use Rattle.irig_track.specs.declared.pulse.Pulse.{Pulse};
 
     ghost Value = { List Pulse };
 
     ghost view = { λ pulses. pulses.items.items };
 
-    ghost invariant = { λ pulses. pulses.items.place ≡ length pulses.items.items };
+    ghost invariant = { λ pulses. (pulses.items.place ≡ length pulses.items.items)
+        × (2 * pulses.items.capacity ≤ 3 * length pulses.items.items + 2) };
 }
 
 impl Pulses {
@@ -59,10 +61,11 @@ impl Pulses {
         Ok(())
     }
 
-    /// The buffer of the pulses.
+    /// The buffer of the pulses. At most half as many more have places in it, and one.
     pub fn into_gap(self) -> Gap<Pulse>
         ensures items { result.items ≡ self }
         ensures place { result.place ≡ length self }
+        ensures tight { 2 * result.capacity ≤ 3 * length self + 2 }
     {
         self.items
     }

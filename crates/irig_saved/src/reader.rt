@@ -7,7 +7,7 @@ ghost use Rattle.irig_saved.specs.Ranges.{IsNumber, IsSaved};
 ghost use Rattle.irig_saved.specs.Values.{IsFormat, words_of_format};
 ghost use Rattle.irig_saved.specs.Reading.{Parses};
 ghost use Rattle.irig_saved.specs.Leading.{FirstLine};
-ghost use Rattle.irig_saved.specs.Faults.{IsRefused};
+ghost use Rattle.irig_saved.specs.Faults.{IsRefused, ReachesSteps};
 
 use crate::cut::line_of;
 use crate::lines::{counted, format};
@@ -22,7 +22,7 @@ use std::alloc::Global;
 pub enum Fault {
     /// The line of this number, from 1, is the first with which it begins none.
     Line(usize),
-    /// No memory was found.
+    /// No memory was found. It tells that the text begins a journal with a step.
     Memory,
 }
 
@@ -32,7 +32,9 @@ pub enum Fault {
 ///
 /// An error tells the first line with which the text begins no journal. Where a line is missing,
 /// or more text stands behind the last one, that is the line where the text ends or goes on.
-/// `Fault::Memory` tells nothing of the text. Whether the steps apply is not judged here.
+/// `Fault::Memory` comes only after the first lines of a journal that has a step: its head, its
+/// marks, how many steps back there are, and one line more. Whether the steps apply is not judged
+/// here.
 pub fn parse(alloc: Global, text: &[u8]) -> Result<Saved, Fault>
     requires { length text.now < 2 ^ 63 }
     ensures exact { MatchResult result
@@ -60,7 +62,7 @@ fn line_at(text: &[u8], rest: &[u8]) -> usize
 
 /// A journal from the head of a text, and what stands behind it.
 fn saved(alloc: Global, text: &[u8]) -> Result<(Saved, &[u8]), Stop<'_>>
-    ensures { Parses IsSaved saved_lines text.now result }
+    ensures { Parses IsSaved saved_lines ReachesSteps text.now result }
 {
     let Some(rest) = named(text) else {
         return Err(Stop::At(text));

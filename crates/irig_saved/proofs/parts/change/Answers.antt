@@ -9,10 +9,10 @@ pub returns-in-Err : goal.returns-in-Err
 returns-in-Err c =
     stopped c.in-Err.stop
     (λ rest s. group_stops c.args.text.now c.in-Some.line.now c.in-Some.next.now rest c.in-Some-counted.count c.in-Some.ensures.0 c.in-Some.ensures.1 c.in-Some-counted.ensures.0 c.in-Some-counted.ensures.1 s)
-    c.in-Err.ensures
+    (λ m. tt) c.in-Err.ensures
 
 pub returns-in-Err-single : goal.returns-in-Err-single
 returns-in-Err-single c =
     stopped c.in-Err-single.stop
     (λ rest s. one_stops c.args.text.now c.in-Some.line.now c.in-Some.next.now rest c.in-Some.ensures.0 c.in-Some.ensures.1 c.in_default-counted.ensures s)
-    c.in-Err-single.ensures
+    (λ m. tt) c.in-Err-single.ensures

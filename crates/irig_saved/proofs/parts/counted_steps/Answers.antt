@@ -1,7 +1,9 @@
 use Rattle.irig_saved.specs.Ranges.{ManySteps, AreSteps}
 use Rattle.irig_saved.specs.SavedText.{steps_lines, counted_lines}
+use Rattle.irig_saved.specs.Leading.{BeginsSome, BeginsSteps}
 use Rattle.irig_saved.proofs.Carried.{reparsed}
 use Rattle.irig_saved.proofs.ChangeParts.{counted_reads, counted_stops, counted_line_stops, no_counted_stops}
+use Rattle.irig_saved.proofs.FirstSteps.{counted_begins}
 use Rattle.irig_saved.proofs.parts.counted_steps.Goals as goal
 
 pub returns-in_default : goal.returns-in_default
@@ -17,7 +19,8 @@ returns c =
     let text = c.args.text.now in
     let line = c.in-Some.line.now in
     let next = c.in-Some.next.now in
-    reparsed (ManySteps n) AreSteps steps_lines (counted_lines head) text next c.steps.result
+    reparsed (ManySteps n) AreSteps steps_lines (counted_lines head) (BeginsSome n) (BeginsSteps head) text next c.steps.result
     (λ ss rest r. counted_reads head text line next rest n ss c.in-Some.ensures.0 c.in-Some-counted.ensures.0 c.in-Some-counted.ensures.1 r)
     (λ rest s. counted_stops head text line next rest n c.requires c.in-Some.ensures.0 c.in-Some-counted.ensures.0 c.in-Some-counted.ensures.1 s)
+    (λ some. counted_begins head text line next n c.in-Some.ensures.0 c.in-Some-counted.ensures.0 c.in-Some-counted.ensures.1 some)
     c.steps.ensures

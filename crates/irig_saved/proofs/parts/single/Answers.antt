@@ -17,4 +17,4 @@ pub returns-in-Err : goal.returns-in-Err
 returns-in-Err c =
     stopped c.in-Err.stop
     (λ rest s. splice_stops c.args.text.now c.in-Some.line.now c.in-Some.next.now rest (c.in-Some-splice.at, c.in-Some-splice.count, c.in-Some-splice.put) c.in-Some.ensures.0 c.in-Some.ensures.1 c.in-Some-splice.ensures.0 c.in-Some-splice.ensures.1 s)
-    c.in-Err.ensures
+    (λ m. tt) c.in-Err.ensures

@@ -18,7 +18,7 @@ pub returns-in-Err : goal.returns-in-Err
 returns-in-Err c =
     stopped c.in-Err.stop
     (λ rest s. row_stops IsSingle single_lines singles_lines single_family c.loop.counter c.args.count c.args.text.now c.loop.singles c.loop.rest.now rest (omega arith) c.loop.invariant s)
-    c.in-Err.ensures
+    (λ m. tt) c.in-Err.ensures
 
 pub returns : goal.returns
 returns c =

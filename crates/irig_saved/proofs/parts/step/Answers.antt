@@ -1,5 +1,6 @@
 use Rattle.irig_saved.proofs.Carried.{stopped}
 use Rattle.irig_saved.proofs.ChangeParts.{step_stops, step_line_stops, no_step_stops}
+use Rattle.irig_saved.proofs.FirstSteps.{begins_step}
 use Rattle.irig_saved.proofs.parts.step.Goals as goal
 
 pub returns-in_default : goal.returns-in_default
@@ -12,4 +13,4 @@ pub returns-in-Err : goal.returns-in-Err
 returns-in-Err c =
     stopped c.in-Err.stop
     (λ rest s. step_stops c.args.text.now c.in-Some.line.now c.in-Some.next.now rest c.in-Some-counted.cursor c.in-Some.ensures.0 c.in-Some-counted.ensures.0 c.in-Some-counted.ensures.1 s)
-    c.in-Err.ensures
+    (λ m. begins_step c.args.text.now c.in-Some.line.now c.in-Some.next.now c.in-Some-counted.cursor c.in-Some.ensures.0 c.in-Some-counted.ensures.0 c.in-Some-counted.ensures.1) c.in-Err.ensures

@@ -5,6 +5,7 @@ use Rattle.irig_saved.specs.Reading.{Reads}
 use Rattle.irig_saved.proofs.Carried.{stopped}
 use Rattle.irig_saved.proofs.Repeats.{row_begins, row_next, row_stops}
 use Rattle.irig_saved.proofs.ChangeParts.{step_family}
+use Rattle.irig_saved.proofs.FirstSteps.{step_begins, steps_begin}
 use Rattle.irig_saved.proofs.parts.steps.Goals as goal
 
 pub loop-init : goal.loop-init
@@ -18,7 +19,11 @@ pub returns-in-Err : goal.returns-in-Err
 returns-in-Err c =
     stopped c.in-Err.stop
     (λ rest s. row_stops IsStep step_lines steps_lines step_family c.loop.counter c.args.count c.args.text.now c.loop.steps c.loop.rest.now rest (omega arith) c.loop.invariant s)
-    c.in-Err.ensures
+    (λ first. (omega arith, steps_begin c.loop.counter c.args.text.now c.loop.steps c.loop.rest.now c.loop.invariant first)) c.in-Err.ensures
+
+pub returns-in_default : goal.returns-in_default
+returns-in_default c =
+    (omega arith, steps_begin c.loop.counter c.args.text.now c.loop.steps c.loop.rest.now c.loop.invariant (step_begins c.loop.rest.now c.in-Ok.read.1.now c.in-Ok.read.0 c.in-Ok.ensures))
 
 pub returns : goal.returns
 returns c =

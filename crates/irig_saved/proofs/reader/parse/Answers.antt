@@ -1,6 +1,7 @@
 use Rattle.std.proofs.Common.{subst}
 use Rattle.irig_saved.specs.SavedText.{saved_lines}
 use Rattle.irig_saved.specs.Ranges.{IsSaved}
+use Rattle.irig_saved.specs.Faults.{ReachesSteps}
 use Rattle.irig_saved.specs.Reading.{Stops, IsStop}
 use Rattle.irig_saved.specs.declared.stop.Stop.{Stop}
 use Rattle.irig_saved.proofs.FaultLines.{line_of_stop, line_of_rest, whole_text, whole_short}
@@ -23,5 +24,5 @@ returns-in-Ok-clause-exact c =
 pub returns-in-Err-At-clause-exact : goal.returns-in-Err-At-clause-exact
 returns-in-Err-At-clause-exact c =
     let text = c.args.text.now in
-    let P : Stop → Type 0 = λ stop. IsStop (λ rest. Stops IsSaved saved_lines text rest) stop in
+    let P : Stop → Type 0 = λ stop. IsStop (λ rest. Stops IsSaved saved_lines text rest) (ReachesSteps text) stop in
     line_of_stop text c.in-Err-At.rest.now c.line_at-in-Err-At.result (subst P c.in-Err-At.field-0-is c.in-Err-At.ensures) c.line_at-in-Err-At.ensures
