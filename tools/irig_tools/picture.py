@@ -84,9 +84,9 @@ def legend(sheet: Sheet) -> Block:
     """What the bars of the strip mean, with the number of frames of each kind."""
     drawn = []
     for column, state in enumerate(STATES):
+        words = "%s: %s" % (state, counted(frames_in(sheet, state), "frame"))
         x = LEFT + 190 * column
-        drawn += [bar(x, 10, 14, state),
-                  text(x + 22, 27, 12, "%s: %s" % (state, counted(frames_in(sheet, state), "frame")), "start")]
+        drawn += [bar(x, 10, 14, state), text(x + 22, 27, 12, words, "start")]
     return 50, drawn
 
 
@@ -95,7 +95,8 @@ def place_blocks(sheet: Sheet, number: int, place: Place) -> Iterator[Block]:
     rule = '<path d="M%d 4H%d" stroke="%s"/>' % (LEFT, RIGHT, GRID)
     words = shortened("%d. %s" % (number, place.title), 70)
     times = "from %s to %s" % (seconds(place.at), seconds(place.end))
-    yield 30, [rule, text(LEFT, 25, 14, words, "start", ' font-weight="bold"'), text(RIGHT, 25, 12, times, "end")]
+    yield 30, [rule, text(LEFT, 25, 14, words, "start", ' font-weight="bold"'),
+               text(RIGHT, 25, 12, times, "end")]
     yield from lines_of([words for words in (place.frame, place.reason) if words])
     yield waveforms(sheet, place)
 
