@@ -26,7 +26,11 @@ MIDDLE = """(() => {
 
 
 class BrowserFailed(Exception):
-    """It does not start, does not answer, or the page throws."""
+    """It does not start, or does not answer."""
+
+
+class PageFailed(Exception):
+    """The page threw."""
 
 
 def program(install: bool) -> Optional[str]:
@@ -63,8 +67,8 @@ class Browser:
             os.dup2(their_mouth, 4)
 
         self.process = subprocess.Popen(
-            [path, *OPTIONS, "--user-data-dir=" + self.home, "about:blank"],
-            preexec_fn=ends, pass_fds=(3, 4), start_new_session=True, **QUIET)
+            [path, *OPTIONS, "--user-data-dir=" + self.home, "about:blank"], preexec_fn=ends, pass_fds=(3, 4),
+            start_new_session=True, env={**os.environ, "HOME": self.home}, **QUIET)
         os.close(their_ear)
         os.close(their_mouth)
         self.heard, self.last, self.session = b"", 0, ""
@@ -135,7 +139,7 @@ class Browser:
         """What an expression is on the page."""
         got = self.ask("Runtime.evaluate", expression=code, returnByValue=True, awaitPromise=True)
         if "exceptionDetails" in got:
-            raise BrowserFailed(str(got["exceptionDetails"])[:500])
+            raise PageFailed(str(got["exceptionDetails"])[:500])
         return got["result"].get("value")
 
     def settle(self) -> None:
@@ -154,7 +158,7 @@ class Browser:
         wanted = "complete" + address.split("#")[0]
         while self.run("document.readyState + location.href.split('#')[0]") != wanted:
             if time.monotonic() > end:
-                raise BrowserFailed("the page is not loaded")
+                raise PageFailed("it is not loaded")
             time.sleep(0.05)
         self.settle()
 

@@ -3,7 +3,7 @@ import struct
 import tempfile
 from pathlib import Path
 
-from browser import Browser, BrowserFailed
+from browser import Browser, BrowserFailed, PageFailed
 from irig_tools.page import page
 from page_rows import WHOLE_DAY, check, hostile, recording
 
@@ -135,6 +135,8 @@ def look(path: str, screenshot: str) -> str:
     """Visits all pages. Returns why that could not be done, or nothing."""
     try:
         visit(path, screenshot)
+    except PageFailed as failed:
+        check("the page works", "", str(failed))
     except (BrowserFailed, OSError) as failed:
         return str(failed).split("\n")[0] or "the browser failed"
     return ""

@@ -168,7 +168,7 @@ byId("more").textContent = held.more ? `${held.more} more places are not on this
 byId("script").hidden = !held.script.length;
 byId("desk").classList.toggle("plain", !held.script.length);
 showLines(null);
-if (!places.length) for (const name of ["previous", "next", "locate"]) byId(name).disabled = true;
+byId("place").classList.toggle("none", !places.length);
 addEventListener("hashchange", fromAddress);
 addEventListener("beforeprint", fillPaper);
 addEventListener("afterprint", () => byId("paper").replaceChildren());

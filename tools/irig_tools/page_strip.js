@@ -47,7 +47,9 @@ class View {
     this.paint(this);
   }
 
+  // A wheel that can zoom out no more scrolls the page.
   wheel(event) {
+    if (event.deltaY > 0 && this.end - this.start >= this.last - this.first) return;
     event.preventDefault();
     const at = event.clientX - this.picture.getBoundingClientRect().left;
     if (Math.abs(event.deltaX) > Math.abs(event.deltaY)) this.move(event.deltaX / this.width);
@@ -87,7 +89,7 @@ class View {
 
 // The marks of time below a picture, and a line up to the top at each.
 function axis(view, top, bottom) {
-  const {times, name, write} = marks(view.start, view.end, Math.max(2, Math.floor(view.width / 90)));
+  const {times, name, write} = marks(view.start, view.end, Math.max(2, Math.floor(view.width / 80)));
   const made = draw("g", {class: "axis"});
   for (const time of times) {
     const x = view.x(time);

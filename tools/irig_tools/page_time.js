@@ -76,7 +76,7 @@ function clock(time) {
 // A length of time in the unit that fits it.
 function span(time) {
   for (const [unit, name] of [[1e6, "s"], [1e3, "ms"]]) {
-    if (time >= unit) return +(time / unit).toPrecision(4) + " " + name;
+    if (time >= unit) return +(time / unit).toPrecision(6) + " " + name;
   }
   return Math.round(time) + " µs";
 }

@@ -24,10 +24,15 @@ function outline(wave, view, floor) {
   return draw("path", {d: path + `H${view.width - SIDE}`, class: "wave"});
 }
 
+// How many pixels an interval takes.
+function roomOf(view) {
+  return (view.width - 2 * SIDE) * held.interval / (view.end - view.start);
+}
+
 // The class of each pulse above it and its width below it, as far as there is room.
 function labels(wave, view, floor) {
   const made = draw("g");
-  const room = (view.width - 2 * SIDE) * held.interval / (view.end - view.start);
+  const room = roomOf(view);
   let lastSign = -99;
   let lastWidth = -99;
   for (const {rise, fall, kind, count} of wave) {
@@ -68,10 +73,11 @@ function differences(before, after) {
   return found;
 }
 
-// What a reader has to look at: what a repair changes, or the damage if there is none.
+// What a reader has to look at: what a repair changes, or the damage if that is not known in full.
 function tints(place, view, bottom) {
   const made = draw("g");
-  const found = place.after ? differences(place.before, place.after) : [[place.at, place.end]];
+  const full = place.after && [...place.before, ...place.after].every((pulse) => pulse.kind);
+  const found = full ? differences(place.before, place.after) : [[place.at, place.end]];
   for (const [start, end] of found) {
     if (end < view.start || start > view.end) continue;
     const left = view.x(Math.max(start, view.start));
@@ -83,8 +89,14 @@ function tints(place, view, bottom) {
   return made;
 }
 
+// What the numbers below pulses are, or how to get to see the classes.
+function hint(view) {
+  if (roomOf(view) >= 40) return ", widths in µs";
+  return roomOf(view) < 9 && view.least ? "; zoom in to see the classes" : "";
+}
+
 function paintWave(view, place) {
-  const rows = [["as it is, widths in µs", place.before]];
+  const rows = [["as it is" + hint(view), place.before]];
   if (place.after) rows.push(["after the repair", place.after]);
   const bottom = 6 + ROW * rows.length;
   view.picture.setAttribute("height", bottom + 40);
