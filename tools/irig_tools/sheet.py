@@ -2,7 +2,8 @@
 
 All times are in microseconds from the start of the recording, as in the editor.
 """
-from collections.abc import Iterable
+from bisect import bisect_left, bisect_right
+from collections.abc import Iterable, Sequence
 from dataclasses import dataclass
 from typing import Optional
 
@@ -62,6 +63,13 @@ def merged(stretches: Iterable[Stretch]) -> tuple[Stretch, ...]:
         else:
             found.append(stretch)
     return tuple(found)
+
+
+def cut(rises: Sequence[int], falls: Sequence[int], letters: Sequence[str], start: int, end: int) -> Wave:
+    """The pulses of a recording from a time to a time. Each class is a letter: 0, 1, P, any other is bad."""
+    names = {letter: name for name, letter in LETTERS.items()}
+    pulses = range(bisect_left(falls, start), bisect_right(rises, end))
+    return tuple((rises[pulse], falls[pulse], names.get(letters[pulse], "bad")) for pulse in pulses)
 
 
 def frames_in(sheet: Sheet, state: str) -> int:
