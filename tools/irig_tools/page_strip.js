@@ -130,7 +130,7 @@ function bars(view, top, high, out) {
   for (const {x, wide, state, of} of columns(view)) {
     const [y, height] = [top - (state === "damaged" ? out : 0), high + (state === "sound" ? 0 : out)];
     made.append(draw("rect", {x, width: wide, y, height, class: state}));
-    if (!of || of.wide !== wide || wide < 150) continue;
+    if (!of || of.wide !== wide || wide < 120) continue;
     const words = state + ", " + of.frames.toLocaleString("en") + (of.frames === 1 ? " frame" : " frames");
     made.append(draw("text", {x: x + wide / 2, y: top + high / 2 + 4, class: "on-" + state}, words));
   }

@@ -3,8 +3,8 @@ import textwrap
 from collections.abc import Iterator
 
 from .sheet import STATES, Place, Sheet, frames_in, window
-from .svg import (BAND, FAINT, GRID, GROUND, INK, LEFT, OUT, RIGHT, TINT, Scale, axis, bar, differences, rect,
-                  strip, text, wave_labels, wave_path)
+from .svg import (BAND, FAINT, GRID, GROUND, INK, LEFT, OUT, RIGHT, TINT, WIDE, Scale, axis, bar, differences,
+                  rect, strip, text, wave_labels, wave_path)
 from .texts import counted, escaped, plain, seconds
 
 MOST = 12                               # places that are drawn
@@ -104,7 +104,8 @@ def place_blocks(sheet: Sheet, number: int, place: Place) -> Iterator[Block]:
 def waveforms(sheet: Sheet, place: Place) -> Block:
     """The waveform of a place, and that after the repair."""
     scale = Scale(*window(sheet, place))
-    rows = [("as it is, widths in µs", place.before)]
+    widths = ", widths in µs" if scale.room(sheet.interval) >= WIDE else ""
+    rows = [("as it is" + widths, place.before)]
     if place.after is not None:
         rows.append(("after the repair", place.after))
     bottom = 8 + ROW * len(rows)

@@ -10,6 +10,7 @@ LEFT, RIGHT = 20, 1000                  # in pixels
 GROUND, INK, FAINT, WAVE, GRID, TINT = "#ffffff", "#24292f", "#57606a", "#0b5394", "#e3e7eb", "#ffe3b3"
 COLOURS = {"sound": "#9cc3e6", "damaged": "#e69f00", "lost": "#b3261e"}
 BAND, OUT = 24, 7       # height of a strip; how far damaged frames rise above it, lost ones below
+NARROW, WIDE = 9, 40    # pixels that an interval takes at least if classes, and if widths, are written
 UNITS = ((1000000, "seconds"), (1000, "milliseconds"), (1, "microseconds"))     # of an axis
 
 
@@ -131,11 +132,11 @@ def wave_labels(wave: Wave, scale: Scale, interval: int, floor: int, high: int) 
         middle = (scale.x(rise) + scale.x(fall)) / 2
         if fall <= scale.start or rise >= scale.end:
             continue
-        if scale.room(interval) >= 9 and middle - last_class >= 9:
+        if scale.room(interval) >= NARROW and middle - last_class >= NARROW:
             strong = ' font-weight="bold" fill="%s"' % COLOURS["lost"] if name == "bad" else ""
             yield text(middle, floor - high - 5, 12, LETTERS[name], more=strong)
             last_class = middle
         whole = scale.start < rise and fall < scale.end
-        if whole and scale.room(interval) >= 40 and middle - last_width >= 40:
+        if whole and scale.room(interval) >= WIDE and middle - last_width >= WIDE:
             yield text(middle, floor + 14, 11, str(fall - rise), more=' fill="%s"' % FAINT)
             last_width = middle
