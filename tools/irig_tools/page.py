@@ -98,7 +98,7 @@ def parts_of(script: Sequence[str], places: Sequence[Place]) -> list[int]:
 
 
 def part_of(script: Sequence[str], lines: Sequence[str], numbers: dict[str, list[int]]) -> int:
-    """Where some lines begin in the script. Their rarest line is looked for first, and is found once only."""
+    """Where some lines begin in the script. Their rarest line is looked for first."""
     if not lines:
         return -1
     rarest = min(range(len(lines)), key=lambda index: len(numbers.get(lines[index], ())))
@@ -106,6 +106,7 @@ def part_of(script: Sequence[str], lines: Sequence[str], numbers: dict[str, list
         start = number - rarest
         if start >= 0 and tuple(script[start:start + len(lines)]) == tuple(lines):
             numbers[lines[rarest]].remove(number)
+            numbers[lines[rarest]].append(number)       # the next place with the same lines has the next ones
             return start
     return -1
 
