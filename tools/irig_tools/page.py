@@ -143,7 +143,7 @@ def strip_words(sheet: Sheet) -> str:
 def wave_words(wave: Wave, most: int) -> str:
     """The pulses, each as the time since the fall before it, the letter of its class, and its width.
 
-    If there are too many, those in the middle are left out, and a star and their number stand there instead.
+    If there are too many, those in the middle are left out, and a star and their number are there instead.
     """
     skipped = range(most * 3 // 4, len(wave) - most // 4) if len(wave) > most else range(0)
     words, last = [], 0
