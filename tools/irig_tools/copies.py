@@ -103,7 +103,8 @@ def without_copy(track: Track, first: int, many: int) -> Optional[Repair]:
         by = track.rises[after] - begin
     why = "the %d elements from %d on are there twice: at %d the times begin again; the second are deleted, and the " \
         "rest goes back by %d" % (many, begin - by, begin, by)
-    return Repair(begin, [why], ["%d,%d delete" % (first + 1, after), "%d,$ shift -%d" % (first + 1, by)])
+    edits = ["%d,%d delete" % (first + 1, after), "%d,$ shift -%d" % (first + 1, by)]
+    return Repair(begin, [why], edits, (first, after - first, by))
 
 
 def take_out(track: Track, times: Times) -> List[Repair]:

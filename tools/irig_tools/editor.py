@@ -43,10 +43,10 @@ def find_editor() -> str:
     if on_path:
         return on_path
     tools = os.path.dirname(os.path.dirname(os.path.realpath(__file__)))
-    for near in ("../irig_ed", "../../../bin/irig_ed"):  # in the repository, or under a prefix
-        path = os.path.normpath(os.path.join(tools, near))
-        if os.access(path, os.X_OK) and os.path.isfile(path):
-            return path
+    # in the repository (if it is built), or under a prefix
+    for program, near in (("../crates/irig_ed/out/irig_ed", "../irig_ed"), ("../../../bin/irig_ed",) * 2):
+        if os.path.isfile(os.path.join(tools, program)) and shutil.which(os.path.join(tools, near)):
+            return os.path.normpath(os.path.join(tools, near))
     raise Problem("irig_ed is not found: it is not on the path, and IRIG_ED does not name it")
 
 

@@ -2,7 +2,7 @@
 from __future__ import annotations
 
 from dataclasses import dataclass, field
-from typing import List
+from typing import List, Tuple
 
 LONGEST = 395  # letters of a comment; the editor refuses lines that are far longer
 BY_LINE = 200
@@ -15,6 +15,7 @@ class Repair:
     at: int
     comments: List[str]
     edits: List[str] = field(default_factory=list)
+    removed: Tuple[int, int, int] = (0, 0, 0)  # first pulse, pulses and microseconds of a stretch that is taken out
 
     def lines(self) -> List[str]:
         edits = ["begin", *self.edits, "end"] if len(self.edits) > 1 else self.edits
