@@ -145,7 +145,8 @@ def _of_places(faults: Faults, group: Sequence[int]) -> List[Damage]:
     first, last = group[0], group[-1]
     pulses = sorted({pulse for place in group for pulse in faults.track.pulses_at(place)})
     until = faults.track.rise_at(last) + round(faults.clock.interval)
-    reach = faults.track.spans(first, pulses[0]) if pulses else 0
+    at_first = faults.track.pulses_at(first)
+    reach = faults.track.spans(first, at_first[-1]) if at_first else 0
     if len(group) > 1 and (len(group) >= TOGETHER or reach == len(group) - 1):
         empty = sum(not faults.track.pulses_at(place) for place in group)
         seen = "%d pulses have run together" % len(group) if reach == len(group) - 1 else \

@@ -9,6 +9,7 @@ from .faults import Faults
 from .layout import NAMES
 
 NOTHING_DONE = -1 << 60
+UNLIKE = 0.02  # intervals: a width that is more off than that is not the one of its class
 
 
 @dataclass
@@ -20,6 +21,7 @@ class Item:
     edits: List[str]
     why: str
     lost: bool = False  # a pulse that is missing and that follows
+    single: bool = False  # it gives each of its places the pulse that is wanted
 
 
 def items(faults: Faults) -> List[Item]:
@@ -41,7 +43,7 @@ def _item(faults: Faults, place: int) -> Optional[Item]:
         rise = faults.track.rise_at(place)
         why = "%s: no pulse; %s" % (faults.where(place), faults.reason(place))
         insert = "insert %d %d" % (rise, rise + faults.width(target))
-        return Item(place, place, [insert], why, place not in faults.guesses)
+        return Item(place, place, [insert], why, place not in faults.guesses, True)
     many = faults.track.spans(place, pulses[-1])
     return _divide(faults, place, many, pulses) if many else _reduce(faults, place, pulses, target)
 
@@ -63,7 +65,7 @@ def _divide(faults: Faults, place: int, many: int, pulses: Sequence[int]) -> Opt
         edits.append("%d force %s" % (first + many, NAMES[faults.wanted[last]]))
     reasons = ", then ".join(faults.reason(place + k) for k in range(many + 1))
     why = "%s: %s; %s" % (faults.where(place), faults.seen(place), reasons)
-    return Item(place, last, [_short(edit) for edit in edits], why)
+    return Item(place, last, [_short(edit) for edit in edits], why, single=True)
 
 
 def _choose(faults: Faults, pulses: Sequence[int], begin: int, target: str) -> Tuple[int, int, bool, bool]:
@@ -90,10 +92,13 @@ def _reduce(faults: Faults, place: int, pulses: Sequence[int], target: str) -> I
     if first > 0:
         edits.append("%d,%d delete" % (number, pulses[first - 1] + 1))
     move = begin - faults.rises[pulses[first]]
+    width = faults.falls[pulses[last]] - faults.rises[pulses[first]]
+    if (edits or off) and abs(width - faults.width(target)) > UNLIKE * faults.layout.interval:
+        wrong = True  # it is edited anyway, so it gets its width, too
     change = ["%d force %s" % (number, NAMES[target])] * wrong + ["%d shift %d" % (number, move)] * off
     edits += change if move > 0 else reversed(change)
     why = "%s: %s; %s" % (faults.where(place), faults.seen(place), faults.reason(place))
-    return Item(place, place, [_short(edit) for edit in edits], why)
+    return Item(place, place, [_short(edit) for edit in edits], why, single=True)
 
 
 def _short(edit: str) -> str:

@@ -1,7 +1,7 @@
 """Proposes a script: looks at the track, adds repairs, and looks at the repaired track again."""
 from __future__ import annotations
 
-from typing import List, Sequence
+from typing import List, Sequence, Set
 
 from .analysis import Findings, examine
 from .editor import Editor, Listing, Progress
@@ -25,33 +25,38 @@ def called_for(findings: Findings) -> List[Repair]:
     return found
 
 
-def obeyed(editor: Editor, script: List[Repair]) -> Listing:
-    """The listing after the script; a repair that the editor refuses becomes a remark."""
+def obeyed(editor: Editor, script: List[Repair], refused: Set[str]) -> Listing:
+    """The listing after the script; a repair that the editor refuses goes another way, or becomes a remark."""
     listing = editor.ask([repair.lines() for repair in script])
     while listing.refused:
         for at in listing.refused:
+            refused.add("\n".join(script[at].edits))
             script[at] = script[at].refused()
         listing = editor.ask([repair.lines() for repair in script])
     return listing
 
 
 def propose(editor: Editor, progress: Progress) -> List[Repair]:
-    """The script that repairs what the editor's track has; at the end no line of it is refused."""
+    """The script that repairs what the editor's track has; no line of it is refused.
+
+    First are remarks: what is undecided when all repairs are made."""
     script: List[Repair] = []
-    said = set()
+    remarks: List[Repair] = []
+    refused: Set[str] = set()
     for turn in range(ROUNDS + 1):
         progress("reading the track%s" % (" as it is after %d repairs" % len(script) if script else ""))
-        listing = obeyed(editor, script)
+        listing = obeyed(editor, script, refused)
         if turn == ROUNDS:
             break
         progress("looking at %d pulses" % len(listing.rises))
-        found = [each for each in called_for(examine(listing)) if each.edits or each.comments[0] not in said]
-        said |= {repair.comments[0] for repair in found}
-        script += found
-        if not any(repair.edits for repair in found):
+        found = called_for(examine(listing))
+        remarks = [each for each in found if not each.edits]
+        new = [each for each in found if each.edits and "\n".join(each.edits) not in refused]
+        script += new
+        if not new:
             break
     progress("")
-    return script
+    return remarks + script
 
 
 def text(script: Sequence[Repair]) -> str:

@@ -33,7 +33,24 @@ def _repair(faults: Faults, group: List[Item]) -> Repair:
         lost = []
     comments += _of_lost(faults, lost)
     at = faults.track.rise_at(max(faults.track.first, int(group[-1].low + 0.5)))
-    return Repair(at, comments, [edit for item in group for edit in item.edits])
+    repair = Repair(at, comments, [edit for item in group for edit in item.edits])
+    if all(item.single for item in group):
+        repair.instead = _written_again(faults, range(int(group[-1].low), int(group[0].high) + 1))
+        if len(repair.instead) < len(repair.edits):
+            return Repair(at, comments, repair.instead)
+    return repair
+
+
+def _written_again(faults: Faults, places: range) -> List[str]:
+    """Deletes all pulses of these places and inserts those that are wanted."""
+    pulses = sorted({pulse for place in places for pulse in faults.track.pulses_at(place)})
+    edits = []
+    if pulses:
+        edits.append("%d,%d delete" % (pulses[0] + 1, pulses[-1] + 1) if pulses[1:] else "%d delete" % (pulses[0] + 1))
+    for place in reversed(places):
+        rise = faults.track.rise_at(place)
+        edits.append("insert %d %d" % (rise, rise + faults.width(faults.wanted[place])))
+    return edits
 
 
 def _of_lost(faults: Faults, lost: List[Item]) -> List[str]:
