@@ -1,6 +1,7 @@
 """One recording damaged, mended and judged; tests/tools runs many of them."""
 import copy
 import os
+import re
 import subprocess
 import sys
 import tempfile
@@ -24,6 +25,7 @@ class Case:
         self.pulses = copy.deepcopy(self.recording.pulses)
         self.length = self.damaged_length = self.recording.length
         self.exact = True  # whether the undamaged edges are to come back
+        self.gone = 0  # elements that are cut out; what follows comes at once
 
     def damage(self, kinds, many):
         """`many` damages, one each time from these kinds."""
@@ -78,14 +80,24 @@ def judge(case, options, true_path, damaged_path, script):
     found = [(at, text) for at, text in frames if text.endswith("fine")]
     verdict = TOLD
     for at, text in found:
-        truth = [true for when, true in fine if abs(when - at) <= near]
-        if not truth or time_of(truth[0]) != time_of(text):
+        truth = [true for when, true in fine if near >= min(abs(when - at), abs(when - case.gone * case.interval - at))]
+        if time_of(text) not in map(time_of, truth):
             return WRONG
-        if truth[0] != text:
+        if text not in truth:
             verdict = HIDDEN
+    if case.gone:
+        return TOLD if says_cut(case, script) else LEFT
     if len(found) < len(fine):
         return LEFT
     return WHOLE if verdict == TOLD and not case.exact else verdict
+
+
+def says_cut(case, script):
+    """Whether the script says how many elements are missing, and makes nothing up."""
+    said = re.findall(r"(\d+) elements are missing (by the times|not counting)", script.replace("missing, not", "missing not"))
+    clock = re.findall(r"times are ([0-9.]+) seconds later", script)
+    return any(int(many) == (case.gone if by == "by the times" else case.gone % 100) for many, by in said) or \
+        any(abs(float(seconds) * 1000000 - case.gone * case.interval) < case.interval for seconds in clock)
 
 
 def mended(case):

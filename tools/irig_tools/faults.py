@@ -9,6 +9,7 @@ from .layout import NAMES, POSITIONS, READABLE, SHARE
 from .track import Track
 
 LIKE = 0.08  # intervals: a level that differs from a class for less than that is this class
+NOMINAL = 0.03  # intervals: a width that is no more off is the one of its class
 
 
 @dataclass
@@ -53,6 +54,7 @@ class Faults:
                 self.wanted[place] = target
             else:
                 unknown.append(element)
+        self._doubt_control(number, text)
         if unknown:
             at = self.track.rise_at(100 * number + unknown[0])
             seen = "%s, element %s: nothing says whether zero or one" % (
@@ -74,19 +76,37 @@ class Faults:
     def _decide(self, place: int, control: bool) -> Optional[str]:
         """Zero or one if nothing follows for a place: by its shape, else by its neighbours, else the nearest."""
         pulses, (number, element) = self.track.pulses_at(place), divmod(place, 100)
-        if len(pulses) == 1:
-            own = self.layout.class_of(self.falls[pulses[0]] - self.rises[pulses[0]])
-            if own in "01":
-                return own
+        near = self.times.neighbours(number, element) if control else None
+        own = self._shape_of(place)
+        if own and (not near or self._is_nominal(pulses[0], own)):
+            return own
         cost = {target: self.difference(place, target) for target in "01"}
         best = min("01", key=lambda target: cost[target])
         if cost[best] < LIKE * self.layout.interval:
             return best
-        near = self.times.neighbours(number, element) if control else None
         if near or not control:
             return near
         self.guesses[place] = best if pulses else "0"
         return self.guesses[place]
+
+    def _shape_of(self, place: int) -> Optional[str]:
+        """Zero or one if there is a single pulse of such a width."""
+        pulses = self.track.pulses_at(place)
+        own = self.layout.class_of(self.falls[pulses[0]] - self.rises[pulses[0]]) if len(pulses) == 1 else ""
+        return own if own in ("0", "1") else None
+
+    def _is_nominal(self, pulse: int, name: str) -> bool:
+        return abs(self.falls[pulse] - self.rises[pulse] - self.width(name)) <= NOMINAL * self.layout.interval
+
+    def _doubt_control(self, number: int, text: str) -> None:
+        """A control function next to damage that has no nominal width is damage, too, if its neighbours say otherwise."""
+        for element in self.times.kept:
+            place, told = 100 * number + element, text[element]
+            beside = place - 1 in self.wanted or place + 1 in self.wanted
+            if told in "01" and beside and place in self.track.zone_of:
+                near = self.times.neighbours(number, element)
+                if near and near != told and not self._is_nominal(self.track.pulses_at(place)[0], told):
+                    self.wanted[place] = near
 
     def difference(self, place: int, target: str) -> float:
         """For how many microseconds the level is not that of the target, within its interval."""
