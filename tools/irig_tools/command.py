@@ -1,6 +1,7 @@
 """What both programs share: their arguments, where the track comes from, and how they end."""
 from __future__ import annotations
 
+import gc
 import os
 import shutil
 import signal
@@ -9,7 +10,7 @@ import sys
 import tempfile
 from contextlib import contextmanager
 from dataclasses import dataclass, field
-from typing import Callable, Dict, Iterator, List, Optional, Sequence, Tuple
+from typing import Callable, Dict, Iterator, List, Optional, Sequence
 
 from .editor import Problem, complain
 
@@ -72,6 +73,7 @@ def run(program: str, usage: str, own: Sequence[str], work: Callable[[Arguments]
     """Runs a program: its help, its complaints, and its end if nobody reads what it prints."""
     if hasattr(signal, "SIGPIPE"):
         signal.signal(signal.SIGPIPE, signal.SIG_DFL)
+    gc.disable()  # millions of numbers, and nothing that refers to itself
     words = sys.argv[1:]
     if "--help" in words or "-h" in words:
         print(usage, end="")
@@ -116,6 +118,3 @@ def _umask() -> int:
     os.umask(mask)
     return mask
 
-
-def both(words: Tuple[str, ...]) -> str:
-    return " and ".join(words)

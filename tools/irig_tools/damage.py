@@ -14,6 +14,7 @@ from .wholes import shifts
 DRIFT = 0.001  # intervals: a clock that is less off is sound
 TREMBLE = 0.005  # intervals: rises that stray less are sound
 ROUNDS = 5
+NO_FRAME = "pulses that belong to no frame"
 TOGETHER = 3  # that many faulty places one after the other are one line
 
 
@@ -51,6 +52,10 @@ class Origin:
             pulse += many * (pulse >= first)
         return pulse
 
+    def gone(self) -> int:
+        """By how much the rest was moved, in microseconds."""
+        return sum(by for _, _, _, by in self.removed)
+
     def of(self, damage: Damage) -> Damage:
         first, last = damage.pulses
         return replace(damage, at=self.time(damage.at), until=self.time(damage.until),
@@ -69,7 +74,7 @@ def find(editor: Editor, progress: Progress) -> List[Damage]:
         findings = examine(listing)
         first = findings.whole + [copy for part in findings.parts for copy in part.copies]
         if not first or listing.refused or turn == ROUNDS:
-            found += [origin.of(each) for each in _rest(listing, findings)]
+            found += [origin.of(each) for each in _rest(listing, findings, listing.length - origin.gone())]
             break
         found += [origin.of(Damage(each.at, each.at, "", each.comments[0])) for each in _told_once(first)]
         if findings.turned:
@@ -86,14 +91,15 @@ def _told_once(repairs: Sequence[Repair]) -> List[Repair]:
     return copies or list(repairs[:1])
 
 
-def _rest(listing: Listing, findings: Findings) -> List[Damage]:
+def _rest(listing: Listing, findings: Findings, end: int) -> List[Damage]:
+    """What is found if nothing is there twice; the signal should go on until `end`."""
     found = [_of_remark(remark) for remark in findings.remarks]
     if findings.clock:
         found += _of_clock(findings.clock, listing)
     for part in findings.parts:
         found += _of_part(part)
     if findings.parts:
-        found += _of_ends(listing, findings.parts[-1], findings.parts[0])
+        found += _of_ends(listing, findings.parts[-1], findings.parts[0], end)
     return found
 
 
@@ -165,21 +171,19 @@ def _of_place(faults: Faults, place: int) -> Damage:
     return Damage(at, at + round(faults.clock.interval), faults.name(place), seen, ends)
 
 
-def _of_ends(listing: Listing, first: Part, last: Part) -> List[Damage]:
+def _of_ends(listing: Listing, first: Part, last: Part, end: int) -> List[Damage]:
     """What is before the first frame and after the last one."""
-    found, interval = [], first.faults.clock.interval
-    low, high = first.track.zones[0].pulses, last.track.zones[-1].pulses
-    before = min([pulse for pulses in low.values() for pulse in pulses])
-    after = max([pulse for pulses in high.values() for pulse in pulses])
-    before -= before == 1 and listing.rises[0] == 0  # cut by the beginning
-    after += after == len(listing.rises) - 2 and listing.falls[-1] == listing.length  # cut by the end
+    rises, found, many = listing.rises, [], len(listing.rises)
+    before = min(pulse for pulses in first.track.zones[0].pulses.values() for pulse in pulses)
+    after = max(pulse for pulses in last.track.zones[-1].pulses.values() for pulse in pulses)
+    before -= before == 1 and rises[0] == 0  # cut by the beginning
+    after += after == many - 2 and listing.falls[-1] == listing.length  # cut by the end
     if before:
-        found.append(Damage(listing.rises[0], listing.rises[before], "", "pulses that belong to no frame", (0, before - 1)))
-    if after + 1 < len(listing.rises):
-        found.append(Damage(listing.rises[after + 1], listing.length, "", "pulses that belong to no frame",
-                            (after + 1, len(listing.rises) - 1)))
-    if listing.rises[0] > 1.5 * interval:
-        found.append(Damage(0, listing.rises[0], "", "no pulse before %d" % listing.rises[0]))
-    if listing.length - listing.rises[-1] > 1.5 * interval:
+        found.append(Damage(rises[0], rises[before], "", NO_FRAME, (0, before - 1)))
+    if after + 1 < many:
+        found.append(Damage(rises[after + 1], listing.length, "", NO_FRAME, (after + 1, many - 1)))
+    if rises[0] > 1.5 * first.faults.clock.interval:
+        found.append(Damage(0, rises[0], "", "no pulse before %d" % rises[0]))
+    if end - rises[-1] > 1.5 * last.faults.clock.interval:
         found.append(Damage(listing.falls[-1], listing.length, "", "no pulse from there to the end at %d" % listing.length))
     return found

@@ -45,8 +45,9 @@ def distances(times: Sequence[int]) -> List[int]:
 
 def share_in_step(times: Sequence[int], interval: int) -> float:
     """How many of the neighbours, of 20000 at most, are one interval apart: 0 to 1."""
-    pairs = list(zip(times, islice(times, 1, None)))[::len(times) // 20000 + 1]
-    return sum(0.9 * interval <= after - before <= 1.1 * interval for before, after in pairs) / max(1, len(pairs))
+    looked_at = range(0, len(times) - 1, len(times) // 20000 + 1)
+    many = sum(0.9 * interval <= times[at + 1] - times[at] <= 1.1 * interval for at in looked_at)
+    return many / max(1, len(looked_at))
 
 
 class Clock:

@@ -29,8 +29,9 @@ def _shift(faults: Faults, zone: Zone) -> Optional[Item]:
             faults.wanted.pop(place, None)
         return None
     way = "late" if late > 0 else "early"
-    why = "from pulse %d at %d on all comes %d %s: %d elements are between the runs on both sides" % (
-        zone.border + 1, at, abs(late), way, between)
+    why = "from pulse %d at %d on all comes %d %s" % (zone.border + 1, at, abs(late), way)
+    if between:
+        why += ", and %d elements before it are missing or damaged" % between
     if late > 0 and any(place in faults.wanted for place in range(zone.first, zone.border_place)):
         # what is before it is repaired first, and that may change the numbers of pulses
         edits = ["mark z %d" % at, "'z,$ shift %d" % -late, "unmark z"]
