@@ -25,6 +25,7 @@ class Case:
         self.pulses = copy.deepcopy(self.recording.pulses)
         self.length = self.damaged_length = self.recording.length
         self.exact = True  # whether the undamaged edges are to come back
+        self.late = []  # by how much a rest was late, each time
         self.gone = 0  # elements that are cut out; what follows comes at once
 
     def damage(self, kinds, many):
@@ -35,7 +36,9 @@ class Case:
             kind = self.rng.choice(kinds)
             last = self.pulses[-1][0]
             kind(self.rng, self.pulses, self.interval)
-            self.damaged_length += max(0, self.pulses[-1][0] - last) if kind is damages.late_rest else 0
+            if kind is damages.late_rest:
+                self.late.append(self.pulses[-1][0] - last)
+                self.damaged_length += self.late[-1]
             damages.tidy(self.pulses, self.damaged_length)
 
     def drift(self, rate):
@@ -82,14 +85,24 @@ def judge(case, options, true_path, damaged_path, script):
     for at, text in found:
         truth = [true for when, true in fine if near >= min(abs(when - at), abs(when - case.gone * case.interval - at))]
         if time_of(text) not in map(time_of, truth):
-            return WRONG
-        if text not in truth:
+            if not any(time_of(true) == time_of(text) and is_late(case, at - when) for when, true in fine):
+                return WRONG
+            verdict = LEFT
+        elif text not in truth and verdict != LEFT:
             verdict = HIDDEN
     if case.gone:
         return TOLD if says_cut(case, script) else LEFT
     if len(found) < len(fine):
         return LEFT
     return WHOLE if verdict == TOLD and not case.exact else verdict
+
+
+def is_late(case, by):
+    """Whether a frame is late by what some of the late rests add up to: it is where the damage put it."""
+    sums = {0}
+    for late in case.late:
+        sums |= {each + late for each in sums}
+    return any(abs(by - each) <= case.interval * 45 // 100 for each in sums)
 
 
 def says_cut(case, script):

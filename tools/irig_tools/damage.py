@@ -157,7 +157,7 @@ def _of_places(faults: Faults, group: Sequence[int]) -> List[Damage]:
         empty = sum(not faults.track.pulses_at(place) for place in group)
         seen = "%d pulses have run together" % len(group) if reach == len(group) - 1 else \
             "%d elements without a pulse" % empty if empty == len(group) else \
-            "%d damaged elements, %d of them without a pulse" % (len(group), empty)
+            "%d damaged elements, %d without a pulse" % (len(group), empty)
         ends = (pulses[0], pulses[-1]) if pulses else (0, -1)
         name = "%s to %s" % (faults.name(first), faults.name(last) if first // 100 != last // 100 else last % 100)
         return [Damage(faults.track.rise_at(first), until, name, seen, ends)]

@@ -143,7 +143,7 @@ class Faults:
         if place in self.guesses:
             return "undecided whether zero or one: nothing says it, and a %s is written" % target
         if element in self.times.kept:
-            return "a %s by its shape or by the frames before and after" % target
+            return "a %s by its shape or the frames next to it" % target
         if element in POSITIONS or element in self.layout.unused:
             return "a %s has to be there" % target
         return "a %s follows from the frames around it" % target

@@ -7,6 +7,8 @@ from .interval import Clock, Run
 from .phases import Marks, tells_phase
 
 SURE = 5  # a run of that many pulses is no accident
+MANY = 13  # phases that fit equally well: no position identifier is there
+UNLIKELY = 8  # a way that costs so much more than the cheapest does not count
 LONGEST_HOLE = 200000  # elements; what is farther apart is mended part by part
 
 # what a phase costs, the phase of the run before, the elements between, how late it comes
@@ -73,7 +75,7 @@ class _Linker:
     def __init__(self, clock: Clock, runs: Sequence[Run], classes: str) -> None:
         self.clock, self.runs, self.classes = clock, runs, classes
         marks = Marks(_classes(runs[0], classes))
-        first = marks.best(1, 100 if runs[0].count < 12 else 20)
+        first = marks.best(2, 100 if runs[0].count < 12 else 40)
         self.table: List[Dict[int, Choice]] = [{phase: (marks.faults(phase), None, 0, 0) for phase in first}]
         for before, run in zip(runs, runs[1:]):
             self.table.append(self._choices(before, run))
@@ -101,10 +103,13 @@ class _Linker:
               interval: float) -> Tuple[Sequence[int], Sequence[int]]:
         """The steps from run to run that are worth a look, and the phases that the run itself has."""
         straight = round(distance / interval)
-        likely = {(phase + before.count - 1 + straight) % 100 for phase in self.table[-1]}
-        if not run.glued and abs(distance - straight * interval) <= self.clock.slack(straight) and \
-                min(marks.faults(phase) for phase in likely) <= 1 + run.count // 100:
-            return [straight], ()
+        most = min(told[0] for told in self.table[-1].values()) + UNLIKELY
+        likely = {(phase + before.count - 1 + straight) % 100
+                  for phase, told in self.table[-1].items() if told[0] <= most}
+        if not run.glued and abs(distance - straight * interval) <= self.clock.slack(straight):
+            faults = min(marks.faults(phase) for phase in likely)
+            if faults == 0 or faults <= min(1 + run.count // 100, 1 + marks.faults(marks.best(0, 1)[0])):
+                return [straight], ()
         steps = {1, *range(max(1, straight - 3), straight + 1)}.union({0} if straight == 0 else ())
         return sorted(steps), marks.best(2, 20) if run.count >= 12 else ()
 
@@ -118,9 +123,28 @@ class _Linker:
         return cost
 
 
-def link(clock: Clock, runs: Sequence[Run], classes: str) -> float:
+def _without_strays(clock: Clock, runs: List[Run], classes: str) -> bool:
+    """Drops a run at an end whose phase nothing says, if it is not on the clock of the others; whether one was dropped."""
+    if len(runs) > 1 and abs(runs[1].late) > clock.least_late(runs[1].step) and _says_nothing(runs[0], classes):
+        del runs[0]
+        runs[0].ends += "<"
+        return True
+    if len(runs) > 1 and abs(runs[-1].late) > clock.least_late(runs[-1].step) and _says_nothing(runs[-1], classes):
+        runs.pop()
+        runs[-1].ends += ">"
+        return True
+    return False
+
+
+def _says_nothing(run: Run, classes: str) -> bool:
+    return run.count < 30 and len(Marks(_classes(run, classes)).best(0, MANY)) == MANY
+
+
+def link(clock: Clock, runs: List[Run], classes: str) -> float:
     """Gives each run its place, and returns what it costs to believe them."""
     cost = _Linker(clock, runs, classes).follow()
+    while _without_strays(clock, runs, classes):
+        cost = _Linker(clock, runs, classes).follow()
     for before, run in zip(runs, runs[1:]):
         whole = 100 * clock.interval
         if run.late < -1.5 * clock.interval and not run.glued and tells_phase(_classes(run, classes)):

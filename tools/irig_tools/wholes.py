@@ -7,8 +7,10 @@ from typing import List, Optional
 
 from .edits import Item
 from .faults import Faults, Remark
+from .phases import tells_phase
 from .zones import Zone
 
+MOST_LATE = 12  # intervals; what comes later is moved only if the position identifiers on both sides are unmistakable
 FEWEST = 8  # lost elements of a frame that is generated again
 
 
@@ -21,9 +23,9 @@ def _shift(faults: Faults, zone: Zone) -> Optional[Item]:
     """Moves the rest back to where it should be; None if the recording is too short for that."""
     assert zone.right and zone.border is not None
     late, at, between = round(zone.late), faults.rises[zone.border], zone.right.step - 1
-    if late < 0 and faults.falls[-1] - late > faults.track.listing.length:
-        seen = "%d elements are missing, and the rest comes %d early" % (between, -late)
-        choice = "the recording is too short to move the rest back"
+    choice = _why_not(faults, zone)
+    if choice:
+        seen = "%d elements are missing, and the rest comes %d %s" % (between, abs(late), "late" if late > 0 else "early")
         faults.remarks.append(Remark(at, seen, choice))
         for place in range(zone.first + 1, zone.last):
             faults.wanted.pop(place, None)
@@ -37,6 +39,18 @@ def _shift(faults: Faults, zone: Zone) -> Optional[Item]:
         edits = ["mark z %d" % at, "'z,$ shift %d" % -late, "unmark z"]
         return Item(zone.first - 0.5, zone.border_place - 0.5, edits, why)
     return Item(zone.border_place - 0.5, zone.border_place - 0.5, ["%d,$ shift %d" % (zone.border + 1, -late)], why)
+
+
+def _why_not(faults: Faults, zone: Zone) -> str:
+    """Why a rest is not moved, or an empty text."""
+    assert zone.left and zone.right
+    if zone.late < 0 and faults.falls[-1] - zone.late > faults.track.listing.length:
+        return "the recording is too short to move the rest back"
+    classes = faults.track.classes
+    sure = all(tells_phase(classes[run.first:run.last + 1]) for run in (zone.left, zone.right))
+    if zone.late > MOST_LATE * zone.interval and zone.right.step > 1 and not sure:
+        return "that is too uncertain to move the rest"
+    return ""
 
 
 def _control_of(faults: Faults, number: int) -> int:
