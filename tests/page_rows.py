@@ -1,0 +1,65 @@
+"""Recordings made by hand for the tests of the page and the picture."""
+import dataclasses
+
+from irig_tools.sheet import DAMAGED, LOST, SOUND, Place, Pulse, Sheet, Stretch
+
+INTERVAL = 10000                        # microseconds from element to element: format B
+WHOLE_DAY = 86400                       # frames of format B
+HOSTILE = "</script><img src=x onerror=\"document.title='spoilt'\"><!--&amp;\u2028\x01\udcff'`@DATA@"
+WIDTHS = {"zero": 2000, "one": 5000, "position": 8000}
+TITLES = ("A pulse is missing", "A pulse is in two", "A width of no class")
+counts = {"passed": 0, "failed": 0}
+
+
+def check(name: str, wanted: object, got: object) -> None:
+    """Counts a check, and says what differs."""
+    counts["passed" if wanted == got else "failed"] += 1
+    if wanted != got:
+        print("FAILED %s\n wanted: %s\n got:    %s" % (name, str(wanted)[:300], str(got)[:300]))
+
+
+def pulse(element: int) -> Pulse:
+    """A sound pulse at an element, counted from 0."""
+    name = "position" if element % 10 == 9 or element % 100 == 0 else "one" if element % 3 == 0 else "zero"
+    return element * INTERVAL, element * INTERVAL + WIDTHS[name], name
+
+
+def place(number: int, element: int) -> Place:
+    """A place of damage at an element: a missing pulse, one in two, or one that is left to the user."""
+    near = tuple(pulse(other) for other in range(max(0, element - 5), element + 6))
+    rise, fall, name = pulse(element)
+    kind = number % 3
+    parts: tuple[Pulse, ...] = ()
+    if kind == 1:
+        parts = ((rise, rise + 900, "bad"), (rise + 940, fall, "bad"))
+    if kind == 2:
+        parts = ((rise, fall + 600, "bad"),)
+    at = near.index(pulse(element))
+    before = near[:at] + parts + near[at + 1:]
+    frame = "frame %d" % (element // 100)
+    if kind == 2:
+        lines: tuple[str, ...] = ("# place %d: choose a class" % number,)
+        reason = "One or zero: nothing decides."
+        return Place(rise, fall + 600, TITLES[kind], reason, before, None, lines, frame)
+    lines = "# place %d: it has to be %s" % (number, name), "insert %d %d" % (rise, fall)
+    return Place(rise, fall, TITLES[kind], "Its neighbours need %s." % name, before, near, lines, frame)
+
+
+def recording(frames: int, count: int, name: str = "track.vcd") -> Sheet:
+    """A recording with so many places, each in a frame of its own. Every fifth of these frames is lost."""
+    step = frames // max(1, count)
+    places = tuple(place(number, number * step * 100 + 50) for number in range(count))
+    script = ("# repairs",) + tuple(line for one in reversed(places) for line in one.lines)
+    stretches = []
+    for frame in range(frames):
+        number, rest = divmod(frame, step)
+        state = SOUND if rest or number >= count else LOST if number % 5 == 4 else DAMAGED
+        stretches.append(Stretch(frame * 100 * INTERVAL, (frame + 1) * 100 * INTERVAL, state))
+    length = frames * 100 * INTERVAL
+    return Sheet(name, length, INTERVAL, "B 4", tuple(stretches), places, script, ("No drift.",))
+
+
+def hostile() -> Sheet:
+    """A recording all of whose texts try to get out of the page."""
+    told = dataclasses.replace(place(0, 50), title=HOSTILE, reason=HOSTILE, frame=HOSTILE, lines=(HOSTILE,))
+    return dataclasses.replace(recording(3, 1, HOSTILE), places=(told,), script=(HOSTILE,), notes=(HOSTILE,))

@@ -1,0 +1,149 @@
+"""Writes a recording as one HTML page: a strip that zooms, the places of damage, and the script of repairs.
+
+The page needs no network and no library. Its skeleton, its style and its code are the files next to this one.
+"""
+import base64
+import hashlib
+import json
+import re
+from collections.abc import Iterator, Sequence
+from pathlib import Path
+
+from .sheet import STATES, Place, Sheet, Wave, frames_in, merged, window
+from .texts import counted, escaped, plain, seconds
+
+FILES = Path(__file__).resolve().parent
+CODE = ("page_time.js", "page_strip.js", "page_wave.js", "page_place.js", "page.js")
+MOST = 2000                             # places that a page holds
+PULSES = 40000                          # pulses that a page holds, about, if there are many places
+DIGITS = "0123456789abcdefghijklmnopqrstuvwxyz"
+
+
+def page(sheet: Sheet, most: int = MOST) -> str:
+    """The page of a recording, with its first places of damage."""
+    code = "".join(file_text(name) for name in CODE)
+    style = file_text("page.css")
+    policy = "default-src 'none'; script-src 'sha256-%s'; style-src 'sha256-%s'"
+    facts = "format %s, %s, interval %s µs, %s of damage" % (
+        sheet.format, seconds(sheet.length), format(sheet.interval, ","), counted(len(sheet.places), "place"))
+    parts = {
+        "POLICY": policy % (digest(code), digest(style)),
+        "TITLE": escaped(sheet.name),
+        "FACTS": escaped(facts),
+        "NOTES": "".join("<p>%s</p>" % escaped(note) for note in sheet.notes),
+        "LEGEND": "".join(legend(sheet)),
+        "STYLE": style,
+        "CODE": code,
+        "DATA": data(sheet, most),
+    }
+    return re.sub("@([A-Z]+)@", lambda found: parts[found[1]], file_text("page.html"))
+
+
+def file_text(name: str) -> str:
+    """What a file next to this one holds."""
+    return (FILES / name).read_text(encoding="utf-8")
+
+
+def digest(code: str) -> str:
+    """What a browser compares before it runs code: nothing else on the page is ever run."""
+    return base64.b64encode(hashlib.sha256(code.encode()).digest()).decode()
+
+
+def legend(sheet: Sheet) -> Iterator[str]:
+    """What the bars of the strip mean, with the number of frames of each kind."""
+    for state in STATES:
+        yield '<li><span class="key %s"></span>%s: %s</li>' % (
+            state, state, escaped(counted(frames_in(sheet, state), "frame")))
+
+
+def data(sheet: Sheet, most: int) -> str:
+    """All that the code shows, as JSON that can be part of a page."""
+    places = sheet.places[:most]
+    pulses = max(40, min(200, PULSES // max(1, 2 * len(places))))
+    starts = parts_of(sheet.script, places)
+    found = {
+        "length": max(1, sheet.length),
+        "interval": sheet.interval,
+        "strip": strip_words(sheet),
+        "places": [place_data(sheet, place, start, pulses) for place, start in zip(places, starts)],
+        "more": len(sheet.places) - len(places),
+        "script": [plain(line) for line in sheet.script],
+    }
+    words = json.dumps(found, ensure_ascii=False, separators=(",", ":"))
+    return words.replace("<", "\\u003c").replace("\u2028", "\\u2028").replace("\u2029", "\\u2029")
+
+
+def place_data(sheet: Sheet, place: Place, start: int, pulses: int) -> dict[str, object]:
+    """What the code shows of a place; its lines by their number in the script, if they are there."""
+    found: dict[str, object] = {
+        "at": place.at, "end": place.end, "window": window(sheet, place),
+        "title": plain(place.title), "reason": plain(place.reason), "frame": plain(place.frame),
+        "before": wave_words(place.before, pulses),
+    }
+    if place.after is not None:
+        found["after"] = wave_words(place.after, pulses)
+    if start >= 0:
+        found["part"] = [start, len(place.lines)]
+    elif place.lines:
+        found["lines"] = [plain(line) for line in place.lines]
+    return found
+
+
+def parts_of(script: Sequence[str], places: Sequence[Place]) -> list[int]:
+    """Where the lines of each place begin in the script, from 0; -1 if they are not there."""
+    numbers: dict[str, list[int]] = {}
+    for number, line in enumerate(script):
+        numbers.setdefault(line, []).append(number)
+    return [part_of(script, place.lines, numbers) for place in places]
+
+
+def part_of(script: Sequence[str], lines: Sequence[str], numbers: dict[str, list[int]]) -> int:
+    """Where some lines begin in the script. Their rarest line is looked for first, and is found once only."""
+    if not lines:
+        return -1
+    rarest = min(range(len(lines)), key=lambda index: len(numbers.get(lines[index], ())))
+    for number in numbers.get(lines[rarest], ()):
+        start = number - rarest
+        if start >= 0 and tuple(script[start:start + len(lines)]) == tuple(lines):
+            numbers[lines[rarest]].remove(number)
+            return start
+    return -1
+
+
+def digits(number: int) -> str:
+    """A number, at least 0, to the base 36."""
+    words = DIGITS[number % 36]
+    while number >= 36:
+        number //= 36
+        words = DIGITS[number % 36] + words
+    return words
+
+
+def strip_words(sheet: Sheet) -> str:
+    """Each stretch as a letter, its length, and after a dot its frames unless it is one; - is a gap."""
+    words, last = [], 0
+    for stretch in merged(sheet.stretches):
+        if stretch.start > last:
+            words.append("-" + digits(stretch.start - last))
+        words.append(stretch.state[0].upper() + digits(stretch.end - stretch.start))
+        if stretch.frames != 1:
+            words.append("." + digits(stretch.frames))
+        last = stretch.end
+    return "".join(words)
+
+
+def wave_words(wave: Wave, most: int) -> str:
+    """The pulses, each as the time since the fall before it, the letter of its class, and its width.
+
+    If there are too many, those in the middle are left out, and a star and their number stand there instead.
+    """
+    skipped = range(most * 3 // 4, len(wave) - most // 4) if len(wave) > most else range(0)
+    words, last = [], 0
+    for number, (rise, fall, name) in enumerate(wave):
+        if number in skipped:
+            if number == skipped[0]:
+                words.append("*" + digits(len(skipped)))
+            continue
+        words.append("%s%s%s" % (digits(rise - last), name[0].upper(), digits(fall - rise)))
+        last = fall
+    return " ".join(words)

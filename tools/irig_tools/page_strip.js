@@ -1,0 +1,165 @@
+// Pictures that zoom: what they share, and the strip of the whole recording.
+
+const SIDE = 10;        // pixels at the left and the right of a picture
+
+// A stretch of time that is shown in a picture. It zooms by wheel, drag and keys.
+class View {
+  constructor(picture, start, end, least, paint) {
+    Object.assign(this, {picture, start, end, first: start, last: end, least, paint, asked: false, width: 0});
+    picture.addEventListener("wheel", (event) => this.wheel(event), {passive: false});
+    picture.addEventListener("pointerdown", (event) => this.drag(event));
+    picture.addEventListener("keydown", (event) => this.key(event));
+    new ResizeObserver(() => { this.width = 0; this.ask(); }).observe(picture);
+  }
+
+  x(time) { return SIDE + (this.width - 2 * SIDE) * (time - this.start) / (this.end - this.start); }
+
+  time(x) { return this.start + (this.end - this.start) * (x - SIDE) / Math.max(1, this.width - 2 * SIDE); }
+
+  show(start, end) {
+    const wide = Math.min(this.last - this.first, Math.max(this.least, end - start));
+    const from = Math.min(this.last - wide, Math.max(this.first, (start + end - wide) / 2));
+    [this.start, this.end] = [from, from + wide];
+    this.ask();
+  }
+
+  zoom(factor, at = (this.start + this.end) / 2) {
+    const wide = Math.min(this.last - this.first, Math.max(this.least, (this.end - this.start) * factor));
+    const start = at - (at - this.start) * wide / (this.end - this.start);
+    this.show(start, start + wide);
+  }
+
+  move(share) {
+    const far = (this.end - this.start) * share;
+    this.show(this.start + far, this.end + far);
+  }
+
+  whole() { this.show(this.first, this.last); }
+
+  ask() {
+    if (this.asked) return;
+    this.asked = true;
+    requestAnimationFrame(() => { this.asked = false; this.now(); });
+  }
+
+  now() {
+    this.width = this.width || this.picture.clientWidth || 720;
+    this.paint(this);
+  }
+
+  // A wheel that can zoom out no more scrolls the page.
+  wheel(event) {
+    if (event.deltaY > 0 && this.end - this.start >= this.last - this.first) return;
+    event.preventDefault();
+    const at = event.clientX - this.picture.getBoundingClientRect().left;
+    if (Math.abs(event.deltaX) > Math.abs(event.deltaY)) this.move(event.deltaX / this.width);
+    else this.zoom(Math.pow(1.0015, event.deltaY), this.time(at));
+  }
+
+  // A press that does not move is a click, at a time.
+  drag(event) {
+    if (event.button) return;
+    const [from, start, end] = [event.clientX, this.start, this.end];
+    let moved = false;
+    const follow = (now) => {
+      moved = moved || Math.abs(now.clientX - from) > 3;
+      const far = (now.clientX - from) * (end - start) / Math.max(1, this.width - 2 * SIDE);
+      if (moved) this.show(start - far, end - far);
+    };
+    const stop = (now) => {
+      this.picture.removeEventListener("pointermove", follow);
+      const at = now.clientX - this.picture.getBoundingClientRect().left;
+      if (!moved && this.click) this.click(this.time(at));
+    };
+    this.picture.setPointerCapture(event.pointerId);
+    this.picture.addEventListener("pointermove", follow);
+    this.picture.addEventListener("pointerup", stop, {once: true});
+  }
+
+  key(event) {
+    const deeds = {
+      "+": () => this.zoom(0.5), "=": () => this.zoom(0.5), "-": () => this.zoom(2), "0": () => this.whole(),
+      Home: () => this.whole(), ArrowLeft: () => this.move(-0.2), ArrowRight: () => this.move(0.2),
+    };
+    if (!deeds[event.key] || event.ctrlKey || event.metaKey || event.altKey) return;
+    event.preventDefault();
+    deeds[event.key]();
+  }
+}
+
+// The marks of time below a picture, and a line up to the top at each.
+function axis(view, top, bottom) {
+  const {times, name, write} = marks(view.start, view.end, Math.max(2, Math.floor(view.width / 80)));
+  const made = draw("g", {class: "axis"});
+  for (const time of times) {
+    const x = view.x(time);
+    const side = x < 60 ? "start" : x > view.width - 60 ? "end" : "middle";
+    made.append(draw("path", {d: `M${x.toFixed(1)} ${top}V${bottom + 4}`}),
+      draw("text", {x: x.toFixed(1), y: bottom + 17, "text-anchor": side}, write(time)));
+  }
+  made.append(draw("text", {x: view.width / 2, y: bottom + 33, class: "faint"}, "time in " + name));
+  return made;
+}
+
+// The worst state on each pixel, as runs of pixels of the same state.
+function columns(view, from = SIDE, to = view.width - SIDE) {
+  const ranks = ["", "sound", "damaged", "lost"];
+  const worst = new Uint8Array(Math.max(1, to - from));
+  const alone = new Map();
+  for (const stretch of strip) {
+    if (stretch.end <= view.start || stretch.start >= view.end) continue;
+    const first = Math.min(worst.length - 1, Math.max(0, Math.floor(view.x(stretch.start)) - from));
+    const last = Math.min(worst.length, Math.max(first + 1, Math.floor(view.x(stretch.end)) - from));
+    const rank = ranks.indexOf(stretch.state);
+    for (let x = first; x < last; x += 1) worst[x] = Math.max(worst[x], rank);
+    alone.set(first, {wide: last - first, frames: stretch.frames});
+  }
+  const runs = [];
+  for (let first = 0, x = 1; x <= worst.length; x += 1) {
+    if (worst[x] === worst[first]) continue;
+    const state = ranks[worst[first]];
+    if (state) runs.push({x: from + first, wide: x - first, state, of: alone.get(first)});
+    first = x;
+  }
+  return runs;
+}
+
+// The bars of the strip: damaged frames rise above it, lost ones reach below it, so that no colour is needed.
+function bars(view, top, high, out) {
+  const made = draw("g");
+  for (const {x, wide, state, of} of columns(view)) {
+    const [y, height] = [top - (state === "damaged" ? out : 0), high + (state === "sound" ? 0 : out)];
+    made.append(draw("rect", {x, width: wide, y, height, class: state}));
+    if (!of || of.wide !== wide || wide < 120) continue;
+    const words = state + ", " + of.frames.toLocaleString("en") + (of.frames === 1 ? " frame" : " frames");
+    made.append(draw("text", {x: x + wide / 2, y: top + high / 2 + 4, class: "on-" + state}, words));
+  }
+  return made;
+}
+
+// A sign for each place above the strip; those that would cover each other are drawn once.
+function signs(view, selected, top) {
+  const made = draw("g", {class: "signs"});
+  let last = -9;
+  const sign = (place, x) => draw("path",
+    {d: `M${x.toFixed(1)} ${top}l-4 -9h8z`, class: place === selected ? "chosen" : ""});
+  for (const place of places) {
+    const x = view.x(place.at);
+    if (place === selected || x < SIDE - 1 || x > view.width - SIDE + 1 || x - last < 9) continue;
+    made.append(sign(place, x));
+    last = x;
+  }
+  if (selected && selected.at >= view.start && selected.at <= view.end) {
+    const x = view.x(selected.at);
+    const words = String(places.indexOf(selected) + 1);
+    made.append(sign(selected, x), draw("path", {d: `M${x.toFixed(1)} ${top}v43`, class: "needle"}),
+      draw("text", {x: Math.min(view.width - 20, Math.max(20, x)), y: top - 13}, words));
+  }
+  return made;
+}
+
+function paintStrip(view, selected) {
+  const top = 42;
+  view.picture.replaceChildren(
+    axis(view, top, top + 32), bars(view, top, 25, 6), signs(view, selected, top - 8));
+}

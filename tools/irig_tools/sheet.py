@@ -1,0 +1,87 @@
+"""What a picture or a page shows of a recording: its stretches, the places of damage, and the script.
+
+All times are in microseconds from the start of the recording, as in the editor.
+"""
+from bisect import bisect_left, bisect_right
+from collections.abc import Iterable, Sequence
+from dataclasses import dataclass
+from typing import Optional
+
+SOUND, DAMAGED, LOST = "sound", "damaged", "lost"
+STATES = (SOUND, DAMAGED, LOST)         # from the least to the worst
+LETTERS = {"zero": "0", "one": "1", "position": "P", "bad": "?"}    # a class as a picture shows it
+
+Pulse = tuple[int, int, str]            # rise, fall, class: zero, one, position or bad
+Wave = tuple[Pulse, ...]                # in the order of time
+
+
+@dataclass(frozen=True)
+class Stretch:
+    """Some time of a recording in which all frames are in the same state."""
+
+    start: int
+    end: int                            # not of the stretch
+    state: str                          # one of STATES
+    frames: int = 1                     # how many frames it holds
+
+
+@dataclass(frozen=True)
+class Place:
+    """One place of damage, and the repair that is proposed for it."""
+
+    at: int                             # where the damage begins
+    end: int                            # where it ends; at least `at`
+    title: str                          # what it is, in a few words
+    reason: str                         # what was seen, and why this repair follows
+    before: Wave                        # the pulses as they are, those a few intervals around the damage, too
+    after: Optional[Wave] = None        # the same stretch after the repair; None if there is none
+    lines: tuple[str, ...] = ()         # the part of the script for this place, comments included
+    frame: str = ""                     # the frame it is in, as the user reads it
+
+
+@dataclass(frozen=True)
+class Sheet:
+    """A whole recording, as a picture or a page shows it."""
+
+    name: str                           # of the file; any text
+    length: int
+    interval: int                       # from one element to the next
+    format: str                         # as the editor names it: `B 4`
+    stretches: tuple[Stretch, ...]      # in the order of time; what is between two is not known
+    places: tuple[Place, ...]           # in the order of time
+    script: tuple[str, ...] = ()        # the whole script, line by line; empty if none is proposed
+    notes: tuple[str, ...] = ()         # what holds for the whole recording: a clock that drifts, jitter
+
+
+def merged(stretches: Iterable[Stretch]) -> tuple[Stretch, ...]:
+    """The same stretches, with neighbours of the same state made one."""
+    found: list[Stretch] = []
+    for stretch in stretches:
+        last = found[-1] if found else None
+        if last and (last.end, last.state) == (stretch.start, stretch.state):
+            found[-1] = Stretch(last.start, stretch.end, last.state, last.frames + stretch.frames)
+        else:
+            found.append(stretch)
+    return tuple(found)
+
+
+def cut(rises: Sequence[int], falls: Sequence[int], letters: Sequence[str], start: int, end: int) -> Wave:
+    """The pulses of a recording from a time to a time. Each class is a letter: 0, 1, P, any other is bad."""
+    names = {letter: name for name, letter in LETTERS.items()}
+    pulses = range(bisect_left(falls, start), bisect_right(rises, end))
+    return tuple((rises[pulse], falls[pulse], names.get(letters[pulse], "bad")) for pulse in pulses)
+
+
+def frames_in(sheet: Sheet, state: str) -> int:
+    """How many frames are in a state."""
+    return sum(stretch.frames for stretch in sheet.stretches if stretch.state == state)
+
+
+def window(sheet: Sheet, place: Place) -> tuple[int, int]:
+    """The start and end of what shows a place: the damage, and up to four intervals on both sides."""
+    start, end = max(0, place.at - 4 * sheet.interval), min(sheet.length, place.end + 4 * sheet.interval)
+    pulses = place.before + (place.after or ())
+    if pulses:
+        start = min(place.at, max(start, min(rise for rise, _, _ in pulses) - sheet.interval // 2))
+        end = max(place.end, min(end, max(fall for _, fall, _ in pulses) + sheet.interval // 2))
+    return start, max(end, start + 1)
