@@ -62,14 +62,30 @@ class Origin:
                        pulses=(self.pulse(first), self.pulse(last)) if first <= last else damage.pulses)
 
 
+@dataclass
+class Seen:
+    """The track as it is, what was found in it at last, and the damage in the order of time."""
+
+    listing: Listing
+    findings: Findings
+    origin: Origin
+    damages: List[Damage]
+
+
 def find(editor: Editor, progress: Progress) -> List[Damage]:
+    return look(editor, progress).damages
+
+
+def look(editor: Editor, progress: Progress) -> Seen:
     """All damage. What is there twice is first taken out, so that the rest is seen."""
     found: List[Damage] = []
     script: List[Repair] = []
     origin = Origin()
+    progress("reading the track")
+    track = listing = editor.ask([])
     for turn in range(ROUNDS + 1):
-        progress("reading the track")
-        listing = editor.ask([repair.lines() for repair in script])
+        if script:
+            listing = editor.ask([repair.lines() for repair in script])
         progress("looking at %d pulses" % len(listing.rises))
         findings = examine(listing)
         first = findings.whole + [copy for part in findings.parts for copy in part.copies]
@@ -82,7 +98,8 @@ def find(editor: Editor, progress: Progress) -> List[Damage]:
         script += first
         origin.removed += [(each.at, *each.removed) for each in first if each.removed[1]]
     progress("")
-    return sorted(set(found), key=lambda each: (each.at, each.until, each.name, each.seen))
+    found = sorted(set(found), key=lambda each: (each.at, each.until, each.name, each.seen))
+    return Seen(track, findings, origin, found)
 
 
 def _told_once(repairs: Sequence[Repair]) -> List[Repair]:

@@ -33,11 +33,12 @@ def _repair(faults: Faults, group: List[Item]) -> Repair:
         lost = []
     comments += _of_lost(faults, lost)
     at = faults.track.rise_at(max(faults.track.first, int(group[-1].low + 0.5)))
-    repair = Repair(at, comments, [edit for item in group for edit in item.edits])
+    until = faults.track.rise_at(min(faults.track.last, int(group[0].high + 0.5)))
+    repair = Repair(at, comments, [edit for item in group for edit in item.edits], until=until)
     if all(item.single for item in group):
         repair.instead = _written_again(faults, range(int(group[-1].low), int(group[0].high) + 1))
         if len(repair.instead) < len(repair.edits):
-            return Repair(at, comments, repair.instead)
+            return Repair(at, comments, repair.instead, until=until)
     return repair
 
 

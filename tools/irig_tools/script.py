@@ -17,6 +17,7 @@ class Repair:
     edits: List[str] = field(default_factory=list)
     removed: Tuple[int, int, int] = (0, 0, 0)  # first pulse, pulses and microseconds of a stretch that is taken out
     instead: List[str] = field(default_factory=list)  # what also does it, if an edit is refused
+    until: int = 0  # where it ends, in microseconds
 
     def lines(self) -> List[str]:
         edits = ["begin", *self.edits, "end"] if len(self.edits) > 1 else self.edits
@@ -25,7 +26,7 @@ class Repair:
     def refused(self) -> Repair:
         """The editor refuses one of the edits: the other way, or if there is none a remark."""
         if self.instead:
-            return Repair(self.at, self.comments, self.instead)
+            return Repair(self.at, self.comments, self.instead, until=self.until)
         said = "the editor refuses these lines, so they are left out: " + "; ".join(self.edits)[:BY_LINE]
         return Repair(self.at, self.comments + [said])
 
