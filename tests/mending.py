@@ -56,7 +56,9 @@ class Case:
 def listed(options, path, script):
     """What the editor says after a script: its refusals, its frames without their numbers, and its pulses."""
     lines = script + "frames\ninfo\n,list\n"
-    done = subprocess.run([editor.find_editor(), *options, path], input=lines, stdout=subprocess.PIPE, text=True)
+    done = subprocess.run(
+        [editor.find_editor(), *options, path], input=lines, stdout=subprocess.PIPE, text=True
+    )
     said, _, pulses = done.stdout.rpartition("length ")
     answers = said.splitlines()
     frames = [line.split(" ", 3)[2:] for line in answers if not line.startswith("?")]
@@ -67,7 +69,7 @@ def listed(options, path, script):
 def time_of(text):
     """What a frame shows without its control functions and its note."""
     words = text.split()
-    return words[:words.index("control")] if "control" in words else words[:-1]
+    return words[: words.index("control")] if "control" in words else words[:-1]
 
 
 def judge(case, options, true_path, damaged_path, script):
@@ -83,7 +85,11 @@ def judge(case, options, true_path, damaged_path, script):
     found = [(at, text) for at, text in frames if text.endswith("fine")]
     verdict = TOLD
     for at, text in found:
-        truth = [true for when, true in fine if near >= min(abs(when - at), abs(when - case.gone * case.interval - at))]
+        truth = [
+            true
+            for when, true in fine
+            if near >= min(abs(when - at), abs(when - case.gone * case.interval - at))
+        ]
         if time_of(text) not in map(time_of, truth):
             if not any(time_of(true) == time_of(text) and is_late(case, at - when) for when, true in fine):
                 return WRONG
@@ -107,10 +113,14 @@ def is_late(case, by):
 
 def says_cut(case, script):
     """Whether the script says how many elements are missing, and makes nothing up."""
-    said = re.findall(r"(\d+) elements are missing (by the times|not counting)", script.replace("missing, not", "missing not"))
+    said = re.findall(
+        r"(\d+) elements are missing (by the times|not counting)",
+        script.replace("missing, not", "missing not"),
+    )
     clock = re.findall(r"times are ([0-9.]+) seconds later", script)
-    return any(int(many) == (case.gone if by == "by the times" else case.gone % 100) for many, by in said) or \
-        any(abs(float(seconds) * 1000000 - case.gone * case.interval) < case.interval for seconds in clock)
+    return any(
+        int(many) == (case.gone if by == "by the times" else case.gone % 100) for many, by in said
+    ) or any(abs(float(seconds) * 1000000 - case.gone * case.interval) < case.interval for seconds in clock)
 
 
 def mended(case):
@@ -118,8 +128,10 @@ def mended(case):
     options = case.recording.options()
     with tempfile.TemporaryDirectory() as folder:
         true_path, damaged_path = os.path.join(folder, "true.vcd"), os.path.join(folder, "damaged.vcd")
-        for path, pulses, length in ((true_path, case.recording.pulses, case.length),
-                                     (damaged_path, case.pulses, case.damaged_length)):
+        for path, pulses, length in (
+            (true_path, case.recording.pulses, case.length),
+            (damaged_path, case.pulses, case.damaged_length),
+        ):
             with open(path, "w") as file:
                 file.write(damages.dump(pulses, length))
         script = mend.text(mend.propose(editor.Editor([*options, damaged_path]), lambda text: None))

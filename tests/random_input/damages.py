@@ -1,4 +1,5 @@
-"""Recordings of every format at random, and damage of every kind. Each takes a `random.Random`, so a seed says it all.
+"""Recordings of every format at random, and damage of every kind. Each takes a `random.Random`, so a seed
+says it all.
 
 A pulse is [rise, fall] in microseconds. The kinds are functions that change a list of pulses in place.
 """
@@ -33,7 +34,8 @@ class Recording:
             self.pulses.append([rise, rise + timecode.nominal(self.interval, name)])
 
     def cut(self, rng, many):
-        """Cuts the first and the last frame, mostly. Returns the element with which the recording then begins."""
+        """Cuts the first and the last frame, mostly. Returns the element with which the recording then
+        begins."""
         first = rng.randrange(100) if rng.random() < 0.7 else 0
         last = rng.randrange(100) if rng.random() < 0.7 else 0
         self.pulses = self.pulses[first:len(self.pulses) - last]
@@ -75,6 +77,7 @@ def tidy(pulses, length):
 
 # one place
 
+
 def glitch_in(rng, pulses, interval):
     """A short gap in a pulse."""
     at = rng.randrange(2, len(pulses) - 2)
@@ -114,7 +117,9 @@ def lost(rng, pulses, interval):
 def wrong_class(rng, pulses, interval):
     at = rng.randrange(2, len(pulses) - 2)
     rise, fall = pulses[at]
-    name = rng.choice([name for name in timecode.TWENTIETHS if timecode.nominal(interval, name) != fall - rise])
+    name = rng.choice(
+        [name for name in timecode.TWENTIETHS if timecode.nominal(interval, name) != fall - rise]
+    )
     pulses[at][1] = rise + timecode.nominal(interval, name)
 
 
@@ -162,11 +167,24 @@ def short(rng, pulses, interval):
     pulses[at][0] = min(pulses[at][1] - 1, pulses[at][0] + interval * 15 // 100)
 
 
-PLACES = (glitch_in, glitch_between, merged, missing, lost, wrong_class, wrong_width, marker, late_rise, extra, short)
+PLACES = (
+    glitch_in,
+    glitch_between,
+    merged,
+    missing,
+    lost,
+    wrong_class,
+    wrong_width,
+    marker,
+    late_rise,
+    extra,
+    short,
+)
 TWELVE = (*PLACES, late_rest)
 
 
 # a stretch
+
 
 def noise(rng, pulses, interval):
     """A burst of noise over 2 to 20 elements."""
@@ -212,8 +230,10 @@ STRETCHES = (noise, chatter, fade, stuck)
 
 # the whole recording
 
+
 def threshold(rng, pulses, interval):
-    """Every pulse is longer, or every pulse is shorter, by 8 to 25 % of the interval (at most 16 % shorter)."""
+    """Every pulse is longer, or every pulse is shorter, by 8 to 25 % of the interval (at most 16 %
+    shorter)."""
     by = rng.choice((rng.randint(8, 25), -rng.randint(8, 16))) * interval // 100
     for at, pulse in enumerate(pulses):
         end = pulses[at + 1][0] - 1 if at + 1 < len(pulses) else pulse[1] + by
@@ -223,7 +243,11 @@ def threshold(rng, pulses, interval):
 def twice(rng, pulses, interval):
     """A stretch of 20 to 300 elements is there twice. Returns how much longer the recording is."""
     many = rng.randint(20, 300)
-    at = rng.randrange(250, len(pulses) - 250 - many) if len(pulses) > 510 + many else len(pulses) // 2 - many // 2
+    at = (
+        rng.randrange(250, len(pulses) - 250 - many)
+        if len(pulses) > 510 + many
+        else len(pulses) // 2 - many // 2
+    )
     by = pulses[at + many][0] - pulses[at][0]
     copy = [[rise + by, fall + by] for rise, fall in pulses[at:at + many]]
     rest = [[rise + by, fall + by] for rise, fall in pulses[at + many:]]
@@ -232,7 +256,8 @@ def twice(rng, pulses, interval):
 
 
 def cut_out(rng, pulses, interval):
-    """A stretch of 20 to 300 elements is cut out, and the rest comes at once. Returns how many elements are gone."""
+    """A stretch of 20 to 300 elements is cut out, and the rest comes at once. Returns how many elements are
+    gone."""
     many = rng.randint(20, 300)
     at = rng.randrange(250, max(251, len(pulses) - 250 - many))
     by = pulses[at + many][0] - pulses[at][0]

@@ -21,7 +21,8 @@ FEW = SURE  # pulses; fewer make no run
 
 @dataclass
 class Part:
-    """A part of the recording whose runs are linked. If `copies` is not empty they go first, and `faults` comes after."""
+    """A part of the recording whose runs are linked. If `copies` is not empty they go first, and `faults`
+    comes after."""
 
     track: Track
     times: Times
@@ -46,16 +47,24 @@ def examine(listing: Listing) -> Findings:
     layout = Layout(listing.kind, listing.expression)
     findings = Findings(layout)
     if len(listing.rises) < FEW:
-        findings.remarks.append(Remark(0, "%d pulses are too few to make a frame" % len(listing.rises),
-                                       "is it another wire?"))
+        findings.remarks.append(
+            Remark(0, "%d pulses are too few to make a frame" % len(listing.rises), "is it another wire?")
+        )
         return findings
-    upright, turned = share_in_step(listing.rises, layout.interval), share_in_step(listing.falls, layout.interval)
+    upright, turned = share_in_step(listing.rises, layout.interval), share_in_step(
+        listing.falls, layout.interval
+    )
     if turned > 0.8 and turned > upright + 0.1:
         why = "the falls come at one distance, the rises do not: the wire is upside down"
         findings.turned, findings.whole = True, [Repair(0, [why], ["invert 0 %d" % listing.length])]
     elif upright < 0.5:
-        findings.remarks.append(Remark(0, "most pulses do not follow each other by %d" % layout.interval,
-                                       "is it another format, or another wire?"))
+        findings.remarks.append(
+            Remark(
+                0,
+                "most pulses do not follow each other by %d" % layout.interval,
+                "is it another format, or another wire?",
+            )
+        )
     else:
         findings.whole = level(listing, layout)
         if not findings.whole:
@@ -75,8 +84,13 @@ def _examine_parts(listing: Listing, findings: Findings) -> None:
             findings.parts.append(_part(listing, findings.layout, clock, runs))
     for before, after in zip(found, found[1:]):
         elements = round((after[0].begin - before[-1].end) / clock.interval) - 1
-        findings.remarks.append(Remark(listing.rises[before[-1].last], "after that %d elements cannot be read" % elements,
-                                       "that is too much to repair"))
+        findings.remarks.append(
+            Remark(
+                listing.rises[before[-1].last],
+                "after that %d elements cannot be read" % elements,
+                "that is too much to repair",
+            )
+        )
     if not found:
         findings.remarks.append(Remark(0, "no pulses follow each other in step", "is it another wire?"))
 

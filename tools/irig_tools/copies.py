@@ -1,4 +1,5 @@
-"""A stretch that was cut out, or is there twice: how long it is by the times on both sides, and the repair of a copy."""
+"""A stretch that was cut out, or is there twice: how long it is by the times on both sides, and the repair of
+a copy."""
 from __future__ import annotations
 
 from bisect import bisect_left
@@ -38,9 +39,15 @@ def _settle_late(track: Track, times: Times) -> bool:
     changed = False
     for before, after in zip(times.spans, times.spans[1:]):
         frames = (before.base - after.base) // track.layout.period
-        late = [zone.right for zone in track.zones if zone.right and not zone.right.glued
-                and before.last <= zone.first // 100 and zone.last // 100 <= after.first
-                and zone.right.step > 100 * frames > 0]
+        late = [
+            zone.right
+            for zone in track.zones
+            if zone.right
+            and not zone.right.glued
+            and before.last <= zone.first // 100
+            and zone.last // 100 <= after.first
+            and zone.right.step > 100 * frames > 0
+        ]
         if late:
             changed = True
             track.move_on(late[-1], -100 * frames)
@@ -76,7 +83,8 @@ def _copied(track: Track, zone: Zone, many: int) -> Optional[int]:
 
 
 def again_within(track: Track, before: Span, after: Span) -> Optional[Again]:
-    """Whether the times of two spans say that whole frames are there twice, and the elements do; None if they do not."""
+    """Whether the times of two spans say that whole frames are there twice, and the elements do; None if they
+    do not."""
     many = 100 * (before.base - after.base) // track.layout.period
     low = max(100 * before.last, track.first + many)
     high = min(100 * after.first + 99, track.last - many)
@@ -90,19 +98,22 @@ def again_within(track: Track, before: Span, after: Span) -> Optional[Again]:
     first, rest = track.pulses_at(place), track.pulses_at(place + many)
     if least > many // 50 or len(first) != 1 or len(rest) != 1 or rest[0] - first[0] != many:
         return None
-    return Again(first[0], many, min(faults[-low % 100::100], default=9) > least + 1)
+    return Again(first[0], many, min(faults[-low % 100:: 100], default=9) > least + 1)
 
 
 def without_copy(track: Track, first: int, many: int) -> Optional[Repair]:
-    """The repair that takes that many elements out, from a pulse on; None if the rest does not follow them."""
+    """The repair that takes that many elements out, from a pulse on; None if the rest does not follow
+    them."""
     begin, by = track.rises[first], round(many * track.clock.interval)
     after = bisect_left(track.rises, begin + by - 0.2 * track.clock.interval)
     if after == len(track.rises):
         return None
     if abs(track.rises[after] - begin - by) <= track.clock.slack(many):
         by = track.rises[after] - begin
-    why = "the %d elements from %d on are there twice: at %d the times begin again; the second are deleted, and the " \
-        "rest goes back by %d" % (many, begin - by, begin, by)
+    why = (
+        "the %d elements from %d on are there twice: at %d the times begin again; the second are deleted, "
+        "and the rest goes back by %d" % (many, begin - by, begin, by)
+    )
     edits = ["%d,%d delete" % (first + 1, after), "%d,$ shift -%d" % (first + 1, by)]
     return Repair(begin, [why], edits, (first, after - first, by))
 

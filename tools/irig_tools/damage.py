@@ -20,7 +20,8 @@ TOGETHER = 3  # that many faulty places one after the other are one line
 
 @dataclass(frozen=True)
 class Damage:
-    """One place: from when to when, in microseconds, its frame and element if it has them, and what is seen there."""
+    """One place: from when to when, in microseconds, its frame and element if it has them, and what is seen
+    there."""
 
     at: int
     until: int
@@ -30,8 +31,13 @@ class Damage:
 
     def line(self) -> str:
         first, last = self.pulses
-        pulses = "" if last < first else ", pulse %d" % (first + 1) if first == last else \
-            ", pulses %d to %d" % (first + 1, last + 1)
+        pulses = (
+            ""
+            if last < first
+            else ", pulse %d" % (first + 1)
+            if first == last
+            else ", pulses %d to %d" % (first + 1, last + 1)
+        )
         name = self.name + pulses if self.name else pulses[2:]
         return "%d %s%s" % (self.at, name + ": " if name else "", self.seen)
 
@@ -40,7 +46,8 @@ class Damage:
 class Origin:
     """Times and numbers of pulses as they were before stretches were taken out: the newest is the last."""
 
-    removed: List[Tuple[int, int, int, int]] = field(default_factory=list)  # time, first pulse, pulses, microseconds
+    # time, first pulse, pulses, microseconds
+    removed: List[Tuple[int, int, int, int]] = field(default_factory=list)
 
     def time(self, time: int) -> int:
         for at, _, _, by in reversed(self.removed):
@@ -58,8 +65,12 @@ class Origin:
 
     def of(self, damage: Damage) -> Damage:
         first, last = damage.pulses
-        return replace(damage, at=self.time(damage.at), until=self.time(damage.until),
-                       pulses=(self.pulse(first), self.pulse(last)) if first <= last else damage.pulses)
+        return replace(
+            damage,
+            at=self.time(damage.at),
+            until=self.time(damage.until),
+            pulses=(self.pulse(first), self.pulse(last)) if first <= last else damage.pulses,
+        )
 
 
 @dataclass
@@ -130,11 +141,18 @@ def _of_clock(clock: Clock, listing: Listing) -> List[Damage]:
     off = clock.interval / clock.nominal - 1
     if abs(off) >= DRIFT:
         seen = "the clock is %.2f %% %s: pulses come every %.1f microseconds, not every %d" % (
-            abs(100 * off), "slow" if off > 0 else "fast", clock.interval, clock.nominal)
+            abs(100 * off),
+            "slow" if off > 0 else "fast",
+            clock.interval,
+            clock.nominal,
+        )
         found.append(Damage(0, end, "the whole recording", seen + _range(clock)))
     if clock.noise >= TREMBLE * clock.nominal:
-        seen = "rises tremble: half of all distances are off by more than %d microseconds, %.1f %% of the interval" % (
-            clock.noise, 100 * clock.noise / clock.nominal)
+        seen = (
+            "rises tremble: half of all distances are off by more than %d microseconds, %.1f %% of "
+            "the interval"
+            % (clock.noise, 100 * clock.noise / clock.nominal)
+        )
         found.append(Damage(0, end, "the whole recording", seen))
     return found
 
@@ -164,7 +182,8 @@ def _of_part(part: Part) -> List[Damage]:
 
 
 def _of_places(faults: Faults, group: Sequence[int]) -> List[Damage]:
-    """Faulty places one after the other: one line if they are many or one pulse reaches over them, else a line each."""
+    """Faulty places one after the other: one line if they are many or one pulse reaches over them, else a
+    line each."""
     first, last = group[0], group[-1]
     pulses = sorted({pulse for place in group for pulse in faults.track.pulses_at(place)})
     until = faults.track.rise_at(last) + round(faults.clock.interval)
@@ -172,11 +191,18 @@ def _of_places(faults: Faults, group: Sequence[int]) -> List[Damage]:
     reach = faults.track.spans(first, at_first[-1]) if at_first else 0
     if len(group) > 1 and (len(group) >= TOGETHER or reach == len(group) - 1):
         empty = sum(not faults.track.pulses_at(place) for place in group)
-        seen = "%d pulses have run together" % len(group) if reach == len(group) - 1 else \
-            "%d elements without a pulse" % empty if empty == len(group) else \
-            "%d damaged elements, %d without a pulse" % (len(group), empty)
+        seen = (
+            "%d pulses have run together" % len(group)
+            if reach == len(group) - 1
+            else "%d elements without a pulse" % empty
+            if empty == len(group)
+            else "%d damaged elements, %d without a pulse" % (len(group), empty)
+        )
         ends = (pulses[0], pulses[-1]) if pulses else (0, -1)
-        name = "%s to %s" % (faults.name(first), faults.name(last) if first // 100 != last // 100 else last % 100)
+        name = "%s to %s" % (
+            faults.name(first),
+            faults.name(last) if first // 100 != last // 100 else last % 100,
+        )
         return [Damage(faults.track.rise_at(first), until, name, seen, ends)]
     return [_of_place(faults, place) for place in group]
 
@@ -202,5 +228,9 @@ def _of_ends(listing: Listing, first: Part, last: Part, end: int) -> List[Damage
     if rises[0] > 1.5 * first.faults.clock.interval:
         found.append(Damage(0, rises[0], "", "no pulse before %d" % rises[0]))
     if end - rises[-1] > 1.5 * last.faults.clock.interval:
-        found.append(Damage(listing.falls[-1], listing.length, "", "no pulse from there to the end at %d" % listing.length))
+        found.append(
+            Damage(
+                listing.falls[-1], listing.length, "", "no pulse from there to the end at %d" % listing.length
+            )
+        )
     return found

@@ -113,6 +113,7 @@ def _read_pulses(answers: IO[bytes], listing: Listing) -> None:
 
 def progress_to(stream: IO[str]) -> Progress:
     """What shows a line of progress on a terminal, and nothing elsewhere."""
+
     def show(text: str) -> None:
         print("\r%-70s" % text, end="\r" if text else "\r\033[K", file=stream, flush=True)
 

@@ -69,7 +69,8 @@ def _divide(faults: Faults, place: int, many: int, pulses: Sequence[int]) -> Opt
 
 
 def _choose(faults: Faults, pulses: Sequence[int], begin: int, target: str) -> Tuple[int, int, bool, bool]:
-    """Which pulses are joined to the one that is wanted, and whether it is then off in time, and of a wrong class."""
+    """Which pulses are joined to the one that is wanted, and whether it is then off in time, and of a wrong
+    class."""
     width, choices = faults.width(target), []
     for first in range(len(pulses)):
         for last in range(first, len(pulses)):

@@ -43,7 +43,9 @@ class Faults:
             return
         if self.times.moment(number) is None and READABLE.fullmatch(text) and number not in self.times.own:
             at = self.track.rise_at(100 * number)
-            self.remarks.append(Remark(at, "a frame whose fields contradict each other", "nothing says which is right"))
+            self.remarks.append(
+                Remark(at, "a frame whose fields contradict each other", "nothing says which is right")
+            )
         unknown = []
         for element, (told, follows) in enumerate(zip(text, expected)):
             if told == "~" or told == follows or (follows == "." and told in "01"):
@@ -58,23 +60,31 @@ class Faults:
         if unknown:
             at = self.track.rise_at(100 * number + unknown[0])
             seen = "%s, element %s: nothing says whether zero or one" % (
-                self.times.name(number), ", ".join(map(str, unknown)))
+                self.times.name(number),
+                ", ".join(map(str, unknown)),
+            )
             self.remarks.append(Remark(at, seen, "force or insert what is right"))
 
     def _contradicts(self, number: int, text: str, expected: str) -> bool:
         """Whether a frame shows another time than its neighbours lead to, too clearly to be damage."""
-        against = [element for element in self.layout.carried
-                   if text[element] in "01" and expected[element] in "01" and text[element] != expected[element]]
+        against = [
+            element
+            for element in self.layout.carried
+            if text[element] in "01" and expected[element] in "01" and text[element] != expected[element]
+        ]
         if len(against) <= (0 if self.times.turns_at(number) else 3):
             return False
         at = self.track.rise_at(max(self.track.first, 100 * number))
         seen = "%s: %d elements show another time than the one its neighbours lead to" % (
-            self.times.name(number), len(against))
+            self.times.name(number),
+            len(against),
+        )
         self.remarks.append(Remark(at, seen, "it is left; regen gives it the time of its neighbours"))
         return True
 
     def _decide(self, place: int, control: bool) -> Optional[str]:
-        """Zero or one if nothing follows for a place: by its shape, else by its neighbours, else the nearest."""
+        """Zero or one if nothing follows for a place: by its shape, else by its neighbours, else the
+        nearest."""
         pulses, (number, element) = self.track.pulses_at(place), divmod(place, 100)
         near = self.times.neighbours(number, element) if control else None
         own = self._shape_of(place)
@@ -99,7 +109,8 @@ class Faults:
         return abs(self.falls[pulse] - self.rises[pulse] - self.width(name)) <= NOMINAL * self.layout.interval
 
     def _doubt_control(self, number: int, text: str) -> None:
-        """A control function next to damage that has no nominal width is damage, too, if its neighbours say otherwise."""
+        """A control function next to damage that has no nominal width is damage, too, if its neighbours say
+        otherwise."""
         for element in self.times.kept:
             place, told = 100 * number + element, text[element]
             beside = place - 1 in self.wanted or place + 1 in self.wanted
@@ -134,8 +145,10 @@ class Faults:
         pulses = [pulse + 1 for pulse in self.track.pulses_at(place)]
         if not pulses:
             return "%s, at %d" % (self.name(place), self.track.rise_at(place))
-        return "%s, pulse%s" % (self.name(place), " %d" % pulses[0] if len(pulses) == 1 else
-                                "s %d to %d" % (pulses[0], pulses[-1]))
+        return "%s, pulse%s" % (
+            self.name(place),
+            " %d" % pulses[0] if len(pulses) == 1 else "s %d to %d" % (pulses[0], pulses[-1]),
+        )
 
     def reason(self, place: int) -> str:
         """Why this class has to be there."""

@@ -47,8 +47,13 @@ class Times:
         stray = {number for number in self.own if "1" in unused(self.texts[number])}
         self.doubtful = len(stray) > 2 + len(self.read) // 10  # the expression
         self.kept = set(self.layout.control) | set(self.layout.unused if self.doubtful else ())
-        self.sound = {number for number, base in self.own.items() if self.bases[number] == base
-                      and (self.doubtful or number not in stray) and READABLE.fullmatch(self.texts[number])}
+        self.sound = {
+            number
+            for number, base in self.own.items()
+            if self.bases[number] == base
+            and (self.doubtful or number not in stray)
+            and READABLE.fullmatch(self.texts[number])
+        }
 
     def _base(self, number: int, told: Fields) -> int:
         base = self.calendar.number(told) - number * self.layout.period
@@ -64,20 +69,27 @@ class Times:
         self.calendar.days = 366 if long else 365
 
     def _find_bases(self) -> Dict[int, Optional[int]]:
-        """The base of each frame: if two neighbours agree, theirs; between such frames the one that fits best."""
+        """The base of each frame: if two neighbours agree, theirs; between such frames the one that fits
+        best."""
         read = sorted(self.own)
         before: List[Optional[int]] = [None, *read]
         after: List[Optional[int]] = [*read[1:], None]
         bases: Dict[int, Optional[int]] = {}
         for left, number, right in zip(before, read, after):
-            if self.own[number] in (left is not None and self.own[left], right is not None and self.own[right]):
+            if self.own[number] in (
+                left is not None and self.own[left],
+                right is not None and self.own[right],
+            ):
                 bases[number] = self.own[number]
         self._fill(bases)
         return bases
 
     def _fill(self, bases: Dict[int, Optional[int]]) -> None:
-        apart = {zone.right.place // 100 for zone in self.track.zones
-                 if zone.glued and zone.right and not 0 < (zone.right.gone or 0) <= LONGEST_CUT}
+        apart = {
+            zone.right.place // 100
+            for zone in self.track.zones
+            if zone.glued and zone.right and not 0 < (zone.right.gone or 0) <= LONGEST_CUT
+        }
         gap: List[int] = []
         left: Optional[int] = None
         for number in self.texts:
@@ -93,7 +105,9 @@ class Times:
 
     def against(self, number: int, base: int) -> Tuple[int, int]:
         """How many elements of a frame speak against a base, and, negative, how many for it."""
-        text, wanted = self.texts[number], self.layout.encode(self.calendar.fields(base + number * self.layout.period))
+        text, wanted = self.texts[number], self.layout.encode(
+            self.calendar.fields(base + number * self.layout.period)
+        )
         told = [(text[element], wanted[element]) for element in self.layout.carried if text[element] in "01"]
         wrong = sum(a != b for a, b in told)
         return wrong, wrong - len(told)
@@ -125,7 +139,8 @@ class Times:
         return numbers[bisect_left(numbers, first):bisect_left(numbers, last)]
 
     def frames_between(self, left: Sequence[Run], right: Sequence[Run]) -> Optional[int]:
-        """By how many frames the times of these runs are farther apart than their places; None if they do not say."""
+        """By how many frames the times of these runs are farther apart than their places; None if they do not
+        say."""
         before, after = self._agreed(self._read_within(left)[-3:]), self._agreed(self._read_within(right)[:3])
         if before is None or after is None:
             return None
@@ -152,12 +167,15 @@ class Times:
         return "".join(text)
 
     def neighbours(self, number: int, element: int) -> Optional[str]:
-        """What most of the nearest frames have there, two before and two after whose element is sound; None if they differ."""
+        """What most of the nearest frames have there, two before and two after whose element is sound; None
+        if they differ."""
         if element not in self._having:
             self._having[element] = [each for each, text in self.texts.items() if text[element] in "01"]
         having = self._having[element]
         at = bisect_left(having, number)
-        near = Counter(self.texts[each][element] for each in having[max(0, at - 2):at] + having[at:at + 2])
+        near = Counter(
+            self.texts[each][element] for each in having[max(0, at - 2):at] + having[at:at + 2]
+        )
         told, many = near.most_common(1)[0] if near else ("", 0)
         total = sum(near.values())
         return told if near and many >= max(1, total - (total > 2)) else None

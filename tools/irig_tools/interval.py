@@ -1,4 +1,5 @@
-"""The real interval of a recording: how far apart its elements are, how much rises stray, and the runs of pulses in step."""
+"""The real interval of a recording: how far apart its elements are, how much rises stray, and the runs of
+pulses in step."""
 from __future__ import annotations
 
 import statistics
@@ -56,9 +57,13 @@ class Clock:
     def __init__(self, listing: Listing, nominal: int) -> None:
         self.nominal = nominal
         apart = distances(listing.rises)
-        between = [each for each in apart[::len(apart) // 50000 + 1] if 0.9 * nominal <= each <= 1.1 * nominal]
+        between = [
+            each for each in apart[:: len(apart) // 50000 + 1] if 0.9 * nominal <= each <= 1.1 * nominal
+        ]
         self.interval: float = statistics.median_low(between) if between else nominal
-        self.noise: float = statistics.median([abs(each - self.interval) for each in between]) if between else 0
+        self.noise: float = (
+            statistics.median([abs(each - self.interval) for each in between]) if between else 0
+        )
         self.margin = min(0.09 * nominal, max(0.04 * nominal, 6 * self.noise))  # what counts as in step
         self.stray = min(0.07 * nominal, max(0.04 * nominal, 4 * self.noise))  # how far one pulse may be off
         self.runs = [part for run in self._find_runs(apart) for part in parted(run, listing.classes)]

@@ -19,7 +19,8 @@ Fields = Dict[str, int]
 
 
 class Layout:
-    """Which element has which weight in which field. A frame is a text of 100 classes: 0, 1, P, b and others for damage."""
+    """Which element has which weight in which field. A frame is a text of 100 classes: 0, 1, P, b and others
+    for damage."""
 
     def __init__(self, kind: str, expression: int) -> None:
         self.kind, self.expression = kind, expression
@@ -68,20 +69,30 @@ class Layout:
         part = text[rows[0][0]:rows[-1][0] + 1]
         if (name, part) not in self._known:
             ones = {weight for element, weight in rows if text[element] == "1"}
-            above = name != "binary" and any(8 * unit in ones and ones & {2 * unit, 4 * unit} for unit in (1, 10))
+            above = name != "binary" and any(
+                8 * unit in ones and ones & {2 * unit, 4 * unit} for unit in (1, 10)
+            )
             self._known[name, part] = -1 if above else sum(ones)
         return self._known[name, part]
 
     def decode(self, text: str) -> Optional[Fields]:
-        """The fields of a frame, or None if an element is damaged, a field is out of range, or two fields disagree."""
+        """The fields of a frame, or None if an element is damaged, a field is out of range, or two fields
+        disagree."""
         if not set(self._carried_of(text)) <= {"0", "1"}:
             return None
         told = {name: self.value(name, text) for name in self.fields}
-        if min(told.values()) < 0 or any(value > MOST[name] for name, value in told.items()) or not told["days"]:
+        if (
+            min(told.values()) < 0
+            or any(value > MOST[name] for name, value in told.items())
+            or not told["days"]
+        ):
             return None
         if told["seconds"] == 60 and (told["minutes"], told["hours"]) != (59, 23):
             return None
-        if "binary" in told and told["binary"] != 3600 * told["hours"] + 60 * told["minutes"] + told["seconds"]:
+        if (
+            "binary" in told
+            and told["binary"] != 3600 * told["hours"] + 60 * told["minutes"] + told["seconds"]
+        ):
             return None
         return told
 

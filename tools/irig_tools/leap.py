@@ -1,4 +1,5 @@
-"""Whether a recording has a leap second: a second 60 that is shown, or one that is lost and for which there is time."""
+"""Whether a recording has a leap second: a second 60 that is shown, or one that is lost and for which there
+is time."""
 from __future__ import annotations
 
 from collections import Counter
@@ -40,7 +41,9 @@ def find_leap(calendar: Calendar, read: Sequence[Tuple[int, Fields]], base: Base
         calendar.leap = moment
         counted = Counter(base(*each) for each in read)
         most = max(counted.values())
-        bears_out = any(told["seconds"] == 60 and counted[base(number, told)] == most for number, told in read)
+        bears_out = any(
+            told["seconds"] == 60 and counted[base(number, told)] == most for number, told in read
+        )
         if most > max(plain.values()) or (bears_out and most == max(plain.values()) and most > 1):
             found = moment
             break

@@ -26,7 +26,8 @@ def called_for(findings: Findings) -> List[Repair]:
 
 
 def obeyed(editor: Editor, script: List[Repair], refused: Set[str]) -> Listing:
-    """The listing after the script; a repair that the editor refuses goes another way, or becomes a remark."""
+    """The listing after the script; a repair that the editor refuses goes another way, or becomes a
+    remark."""
     listing = editor.ask([repair.lines() for repair in script])
     while listing.refused:
         for at in listing.refused:

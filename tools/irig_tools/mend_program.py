@@ -39,7 +39,10 @@ def work(arguments: Arguments) -> int:
         path = arguments.get("--page")
         if path is not None:
             after = editor.ask([repair.lines() for repair in script])
-            write(path, page(sheet_of(os.path.basename(arguments.editor[-1]), look(editor, progress), script, after)))
+            write(
+                path,
+                page(sheet_of(os.path.basename(arguments.editor[-1]), look(editor, progress), script, after)),
+            )
     sys.stdout.write(text(script))
     sys.stdout.flush()
     return FOUND if script else SOUND

@@ -19,7 +19,9 @@ class Calendar:
         self.leap: Optional[int] = None  # the moment at which second 60 begins
 
     def number(self, told: Fields) -> int:
-        within = 100 * (3600 * told["hours"] + 60 * told["minutes"] + told["seconds"]) + told.get("hundredths", 0)
+        within = 100 * (3600 * told["hours"] + 60 * told["minutes"] + told["seconds"]) + told.get(
+            "hundredths", 0
+        )
         first = datetime.date(2000 + told["year"], 1, 1).toordinal() if self.with_year else 1
         plain = (first + told["days"] - 1) * DAY + within
         if self.leap is None:
@@ -51,8 +53,13 @@ class Calendar:
     def _plain_fields(self, number: int) -> Fields:
         day, within = divmod(number, DAY)
         seconds = within // 100
-        told = {"hundredths": within % 100, "seconds": seconds % 60, "minutes": seconds // 60 % 60,
-                "hours": seconds // 3600, "binary": seconds}
+        told = {
+            "hundredths": within % 100,
+            "seconds": seconds % 60,
+            "minutes": seconds // 60 % 60,
+            "hours": seconds // 3600,
+            "binary": seconds,
+        }
         if self.with_year:
             date = datetime.date.fromordinal(max(1, day))
             told["year"], told["days"] = date.year % 100, date.timetuple().tm_yday
@@ -65,7 +72,13 @@ class Calendar:
         told = self.fields(number)
         long = self.days == 366 or told["days"] == 366
         year = 2000 + told["year"] if self.with_year else 2024 if long else 2023
-        text = "%04d-%03dT%02d:%02d:%02d" % (year, told["days"], told["hours"], told["minutes"], told["seconds"])
+        text = "%04d-%03dT%02d:%02d:%02d" % (
+            year,
+            told["days"],
+            told["hours"],
+            told["minutes"],
+            told["seconds"],
+        )
         return text + (".%02d" % told["hundredths"] if "hundredths" in self.layout.fields else "")
 
     def name(self, number: int) -> str:

@@ -20,8 +20,16 @@ def sheet_of(name: str, seen: Seen, script: Sequence[Repair] = (), after: Option
     notes = [each for each in seen.damages if each.name == "the whole recording"]
     places = [_place(seen, each, script, after) for each in seen.damages if each not in notes]
     lines = tuple(line for repair in script for line in repair.lines())
-    return Sheet(name, seen.listing.length, layout.interval, "%s %d" % (layout.kind, layout.expression),
-                 _stretches(seen), tuple(places), lines, tuple(each.seen for each in notes))
+    return Sheet(
+        name,
+        seen.listing.length,
+        layout.interval,
+        "%s %d" % (layout.kind, layout.expression),
+        _stretches(seen),
+        tuple(places),
+        lines,
+        tuple(each.seen for each in notes),
+    )
 
 
 def _place(seen: Seen, damage: Damage, script: Sequence[Repair], after: Optional[Listing]) -> Place:
@@ -37,7 +45,9 @@ def _place(seen: Seen, damage: Damage, script: Sequence[Repair], after: Optional
     listing = seen.listing
     before = cut(listing.rises, listing.falls, listing.classes, start, end)
     reason = damage.line().partition(" ")[2]
-    return Place(damage.at, max(damage.until, damage.at), damage.seen, reason, before, wave, lines, damage.name)
+    return Place(
+        damage.at, max(damage.until, damage.at), damage.seen, reason, before, wave, lines, damage.name
+    )
 
 
 def _moved(script: Sequence[Repair], at: int) -> int:
@@ -66,7 +76,13 @@ def _of_part(part: Part, origin: Origin) -> List[Stretch]:
     for number in track.frames():
         first, beyond = max(track.first, 100 * number), min(track.last, 100 * number + 100)
         start, end = track.rise_at(first), track.rise_at(beyond)
-        state = LOST if faulty.get(number, 0) > 50 else DAMAGED if number in faulty or number in remarked else SOUND
+        state = (
+            LOST
+            if faulty.get(number, 0) > 50
+            else DAMAGED
+            if number in faulty or number in remarked
+            else SOUND
+        )
         if found and start < found[-1].end:
             start = found[-1].end
         if start < end:

@@ -1,6 +1,8 @@
-"""Position identifiers in a run of classes: with which element it begins, and where it goes on with another one.
+"""Position identifiers in a run of classes: with which element it begins, and where it goes on with another
+one.
 
-A phase is the element, 0 to 99, of the first pulse of a text. `P` has to be at elements 0, 9, 19, .. 99 and nowhere else.
+A phase is the element, 0 to 99, of the first pulse of a text. `P` has to be at elements 0, 9, 19, .. 99 and
+nowhere else.
 """
 from __future__ import annotations
 
@@ -14,7 +16,8 @@ from .layout import POSITIONS, READABLE
 
 ONLY_P = str.maketrans("01b", "---")
 PATTERN = "".join("P" if element in POSITIONS else "-" for element in range(100))
-WHOLE = re.compile("(?<=P)%s(?=P|$)" % READABLE.pattern)  # a frame between two markers, or one and the end of a run
+# a frame between two markers, or one and the end of a run
+WHOLE = re.compile("(?<=P)%s(?=P|$)" % READABLE.pattern)
 LONGEST_TURN = 3000  # elements
 
 Place = Tuple[int, int]
@@ -27,10 +30,13 @@ class Marks:
         self.count = len(text)
         self.places = Counter(found.start() % 100 for found in re.finditer("P", text))
         self.many = sum(self.places.values())
-        self.whole: Container[int] = {-found.start() % 100 for found in WHOLE.finditer(text)} if self.count > 100 else ()
+        self.whole: Container[int] = (
+            {-found.start() % 100 for found in WHOLE.finditer(text)} if self.count > 100 else ()
+        )
 
     def faults(self, phase: int) -> int:
-        """How many pulses are position identifiers by mistake, or are none by mistake, if the first is element `phase`;
+        """How many pulses are position identifiers by mistake, or are none by mistake, if the first is
+        element `phase`;
         some more if frames that are whole say otherwise."""
         cycles, rest = divmod(self.count, 100)
         hits = wanted = 0
@@ -47,14 +53,18 @@ class Marks:
 
 
 def faults_along(text: str, phase: int) -> List[int]:
-    """How many faults are before each pulse, and in all, if the first is element `phase`. The text has `P` and `-` alone."""
+    """How many faults are before each pulse, and in all, if the first is element `phase`. The text has `P`
+    and `-` alone."""
     return list(accumulate(map(ne, text, islice(cycle(PATTERN), phase, None)), initial=0))
 
 
 def parting(text: str, lefts: Iterable[int], rights: Iterable[int]) -> Tuple[int, int, int, int, int]:
-    """Where the text is parted best: its faults then, the first and the last such place, and the phases of both sides."""
+    """Where the text is parted best: its faults then, the first and the last such place, and the phases of
+    both sides."""
     before = {phase: faults_along(text, phase) for phase in lefts}
-    after = {phase: [row[-1] - faults for faults in row] for phase in rights for row in [faults_along(text, phase)]}
+    after = {
+        phase: [row[-1] - faults for faults in row] for phase in rights for row in [faults_along(text, phase)]
+    }
     total = list(map(add, map(min, zip(*before.values())), map(min, zip(*after.values()))))
     least = min(total)
     low, high = total.index(least), len(total) - 1 - total[::-1].index(least)
@@ -68,7 +78,8 @@ def _has_marker(phase: int, count: int) -> bool:
 
 
 def _turn(text: str, lefts: Sequence[int], rights: Sequence[int]) -> Optional[Place]:
-    """The first and last place at which the phase may change in a text of which at most one side's phase is known."""
+    """The first and last place at which the phase may change in a text of which at most one side's phase is
+    known."""
     marks = Marks(text)
     whole = min(map(marks.faults, lefts if len(lefts) <= len(rights) else rights))
     if whole < 2 or len(text) > LONGEST_TURN:
@@ -84,14 +95,15 @@ def _turn(text: str, lefts: Sequence[int], rights: Sequence[int]) -> Optional[Pl
 
 
 def turns(classes: str) -> List[Place]:
-    """The places (first, last) at which a run goes on with another phase: between whole frames, before and after them."""
+    """The places (first, last) at which a run goes on with another phase: between whole frames, before and
+    after them."""
     whole = [found.start() for found in WHOLE.finditer(classes)]
     text, every = classes.translate(ONLY_P), range(100)
     if not whole:
         alone = _turn(text, every, every) if len(text) > 60 else None
         return [alone] if alone else []
     found: List[Place] = []
-    ahead = _turn(text[:whole[0] + 100], every, [-whole[0] % 100])
+    ahead = _turn(text[: whole[0] + 100], every, [-whole[0] % 100])
     if ahead:
         found.append(ahead)
     for before, after in zip(whole, whole[1:]):

@@ -22,11 +22,22 @@ def remarks(track: Track, times: Times) -> List[Remark]:
 def _of_format(track: Track, times: Times) -> List[Remark]:
     expression, at = track.layout.expression, track.rises[track.runs[0].first]
     if not times.read:
-        return [Remark(at, "no frame can be read with expression %d, and only position identifiers are looked at"
-                       % expression, "is it another expression?")]
+        return [
+            Remark(
+                at,
+                "no frame can be read with expression %d, and only position identifiers are looked at"
+                % expression,
+                "is it another expression?",
+            )
+        ]
     if times.doubtful:
-        return [Remark(at, "many frames have ones that expression %d does not use" % expression,
-                       "is it another expression?")]
+        return [
+            Remark(
+                at,
+                "many frames have ones that expression %d does not use" % expression,
+                "is it another expression?",
+            )
+        ]
     return []
 
 
@@ -37,8 +48,13 @@ def _of_ends(track: Track) -> List[Remark]:
     for run, way, word, pulse in ((first, "<", "before", first.first), (last, ">", "after", last.last)):
         if way in run.ends:
             at = track.rises[pulse]
-            found.append(Remark(at, "%s that the position identifiers are elsewhere, and too few to say where" % word,
-                                "a stretch is missing or is there twice; these pulses are left"))
+            found.append(
+                Remark(
+                    at,
+                    "%s that the position identifiers are elsewhere, and too few to say where" % word,
+                    "a stretch is missing or is there twice; these pulses are left",
+                )
+            )
     return found
 
 
@@ -46,10 +62,18 @@ def _of_cuts(track: Track) -> List[Remark]:
     found = []
     for zone in track.zones:
         if zone.glued and zone.right:
-            seen = "%d elements are missing by the times of the frames" % zone.right.gone if zone.right.gone else \
-                "%d elements are missing, not counting whole frames" % (zone.skipped() % 100)
-            found.append(Remark(track.rises[zone.right.first], seen + ", and the rest follows at once",
-                                "that is left, as a track cannot be made longer"))
+            seen = (
+                "%d elements are missing by the times of the frames" % zone.right.gone
+                if zone.right.gone
+                else "%d elements are missing, not counting whole frames" % (zone.skipped() % 100)
+            )
+            found.append(
+                Remark(
+                    track.rises[zone.right.first],
+                    seen + ", and the rest follows at once",
+                    "that is left, as a track cannot be made longer",
+                )
+            )
     return found
 
 
@@ -57,7 +81,10 @@ def _of_clock(track: Track, before: Span, after: Span) -> Remark:
     """The times of the frames go on elsewhere."""
     at, apart = track.rise_at(100 * after.first), (after.base - before.base) / 100
     way = ("later", "was cut out and the rest moved") if apart > 0 else ("earlier", "is there twice")
-    seen = "from this frame on the times are %.2f seconds %s than the frames before lead to" % (abs(apart), way[0])
+    seen = "from this frame on the times are %.2f seconds %s than the frames before lead to" % (
+        abs(apart),
+        way[0],
+    )
     choice = "either a stretch %s, or the clock was set" % way[1]
     again = again_within(track, before, after)
     repair = without_copy(track, again.first, again.many) if again else None
@@ -80,6 +107,9 @@ def _of_control(track: Track, times: Times) -> List[Remark]:
     for number, value in told:
         if often[value] == 1 and value != usual:
             unlike = [str(e) for e, a, b in zip(track.layout.control, value, usual) if a != b]
-            seen = "%s, element %s: control functions that no other frame has" % (times.name(number), ", ".join(unlike))
+            seen = "%s, element %s: control functions that no other frame has" % (
+                times.name(number),
+                ", ".join(unlike),
+            )
             found.append(Remark(track.rise_at(100 * number + int(unlike[0])), seen, "they are left"))
     return found

@@ -1,4 +1,5 @@
-"""The repairs of a track, with their reasons, from its end to its beginning, so that numbers of pulses stay true."""
+"""The repairs of a track, with their reasons, from its end to its beginning, so that numbers of pulses stay
+true."""
 from __future__ import annotations
 
 from typing import List
@@ -47,7 +48,9 @@ def _written_again(faults: Faults, places: range) -> List[str]:
     pulses = sorted({pulse for place in places for pulse in faults.track.pulses_at(place)})
     edits = []
     if pulses:
-        edits.append("%d,%d delete" % (pulses[0] + 1, pulses[-1] + 1) if pulses[1:] else "%d delete" % (pulses[0] + 1))
+        edits.append(
+            "%d,%d delete" % (pulses[0] + 1, pulses[-1] + 1) if pulses[1:] else "%d delete" % (pulses[0] + 1)
+        )
     for place in reversed(places):
         rise = faults.track.rise_at(place)
         edits.append("insert %d %d" % (rise, rise + faults.width(faults.wanted[place])))
@@ -58,5 +61,7 @@ def _of_lost(faults: Faults, lost: List[Item]) -> List[str]:
     """One sentence for pulses that are missing one after the other."""
     if len(lost) < 2:
         return [item.why for item in lost]
-    return ["%d pulses are missing, from %s on; each follows from the frames around it" % (
-        len(lost), faults.where(int(lost[-1].low)))]
+    return [
+        "%d pulses are missing, from %s on; each follows from the frames around it"
+        % (len(lost), faults.where(int(lost[-1].low)))
+    ]

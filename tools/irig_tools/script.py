@@ -15,7 +15,8 @@ class Repair:
     at: int
     comments: List[str]
     edits: List[str] = field(default_factory=list)
-    removed: Tuple[int, int, int] = (0, 0, 0)  # first pulse, pulses and microseconds of a stretch that is taken out
+    # first pulse, pulses and microseconds of a stretch that is taken out
+    removed: Tuple[int, int, int] = (0, 0, 0)
     instead: List[str] = field(default_factory=list)  # what also does it, if an edit is refused
     until: int = 0  # where it ends, in microseconds
 

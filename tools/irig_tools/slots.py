@@ -1,4 +1,5 @@
-"""Runs get their places: linked from the first to the last, so that position identifiers are where they have to be."""
+"""Runs get their places: linked from the first to the last, so that position identifiers are where they have
+to be."""
 from __future__ import annotations
 
 from typing import Dict, List, Optional, Sequence, Tuple
@@ -20,7 +21,8 @@ def _classes(run: Run, classes: str) -> str:
 
 
 def parts(clock: Clock, classes: str) -> List[List[Run]]:
-    """The sure runs, parted at holes too long to fill. At the ends shorter ones count that are on the same clock."""
+    """The sure runs, parted at holes too long to fill. At the ends shorter ones count that are on the same
+    clock."""
     sure = [at for at, run in enumerate(clock.runs) if run.count >= SURE]
     if not sure:
         return []
@@ -28,7 +30,7 @@ def parts(clock: Clock, classes: str) -> List[List[Run]]:
     for run in clock.runs[sure[-1] + 1:]:
         if run.count > 1 and clock.on_one_clock(runs[-1], run):
             runs.append(run)
-    for run in reversed(clock.runs[:sure[0]]):
+    for run in reversed(clock.runs[: sure[0]]):
         if run.count > 1 and clock.on_one_clock(run, runs[0]):
             runs.insert(0, run)
     found = [runs[:1]]
@@ -51,7 +53,8 @@ def _trim(runs: List[Run], classes: str) -> List[Run]:
 
 
 def _hop(clock: Clock, distance: float, interval: float, step: int) -> Tuple[int, float, float]:
-    """Elements to go on by (`step` modulo 100), how late what follows then is, and what it costs to believe that."""
+    """Elements to go on by (`step` modulo 100), how late what follows then is, and what it costs to believe
+    that."""
     more = int((distance + clock.slack(distance / interval)) / interval - step) // 100
     steps = step + 100 * max(0, more)
     late = distance - steps * interval
@@ -63,7 +66,8 @@ def _hop(clock: Clock, distance: float, interval: float, step: int) -> Tuple[int
 
 
 def _jump(distance: float, interval: float, step: int) -> Tuple[int, float, float]:
-    """As `_hop`, for a run that is glued to the one before: as if more than a frame were missing between them."""
+    """As `_hop`, for a run that is glued to the one before: as if more than a frame were missing between
+    them."""
     straight = round(distance / interval)
     steps = straight + 100 + (step - straight) % 100
     return steps, distance - steps * interval, 6 if steps == straight + 100 else 1
@@ -92,20 +96,27 @@ class _Linker:
                 if phase not in known:
                     known[phase] = marks.faults(phase)
                 step = (phase - last) % 100
-                step, late, cost = _jump(distance, interval, step) if run.glued else \
-                    _hop(self.clock, distance, interval, step)
+                step, late, cost = (
+                    _jump(distance, interval, step)
+                    if run.glued
+                    else _hop(self.clock, distance, interval, step)
+                )
                 cost += told[0] + known[phase]
                 if phase not in choices or cost < choices[phase][0]:
                     choices[phase] = cost, old, step, late
         return choices
 
-    def _ways(self, before: Run, run: Run, marks: Marks, distance: float,
-              interval: float) -> Tuple[Sequence[int], Sequence[int]]:
+    def _ways(
+        self, before: Run, run: Run, marks: Marks, distance: float, interval: float
+    ) -> Tuple[Sequence[int], Sequence[int]]:
         """The steps from run to run that are worth a look, and the phases that the run itself has."""
         straight = round(distance / interval)
         most = min(told[0] for told in self.table[-1].values()) + UNLIKELY
-        likely = {(phase + before.count - 1 + straight) % 100
-                  for phase, told in self.table[-1].items() if told[0] <= most}
+        likely = {
+            (phase + before.count - 1 + straight) % 100
+            for phase, told in self.table[-1].items()
+            if told[0] <= most
+        }
         if not run.glued and abs(distance - straight * interval) <= self.clock.slack(straight):
             faults = min(marks.faults(phase) for phase in likely)
             if faults == 0 or faults <= min(1 + run.count // 100, 1 + marks.faults(marks.best(0, 1)[0])):
@@ -114,7 +125,8 @@ class _Linker:
         return sorted(steps), marks.best(2, 20) if run.count >= 12 else ()
 
     def follow(self) -> float:
-        """Gives each run its phase as its place, from the last to the first, and returns what the way costs."""
+        """Gives each run its phase as its place, from the last to the first, and returns what the way
+        costs."""
         phase: Optional[int] = min(self.table[-1], key=lambda each: self.table[-1][each][0])
         cost = self.table[-1][phase or 0][0]
         for run, choices in zip(reversed(self.runs), reversed(self.table)):
@@ -124,12 +136,21 @@ class _Linker:
 
 
 def _without_strays(clock: Clock, runs: List[Run], classes: str) -> bool:
-    """Drops a run at an end whose phase nothing says, if it is not on the clock of the others; whether one was dropped."""
-    if len(runs) > 1 and abs(runs[1].late) > clock.least_late(runs[1].step) and _says_nothing(runs[0], classes):
+    """Drops a run at an end whose phase nothing says, if it is not on the clock of the others; whether one
+    was dropped."""
+    if (
+        len(runs) > 1
+        and abs(runs[1].late) > clock.least_late(runs[1].step)
+        and _says_nothing(runs[0], classes)
+    ):
         del runs[0]
         runs[0].ends += "<"
         return True
-    if len(runs) > 1 and abs(runs[-1].late) > clock.least_late(runs[-1].step) and _says_nothing(runs[-1], classes):
+    if (
+        len(runs) > 1
+        and abs(runs[-1].late) > clock.least_late(runs[-1].step)
+        and _says_nothing(runs[-1], classes)
+    ):
         runs.pop()
         runs[-1].ends += ">"
         return True

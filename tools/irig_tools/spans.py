@@ -1,4 +1,5 @@
-"""Which base fits frames between two that are sure: each change of base costs as much as three elements that do not fit."""
+"""Which base fits frames between two that are sure: each change of base costs as much as three elements that
+do not fit."""
 from __future__ import annotations
 
 from typing import TYPE_CHECKING, Dict, List, Optional, Sequence, Tuple
@@ -26,7 +27,9 @@ def _borne(times: Times, base: int, gap: Sequence[int]) -> bool:
     return sum(times.against(number, base) < (1, -19) for number in gap) > 1
 
 
-def fit(times: Times, gap: Sequence[int], left: Optional[int], right: Optional[int]) -> Dict[int, Optional[int]]:
+def fit(
+    times: Times, gap: Sequence[int], left: Optional[int], right: Optional[int]
+) -> Dict[int, Optional[int]]:
     """The base of each frame of a gap, or None if two are as good, between the bases `left` and `right`."""
     if not gap:
         return {}
@@ -40,7 +43,8 @@ def fit(times: Times, gap: Sequence[int], left: Optional[int], right: Optional[i
     found: Dict[int, Optional[int]] = {}
     for number, row, before, after in zip(gap, faults, ahead, reversed(back)):
         whole: List[Tuple[int, int]] = sorted(
-            (a + b - fault, base) for a, b, fault, base in zip(before, after, row, choices))
+            (a + b - fault, base) for a, b, fault, base in zip(before, after, row, choices)
+        )
         found[number] = None
         if whole and (len(whole) == 1 or whole[0][0] < whole[1][0]):
             base = whole[0][1]

@@ -1,4 +1,5 @@
-"""A part of a recording in which each pulse has a place: 100 times its frame, counted from a marker, and its element."""
+"""A part of a recording in which each pulse has a place: 100 times its frame, counted from a marker, and its
+element."""
 from __future__ import annotations
 
 from bisect import bisect_right
@@ -13,7 +14,8 @@ from .zones import Zone
 class Track:
     """Runs that are linked, and the zones between them.
 
-    A place has one letter: its class, `-` if it has no pulse, `?` if it has no single pulse in step, `~` if nobody knows.
+    A place has one letter: its class, `-` if it has no pulse, `?` if it has no single pulse in step, `~` if
+    nobody knows.
     """
 
     def __init__(self, listing: Listing, layout: Layout, clock: Clock, runs: List[Run]) -> None:
@@ -28,10 +30,12 @@ class Track:
         self.told, self.sure = self._letters()
 
     def _letters(self) -> Tuple[str, str]:
-        """A letter for each place, and the same without what may be of either side of a place with a glued run."""
+        """A letter for each place, and the same without what may be of either side of a place with a glued
+        run."""
         told = bytearray(b"-" * (self.last - self.first + 1))
         for run in self.runs:
-            told[run.place - self.first:run.last_place - self.first + 1] = self.classes[run.first:run.last + 1].encode()
+            classes = self.classes[run.first:run.last + 1]
+            told[run.place - self.first:run.last_place - self.first + 1] = classes.encode()
         for place in self.zone_of:
             told[place - self.first] = ord(self._judge(place))
         if self.falls[-1] == self.listing.length and self.pulses_at(self.last)[-1:] == [len(self.falls) - 1]:
@@ -59,13 +63,19 @@ class Track:
 
     def rise_at(self, place: int) -> int:
         """When the pulse of a place should rise, in microseconds."""
-        return self.zone_of[place].rise_at(place) if place in self.zone_of else self.rises[self.pulses_at(place)[0]]
+        return (
+            self.zone_of[place].rise_at(place)
+            if place in self.zone_of
+            else self.rises[self.pulses_at(place)[0]]
+        )
 
     def spans(self, place: int, pulse: int) -> int:
         """Over how many more places this pulse reaches."""
         many = 0
-        while place + many < self.last and \
-                self.falls[pulse] > self.rise_at(place + many + 1) + self.clock.interval // 50:
+        while (
+            place + many < self.last
+            and self.falls[pulse] > self.rise_at(place + many + 1) + self.clock.interval // 50
+        ):
             many += 1
         return many
 
@@ -80,7 +90,9 @@ class Track:
 
     def is_glued(self, last: int, first: int) -> bool:
         """Whether a glued run begins between frame `last` and frame `first`."""
-        return any(zone.glued and last <= zone.last // 100 and zone.first // 100 <= first for zone in self.zones)
+        return any(
+            zone.glued and last <= zone.last // 100 and zone.first // 100 <= first for zone in self.zones
+        )
 
     def stretches(self) -> List[List[Run]]:
         """The runs, parted at each that is glued to the one before it."""

@@ -10,7 +10,8 @@ from .faults import Faults, Remark
 from .phases import tells_phase
 from .zones import Zone
 
-MOST_LATE = 12  # intervals; what comes later is moved only if the position identifiers on both sides are unmistakable
+# intervals; what comes later is moved only if the position identifiers on both sides are unmistakable
+MOST_LATE = 12
 FEWEST = 8  # lost elements of a frame that is generated again
 
 
@@ -25,7 +26,11 @@ def _shift(faults: Faults, zone: Zone) -> Optional[Item]:
     late, at, between = round(zone.late), faults.rises[zone.border], zone.right.step - 1
     choice = _why_not(faults, zone)
     if choice:
-        seen = "%d elements are missing, and the rest comes %d %s" % (between, abs(late), "late" if late > 0 else "early")
+        seen = "%d elements are missing, and the rest comes %d %s" % (
+            between,
+            abs(late),
+            "late" if late > 0 else "early",
+        )
         faults.remarks.append(Remark(at, seen, choice))
         for place in range(zone.first + 1, zone.last):
             faults.wanted.pop(place, None)
@@ -38,7 +43,9 @@ def _shift(faults: Faults, zone: Zone) -> Optional[Item]:
         # what is before it is repaired first, and that may change the numbers of pulses
         edits = ["mark z %d" % at, "'z,$ shift %d" % -late, "unmark z"]
         return Item(zone.first - 0.5, zone.border_place - 0.5, edits, why)
-    return Item(zone.border_place - 0.5, zone.border_place - 0.5, ["%d,$ shift %d" % (zone.border + 1, -late)], why)
+    return Item(
+        zone.border_place - 0.5, zone.border_place - 0.5, ["%d,$ shift %d" % (zone.border + 1, -late)], why
+    )
 
 
 def _why_not(faults: Faults, zone: Zone) -> str:
@@ -56,8 +63,10 @@ def _why_not(faults: Faults, zone: Zone) -> str:
 def _control_of(faults: Faults, number: int) -> int:
     """The control functions that a frame has after its repairs."""
     text = faults.times.texts[number]
-    return sum((faults.wanted.get(100 * number + element, text[element]) == "1") << bit
-               for bit, element in enumerate(faults.layout.control))
+    return sum(
+        (faults.wanted.get(100 * number + element, text[element]) == "1") << bit
+        for bit, element in enumerate(faults.layout.control)
+    )
 
 
 def _can_generate(faults: Faults, number: int) -> bool:
@@ -70,10 +79,13 @@ def _can_generate(faults: Faults, number: int) -> bool:
     if lost < FEWEST or (lost < 100 and not faults.clock.exact) or moment is None:
         return False
     begin = track.rise_at(places[0])
-    return not faults.times.calendar.within_leap(moment) and \
-        begin + 100 * faults.clock.interval <= track.listing.length and \
-        not any(zone.late and places[0] < zone.border_place <= places[-1] for zone in track.zones) and \
-        _stands_alone(faults, places, begin) and all(_as_generated(faults, place, begin) for place in places)
+    return (
+        not faults.times.calendar.within_leap(moment)
+        and begin + 100 * faults.clock.interval <= track.listing.length
+        and not any(zone.late and places[0] < zone.border_place <= places[-1] for zone in track.zones)
+        and _stands_alone(faults, places, begin)
+        and all(_as_generated(faults, place, begin) for place in places)
+    )
 
 
 def _stands_alone(faults: Faults, places: range, begin: int) -> bool:
@@ -91,11 +103,18 @@ def _as_generated(faults: Faults, place: int, begin: int) -> bool:
     pulses, due = track.pulses_at(place), begin + element * faults.clock.interval
     must_be_zero = element in faults.layout.unused
     if place in faults.wanted:
-        return not (pulses and element + track.spans(place, pulses[-1]) > 99) and \
-            track.rise_at(place) == due and not (must_be_zero and faults.wanted[place] != "0")
+        return (
+            not (pulses and element + track.spans(place, pulses[-1]) > 99)
+            and track.rise_at(place) == due
+            and not (must_be_zero and faults.wanted[place] != "0")
+        )
     told = faults.times.texts[place // 100][element]
-    return told in "01P" and faults.rises[pulses[0]] == due and not (must_be_zero and told != "0") and \
-        faults.falls[pulses[0]] - faults.rises[pulses[0]] == faults.width(told)
+    return (
+        told in "01P"
+        and faults.rises[pulses[0]] == due
+        and not (must_be_zero and told != "0")
+        and faults.falls[pulses[0]] - faults.rises[pulses[0]] == faults.width(told)
+    )
 
 
 @dataclass
@@ -116,12 +135,21 @@ def _lost_frames(faults: Faults) -> List[_Frames]:
         if not _can_generate(faults, number):
             continue
         moment = faults.times.moment(number)
-        new = _Frames(number, 1, _control_of(faults, number), faults.times.bases[number],
-                      faults.track.rise_at(100 * number), faults.times.calendar.after_leap(moment or 0))
+        new = _Frames(
+            number,
+            1,
+            _control_of(faults, number),
+            faults.times.bases[number],
+            faults.track.rise_at(100 * number),
+            faults.times.calendar.after_leap(moment or 0),
+        )
         last = spans[-1] if spans else None
-        if last and number == last.number + last.many and \
-                (new.control, new.base, new.leapt) == (last.control, last.base, last.leapt) and \
-                new.rise == last.rise + 100 * last.many * faults.clock.interval:
+        if (
+            last
+            and number == last.number + last.many
+            and (new.control, new.base, new.leapt) == (last.control, last.base, last.leapt)
+            and new.rise == last.rise + 100 * last.many * faults.clock.interval
+        ):
             last.many += 1
         else:
             spans.append(new)
@@ -140,7 +168,11 @@ def _generate(faults: Faults, frames: _Frames) -> Item:
     assert moment is not None
     edit = "regen %d %d %s" % (frames.rise, frames.many, faults.times.calendar.text(moment))
     why = "%d elements of %d frame(s) from %d on are lost or damaged; the frames around them lead to %s" % (
-        len(lost), frames.many, frames.rise, faults.times.name(frames.number))
+        len(lost),
+        frames.many,
+        frames.rise,
+        faults.times.name(frames.number),
+    )
     if frames.control:
         edit, why = edit + " %x" % frames.control, why + " and to the control functions %x" % frames.control
     guessed = sorted({place % 100 for place in faults.guesses if first <= place < beyond})

@@ -17,7 +17,8 @@ def whole_steps(distance: float, interval: float) -> int:
 
 
 class Zone:
-    """The places from the last of one run to the first of the next, and the pulses there. Either run may be missing."""
+    """The places from the last of one run to the first of the next, and the pulses there. Either run may be
+    missing."""
 
     def __init__(self, clock: Clock, listing: Listing, left: Optional[Run], right: Optional[Run]) -> None:
         self.clock, self.left, self.right = clock, left, right
@@ -59,10 +60,13 @@ class Zone:
         return low, max(low, high)
 
     def _unsure(self, classes: str) -> Tuple[int, int]:
-        """How many pulses at the head of the right run may belong to the left one, and at the tail of the left to the right."""
+        """How many pulses at the head of the right run may belong to the left one, and at the tail of the
+        left to the right."""
         assert self.left and self.right
         head = classes[self.right.first:self.right.first + min(300, self.right.count - 1)].translate(ONLY_P)
-        tail = classes[self.left.last - min(300, self.left.count - 1) + 1:self.left.last + 1].translate(ONLY_P)
+        tail = classes[self.left.last - min(300, self.left.count - 1) + 1:self.left.last + 1].translate(
+            ONLY_P
+        )
         onward = self.left.last_place + self.straight()
         back = self.right.place - self.straight() - len(tail) + 1
         behind = faults_along(tail, back % 100)
@@ -79,10 +83,15 @@ class Zone:
         return self.right.step - self.straight()
 
     def _reach(self, listing: Listing, pulse: int, way: int) -> int:
-        """The last pulse this way that is not far from the one before it, nor cut by the end of the recording."""
+        """The last pulse this way that is not far from the one before it, nor cut by the end of the
+        recording."""
         rises, beyond = listing.rises, pulse + way
-        while 0 <= beyond < len(rises) and abs(rises[beyond] - rises[pulse]) < 2.5 * self.interval and \
-                rises[beyond] > 0 and listing.falls[beyond] < listing.length:
+        while (
+            0 <= beyond < len(rises)
+            and abs(rises[beyond] - rises[pulse]) < 2.5 * self.interval
+            and rises[beyond] > 0
+            and listing.falls[beyond] < listing.length
+        ):
             pulse, beyond = beyond, beyond + way
         return pulse
 
@@ -95,8 +104,10 @@ class Zone:
         for pulse in range(right.first - 1, left.last, -1):
             back = (right.begin - self.rises[pulse]) / self.interval
             onward = (self.rises[pulse] - left.end) / self.interval
-            if abs(back - round(back)) <= margin < abs(onward - round(onward)) and \
-                    right.place - self._place_by_right(border) < round(back) < right.step:
+            if (
+                abs(back - round(back)) <= margin < abs(onward - round(onward))
+                and right.place - self._place_by_right(border) < round(back) < right.step
+            ):
                 border = pulse
         return border
 
