@@ -1,0 +1,138 @@
+"""One recording damaged, mended and judged; tests/tools runs many of them."""
+import copy
+import os
+import re
+import subprocess
+import sys
+import tempfile
+
+sys.dont_write_bytecode = True
+TOP = os.path.dirname(os.path.dirname(os.path.abspath(__file__)))
+sys.path[:0] = [os.path.join(TOP, "tools"), os.path.join(TOP, "tests")]
+
+from irig_tools import editor, mend  # noqa: E402
+from random_input import damages  # noqa: E402
+
+WHOLE, TOLD, HIDDEN, LEFT, WRONG, REFUSED = "whole", "told", "hidden", "left", "wrong", "refused"
+
+
+class Case:
+    """A recording, undamaged and damaged."""
+
+    def __init__(self, rng, frames=None):
+        self.rng, self.recording = rng, damages.Recording(rng, frames)
+        self.interval = self.recording.interval
+        self.pulses = copy.deepcopy(self.recording.pulses)
+        self.length = self.damaged_length = self.recording.length
+        self.exact = True  # whether the undamaged edges are to come back
+        self.late = []  # by how much a rest was late, each time
+        self.gone = 0  # elements that are cut out; what follows comes at once
+
+    def damage(self, kinds, many):
+        """`many` damages, one each time from these kinds."""
+        for _ in range(many):
+            if len(self.pulses) < 400:
+                return
+            kind = self.rng.choice(kinds)
+            last = self.pulses[-1][0]
+            kind(self.rng, self.pulses, self.interval)
+            if kind is damages.late_rest:
+                self.late.append(self.pulses[-1][0] - last)
+                self.damaged_length += self.late[-1]
+            damages.tidy(self.pulses, self.damaged_length)
+
+    def drift(self, rate):
+        """The clock is off in truth as well."""
+        for pulses in (self.recording.pulses, self.pulses):
+            length = damages.drift(pulses, self.length, rate)
+        self.damaged_length, self.length, self.exact = length, length, False
+
+    def jitter(self, share):
+        damages.jitter(self.rng, self.pulses, self.interval, share)
+        self.exact = False
+        damages.tidy(self.pulses, self.damaged_length)
+
+
+def listed(options, path, script):
+    """What the editor says after a script: its refusals, its frames without their numbers, and its pulses."""
+    lines = script + "frames\ninfo\n,list\n"
+    done = subprocess.run(
+        [editor.find_editor(), *options, path], input=lines, stdout=subprocess.PIPE, text=True
+    )
+    said, _, pulses = done.stdout.rpartition("length ")
+    answers = said.splitlines()
+    frames = [line.split(" ", 3)[2:] for line in answers if not line.startswith("?")]
+    edges = [tuple(map(int, line.split()[1:3])) for line in pulses.splitlines()[1:]]
+    return [line for line in answers if line.startswith("?")], [(int(at), text) for at, text in frames], edges
+
+
+def time_of(text):
+    """What a frame shows without its control functions and its note."""
+    words = text.split()
+    return words[: words.index("control")] if "control" in words else words[:-1]
+
+
+def judge(case, options, true_path, damaged_path, script):
+    """How well a script repairs the damaged recording."""
+    refused, frames, edges = listed(options, damaged_path, script)
+    if refused:
+        return REFUSED
+    _, true_frames, true_edges = listed(options, true_path, "")
+    if edges == true_edges:
+        return WHOLE
+    fine = [(at, text) for at, text in true_frames if text.endswith("fine")]
+    near = case.interval * 45 // 100
+    found = [(at, text) for at, text in frames if text.endswith("fine")]
+    verdict = TOLD
+    for at, text in found:
+        truth = [
+            true
+            for when, true in fine
+            if near >= min(abs(when - at), abs(when - case.gone * case.interval - at))
+        ]
+        if time_of(text) not in map(time_of, truth):
+            if not any(time_of(true) == time_of(text) and is_late(case, at - when) for when, true in fine):
+                return WRONG
+            verdict = LEFT
+        elif text not in truth and verdict != LEFT:
+            verdict = HIDDEN
+    if case.gone:
+        return TOLD if says_cut(case, script) else LEFT
+    if len(found) < len(fine):
+        return LEFT
+    return WHOLE if verdict == TOLD and not case.exact else verdict
+
+
+def is_late(case, by):
+    """Whether a frame is late by what some of the late rests add up to: it is where the damage put it."""
+    sums = {0}
+    for late in case.late:
+        sums |= {each + late for each in sums}
+    return any(abs(by - each) <= case.interval * 45 // 100 for each in sums)
+
+
+def says_cut(case, script):
+    """Whether the script says how many elements are missing, and makes nothing up."""
+    said = re.findall(
+        r"(\d+) elements are missing (by the times|not counting)",
+        script.replace("missing, not", "missing not"),
+    )
+    clock = re.findall(r"times are ([0-9.]+) seconds later", script)
+    return any(
+        int(many) == (case.gone if by == "by the times" else case.gone % 100) for many, by in said
+    ) or any(abs(float(seconds) * 1000000 - case.gone * case.interval) < case.interval for seconds in clock)
+
+
+def mended(case):
+    """Damages are in the case: the verdict, and the script."""
+    options = case.recording.options()
+    with tempfile.TemporaryDirectory() as folder:
+        true_path, damaged_path = os.path.join(folder, "true.vcd"), os.path.join(folder, "damaged.vcd")
+        for path, pulses, length in (
+            (true_path, case.recording.pulses, case.length),
+            (damaged_path, case.pulses, case.damaged_length),
+        ):
+            with open(path, "w") as file:
+                file.write(damages.dump(pulses, length))
+        script = mend.text(mend.propose(editor.Editor([*options, damaged_path]), lambda text: None))
+        return judge(case, options, true_path, damaged_path, script), script

@@ -1,0 +1,324 @@
+"""Worked rows for irig_damage and irig_mend: exact lines, statuses, and hostile input."""
+import os
+import random
+import subprocess
+import tempfile
+
+from irig_tools import damage, editor, mend
+from random_input import damages
+from reference import timecode
+
+DAY = 738946  # 29 February 2024 is day 60, this is day 61
+NOON = 12 * 360000
+FRAME = "frame 2024-061T12:00:0"
+
+
+def recording(frames=8, leap=False):
+    """Frames of format B, expression 4, from 12:00:00 on; or those around a leap second."""
+    pulses = []
+    for k in range(frames):
+        start = (DAY, NOON + 100 * k)
+        if leap:  # 31 December 2016, from 23:59:56 on, second 60 is the fifth
+            start = (
+                736329 + (k > 4),
+                (timecode.DAY - 400 + 100 * k) % timecode.DAY if k < 4 else 100 * max(0, k - 5),
+            )
+        values = timecode.generated("B", start, 0, 0)
+        if leap and k == 4:
+            values = timecode.generated("B", (736329, timecode.DAY - 100), 0, 0)
+            values.update(seconds=60, sbs=86400)
+        for name in timecode.encode("B", 4, values):
+            rise = 10000 * len(pulses)
+            pulses.append([rise, rise + timecode.nominal(10000, name)])
+    return pulses
+
+
+def moved(pulses, at, by):
+    for pulse in pulses[at:]:
+        pulse[0] += by
+        pulse[1] += by
+
+
+def again(pulses, first, many):
+    """A stretch that is there twice."""
+    moved(pulses, first + many, 10000 * many)
+    pulses[first + many:first + many] = [
+        [a + 10000 * many, b + 10000 * many] for a, b in pulses[first:first + many]
+    ]
+
+
+def trembling(pulses):
+    rng = random.Random(1)
+    for pulse in pulses[1:]:
+        by = rng.randint(-200, 200)
+        pulse[0], pulse[1] = pulse[0] + by, pulse[1] + by
+
+
+def slow(pulses):
+    pulses[:] = [[rise * 201 // 200, fall * 201 // 200] for rise, fall in pulses]
+
+
+def slow_with_a_glitch(pulses):
+    slow(pulses)
+    glitch(pulses)
+
+
+def glitch(pulses):
+    rise, fall = pulses[301]
+    pulses[301:302] = [[rise, rise + 900], [rise + 940, fall]]
+
+
+def turned(pulses):
+    pulses[:] = [[a[1], b[0]] for a, b in zip(pulses, pulses[1:])]
+
+
+SLOW = (
+    "0 the whole recording: the clock is 0.50 % slow: pulses come every 10050.0 microseconds, not every 10000"
+)
+GLITCH = "2 pulses where one has to be; a one follows from the frames around it"
+
+# what is done to the recording, how long it then is, and each line of irig_damage
+ROWS = (
+    ("a sound recording", lambda pulses: None, 8000000, []),
+    (
+        "a glitch in a pulse",
+        glitch,
+        8000000,
+        ["3010000 %s3, element 1, pulses 302 to 303: %s" % (FRAME, GLITCH)],
+    ),
+    (
+        "two pulses run together",
+        lambda pulses: pulses.__setitem__(slice(232, 234), [[2320000, 2332000]]),
+        8000000,
+        ["2320000 %s2, element 32 to 33, pulse 233: 2 pulses have run together" % FRAME],
+    ),
+    (
+        "a pulse is missing",
+        lambda pulses: pulses.pop(243),
+        8000000,
+        ["2430000 %s2, element 43: no pulse; a zero has to be there" % FRAME],
+    ),
+    (
+        "a marker is a one",
+        lambda pulses: pulses[300].__setitem__(1, 3005000),
+        8000000,
+        ["3000000 %s3, element 0, pulse 301: 5000 wide, a one; a position has to be there" % FRAME],
+    ),
+    (
+        "a pulse is late",
+        lambda pulses: pulses.__setitem__(243, [2431500, 2433500]),
+        8000000,
+        [
+            "2430000 %s2, element 43, pulse 244: 2000 wide, a zero, and 1500 late; a zero has to be there"
+            % FRAME
+        ],
+    ),
+    (
+        "a width that is no class",
+        lambda pulses: pulses[243].__setitem__(1, 2439700),
+        8000000,
+        ["2430000 %s2, element 43, pulse 244: 9700 wide, which is no class; a zero has to be there" % FRAME],
+    ),
+    (
+        "a stretch is lost",
+        lambda pulses: pulses.__delitem__(slice(230, 415)),
+        8000000,
+        ["2300000 %s2, element 30 to %s4, element 14: 185 elements without a pulse" % (FRAME, FRAME)],
+    ),
+    (
+        "the rest is late",
+        lambda pulses: moved(pulses, 450, 3300),
+        8003300,
+        ["4503300 %s4, element 50: from pulse 451 at 4503300 on all comes 3300 late" % FRAME],
+    ),
+    (
+        "no signal at the end",
+        lambda pulses: None,
+        8500000,
+        ["7998000 no pulse from there to the end at 8500000"],
+    ),
+    (
+        "no signal at the beginning",
+        lambda pulses: moved(pulses, 0, 500000),
+        8500000,
+        ["0 no pulse before 500000"],
+    ),
+    ("a clock that is slow", slow, 8040000, [SLOW]),
+    (
+        "a clock that is slow, and a glitch",
+        slow_with_a_glitch,
+        8040000,
+        [SLOW, "3025050 %s3, element 1, pulses 302 to 303: %s" % (FRAME, GLITCH)],
+    ),
+    (
+        "upside down",
+        turned,
+        8000000,
+        ["0 the falls come at one distance, the rises do not: the wire is upside down"],
+    ),
+)
+
+
+def written(folder, pulses, length):
+    path = os.path.join(folder, "track.vcd")
+    with open(path, "w") as file:
+        file.write(damages.dump(pulses, length))
+    return path
+
+
+def lines_of(pulses, length):
+    with tempfile.TemporaryDirectory() as folder:
+        path = written(folder, pulses, length)
+        return [
+            each.line() for each in damage.find(editor.Editor(["--expression", "4", path]), lambda text: None)
+        ]
+
+
+def row(name, change, length, wanted):
+    pulses = recording()
+    change(pulses)
+    return same(name, lines_of(pulses, length), wanted)
+
+
+def same(name, got, wanted):
+    if got != wanted:
+        print("FAILED %s\n wanted %s\n got    %s" % (name, wanted, got))
+    return got == wanted
+
+
+def starts(name, got, wanted):
+    """Lines that begin in this way, and no other lines."""
+    good = len(got) == len(wanted) and all(line.startswith(begin) for line, begin in zip(got, wanted))
+    return good or same(name, got, wanted)
+
+
+def larger_rows():
+    """Rows that are not the eight frames with one change."""
+    leap = recording(10, leap=True)
+    yield same("a leap second is no damage", lines_of(leap, 10000000), [])
+    del leap[400:500]
+    yield same(
+        "a lost leap second",
+        lines_of(leap, 10000000),
+        ["4000000 frame 2016-366T23:59:60, element 0 to 99: 100 elements without a pulse"],
+    )
+    copied = recording(12)
+    again(copied, 430, 130)
+    yield starts(
+        "a stretch is there twice",
+        lines_of(copied, 13300000),
+        ["5570000 the 130 elements from 4270000 on are there twice"],
+    )  # three are alike before it
+    cut = recording(12)
+    del cut[430:560]
+    moved(cut, 430, -1300000)
+    yield starts(
+        "a stretch is cut out",
+        [line.partition(" ")[2] for line in lines_of(cut, 10700000)],
+        ["130 elements are missing by the times of the frames, and the rest follows at once"],
+    )
+    tremble = recording()
+    trembling(tremble)
+    yield starts(
+        "rises that tremble",
+        lines_of(tremble, 8000000),
+        ["0 the whole recording: rises tremble: half of all"],
+    )
+    late = [[rise + 3000000000, fall + 3000000000] for rise, fall in recording()]
+    del late[243]
+    yield same(
+        "numbers are whole",
+        lines_of(late, 3008000000),
+        [
+            "0 no pulse before 3000000000",
+            "3002430000 %s2, element 43: no pulse; a zero has to be there" % FRAME,
+        ],
+    )
+
+
+def run(top, command, **more):
+    """Status, standard output and the first line of standard error of a shell command."""
+    path = top + "/tools:" + os.environ["PATH"]
+    done = subprocess.run(
+        ["bash", "-c", "set -o pipefail; " + command],
+        stdout=subprocess.PIPE,
+        stderr=subprocess.PIPE,
+        env=dict(os.environ, PATH=path, **more),
+        text=True,
+    )
+    return done.returncode, done.stdout, done.stderr.partition("\n")[0]
+
+
+def processes(top):
+    """Statuses and complaints of the programs as a user starts them."""
+    with tempfile.TemporaryDirectory() as folder:
+        sound, lost = os.path.join(folder, "sound.vcd"), recording()
+        os.rename(written(folder, lost, 8000000), sound)
+        del lost[230:415]
+        broken = written(folder, lost, 8000000)
+        junk, missing = os.path.join(folder, "junk"), os.path.join(folder, "missing.vcd")
+        with open(junk, "wb") as file:
+            file.write(b"\0\xff junk")
+        for tool in ("irig_damage", "irig_mend"):
+            yield same(
+                tool + " on a sound track", run(top, "%s --expression 4 %s" % (tool, sound)), (0, "", "")
+            )
+            status, said, complaint = run(top, "%s --expression 4 %s" % (tool, broken))
+            yield same(tool + " on a broken track", (status, bool(said), complaint), (1, True, ""))
+            yield same(
+                tool + " in a pipe",
+                run(top, "cat %s | %s --expression 4 /dev/stdin" % (broken, tool)),
+                (1, said, ""),
+            )
+            yield same(
+                tool + " that nobody reads",
+                run(top, "%s --expression 4 %s | true" % (tool, broken))[1:],
+                ("", ""),
+            )
+            for words, complaint in (
+                (missing, "%s: %s: No such file or directory" % (tool, missing)),
+                (folder, "%s: %s: is a folder" % (tool, folder)),
+                ("", "%s: no TRACK is given (%s --help says more)" % (tool, tool)),
+                ("--expression 4", "%s: no TRACK is given (%s --help says more)" % (tool, tool)),
+            ):
+                yield same("%s %s" % (tool, words), run(top, "%s %s" % (tool, words)), (2, "", complaint))
+            yield same(tool + " on junk", run(top, "%s %s" % (tool, junk))[0], 2)
+            yield same(
+                tool + " without an editor",
+                run(top, "%s %s" % (tool, sound), IRIG_ED="/none"),
+                (2, "", "%s: IRIG_ED names '/none', which is no program that can be run" % tool),
+            )
+            status, said, _ = run(top, tool + " --help")
+            yield same(tool + " --help", (status, said[: 7 + len(tool)]), (0, "usage: " + tool))
+
+
+def no_line_refused(top):
+    """Tracks that are no time code, or are hardly any: the tools end, and no proposed line is refused."""
+    for number in range(24):
+        rng = random.Random("hostile %d" % number)
+        kind = rng.choice("ABEG")
+        interval = timecode.INTERVAL[kind]
+        edges = sorted(rng.sample(range(400 * interval), 2 * rng.choice((1, 3, 30, 300))))
+        pulses = [[rise, fall] for rise, fall in zip(edges[::2], edges[1::2])]
+        if number % 3 == 0:  # in step, with widths at random
+            pulses = [
+                [k * interval, k * interval + rng.choice((20, 50, 80, 97)) * interval // 100]
+                for k in range(300)
+            ]
+        if number % 3 == 1:  # nothing but position identifiers, or ones
+            pulses = [
+                [k * interval, k * interval + rng.choice((80, 50)) * interval // 100] for k in range(60)
+            ]
+        with tempfile.TemporaryDirectory() as folder:
+            path = written(folder, pulses, 400 * interval)
+            opened = editor.Editor(["--format", kind, path])
+            damage.find(opened, lambda text: None)
+            script = mend.propose(opened, lambda text: None)
+            refused = opened.ask([repair.lines() for repair in script]).refused
+        yield same("hostile track %d" % number, refused, set())
+
+
+def check(top):
+    """Whether each row holds."""
+    results = [row(*each) for each in ROWS]
+    return results + list(larger_rows()) + list(processes(top)) + list(no_line_refused(top))

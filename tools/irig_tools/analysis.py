@@ -1,0 +1,105 @@
+"""Looks at a listing as a whole: the wire, the threshold, the clock, and then each part of the recording."""
+from __future__ import annotations
+
+from dataclasses import dataclass, field
+from typing import List, Optional
+
+from .copies import settle, take_out
+from .editor import Listing
+from .faults import Faults, Remark
+from .frames import Times
+from .interval import Clock, Run, share_in_step
+from .layout import Layout
+from .remarks import remarks
+from .script import Repair
+from .slots import SURE, link, parts
+from .threshold import level
+from .track import Track
+
+FEW = SURE  # pulses; fewer make no run
+
+
+@dataclass
+class Part:
+    """A part of the recording whose runs are linked. If `copies` is not empty they go first, and `faults`
+    comes after."""
+
+    track: Track
+    times: Times
+    copies: List[Repair]
+    faults: Faults
+    remarks: List[Remark]
+
+
+@dataclass
+class Findings:
+    """What was found; `whole` concerns every pulse, and if it has edits nothing else is looked at."""
+
+    layout: Layout
+    clock: Optional[Clock] = None
+    turned: bool = False  # the wire is upside down
+    whole: List[Repair] = field(default_factory=list)
+    parts: List[Part] = field(default_factory=list)  # from the last to the first
+    remarks: List[Remark] = field(default_factory=list)
+
+
+def examine(listing: Listing) -> Findings:
+    layout = Layout(listing.kind, listing.expression)
+    findings = Findings(layout)
+    if len(listing.rises) < FEW:
+        findings.remarks.append(
+            Remark(0, "%d pulses are too few to make a frame" % len(listing.rises), "is it another wire?")
+        )
+        return findings
+    upright, turned = share_in_step(listing.rises, layout.interval), share_in_step(
+        listing.falls, layout.interval
+    )
+    if turned > 0.8 and turned > upright + 0.1:
+        why = "the falls come at one distance, the rises do not: the wire is upside down"
+        findings.turned, findings.whole = True, [Repair(0, [why], ["invert 0 %d" % listing.length])]
+    elif upright < 0.5:
+        findings.remarks.append(
+            Remark(
+                0,
+                "most pulses do not follow each other by %d" % layout.interval,
+                "is it another format, or another wire?",
+            )
+        )
+    else:
+        findings.whole = level(listing, layout)
+        if not findings.whole:
+            _examine_parts(listing, findings)
+    return findings
+
+
+def _examine_parts(listing: Listing, findings: Findings) -> None:
+    clock = findings.clock = Clock(listing, findings.layout.interval)
+    found = parts(clock, listing.classes)
+    for runs in reversed(found):
+        if link(clock, runs, listing.classes) > 5 + sum(run.count for run in runs) / 18:
+            at = listing.rises[runs[0].first]
+            seen = "from pulse %d on the position identifiers are not ten apart" % (runs[0].first + 1)
+            findings.remarks.append(Remark(at, seen, "is it another format, or another wire?"))
+        else:
+            findings.parts.append(_part(listing, findings.layout, clock, runs))
+    for before, after in zip(found, found[1:]):
+        elements = round((after[0].begin - before[-1].end) / clock.interval) - 1
+        findings.remarks.append(
+            Remark(
+                listing.rises[before[-1].last],
+                "after that %d elements cannot be read" % elements,
+                "that is too much to repair",
+            )
+        )
+    if not found:
+        findings.remarks.append(Remark(0, "no pulses follow each other in step", "is it another wire?"))
+
+
+def _part(listing: Listing, layout: Layout, clock: Clock, runs: List[Run]) -> Part:
+    track = Track(listing, layout, clock, runs)
+    times = Times(track)
+    copies = take_out(track, times)
+    if not copies and settle(track, times):
+        track = Track(listing, layout, clock, runs)
+        times = Times(track)
+    return Part(track, times, copies, Faults(track, times), remarks(track, times))

@@ -1,0 +1,119 @@
+"""What both programs share: their arguments, where the track comes from, and how they end."""
+from __future__ import annotations
+
+import gc
+import os
+import shutil
+import signal
+import stat
+import sys
+import tempfile
+from contextlib import contextmanager
+from dataclasses import dataclass, field
+from typing import Callable, Dict, Iterator, List, Optional, Sequence
+
+from .editor import Problem, complain
+
+SOUND, FOUND, NOT_READ = 0, 1, 2  # statuses
+
+
+@dataclass
+class Arguments:
+    """The editor's options with the track as their last, and the values of the program's own options."""
+
+    editor: List[str]
+    own: Dict[str, str] = field(default_factory=dict)
+
+    def get(self, name: str) -> Optional[str]:
+        return self.own.get(name)
+
+
+class Usage(Exception):
+    """Arguments that cannot be."""
+
+
+def parse(words: Sequence[str], own: Sequence[str]) -> Arguments:
+    """Parts the arguments; `own` are the options, each with a value, that are not the editor's."""
+    found, rest = Arguments([]), list(words)
+    while rest:
+        word = rest.pop(0)
+        name, equals, value = word.partition("=")
+        if name in own:
+            if not equals and not rest:
+                raise Usage("%s needs a file" % name)
+            found.own[name] = value if equals else rest.pop(0)
+        else:
+            found.editor.append(word)
+    if not found.editor or (len(found.editor) % 2 == 0 and found.editor[-2].startswith("--")):
+        raise Usage("no TRACK is given")
+    return found
+
+
+@contextmanager
+def kept(options: Sequence[str]) -> Iterator[List[str]]:
+    """The options with a track that can be read more than once: a copy, if it is a pipe."""
+    track = options[-1]
+    try:
+        mode = os.stat(track).st_mode
+    except OSError as error:
+        raise Problem("%s: %s" % (track, error.strerror)) from error
+    if stat.S_ISREG(mode):
+        yield list(options)
+        return
+    if stat.S_ISDIR(mode):
+        raise Problem("%s: is a folder" % track)
+    with tempfile.NamedTemporaryFile(suffix=".vcd") as copy:
+        with open(track, "rb") as source:
+            shutil.copyfileobj(source, copy)
+        copy.flush()
+        yield [*options[:-1], copy.name]
+
+
+def run(program: str, usage: str, own: Sequence[str], work: Callable[[Arguments], int]) -> int:
+    """Runs a program: its help, its complaints, and its end if nobody reads what it prints."""
+    if hasattr(signal, "SIGPIPE"):
+        signal.signal(signal.SIGPIPE, signal.SIG_DFL)
+    gc.disable()  # millions of numbers, and nothing that refers to itself
+    words = sys.argv[1:]
+    if "--help" in words or "-h" in words:
+        print(usage, end="")
+        return 0
+    try:
+        return work(parse(words, own))
+    except Usage as error:
+        complain("%s (%s --help says more)" % (error, program), program)
+    except Problem as error:
+        complain(str(error), program)
+    except KeyboardInterrupt:
+        return 130
+    except OSError as error:
+        complain(_of_file(error), program)
+    return NOT_READ
+
+
+def _of_file(error: OSError) -> str:
+    return "%s: %s" % (error.filename, error.strerror) if error.filename else str(error.strerror)
+
+
+def write(path: str, text: str) -> None:
+    """Writes a file as a whole: nobody sees a part of it."""
+    folder, name = os.path.split(os.path.abspath(path))
+    if os.path.exists(path) and not os.path.isfile(path):
+        with open(path, "w", encoding="utf-8") as straight:
+            straight.write(text)
+        return
+    number, beside = tempfile.mkstemp(prefix="." + name, dir=folder)
+    try:
+        with os.fdopen(number, "w", encoding="utf-8") as new:
+            new.write(text)
+        os.chmod(beside, 0o666 & ~_umask())
+        os.replace(beside, path)
+    except OSError:
+        os.unlink(beside)
+        raise
+
+
+def _umask() -> int:
+    mask = os.umask(0)
+    os.umask(mask)
+    return mask

@@ -1,0 +1,142 @@
+"""A stretch that was cut out, or is there twice: how long it is by the times on both sides, and the repair of
+a copy."""
+from __future__ import annotations
+
+from bisect import bisect_left
+from itertools import accumulate
+from typing import Iterable, List, NamedTuple, Optional, Tuple
+
+from .frames import LONGEST_CUT, Span, Times
+from .script import Repair
+from .track import Track
+from .zones import Zone
+
+
+class Again(NamedTuple):
+    """A stretch that is as the one before it."""
+
+    first: int  # pulse
+    many: int  # elements
+    within: bool  # whether it begins within a frame for sure; else the clock may have been set back
+
+
+def settle(track: Track, times: Times) -> bool:
+    """If a rest came more than a frame late, the times on both sides say how many frames were really lost.
+    Returns whether places changed."""
+    changed = False
+    stretches = track.stretches()
+    for left, right in zip(stretches, stretches[1:]):
+        frames, zone = times.frames_between(left, right), track.zone_of[right[0].place]
+        if frames is not None and zone.skipped() + 100 * frames > 0:
+            right[0].gone = zone.skipped() + 100 * frames
+            if frames and right[0].gone <= LONGEST_CUT:
+                changed = True
+                track.move_on(right[0], 100 * frames)
+    return changed or _settle_late(track, times)
+
+
+def _settle_late(track: Track, times: Times) -> bool:
+    changed = False
+    for before, after in zip(times.spans, times.spans[1:]):
+        frames = (before.base - after.base) // track.layout.period
+        late = [
+            zone.right
+            for zone in track.zones
+            if zone.right
+            and not zone.right.glued
+            and before.last <= zone.first // 100
+            and zone.last // 100 <= after.first
+            and zone.right.step > 100 * frames > 0
+        ]
+        if late:
+            changed = True
+            track.move_on(late[-1], -100 * frames)
+    return changed
+
+
+def _sums(pairs: Iterable[Tuple[str, str]]) -> Tuple[List[int], List[int]]:
+    """How many pairs of classes differ before each, and how many are alike."""
+    known = [(a, b, a in "01P" and b in "01P") for a, b in pairs]
+    unlike = list(accumulate((a != b and both for a, b, both in known), initial=0))
+    return unlike, list(accumulate((a == b and both for a, b, both in known), initial=0))
+
+
+def _copied(track: Track, zone: Zone, many: int) -> Optional[int]:
+    """The first pulse of the stretch of that many elements that is as the one before it, near a glued run."""
+    right, straight = zone.right, zone.straight()
+    assert right and zone.left
+    shift, dense = zone.left.last_place + straight, right.first - zone.left.last == straight
+    low, high = (1 - straight - zone.tail, zone.head) if dense else (0, 0)
+
+    def told(offset: int) -> str:
+        """The class that many elements after the first of the right run."""
+        assert right
+        if -straight < offset < 0:
+            return track.classes[right.first + offset] if dense else "?"
+        place = (right.place if offset >= 0 else shift) + offset - track.first
+        return track.told[place] if 0 <= place < len(track.told) else "~"
+
+    unlike, alike = _sums((told(at - many), told(at)) for at in range(low, high + many))
+    faults, at = min((unlike[at + many] - unlike[at], at) for at in range(high - low + 1))
+    is_copy = faults <= many // 25 and alike[at + many] - alike[at] >= many // 2
+    return right.first + low + at if is_copy else None
+
+
+def again_within(track: Track, before: Span, after: Span) -> Optional[Again]:
+    """Whether the times of two spans say that whole frames are there twice, and the elements do; None if they
+    do not."""
+    many = 100 * (before.base - after.base) // track.layout.period
+    low = max(100 * before.last, track.first + many)
+    high = min(100 * after.first + 99, track.last - many)
+    if many <= 0 or low >= high or max(many, high - low) > LONGEST_CUT:
+        return None
+    text, begin = track.told, low - track.first
+    unlike, _ = _sums(zip(text[begin - many:], text[begin:high + many + 1 - track.first]))
+    faults = [there - here for here, there in zip(unlike, unlike[many:])]
+    least = min(faults)
+    place = low + faults.index(least)
+    first, rest = track.pulses_at(place), track.pulses_at(place + many)
+    if least > many // 50 or len(first) != 1 or len(rest) != 1 or rest[0] - first[0] != many:
+        return None
+    return Again(first[0], many, min(faults[-low % 100:: 100], default=9) > least + 1)
+
+
+def without_copy(track: Track, first: int, many: int) -> Optional[Repair]:
+    """The repair that takes that many elements out, from a pulse on; None if the rest does not follow
+    them."""
+    begin, by = track.rises[first], round(many * track.clock.interval)
+    after = bisect_left(track.rises, begin + by - 0.2 * track.clock.interval)
+    if after == len(track.rises):
+        return None
+    if abs(track.rises[after] - begin - by) <= track.clock.slack(many):
+        by = track.rises[after] - begin
+    why = (
+        "the %d elements from %d on are there twice: at %d the times begin again; the second are deleted, "
+        "and the rest goes back by %d" % (many, begin - by, begin, by)
+    )
+    edits = ["%d,%d delete" % (first + 1, after), "%d,$ shift -%d" % (first + 1, by)]
+    return Repair(begin, [why], edits, (first, after - first, by))
+
+
+def take_out(track: Track, times: Times) -> List[Repair]:
+    """The repairs that take out what is there twice, from the end to the beginning."""
+    found: List[Tuple[int, int]] = []
+    for before, after in zip(times.spans, times.spans[1:]):
+        if before.base > after.base and not track.is_glued(before.last, after.first):
+            again = again_within(track, before, after)
+            if again and again.within:
+                found.append((again.first, again.many))
+    stretches = track.stretches()
+    for left, right in zip(stretches, stretches[1:]):
+        frames, zone = times.frames_between(left, right), track.zone_of[right[0].place]
+        many = 0 if frames is None else -zone.skipped() - 100 * frames
+        first = _copied(track, zone, many) if 0 < many <= LONGEST_CUT else None
+        if first is not None:
+            found.append((first, many))
+    repairs, done = [], len(track.rises)
+    for pulse, many in sorted(found, reverse=True):
+        repair = without_copy(track, pulse, many) if pulse + many <= done else None
+        if repair:
+            repairs.append(repair)
+            done = pulse - many
+    return repairs

@@ -1,0 +1,236 @@
+"""The places of damage of a recording, in the order of time, one line each."""
+from __future__ import annotations
+
+from dataclasses import dataclass, field, replace
+from typing import List, Sequence, Tuple
+
+from .analysis import Findings, Part, examine
+from .editor import Editor, Listing, Progress
+from .faults import Faults, Remark
+from .interval import Clock
+from .script import Repair
+from .wholes import shifts
+
+DRIFT = 0.001  # intervals: a clock that is less off is sound
+TREMBLE = 0.005  # intervals: rises that stray less are sound
+ROUNDS = 5
+NO_FRAME = "pulses that belong to no frame"
+TOGETHER = 3  # that many faulty places one after the other are one line
+
+
+@dataclass(frozen=True)
+class Damage:
+    """One place: from when to when, in microseconds, its frame and element if it has them, and what is seen
+    there."""
+
+    at: int
+    until: int
+    name: str
+    seen: str
+    pulses: Tuple[int, int] = (0, -1)  # the first and the last, counted from 0
+
+    def line(self) -> str:
+        first, last = self.pulses
+        pulses = (
+            ""
+            if last < first
+            else ", pulse %d" % (first + 1)
+            if first == last
+            else ", pulses %d to %d" % (first + 1, last + 1)
+        )
+        name = self.name + pulses if self.name else pulses[2:]
+        return "%d %s%s" % (self.at, name + ": " if name else "", self.seen)
+
+
+@dataclass
+class Origin:
+    """Times and numbers of pulses as they were before stretches were taken out: the newest is the last."""
+
+    # time, first pulse, pulses, microseconds
+    removed: List[Tuple[int, int, int, int]] = field(default_factory=list)
+
+    def time(self, time: int) -> int:
+        for at, _, _, by in reversed(self.removed):
+            time += by * (time >= at)
+        return time
+
+    def pulse(self, pulse: int) -> int:
+        for _, first, many, _ in reversed(self.removed):
+            pulse += many * (pulse >= first)
+        return pulse
+
+    def gone(self) -> int:
+        """By how much the rest was moved, in microseconds."""
+        return sum(by for _, _, _, by in self.removed)
+
+    def of(self, damage: Damage) -> Damage:
+        first, last = damage.pulses
+        return replace(
+            damage,
+            at=self.time(damage.at),
+            until=self.time(damage.until),
+            pulses=(self.pulse(first), self.pulse(last)) if first <= last else damage.pulses,
+        )
+
+
+@dataclass
+class Seen:
+    """The track as it is, what was found in it at last, and the damage in the order of time."""
+
+    listing: Listing
+    findings: Findings
+    origin: Origin
+    damages: List[Damage]
+
+
+def find(editor: Editor, progress: Progress) -> List[Damage]:
+    return look(editor, progress).damages
+
+
+def look(editor: Editor, progress: Progress) -> Seen:
+    """All damage. What is there twice is first taken out, so that the rest is seen."""
+    found: List[Damage] = []
+    script: List[Repair] = []
+    origin = Origin()
+    progress("reading the track")
+    track = listing = editor.ask([])
+    for turn in range(ROUNDS + 1):
+        if script:
+            listing = editor.ask([repair.lines() for repair in script])
+        progress("looking at %d pulses" % len(listing.rises))
+        findings = examine(listing)
+        first = findings.whole + [copy for part in findings.parts for copy in part.copies]
+        if not first or listing.refused or turn == ROUNDS:
+            found += [origin.of(each) for each in _rest(listing, findings, listing.length - origin.gone())]
+            break
+        found += [origin.of(Damage(each.at, each.at, "", each.comments[0])) for each in _told_once(first)]
+        if findings.turned:
+            break
+        script += first
+        origin.removed += [(each.at, *each.removed) for each in first if each.removed[1]]
+    progress("")
+    found = sorted(set(found), key=lambda each: (each.at, each.until, each.name, each.seen))
+    return Seen(track, findings, origin, found)
+
+
+def _told_once(repairs: Sequence[Repair]) -> List[Repair]:
+    """The copies, and of the repairs of a threshold the first."""
+    copies = [each for each in repairs if each.removed[1]]
+    return copies or list(repairs[:1])
+
+
+def _rest(listing: Listing, findings: Findings, end: int) -> List[Damage]:
+    """What is found if nothing is there twice; the signal should go on until `end`."""
+    found = [_of_remark(remark) for remark in findings.remarks]
+    if findings.clock:
+        found += _of_clock(findings.clock, listing)
+    for part in findings.parts:
+        found += _of_part(part)
+    if findings.parts:
+        found += _of_ends(listing, findings.parts[-1], findings.parts[0], end)
+    return found
+
+
+def _of_remark(remark: Remark) -> Damage:
+    return Damage(remark.at, remark.at, "", remark.seen)
+
+
+def _of_clock(clock: Clock, listing: Listing) -> List[Damage]:
+    """Drift and jitter, each said once."""
+    found, end = [], listing.rises[-1]
+    off = clock.interval / clock.nominal - 1
+    if abs(off) >= DRIFT:
+        seen = "the clock is %.2f %% %s: pulses come every %.1f microseconds, not every %d" % (
+            abs(100 * off),
+            "slow" if off > 0 else "fast",
+            clock.interval,
+            clock.nominal,
+        )
+        found.append(Damage(0, end, "the whole recording", seen + _range(clock)))
+    if clock.noise >= TREMBLE * clock.nominal:
+        seen = (
+            "rises tremble: half of all distances are off by more than %d microseconds, %.1f %% of "
+            "the interval"
+            % (clock.noise, 100 * clock.noise / clock.nominal)
+        )
+        found.append(Damage(0, end, "the whole recording", seen))
+    return found
+
+
+def _range(clock: Clock) -> str:
+    """The least and the largest interval, if they differ."""
+    local = [each for run in clock.runs for each in (run.begin_interval, run.end_interval) if each]
+    if not local or max(local) - min(local) < DRIFT * clock.nominal:
+        return ""
+    return ", in places from %.1f to %.1f" % (min(local), max(local))
+
+
+def _of_part(part: Part) -> List[Damage]:
+    faults = part.faults
+    found = [_of_remark(remark) for remark in part.remarks]
+    for item in shifts(faults):  # may add remarks, and takes away places that cannot be repaired
+        at = faults.track.rise_at(int(item.high + 0.5))
+        found.append(Damage(at, at, faults.name(int(item.high + 0.5)), item.why))
+    found += [_of_remark(remark) for remark in faults.remarks]
+    group: List[int] = []
+    for place in sorted(faults.wanted):
+        if group and place != group[-1] + 1:
+            found += _of_places(faults, group)
+            group = []
+        group.append(place)
+    return found + (_of_places(faults, group) if group else [])
+
+
+def _of_places(faults: Faults, group: Sequence[int]) -> List[Damage]:
+    """Faulty places one after the other: one line if they are many or one pulse reaches over them, else a
+    line each."""
+    first, last = group[0], group[-1]
+    pulses = sorted({pulse for place in group for pulse in faults.track.pulses_at(place)})
+    until = faults.track.rise_at(last) + round(faults.clock.interval)
+    at_first = faults.track.pulses_at(first)
+    reach = faults.track.spans(first, at_first[-1]) if at_first else 0
+    if len(group) > 1 and (len(group) >= TOGETHER or reach == len(group) - 1):
+        empty = sum(not faults.track.pulses_at(place) for place in group)
+        seen = (
+            "%d pulses have run together" % len(group)
+            if reach == len(group) - 1
+            else "%d elements without a pulse" % empty
+            if empty == len(group)
+            else "%d damaged elements, %d without a pulse" % (len(group), empty)
+        )
+        ends = (pulses[0], pulses[-1]) if pulses else (0, -1)
+        name = "%s to %s" % (
+            faults.name(first),
+            faults.name(last) if first // 100 != last // 100 else last % 100,
+        )
+        return [Damage(faults.track.rise_at(first), until, name, seen, ends)]
+    return [_of_place(faults, place) for place in group]
+
+
+def _of_place(faults: Faults, place: int) -> Damage:
+    pulses, at = faults.track.pulses_at(place), faults.track.rise_at(place)
+    seen = "%s; %s" % (faults.seen(place), faults.reason(place))
+    ends = (pulses[0], pulses[-1]) if pulses else (0, -1)
+    return Damage(at, at + round(faults.clock.interval), faults.name(place), seen, ends)
+
+
+def _of_ends(listing: Listing, first: Part, last: Part, end: int) -> List[Damage]:
+    """What is before the first frame and after the last one."""
+    rises, found, many = listing.rises, [], len(listing.rises)
+    before = min(pulse for pulses in first.track.zones[0].pulses.values() for pulse in pulses)
+    after = max(pulse for pulses in last.track.zones[-1].pulses.values() for pulse in pulses)
+    before -= before == 1 and rises[0] == 0  # cut by the beginning
+    after += after == many - 2 and listing.falls[-1] == listing.length  # cut by the end
+    if before:
+        found.append(Damage(rises[0], rises[before], "", NO_FRAME, (0, before - 1)))
+    if after + 1 < many:
+        found.append(Damage(rises[after + 1], listing.length, "", NO_FRAME, (after + 1, many - 1)))
+    if rises[0] > 1.5 * first.faults.clock.interval:
+        found.append(Damage(0, rises[0], "", "no pulse before %d" % rises[0]))
+    if end - rises[-1] > 1.5 * last.faults.clock.interval:
+        found.append(
+            Damage(
+                listing.falls[-1], listing.length, "", "no pulse from there to the end at %d" % listing.length
+            )
+        )
+    return found

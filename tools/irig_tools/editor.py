@@ -1,0 +1,124 @@
+"""Runs irig_ed and reads what it prints."""
+from __future__ import annotations
+
+import os
+import shutil
+import subprocess
+import sys
+import tempfile
+from dataclasses import dataclass, field
+from typing import IO, Callable, List, Optional, Sequence, Set
+
+CLASSES = {b"zero": "0", b"one": "1", b"position": "P", b"bad": "b"}
+BLOCK = 1 << 22  # bytes that are read at once
+
+Progress = Callable[[str], None]
+
+
+class Problem(Exception):
+    """A track that is not read, or an editor that is not found; the text says which."""
+
+
+@dataclass
+class Listing:
+    """What the editor prints of a track after some repairs."""
+
+    length: int = 0  # microseconds
+    kind: str = "B"
+    expression: int = 2
+    rises: List[int] = field(default_factory=list)
+    falls: List[int] = field(default_factory=list)
+    classes: str = ""  # a letter each pulse: 0, 1, P, b
+    refused: Set[int] = field(default_factory=set)  # which of the blocks, from 0, had a refused line
+
+
+def find_editor() -> str:
+    """The path of irig_ed: what IRIG_ED names, else the one on the path, else the one next to these tools."""
+    named = os.environ.get("IRIG_ED")
+    if named:
+        if shutil.which(named) is None:
+            raise Problem("IRIG_ED names '%s', which is no program that can be run" % named)
+        return named
+    on_path = shutil.which("irig_ed")
+    if on_path:
+        return on_path
+    tools = os.path.dirname(os.path.dirname(os.path.realpath(__file__)))
+    # in the repository (if it is built), or under a prefix
+    for program, near in (("../crates/irig_ed/out/irig_ed", "../irig_ed"), ("../../../bin/irig_ed",) * 2):
+        if os.path.isfile(os.path.join(tools, program)) and shutil.which(os.path.join(tools, near)):
+            return os.path.normpath(os.path.join(tools, near))
+    raise Problem("irig_ed is not found: it is not on the path, and IRIG_ED does not name it")
+
+
+class Editor:
+    """One track, opened with the editor's options as often as needed; nothing is ever written."""
+
+    def __init__(self, options: Sequence[str]) -> None:
+        self.command = [find_editor(), *options]
+
+    def ask(self, blocks: Sequence[Sequence[str]]) -> Listing:
+        """The listing of the track after these blocks of lines."""
+        with tempfile.TemporaryFile() as script:
+            for lines in blocks:
+                script.write("\n".join([*lines, "info", ""]).encode())
+            script.write(b"info\n,list\n")
+            script.seek(0)
+            return self._run(script, len(blocks))
+
+    def _run(self, script: IO[bytes], blocks: int) -> Listing:
+        listing = Listing()
+        try:
+            program = subprocess.Popen(self.command, stdin=script, stdout=subprocess.PIPE)
+        except OSError as error:
+            raise Problem("%s cannot be run: %s" % (self.command[0], error.strerror)) from error
+        with program:
+            assert program.stdout is not None
+            said = _read_answers(program.stdout, listing, blocks)
+            if said is None:
+                _read_pulses(program.stdout, listing)
+            status = program.wait()
+        if said is not None:
+            raise Problem(said or "irig_ed ended with status %d" % status)
+        return listing
+
+
+def _read_answers(answers: IO[bytes], listing: Listing, blocks: int) -> Optional[str]:
+    """Reads up to the last `info`; returns what the editor said if it ended before that."""
+    done, last = 0, ""
+    while done <= blocks:
+        line = answers.readline()
+        words = line.split()
+        if not words:
+            return last
+        if words[0] == b"?":
+            listing.refused.add(done)
+            last = line.decode(errors="replace").strip()
+        elif words[0] == b"length":
+            listing.length, listing.kind, listing.expression = int(words[1]), words[7].decode(), int(words[8])
+            done += 1
+    return None
+
+
+def _read_pulses(answers: IO[bytes], listing: Listing) -> None:
+    blocks = []
+    while True:
+        words = (answers.read(BLOCK) + answers.readline()).split()
+        if not words or words[0] == b"?":
+            break
+        listing.rises.extend(map(int, words[1::4]))
+        listing.falls.extend(map(int, words[2::4]))
+        blocks.append("".join(map(CLASSES.__getitem__, words[3::4])))
+    listing.classes = "".join(blocks)
+
+
+def progress_to(stream: IO[str]) -> Progress:
+    """What shows a line of progress on a terminal, and nothing elsewhere."""
+
+    def show(text: str) -> None:
+        print("\r%-70s" % text, end="\r" if text else "\r\033[K", file=stream, flush=True)
+
+    return show if stream.isatty() else lambda text: None
+
+
+def complain(text: str, program: str) -> None:
+    print("%s: %s" % (program, text), file=sys.stderr)

@@ -1,0 +1,180 @@
+"""What is wrong at each place of a track, and what has to be there."""
+from __future__ import annotations
+
+from dataclasses import dataclass
+from typing import Dict, List, Optional
+
+from .frames import Times
+from .layout import NAMES, POSITIONS, READABLE, SHARE
+from .track import Track
+
+LIKE = 0.08  # intervals: a level that differs from a class for less than that is this class
+NOMINAL = 0.03  # intervals: a width that is no more off is the one of its class
+
+
+@dataclass
+class Remark:
+    """Damage that no edit repairs for sure: where, what is seen, and what the choices are."""
+
+    at: int  # microseconds
+    seen: str
+    choice: str = ""
+
+    def comment(self) -> str:
+        return "undecided: at %d: %s%s" % (self.at, self.seen, "; " + self.choice if self.choice else "")
+
+
+class Faults:
+    """The places whose pulse is not what follows, each with the class that has to be there."""
+
+    def __init__(self, track: Track, times: Times) -> None:
+        self.track, self.layout, self.clock, self.times = track, track.layout, track.clock, times
+        self.rises, self.falls = track.rises, track.falls
+        self.wanted: Dict[int, str] = {}
+        self.guesses: Dict[int, str] = {}  # places of control functions that nothing says
+        self.remarks: List[Remark] = []
+        for number, text in times.texts.items():
+            if number not in times.sound:
+                self._look_at(number, text, times.expected(number))
+
+    def _look_at(self, number: int, text: str, expected: str) -> None:
+        """Compares a frame with what follows for it."""
+        if self._contradicts(number, text, expected):
+            return
+        if self.times.moment(number) is None and READABLE.fullmatch(text) and number not in self.times.own:
+            at = self.track.rise_at(100 * number)
+            self.remarks.append(
+                Remark(at, "a frame whose fields contradict each other", "nothing says which is right")
+            )
+        unknown = []
+        for element, (told, follows) in enumerate(zip(text, expected)):
+            if told == "~" or told == follows or (follows == "." and told in "01"):
+                continue
+            place = 100 * number + element
+            target = follows if follows != "." else self._decide(place, element in self.times.kept)
+            if target:
+                self.wanted[place] = target
+            else:
+                unknown.append(element)
+        self._doubt_control(number, text)
+        if unknown:
+            at = self.track.rise_at(100 * number + unknown[0])
+            seen = "%s, element %s: nothing says whether zero or one" % (
+                self.times.name(number),
+                ", ".join(map(str, unknown)),
+            )
+            self.remarks.append(Remark(at, seen, "force or insert what is right"))
+
+    def _contradicts(self, number: int, text: str, expected: str) -> bool:
+        """Whether a frame shows another time than its neighbours lead to, too clearly to be damage."""
+        against = [
+            element
+            for element in self.layout.carried
+            if text[element] in "01" and expected[element] in "01" and text[element] != expected[element]
+        ]
+        if len(against) <= (0 if self.times.turns_at(number) else 3):
+            return False
+        at = self.track.rise_at(max(self.track.first, 100 * number))
+        seen = "%s: %d elements show another time than the one its neighbours lead to" % (
+            self.times.name(number),
+            len(against),
+        )
+        self.remarks.append(Remark(at, seen, "it is left; regen gives it the time of its neighbours"))
+        return True
+
+    def _decide(self, place: int, control: bool) -> Optional[str]:
+        """Zero or one if nothing follows for a place: by its shape, else by its neighbours, else the
+        nearest."""
+        pulses, (number, element) = self.track.pulses_at(place), divmod(place, 100)
+        near = self.times.neighbours(number, element) if control else None
+        own = self._shape_of(place)
+        if own and (not near or self._is_nominal(pulses[0], own)):
+            return own
+        cost = {target: self.difference(place, target) for target in "01"}
+        best = min("01", key=lambda target: cost[target])
+        if cost[best] < LIKE * self.layout.interval:
+            return best
+        if near or not control:
+            return near
+        self.guesses[place] = best if pulses else "0"
+        return self.guesses[place]
+
+    def _shape_of(self, place: int) -> Optional[str]:
+        """Zero or one if there is a single pulse of such a width."""
+        pulses = self.track.pulses_at(place)
+        own = self.layout.class_of(self.falls[pulses[0]] - self.rises[pulses[0]]) if len(pulses) == 1 else ""
+        return own if own in ("0", "1") else None
+
+    def _is_nominal(self, pulse: int, name: str) -> bool:
+        return abs(self.falls[pulse] - self.rises[pulse] - self.width(name)) <= NOMINAL * self.layout.interval
+
+    def _doubt_control(self, number: int, text: str) -> None:
+        """A control function next to damage that has no nominal width is damage, too, if its neighbours say
+        otherwise."""
+        for element in self.times.kept:
+            place, told = 100 * number + element, text[element]
+            beside = place - 1 in self.wanted or place + 1 in self.wanted
+            if told in "01" and beside and place in self.track.zone_of:
+                near = self.times.neighbours(number, element)
+                if near and near != told and not self._is_nominal(self.track.pulses_at(place)[0], told):
+                    self.wanted[place] = near
+
+    def difference(self, place: int, target: str) -> float:
+        """For how many microseconds the level is not that of the target, within its interval."""
+        begin = self.track.rise_at(place)
+        end, fall = begin + round(0.95 * self.clock.interval), begin + self.width(target)
+        nearby = range(max(self.track.first, place - 3), min(self.track.last, place + 1) + 1)
+        high = both = 0
+        for pulse in {pulse for near in nearby for pulse in self.track.pulses_at(near)}:
+            low, top = max(begin, self.rises[pulse]), min(end, self.falls[pulse])
+            high += max(0, top - low)
+            both += max(0, min(top, fall) - low)
+        return high + fall - begin - 2 * both
+
+    def width(self, target: str) -> int:
+        """The width that a class has at the real interval."""
+        return round(SHARE[target] * self.clock.interval)
+
+    # in words
+
+    def name(self, place: int) -> str:
+        return "%s, element %d" % (self.times.name(place // 100), place % 100)
+
+    def where(self, place: int) -> str:
+        """The frame, the element, and the pulses with their numbers, or else when one should rise."""
+        pulses = [pulse + 1 for pulse in self.track.pulses_at(place)]
+        if not pulses:
+            return "%s, at %d" % (self.name(place), self.track.rise_at(place))
+        return "%s, pulse%s" % (
+            self.name(place),
+            " %d" % pulses[0] if len(pulses) == 1 else "s %d to %d" % (pulses[0], pulses[-1]),
+        )
+
+    def reason(self, place: int) -> str:
+        """Why this class has to be there."""
+        target, element = NAMES[self.wanted[place]], place % 100
+        if place in self.guesses:
+            return "undecided whether zero or one: nothing says it, and a %s is written" % target
+        if element in self.times.kept:
+            return "a %s by its shape or the frames next to it" % target
+        if element in POSITIONS or element in self.layout.unused:
+            return "a %s has to be there" % target
+        return "a %s follows from the frames around it" % target
+
+    def seen(self, place: int) -> str:
+        """What is at a place."""
+        pulses = self.track.pulses_at(place)
+        if not pulses:
+            return "no pulse"
+        over = self.track.spans(place, pulses[-1])
+        if over:
+            return "%d pulses have run together" % (over + 1)
+        if len(pulses) > 1:
+            return "%d pulses where one has to be" % len(pulses)
+        rise, width = self.rises[pulses[0]], self.falls[pulses[0]] - self.rises[pulses[0]]
+        name = self.layout.class_of(width)
+        words = "%d wide, %s" % (width, "which is no class" if name == "b" else "a " + NAMES[name])
+        off = rise - self.track.rise_at(place)
+        if abs(off) > self.clock.stray:
+            words += ", and %d %s" % (abs(off), "late" if off > 0 else "early")
+        return words

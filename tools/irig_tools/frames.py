@@ -1,0 +1,185 @@
+"""The times of frames: those that can be read carry theirs over to the others."""
+from __future__ import annotations
+
+from bisect import bisect_left
+from collections import Counter
+from operator import itemgetter
+from typing import Dict, List, NamedTuple, Optional, Sequence, Tuple
+
+from .interval import Run
+from .layout import READABLE, Fields
+from .leap import find_leap
+from .moments import DAY, Calendar
+from .spans import fit
+from .track import Track
+
+LONGEST_CUT = 3000  # elements; after more than that the places are not counted on
+
+
+class Span(NamedTuple):
+    """Frames `first` to `last` with one base: the time of frame 0, if their clock had run all along."""
+
+    first: int
+    last: int
+    base: int
+
+
+class Times:
+    """For each frame the moment that most frames near it lead to."""
+
+    def __init__(self, track: Track) -> None:
+        self.track, self.layout = track, track.layout
+        self.calendar = Calendar(self.layout)
+        self.texts = {number: track.frame(number) for number in track.frames()}
+        decoded = [(number, self.layout.decode(text)) for number, text in self.texts.items()]
+        self.read: List[Tuple[int, Fields]] = [(number, told) for number, told in decoded if told]
+        self._having: Dict[int, List[int]] = {}  # element -> frames in which it is sound
+        self._find_year_length()
+        self.calendar.leap = find_leap(self.calendar, self.read, self._base)
+        self.own = {number: self._base(number, told) for number, told in self.read}
+        self.bases = self._find_bases()
+        self.spans = self._find_spans()
+        self._find_sound()
+
+    def _find_sound(self) -> None:
+        """Which frames are sound, and which elements are kept as they are."""
+        unused = itemgetter(*self.layout.unused)
+        stray = {number for number in self.own if "1" in unused(self.texts[number])}
+        self.doubtful = len(stray) > 2 + len(self.read) // 10  # the expression
+        self.kept = set(self.layout.control) | set(self.layout.unused if self.doubtful else ())
+        self.sound = {
+            number
+            for number, base in self.own.items()
+            if self.bases[number] == base
+            and (self.doubtful or number not in stray)
+            and READABLE.fullmatch(self.texts[number])
+        }
+
+    def _base(self, number: int, told: Fields) -> int:
+        base = self.calendar.number(told) - number * self.layout.period
+        return base if self.calendar.with_year else (base - DAY) % (self.calendar.days * DAY) + DAY
+
+    def _find_year_length(self) -> None:
+        """Without a year the day after 365 is told by the frames themselves."""
+        agree = {}
+        for days in (366, 365):
+            self.calendar.days = days
+            agree[days] = max(Counter(self._base(*each) for each in self.read).values(), default=0)
+        long = agree[366] > agree[365] or any(told["days"] == 366 for _, told in self.read)
+        self.calendar.days = 366 if long else 365
+
+    def _find_bases(self) -> Dict[int, Optional[int]]:
+        """The base of each frame: if two neighbours agree, theirs; between such frames the one that fits
+        best."""
+        read = sorted(self.own)
+        before: List[Optional[int]] = [None, *read]
+        after: List[Optional[int]] = [*read[1:], None]
+        bases: Dict[int, Optional[int]] = {}
+        for left, number, right in zip(before, read, after):
+            if self.own[number] in (
+                left is not None and self.own[left],
+                right is not None and self.own[right],
+            ):
+                bases[number] = self.own[number]
+        self._fill(bases)
+        return bases
+
+    def _fill(self, bases: Dict[int, Optional[int]]) -> None:
+        apart = {
+            zone.right.place // 100
+            for zone in self.track.zones
+            if zone.glued and zone.right and not 0 < (zone.right.gone or 0) <= LONGEST_CUT
+        }
+        gap: List[int] = []
+        left: Optional[int] = None
+        for number in self.texts:
+            if number in apart:  # no time goes on over that
+                bases.update(fit(self, gap, left, None))
+                gap, left = [], None
+            if number not in bases:
+                gap.append(number)
+                continue
+            bases.update(fit(self, gap, left, bases[number]))
+            gap, left = [], bases[number]
+        bases.update(fit(self, gap, left, None))
+
+    def against(self, number: int, base: int) -> Tuple[int, int]:
+        """How many elements of a frame speak against a base, and, negative, how many for it."""
+        text, wanted = self.texts[number], self.layout.encode(
+            self.calendar.fields(base + number * self.layout.period)
+        )
+        told = [(text[element], wanted[element]) for element in self.layout.carried if text[element] in "01"]
+        wrong = sum(a != b for a, b in told)
+        return wrong, wrong - len(told)
+
+    def _find_spans(self) -> List[Span]:
+        spans: List[Span] = []
+        for number in self.texts:
+            base = self.bases[number]
+            if base is not None and spans and spans[-1].base == base:
+                spans[-1] = Span(spans[-1].first, number, base)
+            elif base is not None:
+                spans.append(Span(number, number, base))
+        return spans
+
+    def turns_at(self, number: int) -> bool:
+        """Whether the frames on both sides of this one lead to different times."""
+        before, after = self.bases.get(number - 1), self.bases.get(number + 1)
+        return None not in (before, after) and before != after
+
+    def _agreed(self, numbers: Sequence[int]) -> Optional[int]:
+        """The base that most of three frames tell, or the only one there is."""
+        often = Counter(self.own[number] for number in numbers).most_common(1)
+        return often[0][0] if often and (often[0][1] > 1 or len(numbers) == 1) else None
+
+    def _read_within(self, runs: Sequence[Run]) -> List[int]:
+        """The frames that could be read from the first to the last of these runs."""
+        numbers = [number for number, _ in self.read]
+        first, last = -(-runs[0].place // 100), (runs[-1].last_place + 1) // 100
+        return numbers[bisect_left(numbers, first):bisect_left(numbers, last)]
+
+    def frames_between(self, left: Sequence[Run], right: Sequence[Run]) -> Optional[int]:
+        """By how many frames the times of these runs are farther apart than their places; None if they do not
+        say."""
+        before, after = self._agreed(self._read_within(left)[-3:]), self._agreed(self._read_within(right)[:3])
+        if before is None or after is None:
+            return None
+        year = self.calendar.days * DAY
+        apart = after - before if self.calendar.with_year else (after - before + year // 2) % year - year // 2
+        return apart // self.layout.period
+
+    def moment(self, number: int) -> Optional[int]:
+        """The moment of a frame, or None if the frames near it do not agree."""
+        base = self.bases.get(number)
+        return None if base is None else base + number * self.layout.period
+
+    def expected(self, number: int) -> str:
+        """The 100 classes that follow for a frame; `.` if nothing follows."""
+        moment = self.moment(number)
+        if moment is None:
+            text = self.layout.encode(dict.fromkeys(self.layout.fields, 0))
+            for element in self.layout.carried:
+                text[element] = "."
+        else:
+            text = self.layout.encode(self.calendar.fields(moment))
+        for element in self.kept:
+            text[element] = "."
+        return "".join(text)
+
+    def neighbours(self, number: int, element: int) -> Optional[str]:
+        """What most of the nearest frames have there, two before and two after whose element is sound; None
+        if they differ."""
+        if element not in self._having:
+            self._having[element] = [each for each, text in self.texts.items() if text[element] in "01"]
+        having = self._having[element]
+        at = bisect_left(having, number)
+        near = Counter(
+            self.texts[each][element] for each in having[max(0, at - 2):at] + having[at:at + 2]
+        )
+        told, many = near.most_common(1)[0] if near else ("", 0)
+        total = sum(near.values())
+        return told if near and many >= max(1, total - (total > 2)) else None
+
+    def name(self, number: int) -> str:
+        moment = self.moment(number)
+        return "a frame of unknown time" if moment is None else "frame " + self.calendar.name(moment)

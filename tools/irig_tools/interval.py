@@ -1,0 +1,138 @@
+"""The real interval of a recording: how far apart its elements are, how much rises stray, and the runs of
+pulses in step."""
+from __future__ import annotations
+
+import statistics
+from dataclasses import dataclass
+from itertools import islice
+from typing import List, Optional, Sequence
+
+from .editor import Listing
+from .phases import turns
+
+NEAR = 15  # pulses at the end of a run that say where it should rise
+FAR = 300  # pulses at the end of a run that say the interval there
+
+
+@dataclass
+class Run:
+    """Pulses `first` to `last` (counted from 0) that follow each other in step."""
+
+    first: int
+    last: int
+    begin: float = 0  # when the first should rise, by those near it
+    end: float = 0  # when the last should rise
+    begin_interval: Optional[float] = None  # of the pulses near the first, if there are enough
+    end_interval: Optional[float] = None
+    place: int = 0  # of the first pulse: 100 * frame + element
+    step: int = 0  # elements from the last pulse of the run before to the first
+    late: float = 0  # how much it came late
+    glued: bool = False  # it follows the run before at once, but with another element
+    gone: Optional[int] = None  # how many elements are missing before a glued run, if the times say so
+    ends: str = ""  # `<` or `>` if nothing says the phase of the pulses before or after it
+
+    @property
+    def count(self) -> int:
+        return self.last - self.first + 1
+
+    @property
+    def last_place(self) -> int:
+        return self.place + self.last - self.first
+
+
+def distances(times: Sequence[int]) -> List[int]:
+    return [after - before for before, after in zip(times, islice(times, 1, None))]
+
+
+def share_in_step(times: Sequence[int], interval: int) -> float:
+    """How many of the neighbours, of 20000 at most, are one interval apart: 0 to 1."""
+    looked_at = range(0, len(times) - 1, len(times) // 20000 + 1)
+    many = sum(0.9 * interval <= times[at + 1] - times[at] <= 1.1 * interval for at in looked_at)
+    return many / max(1, len(looked_at))
+
+
+class Clock:
+    """The interval as it was recorded, how far rises stray from it, and the runs."""
+
+    def __init__(self, listing: Listing, nominal: int) -> None:
+        self.nominal = nominal
+        apart = distances(listing.rises)
+        between = [
+            each for each in apart[:: len(apart) // 50000 + 1] if 0.9 * nominal <= each <= 1.1 * nominal
+        ]
+        self.interval: float = statistics.median_low(between) if between else nominal
+        self.noise: float = (
+            statistics.median([abs(each - self.interval) for each in between]) if between else 0
+        )
+        self.margin = min(0.09 * nominal, max(0.04 * nominal, 6 * self.noise))  # what counts as in step
+        self.stray = min(0.07 * nominal, max(0.04 * nominal, 4 * self.noise))  # how far one pulse may be off
+        self.runs = [part for run in self._find_runs(apart) for part in parted(run, listing.classes)]
+        self._measure(listing.rises)
+        for run in self.runs:
+            self._fit(run, listing.rises)
+        self.doubt = self._find_doubt()  # of the interval, within a hole
+
+    def _measure(self, rises: Sequence[int]) -> None:
+        steps = sum(run.count - 1 for run in self.runs if run.count > 9)
+        if steps:
+            whole = sum(rises[run.last] - rises[run.first] for run in self.runs if run.count > 9)
+            self.interval = whole / steps
+        if abs(self.interval - self.nominal) < self.nominal / 10000:
+            self.interval = self.nominal
+        self.exact = self.interval == self.nominal and self.noise == 0
+
+    def _find_doubt(self) -> float:
+        if self.exact:
+            return 0
+        ends = [end for run in self.runs for end in (run.begin_interval, run.end_interval) if end]
+        spread: Sequence[float] = statistics.quantiles(ends, n=10) if len(ends) > 3 else [0]
+        return max(0.0003 * self.nominal, (spread[-1] - spread[0]) / 4)
+
+    def _find_runs(self, apart: Sequence[int]) -> List[Run]:
+        low, high = self.interval - self.margin, self.interval + self.margin
+        breaks = [at for at, distance in enumerate(apart, 1) if not low <= distance <= high]
+        return [Run(first, after - 1) for first, after in zip([0] + breaks, breaks + [len(apart) + 1])]
+
+    def _fit(self, run: Run, rises: Sequence[int]) -> None:
+        near = (min(run.count, NEAR) - 1) // 2 * 2 + 1
+        run.begin = statistics.median_low([rises[run.first + k] - k * self.interval for k in range(near)])
+        run.end = statistics.median_low([rises[run.last - k] + k * self.interval for k in range(near)])
+        if run.count > 100 and not self.exact:
+            far = min(run.count - 1, FAR)
+            run.begin_interval = (rises[run.first + far] - run.begin) / far
+            run.end_interval = (run.end - rises[run.last - far]) / far
+
+    def interval_between(self, left: Optional[Run], right: Optional[Run]) -> float:
+        """The interval near these two runs."""
+        known = [each for each in (left and left.end_interval, right and right.begin_interval) if each]
+        interval = sum(known) / len(known) if known else self.interval
+        return self.nominal if abs(interval - self.nominal) < self.nominal / 10000 else interval
+
+    def slack(self, steps: float) -> float:
+        """How far two runs on one clock may be off after that many steps."""
+        return min(0.4 * self.nominal, self.margin + self.doubt * steps)
+
+    def on_one_clock(self, left: Run, right: Run) -> bool:
+        """Whether two runs, at most three frames apart, are a whole number of intervals apart."""
+        distance, interval = right.begin - left.end, self.interval_between(left, right)
+        steps = round(distance / interval)
+        return 0 < steps <= 300 and abs(distance - steps * interval) <= self.slack(steps)
+
+    def least_late(self, steps: int) -> float:
+        """A rest that is less late than this is left as it is."""
+        return 1 if self.exact else min(0.4 * self.nominal, max(2, 5 * self.noise) + self.doubt * steps)
+
+
+def parted(run: Run, classes: str) -> List[Run]:
+    """The run, or the parts of it that have one phase each."""
+    if run.count < 40:
+        return [run]
+    parts, first = [], run.first
+    for low, high in turns(classes[run.first:run.last + 1]):
+        if run.first + low > first and high < run.count:
+            parts.append(Run(first, run.first + low - 1))
+            first = run.first + high
+    parts.append(Run(first, run.last))
+    for part in parts[1:]:
+        part.glued = True
+    return parts

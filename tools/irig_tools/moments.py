@@ -1,0 +1,86 @@
+"""Moments as numbers: hundredths of a second, with a leap second counted if the recording has one."""
+from __future__ import annotations
+
+import datetime
+from typing import Optional
+
+from .layout import Fields, Layout
+
+DAY = 8640000  # hundredths of a second
+SECOND = 100
+
+
+class Calendar:
+    """Counts since year 1 if the format has a year, else since the year began."""
+
+    def __init__(self, layout: Layout) -> None:
+        self.layout, self.with_year = layout, layout.with_year
+        self.days = 365  # of the year that ends within the recording, if the format has no year
+        self.leap: Optional[int] = None  # the moment at which second 60 begins
+
+    def number(self, told: Fields) -> int:
+        within = 100 * (3600 * told["hours"] + 60 * told["minutes"] + told["seconds"]) + told.get(
+            "hundredths", 0
+        )
+        first = datetime.date(2000 + told["year"], 1, 1).toordinal() if self.with_year else 1
+        plain = (first + told["days"] - 1) * DAY + within
+        if self.leap is None:
+            return plain
+        plain = self._near_leap(plain)
+        return plain + SECOND * (plain >= self.leap and told["seconds"] != 60)
+
+    def _near_leap(self, number: int) -> int:
+        """Without a year the first day follows the last one."""
+        if self.with_year or self.leap is None:
+            return number
+        year = self.days * DAY
+        return (number - self.leap + year // 2) % year - year // 2 + self.leap
+
+    def within_leap(self, number: int) -> bool:
+        """Whether this moment is in a second 60."""
+        return self.leap is not None and 0 <= self._near_leap(number) - self.leap < SECOND
+
+    def after_leap(self, number: int) -> bool:
+        return self.leap is not None and self._near_leap(number) >= self.leap + SECOND
+
+    def fields(self, number: int) -> Fields:
+        if self.within_leap(number):
+            told = self._plain_fields(number - SECOND)
+            told["seconds"], told["binary"] = 60, 86400
+            return told
+        return self._plain_fields(number - SECOND * self.after_leap(number))
+
+    def _plain_fields(self, number: int) -> Fields:
+        day, within = divmod(number, DAY)
+        seconds = within // 100
+        told = {
+            "hundredths": within % 100,
+            "seconds": seconds % 60,
+            "minutes": seconds // 60 % 60,
+            "hours": seconds // 3600,
+            "binary": seconds,
+        }
+        if self.with_year:
+            date = datetime.date.fromordinal(max(1, day))
+            told["year"], told["days"] = date.year % 100, date.timetuple().tm_yday
+        else:
+            told["days"] = (day - 1) % self.days + 1
+        return told
+
+    def text(self, number: int) -> str:
+        """The moment as the editor's `regen` takes it."""
+        told = self.fields(number)
+        long = self.days == 366 or told["days"] == 366
+        year = 2000 + told["year"] if self.with_year else 2024 if long else 2023
+        text = "%04d-%03dT%02d:%02d:%02d" % (
+            year,
+            told["days"],
+            told["hours"],
+            told["minutes"],
+            told["seconds"],
+        )
+        return text + (".%02d" % told["hundredths"] if "hundredths" in self.layout.fields else "")
+
+    def name(self, number: int) -> str:
+        """The moment for people; without the year if the format has none."""
+        return self.text(number)[0 if self.with_year else 5:]

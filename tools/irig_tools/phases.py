@@ -1,0 +1,125 @@
+"""Position identifiers in a run of classes: with which element it begins, and where it goes on with another
+one.
+
+A phase is the element, 0 to 99, of the first pulse of a text. `P` has to be at elements 0, 9, 19, .. 99 and
+nowhere else.
+"""
+from __future__ import annotations
+
+import re
+from collections import Counter
+from itertools import accumulate, cycle, islice
+from operator import add, ne
+from typing import Container, Iterable, List, Optional, Sequence, Set, Tuple
+
+from .layout import POSITIONS, READABLE
+
+ONLY_P = str.maketrans("01b", "---")
+PATTERN = "".join("P" if element in POSITIONS else "-" for element in range(100))
+# a frame between two markers, or one and the end of a run
+WHOLE = re.compile("(?<=P)%s(?=P|$)" % READABLE.pattern)
+LONGEST_TURN = 3000  # elements
+
+Place = Tuple[int, int]
+
+
+class Marks:
+    """The position identifiers of a run, counted by their distance from its first pulse, modulo 100."""
+
+    def __init__(self, text: str) -> None:
+        self.count = len(text)
+        self.places = Counter(found.start() % 100 for found in re.finditer("P", text))
+        self.many = sum(self.places.values())
+        self.whole: Container[int] = (
+            {-found.start() % 100 for found in WHOLE.finditer(text)} if self.count > 100 else ()
+        )
+
+    def faults(self, phase: int) -> int:
+        """How many pulses are position identifiers by mistake, or are none by mistake, if the first is
+        element `phase`;
+        some more if frames that are whole say otherwise."""
+        cycles, rest = divmod(self.count, 100)
+        hits = wanted = 0
+        for element in POSITIONS:
+            place = (element - phase) % 100
+            hits += self.places[place]
+            wanted += cycles + (place < rest)
+        return self.many - hits + wanted - hits + (4 if self.whole and phase not in self.whole else 0)
+
+    def best(self, within: int, most: int) -> List[int]:
+        """The phases with the fewest faults, and with at most `within` more."""
+        faults = sorted((self.faults(phase), phase) for phase in range(100))
+        return [phase for fault, phase in faults if fault <= faults[0][0] + within][:most]
+
+
+def faults_along(text: str, phase: int) -> List[int]:
+    """How many faults are before each pulse, and in all, if the first is element `phase`. The text has `P`
+    and `-` alone."""
+    return list(accumulate(map(ne, text, islice(cycle(PATTERN), phase, None)), initial=0))
+
+
+def parting(text: str, lefts: Iterable[int], rights: Iterable[int]) -> Tuple[int, int, int, int, int]:
+    """Where the text is parted best: its faults then, the first and the last such place, and the phases of
+    both sides."""
+    before = {phase: faults_along(text, phase) for phase in lefts}
+    after = {
+        phase: [row[-1] - faults for faults in row] for phase in rights for row in [faults_along(text, phase)]
+    }
+    total = list(map(add, map(min, zip(*before.values())), map(min, zip(*after.values()))))
+    least = min(total)
+    low, high = total.index(least), len(total) - 1 - total[::-1].index(least)
+    left = min(before, key=lambda phase: before[phase][low])
+    return least, low, high, left, min(after, key=lambda phase: after[phase][high])
+
+
+def _has_marker(phase: int, count: int) -> bool:
+    """Whether that many elements from `phase` on have both position identifiers of a marker."""
+    return (99 - phase) % 100 + 1 < count
+
+
+def _turn(text: str, lefts: Sequence[int], rights: Sequence[int]) -> Optional[Place]:
+    """The first and last place at which the phase may change in a text of which at most one side's phase is
+    known."""
+    marks = Marks(text)
+    whole = min(map(marks.faults, lefts if len(lefts) <= len(rights) else rights))
+    if whole < 2 or len(text) > LONGEST_TURN:
+        return None
+    least, low, high, left, right = parting(text, lefts, rights)
+    one_known = len(lefts) + len(rights) == 101
+    if whole - least >= (3 if one_known else 8):
+        return low, high
+    # position identifiers that are ten apart agree on both sides but for the marker
+    ten_apart = left != right and (left - right) % 10 == 0 and least == 0 and one_known
+    marked = _has_marker(left, low) if len(lefts) > 1 else _has_marker((right + high) % 100, len(text) - high)
+    return (low, high) if whole - least >= 2 and ten_apart and marked else None
+
+
+def turns(classes: str) -> List[Place]:
+    """The places (first, last) at which a run goes on with another phase: between whole frames, before and
+    after them."""
+    whole = [found.start() for found in WHOLE.finditer(classes)]
+    text, every = classes.translate(ONLY_P), range(100)
+    if not whole:
+        alone = _turn(text, every, every) if len(text) > 60 else None
+        return [alone] if alone else []
+    found: List[Place] = []
+    ahead = _turn(text[: whole[0] + 100], every, [-whole[0] % 100])
+    if ahead:
+        found.append(ahead)
+    for before, after in zip(whole, whole[1:]):
+        if (after - before) % 100:
+            _, low, high, _, _ = parting(text[before:after + 100], [0], [(before - after) % 100])
+            found.append((before + low, before + high))
+    beyond = _turn(text[whole[-1]:], [0], every)
+    if beyond:
+        found.append((whole[-1] + beyond[0], whole[-1] + beyond[1]))
+    return found
+
+
+def tells_phase(text: str) -> bool:
+    """Whether just one phase fits best."""
+    return len(Marks(text).best(0, 2)) == 1
+
+
+def phases_within(text: str) -> Set[int]:
+    return set(Marks(text).best(2, 20))

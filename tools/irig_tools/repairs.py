@@ -1,0 +1,67 @@
+"""The repairs of a track, with their reasons, from its end to its beginning, so that numbers of pulses stay
+true."""
+from __future__ import annotations
+
+from typing import List
+
+from .edits import Item, items
+from .faults import Faults
+from .script import Repair
+from .wholes import lost_frames, shifts
+
+
+def repairs(faults: Faults) -> List[Repair]:
+    """What the faults call for. What is close together is one repair."""
+    moved = shifts(faults)
+    whole = lost_frames(faults)
+    groups: List[List[Item]] = []
+    for item in sorted(moved + whole + items(faults), key=lambda item: -item.low):
+        if groups and groups[-1][-1].low - item.high <= 1:
+            groups[-1].append(item)
+        else:
+            groups.append([item])
+    return [_repair(faults, group) for group in groups]
+
+
+def _repair(faults: Faults, group: List[Item]) -> Repair:
+    comments: List[str] = []
+    lost: List[Item] = []
+    for item in group:
+        if item.lost:
+            lost.append(item)
+            continue
+        comments += _of_lost(faults, lost) + [item.why]
+        lost = []
+    comments += _of_lost(faults, lost)
+    at = faults.track.rise_at(max(faults.track.first, int(group[-1].low + 0.5)))
+    until = faults.track.rise_at(min(faults.track.last, int(group[0].high + 0.5)))
+    repair = Repair(at, comments, [edit for item in group for edit in item.edits], until=until)
+    if all(item.single for item in group):
+        repair.instead = _written_again(faults, range(int(group[-1].low), int(group[0].high) + 1))
+        if len(repair.instead) < len(repair.edits):
+            return Repair(at, comments, repair.instead, until=until)
+    return repair
+
+
+def _written_again(faults: Faults, places: range) -> List[str]:
+    """Deletes all pulses of these places and inserts those that are wanted."""
+    pulses = sorted({pulse for place in places for pulse in faults.track.pulses_at(place)})
+    edits = []
+    if pulses:
+        edits.append(
+            "%d,%d delete" % (pulses[0] + 1, pulses[-1] + 1) if pulses[1:] else "%d delete" % (pulses[0] + 1)
+        )
+    for place in reversed(places):
+        rise = faults.track.rise_at(place)
+        edits.append("insert %d %d" % (rise, rise + faults.width(faults.wanted[place])))
+    return edits
+
+
+def _of_lost(faults: Faults, lost: List[Item]) -> List[str]:
+    """One sentence for pulses that are missing one after the other."""
+    if len(lost) < 2:
+        return [item.why for item in lost]
+    return [
+        "%d pulses are missing, from %s on; each follows from the frames around it"
+        % (len(lost), faults.where(int(lost[-1].low)))
+    ]

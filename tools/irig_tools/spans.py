@@ -1,0 +1,53 @@
+"""Which base fits frames between two that are sure: each change of base costs as much as three elements that
+do not fit."""
+from __future__ import annotations
+
+from typing import TYPE_CHECKING, Dict, List, Optional, Sequence, Tuple
+
+if TYPE_CHECKING:
+    from .frames import Times
+
+CHANGE = 3
+MOST_CHOICES = 12
+
+
+def _sums(choices: Sequence[int], rows: Sequence[List[int]], start: Optional[int]) -> List[List[int]]:
+    """For each frame and each choice the least cost of a way from the start to it."""
+    cost = [0 if start in (None, base) else CHANGE for base in choices]
+    table = []
+    for row in rows:
+        least = min(cost, default=0) + CHANGE
+        cost = [min(each, least) + fault for each, fault in zip(cost, row)]
+        table.append(cost)
+    return table
+
+
+def _borne(times: Times, base: int, gap: Sequence[int]) -> bool:
+    """Whether at least two frames bear a base out."""
+    return sum(times.against(number, base) < (1, -19) for number in gap) > 1
+
+
+def fit(
+    times: Times, gap: Sequence[int], left: Optional[int], right: Optional[int]
+) -> Dict[int, Optional[int]]:
+    """The base of each frame of a gap, or None if two are as good, between the bases `left` and `right`."""
+    if not gap:
+        return {}
+    known = {left, right, *(times.own.get(number) for number in gap)}
+    choices = sorted(base for base in known if base is not None)[:MOST_CHOICES]
+    if len(choices) == 1 and (left or right):
+        return {number: choices[0] for number in gap}
+    faults = [[times.against(number, base)[0] for base in choices] for number in gap]
+    ahead = _sums(choices, faults, left)
+    back = _sums(choices, faults[::-1], right)
+    found: Dict[int, Optional[int]] = {}
+    for number, row, before, after in zip(gap, faults, ahead, reversed(back)):
+        whole: List[Tuple[int, int]] = sorted(
+            (a + b - fault, base) for a, b, fault, base in zip(before, after, row, choices)
+        )
+        found[number] = None
+        if whole and (len(whole) == 1 or whole[0][0] < whole[1][0]):
+            base = whole[0][1]
+            if base in (left, right) or _borne(times, base, gap):
+                found[number] = base
+    return found

@@ -1,0 +1,74 @@
+"""A threshold that makes every pulse longer, or every pulse shorter."""
+from __future__ import annotations
+
+from collections import Counter
+from typing import Dict, List, Mapping, Tuple
+
+from .editor import Listing
+from .layout import NAMES, READABLE, SHARE, Layout
+from .script import Repair
+
+MOST_EDITS = 10000  # in one group
+
+
+def _peaks(shift: int) -> List[Tuple[str, int]]:
+    """(Class, width) in hundredths of an interval, if every pulse is that much longer; none gets as long as
+    the interval."""
+    return [(name, min(98, round(100 * share) + shift)) for name, share in SHARE.items()]
+
+
+def _find_shift(widths: Mapping[int, int]) -> int:
+    """By how many hundredths of an interval all are longer, by how often each width is found."""
+
+    def near(shift: int) -> int:
+        return sum(
+            many * max(0, 6 - min(abs(width - peak) for _, peak in _peaks(shift)))
+            for width, many in widths.items()
+        )
+
+    return max(range(-17, 28), key=near)
+
+
+def _classes_by(shift: int) -> Dict[int, str]:
+    return {
+        width: name for name, peak in _peaks(shift) for width in range(max(1, peak - 7), min(100, peak + 8))
+    }
+
+
+def level(listing: Listing, layout: Layout) -> List[Repair]:
+    """Gives each pulse the class that its width has among all others, if the classes as they are make few
+    frames."""
+    if listing.classes.count("b") < len(listing.classes) / 100:
+        return []
+    interval = layout.interval
+    widths = [min(100, 100 * (fall - rise) // interval) for rise, fall in zip(listing.rises, listing.falls)]
+    shift = _find_shift(Counter(widths))
+    class_of = _classes_by(shift)
+    classes = "".join([class_of.get(width, "b") for width in widths])
+    before, after = len(READABLE.findall(listing.classes)), len(READABLE.findall(classes))
+    if abs(shift) < 6 or after < 1 or after <= 2 * before or classes.count("b") > 0.3 * len(classes):
+        return []
+    way, cause = ("longer", "low") if shift > 0 else ("shorter", "high")
+    why = (
+        "every pulse is %d %s than its nominal width, as if the threshold was too %s: with widths moved by "
+        "that %d frames can be read, without %d; each pulse gets its own class"
+        % (abs(shift) * interval // 100, way, cause, after, before)
+    )
+    return _groups(_forced(listing, layout, classes), [why], ["pulses that are %s, as above" % way])
+
+
+def _forced(listing: Listing, layout: Layout, classes: str) -> List[str]:
+    """The edits for all pulses that have a class and room for it."""
+    beyond = listing.rises[1:] + [listing.length + 1]
+    return [
+        "%d force %s" % (pulse, NAMES[name])
+        for pulse, (name, rise, end) in enumerate(zip(classes, listing.rises, beyond), 1)
+        if name != "b" and rise + SHARE[name] * layout.interval < end
+    ]
+
+
+def _groups(edits: List[str], first: List[str], others: List[str]) -> List[Repair]:
+    return [
+        Repair(0, others if at else first, edits[at:at + MOST_EDITS])
+        for at in range(0, len(edits), MOST_EDITS)
+    ]
