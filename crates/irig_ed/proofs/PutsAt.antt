@@ -1,4 +1,4 @@
--- The texts put at a path, one after another.
+-- The texts written at a path, one after another.
 use Rattle.std.proofs.Common.{◌≡◌, ◌++◌, ◌∷◌, [], ℕ, List, Option, Some, None, Bool, true, false, refl, sym, ap, ◌∙◌, cond}
 use Rattle.std.proofs.lemmas.List.{append-nil}
 use Rattle.std.proofs.lemmas.Slice.Eq.{bytes_eq-Decides}
@@ -10,7 +10,7 @@ use Rattle.irig_ed.specs.Files.Puts.{Put, texts_of, texts_at}
 same_path : (path : List ℕ) → bytes_eq path path ≡ true
 same_path path = (bytes_eq-Decides path path).1 refl
 
--- a text at the end of others, of which the first is at the path or is not
+-- a text at the end of others, whose first is at the path or is not
 behind : (b : Bool) (first text : List ℕ) (xs ys : Option (List (List ℕ))) → ys ≡ option_map (λ ts. ts ++ text ∷ []) xs
     → cond b (option_map (λ ts. first ∷ ts) ys) None ≡ option_map (λ ts. ts ++ text ∷ []) (cond b (option_map (λ ts. first ∷ ts) xs) None)
 behind false first text xs ys e = refl
@@ -29,7 +29,7 @@ grown_none : (xs ys : Option (List (List ℕ))) → ys ≡ xs → GrowsBy xs ys 
 grown_none None ys e = tt
 grown_none (Some xs) ys e = rw e (sym (append-nil xs))
 
--- a text put at the path, and none put
+-- a text written at the path, and none written
 pub texts_at-put : (path text : List ℕ) (a b : Option (List Put)) → GrowsBy a b ((path, text) ∷ []) → GrowsBy (texts_at path a) (texts_at path b) (text ∷ [])
 texts_at-put path text None b h = tt
 texts_at-put path text (Some xs) None h = absurd h

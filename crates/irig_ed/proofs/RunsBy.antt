@@ -14,7 +14,7 @@ use Rattle.irig_ed.specs.declared.command_line.chosen.Settings.{Settings}
 pub same_path : (x y : ℕ) (xs ys : List ℕ) → x ∷ xs ≡ y ∷ ys → xs ≡ ys
 same_path x y xs ys e = cc
 
--- the shelf stood at the path of the settings, from the start to the end
+-- the shelf was at the path of the settings, from the start to the end
 pub runs_by : (chosen : Settings) (source : List ℕ) (wire out out_new script left : Option (List ℕ)) (path path_new label label_new : List ℕ) (puts mid new : Option (List Put)) (failures failures_new : ℕ) (result : Result Status DumpRunFault)
     → wire ≡ option_map (λ w. w.now) chosen.wire → label_new ≡ label → path ≡ chosen.out.now → path_new ≡ chosen.out.now → mid ≡ puts → failures ≡ 0
     → RunsOnDump wire chosen.format source script left (desk out (shelved (texts_at path mid) failures label)) (desk out_new (shelved (texts_at path_new new) failures_new label_new)) result

@@ -1,5 +1,5 @@
 -- What the program does for the words of its command line: from the files and the script to what is
--- printed and put. This project's own.
+-- printed and written. This project's own.
 use Rattle.std.specs.Prelude.{◌≡◌, ◌<◌, ◌^◌, ℕ, List, Option, Result, Ok, Err, IfSome, length, option_map}
 use Rattle.clap.specs.Words.{Text}
 use Rattle.irig_script.specs.Obey.Desk.{desk}
@@ -14,7 +14,7 @@ use Rattle.irig_ed.specs.declared.ending.Ending.{Ending}
 use Rattle.irig_ed.specs.declared.ending.Ending.TheVariants.{Usage, Unread, Ran}
 use Rattle.irig_ed.specs.declared.files.dump_file.DumpFileFault.TheVariants.{TooLong}
 
--- what is known of the ends of the program: what was printed, what was put, and what is left of
+-- what is known of the ends of the program: what was printed, what was written, and what is left of
 -- the script
 pub record Ends : Type 0 where
   pub out : Option (List ℕ)
@@ -25,8 +25,8 @@ pub record Ends : Type 0 where
 abbrev pub ends : Option (List ℕ) → Option (List Put) → Option (List ℕ) → Ends
 ends out puts script = record { out = out; puts = puts; script = script }
 
--- the script ran on the bytes, by the wire and the format of the settings, and what was put was put
--- at their path to write
+-- the script ran on the bytes, by the wire and the format of the settings, and what was written was
+-- written at their path to write
 pub record RunsBy (chosen : Settings) (source : List ℕ) (old new : Ends)
     (result : Result Status DumpRunFault) : Type 0 where
   pub label : List ℕ

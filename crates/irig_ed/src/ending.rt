@@ -4,7 +4,7 @@ use crate::command_line::chosen::UsageFault;
 use crate::files::dump_file::DumpFileFault;
 use irig_script::{DumpRunFault, Status};
 
-/// How the program ends, before it is told.
+/// How the program ends, before it is reported.
 #[derive(Drop)]
 pub enum Ending<'a> {
     /// The command line asks for no run.

@@ -72,7 +72,7 @@ fn run_on_bytes<D: Disk, R: Read, W: Write>(
     run_on_dump(alloc, source, wire, chosen.format, script, out, &mut shelf)
 }
 
-/// The bytes of the wire's name, where one is given.
+/// The bytes of the wire's name, if one is given.
 fn wire_of<'a>(chosen: &Settings<'a>) -> Option<&'a [u8]>
     ensures { option_map (λ w. w.now) result ≡ option_map (λ w. w.now) chosen.now.wire }
 {

@@ -11,7 +11,7 @@ use irig_script::{DumpRunFault, RunFault, Status};
 use std::fmt::Display;
 use std::process::ExitCode;
 
-/// The status of the process for how the program ended, which is told where it is a fault.
+/// The status of the process for how the program ended, which is reported if it is a fault.
 pub fn report<R: Print + Eprint>(rt: &R, ending: &Ending<'_>) -> ExitCode
     ensures { HasStatus ending.now (exit_status result) }
 {

@@ -24,14 +24,14 @@ use Rattle.irig_edit.proofs.Machines.{history, length-kept_back}
 use Rattle.irig_edit.proofs.MachineSteps.{allowed_some}
 use Rattle.irig_edit.proofs.Sums.{looks_first}
 
--- the states behind so many steps
+-- the states after this many steps
 drop-kept_back : (n : ℕ) (s : State) (steps : List (Step Delta))
     → drop n (kept_back s steps) ≡ kept_back (left_by turned s (changes_of (take n steps))) (drop n steps)
 drop-kept_back zero s steps = refl
 drop-kept_back (suc n) s [] = refl
 drop-kept_back (suc n) s (near ∷ steps) = drop-kept_back n (turned s near.change).0 steps
 
--- and the one that stands there, at the cursor of an opening
+-- and the one that is there, at the cursor of an opening
 floor-kept_back : (n : ℕ) (s : State) (cursor : ℕ) (steps : List (Step Delta)) (o : Opening)
     → floor_at o (behind n (kept s cursor (exchange_back s steps)) (kept_back s steps))
     ≡ record {

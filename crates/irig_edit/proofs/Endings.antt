@@ -1,4 +1,4 @@
--- What an end of a group leaves of the steps, and what these stand for.
+-- What an end of a group leaves of the steps, and what these mean.
 use Rattle.std.proofs.Common.{◌≡◌, ◌≤◌, ◌<◌, ◌+◌, ◌-◌, ℕ, suc, zero, Bool, true, false, List, [], ◌∷◌, length, nat_le, drop, take, Option, Some, None, option_map, if◌then◌else◌, refl, ap, sym, ◌∙◌, subst, arith}
 use Rattle.std.specs.Prelude.{IfSome, IsNone, IsSome}
 use Rattle.std.proofs.lemmas.Bool.{leb-false}
@@ -26,7 +26,7 @@ use Rattle.irig_edit.proofs.Machines.{history, length-kept_back}
 use Rattle.irig_edit.proofs.Sums.{together-gathered}
 use Rattle.irig_edit.proofs.Aborts.{all-drop, grouped_states, length-states_along, no_opening}
 
--- the state behind so many steps, and those before it
+-- the state after this many steps, and those before it
 drop-joined : (k : ℕ) (s : State) (cursor : ℕ) (steps : List (Step Delta)) → k < length steps
     → drop k (kept_back s steps) ≡ kept (left_by turned s (changes_of (take (suc k) steps))) (cursor_of_farthest cursor (take (suc k) steps))
     (exchange_back (left_by turned s (changes_of (take (suc k) steps))) (drop (suc k) steps))
@@ -138,7 +138,7 @@ IsGrouped-ended g h is closes = by_floor g.floor closes where
       } in
       subst (λ (x : Grouped Kept). IsGrouped x) there new
 
--- a begin puts the floor where the machine stands
+-- a begin puts the floor where the machine is
 pub grouped-began : (s : State) (cursor : ℕ) (past future all more : List (Step Delta)) (old new : Option Opening)
     → begun (grouped_states s cursor past future old) ≡ Some (grouped_states s cursor all more new) → all ≡ past → more ≡ future
     → begun (over_opening old (machine (history s cursor past future))) ≡ Some (over_opening new (machine (history s cursor all more)))

@@ -18,7 +18,7 @@ use Rattle.irig_edit.proofs.MachineSteps.{allowed_some, over_some}
 abbrev pub over_opening : Option Opening → Machine Kept → Grouped Kept
 over_opening opening m = over (option_map (floor_of m) opening) m
 
--- one more state stands before the present
+-- one more state is before the present
 floor_of-deeper : (o : Opening) (now present : Kept) (past : List Kept) → o.steps ≤ length past
     → floor_at o (behind (length (present ∷ past) - o.steps) now (present ∷ past)) ≡ floor_at o (behind (length past - o.steps) present past)
 floor_of-deeper o now present past stands =

@@ -97,7 +97,7 @@ none_beyond micros line (Some t ∷ marks) all =
     let past : nat_lt micros t ≡ false = grind (arith, nat_tests, all.0) in
     rw past (none_beyond micros (line + 1) marks all.1)
 
--- what was read has no fault but want of memory
+-- what was read has no fault, but memory may run out
 only_memory : {Y : Type 0} (e : VcdFault) (read : Result Y VcdFault) (y : Y) → read ≡ Ok y → IsFaultOf e read → e ≡ fault.OutOfMemory
 only_memory fault.OutOfMemory read y is told = refl
 only_memory fault.Unclosed read y is told = absurd (cc)
@@ -120,7 +120,7 @@ not_bad P fault.OutOfMemory none bad = refl
 not_bad P (fault.BadJournal n) none bad = absurd (none n bad)
 not_bad P e none bad = absurd bad
 
--- what was read tells its parts
+-- what was read determines its parts
 same_parts : {R T E : Type 0} (read : Result (R × Option T) E) (r s : R) (t u : T)
     → read ≡ Ok (r, Some t) → read ≡ Ok (s, Some u) → (r ≡ s) × (t ≡ u)
 same_parts {R} {T} read r s t u told other =

@@ -35,7 +35,7 @@ begun_in old start is = by_floor old.floor is where
       let here : over (Some (record { height = length old.machine.past; present = old.machine.present })) old.machine ≡ start = cc in
       subst (λ (g : Grouped Kept). InGroup old g) here (record { floor = refl; beyond = []; past = refl; oldest = refl })
 
--- one more state stands before the present
+-- one more state is before the present
 one_more_in : (old g h : Grouped Kept) (future : List Kept) → InGroup old g
     → h ≡ over g.floor (record { past = g.machine.present ∷ g.machine.past; present = h.machine.present; future = future }) → InGroup old h
 one_more_in old g h future inside is = record {

@@ -91,7 +91,7 @@ pub turned_none : (p : PresentView) (all : List Single) → FitAll FitsSingle tu
 turned_none p all fit room =
     record { fit = fit; ready = ready_first p all room; state = refl; backs = refl; looks = λ most h. h }
 
--- after a turn more
+-- after one more turn
 pub turned_more : (first now next : PresentView) (all done left : List Single) (x y : Single)
     → TurnedSoFar first all now done (x ∷ left)
     → (next.state, single_of y) ≡ turned_single now.state (single_of x)

@@ -50,7 +50,7 @@ pub head_marks : (s : State) (saved : Saved) → IsTrue (is_permitted saved.kind
 head_marks s saved is within =
     unless_is (is_permitted saved.kind saved.expression) _ _ is ∙ lt_no (length s.pulses) saved.cursor _ _ within
 
--- marks of which none is beyond
+-- marks, none of them beyond
 pub marks_within : (micros line : ℕ) (marks : List (Option ℕ)) → mark_beyond micros line marks ≡ None → AllByRecursion (IsMark micros) marks
 marks_within micros line [] none = tt
 marks_within micros line (None ∷ marks) none = (tt, marks_within micros line marks none)

@@ -7,14 +7,14 @@ use Rattle.irig_edit.specs.State.{IsMark}
 use Rattle.irig_edit.specs.Marks.{AllMayMove, MayMove, marks_moved, moved_if, moved_mark, moved_time, stands}
 
 module _ {A B : Type 0} where
-  -- the second list with its first items made anew from those of both
+  -- the second list with its first items made again from those of both
   abbrev pub made_first : (A → B → B) → ℕ → List A → List B → List B
   made_first make zero xs ys = ys
   made_first make (suc n) [] ys = ys
   made_first make (suc n) (x ∷ xs) [] = []
   made_first make (suc n) (x ∷ xs) (y ∷ ys) = make x y ∷ made_first make n xs ys
 
-  -- what stands at the next place is not made yet
+  -- what is at the next place is not made yet
   pub made_first-next : (make : A → B → B) (n : ℕ) (xs : List A) (ys : List B) (d : B) → get_or (made_first make n xs ys) n d ≡ get_or ys n d
   made_first-next make zero xs ys d = refl
   made_first-next make (suc n) [] ys d = refl
@@ -48,7 +48,7 @@ moved_all d zero (b ∷ named) marks all = absurd (omega (arith, all))
 moved_all d (suc n) (b ∷ named) [] all = refl
 moved_all d (suc n) (b ∷ named) (m ∷ marks) all = ap (λ ms. moved_if d b m ∷ ms) (moved_all d n named marks (omega (arith, all)))
 
--- whether a mark stands in a stretch, whatever was told of it before
+-- whether a mark is in a stretch, whatever was said of it before
 abbrev pub stands_now : ℕ → ℕ → Option ℕ → Bool → Bool
 stands_now low high mark before = stands low high mark
 
@@ -110,7 +110,7 @@ moved_between low high d (Some t ∷ marks) = ap₂ (λ m ms. m ∷ ms) (by_test
   by_test true = refl
   by_test false = refl
 
--- and they may be moved where the stretch stays within the track
+-- and they may be moved if the stretch stays within the track
 pub may_between : (micros low high : ℕ) (d : ℤ) (marks : List (Option ℕ)) → back d ≤ low + ahead d → high + ahead d ≤ micros + back d
     → AllMayMove micros d (map (stands low high) marks) marks
 may_between micros low high d [] early late = tt

@@ -75,7 +75,7 @@ same_step d e same =
     let cursor : d.cursor ≡ e.cursor = ap (λ (s : SavedStep). s.cursor) same in
     (λ k. record { change = change k; cursor = cursor k })
 
--- where a name among others names nothing, all of them name nothing
+-- if a name among others names nothing, all of them name nothing
 pub no_singles : (done rest names : List Single) (x : Single) → names ≡ done ++ x ∷ rest
     → ((d : SingleDelta) (s : State) → FitsSingle s d → x ≡ saved_single d → ⊥)
     → (ds : List SingleDelta) (s : State) → FitAll FitsSingle turned_single s ds → names ≡ map saved_single ds → ⊥

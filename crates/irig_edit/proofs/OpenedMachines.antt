@@ -10,7 +10,7 @@ use Rattle.irig_edit.specs.State.{State, IsState}
 use Rattle.irig_edit.specs.Taken.{CanTakeAll}
 use Rattle.irig_edit.specs.Walk.{walk}
 
--- the states behind are within their limits
+-- the past states are within their limits
 all_back : (s : State) (ds : List (Step Delta)) → IsState s → CanTakeAll s ds → AllByRecursion IsKept (kept_back s ds)
 all_back s [] is can = tt
 all_back s (d ∷ ds) is can =

@@ -1,4 +1,4 @@
--- Whether a pulse meets a time, and what lies before the time and behind it.
+-- Whether a pulse meets a time, and what lies before the time and after it.
 use Rattle.std.proofs.Common.{◌≡◌, ◌≤◌, ◌<◌, ◌+◌, ◌-◌, ℕ, suc, zero, Bool, true, false, ◌&&◌, ◌||◌, ◌⊎◌, inl, inr, nat_lt, nat_le, List, [], ◌∷◌, length, take, drop, slice_get, Some, refl, ap, sym, ◌∙◌, subst, arith}
 use Rattle.std.proofs.lemmas.Bool.Decides.{nat_tests}
 use Rattle.std.specs.List.{list_any}
@@ -29,7 +29,7 @@ met_no t p h = let no : nat_lt p.rise t ≡ false = grind (arith, nat_tests) in 
 met_ended : (t : ℕ) (p : Pulse) → p.fall < t → meets_time t p ≡ false
 met_ended t p h = let no : nat_le t p.fall ≡ false = grind (arith, nat_tests) in and-false (nat_lt p.rise t) no
 
--- where none of the pulses rises before a time, none meets it
+-- if none of the pulses rises before a time, none meets it
 pub met_none : (t : ℕ) (ps : List Pulse) → length (rising_before t ps) ≤ 0 → list_any (meets_time t) ps ≡ false
 met_none t [] none = refl
 met_none t (p ∷ ps) none = by_case (below_or_not p.rise t) (met_none t ps) where
@@ -41,7 +41,7 @@ met_none t (p ∷ ps) none = by_case (below_or_not p.rise t) (met_none t ps) whe
   by_case (inl early) rest = absurd (let some = subst Few (before_yes t p ps early) none in omega (arith, some))
   by_case (inr late) rest = rw (met_no t p late) (rest (subst Few (before_no t p ps late) none))
 
--- else the last of them tells it
+-- else the last of them shows it
 pub met_last : (t low n : ℕ) (q : Pulse) (ps : List Pulse) → RisesFrom low (edges_of ps) → length (rising_before t ps) ≡ suc n
     → slice_get ps n ≡ Some q → list_any (meets_time t) ps ≡ nat_le t q.fall
 met_last t low n q [] h count is = absurd (omega (arith, count))
@@ -77,7 +77,7 @@ met_last t low (suc n) q (p ∷ ps) h count is = by_case (below_or_not p.rise t)
       let none = none_before t p.rise (p ∷ ps) late (omega arith, h.1) in
       absurd (let zero_long = subst P none count in omega (arith, zero_long))
 
--- where no pulse meets a time, those that rise before it fall before it
+-- if no pulse meets a time, those that rise before it fall before it
 pub before_under : (t low : ℕ) (ps : List Pulse) → RisesFrom low (edges_of ps) → list_any (meets_time t) ps ≡ false
     → Under t (edges_of (take (length (rising_before t ps)) ps))
 before_under t low [] h free = tt

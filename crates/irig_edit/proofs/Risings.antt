@@ -8,7 +8,7 @@ use Rattle.irig_track.specs.Splices.{piece, risen_by}
 use Rattle.irig_track.proofs.Searches.{below_or_not}
 use Rattle.irig_edit.specs.Regenerated.{rising_before, rising_in}
 
--- one pulse more that rises before a time, or not
+-- one more pulse that rises before a time, or not
 pub before_yes : (t : ℕ) (p : Pulse) (ps : List Pulse) → p.rise < t → rising_before t (p ∷ ps) ≡ p ∷ rising_before t ps
 before_yes t p ps h = let yes : nat_lt p.rise t ≡ true = grind (arith, nat_tests) in rw yes refl
 
@@ -57,7 +57,7 @@ before_end s e (p ∷ ps) le = by_case (below_or_not p.rise s) (below_or_not p.r
   by_case (inr from) (inl to) rest = rw (before_no s p ps from) (rw (in_yes s e p ps from to) (rw (before_yes e p ps to) (omega (arith, rest))))
   by_case (inr from) (inr late) rest = rw (before_no s p ps from) (rw (in_late s e p ps late) (rw (before_no e p ps late) rest))
 
--- they stand side by side
+-- they are next to each other
 pub piece_in : (s e low : ℕ) (ps : List Pulse) → s ≤ e → RisesFrom low (edges_of ps)
     → piece (length (rising_before s ps)) (length (rising_in s e ps)) ps ≡ rising_in s e ps
 piece_in s e low [] le h = refl

@@ -1,4 +1,4 @@
--- The text of a saved session, put part by part.
+-- The text of a saved session, written part by part.
 use Rattle.std.proofs.Common.{◌≡◌, ◌++◌, ℕ, List, [], ◌∷◌, Result, Ok, Err, OnOk, codes, refl, append_assoc}
 use Rattle.irig_journal.specs.Machine.{Machine}
 use Rattle.irig_saved.specs.Lines.{text_of}
@@ -14,13 +14,13 @@ pub on_ok : {E P Q : Type 0} (r : Result Unit E) → (P → Q) → OnOk r P → 
 on_ok (Ok u) f h = f h
 on_ok (Err e) f h = tt
 
--- two parts, each a line with lines behind it
+-- two parts, each a line with lines after it
 pub two_parts : (t0 t1 t2 t3 t4 p f : List ℕ) (ps fs : List (List ℕ)) → t1 ≡ t0 ++ (p ++ 10 ∷ []) → t2 ≡ t1 ++ text_of ps
     → t3 ≡ t2 ++ (f ++ 10 ∷ []) → t4 ≡ t3 ++ text_of fs → t4 ≡ t0 ++ text_of ((p ∷ ps) ++ (f ∷ fs))
 two_parts t0 t1 t2 t3 t4 p f ps fs first second third fourth =
     rw (fourth, third, second, first) (simp (append_assoc, text_of_append) refl)
 
--- a section behind a body: lines between the words that open it and those that shut it
+-- a section after a body: lines between the words that open it and those that shut it
 pub section : (body t1 t2 t3 t4 opens shuts : List ℕ) (ls ms : List (List ℕ)) → t1 ≡ body ++ opens → t2 ≡ t1 ++ text_of ls
     → t3 ≡ t2 ++ text_of ms → t4 ≡ t3 ++ shuts → t4 ≡ body ++ (opens ++ (text_of (ls ++ ms) ++ shuts))
 section body t1 t2 t3 t4 opens shuts ls ms first second third fourth =

@@ -16,7 +16,7 @@ use Rattle.irig_edit.specs.Single.{FitsSingle, SingleDelta, turned_single}
 use Rattle.irig_edit.specs.Single.SingleDelta.{Spliced, Toggled, Shifted, Formatted, Marked}
 use Rattle.irig_edit.specs.State.{IsState, State}
 
--- the steps back that a machine keeps are those of the journal that it stands for
+-- the steps back that a machine keeps are those of the journal that it means
 pub steps_back-kept : (s : State) (cursor : ℕ) (steps : List (Step Delta))
     → steps_back (kept s cursor (exchange_back s steps)) (kept_back s steps) ≡ map saved_step steps
 steps_back-kept s cursor [] = refl

@@ -78,13 +78,13 @@ moved_from_zero i j d s lawful first order last can =
     s.micros (following 0 (edges_of (take (i - 1) s.pulses))) (first_or (s.micros + 1) (edges_of (drop (j - 1 + 1) s.pulses))) d (omega arith) lawful.track refl refl can in
     omega (arith, fits.0)
 
--- the marks that stand on the pulses may move with them
+-- the marks that are on the pulses may move with them
 pub marks_may : (i j : ℕ) (d : ℤ) (s : State) → IsState s → 1 ≤ i → i ≤ j → j ≤ length s.pulses → CanShift s.micros (i - 1) (j - 1) d s.pulses
     → AllMayMove s.micros d (map (stands (pulse_of i s).rise (pulse_of j s).fall) s.marks) s.marks
 marks_may i j d s lawful first order last can =
     may_between s.micros (pulse_of i s).rise (pulse_of j s).fall d s.marks (moved_from_zero i j d s lawful first order last can) (moved_within i j d s lawful first order last can)
 
--- the state after a shift of pulses, and of the marks that stand on them, is that after the call
+-- the state after a shift of pulses, and of the marks that are on them, is that after the call
 pub shifted_becomes : (i j : ℕ) (d : ℤ) (s : State) → IsState s → 1 ≤ i → i ≤ j → j ≤ length s.pulses → CanShift s.micros (i - 1) (j - 1) d s.pulses
     → Becomes (Shift i j d) s (turned_single s (Shifted (i - 1) (j - 1) d (map (stands (pulse_of i s).rise (pulse_of j s).fall) s.marks))).0 j
 shifted_becomes i j d s lawful first order last can =

@@ -105,7 +105,7 @@ fit-take zero s steps fit = tt
 fit-take (suc n) s [] fit = tt
 fit-take (suc n) s (near ∷ steps) fit = (fit.0, fit-take n (turned s near.change).0 steps fit.1)
 
--- what the edits exchanged that made a state and so many behind it
+-- what the edits exchanged that made a state and this many before it
 abbrev sum_of : ℕ → State → List (Step Delta) → Exchange
 sum_of k s steps = together (exchange_back s steps) (take k (kept_back s steps))
 
@@ -149,7 +149,7 @@ sum_forth (suc k) s (near ∷ steps) there is fit =
     ap (both (looks_of after (turned s near.change).1)) (sum_forth k after steps (omega (arith, there)) (IsState-turned s near.change is fit.0) fit.1)
     ∙ forth_along s near.change (changes_of (take (suc k) steps)) is fit.0 (fit-take (suc k) after steps fit.1)
 
--- the singles of the change that takes them back, and of the one that makes them
+-- the singles of the change that undoes them, and of the one that makes them
 singles_way_back : (k : ℕ) (s : State) (steps : List (Step Delta)) → k < length steps
     → singles_of (sum_of k s steps).way_back ≡ all_singles (changes_of (take (suc k) steps))
 singles_way_back k s [] there = absurd (omega (arith, there))

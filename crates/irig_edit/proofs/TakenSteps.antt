@@ -131,7 +131,7 @@ lines_short h now names left s before so_far few =
       length-append (step_lines s) (steps_lines left),
     )
 
--- what an answer tells
+-- what an answer says
 pub told_yes : (b : Bool) (P Q : Type 0) → b ≡ true → Told b P Q → P
 told_yes true P Q is h = h
 told_yes false P Q is h = absurd (cc)

@@ -1,4 +1,4 @@
--- When the level can be turned over, and what comes of it.
+-- When the level can be inverted, and what comes of it.
 use Rattle.std.proofs.Common.{◌≡◌, ◌≤◌, ◌<◌, ◌+◌, ◌-◌, ◌^◌, ◌==◌, nat_lt, cond, ℕ, List, [], ◌∷◌, Bool, true, false, length, refl, ap, ◌∙◌, arith}
 use Rattle.std.proofs.lemmas.Bool.Decides.{nat_tests}
 use Rattle.irig_track.specs.Edges.{edges_of, has, is_edge}
@@ -16,7 +16,7 @@ use Rattle.irig_edit.specs.Laws.Edges.{edges_of-toggled}
 use Rattle.irig_edit.specs.State.{State, IsState}
 use Rattle.irig_edit.specs.Conditions.{is_overfull, is_full}
 
--- what can be turned over is not overfull
+-- what can be inverted is not overfull
 pub overfull_not : (a b : ℕ) (s : State) → IsState s → CanToggle s.micros a b s.pulses → is_overfull a b s ≡ false
 overfull_not a b s lawful can = by_case (is_full s) refl (is_edge a s.pulses) refl (is_edge b s.pulses) refl where
   by_case : (full : Bool) → is_full s ≡ full → (first : Bool) → is_edge a s.pulses ≡ first → (second : Bool) → is_edge b s.pulses ≡ second → is_overfull a b s ≡ false
@@ -64,7 +64,7 @@ length-flipped t (x ∷ xs) = by_tests (nat_lt t x) (x == t) (length-flipped t x
   by_tests false true rest = omega arith
   by_tests false false rest = omega arith
 
--- at most one pulse more
+-- at most one more pulse
 pub length-toggled : (s : State) (a b : ℕ) → CanToggle s.micros a b s.pulses → length (turned_single s (Toggled a b)).0.pulses ≤ length s.pulses + 1
 length-toggled s a b can =
     let edges = edges_of-toggled s.micros a b s.pulses can in

@@ -49,7 +49,7 @@ made_all first now all xs i over so_far =
     subst (λ (l : List Single). MadeSoFar first all now l []) (take_all i xs over)
     (subst (λ (l : List Single). MadeSoFar first all now (take i xs) l) (drop_of_length-le xs over) so_far)
 
--- and what leads back stands in the place of each
+-- and what leads back is there instead of each
 pub made_backs : (first now : State) (all xs : List Single) → MadeSoFar first all now xs []
     → map single_of xs ≡ backs turned_single first (map single_of all)
 made_backs first now all xs so_far = sym (so_far.backs ∙ append-nil (map single_of xs))

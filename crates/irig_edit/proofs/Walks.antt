@@ -1,4 +1,4 @@
--- A state that goes on along steps, and back again.
+-- A state that continues along steps, and back again.
 use Rattle.std.proofs.Common.{◌≡◌, ℕ, suc, zero, ◌++◌, ◌≤◌, List, [], ◌∷◌, Some, length, take, drop, refl, ap, ap₂, sym, ◌∙◌, subst, arith}
 use Rattle.std.proofs.lemmas.List.{take-append-drop, take_all}
 use Rattle.std.proofs.Math.ListN.{drop_of_length-le}
@@ -38,7 +38,7 @@ pub IsState-gone : (h : History State Delta) (ds : List (Step Delta)) → IsStat
 IsState-gone h [] is can = is
 IsState-gone h (d ∷ ds) is can = IsState-gone (gone_on h d) ds (IsState-turned h.state d.change is can.0.fits) can.1
 
--- a step that was taken is taken back: it stands ahead then
+-- a step that was taken is undone: it is ahead then
 pub back_once : (h : History State Delta) (d : Step Delta) (es : List (Step Delta)) → IsState h.state → CanTake h.state d
     → stepped_back turned (ahead_of (gone_on h d) es) ≡ Some (ahead_of h (d ∷ es))
 back_once h d es is can =
@@ -65,7 +65,7 @@ split_more (suc n) (d ∷ ds) short =
     let rest = split_more n ds (omega arith) in
     (rest.0, (ap (λ (xs : List (Step Delta)). d ∷ xs) rest.1.0, rest.1.1))
 
--- one more of the steps that were taken is taken back
+-- one more of the steps that were taken is undone
 pub back_more : (h old new : History State Delta) (ds : List (Step Delta)) (n : ℕ) → IsState h.state → CanTakeAll h.state ds
     → suc n ≤ length ds → old ≡ ahead_of (gone_along h (take (suc n) ds)) (drop (suc n) ds)
     → stepped_back turned old ≡ Some new → new ≡ ahead_of (gone_along h (take n ds)) (drop n ds)
@@ -89,7 +89,7 @@ pub future_gone : (h : History State Delta) (ds : List (Step Delta)) → h.futur
 future_gone h [] none = none
 future_gone h (d ∷ ds) none = future_gone (gone_on h d) ds refl
 
--- before any is taken back
+-- before any is undone
 pub back_none : (h old : History State Delta) (ds : List (Step Delta)) (n : ℕ) → old ≡ gone_along h ds → h.future ≡ []
     → length ds ≡ n → old ≡ ahead_of (gone_along h (take n ds)) (drop n ds)
 back_none h old ds n stands none long =

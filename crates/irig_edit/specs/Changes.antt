@@ -14,8 +14,8 @@ use Rattle.irig_edit.specs.Regenerated.{frames_end, frames_pulses, rising_before
 use Rattle.irig_edit.specs.Single.SingleDelta.{Spliced, Toggled, Shifted, Formatted, Marked}
 use Rattle.irig_edit.specs.State.{State}
 
--- what an edit of a state changes. Most put pulses in the stead of those that they take away, an
--- inserted one behind those that rise at or before its fall; a shift moves the marks that stand
+-- what an edit of a state changes. Most insert pulses instead of those that they remove, an
+-- inserted one after those that rise at or before its fall; a shift moves the marks that are
 -- from the first rise to the last fall
 abbrev pub change_by : Edit → State → Delta
 change_by (Insert a b) s = Alone (Spliced (risen_by b s.pulses) 0 (pulse a b ∷ []))

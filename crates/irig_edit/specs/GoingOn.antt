@@ -1,4 +1,4 @@
--- A session that was saved, and goes on where it is opened again. This project's own.
+-- A session that was saved, and continues when it is opened again. This project's own.
 use Rattle.std.specs.Prelude.{◌≡◌, ◌≤◌, ◌^◌, None, length}
 use Rattle.irig_codes.specs.Format.{FormatView}
 use Rattle.irig_journal.specs.Groups.{over}
@@ -19,7 +19,7 @@ GoesOn v = (format : FormatView) (w : SessionView)
     → IsOpened None (saved_text (machine_in v)) format w
     → grouped_in w ≡ over None (machine_in v)
 
--- nothing but want of memory refuses it
+-- it is refused only if memory runs out
 abbrev pub IsAlwaysOpened : SessionView → Type 0
 IsAlwaysOpened v = (fault : VcdFault)
     → IsUnopened None (saved_text (machine_in v)) fault

@@ -22,7 +22,7 @@ pub record IsInGroup (calls : List Answered) (old last : Grouped Kept) : Type 0 
   pub stays : AllByRecursion StaysOpen (accepted_of calls)
   pub runs : Runs calls start last
 
--- a past is this one, or this one and a step more, which leads to this state
+-- a past is this one, or this one and one more step, which leads to this state
 abbrev pub IsAtMostOneMore : List Kept → State → List Kept → Type 0
 IsAtMostOneMore below s past = (past ≡ below)
     ⊎ ((oldest : Kept) × (past ≡ oldest ∷ below) × (oldest.state ≡ s))
@@ -34,7 +34,7 @@ AbortGivesBack = (calls : List Answered) (old last new : Grouped Kept)
     → new ≡ over None
     (record { past = old.machine.past; present = old.machine.present; future = [] })
 
--- an end leaves one step more or none: it leads to the state of the begin
+-- an end leaves one more step or none: it leads to the state of the begin
 abbrev pub EndLeavesOneStep : Type 0
 EndLeavesOneStep = (calls : List Answered) (old last new : Grouped Kept)
     → IsInGroup calls old last → Steps End last (Ok tt) new

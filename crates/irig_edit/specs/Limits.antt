@@ -17,7 +17,7 @@ pub record IsMachine (m : Machine Kept) : Type 0 where
   pub present : IsKept m.present
   pub future : AllByRecursion IsKept m.future
 
--- the past is at least as long as the floor's length, and the present that stood there is within
+-- the past is at least as long as the floor's length, and the present that was there is within
 -- its limits
 abbrev pub IsFloor : ℕ → Option (Floor Kept) → Type 0
 IsFloor long None = Unit {0}

@@ -2,17 +2,17 @@
 use Rattle.std.specs.Prelude.{ℕ, ℤ, ◌≤◌, ◌+◌, ◌-◌, Bool, true, false, List, [], ◌∷◌, Option, Some, None, nat_le, ◌&&◌, option_map, if◌then◌else◌}
 use Rattle.irig_track.specs.Shifts.{ahead, back}
 
--- the time d microseconds later, where that is not before 0
+-- the time d microseconds later, if that is not before 0
 abbrev pub moved_time : ℤ → ℕ → ℕ
 moved_time d t = t + ahead d - back d
 
--- a mark that stands from the rise of pulse i to the fall of pulse j, moved
+-- a mark that is from the rise of pulse i to the fall of pulse j, moved
 abbrev pub moved_mark : ℕ → ℕ → ℤ → Option ℕ → Option ℕ
 moved_mark low high d None = None
 moved_mark low high d (Some t) =
     if nat_le low t && nat_le t high then Some (moved_time d t) else Some t
 
--- a mark moved by d, where it is named
+-- a mark moved by d, if it is named
 abbrev pub moved_if : ℤ → Bool → Option ℕ → Option ℕ
 moved_if d named mark = if named then option_map (moved_time d) mark else mark
 
@@ -35,7 +35,7 @@ AllMayMove micros d (true ∷ more) (mark ∷ marks) =
     MayMove micros d mark × AllMayMove micros d more marks
 AllMayMove micros d (false ∷ more) (mark ∷ marks) = AllMayMove micros d more marks
 
--- a mark stands from a time to another
+-- a mark is from a time to another
 abbrev pub stands : ℕ → ℕ → Option ℕ → Bool
 stands low high None = false
 stands low high (Some t) = nat_le low t && nat_le t high

@@ -39,8 +39,8 @@ head_fault s saved =
 abbrev pub line_of_future : Saved → ℕ
 line_of_future saved = 5 + length (mark_lines 97 saved.marks) + length (steps_lines saved.past)
 
--- the first step at fault, where the steps forward are counted on this line: of the steps back, the
--- newest first, one that stands so many lines above; or else one of the steps forward
+-- the first step at fault, if the steps forward are counted on this line: of the steps back, the
+-- newest first, one that is this many lines above; or else one of the steps forward
 abbrev pub IsStepAtFault : State → List SavedStep → List SavedStep → ℕ → ℕ → Type 0
 IsStepAtFault s past future line fault =
     ((count : ℕ) × (StopsAfter s (reverse past) count

@@ -15,8 +15,8 @@ use Rattle.irig_edit.specs.Opened.{IsAccepted, IsLineAtFault, state_of}
 use Rattle.irig_edit.specs.Session.{SessionView, started}
 use Rattle.irig_edit.specs.State.{recording_of}
 
--- the session of a recording in a format: its cursor stands at the last pulse, no mark is set, and
--- no step can be taken back
+-- the session of a recording in a format: its cursor is at the last pulse, no mark is set, and
+-- no step can be undone
 pub record IsStart (r : RecordingView) (f : FormatView) (v : SessionView) : Type 0 where
   pub start : v ≡ started v.looks v.present.state
   pub recording : recording_of v.present.state ≡ r
@@ -49,7 +49,7 @@ IsJournalFault r text line =
     IsFault line text
     ⊎ ((saved : Saved) × IsTextOf text saved × IsLineAtFault (state_of r saved) saved line)
 
--- a fault of the journal at a line of which this holds, or want of memory
+-- a fault of the journal at a line for which this holds, or out of memory
 abbrev pub IsBad : (ℕ → Type 0) → VcdFault → Type 0
 IsBad P (BadJournal line) = P line
 IsBad P OutOfMemory = Unit {0}

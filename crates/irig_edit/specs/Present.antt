@@ -1,4 +1,4 @@
--- What contracts see of the state that stands. This project's own.
+-- What contracts see of the present state. This project's own.
 use Rattle.std.specs.Prelude.{ℕ}
 use Rattle.irig_index.specs.Index.{IndexView}
 use Rattle.irig_edit.specs.State.{State}
@@ -13,7 +13,7 @@ pub record PresentView : Type 0 where
 abbrev pub present_view : State → ℕ → IndexView → PresentView
 present_view s n i = record { state = s; spare = n; index = i }
 
--- the state that stands, without its spare room
+-- the present state, without its spare room
 abbrev pub state_in : PresentView → State
 state_in p = p.state
 

@@ -27,14 +27,14 @@ abbrev pub frame_read : FormatView → MomentView → ℕ → ℕ → ℕ → Re
 frame_read f moment control place k =
     record { marker = place + 100 * k; verdict = Read (frame_fields f moment k control) Fine }
 
--- each frame but the first is read as what it was made to tell, wherever the pulses stand
+-- each frame but the first is read as what it was made to carry, wherever the pulses are
 abbrev pub MadeFramesReadBack : Type 0
 MadeFramesReadBack = (f : FormatView) (moment : MomentView) (start count control k : ℕ)
     (before after : List Pulse) → CanMake f moment count control → 1 ≤ k → k < count
     → Contains (frames f (before ++ (frames_pulses f start count moment control ++ after)))
     (frame_read f moment control (length before) k)
 
--- the first one too, where the pulse before it is a position identifier, in step
+-- the first one too, if the pulse before it is a position identifier, in step
 abbrev pub FirstFrameReadsBack : Type 0
 FirstFrameReadsBack = (f : FormatView) (moment : MomentView) (start count control : ℕ) (p : Pulse)
     (before after : List Pulse) → CanMake f moment count control → 1 ≤ count
@@ -51,11 +51,11 @@ NoOtherFrameIsRead = (f : FormatView) (moment : MomentView) (start count control
     → length before < r.marker → r.marker < length before + 100 * count
     → (k : ℕ) × (1 ≤ k) × (k < count) × (r ≡ frame_read f moment control (length before) k)
 
--- how many pulses stand before those of a regeneration
+-- how many pulses are before those of a regeneration
 abbrev pub pulses_before : ℕ → Grouped Kept → ℕ
 pulses_before start g = length (rising_before start g.machine.present.state.pulses)
 
--- after an accepted regeneration the frames that begin among its pulses, behind the first of these,
+-- after an accepted regeneration the frames that begin among its pulses, after the first of these,
 -- are those that were asked for, but for the first
 abbrev pub RegenReadsBack : Type 0
 RegenReadsBack = (start count control : ℕ) (moment : MomentView) (old new : Grouped Kept)
@@ -66,7 +66,7 @@ RegenReadsBack = (start count control : ℕ) (moment : MomentView) (old new : Gr
     ↔ ((k : ℕ) × (1 ≤ k) × (k < count)
     × (r ≡ frame_read old.machine.present.state.format moment control (pulses_before start old) k))
 
--- and the first one too, where the pulse before it is a position identifier, in step
+-- and the first one too, if the pulse before it is a position identifier, in step
 abbrev pub RegenReadsFirstBack : Type 0
 RegenReadsFirstBack = (start count control n : ℕ) (moment : MomentView) (old new : Grouped Kept)
     (p : Pulse) → IsMachine old.machine → IsMoment moment.day moment.hundredths

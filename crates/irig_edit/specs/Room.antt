@@ -19,13 +19,13 @@ abbrev pub TakesIn : Single → Type 0
 TakesIn (Splice s) = s.count ≤ s.taken.capacity
 TakesIn single = Unit {0}
 
--- there are places for the pulses that a change puts, with so many to spare in the track
+-- there are places for the pulses that a change inserts, with this many to spare in the track
 abbrev pub PutsIn : ℕ → SingleDelta → Type 0
 PutsIn spare (Spliced at count put) = length put ≤ spare + count
 PutsIn spare (Toggled a b) = 1 ≤ spare
 PutsIn spare single = Unit {0}
 
--- how many records a turn may bring, beside those that stand
+-- how many records a turn may bring, in addition to those there are
 abbrev pub records_for : State → SingleDelta → ℕ
 records_for s (Spliced at count put) = length put + 100
 records_for s (Toggled a b) =
@@ -44,7 +44,7 @@ pub record HasRoomFor (p : PresentView) (single : Single) : Type 0 where
 abbrev pub brought : List Single → ℕ
 brought singles = sum_by (λ single. brought_by (single_of single)) singles
 
--- there are places for so many pulses more; and of records, with those that stand, twice as many
+-- there are places for this many more pulses; and of records, with those there are, twice as many
 -- as there may be pulses, and 100
 pub record HasPlacesFor (more : ℕ) (p : PresentView) : Type 0 where
   pub spare : more ≤ p.spare

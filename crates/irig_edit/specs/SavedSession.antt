@@ -10,14 +10,14 @@ use Rattle.irig_edit.specs.Kept.{Kept}
 use Rattle.irig_edit.specs.Saved.{saved_step}
 use Rattle.irig_edit.specs.State.{recording_of}
 
--- the steps that lead back from a state through those before it, the newest first: each takes back
+-- the steps that lead back from a state through those before it, the newest first: each undoes
 -- the edit that made a state, and leads to the cursor of the state before it
 abbrev pub steps_back : Kept → List Kept → List Step
 steps_back k [] = []
 steps_back k (before ∷ past) =
     saved_step (step k.made.way_back before.cursor) ∷ steps_back before past
 
--- the steps that lead on to states, the next first: each makes the edit again that made a state,
+-- the steps that lead on to states, the next first: each redoes the edit that made a state,
 -- and leads to its cursor
 abbrev pub steps_on : List Kept → List Step
 steps_on [] = []
@@ -34,6 +34,6 @@ saved_of m = record {
   future = steps_on m.future;
 }
 
--- the text of a machine: the dump of its present, and its journal behind it
+-- the text of a machine: the dump of its present, and its journal after it
 unfoldable pub saved_text : Machine Kept → List ℕ
 saved_text m = file_text (recording_of m.present.state) ++ journal_section (saved_of m)

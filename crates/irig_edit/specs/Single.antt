@@ -10,8 +10,8 @@ use Rattle.irig_track.specs.Toggles.{CanToggle, toggled}
 use Rattle.irig_edit.specs.State.{State, IsMark, state, with_pulses}
 use Rattle.irig_edit.specs.Marks.{AllMayMove, marks_moved}
 
--- Pulses count from 0 here, and a letter a to z is a number from 0. A splice takes as many pulses
--- from a place on, and puts others in their stead; a toggle turns two times; a shift moves pulses,
+-- Pulses count from 0 here, and a letter a to z is a number from 0. A splice removes as many pulses
+-- from a place on, and inserts others instead; a toggle turns two times; a shift moves pulses,
 -- both included, by a distance, and with them the marks of the letters named.
 pub data SingleDelta : Type 0 where
   Spliced : ℕ → ℕ → List Pulse → SingleDelta

@@ -16,7 +16,7 @@ abbrev pub Told : Bool → Type 0 → Type 0 → Type 0
 Told true P Q = P
 Told false P Q = Q
 
--- so many lines stand before the step that is not taken, and so many up to its end
+-- this many lines are before the step that is not taken, and this many up to its end
 pub record StopsAt (s : State) (saves : List SavedStep) (before behind : ℕ) : Type 0 where
   pub count : ℕ
   pub stops : StopsAfter s saves count
@@ -24,12 +24,12 @@ pub record StopsAt (s : State) (saves : List SavedStep) (before behind : ℕ) : 
   pub behind_are : behind ≡ length (steps_lines (take (count + 1) saves))
   pub few : before < 2 ^ 63
 
--- of want of memory nothing is said
+-- if memory runs out nothing is said
 abbrev pub IsStop : State → List SavedStep → Stop → Type 0
 IsStop s saves (At before behind) = StopsAt s saves before behind
 IsStop s saves Memory = Unit {0}
 
--- steps back and forward that are named can be taken, and stand behind the state and ahead of it
+-- steps back and forward that are named can be taken, and are the past and the future of the state
 pub record HasTaken (old : History State Delta) (past future : List SavedStep)
     (new : History State Delta) : Type 0 where
   pub behind : List (Step Delta)

@@ -22,7 +22,7 @@ pub record AreTaken (s : State) (saves : List SavedStep) (steps : List (Step Del
   pub named : saves ≡ map saved_step steps
   pub can : CanTakeAll s steps
 
--- of saved steps so many are taken, and then one that names no step that can be
+-- of saved steps this many are taken, and then one that names no step that can be
 pub record StopsAfter (s : State) (saves : List SavedStep) (count : ℕ) : Type 0 where
   pub there : count < length saves
   pub taken : (steps : List (Step Delta)) × AreTaken s (take count saves) steps

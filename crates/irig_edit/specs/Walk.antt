@@ -1,4 +1,4 @@
--- A state that goes on along steps. This project's own.
+-- A state that continues along steps. This project's own.
 use Rattle.std.specs.Prelude.{ℕ, List, [], ◌∷◌}
 use Rattle.irig_journal.specs.declared.step.Step.{Step}
 use Rattle.irig_journal.specs.History.{FitInTurn, History, step}
@@ -13,7 +13,7 @@ walk s cursor past future = record { state = s; cursor = cursor; past = past; fu
 abbrev pub Fitting : History State Delta → Type 0
 Fitting h = FitInTurn Fits turned h.state h.past × FitInTurn Fits turned h.state h.future
 
--- a change made, with the cursor that stood where it leads back
+-- a change made, with the cursor of the state that it leads back to
 abbrev pub changed : History State Delta → Delta → History State Delta
 changed h d =
     walk (turned h.state d).0 h.cursor (step (turned h.state d).1 h.cursor ∷ h.past) []

@@ -1,4 +1,4 @@
-//! A change of the state that stands: one, or several in a group.
+//! A change of the present state: one, or several in a group.
 
 ghost use Rattle.std.specs.Prelude.{◌≡◌, ◌-◌, ◌≤◌, ◌^◌, IfSome, OnOk, flat_map, length, map, min, vec_capacity, vec_len};
 ghost use Rattle.std.specs.List.{AllByRecursion};
@@ -63,7 +63,7 @@ impl Change {
     }
 }
 
-/// How many single changes there are in all, where this is a number of 64 bits.
+/// How many single changes there are in all, if this is a number of 64 bits.
 pub(crate) fn count_in(changes: &[Change]) -> Option<usize>
     ensures { IfSome result (λ n. n ≡ length (flat_map parts_of changes.now)) }
 {

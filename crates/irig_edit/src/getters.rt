@@ -1,4 +1,4 @@
-//! What a session tells of its present state.
+//! What a session shows of its present state.
 
 ghost use Rattle.std.specs.Prelude.{◌≡◌, ◌≤◌, ◌+◌, ◌-◌, length, Some, IfSome, IfOk, slice_get, ◌∷◌};
 ghost use Rattle.std.specs.List.{sum_by};
@@ -13,7 +13,7 @@ use irig_index::Record;
 use irig_track::Pulse;
 use std::alloc::AllocError;
 
-/// What stands.
+/// The present state.
 impl Session {
     /// How long the track is, in microseconds.
     pub fn length(&self) -> u64
@@ -51,7 +51,7 @@ impl Session {
         self.present.format()
     }
 
-    /// The time of a mark in microseconds, where it is set. The letter is one of a to z.
+    /// The time of a mark in microseconds, if it is set. The letter is one of a to z.
     pub fn mark_time(&self, letter: u8) -> Option<u64>
         requires { (97 ≤ letter) × (letter ≤ 122) }
         ensures { slice_get self.now.present.state.marks (letter - 97) ≡ Some result }
@@ -66,22 +66,22 @@ impl Session {
         self.cursor
     }
 
-    /// How many steps can be taken back.
+    /// How many steps can be undone.
     pub fn steps_back(&self) -> usize
         ensures { result ≡ length self.now.past }
     {
         self.journal.steps_back()
     }
 
-    /// How many steps can be made again.
+    /// How many steps can be redone.
     pub fn steps_forward(&self) -> usize
         ensures { result ≡ length self.now.future }
     {
         self.journal.steps_forward()
     }
 
-    /// How many pulses the steps back hold, and how many the steps forward hold. Of an edit in the
-    /// past those are held that it took away, of one in the future those that it put.
+    /// How many pulses the steps back hold, and how many the steps forward hold. An edit in the
+    /// past holds those that it removed, one in the future those that it inserts.
     pub fn held(&self) -> (u128, u128)
         ensures past { result.0 ≡ sum_by taken_for (self.now.present ∷ self.now.past) }
         ensures future { result.1 ≡ sum_by put_for self.now.future }

@@ -10,7 +10,7 @@ use irig_journal::JournalFault;
 impl Session {
     /// Opens a group: what is edited up to its end becomes one step. This takes no memory.
     ///
-    /// E12 where a group is open.
+    /// E12 if a group is open.
     pub fn begin(&mut self) -> Result<(), Refusal>
         ensures step { Steps Begin self.old result self.new }
         ensures looks { LooksAfter Begin self.old result self.new }

@@ -16,7 +16,7 @@ use irig_vcd::{Recording, VcdFault};
 use std::alloc::Global;
 
 /// The state of a recording with format, cursor and marks of a journal, with no steps, and the
-/// number of the line behind its marks.
+/// number of the line after its marks.
 pub(crate) fn start(
     alloc: Global,
     recording: Recording,
@@ -46,8 +46,8 @@ pub(crate) fn start(
 }
 
 impl Present {
-    /// Puts these marks in the place of all, where none is beyond the length: the answer is the
-    /// number of the line behind theirs, from 1, the first being line 4. Else it is the number of
+    /// Replaces all marks by these, if none is beyond the length: the answer is the
+    /// number of the line after theirs, from 1, the first being line 4. Else it is the number of
     /// the line of the first that is.
     fn put_marks(&mut self, marks: &Marks) -> Result<usize, usize>
         ensures { MatchResult result
@@ -65,7 +65,7 @@ impl Present {
     }
 }
 
-/// The number of the line behind those of marks, from 1, the first being line 4; where one is
+/// The number of the line after those of marks, from 1, the first being line 4; if one is
 /// beyond a length in microseconds, the number of the first such line.
 fn line_behind(marks: &Marks, micros: u64) -> Result<usize, usize>
     ensures { MatchResult result

@@ -1,4 +1,4 @@
-//! A session: a track under edit, in which every edit can be taken back.
+//! A session: a track under edit, in which every edit can be undone.
 #![tactic(auto)]
 
 mod change;

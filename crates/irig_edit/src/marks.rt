@@ -11,7 +11,7 @@ pub(crate) type Marks = [Option<u64>; 26];
 /// For each letter a to z whether it is named.
 pub(crate) type Letters = [bool; 26];
 
-/// A time moved by `by`, both in microseconds: 0 where it would come before 0.
+/// A time moved by `by`, both in microseconds: 0 if it would come before 0.
 pub(crate) fn moved_time(time: u64, by: i64) -> u64
     requires { time ≤ 2 ^ 40 }
     ensures { result ≡ moved_time by time }
@@ -23,7 +23,7 @@ pub(crate) fn moved_time(time: u64, by: i64) -> u64
     }
 }
 
-/// A mark moved by `by`, in microseconds, where it is named.
+/// A mark moved by `by`, in microseconds, if it is named.
 fn moved_if(mark: Option<u64>, named: bool, by: i64) -> Option<u64>
     requires { IsMark (2 ^ 40) mark }
     ensures { result ≡ moved_if by named mark }
@@ -44,7 +44,7 @@ pub(crate) fn move_marks(marks: &mut Marks, letters: &Letters, by: i64)
     }
 }
 
-/// Whether a mark stands from `low` to `high`, in microseconds.
+/// Whether a mark is from `low` to `high`, in microseconds.
 fn stands(mark: Option<u64>, low: u64, high: u64) -> bool
     ensures { result ≡ stands low high mark }
 {
@@ -54,7 +54,7 @@ fn stands(mark: Option<u64>, low: u64, high: u64) -> bool
     }
 }
 
-/// The letters whose marks stand from `low` to `high`, in microseconds.
+/// The letters whose marks are from `low` to `high`, in microseconds.
 pub(crate) fn letters_from(marks: &Marks, low: u64, high: u64) -> Letters
     ensures { result ≡ map (stands low high) marks.now }
 {

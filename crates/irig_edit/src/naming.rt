@@ -15,7 +15,7 @@ use crate::splice::Splice;
 use irig_codes::Format;
 use std::alloc::{AllocError, Global};
 
-/// The change that is named; `None` where there is none that any state allows.
+/// The change that is named; `None` if there is none that any state allows.
 pub(crate) fn change_named(
     alloc: Global,
     name: irig_saved::Change,
@@ -36,7 +36,7 @@ pub(crate) fn change_named(
     }
 }
 
-/// The single changes that are named; `None` where there are none that any state allows.
+/// The single changes that are named; `None` if there are none that any state allows.
 fn singles_named(alloc: Global, names: irig_saved::Singles) -> Result<Option<Singles>, AllocError>
     ensures { IfOk result (λ named. MatchOption named
         ((ds : List SingleDelta) (s : State) → FitAll FitsSingle turned_single s ds
@@ -55,7 +55,7 @@ fn singles_named(alloc: Global, names: irig_saved::Singles) -> Result<Option<Sin
     Ok(Some(Singles { items }))
 }
 
-/// The single change that is named; `None` where there is none that any state allows.
+/// The single change that is named; `None` if there is none that any state allows.
 fn single_named(alloc: Global, name: irig_saved::Single) -> Option<Single>
     ensures { MatchOption result
         ((d : SingleDelta) (s : State) → FitsSingle s d → name ≡ saved_single d → ⊥)

@@ -49,7 +49,7 @@ impl Session {
     }
 }
 
-/// The recording of a dump, and the journal that it carries, of which no step was tried.
+/// The recording of a dump, and the journal that it carries. None of its steps was tried.
 fn parts_of(
     alloc: Global,
     bytes: Vec<u8>,

@@ -1,4 +1,4 @@
-//! The state that stands, with its frames.
+//! The present state, with its frames.
 
 ghost use Rattle.std.specs.Prelude.{◌≡◌, ◌<◌, ◌≤◌, ◌+◌, ◌-◌, ◌^◌, length, map, ◌↔◌, IsTrue, IfOk, Some, slice_get};
 ghost use Rattle.irig_track.specs.Splices.{risen_by};
@@ -17,7 +17,7 @@ use irig_vcd::Recording;
 use std::alloc::{AllocError, Global};
 use std::marker::Model;
 
-/// The state that stands, a track, a format and the marks a to z, and the frames of the track.
+/// The present state, a track, a format and the marks a to z, and the frames of the track.
 #[derive(Drop)]
 pub struct Present {
     pub(crate) track: Track,
@@ -143,7 +143,7 @@ impl Present {
         mark
     }
 
-    /// The letters whose marks stand from `low` to `high`, in microseconds.
+    /// The letters whose marks are from `low` to `high`, in microseconds.
     pub(crate) fn letters_from(&self, low: u64, high: u64) -> Letters
         ensures { result ≡ map (stands low high) self.now.state.marks }
     {

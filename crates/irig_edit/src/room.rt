@@ -1,4 +1,4 @@
-//! Whether a change of the state that stands can be made, and room for its turn.
+//! Whether a change of the present state can be made, and room for its turn.
 
 ghost use Rattle.std.specs.Prelude.{◌≡◌, ◌≤◌, ◌↔◌, IfOk, IsTrue, OnErr, OnOk, flat_map, length, map, vec_capacity, vec_len};
 ghost use Rattle.irig_track.specs.Shifts.{CanShift};
@@ -18,7 +18,7 @@ use std::alloc::AllocError;
 
 /// Whether a change can be made.
 impl Present {
-    /// Whether the level can be turned over from `a` to `b`, in microseconds, within the limits.
+    /// Whether the level can be inverted from `a` to `b`, in microseconds, within the limits.
     pub(crate) fn can_toggle(&self, a: u64, b: u64) -> bool
         ensures { IsTrue result ↔ CanToggle self.now.state.micros a b self.now.state.pulses }
     {
@@ -74,7 +74,7 @@ impl Present {
         self.index.reserve(records)
     }
 
-    /// How many records a turn of a single change may bring, beside those that stand.
+    /// How many records a turn of a single change may bring, in addition to those there are.
     fn records_for(&self, single: &Single) -> usize
         requires fits { FitsSingle self.now.state (single_of single.now) }
         ensures records { result ≡ records_for self.now.state (single_of single.now) }
@@ -95,7 +95,7 @@ impl Present {
         }
     }
 
-    /// Makes places in the track for the pulses that a single change puts.
+    /// Makes places in the track for the pulses that a single change inserts.
     fn reserve_put(&mut self, single: &Single) -> Result<(), AllocError>
         ensures state { self.new.state ≡ self.old.state }
         ensures index { self.new.index ≡ self.old.index }
@@ -126,7 +126,7 @@ impl Present {
         self.reserve_brought(singles.brought())
     }
 
-    /// Makes room for turns that bring so many pulses at most, counted up to 2^64 - 1.
+    /// Makes room for turns that bring this many pulses at most, counted up to 2^64 - 1.
     fn reserve_brought(&mut self, brought: usize) -> Result<(), AllocError>
         ensures state { self.new.state ≡ self.old.state }
         ensures looks { self.new.index.looks ≡ self.old.index.looks }

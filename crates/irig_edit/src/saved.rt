@@ -1,4 +1,4 @@
-//! A session is saved with its journal.
+//! Saves a session with its journal.
 
 ghost use Rattle.std.specs.Prelude.{◌≡◌, ◌++◌, ◌∷◌, [], IfOk, OnOk, codes, decimal, map, reverse};
 ghost use Rattle.irig_codes.specs.Words.{kind_word};
@@ -18,7 +18,7 @@ use irig_saved::{put_cursor, put_format, put_future, put_marks, put_name, put_pa
 use std::alloc::AllocError;
 
 impl Session {
-    /// The text of the track's dump with the journal behind it, as `docs/FORMATS.md` says under
+    /// The text of the track's dump with the journal after it, as `docs/FORMATS.md` says under
     /// "The saved journal". The steps of an open group are saved one by one.
     pub fn saved(&self) -> Result<Vec<u8>, AllocError>
         ensures { IfOk result (λ text. text.items ≡ saved_text (machine_in self.now)) }
@@ -32,7 +32,7 @@ impl Session {
     }
 }
 
-/// The lines of the present, without its pulses: format, cursor and marks, behind the journal's
+/// The lines of the present, without its pulses: format, cursor and marks, after the journal's
 /// name.
 fn put_present(text: &mut Vec<u8>, present: &Present, cursor: usize) -> Result<(), AllocError>
     ensures { OnOk result (text.new.items ≡ text.old.items ++ text_of (
@@ -48,7 +48,7 @@ fn put_present(text: &mut Vec<u8>, present: &Present, cursor: usize) -> Result<(
     put_marks(text, &present.marks)
 }
 
-/// The lines of the steps to both sides of the present, each side behind the line that counts it.
+/// The lines of the steps to both sides of the present, each side after the line that counts it.
 fn put_steps(text: &mut Vec<u8>, journal: &Journal<Present>) -> Result<(), AllocError>
     requires back { StepsCanBeNamed (past_of delta_of journal.now) }
     requires on { StepsCanBeNamed (future_of delta_of journal.now) }

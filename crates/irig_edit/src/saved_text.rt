@@ -24,7 +24,7 @@ use irig_saved::{
 use irig_track::Pulse;
 use std::alloc::AllocError;
 
-/// The lines of all steps that can be taken back, the oldest first.
+/// The lines of all steps that can be undone, the oldest first.
 pub(crate) fn put_past(text: &mut Vec<u8>, journal: &Journal<Present>) -> Result<(), AllocError>
     requires named { StepsCanBeNamed (past_of delta_of journal.now) }
     ensures { OnOk result (text.new.items ≡ text.old.items ++ text_of (steps_lines
@@ -36,7 +36,7 @@ pub(crate) fn put_past(text: &mut Vec<u8>, journal: &Journal<Present>) -> Result
     Ok(())
 }
 
-/// The lines of all steps that can be made again, the next first.
+/// The lines of all steps that can be redone, the next first.
 pub(crate) fn put_future(text: &mut Vec<u8>, journal: &Journal<Present>) -> Result<(), AllocError>
     requires named { StepsCanBeNamed (future_of delta_of journal.now) }
     ensures { OnOk result (text.new.items ≡ text.old.items ++ text_of (steps_lines

@@ -31,7 +31,7 @@ use irig_vcd::Recording;
 use std::alloc::{AllocError, Global};
 use std::marker::Model;
 
-/// A track with its format, marks and cursor, and the steps that can be taken back and made again.
+/// A track with its format, marks and cursor, and the steps that can be undone and redone.
 ///
 /// Pulses count from 1, and the cursor is the number of a pulse, or 0 before the first. Times are
 /// in microseconds. A refused call changes nothing.
@@ -63,8 +63,8 @@ impl Model for Session {
 }
 
 impl Session {
-    /// The session of a recording in a format. The cursor stands at the last pulse, no mark is
-    /// set, and no step can be taken back.
+    /// The session of a recording in a format. The cursor is at the last pulse, no mark is
+    /// set, and no step can be undone.
     pub fn open(alloc: Global, recording: Recording, format: Format) -> Result<Session, AllocError>
         ensures { IfOk result (λ s. (s ≡ started s.looks s.present.state)
             × (recording_of s.present.state ≡ recording) × (s.present.state.format ≡ format)
@@ -104,9 +104,9 @@ impl Session {
         self.change(Change::One(Single::SetMark { letter, time }), cursor)
     }
 
-    /// Takes the newest step back.
+    /// Undoes the newest step.
     ///
-    /// E9 where there is none; E14 where it was made before the open group was begun.
+    /// E9 if there is none; E14 if it was made before the open group was begun.
     pub fn undo(&mut self) -> Result<(), Refusal>
         ensures step { Steps Undo self.old result self.new }
         ensures looks { LooksAfter Undo self.old result self.new }
@@ -123,9 +123,9 @@ impl Session {
         }
     }
 
-    /// Makes the step again that was taken back last.
+    /// Redoes the step that was undone last.
     ///
-    /// E10 where there is none.
+    /// E10 if there is none.
     pub fn redo(&mut self) -> Result<(), Refusal>
         ensures step { Steps Redo self.old result self.new }
         ensures looks { LooksAfter Redo self.old result self.new }
@@ -141,7 +141,7 @@ impl Session {
         }
     }
 
-    /// Puts the cursor at a pulse, from 1. This takes no memory, and is no step.
+    /// Moves the cursor to a pulse, from 1. This takes no memory, and is no step.
     ///
     /// E2 unless the pulse is there.
     pub fn go(&mut self, pulse: usize) -> Result<(), Refusal>
@@ -155,7 +155,7 @@ impl Session {
         Ok(())
     }
 
-    /// Puts the pulses of `put` in the stead of `count` pulses from `at` on, as a step.
+    /// Replaces `count` pulses from `at` on by the pulses of `put`, as a step.
     pub(crate) fn splice(
         &mut self,
         at: usize,

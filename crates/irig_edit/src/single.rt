@@ -1,5 +1,5 @@
-//! A single change of the state that stands, and how each kind of it turns: the change is made, and
-//! what leads back is left in its stead.
+//! A single change of the present state, and how each kind of it turns: the change is made, and
+//! what leads back is left instead.
 
 ghost use Rattle.std.specs.Prelude.{◌≡◌, ◌≤◌, ◌<◌, ◌+◌, ◌-◌, neg_ℤ, length, OnOk, OnErr, get_or, slice_set, None};
 ghost use Rattle.std.specs.List.{AllByRecursion};
@@ -38,9 +38,9 @@ pub struct Shift {
 /// Times are in microseconds, and a letter a to z is a number from 0.
 #[derive(Drop)]
 pub enum Single {
-    /// Pulses in the stead of others.
+    /// Pulses instead of others.
     Splice(Splice),
-    /// The level turned over from `a` to `b`.
+    /// The level inverted from `a` to `b`.
     Toggle { a: u64, b: u64 },
     /// Pulses moved, and marks with them.
     Shift(Shift),
@@ -84,7 +84,7 @@ impl Single {
     }
 }
 
-/// Turns a toggle. The answer tells where.
+/// Turns a toggle, and returns where.
 pub(crate) fn turn_toggle(track: &mut Track, a: u64, b: u64) -> Span
     requires can { CanToggle track.old.micros a b track.old.pulses }
     requires spare { 0 < track.old.spare }
@@ -103,7 +103,7 @@ pub(crate) fn turn_toggle(track: &mut Track, a: u64, b: u64) -> Span
     span
 }
 
-/// Turns a shift: pulses and marks move, and the distance becomes its opposite. The answer tells
+/// Turns a shift: pulses and marks move, and the distance becomes its opposite. Returns
 /// where.
 pub(crate) fn turn_shift(track: &mut Track, marks: &mut Marks, shift: &mut Shift) -> Span
     requires can { CanShift track.old.micros shift.old.i shift.old.j shift.old.by

@@ -1,4 +1,4 @@
-//! Pulses that take the stead of others.
+//! Pulses that replace others.
 
 ghost use Rattle.std.specs.Prelude.{◌≡◌, ◌≤◌, ◌+◌, length, []};
 ghost use Rattle.irig_track.specs.Splices.{CanSplice, IsSpan, piece, spliced};
@@ -8,7 +8,7 @@ use irig_track::{Pulse, Span, Track};
 use std::alloc::Global;
 use std::mem;
 
-/// Pulses that take the stead of others.
+/// Pulses that replace others.
 #[derive(Drop)]
 pub struct Splice {
     /// The first pulse that goes, from 0.
@@ -23,7 +23,7 @@ pub struct Splice {
 }
 
 impl Splice {
-    /// The pulses of `put` in the stead of `count` pulses from `at` on, from 0.
+    /// The pulses of `put` instead of `count` pulses from `at` on, from 0.
     pub(crate) fn new(alloc: Global, at: usize, count: usize, put: Gap<Pulse>) -> Splice
         ensures { (result.at ≡ at) × (result.count ≡ count) × (result.put ≡ put) }
     {
@@ -36,7 +36,7 @@ impl Splice {
     }
 }
 
-/// Turns a splice. The answer tells where.
+/// Turns a splice, and returns where.
 pub(crate) fn turn_splice(track: &mut Track, splice: &mut Splice) -> Span
     requires can { CanSplice track.old.micros splice.old.at splice.old.count splice.old.put.items
         track.old.pulses }

@@ -24,14 +24,14 @@ use std::alloc::{AllocError, Global};
 /// Why steps were not all taken.
 #[derive(Drop)]
 pub(crate) enum Stop {
-    /// One can't be: so many lines of steps stand before it, and so many up to its end.
+    /// One can't be: this many lines of steps are before it, and this many up to its end.
     At { before: usize, behind: usize },
-    /// No memory was found.
+    /// Memory ran out.
     Memory,
 }
 
 impl Walk {
-    /// Takes steps, the last first, and goes back: they stand ahead then.
+    /// Takes steps, the last first, and goes back: they are ahead then.
     fn follow(&mut self, alloc: Global, steps: Steps) -> Result<(), Stop>
         requires ahead { self.old.future ≡ [] }
         requires fitting { Fitting self.old }
@@ -103,7 +103,7 @@ impl Walk {
         Ok(())
     }
 
-    /// Takes so many steps back.
+    /// Takes this many steps back.
     fn go_back(&mut self, count: usize) -> Result<(), AllocError>
         requires fitting { Fitting self.old }
         ensures back { OnOk result ((h : History State Delta) → (ds : List (Step Delta))
@@ -118,7 +118,7 @@ impl Walk {
         Ok(())
     }
 
-    /// Takes a step; the answer tells whether it can be taken.
+    /// Takes a step, and returns whether it can be taken.
     fn take(&mut self, alloc: Global, step: irig_saved::Step) -> Result<bool, AllocError>
         requires fitting { Fitting self.old }
         ensures { IfOk result (λ taken. Told taken
@@ -133,7 +133,7 @@ impl Walk {
         }
     }
 
-    /// Makes a change that leads to a cursor; the answer tells whether both can be.
+    /// Makes a change that leads to a cursor, and returns whether both can be.
     fn make(&mut self, mut change: Change, cursor: u64) -> Result<bool, AllocError>
         requires fitting { Fitting self.old }
         ensures { IfOk result (λ made. Told made

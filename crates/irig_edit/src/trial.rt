@@ -1,4 +1,4 @@
-//! Whether a change can be made, whatever it is: a group is made and taken back.
+//! Whether a change can be made, whatever it is: a group is made and undone.
 
 ghost use Rattle.std.specs.Prelude.{◌≡◌, ◌↔◌, IfOk, IsTrue, map};
 ghost use Rattle.irig_journal.specs.Turns.{FitAll, backs, left_by};
@@ -12,7 +12,7 @@ use crate::single::Single;
 use crate::singles::Singles;
 use std::alloc::AllocError;
 
-/// Trials. After a change that can be made all is as it was; after another, or want of memory,
+/// Trials. After a change that can be made all is as it was; after another, or out of memory,
 /// nothing is said of state and change.
 impl Present {
     /// Whether the change can be made.
@@ -45,7 +45,7 @@ impl Present {
     }
 
     /// Makes single changes one after another, up to one that can't be made, and leaves the one
-    /// that leads back in the place of each. The answer tells whether all were made.
+    /// that leads back instead of each. Returns whether all were made.
     fn make_all(&mut self, singles: &mut Singles) -> Result<bool, AllocError>
         ensures can { IfOk result (λ can. IsTrue can
             ↔ FitAll FitsSingle turned_single self.old.state (map single_of singles.old)) }
@@ -62,7 +62,7 @@ impl Present {
         Ok(true)
     }
 
-    /// Makes a single change where it can be made, and leaves the one that leads back.
+    /// Makes a single change if it can be made, and leaves the one that leads back.
     fn make(&mut self, single: &mut Single) -> Result<bool, AllocError>
         ensures can { IfOk result (λ can.
             IsTrue can ↔ FitsSingle self.old.state (single_of single.old)) }

@@ -1,4 +1,4 @@
-//! Changes of the state that stands, turned in place.
+//! Changes of the present state, turned in place.
 
 ghost use Rattle.std.specs.Prelude.{◌≡◌, ℕ, IfErr, IfOk, map};
 ghost use Rattle.irig_edit.specs.Delta.{Delta, Fits, IsAlone, gathered, turned, weight_of};

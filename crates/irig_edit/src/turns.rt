@@ -1,4 +1,4 @@
-//! Single changes turned in place, with the frames repaired where they took place.
+//! Single changes turned in place, with the frames repaired at their places.
 
 ghost use Rattle.std.specs.Prelude.{◌≡◌, ◌≤◌, ◌<◌, ◌+◌, ◌-◌, neg_ℤ, length, min};
 ghost use Rattle.irig_track.specs.Edges.{edges_of};
@@ -100,7 +100,7 @@ impl Present {
         self.index.repair(&mut self.track.lens(), self.format, span);
     }
 
-    /// Turns the setting of a format, after which all frames are told anew.
+    /// Turns the setting of a format, after which all frames are read again.
     fn set_format(&mut self, format: &mut Format)
         requires records { length (frames format.old self.old.state.pulses)
             - length (frames_of self.old.state) ≤ self.old.index.room }

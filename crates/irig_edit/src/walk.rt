@@ -20,7 +20,7 @@ use std::marker::Model;
 
 /// A state with its cursor, and the steps that lead back and forward from it. No group is open.
 ///
-/// What answers want of memory says nothing of what it leaves.
+/// If a call runs out of memory, nothing is said of what it leaves.
 #[derive(Drop)]
 pub(crate) struct Walk {
     pub(crate) present: Present,
@@ -76,14 +76,14 @@ impl Walk {
         }
     }
 
-    /// Puts the cursor at a place.
+    /// Moves the cursor to a place.
     pub(crate) fn go(&mut self, cursor: usize)
         ensures { self.new ≡ walk self.old.state cursor self.old.past self.old.future }
     {
         self.cursor = cursor;
     }
 
-    /// Takes the nearest step back.
+    /// Undoes the nearest step.
     pub(crate) fn undo(&mut self) -> Result<(), AllocError>
         requires steps { Fitting self.old }
         ensures back { OnOk result (stepped_back turned self.old ≡ Some self.new) }
@@ -95,14 +95,14 @@ impl Walk {
         }
     }
 
-    /// Past and future change over.
+    /// Swaps past and future.
     pub(crate) fn turn_round(&mut self)
         ensures { self.new ≡ turned_round self.old }
     {
         self.journal.turn_round();
     }
 
-    /// The session, which tells no looks yet.
+    /// The session, which shows no looks yet.
     pub(crate) fn into_session(self, alloc: Global) -> Session
         requires fitting { Fitting self }
         requires cursor { self.cursor ≤ length self.state.pulses }

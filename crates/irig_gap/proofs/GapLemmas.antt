@@ -145,7 +145,7 @@ module _ {X : Type 0} where
         let s = shows cs g a v e h in let k = copied cs r c1 c2 g a b m n s.within.0 s.within.1 is at (omega arith) long e1 e2 in let end = k.2 in
         (end, subst (λ j. Holds c2 g b (gap_view v.items v.place j)) end (grown_step c2 b (omega arith) (omega arith) k.0 k.1))
 
-    -- where no place is free, the gap stands anywhere
+    -- if no place is free, the gap is anywhere
     pub anywhere_step : (p : ℕ) → g ≡ a → p ≤ length v.items → Holds cs p p (gap_view v.items p v.capacity)
     anywhere_step p same within = let s = shows cs g a v e h in
         holds _ _ _ _ (omega arith) (omega arith) (live-none cs p ∙ sym (ap (live cs g) (sym same) ∙ live-none cs g) ∙ s.items) refl (sym s.capacity)

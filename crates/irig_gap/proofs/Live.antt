@@ -79,7 +79,7 @@ module _ {X : Type 0} where
   unfolding live
   live-none cs g = take-append-drop g cs
 
-  -- n items left of the gap come to stand right of it
+  -- n items left of the gap move to its right
   pub live-up : (cs : List (Option X)) (low high n : ℕ) → low + n ≤ high → high + n ≤ length cs → live (moved cs low high n) low high ≡ live cs (low + n) (high + n)
   unfolding live
   live-up cs low high n p q =
@@ -91,7 +91,7 @@ module _ {X : Type 0} where
       drop-laid_at emptied high run (omega (arith, long)) ∙ ap (λ k. run ++ drop k emptied) end ∙ ap (λ l. run ++ l) (drop-laid cs low none (high + n) (omega (arith, ln)) (omega arith)) in
       (λ t. left t ++ right t) ∙ sym (append_assoc (take low cs) run (drop (high + n) cs)) ∙ ap (λ l. l ++ drop (high + n) cs) (sym (take-add low n cs))
 
-  -- n items right of the gap come to stand left of it
+  -- n items right of the gap move to its left
   pub live-down : (cs : List (Option X)) (low high n : ℕ) → low + n ≤ high → high + n ≤ length cs → live (moved cs high low n) (low + n) (high + n) ≡ live cs low high
   unfolding live
   live-down cs low high n p q =

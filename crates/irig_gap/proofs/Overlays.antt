@@ -5,7 +5,7 @@ use Rattle.std.proofs.lemmas.List.{length-take, take-append-drop, drop-take, tak
 use Rattle.irig_gap.specs.Cells.{laid}
 
 module _ {X : Type 0} (cs : List (Option X)) (at : ℕ) (ps : List (Option X)) where
-  -- what lies behind the places
+  -- what lies after the places
   abbrev rest : List (Option X)
   rest = drop (at + length ps) cs
 
@@ -57,7 +57,7 @@ module _ {X : Type 0} (cs : List X) (low high n : ℕ) (apart : low + n ≤ high
     length-drop (high + n) cs,
   )
 
-  -- the row with other runs in the stead of the two
+  -- the row with other runs instead of the two
   abbrev pub exchanged : List X → List X → List X
   exchanged ps qs = take low cs ++ (ps ++ (between ++ (qs ++ drop (high + n) cs)))
 

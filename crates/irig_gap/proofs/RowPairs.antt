@@ -46,7 +46,7 @@ module _ (E : El) {M : Type 1} {𝓤 : Ura M} (𝓛 : Logic 𝓤) (b : ℕ) wher
   E' = record { row = E.row; laws = E.laws }
 
   module _ (o : ℕ) (cs : List (Place E)) (low high n : ℕ) (apart : low + n ≤ high) (inside : high + n ≤ length cs) where
-    -- what is beside the two runs
+    -- all but the two runs
     abbrev Rest : Fml
     Rest = fsep (Row o (take low cs)) (fsep (Row (n * s + (low * s + o)) (between cs low high n apart inside)) (Row (n * s + (high * s + o)) (drop (high + n) cs)))
 
@@ -81,7 +81,7 @@ module _ (E : El) {M : Type 1} {𝓤 : Ura M} (𝓛 : Logic 𝓤) (b : ℕ) wher
         move ! (2 ∷ 0 ∷ []) $ use2 𝓛 (‵ (Row low' (ps ++ (B ++ (qs ++ Z))))) (glue E 𝓛 b ps (B ++ (qs ++ Z)) low' (n * s + low') (ap (λ k. k * s + low') (sym lp))) $
         move ! (1 ∷ []) $ by ! (glue E 𝓛 b A (ps ++ (B ++ (qs ++ Z))) o low' first)
 
-  -- the run at from and the run at to come out beside the rest, and go back as others, whichever lies first
+  -- the run at from and the run at to come out with the rest, and go back as others, whichever lies first
   module _ (o : ℕ) (cs : List (Place E)) (from to n : ℕ) (source : from + n ≤ length cs) (target : to + n ≤ length cs) where
     pub Others : AreApart from to n → Fml
     Others (inl below) = Rest o cs from to n below target

@@ -23,11 +23,11 @@ module _ {X : Type 0} where
   abbrev pub IsRun : List (Option X) → ℕ → ℕ → Type 0
   IsRun cs from n = (xs : List X) × (take n (drop from cs) ≡ map Some xs)
 
-  -- the places with others in the stead of those from the index on
+  -- the places with others instead of those from the index on
   abbrev pub laid : List (Option X) → ℕ → List (Option X) → List (Option X)
   laid cs at ps = take at cs ++ (ps ++ drop (at + length ps) cs)
 
-  -- the n items from one index on are taken out of their places and stand from another index on
+  -- the n items from one index on are taken out of their places and are from another index on
   abbrev pub moved : List (Option X) → ℕ → ℕ → ℕ → List (Option X)
   moved cs from to n = laid (laid cs from (replicate n None)) to (take n (drop from cs))
 

@@ -62,7 +62,7 @@ impl<T: Copy> Gap<T> {
     /// Makes room for `more` further items.
     ///
     /// It grows by half at least, so that many small growths take time in proportion to the items.
-    /// A count that no memory can hold is refused as any other growth is.
+    /// A count that no memory can hold gives the same error as any other growth.
     pub fn reserve(&mut self, more: usize) -> Result<(), AllocError>
         ensures stays { (self.new.items ≡ self.old.items) × (self.new.place ≡ self.old.place) }
         ensures room { OnOk result (length self.old.items + more ≤ self.new.capacity) }
@@ -104,7 +104,7 @@ impl<T: Copy> Gap<T> {
         capacity
     }
 
-    /// The place: how many items stand left of it.
+    /// The place: how many items are left of it.
     pub fn gap_at(&self) -> usize
         ensures place { result ≡ self.now.place }
         ensures within { result ≤ length self.now.items }
@@ -122,7 +122,7 @@ impl<T: Copy> Gap<T> {
         *self.cells.get(slot)
     }
 
-    /// Puts `item` in the stead of the one at `index`, from 0.
+    /// Replaces the item at `index`, from 0, by `item`.
     pub fn set(&mut self, index: usize, item: T)
         requires { index < length self.old.items }
         ensures { self.new ≡
@@ -132,7 +132,7 @@ impl<T: Copy> Gap<T> {
         self.cells.write(slot, item);
     }
 
-    /// Puts `item` at the place, which then stands right of it.
+    /// Puts `item` at the place, and the place is then right of it.
     pub fn put(&mut self, item: T)
         requires { length self.old.items < self.old.capacity }
         ensures { self.new ≡
@@ -144,7 +144,7 @@ impl<T: Copy> Gap<T> {
         self.gap = free + 1;
     }
 
-    /// Takes the item left of the place out, and is None where none stands there.
+    /// Removes the item left of the place; None if there is none.
     pub fn take_left(&mut self) -> Option<T>
         ensures none { self.old.place ≡ 0 → (result ≡ None) × (self.new ≡ self.old) }
         ensures item { 0 < self.old.place → result ≡ slice_get self.old.items (self.old.place - 1) }
@@ -160,7 +160,7 @@ impl<T: Copy> Gap<T> {
         Some(*self.cells.get(last))
     }
 
-    /// Takes the item right of the place out, and is None where none stands there.
+    /// Removes the item right of the place; None if there is none.
     pub fn take_right(&mut self) -> Option<T>
         ensures none { self.old.place ≡ length self.old.items →
             (result ≡ None) × (self.new ≡ self.old) }

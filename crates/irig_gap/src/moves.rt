@@ -28,7 +28,7 @@ impl<T: Copy> Gap<T> {
         self.after += 1;
     }
 
-    /// Moves the place to stand right of `place` items, in runs that are no longer than the gap.
+    /// Moves the place to be right of `place` items, in runs that are no longer than the gap.
     pub fn move_to(&mut self, place: usize)
         requires { place ≤ length self.old.items }
         ensures { self.new ≡ gap_view self.old.items place self.old.capacity }

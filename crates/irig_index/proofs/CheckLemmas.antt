@@ -1,4 +1,4 @@
--- No two pulses beside each other within a frame are both position identifiers: the next marker ends a check.
+-- No two pulses next to each other within a frame are both position identifiers: the next marker ends a check.
 use Rattle.std.proofs.Common.{◌≡◌, ℕ, suc, zero, ◌+◌, ◌-◌, ◌%◌, ◌==◌, ◌<◌, ◌≤◌, Bool, true, false, cond, List, [], Option, Some, None, slice_get, refl, sym, ap, subst, ◌∙◌, ◌⊎◌, inl, inr, arith}
 use Rattle.std.proofs.lemmas.Bool.Decides.{nat_tests}
 use Rattle.irig_codes.specs.declared.width.Element.{Element}
@@ -45,14 +45,14 @@ digits_next digits k e = elim (either (digits == 0)) [
   | inr some ↦ ap (λ b. cond b 9 (digits - 1)) some ∙ omega (arith, e, some_left digits some)
 ]
 
--- what suits where no position identifier may stand
+-- what suits if no position identifier may be there
 pub suits_other : (k : ℕ) (class : Option Element) → suits k class ≡ true → (k % 10 ≡ 9 → ⊥) → is_position class ≡ false
 suits_other k class suit ne = elim (either (k % 10 == 9)) [
   | inl same ↦ absurd (ne (nine k same))
   | inr other ↦ digit_other class (sym (ap (λ b. cond b (is_position class) (is_digit class)) other) ∙ suit)
 ]
 
--- of two pulses beside each other, the second of which suits, one is no position identifier
+-- of two pulses next to each other, the second of which suits, one is no position identifier
 pub beside_other : (k : ℕ) (before class : Option Element) → suits k class ≡ true → (k % 10 ≡ 9 → is_position before ≡ false)
     → (is_position before ≡ false) ⊎ (is_position class ≡ false)
 beside_other k before class suit h = elim (either (k % 10 == 9)) [
@@ -67,7 +67,7 @@ last_or_less zero (suc n) h = inr (omega arith)
 last_or_less (suc j) zero h = absurd (omega arith)
 last_or_less (suc j) (suc n) h = elim (last_or_less j n (omega arith)) [ inl e ↦ inl (ap suc e) | inr lt ↦ inr (omega arith) ]
 
--- no marker stands so far, nor at the next pulse, which suits
+-- there is no marker so far, nor at the next pulse, which suits
 pub alone_next : (f : FormatView) (ps : List Pulse) (at k : ℕ) (p q : Pulse) → 1 ≤ k
     → slice_get ps (at + k - 1) ≡ Some p → slice_get ps (at + k) ≡ Some q
     → suits k (class_at f q) ≡ true → (k % 10 ≡ 9 → is_position (class_at f p) ≡ false)
@@ -82,7 +82,7 @@ alone_next f ps at k p q some before here suit h alone j from to = elim (last_or
   ])
 ]
 
--- a position identifier is due where no digit is left before it
+-- a position identifier is due if no digit is left before it
 pub is_due : (digits k : ℕ) → digits ≡ 9 - k % 10 → (digits == 0) ≡ (k % 10 == 9)
 is_due digits k left = elim (either (k % 10 == 9)) [
   | inl same ↦ (let none : digits ≡ 0 = omega (arith, nine k same, left) in ap (λ n. n == 0) none ∙ sym same)

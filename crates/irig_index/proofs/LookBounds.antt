@@ -10,7 +10,7 @@ use Rattle.irig_index.specs.Looked.{Looked}
 use Rattle.irig_index.specs.Passed.{Passed}
 use Rattle.irig_index.proofs.LookLemmas.{looked_more, looked_none, looked_up}
 
--- the looks from the place `first` up to another: two a place to tell the markers, and those of the
+-- the looks from the place `first` up to another: two a place to find the markers, and those of the
 -- checks, which reach from one marker to the next
 pub record Spent (f : FormatView) (ps : List Pulse) (first place : ℕ) (old new : LensView) (before after : ℕ) : Type 0 where
   pub reach : ℕ
@@ -46,7 +46,7 @@ spent_passed f ps first place next a b c l m n s passed = record {
   alone = λ k from to. s.alone k (omega (arith, passed.order, from)) to;
 }
 
--- a place further on, with no look more
+-- a place further on, with no more looks
 pub spent_on : (f : FormatView) (ps : List Pulse) (first place next : ℕ) (a b : LensView) (l m : ℕ) → place ≤ next
     → Spent f ps first place a b l m → Spent f ps first next a b l m
 spent_on f ps first place next a b l m more s = record {

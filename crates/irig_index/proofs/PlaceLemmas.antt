@@ -49,7 +49,7 @@ window_none f ps from place next order more none =
     ap (λ n. records_in f ps from (n - from)) is
     ∙ window_more f ps from place (next - place) order (λ k le lt. none k le (omega (arith, lt, is)))
 
--- the same track, told by another name
+-- the same track, under another name
 pub passed_in : (f : FormatView) (ps qs : List Pulse) (first next besides : ℕ) (a b : LensView) (l m : ℕ) → qs ≡ ps
     → Passed f qs first next besides a b l m → Passed f ps first next besides a b l m
 passed_in f ps qs first next besides a b l m same passed = subst (λ rs. Passed f rs first next besides a b l m) same passed

@@ -1,4 +1,4 @@
--- A repaired index tells the frames of the track as it is.
+-- A repaired index has the frames of the track as it is.
 use Rattle.std.proofs.Common.{◌≡◌, ℕ, ◌+◌, ◌-◌, ◌%◌, ◌^◌, ◌<◌, ◌≤◌, List, [], ◌∷◌, ◌++◌, length, take, drop, map, min, refl, sym, ap, subst, ◌∙◌, inl, inr, arith, append_assoc, length-append, length-drop}
 use Rattle.std.proofs.lemmas.Bool.{cases_lt}
 use Rattle.std.proofs.lemmas.List.{take-append-drop, drop-drop, length-take-le}
@@ -28,7 +28,7 @@ window_end f ps from last order inside within = elim (cases_lt (length ps - 1) l
   | inr ge ↦ (let same : min (length ps - 1) last ≡ last = omega arith in ap (λ n. records_in f ps from (n - from)) same)
 ]
 
--- records counted from the back of so many pulses, after an edit of their number
+-- records counted from the back of this many pulses, after an edit of their number
 turned_moved : (pulses at gone come bound : ℕ) → gone < 2 ^ 64 → bound + at + come < 2 ^ 64 → (ks ss : List Record)
     → AllUpTo bound ss → map (turned pulses) ks ≡ map (moved (at + gone)) ss
     → map (turned (((pulses + (2 ^ 64 - gone)) % 2 ^ 64 + come) % 2 ^ 64)) ks ≡ map (moved (at + come)) ss
@@ -74,7 +74,7 @@ module _ (f : FormatView) (a x y b : List Pulse) (pulses : ℕ) (g1 g2 g3 : GapV
       AllUpTo-more (length a - 100 + (length a + length x - (length a - 100))) (length a + length x) touched (omega arith)
       (records_in-up_to f (a ++ (x ++ b)) (length a - 100) (length a + length x - (length a - 100)))
 
-  -- the gap stands before the window
+  -- the gap is before the window
   parted : (start ≡ left_of g1) × (touched ++ rest ≡ right_of pulses g1)
   unfolding start touched rest
   parted =
@@ -86,7 +86,7 @@ module _ (f : FormatView) (a x y b : List Pulse) (pulses : ℕ) (g1 g2 g3 : GapV
       (AllAfter-less (length a + length x) (length a - 100) rest (omega arith) rest_after))
       ends begins
 
-  -- and what stands right of it then is behind the window
+  -- and what is right of it then is after the window
   behind : rest ≡ right_of pulses g2
   behind = (parted_same (length a + length x) touched rest dropped.gone (right_of pulses g2) (parted.1 ∙ dropped.all)
       touched_up_to rest_after (AllUpTo-ends (length a + length x) dropped.gone dropped.up_to) dropped.rest).1

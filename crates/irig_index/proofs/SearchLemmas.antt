@@ -5,7 +5,7 @@ use Rattle.irig_track.specs.Looks.{LensView, lens_view, counted}
 use Rattle.irig_index.specs.Looked.{Looked, LookedThrough}
 use Rattle.irig_index.proofs.LookLemmas.{looked_more, looked_none, looked_up}
 
--- so many pulses are left to search, and as many looks as they need are left of those allowed
+-- this many pulses are left to search, and of the allowed looks enough are left for them
 pub record Narrowed (left digits : ℕ) (old new : LensView) (before after : ℕ) : Type 0 where
   pub rest : ℕ
   pub small : left < 2 ^ rest

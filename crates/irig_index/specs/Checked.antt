@@ -1,5 +1,5 @@
 -- How far the check of a frame looks. It ends at the next marker at the latest, since two pulses
--- beside each other are not both position identifiers within a frame. This project's own.
+-- next to each other are not both position identifiers within a frame. This project's own.
 use Rattle.std.specs.Prelude.{◌≡◌, ℕ, ◌+◌, ◌-◌, ◌≤◌, ◌<◌, List, []}
 use Rattle.irig_codes.specs.Format.{FormatView}
 use Rattle.irig_track.specs.declared.pulse.Pulse.{Pulse}
@@ -10,7 +10,7 @@ use Rattle.irig_index.specs.declared.record.Verdict.TheVariants.{Broken, Read}
 use Rattle.irig_index.specs.Frames.{record_after}
 use Rattle.irig_index.specs.Looked.{Looked}
 
--- the frame of a marker was looked at up to the pulse `reach`, each pulse once, and no marker stands
+-- the frame of a marker was looked at up to the pulse `reach`, each pulse once, and no marker is
 -- between the two
 pub record Checked (f : FormatView) (pulses : List Pulse) (marker : ℕ)
     (old new : LensView) (before after : ℕ) : Type 0 where

@@ -9,8 +9,8 @@ use Rattle.irig_index.specs.Looked.{Looked}
 use Rattle.irig_index.specs.Marker.{class_at}
 use Rattle.irig_index.specs.Verdict.{verdict_of}
 
--- no marker stands after the places from `first` to `next`, that one not included, and it took two
--- looks a place at most to tell, and so many besides
+-- no marker is after the places from `first` to `next`, that one not included, and it took two
+-- looks a place at most to find out, and this many more
 pub record Passed (f : FormatView) (pulses : List Pulse) (first next besides : ℕ)
     (old new : LensView) (before after : ℕ) : Type 0 where
   pub order : first ≤ next

@@ -1,4 +1,4 @@
-//! What a pulse stands for, straight from its width and the interval of the format. A loop over
+//! What a pulse means, straight from its width and the interval of the format. A loop over
 //! pulses asks for the interval once.
 
 ghost use Rattle.std.specs.Prelude.{◌≡◌, true, unwrap_or};
@@ -24,7 +24,7 @@ pub fn is_digit(interval: u64, width: u64) -> bool
     ensures { result ≡ is_digit (class_in interval width) }
 {
     let twentieth = interval / 20;
-    // A width below the first of these wraps, so that one comparison tells of both bounds.
+    // A width below the lower bound wraps, so one comparison tests both bounds.
     width.wrapping_sub(twentieth) < 12 * twentieth
 }
 

@@ -32,7 +32,7 @@ pub fn count_markers(lens: &mut Lens<'_>, looks: &mut u64, format: Format) -> us
 }
 
 /// Puts the records of the markers after the places `from` to `to`, that one not included, left of
-/// the gap. Where there is room for them it does not grow.
+/// the gap. If there is room for them it does not grow.
 pub fn fill(
     records: &mut Gap<Record>,
     lens: &mut Lens<'_>,
@@ -66,7 +66,7 @@ pub fn fill(
     Ok(())
 }
 
-/// The place from which on the next marker is sought, none later than `to`: none stands between the
+/// The place from which on the next marker is sought, none later than `to`: none is between the
 /// pulses that a verdict looked at.
 fn next_place(marker: usize, verdict: Verdict, to: usize) -> usize
     requires { marker ≤ to }

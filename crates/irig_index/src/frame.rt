@@ -50,7 +50,7 @@ pub fn looks_of(verdict: Verdict) -> u64
     }
 }
 
-/// As `verdict`, with the looks counted by the lens alone: the verdict tells how many they are.
+/// As `verdict`, with the looks counted by the lens alone: the verdict shows how many they are.
 fn check(lens: &mut Lens<'_>, format: Format, at: usize, first: Pulse) -> Verdict
     requires track { IsTrack lens.old.track.micros lens.old.track.pulses }
     requires first { slice_get lens.old.track.pulses at ≡ Some first }
@@ -67,7 +67,7 @@ fn check(lens: &mut Lens<'_>, format: Format, at: usize, first: Pulse) -> Verdic
     let count = (lens.len() - at).min(100);
     let mut ones = Gathering::none().and(false);
     let mut before = first;
-    // So many digits are left before the next position identifier.
+    // This many digits are left before the next position identifier.
     let mut digits = 8u64;
     for k in 1..count {
         let pulse = lens.pulse(at + k);
@@ -88,9 +88,9 @@ fn check(lens: &mut Lens<'_>, format: Format, at: usize, first: Pulse) -> Verdic
     Verdict::Read(fields, note)
 }
 
-/// Whether an element of this width is One, or None where it may not stand: where no digit is left
-/// before the next position identifier that alone may, and elsewhere a digit. And how many digits
-/// are left after it.
+/// Whether an element of this width is One, or None if it must not be there. If no digit is left
+/// before the next position identifier only that one may be there, and else only a digit. Also how
+/// many digits are left after it.
 #[inline(always)]
 fn told(interval: u64, width: u64, digits: u64) -> Option<(bool, u64)>
     requires { HasTwentieths interval }

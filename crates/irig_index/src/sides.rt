@@ -7,7 +7,7 @@ use crate::record::Record;
 use irig_gap::Gap;
 use std::alloc::AllocError;
 
-/// The record with its number counted from the other end of so many pulses.
+/// The record with its number counted from the other end of this many pulses.
 pub fn turned(pulses: usize, kept: Record) -> Record
     ensures turned { result ≡ turned pulses kept }
     ensures fits { kept.marker < 2 ^ 64 }
@@ -31,7 +31,7 @@ pub fn record_at(records: &Gap<Record>, pulses: usize, k: usize) -> Record
     }
 }
 
-/// Takes all records out.
+/// Removes all records.
 pub fn clear(records: &mut Gap<Record>)
     ensures items { records.new.items ≡ [] }
     ensures capacity { records.new.capacity ≡ records.old.capacity }
@@ -44,7 +44,7 @@ pub fn clear(records: &mut Gap<Record>)
     }
 }
 
-/// Moves the gap to stand behind the records of the markers up to `last`.
+/// Moves the gap to the place after the records of the markers up to `last`.
 pub fn part(records: &mut Gap<Record>, pulses: usize, last: usize)
     ensures shown { shown pulses records.new ≡ shown pulses records.old }
     ensures left { EndsUpTo last (left_of records.new) }
@@ -60,7 +60,7 @@ pub fn part(records: &mut Gap<Record>, pulses: usize, last: usize)
     }
 }
 
-/// Takes the records right of the gap out that are of markers up to `last`.
+/// Removes the records right of the gap that are of markers up to `last`.
 pub fn drop_up_to(records: &mut Gap<Record>, pulses: usize, last: usize)
     ensures left { left_of records.new ≡ left_of records.old }
     ensures right { Dropped last (right_of pulses records.old) (right_of pulses records.new) }
@@ -120,7 +120,7 @@ fn step_right(records: &mut Gap<Record>, pulses: usize)
     records.step_right();
 }
 
-/// Puts a record that was found left of the gap. Where it has room it does not grow.
+/// Puts a record that was found left of the gap. If it has room it does not grow.
 pub fn put(records: &mut Gap<Record>, found: Record) -> Result<(), AllocError>
     ensures left { OnOk result (left_of records.new ≡ left_of records.old ++ (found ∷ [])) }
     ensures right { OnOk result (kept_right records.new ≡ kept_right records.old) }

@@ -26,7 +26,7 @@ not_some text ls n more d e =
     d.apart (text_of (take n d.others) ++ more)
     (e ∙ ap (λ k. text_of (take k ls) ++ more) next ∙ ap (λ (l : List (List ℕ)). text_of (take (suc n) l) ++ more) d.lines ∙ append_assoc d.first (10 ∷ text_of (take n d.others)) more)
 
--- where the first line is at fault
+-- if the first line is at fault
 pub first_line_stops : {X : Type 0} (Is : X → Type 0) (lines : X → List (List ℕ)) (text : List ℕ) (some : X) → Is some
     → ((x : X) → Is x → Differs text (lines x)) → Stops Is lines text text
 first_line_stops Is lines text some lawful differs = record {

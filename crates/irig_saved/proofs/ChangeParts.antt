@@ -32,7 +32,7 @@ same_count h hh m n hm hn e =
     let l = lined h h (decimal m ∷ []) (decimal n ∷ []) [] [] [] [] hh hh (number_is_word m hm, tt) (number_is_word n hn, tt) (ap (λ (l : List ℕ). text_of (l ∷ []) ++ []) e) in
     same_number m n hm hn (ap (λ (ws : List (List ℕ)). get_or ws 0 []) l.words)
 
--- the first line, and the rest behind it
+-- the first line, and the rest after it
 pub onward : (text l mid line rest : List ℕ) (ls : List (List ℕ)) → text ≡ l ++ 10 ∷ mid → l ≡ line → mid ≡ text_of ls ++ rest → text ≡ text_of (line ∷ ls) ++ rest
 onward text l mid line rest ls cut e more =
     cut ∙ ap (λ (w : List ℕ). w ++ 10 ∷ mid) e ∙ ap (λ (m : List ℕ). line ++ 10 ∷ m) more ∙ sym (append_assoc line (10 ∷ text_of ls) rest)

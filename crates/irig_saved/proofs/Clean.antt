@@ -1,4 +1,4 @@
--- Neither a newline nor a dollar stands within a line of a saved journal.
+-- Neither a newline nor a dollar is within a line of a saved journal.
 use Rattle.std.proofs.Common.{◌≡◌, ◌==◌, ◌<◌, ◌≤◌, ◌+◌, ◌++◌, ◌∷◌, [], ℕ, true, not, List, Option, Some, None, length, decimal, codes, nat_lt, refl, ◌∙◌, arith}
 use Rattle.std.specs.List.{AllByRecursion, list_all}
 use Rattle.std.proofs.lemmas.Bool.{and_from, and_parts, not_from_false, ne_eqb, ltb-true}
@@ -21,7 +21,7 @@ use Rattle.irig_saved.proofs.PlainWords.{IsPlain, ArePlain}
 use Rattle.irig_saved.proofs.Decimals.{number_is_plain}
 use Rattle.irig_saved.proofs.SameWords.{byte_is_plain, small_is_number, kind_is_plain, head_is_plain, words_are_plain}
 
--- a byte that stands in no line: up to the dollar, and not the space
+-- a byte that is in no line: up to the dollar, and not the space
 pub record IsAside (b : ℕ) : Type 0 where
   pub low : b ≤ 36
   pub unlike : not (32 == b) ≡ true
@@ -32,12 +32,12 @@ newline = record { low = omega arith; unlike = refl }
 pub dollar : IsAside 36
 dollar = record { low = omega arith; unlike = refl }
 
--- a byte stands in none of them
+-- a byte is in none of them
 abbrev pub AllLack : ℕ → List (List ℕ) → Type 0
 AllLack b [] = Unit {0}
 AllLack b (l ∷ ls) = Lacks b l × AllLack b ls
 
--- no newline stands within a line
+-- no newline is within a line
 abbrev pub AreLines : List (List ℕ) → Type 0
 AreLines ls = AllLack 10 ls
 

@@ -13,7 +13,7 @@ use Rattle.irig_saved.specs.declared.saved.Saved.{Saved}
 use Rattle.irig_saved.proofs.Texts.{length-pulse_lines}
 use Rattle.irig_saved.proofs.FaultLines.{lines_fit}
 
--- what a journal may hold, but for how many pulses a splice puts
+-- what a journal may hold, but for how many pulses a splice inserts
 abbrev pub NumbersOfSingle : Single → Type 0
 NumbersOfSingle (Splice at count put) = IsNumber at × IsNumber count × AllByRecursion IsPulse put
 NumbersOfSingle (Toggle a b) = IsSingle (Toggle a b)
@@ -21,7 +21,7 @@ NumbersOfSingle (Shift i j by marks) = IsSingle (Shift i j by marks)
 NumbersOfSingle (SetFormat kind expression) = IsSingle (SetFormat kind expression)
 NumbersOfSingle (SetMark letter time) = IsSingle (SetMark letter time)
 
--- and for how many changes stand in a group
+-- and for how many changes are in a group
 abbrev pub NumbersOfChange : Change → Type 0
 NumbersOfChange (One x) = NumbersOfSingle x
 NumbersOfChange (Group xs) = AllByRecursion NumbersOfSingle xs

@@ -1,4 +1,4 @@
--- Numbers are plain words, and words tell their numbers.
+-- Numbers are plain words, and words determine their numbers.
 use Rattle.std.proofs.Common.{◌≡◌, ◌<◌, ◌+◌, ◌%◌, ◌^◌, ◌++◌, ◌∷◌, [], ℕ, suc, ℤ, pos, negsuc, true, List, length, drop, decimal, nat_lt, refl, sym, ap, ◌∙◌, arith, lit<}
 use Rattle.std.specs.List.{list_all}
 use Rattle.std.specs.Fmt.{signed_decimal}

@@ -1,4 +1,4 @@
--- A word that is read where it stands in a text.
+-- A word that is read in a text.
 use Rattle.std.proofs.Common.{◌≡◌, ◌++◌, ◌∷◌, [], ℕ, List, Option, Some, None, drop, subst, sym, ap, ◌∙◌}
 use Rattle.std.proofs.lemmas.List.{append-nil, append_cancel_left}
 use Rattle.irig_saved.proofs.Bytes.{cut_at, not_lacking}
@@ -11,7 +11,7 @@ pub over : {X : Type 0} (Is : X → Type 0) (write write' : X → List ℕ) (f :
 over Is write write' f tells round text word at None h = λ x lawful e. h x lawful (tells word (write x) (sym at ∙ e ∙ round x))
 over Is write write' f tells round text word at (Some x) h = (h.0, at ∙ ap f h.1 ∙ sym (round x))
 
--- a text of two words tells both
+-- a text of two words determines both
 pub two_words : (text u v w z : List ℕ) → text ≡ u ++ 32 ∷ v → Lacks 32 u → Lacks 32 w → text ≡ w ++ 32 ∷ (z ++ []) → (u ≡ w) × (v ≡ z)
 two_words text u v w z at lacks word e =
     let t = cut_at 32 u w v (z ++ []) lacks word (sym at ∙ e) in
@@ -20,7 +20,7 @@ two_words text u v w z at lacks word e =
 pub behind_head : (text head u v : List ℕ) → text ≡ head ++ 32 ∷ u → text ≡ head ++ 32 ∷ v → u ≡ v
 behind_head text head u v at e = ap (λ (l : List ℕ). drop 1 l) (append_cancel_left head (32 ∷ u) (32 ∷ v) (sym at ∙ e))
 
--- a text of more words than one tells the first and the others
+-- a text of more words than one determines the first and the others
 pub first_word : (text u v w z : List ℕ) → text ≡ u ++ 32 ∷ v → Lacks 32 u → Lacks 32 w → text ≡ w ++ 32 ∷ z → (u ≡ w) × (v ≡ z)
 first_word text u v w z at lacks word e = cut_at 32 u w v z lacks word (sym at ∙ e)
 

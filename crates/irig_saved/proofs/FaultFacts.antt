@@ -1,4 +1,4 @@
--- Texts of which it is plain where they go wrong, or that they do not.
+-- Texts whose first wrong line is plain, or that have none.
 use Rattle.std.proofs.Common.{◌≡◌, ◌++◌, ◌∷◌, [], ℕ, List, codes, refl, subst}
 use Rattle.irig_saved.specs.Reading.{Lacks}
 use Rattle.irig_saved.specs.Faults.{IsFault}
@@ -16,11 +16,11 @@ journal_not_at_fault s h n f = f.refused s h refl
 no_line : (w more : List ℕ) → [] ≡ w ++ 10 ∷ more → ⊥
 no_line w more e = let P : List ℕ → Type 0 = λ l. Lacks 10 l in not_lacking 10 w more (subst P e refl)
 
--- where there is nothing, line 1 is missing
+-- if there is nothing, line 1 is missing
 pub empty_text : IsFault 1 []
 empty_text = line_of_stop [] [] 1 (name_stops [] (λ more e. no_line (codes "irig-journal-1") more e)) refl
 
--- behind the line that names the journal, line 2
+-- after the line that names the journal, line 2
 pub name_alone : IsFault 2 (codes "irig-journal-1\n")
 name_alone =
     line_of_stop (codes "irig-journal-1\n") [] 2

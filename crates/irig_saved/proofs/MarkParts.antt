@@ -54,12 +54,12 @@ pub other_lacks : (x : ℕ) (text l rest : List ℕ) → 32 < x → text ≡ l +
 other_lacks x text l rest high cut whole none = λ t more small e.
     none t small (cut_at 10 l (mark_line x t) rest more whole (mark_lacks newline x t (dark_lacks 10 (x ∷ []) (omega arith) (byte_is_word x high)) small) (sym cut ∙ e)).0
 
--- the lines up to the one behind them tell them
+-- the lines up to the one after them determine them
 
 mark_words : (x t : ℕ) → 32 < x → IsNumber t → AreWords ((x ∷ []) ∷ decimal t ∷ [])
 mark_words x t high small = (byte_is_word x high, (number_is_word t small, tt))
 
--- the steps behind the marks
+-- the steps after the marks
 abbrev pub step_sections : List Step → List Step → List (List ℕ)
 step_sections past future = counted_lines (codes "past") past ++ counted_lines (codes "future") future
 

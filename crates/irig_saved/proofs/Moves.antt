@@ -6,13 +6,13 @@ use Rattle.std.proofs.lemmas.List.{drop_more}
 use Rattle.irig_saved.specs.ChangeWords.{letters_from}
 use Rattle.irig_saved.proofs.SameWords.{later_letters}
 
--- where the first letter is not the one that comes, its mark does not move
+-- if the first letter is not the one that comes, its mark does not move
 skip : (x : ℕ) (m : Bool) (ms : List Bool) (rest : List ℕ) → rest ≡ letters_from x (m ∷ ms)
     → ((ys : List ℕ) → rest ≡ x ∷ ys → ⊥) → rest ≡ letters_from (x + 1) ms
 skip x true ms rest e other = absurd (other (letters_from (x + 1) ms) e)
 skip x false ms rest e other = e
 
--- where it is, its mark moves
+-- if it is, its mark moves
 one : (x : ℕ) (m : Bool) (ms : List Bool) (others : List ℕ) → x ∷ others ≡ letters_from x (m ∷ ms) → others ≡ letters_from (x + 1) ms
 one x true ms others e = ap (λ (l : List ℕ). drop 1 l) e
 one x false ms others e = let bad : x + 1 ≤ x = later_letters (x + 1) x ms others (sym e) in absurd (omega (arith, bad))
@@ -40,7 +40,7 @@ none x [] h = refl
 none x (true ∷ ms) h = absurd (no_true (list_all not ms) h)
 none x (false ∷ ms) h = none (x + 1) ms (and_parts (not false) (list_all not ms) h).1
 
--- one mark more, behind the last that moves
+-- one more mark, after the last that moves
 pub one_more : (x k : ℕ) (ms : List Bool) → k < length ms → list_all not (drop k ms) ≡ true
     → letters_from x (set ms k true) ≡ letters_from x ms ++ (x + k) ∷ []
 one_more x k [] within h = absurd (omega (arith, within))

@@ -36,7 +36,7 @@ pulse_family = record {
   lawful = no_pulse_lawful;
 }
 
--- a line that is none of a pulse
+-- a line that is not a pulse's
 pub pulse_stops : (text l rest : List ℕ) → text ≡ l ++ 10 ∷ rest → Lacks 10 l → ((p : Pulse) → IsPulse p → l ≡ pulse_line p → ⊥) → Stops IsPulse one_line text text
 pulse_stops text l rest cut whole none = line_stops IsPulse pulse_line text l rest no_pulse cut whole no_pulse_lawful (pulse_lacks newline) none
 

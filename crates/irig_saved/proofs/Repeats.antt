@@ -1,4 +1,4 @@
--- So many parts in a row.
+-- A number of parts in a row.
 use Rattle.std.proofs.Common.{◌≡◌, ◌<◌, ◌+◌, ◌++◌, ◌∷◌, [], ℕ, suc, zero, List, length, refl, sym, ap, ◌∙◌, append_assoc, arith, inl, subst, length-append}
 use Rattle.std.specs.List.{AllByRecursion}
 use Rattle.std.proofs.lemmas.List.{append-nil}
@@ -19,7 +19,7 @@ pub record Family {X : Type 0} (Is : X → Type 0) (lines : X → List (List ℕ
   pub lawful : Is some
 
 module _ {X : Type 0} (Is : X → Type 0) (lines : X → List (List ℕ)) (all : List X → List (List ℕ)) (family : Family Is lines all) where
-  -- so many of them
+  -- this many of them
   abbrev pub AreSo : ℕ → List X → Type 0
   AreSo count xs = (length xs ≡ count) × AllByRecursion Is xs
 
@@ -77,7 +77,7 @@ module _ {X : Type 0} (Is : X → Type 0) (lines : X → List (List ℕ)) (all :
       (λ x n more hx many ex. determined Is lines family.clean family.law d x text mid' more n h.0 hx many e' ex)
       (row_stops_at count ds mid' mid rest h.1 (omega (arith, few)) refl s))
 
-  -- where one of them stops
+  -- if one of them stops
   pub row_stops : (k count : ℕ) (text : List ℕ) (done : List X) (mid rest : List ℕ) → k < count → Reads (AreSo k) all text done mid → Stops Is lines mid rest
       → Stops (AreSo count) all text rest
   row_stops k count text done mid rest few before s =

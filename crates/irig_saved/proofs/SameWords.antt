@@ -1,4 +1,4 @@
--- Words tell what they are the words of.
+-- Words determine what they are the words of.
 use Rattle.std.proofs.Common.{◌≡◌, ◌<◌, ◌≤◌, ◌+◌, ◌∷◌, [], ℕ, suc, Bool, true, false, Option, Some, None, List, length, drop, get_or, nat_lt, refl, sym, ap, ap₂, ◌∙◌, arith}
 use Rattle.std.proofs.lemmas.Bool.{and_from, lt-ltb}
 use Rattle.irig_saved.specs.ChangeWords.{letters_from, letters_or_dash, moved_word, time_word, head_of, words_of}
@@ -136,7 +136,7 @@ words_are_plain (SetMark letter time) h = (byte_is_plain (97 + letter) (omega ar
 pub words_are_words : (x : Single) → IsSingle x → AreWords (words_of x)
 words_are_words x h = plain_are_words (words_of x) (words_are_plain x h)
 
--- the same change, but for the pulses that a splice puts, of which only the number is told
+-- the same change, but for the pulses that a splice inserts: only their number is given
 abbrev pub Alike : Single → Single → Type 0
 Alike x (Splice at count put) = (ps : List Pulse) × (x ≡ Splice at count ps) × (length ps ≡ length put)
 Alike x (Toggle a b) = x ≡ Toggle a b

@@ -7,7 +7,7 @@ use Rattle.irig_saved.proofs.Clean.{AreLines}
 use Rattle.irig_saved.proofs.Unique.{Same, regroup}
 use Rattle.irig_saved.proofs.Bytes.{cut_at, not_lacking}
 
--- the first n lines of two lists, where the first has fewer
+-- the first n lines of two lists, if the first has fewer
 take_over : (ls ms : List (List ℕ)) (n : ℕ) → take (length ls + n) (ls ++ ms) ≡ ls ++ take n ms
 take_over [] ms n = ap (λ k. take k ms) (let z : 0 + n ≡ n = omega arith in z)
 take_over (l ∷ ls) ms n =
@@ -53,7 +53,7 @@ pub record Further (ls ms : List (List ℕ)) (r s : List ℕ) : Type 0 where
   pub lines : ms ≡ ls ++ more
   pub rest : r ≡ text_of more ++ s
 
--- of two beginnings of a text in whole lines the longer one goes on from the shorter
+-- of two beginnings of a text in whole lines the longer one continues the shorter
 pub goes_on : (ls ms : List (List ℕ)) (r s : List ℕ) → AreLines ls → AreLines ms → length ls ≤ length ms
     → text_of ls ++ r ≡ text_of ms ++ s → Further ls ms r s
 goes_on [] ms r s hl hm n e = record { more = ms; lines = refl; rest = e }
@@ -71,7 +71,7 @@ lines_take (suc n) (l ∷ ls) h = (h.0, lines_take n ls h.1)
 module _ {X : Type 0} (IsX : X → Type 0) (xs : X → List (List ℕ))
     (clean : (x : X) → IsX x → AreLines (xs x))
     (law : (x y : X) (r s : List ℕ) → IsX x → IsX y → text_of (xs x) ++ r ≡ text_of (xs y) ++ s → Same x y r s) where
-  -- a text that begins with all lines of one part begins with so many lines of no other
+  -- a text that begins with all lines of one part begins with this many lines of no other
   pub determined : (x y : X) (text r s : List ℕ) (n : ℕ) → IsX x → IsX y → length (xs x) ≤ n
       → text ≡ text_of (xs x) ++ r → text ≡ text_of (take n (xs y)) ++ s → x ≡ y
   determined x y text r s n hx hy many ex ey = elim (at_most (length (xs y)) n) as (λ _. x ≡ y) [
@@ -84,7 +84,7 @@ module _ {X : Type 0} (IsX : X → Type 0) (xs : X → List (List ℕ))
   ]
 
 module _ {X Y : Type 0} (IsX : X → Type 0) (IsY : X → Y → Type 0) (xs : X → List (List ℕ)) (ys : Y → List (List ℕ)) where
-  -- the first is read, the second stops, and the lines before it and its own tell the first
+  -- the first is read, the second stops, and the lines before it and its own determine the first
   pub behind_stops : (x : X) (text mid rest : List ℕ) → IsX x → text ≡ text_of (xs x) ++ mid
       → ((p : X × Y) (n : ℕ) (more : List ℕ) → Both IsX IsY xs ys p → length (xs x) + 1 ≤ n → text ≡ text_of (take n (both IsX IsY xs ys p)) ++ more → x ≡ p.0)
       → Stops (IsY x) ys mid rest → Stops (Both IsX IsY xs ys) (both IsX IsY xs ys) text rest
@@ -117,7 +117,7 @@ module _ {X Y : Type 0} (IsX : X → Type 0) (IsY : X → Y → Type 0) (xs : X 
         let P : X → Type 0 = λ x'. IsY x' p.1 → text ≡ text_of (xs x') ++ (text_of (ys p.1) ++ more) → ⊥ in
         subst P same (λ hy f. s.refused p.1 more hy (append_cancel_left (text_of (xs x)) mid (text_of (ys p.1) ++ more) (sym ex ∙ f))) h.1 (e ∙ regroup (xs p.0) (ys p.1) more)
 
-  -- the same where the lines of the first alone tell it
+  -- the same if the lines of the first alone determine it
   pub second_stops : (x : X) (text mid rest : List ℕ) → IsX x → text ≡ text_of (xs x) ++ mid
       → ((x' : X) (n : ℕ) (more : List ℕ) → IsX x' → length (xs x) ≤ n → text ≡ text_of (take n (xs x')) ++ more → x ≡ x')
       → Stops (IsY x) ys mid rest → Stops (Both IsX IsY xs ys) (both IsX IsY xs ys) text rest
@@ -134,7 +134,7 @@ module _ {X Y : Type 0} (IsX : X → Type 0) (IsY : X → Y → Type 0) (xs : X 
 
 -- one line
 
--- a part of one line is read where the line decodes
+-- a part of one line is read if the line decodes
 pub line_reads : {X : Type 0} (Is : X → Type 0) (write : X → List ℕ) (text l rest : List ℕ) (x : X)
     → text ≡ l ++ 10 ∷ rest → Is x → l ≡ write x → Reads Is (λ y. write y ∷ []) text x rest
 line_reads Is write text l rest x cut h e = record {
@@ -142,7 +142,7 @@ line_reads Is write text l rest x cut h e = record {
   same = cut ∙ ap (λ (w : List ℕ). w ++ 10 ∷ rest) e ∙ sym (append_assoc (write x) (10 ∷ []) rest);
 }
 
--- and stops where it does not
+-- and stops if it does not
 pub line_stops : {X : Type 0} (Is : X → Type 0) (write : X → List ℕ) (text l rest : List ℕ) (some : X)
     → text ≡ l ++ 10 ∷ rest → Lacks 10 l → Is some → ((x : X) → Is x → Lacks 10 (write x)) → ((x : X) → Is x → l ≡ write x → ⊥)
     → Stops Is (λ y. write y ∷ []) text text
@@ -156,7 +156,7 @@ line_stops Is write text l rest some cut whole h clean none = record {
   refused = λ x more hx e. none x hx (cut_at 10 l (write x) rest more whole (clean x hx) (sym cut ∙ e ∙ append_assoc (write x) (10 ∷ []) more)).0;
 }
 
--- and where no line is left
+-- and if no line is left
 pub no_line_stops : {X : Type 0} (Is : X → Type 0) (write : X → List ℕ) (text : List ℕ) (some : X)
     → Lacks 10 text → Is some → Stops Is (λ y. write y ∷ []) text text
 no_line_stops Is write text some lacks h = record {
@@ -171,7 +171,7 @@ no_line_stops Is write text some lacks h = record {
   lacking : (w more : List ℕ) → text ≡ w ++ 10 ∷ more → ⊥
   lacking w more e = let P : List ℕ → Type 0 = λ l. Lacks 10 l in not_lacking 10 w more (subst P e lacks)
 
--- a line is read, and what is behind it stops
+-- a line is read, and what is after it stops
 pub line_behind_stops : {X Y : Type 0} (IsX : X → Type 0) (IsY : X → Y → Type 0) (write : X → List ℕ) (ys : Y → List (List ℕ))
     → ((x : X) → IsX x → Lacks 10 (write x)) → ((x y : X) → IsX x → IsX y → write x ≡ write y → x ≡ y)
     → (text l mid rest : List ℕ) (x : X) → text ≡ l ++ 10 ∷ mid → IsX x → l ≡ write x → Stops (IsY x) ys mid rest

@@ -1,4 +1,4 @@
--- Changes of one line, told by what stands in it.
+-- Changes of one line, by what is in it.
 use Rattle.std.proofs.Common.{◌≡◌, ℕ, ℤ, Bool, List, Option, codes}
 use Rattle.irig_codes.specs.declared.format.Kind.{Kind}
 use Rattle.irig_saved.specs.Lines.{line}

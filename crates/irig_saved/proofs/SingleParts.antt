@@ -25,7 +25,7 @@ splice_line t = line (codes "splice") (words_of_three t)
 abbrev splice_lines : ℕ × ℕ × ℕ → List (List ℕ)
 splice_lines t = splice_line t ∷ []
 
--- the pulses of which it tells the number
+-- the pulses whose number it gives
 abbrev AreTheirs : ℕ × ℕ × ℕ → List Pulse → Type 0
 AreTheirs t ps = ArePulses t.2 ps
 

@@ -1,5 +1,5 @@
--- Known values of the form, proved of the definitions by computing: a track of two pulses, of
--- which the first was deleted; a mark that was set and taken back.
+-- Known values of the form, proved of the definitions by computing: a track of two pulses
+-- whose first was deleted; a mark that was set and undone.
 use Rattle.std.proofs.Common.{◌≡◌, ℕ, List, [], ◌∷◌, codes, Some, None, Option, true, false, length, refl, pos, negsuc}
 use Rattle.std.specs.Fmt.{digits}
 use Rattle.irig_saved.specs.Lines.{text_of}

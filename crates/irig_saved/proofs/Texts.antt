@@ -12,13 +12,13 @@ text_of_append [] ms = refl
 text_of_append (l ∷ ls) ms =
     ap (λ t. l ++ 10 ∷ t) (text_of_append ls ms) ∙ sym (append_assoc l (10 ∷ text_of ls) (text_of ms))
 
--- lines that were put, of those that have to be
+-- lines that were written, of those that have to be
 pub further : (old new whole : List ℕ) (ls ms : List (List ℕ)) → new ≡ old ++ text_of ls
     → old ++ text_of (ls ++ ms) ≡ whole → new ++ text_of ms ≡ whole
 further old new whole ls ms put all =
     ap (λ t. t ++ text_of ms) put ∙ append_assoc old (text_of ls) (text_of ms) ∙ ap (λ t. old ++ t) (sym (text_of_append ls ms)) ∙ all
 
--- a line and lines behind it
+-- a line and lines after it
 pub line_and : (old mid new l : List ℕ) (ls : List (List ℕ)) → mid ≡ old ++ (l ++ 10 ∷ []) → new ≡ mid ++ text_of ls
     → new ≡ old ++ text_of (l ∷ ls)
 line_and old mid new l ls first rest =

@@ -1,4 +1,4 @@
--- A text of the form tells what it is the text of, and where it ends.
+-- A text of the form determines what it is the text of, and where it ends.
 use Rattle.std.proofs.Common.{◌≡◌, ◌<◌, ◌+◌, ◌++◌, ◌∷◌, [], ℕ, Option, Some, None, List, length, get_or, decimal, codes, refl, sym, ap, ap₂, subst, ◌∙◌, append_assoc, arith}
 use Rattle.std.specs.List.{AllByRecursion}
 use Rattle.irig_saved.specs.Lines.{line, numbered, text_of}
@@ -19,7 +19,7 @@ use Rattle.irig_saved.proofs.Decimals.{number_is_word, same_number}
 use Rattle.irig_saved.proofs.Texts.{text_of_append}
 use Rattle.irig_saved.proofs.SameWords.{small_is_number, word_at, byte_at, byte_is_word, kind_is_word, same_kind, head_is_word, words_are_words, Alike, alike}
 
--- the same value, and the same text behind it
+-- the same value, and the same text after it
 pub record Same {X : Type 0} (x y : X) (r s : List ℕ) : Type 0 where
   pub value : x ≡ y
   pub rest : r ≡ s
@@ -163,7 +163,7 @@ IsPast r = get_or r 0 0 ≡ 112
 mark_words : (x t : ℕ) → 32 < x → IsNumber t → AreWords ((x ∷ []) ∷ decimal t ∷ [])
 mark_words x t high small = (byte_is_word x high, (number_is_word t small, tt))
 
--- the line of a mark does not stand among those of later ones
+-- the line of a mark is not among those of later ones
 pub no_mark : (x y t : ℕ) (ns : List (Option ℕ)) (ls : List (List ℕ)) (r s : List ℕ) → 32 < x → x < y → IsNumber t → AllByRecursion IsTime ns → IsPast s
     → text_of (line (codes "mark") ((x ∷ []) ∷ decimal t ∷ []) ∷ ls) ++ r ≡ text_of (mark_lines y ns) ++ s → ⊥
 no_mark x y t [] ls r s high less small hn past e =
@@ -206,7 +206,7 @@ same_fields s t kind expression cursor marks past future =
     ∙ ap₂ (λ n (ms : List (Option ℕ)). saved t.kind t.expression n ms s.past s.future) cursor marks
     ∙ ap₂ (λ (ps fs : List Step). saved t.kind t.expression t.cursor t.marks ps fs) past future
 
--- the text of the steps, and what stands behind it
+-- the text of the steps, and what is after it
 abbrev after : Saved → List ℕ → List ℕ
 after s r = text_of (counted_lines (codes "past") s.past) ++ (text_of (counted_lines (codes "future") s.future) ++ r)
 

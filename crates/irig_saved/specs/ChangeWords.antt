@@ -7,13 +7,13 @@ use Rattle.irig_saved.specs.Lines.{line}
 use Rattle.irig_saved.specs.declared.single.Single.{Single}
 use Rattle.irig_saved.specs.declared.single.Single.TheVariants.{Splice, Toggle, Shift, SetFormat, SetMark}
 
--- the letters of what is told, in order, from a letter on
+-- the letters of the flags that are true, in order, from a letter on
 abbrev pub letters_from : ℕ → List Bool → List ℕ
 letters_from x [] = []
 letters_from x (true ∷ ms) = x ∷ letters_from (x + 1) ms
 letters_from x (false ∷ ms) = letters_from (x + 1) ms
 
--- letters, or - where there are none
+-- letters, or - if there are none
 abbrev pub letters_or_dash : List ℕ → List ℕ
 letters_or_dash [] = 45 ∷ []
 letters_or_dash (x ∷ xs) = x ∷ xs
@@ -22,7 +22,7 @@ letters_or_dash (x ∷ xs) = x ∷ xs
 abbrev pub moved_word : List Bool → List ℕ
 moved_word marks = letters_or_dash (letters_from 97 marks)
 
--- a time, or - where there is none
+-- a time, or - if there is none
 abbrev pub time_word : Option ℕ → List ℕ
 time_word None = 45 ∷ []
 time_word (Some t) = decimal t
@@ -35,7 +35,7 @@ head_of (Shift i j by marks) = codes "shift"
 head_of (SetFormat kind expression) = codes "setformat"
 head_of (SetMark letter time) = codes "setmark"
 
--- the words behind it
+-- the words after it
 abbrev pub words_of : Single → List (List ℕ)
 words_of (Splice at count put) = decimal at ∷ decimal count ∷ decimal (length put) ∷ []
 words_of (Toggle a b) = decimal a ∷ decimal b ∷ []

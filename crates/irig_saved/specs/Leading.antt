@@ -20,7 +20,7 @@ abbrev pub LacksMark : ℕ → List ℕ → Type 0
 LacksMark x text =
     (t : ℕ) (more : List ℕ) → IsNumber t → text ≡ mark_line x t ++ 10 ∷ more → ⊥
 
--- the marks from a letter on, each set where its line stands next in the text, up to the rest
+-- the marks from a letter on, each set if its line is next in the text, up to the rest
 abbrev pub Leads : ℕ → List (Option ℕ) → List ℕ → List ℕ → Type 0
 Leads x [] text rest = text ≡ rest
 Leads x (None ∷ ms) text rest = LacksMark x text × Leads (x + 1) ms text rest

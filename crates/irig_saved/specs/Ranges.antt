@@ -36,7 +36,7 @@ IsSingle (Shift i j by marks) = IsNumber i × IsNumber j × IsDistance by × (le
 IsSingle (SetFormat kind expression) = expression ≤ 7
 IsSingle (SetMark letter time) = letter < 26 × IsTime time
 
--- a change alone, or a group of so many as 64 bits count
+-- a change alone, or a group whose count fits 64 bits
 abbrev pub IsChange : Change → Type 0
 IsChange (One x) = IsSingle x
 IsChange (Group xs) = IsNumber (length xs) × AllByRecursion IsSingle xs
@@ -45,19 +45,19 @@ IsChange (Group xs) = IsNumber (length xs) × AllByRecursion IsSingle xs
 abbrev pub IsStep : Step → Type 0
 IsStep s = IsNumber s.cursor × IsChange s.change
 
--- so many pulses
+-- this many pulses
 abbrev pub ArePulses : ℕ → List Pulse → Type 0
 ArePulses count ps = (length ps ≡ count) × AllByRecursion IsPulse ps
 
--- so many changes
+-- this many changes
 abbrev pub AreSingles : ℕ → List Single → Type 0
 AreSingles count xs = (length xs ≡ count) × AllByRecursion IsSingle xs
 
--- so many steps
+-- this many steps
 abbrev pub ManySteps : ℕ → List Step → Type 0
 ManySteps count ss = (length ss ≡ count) × AllByRecursion IsStep ss
 
--- as many steps as 64 bits count
+-- a count of steps that fits 64 bits
 abbrev pub AreSteps : List Step → Type 0
 AreSteps ss = IsNumber (length ss) × AllByRecursion IsStep ss
 

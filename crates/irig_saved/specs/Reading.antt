@@ -13,7 +13,7 @@ use Rattle.irig_saved.specs.declared.stop.Stop.TheVariants.{At, Memory}
 abbrev pub Lacks : ℕ → List ℕ → Type 0
 Lacks b bytes = list_all (λ x. not (x == b)) bytes ≡ true
 
--- a text is cut at the first place of a byte, where it occurs
+-- a text is cut at the first place of a byte, if it occurs
 abbrev pub CutAt : ℕ → List ℕ → Option (Bor (List ℕ) × Bor (List ℕ)) → Type 0
 CutAt b text r =
     MatchOption r (Lacks b text) (λ p. (text ≡ p.0.now ++ b ∷ p.1.now) × Lacks b p.0.now)
@@ -30,7 +30,7 @@ Any x = Unit {0}
 abbrev pub AreLetters : List Bool → Type 0
 AreLetters marks = length marks ≡ 26
 
--- a reading gives the value that the bytes are written of, and none where there is none
+-- a reading gives the value that the bytes are written of, and none if there is none
 abbrev pub Decodes : {X : Type 0} → (X → Type 0) → (X → List ℕ) → List ℕ → Option X → Type 0
 Decodes {X} Is write bytes r =
     MatchOption r ((x : X) → Is x → bytes ≡ write x → ⊥) (λ x. Is x × (bytes ≡ write x))

@@ -19,7 +19,7 @@ pulse_line p = numbered (decimal p.rise) (p.fall ∷ [])
 abbrev pub pulse_lines : List Pulse → List (List ℕ)
 pulse_lines ps = map pulse_line ps
 
--- the pulses that it puts
+-- the pulses that it inserts
 abbrev pub put_of : Single → List Pulse
 put_of (Splice at count put) = put
 put_of (Toggle a b) = []

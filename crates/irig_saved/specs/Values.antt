@@ -1,4 +1,4 @@
--- What stands in lines, as tuples of values, and the words that they are. This project's own.
+-- What is in lines, as tuples of values, and the words that they are. This project's own.
 use Rattle.std.specs.Prelude.{◌≡◌, ◌+◌, ◌<◌, ◌≤◌, ℕ, ℤ, Bool, List, [], ◌∷◌, Option, length, decimal}
 use Rattle.std.specs.Fmt.{signed_decimal}
 use Rattle.irig_codes.specs.Words.{kind_word}

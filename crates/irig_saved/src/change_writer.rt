@@ -1,4 +1,4 @@
-//! Lines of changes are written.
+//! Writes lines of changes.
 
 ghost use Rattle.std.specs.Prelude.{◌≡◌, ◌++◌, ◌<◌, ◌∷◌, [], OnOk, codes};
 ghost use Rattle.irig_saved.specs.Lines.{numbered};
@@ -20,7 +20,7 @@ pub fn put_splice(text: &mut Vec<u8>, at: u64, count: u64, put: u64) -> Result<(
     put_numbered(text, b"splice", &[at, count, put])
 }
 
-/// The line of a pulse that a splice puts.
+/// The line of a pulse that a splice inserts.
 pub fn put_pulse(text: &mut Vec<u8>, pulse: Pulse) -> Result<(), AllocError>
     ensures { OnOk result (text.new.items ≡ text.old.items ++ (pulse_line pulse ++ 10 ∷ [])) }
 {
@@ -37,8 +37,8 @@ pub fn put_toggle(text: &mut Vec<u8>, a: u64, b: u64) -> Result<(), AllocError>
     put_numbered(text, b"toggle", &[a, b])
 }
 
-/// The line of a shift of the pulses `i` to `j`, from 1, by so many microseconds, with the marks of
-/// the letters that are told.
+/// The line of a shift of the pulses `i` to `j`, from 1, by this many microseconds, with the marks
+/// of the given letters.
 pub fn put_shift(
     text: &mut Vec<u8>,
     i: u64,
@@ -58,7 +58,7 @@ pub fn put_shift(
     Ok(())
 }
 
-/// A space and the letters of the marks that move, or `-` where none does.
+/// A space and the letters of the marks that move, or `-` if none does.
 fn put_moved(text: &mut Vec<u8>, marks: &[bool; 26]) -> Result<(), AllocError>
     ensures { OnOk result (text.new.items ≡ text.old.items ++ 32 ∷ moved_word marks.now) }
 {

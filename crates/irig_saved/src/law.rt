@@ -1,4 +1,4 @@
-//! What is written tells what it was written of.
+//! The text of a journal determines the journal.
 
 ghost use Rattle.std.specs.Prelude.{◌≡◌};
 ghost use Rattle.irig_saved.specs.SavedText.{journal_text};

@@ -16,7 +16,7 @@ use crate::words::{distance, expression, kind, letter, moved, number, time};
 use irig_codes::Kind;
 use irig_track::Pulse;
 
-/// What stands in a line behind a word and a space.
+/// What is in a line after a word and a space.
 fn behind<'a>(head: &[u8], text: &'a [u8]) -> Option<&'a [u8]>
     requires { IsWordy head.now }
     ensures { MatchOption result ((rest : List ℕ) → text.now ≡ head.now ++ 32 ∷ rest → ⊥)
@@ -48,7 +48,7 @@ pub fn format(head: &[u8], text: &[u8]) -> Option<(Kind, u8)>
     Some((kind(name)?, expression(rest)?))
 }
 
-/// The time in the line of a mark, where it is the one of this letter.
+/// The time in the line of a mark, if it is the one of this letter.
 pub fn mark(letter_byte: u8, text: &[u8]) -> Option<u64>
     requires { (32 < letter_byte) × (letter_byte < 127) }
     ensures { Decodes IsNumber
@@ -89,7 +89,7 @@ pub fn splice(text: &[u8]) -> Option<(u64, u64, u64)>
     Some((number(at)?, number(count)?, number(put)?))
 }
 
-/// The change in a line, where it is no splice.
+/// The change in a line, if it is no splice.
 pub fn short(text: &[u8]) -> Option<Single>
     ensures { Decodes IsShort single_line text.now result }
 {

@@ -149,7 +149,7 @@ pub fn counted_steps<'a>(
     steps(alloc, count, next)
 }
 
-/// The marks whose lines stand at the head of a text, a to z.
+/// The marks whose lines are at the head of a text, a to z.
 pub fn marks(text: &[u8]) -> ([Option<u64>; 26], &[u8])
     ensures { (length result.0 ≡ 26) × Leads 97 result.0 text.now result.1.now }
 {
@@ -163,7 +163,7 @@ pub fn marks(text: &[u8]) -> ([Option<u64>; 26], &[u8])
     (marks, rest)
 }
 
-/// The time of the mark of this letter, where its line stands at the head of a text.
+/// The time of the mark of this letter, if its line is at the head of a text.
 fn marked(letter_byte: u8, text: &[u8]) -> (Option<u64>, &[u8])
     requires { (32 < letter_byte) × (letter_byte < 127) }
     ensures { Leads letter_byte (result.0 ∷ []) text.now result.1.now }

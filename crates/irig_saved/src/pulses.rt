@@ -51,7 +51,7 @@ impl Pulses {
         self.items.get(index)
     }
 
-    /// Puts a pulse behind the last.
+    /// Adds a pulse after the last.
     pub fn push(&mut self, pulse: Pulse) -> Result<(), AllocError>
         ensures pushed { OnOk result (self.new ≡ self.old ++ pulse ∷ []) }
         ensures unchanged { OnErr result (self.new ≡ self.old) }

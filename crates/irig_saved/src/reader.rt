@@ -1,4 +1,4 @@
-//! A saved journal is read.
+//! Reads a saved journal.
 
 ghost use Rattle.std.specs.Prelude.{◌≡◌, ◌==◌, ◌<◌, ◌≤◌, ◌+◌, ◌-◌, ◌^◌, ◌++◌, ◌∷◌, [], ℕ, List, length, take, codes, count_by, MatchOption, MatchResult, IfOk};
 ghost use Rattle.irig_saved.specs.Lines.{line, numbered};
@@ -26,7 +26,7 @@ pub enum Fault {
     Memory,
 }
 
-/// The journal of which these bytes are the text: all of it from the line that names it, which is
+/// The journal whose text these bytes are: all of it from the line that names it, which is
 /// line 1, up to the newline of its last line. Memory is taken only for lines that were read,
 /// whatever the counts among them say.
 ///
@@ -93,7 +93,7 @@ fn saved(alloc: Global, text: &[u8]) -> Result<(Saved, &[u8]), Stop<'_>>
     Ok((saved, rest))
 }
 
-/// What stands behind the line that names the journal.
+/// What is after the line that names the journal.
 fn named(text: &[u8]) -> Option<&[u8]>
     ensures { MatchOption result
         ((more : List ℕ) → text.now ≡ codes "irig-journal-1" ++ 10 ∷ more → ⊥)
@@ -109,7 +109,7 @@ fn named(text: &[u8]) -> Option<&[u8]>
     }
 }
 
-/// The format that the first line of a text tells, and what stands behind it.
+/// The format in the first line of a text, and what is after it.
 fn format_line(text: &[u8]) -> Option<((Kind, u8), &[u8])>
     ensures { FirstLine IsFormat (λ f. line (codes "format") (words_of_format f))
         text.now result }
@@ -123,7 +123,7 @@ fn format_line(text: &[u8]) -> Option<((Kind, u8), &[u8])>
     }
 }
 
-/// The cursor that the first line of a text tells, and what stands behind it.
+/// The cursor in the first line of a text, and what is after it.
 fn cursor_line(text: &[u8]) -> Option<(u64, &[u8])>
     ensures { FirstLine IsNumber (λ n. numbered (codes "cursor") (n ∷ [])) text.now result }
 {

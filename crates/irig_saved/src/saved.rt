@@ -10,7 +10,7 @@ pub struct Saved {
     pub kind: Kind,
     /// The expression of the format, 0 to 7, which may be none that is permitted.
     pub expression: u8,
-    /// The cursor, from 1; 0 where there is no pulse.
+    /// The cursor, from 1; 0 if there is no pulse.
     pub cursor: u64,
     /// The marks a to z, each unset or a time in microseconds.
     pub marks: [Option<u64>; 26],

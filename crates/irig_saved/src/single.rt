@@ -11,18 +11,18 @@ use irig_codes::Kind;
 /// whether it applies.
 #[derive(Drop)]
 pub enum Single {
-    /// Takes `count` pulses from `at` on, and puts others.
+    /// Removes `count` pulses from `at` on, and inserts others.
     Splice {
         at: u64,
         count: u64,
         put: Pulses,
     },
-    /// Turns the level over from `a` to `b`.
+    /// Inverts the level from `a` to `b`.
     Toggle {
         a: u64,
         b: u64,
     },
-    /// Moves the pulses `i` to `j` by `by` microseconds, and the marks that are told.
+    /// Moves the pulses `i` to `j` by `by` microseconds, and the given marks.
     Shift {
         i: u64,
         j: u64,

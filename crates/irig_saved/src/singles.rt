@@ -39,7 +39,7 @@ impl Singles {
         self.items.as_slice()
     }
 
-    /// Puts a change behind the last.
+    /// Adds a change after the last.
     pub fn push(&mut self, single: Single) -> Result<(), AllocError>
         ensures pushed { OnOk result (self.new ≡ self.old ++ single ∷ []) }
         ensures unchanged { OnErr result (self.new ≡ self.old) }

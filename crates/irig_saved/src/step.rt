@@ -8,7 +8,7 @@ use crate::change::Change;
 /// A change with the cursor of the state that it leads to: a pulse, from 1, or 0.
 #[derive(Drop)]
 pub struct Step {
-    /// The cursor, from 1; 0 where there is no pulse.
+    /// The cursor, from 1; 0 if there is no pulse.
     pub cursor: u64,
     /// The change.
     pub change: Change,

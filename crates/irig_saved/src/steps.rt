@@ -1,4 +1,4 @@
-//! Steps in the order in which they stand in the text.
+//! Steps in the order of the text.
 
 ghost use Rattle.std.specs.Prelude.{◌≡◌, ◌<◌, ◌^◌, ◌++◌, ◌∷◌, [], OnOk, OnErr, MatchOption, length, reverse};
 ghost use Rattle.irig_saved.specs.SavedText.{steps_lines};
@@ -7,7 +7,7 @@ use crate::step::Step;
 use std::alloc::{AllocError, Global};
 use std::marker::Model;
 
-/// Steps in the order in which they stand in the text.
+/// Steps in the order of the text.
 #[derive(Drop)]
 pub struct Steps {
     items: Vec<Step>,
@@ -46,7 +46,7 @@ impl Steps {
         self.items.as_slice()
     }
 
-    /// Puts a step behind the last.
+    /// Adds a step after the last.
     pub fn push(&mut self, step: Step) -> Result<(), AllocError>
         ensures pushed { OnOk result (self.new ≡ self.old ++ step ∷ []) }
         ensures unchanged { OnErr result (self.new ≡ self.old) }
@@ -55,7 +55,7 @@ impl Steps {
         Ok(())
     }
 
-    /// Takes the last step out, and is None where there is none.
+    /// Removes the last step; None if there is none.
     pub fn pop(&mut self) -> Option<Step>
         ensures { MatchOption result ((self.old ≡ []) × (self.new ≡ []))
             (λ step. self.old ≡ self.new ++ step ∷ []) }

@@ -1,4 +1,4 @@
-//! Words of a line are written.
+//! Writes words of a line.
 
 ghost use Rattle.std.specs.Prelude.{◌≡◌, ◌++◌, ◌∷◌, [], OnOk, map, decimal};
 ghost use Rattle.irig_codes.specs.Words.{kind_word};
@@ -25,7 +25,7 @@ pub(crate) fn put_number(text: &mut Vec<u8>, number: u64) -> Result<(), AllocErr
     put_word(text, buffer.format(number).as_bytes())
 }
 
-/// Numbers, each behind a space.
+/// Numbers, each after a space.
 pub(crate) fn put_numbers(text: &mut Vec<u8>, numbers: &[u64]) -> Result<(), AllocError>
     ensures { OnOk result (text.new.items ≡ text.old.items ++ behind (map decimal numbers.now)) }
 {
@@ -35,7 +35,7 @@ pub(crate) fn put_numbers(text: &mut Vec<u8>, numbers: &[u64]) -> Result<(), All
     Ok(())
 }
 
-/// A line that begins with a word and has numbers behind it.
+/// A line that begins with a word and has numbers after it.
 pub(crate) fn put_numbered(
     text: &mut Vec<u8>,
     head: &[u8],

@@ -28,7 +28,7 @@ pub fn number(word: &[u8]) -> Option<u64>
     }
 }
 
-/// The distance that a word is: a number with a minus where it is below 0.
+/// The distance that a word is: a number with a minus if it is below 0.
 pub fn distance(word: &[u8]) -> Option<i64>
     ensures { Decodes IsDistance (λ d. signed_decimal d) word.now result }
 {
@@ -46,7 +46,7 @@ pub fn distance(word: &[u8]) -> Option<i64>
     }
 }
 
-/// The kind of which a word is the letter.
+/// The kind whose letter a word is.
 pub fn kind(word: &[u8]) -> Option<Kind>
     ensures { Decodes Any (kind_word) word.now result }
 {
@@ -84,7 +84,7 @@ pub fn time(word: &[u8]) -> Option<Option<u64>>
     Some(Some(time))
 }
 
-/// The marks of which a word has the letters in order; `-` where there are none.
+/// The marks whose letters a word has in order; `-` if there are none.
 pub fn moved(word: &[u8]) -> Option<[bool; 26]>
     ensures { Decodes AreLetters moved_word word.now result }
 {

@@ -1,4 +1,4 @@
-//! Lines of a saved journal are written: those at its head, and those that stand before changes.
+//! Writes lines of a saved journal: those at its head, and those before changes.
 
 ghost use Rattle.std.specs.Prelude.{◌≡◌, ◌++◌, ◌+◌, ◌<◌, ◌∷◌, [], OnOk, codes, decimal};
 ghost use Rattle.irig_codes.specs.Words.{kind_word};
@@ -25,7 +25,7 @@ pub fn put_format(text: &mut Vec<u8>, kind: Kind, expression: u8) -> Result<(), 
     put_formatted(text, b"format", kind, expression)
 }
 
-/// The line of the cursor, from 1; 0 where there is no pulse.
+/// The line of the cursor, from 1; 0 if there is no pulse.
 pub fn put_cursor(text: &mut Vec<u8>, cursor: u64) -> Result<(), AllocError>
     ensures { OnOk result (text.new.items
         ≡ text.old.items ++ (numbered (codes "cursor") (cursor ∷ []) ++ 10 ∷ [])) }
@@ -44,7 +44,7 @@ pub fn put_marks(text: &mut Vec<u8>, marks: &[Option<u64>; 26]) -> Result<(), Al
     Ok(())
 }
 
-/// The line of a mark, where it is set. A letter counts from 0.
+/// The line of a mark, if it is set. A letter counts from 0.
 fn put_mark(text: &mut Vec<u8>, letter: u8, time: Option<u64>) -> Result<(), AllocError>
     requires { letter < 26 }
     ensures { OnOk result (text.new.items
@@ -76,7 +76,7 @@ pub fn put_future(text: &mut Vec<u8>, count: u64) -> Result<(), AllocError>
     put_numbered(text, b"future", &[count])
 }
 
-/// The first line of a step: the cursor of the state that it leads to, from 1; 0 where there is no
+/// The first line of a step: the cursor of the state that it leads to, from 1; 0 if there is no
 /// pulse.
 pub fn put_at(text: &mut Vec<u8>, cursor: u64) -> Result<(), AllocError>
     ensures { OnOk result (text.new.items

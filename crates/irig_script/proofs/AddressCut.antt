@@ -160,7 +160,7 @@ address_parts text front back a f b h =
       subst (λ (t : List ℕ). IsOffset t a.offset) (sym (b ∙ cut.1)) h.offset,
     )
 
--- two addresses, where something stands beside the comma
+-- two addresses, if something is next to the comma
 pub pair_addresses : (first second : List ℕ) (a b : Address) → (first ≡ [] → second ≡ [] → ⊥) → IsPair first second a b → IsAddress first a × IsAddress second b
 pair_addresses [] [] a b some h = absurd (some refl refl)
 pair_addresses [] (y ∷ second) a b some h = h

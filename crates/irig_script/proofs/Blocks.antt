@@ -15,7 +15,7 @@ missing_longer (b ∷ x) y h = λ e. absurd (cc)
 pub front_longer : (a b : Option (List ℕ)) (x y : List ℕ) → AppendsFront a b x → AppendsFront a b (x ++ y)
 front_longer a b x y p = record { front = p.front; back = p.back ++ y; part = ap (λ l. l ++ y) p.part ∙ append_assoc p.front p.back y; missing = missing_longer p.back y p.missing; appends = p.appends }
 
--- some of a text's front, behind a text
+-- some of a text's front, after a text
 pub front_behind : (a b c : Option (List ℕ)) (x y : List ℕ) → Appends a b x → AppendsFront b c y → AppendsFront a c (x ++ y)
 front_behind a b c x y p q = record {
   front = x ++ q.front;
@@ -49,7 +49,7 @@ sends_more a b c w x z t u p q = (
   sym (append_assoc w t u) ∙ ap (λ l. l ++ u) p.2 ∙ append_assoc p.0 x u ∙ ap (λ l. p.0 ++ l) q.2 ∙ sym (append_assoc p.0 q.0 z),
 )
 
--- the same, where the sending failed
+-- the same, if the sending failed
 pub sends_front : (a b c : Option (List ℕ)) (x t u : List ℕ) → Sends a b [] x t → AppendsFront b c (x ++ u) → AppendsFront a c (t ++ u)
 sends_front a b c x t u p q = record {
   front = p.0 ++ q.front;
@@ -59,7 +59,7 @@ sends_front a b c x t u p q = record {
   appends = appends-appends a b c p.0 q.front p.1 q.appends;
 }
 
--- the same, where what was held back is sent
+-- the same, if what was held back is sent
 pub sends_end : (a b c : Option (List ℕ)) (x t : List ℕ) → Sends a b [] x t → AppendsFront b c x → AppendsFront a c t
 sends_end a b c x t p q = record {
   front = p.0 ++ q.front;

@@ -18,7 +18,7 @@ marker_within s k r e =
     let below = slice_get_within s.pulses (get_or (frames_of s) k r).marker tells.marker tells.stands in
     subst (λ (q : Record). q.marker < length s.pulses) same below
 
--- some record, for places where there is none
+-- some record, for places without one
 abbrev pub no_record : Record
 no_record = record { marker = 0; verdict = Broken 0 Ended }
 

@@ -28,7 +28,7 @@ consumes-keeps (Some s) None c x p q = absurd p
 consumes-keeps (Some s) (Some t) None x p q = absurd q
 consumes-keeps (Some s) (Some t) (Some u) x p q = p ∙ ap (λ l. x ++ l) (sym q)
 
--- what is left of a text is all that is behind a place
+-- what is left of a text is all that is after a place
 pub rest_whole : (l : List ℕ) (done : ℕ) → take (length l - done) (drop done l) ≡ drop done l
 rest_whole l done = ap (λ n. take n (drop done l)) (sym (length-drop done l)) ∙ take-length (drop done l)
 
@@ -36,7 +36,7 @@ rest_whole l done = ap (λ n. take n (drop done l)) (sym (length-drop done l)) �
 pub rest_some : (l : List ℕ) (done : ℕ) → done < length l → drop done l ≢ []
 rest_some l done h = λ e. absurd (omega (arith, h, sym (length-drop done l) ∙ ap length e))
 
--- a write more, of n bytes of what is left
+-- one more write, of n bytes of what is left
 pub wrote_more : (a b c : Option (List ℕ)) (bytes : List ℕ) (done n : ℕ) → Appends a b (take done bytes)
     → Appends b c (take n (take (length bytes - done) (drop done bytes))) → Appends a c (take (done + n) bytes)
 wrote_more a b c bytes done n p q =

@@ -17,12 +17,12 @@ first_word x y xs ys e = cc
 other_words : (x y : List ℕ) (xs ys : List (List ℕ)) → x ∷ xs ≡ y ∷ ys → xs ≡ ys
 other_words x y xs ys e = cc
 
--- a word and what stands behind it, where the words are known
+-- a word and what is after it, if the words are known
 pub next_word : (all ws : List (List ℕ)) (w : List ℕ) (x : List ℕ) (xs : List (List ℕ)) → all ≡ word_and w ws → all ≡ x ∷ xs → (w ≡ x) × (ws ≡ xs)
 next_word all ws [] x xs e f = let bad = sym e ∙ f in absurd (cc)
 next_word all ws (b ∷ bs) x xs e f = (first_word (b ∷ bs) x ws xs (sym e ∙ f), other_words (b ∷ bs) x ws xs (sym e ∙ f))
 
--- a word that has a byte stands before the others
+-- a word that has a byte is before the others
 pub full_word : (all ws : List (List ℕ)) (w : List ℕ) → 1 ≤ length w → all ≡ word_and w ws → all ≡ w ∷ ws
 full_word all ws [] h e = absurd (omega (arith, h))
 full_word all ws (b ∷ bs) h e = e

@@ -46,7 +46,7 @@ order_of text front rest c e h = go (onward Text rest) refl (cut_begins Text res
         flipped true k = absurd (cc)
         flipped false k = refl
 
--- and where those ask for nothing, no order does
+-- and if those ask for nothing, no order does
 pub no_order_of : (text front rest name args : List ℕ) (k : Keyword) → k ≡ keyword_of name
     → ((range behind : List ℕ) (r : Range) → text ≡ range ++ behind → IsRange range r → follows_range behind ≡ true → (front ≡ range) × (rest ≡ behind))
     → words_of rest ≡ word_and name (words_of args)

@@ -99,7 +99,7 @@ goes_rest one more s t rest rs ts h = record { lines = h.lines; each = h.each; c
 pub obeyed_none : (a : Desk) (st : Status) (text : List ℕ) (s : Machine) (line : Line) → Holds text line → Obeyed false a a st st s s text line
 obeyed_none a st text s line h = record { answers = []; texts = []; status = refl; told = tells_none a; ends = (text, goes_none text s, h) }
 
--- a part more, given what the next part makes of the line left
+-- one more part, given what the next part makes of the line left
 pub obeyed_more : (last : Bool) (a b c : Desk) (st su sv : Status) (s t u : Machine) (one two : List ℕ) (mid line : Line) → Obeyed false a b st su s t one mid
     → ((left : List ℕ) → Holds left mid → Obeyed last b c su sv t u (left ++ two) line) → Obeyed last a c st sv s u (one ++ two) line
 obeyed_more false a b c st su sv s t u one two mid line h k =
@@ -182,7 +182,7 @@ broke_rest a b s t one more m = record {
   goes = goes_rest one more s t m.rest (m.answers ++ m.last ∷ []) m.texts m.goes;
 }
 
--- an element more, and all of them
+-- one more element, and all of them
 one_more : (l : List ℕ) (i : ℕ) → i < length l → take i l ++ get_or l i 0 ∷ [] ≡ take (i + 1) l
 one_more l i h = sym (ap (λ n. take n l) (add-one i) ∙ take-suc l i 0 h)
 

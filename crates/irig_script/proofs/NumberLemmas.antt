@@ -21,7 +21,7 @@ next_small i n d lt le = rw (add-one, pow-suc) (omega arith)
 pub digit_most : (b : ℕ) → is_digit b ≡ true → (48 ≤ b) × (b ≤ 57)
 digit_most b h = (grind (arith, nat_tests), grind (arith, nat_tests))
 
--- a digit more
+-- one more digit
 pub digits_more : (s : List ℕ) (i : ℕ) → i < length s → is_digit (get_or s i 0) ≡ true → list_all is_digit (drop i s) ≡ list_all is_digit (drop (i + 1) s)
 digits_more s i h k = rw (opened s i h, k) refl
 

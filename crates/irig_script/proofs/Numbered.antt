@@ -6,7 +6,7 @@ use Rattle.irig_script.specs.Print.Front.{AppendsFront}
 use Rattle.irig_script.specs.Print.Numbered.{numbered}
 use Rattle.irig_script.proofs.Blocks.{front_longer, sends_front, sends_more}
 
--- a line more
+-- one more line
 numbered_push : {T : Type 0} (line : ℕ → T → List ℕ) (n : ℕ) (xs : List T) (k : ℕ) (d : T) → k < length xs
     → numbered line n (take (suc k) xs) ≡ numbered line n (take k xs) ++ line (n + k) (get_or xs k d)
 numbered_push line n [] k d h = absurd (omega (arith, h))
@@ -34,13 +34,13 @@ numbered_next line n xs k d h =
     let count : k + 1 ≡ suc k = omega arith in
     ap (λ m. numbered line n (take m xs)) count ∙ numbered_push line n xs k d h
 
--- a line more was sent
+-- one more line was sent
 pub listed_more : {T : Type 0} (line : ℕ → T → List ℕ) (n : ℕ) (xs : List T) (k : ℕ) (d : T) (a b c : Option (List ℕ)) (x z text : List ℕ) → k < length xs → text ≡ line (n + k) (get_or xs k d)
     → Sends a b [] x (numbered line n (take k xs)) → Sends b c x z text → Sends a c [] z (numbered line n (take (k + 1) xs))
 listed_more line n xs k d a b c x z text h e p q =
     subst (λ (t : List ℕ). Sends a c [] z t) (ap (λ t. numbered line n (take k xs) ++ t) e ∙ sym (numbered_next line n xs k d h)) (sends_more a b c [] x z (numbered line n (take k xs)) text p q)
 
--- a line more was sent in front
+-- one more line was sent in front
 pub listed_front : {T : Type 0} (line : ℕ → T → List ℕ) (n : ℕ) (xs : List T) (k : ℕ) (d : T) (a b c : Option (List ℕ)) (x text : List ℕ) → k < length xs → text ≡ line (n + k) (get_or xs k d)
     → Sends a b [] x (numbered line n (take k xs)) → AppendsFront b c (x ++ text) → AppendsFront a c (numbered line n xs)
 listed_front line n xs k d a b c x text h e p q =

@@ -1,4 +1,4 @@
--- The range and the words of an order, and what stands between them.
+-- The range and the words of an order, and what is between them.
 use Rattle.std.proofs.Common.{◌≡◌, ℕ, ◌++◌, Bool, true, false, ◌||◌, List, [], ◌∷◌, Option, Some, None, refl, sym, ◌∙◌, subst, unwrap_or, if◌then◌else◌}
 use Rattle.std.proofs.lemmas.Slice.Eq.{bytes_eq-Decides}
 use Rattle.std.specs.List.{list_all}
@@ -41,7 +41,7 @@ known_letters w range args c h = go (found w keywords) refl h
     go None e k = absurd k
     go (Some x) e k = row_letters w keywords x all_letters e
 
--- what a word asks for stands behind a range
+-- what a word asks for is after a range
 ranged : (k : Keyword) (range : List ℕ) (args : List (List ℕ)) (c : Command) → Asks k range args c → (r : Range) × IsRange range r
 ranged word.Missing range args c h = (One h.0, placed range h.2)
   where
@@ -77,7 +77,7 @@ pub ranged_in : (range : List ℕ) (words : List (List ℕ)) (c : Command) → A
 ranged_in range [] c h = ranged word.Missing range [] c h
 ranged_in range (w ∷ args) c h = ranged (keyword_of w) range args c h
 
--- behind the range of an order stands what follows a range, and its words
+-- after the range of an order is what follows a range, and its words
 space_follows : (blank rest : List ℕ) → IsBlank blank → follows_range rest ≡ true → follows_range (blank ++ rest) ≡ true
 space_follows [] rest h k = k
 space_follows (b ∷ blank) rest h k =

@@ -71,7 +71,7 @@ does_one text c d (inl h) (inr k) = absurd (order_is_something text d h.0 k)
 does_one text c d (inr h) (inl k) = absurd (order_is_something text c k.0 h)
 does_one text c d (inr h) (inr k) = orders_one text c d h k
 
--- a line does what stands from its first other byte on does
+-- a line does what is from its first other byte on does
 idle_onward : (text : List ℕ) → is_nothing text ≡ true → onward Text text ≡ text
 idle_onward [] e = refl
 idle_onward (b ∷ bs) e =

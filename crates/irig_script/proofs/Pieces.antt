@@ -14,7 +14,7 @@ use Rattle.irig_script.specs.Print.Numbered.{numbered}
 use Rattle.irig_script.proofs.Blocks.{front_behind, front_longer}
 use Rattle.irig_script.proofs.Known.{appends-appends}
 
--- the first line of a listing, and those behind it
+-- the first line of a listing, and those after it
 listing_opened : (s : State) (m k : ℕ) (p : Pulse) → slice_get s.pulses m ≡ Some p → list_text m (suc k) s ≡ pulse_line s.format (m + 1) p ++ list_text (m + 1) k s
 listing_opened s m k p e =
     let up : suc (m + 1) ≡ m + 1 + 1 = omega arith in
@@ -22,7 +22,7 @@ listing_opened s m k p e =
     ap (numbered (pulse_line s.format) (m + 1)) pulses
     ∙ ap (λ n. pulse_line s.format (m + 1) p ++ numbered (pulse_line s.format) n (piece (m + 1) k s.pulses)) up
 
--- a line more in front of a listing
+-- one more line in front of a listing
 pub listing_before : (s : State) (n m k : ℕ) (p : Pulse) → n ≡ m + 1 → slice_get s.pulses (n - 1) ≡ Some p → pulse_line s.format n p ++ list_text n k s ≡ list_text m (k + 1) s
 listing_before s n m k p h e =
     let place : n - 1 ≡ m = omega (arith, h) in
@@ -31,7 +31,7 @@ listing_before s n m k p h e =
     ∙ sym (listing_opened s m k p (ap (slice_get s.pulses) (sym place) ∙ e))
     ∙ ap (λ j. list_text m j s) count
 
--- a listing behind another
+-- a listing after another
 listings_joined : (s : State) (m d k : ℕ) → m + d ≤ length s.pulses → list_text m d s ++ list_text (m + d) k s ≡ list_text m (d + k) s
 listings_joined s m zero k h =
     let here : m + 0 ≡ m = omega arith in
@@ -51,12 +51,12 @@ listings_joined s m (suc d) k h =
     ∙ sym (listing_opened s m (d + k) p there)
     ∙ ap (λ n. list_text m n s) count
 
--- a piece more was printed
+-- one more piece was printed
 pub listing_more : (s : State) (m d k : ℕ) (a b c : Option (List ℕ)) → m + d ≤ length s.pulses → Appends a b (list_text m d s) → Appends b c (list_text (m + d) k s) → Appends a c (list_text m (d + k) s)
 listing_more s m d k a b c h p q =
     subst (λ (t : List ℕ). Appends a c t) (listings_joined s m d k h) (appends-appends a b c (list_text m d s) (list_text (m + d) k s) p q)
 
--- the same, where the printing failed
+-- the same, if the printing failed
 pub listing_front : (s : State) (m d k n : ℕ) (a b c : Option (List ℕ)) → m + (d + k) ≤ length s.pulses → d + k ≤ n → Appends a b (list_text m d s) → AppendsFront b c (list_text (m + d) k s) → AppendsFront a c (list_text m n s)
 listing_front s m d k n a b c h le p q =
     let upto = subst (λ (t : List ℕ). AppendsFront a c t) (listings_joined s m d k (omega (arith, h))) (front_behind a b c (list_text m d s) (list_text (m + d) k s) p q) in

@@ -99,7 +99,7 @@ other_goes_on c text m n = go (is_quit text) refl
     go true e = absurd (n (means_one text c command.Quit m (quit_means text e)))
     go false e = e
 
--- nor does a line that is none of the language
+-- nor does a line that is not valid
 pub bad_goes_on : (text : List ℕ) → ((c : Command) → Means c text → ⊥) → is_quit text ≡ false
 bad_goes_on text h = go (is_quit text) refl
   where

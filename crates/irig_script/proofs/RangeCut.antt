@@ -16,16 +16,16 @@ use Rattle.irig_script.specs.declared.script.range.Range.TheVariants.{One, Two}
 use Rattle.irig_script.proofs.WordLemmas.{nothing_left, opened}
 
 -- white space ends the range of a line, and so does the first letter of a word, which is one that
--- stands behind no apostrophe
+-- is after no apostrophe
 abbrev pub ends_range : Bool → ℕ → Bool
 ends_range quoted b = is_space b || (not quoted && is_letter b)
 
--- how long the range at the front of a text is, where the byte before it is an apostrophe, or none
+-- how long the range at the front of a text is, if the byte before it is an apostrophe, or none
 abbrev pub range_length : Bool → List ℕ → ℕ
 range_length quoted [] = 0
 range_length quoted (b ∷ bs) = if ends_range quoted b then 0 else suc (range_length (b == 39) bs)
 
--- a byte more of a range
+-- one more byte of a range
 pub range_more : (quoted : Bool) (s : List ℕ) (i : ℕ) → i < length s → ends_range quoted (get_or s i 0) ≡ false
     → i + range_length quoted (drop i s) ≡ i + 1 + range_length (get_or s i 0 == 39) (drop (i + 1) s)
 range_more quoted s i h k = rw (opened s i h, k) (omega arith)
@@ -36,7 +36,7 @@ range_stops quoted s i h k = rw (opened s i h, k) refl
 pub range_done : (quoted : Bool) (s : List ℕ) (i : ℕ) → length s ≤ i → range_length quoted (drop i s) ≡ 0
 range_done quoted s i h = rw (nothing_left s i h) refl
 
--- the loop goes through the text, and then stands behind no apostrophe
+-- the loop goes through the text, and then is after no apostrophe
 abbrev IsPassed : List ℕ → Type 0
 IsPassed text = (rest : List ℕ) → range_length false (text ++ rest) ≡ length text + range_length false rest
 
@@ -116,7 +116,7 @@ passed_range : (text : List ℕ) (r : Range) → IsRange text r → IsPassed tex
 passed_range text (One a) h = passed_address_or_cursor text a h
 passed_range text (Two a b) h = subst IsPassed (sym h.2) (passed_pair h.0 h.1 a b h.3)
 
--- no range goes on behind it
+-- no range continues after it
 ended : (rest : List ℕ) → follows_range rest ≡ true → range_length false rest ≡ 0
 ended [] h = refl
 ended (b ∷ bs) h = rw h refl

@@ -6,7 +6,7 @@ use Rattle.std.proofs.Math.ListN.{drop_of_length-le}
 use Rattle.std.proofs.Math.Nat.{pow-suc}
 use Rattle.std.specs.Fmt.{digits, digits_onto, digit_glyph}
 
--- what is left to write before the digits that stand at the end of the buffer
+-- what is left to write before the digits that are at the end of the buffer
 abbrev pub written : ℕ → ℕ → List ℕ → List ℕ
 written at m buffer = digits_onto (at + 49) 16 false m (drop (at + 1) buffer)
 

@@ -19,7 +19,7 @@ number_one text n m h k = h.value ∙ sym k.value
 pub control_one : (text : List ℕ) (n m : ℕ) → IsControl text n → IsControl text m → n ≡ m
 control_one text n m h k = h.value ∙ sym k.value
 
--- a distance is told by how far it goes on and back
+-- a distance is given by how far it goes on and back
 distance_told : (d e : ℤ) → ahead d ≡ ahead e → back d ≡ back e → d ≡ e
 distance_told (pos n) (pos m) h k = ap pos h
 distance_told (pos n) (negsuc m) h k = absurd (cc)

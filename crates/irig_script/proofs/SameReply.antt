@@ -1,4 +1,4 @@
--- Of what a command asks there is one outcome, but for want of memory and failed puts.
+-- What a command asks has one outcome, unless memory runs out or a write fails.
 use Rattle.std.proofs.Common.{◌≡◌, ◌+◌, ◌-◌, ℕ, Bool, true, false, [], ◌∷◌, Some, None, length, refl, sym, ap, ap₂, ◌∙◌, subst}
 use Rattle.std.specs.Prelude.{Result, Ok, Err}
 use Rattle.irig_vcd.specs.FileText.{file_text}
@@ -36,7 +36,7 @@ use Rattle.irig_script.specs.declared.print.reply.Reply.TheVariants as told
 abbrev pub bare : Whole Kept → Machine
 bare k = session_view k 0 0
 
--- addresses and times stand for the same in machines that differ in their looks alone
+-- addresses and times mean the same in machines that differ in their looks alone
 base_same : (b : Base) (o p : Machine) → grouped_in o ≡ grouped_in p → base_of b o ≡ base_of b p
 base_same (Number n) o p e = refl
 base_same Current o p e = ap (λ k. base_of Current (bare k)) e
@@ -65,7 +65,7 @@ time_same : (t : Time) (o p : Machine) → grouped_in o ≡ grouped_in p → tim
 time_same (time.At t) o p e = refl
 time_same (time.Mark letter) o p e = ap (λ k. time_of (time.Mark letter) (bare k)) e
 
--- a refusal other than want of memory is that of the call
+-- a refusal other than out of memory is that of the call
 refused_for : (call : Call) (old new : Whole Kept) (why : Refusal) → Steps call old (Err why) new → wants_memory (told.Refused why) ≡ false → refusal_of call old ≡ Some why
 refused_for call old new refusal.OutOfRange h e = h.0
 refused_for call old new refusal.NoPulse h e = h.0
@@ -96,7 +96,7 @@ refusal_one call old a b w v h k e = go (wants_memory (told.Refused w)) refl
         let both : Some w ≡ Some v = sym (refused_for call old a w h f) ∙ refused_for call old b v k (sym e ∙ f) in
         cc
 
--- a call answers one thing, but for want of memory
+-- a call answers one thing, unless memory runs out
 result_one : (call : Call) (old a b : Whole Kept) (r s : Result Unit Refusal) → Steps call old r a → Steps call old s b
     → wants_memory (reply_to r) ≡ wants_memory (reply_to s) → r ≡ s
 result_one call old a b (Ok u) (Ok v) h k e = refl
@@ -108,12 +108,12 @@ result_one call old a b (Err w) (Ok v) h k e =
     absurd (cc)
 result_one call old a b (Err w) (Err v) h k e = ap Err (refusal_one call old a b w v h k e)
 
--- replies that tell what calls answered
+-- replies that report what calls answered
 module _ (outcome : OneOutcome) where
   step_one : (call : Call) (old new other : Whole Kept) (r : Result Unit Refusal) → Steps call old r new → Steps call old r other → new ≡ other
   step_one call old new other r h k = outcome (record { call = call; result = r } ∷ []) old new other (new, (h, refl)) (other, (k, refl))
 
-  -- of one call, told in one way
+  -- of one call, reported in one way
   tell_one : (tell : Result Unit Refusal → Reply) → ((r : Result Unit Refusal) → wants_memory (tell r) ≡ wants_memory (reply_to r))
       → (call same : Call) → call ≡ same → (o p a b : Whole Kept) → o ≡ p → (r s : Reply)
       → (x y : Result Unit Refusal) → r ≡ tell x → s ≡ tell y → Steps call o x a → Steps same p y b → wants_memory r ≡ wants_memory s
@@ -170,7 +170,7 @@ module _ (outcome : OneOutcome) where
   formats_one true f o p e r s a b h k w = makes_one (Edit.SetFormat f) (Edit.SetFormat f) refl o p e r s a b h k w
   formats_one false f o p e r s a b h k w = (h.0 ∙ sym k.0, ap grouped_in h.1 ∙ e ∙ sym (ap grouped_in k.1))
 
-  -- a listing, as it is told
+  -- a listing, as it is reported
   abbrev listed : Bool → ℕ → ℕ → Reply
   listed true i j = told.Listed (i - 1) (j + 1 - i)
   listed false i j = told.Refused refusal.NoPulse
@@ -187,7 +187,7 @@ module _ (outcome : OneOutcome) where
       ∙ (λ t. listed (are_pulses (f t) (g t) (e t).machine.present.state) (f t) (g t))
       ∙ sym (lists k l p s n)
 
-  -- a put, as it is told
+  -- a write, as it is reported
   abbrev written : Machine → Bool → Bool → Reply
   written m true f = told.Refused refusal.OutOfMemory
   written m false true = told.WriteFailed
@@ -209,7 +209,7 @@ module _ (outcome : OneOutcome) where
   writes_one o p e r s h k w f =
       writes o r h ∙ ap₂ (written o) w f ∙ written_same (wants_memory s) (tells_failed_put s) o p e ∙ sym (writes p s k)
 
-  -- the same of a put with the journal
+  -- the same of a write with the journal
   abbrev saved : Machine → Bool → Bool → Reply
   saved m true f = told.Refused refusal.OutOfMemory
   saved m false true = told.WriteFailed

@@ -1,4 +1,4 @@
--- A script has one run, but for the lines that meet want of memory or a failed put.
+-- A script has one run, but for the lines that run out of memory or fail to write.
 use Rattle.std.proofs.Common.{◌≡◌, ◌++◌, ◌∷◌, [], ℕ, Option, Some, None, List, map, refl, sym, ap, ap₂, ◌∙◌, subst, arith, ◌⊎◌, inl, inr}
 use Rattle.std.specs.Prelude.{IsSome}
 use Rattle.std.specs.Io.KnownBytes.{Appends}
@@ -23,7 +23,7 @@ use Rattle.irig_script.specs.declared.script.command.Command.{Command}
 use Rattle.irig_script.proofs.Orders.{means_one}
 use Rattle.irig_script.proofs.SameReply.{bare, obeys_one}
 
--- what a reply prints and puts does not hang on the looks
+-- what a reply prints and writes does not depend on the looks
 text_same : (r : Reply) (a b : Machine) → grouped_in a ≡ grouped_in b → reply_text a r ≡ reply_text b r
 text_same (told.Listed before count) a b e = ap (λ k. list_text before count k.machine.present.state) e
 text_same told.Frames a b e = ap (λ k. frames_text k.machine.present.state) e

@@ -7,7 +7,7 @@ use Rattle.irig_script.specs.Script.Words.{before, is_space, onward, words_of}
 use Rattle.irig_script.specs.declared.script.cutting.Stop.TheVariants.{Blank, Text}
 use Rattle.irig_script.proofs.WordLemmas.{BeginsAt, Lacks, before_at, before_front, before_on, both, cut_whole, joined, lacks_first, onward_at, onward_back, onward_on, words_begun, words_blank}
 
--- a byte of white space more
+-- one more byte of white space
 blank_first : (b : ℕ) (s : List ℕ) → IsBlank (b ∷ s) → (is_space b ≡ true) × IsBlank s
 blank_first b s h = both (is_space b) (list_all is_space s) h
 
@@ -17,7 +17,7 @@ blank-append (b ∷ s) t h k =
     let first = blank_first b s h in
     joined (is_space b) (list_all is_space (s ++ t)) first.0 (blank-append s t first.1 k)
 
--- what stands before the first other byte is white space
+-- what is before the first other byte is white space
 pub blank_before : (s : List ℕ) → IsBlank (before Text s)
 blank_before [] = refl
 blank_before (b ∷ s) = go (is_space b) refl (blank_before s)
@@ -50,7 +50,7 @@ words_more (b ∷ s) rest h k =
     words_begun b (s ++ rest) first.0
     ∙ ap₂ (λ x y. (b ∷ x) ∷ words_of y) (before_front Blank s rest first.1 k) (onward_back Blank s rest first.1 k)
 
--- arguments begin with white space, where any stand
+-- arguments begin with white space, if there are any
 space_first : (s t : List ℕ) → IsBlank s → s ≢ [] → BeginsAt Blank (s ++ t)
 space_first [] t h k = absurd (k refl)
 space_first (b ∷ s) t h k = (blank_first b s h).0
@@ -93,7 +93,7 @@ word_before b s e = record {
   joined = joined (not (is_space b)) (list_all (λ b. not (is_space b)) (before Blank s)) (ap not e) (joined_before s);
 }
 
--- a text is put together of its words: what stands behind a first word, and what stands behind white space
+-- a text is put together of its words: what is after a first word, and what is after white space
 behind : (s : List ℕ) → AreArguments (onward Blank s) (words_of (onward Blank s))
     × ((space : List ℕ) → IsBlank space → space ≢ [] → AreArguments (space ++ s) (words_of s))
 behind [] = (refl, λ space h k. subst IsBlank (sym (append-nil space)) h)
@@ -123,7 +123,7 @@ behind (b ∷ s) = go (is_space b) refl (behind s)
           (space, onward Blank s, ap (λ t. space ++ (b ∷ t)) (sym (cut_whole Blank s)), blank, some, word_before b s e, h.0),
     )
 
--- behind a word stand arguments
+-- after a word are arguments
 pub arguments_behind : (s : List ℕ) → AreArguments (onward Blank s) (words_of (onward Blank s))
 arguments_behind s = (behind s).0
 

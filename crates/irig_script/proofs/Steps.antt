@@ -1,4 +1,4 @@
--- What a reply to a command puts.
+-- What a reply to a command writes.
 use Rattle.irig_script.specs.Obey.Answer.{texts_put}
 use Rattle.irig_script.specs.Obey.Desk.{IsQuiet, failures_of}
 use Rattle.irig_script.specs.Shelf.Shelved.{Shelved, Puts}
@@ -7,7 +7,7 @@ use Rattle.irig_script.specs.declared.print.reply.Reply.{Reply}
 use Rattle.irig_script.specs.declared.print.reply.Reply.TheVariants as told
 use Rattle.irig_script.proofs.Desks.{puts_none}
 
--- a quiet reply puts nothing
+-- a quiet reply writes nothing
 pub quiet_puts : (shelf : Shelved) (m : Machine) (r : Reply) → IsQuiet r → Puts shelf shelf (texts_put m r) (failures_of r)
 quiet_puts shelf m (told.Written n) q = absurd q
 quiet_puts shelf m (told.Saved n) q = absurd q

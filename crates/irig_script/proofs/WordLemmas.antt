@@ -19,7 +19,7 @@ joined x y h k = rw (h, k) refl
 pub opened : (s : List ℕ) (i : ℕ) → i < length s → drop i s ≡ get_or s i 0 ∷ drop (i + 1) s
 opened s i h = rw (add-one, drop-cons s i 0) refl
 
--- what is left of a text is all that is behind a place
+-- what is left of a text is all that is after a place
 pub rest_whole : (l : List ℕ) (done : ℕ) → take (length l - done) (drop done l) ≡ drop done l
 rest_whole l done = ap (λ n. take n (drop done l)) (sym (length-drop done l)) ∙ take-length (drop done l)
 
@@ -45,7 +45,7 @@ before_at stop b s e = rw e refl
 pub onward_at : (stop : Stop) (b : ℕ) (s : List ℕ) → is_stop stop b ≡ true → onward stop (b ∷ s) ≡ b ∷ s
 onward_at stop b s e = rw e refl
 
--- a byte more before the cut
+-- one more byte before the cut
 pub cut_more : (stop : Stop) (s : List ℕ) (i : ℕ) → i < length s → is_stop stop (get_or s i 0) ≡ false → IsCut stop s i → IsCut stop s (i + 1)
 cut_more stop s i h e c =
     let b = get_or s i 0 in
@@ -82,7 +82,7 @@ words_alone b s e k = rw (e, k) refl
 words_joined : (b : ℕ) (s : List ℕ) → is_space b ≡ false → begins_word s ≡ true → words_of (b ∷ s) ≡ onto_first b (words_of s)
 words_joined b s e k = rw (e, k) refl
 
--- a word goes on to the next white space
+-- a word continues to the next white space
 pub words_begun : (b : ℕ) (s : List ℕ) → is_space b ≡ false → words_of (b ∷ s) ≡ (b ∷ before Blank s) ∷ words_of (onward Blank s)
 words_begun b [] e = words_alone b [] e refl
 words_begun b (c ∷ s) e = go (is_space c) refl (λ k. words_begun c s k)
@@ -106,7 +106,7 @@ words_split (b ∷ s) = go (is_space b) refl (words_split s)
         ∙ ap (λ l. word_and l (words_of (onward Blank (b ∷ s)))) (before_on Blank b s e)
         ∙ ap (λ l. (b ∷ before Blank s) ∷ words_of l) (onward_on Blank b s e))
 
--- a text is what stands before a cut and what stands from it on
+-- a text is what is before a cut and what is from it on
 pub cut_whole : (stop : Stop) (s : List ℕ) → before stop s ++ onward stop s ≡ s
 cut_whole stop [] = refl
 cut_whole stop (b ∷ s) = go (is_stop stop b) refl (cut_whole stop s)

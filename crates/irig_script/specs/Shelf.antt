@@ -1,3 +1,3 @@
--- Where texts are put.
+-- Where texts are written.
 pub mod Shelved
 pub mod ShelfView

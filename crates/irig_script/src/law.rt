@@ -11,10 +11,10 @@ pub fn lines_ask_for_one_command()
     ensures same { OneCommand }
 {}
 
-/// Does nothing: it says that a script has one run.
+/// Does nothing. Its contract: a script has one run.
 ///
-/// Two runs of one script from one machine that meet want of memory and failed puts at the same
-/// lines print the same bytes, put the same texts, end with the same status and leave the same
+/// Two runs of one script from one machine that run out of memory and fail to write at the same
+/// lines print the same bytes, write the same texts, end with the same status and leave the same
 /// machine. So do two runs from the bytes of one dump.
 pub fn scripts_have_one_run()
     ensures same { OneRun }

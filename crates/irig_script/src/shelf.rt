@@ -1,4 +1,4 @@
-//! Where the text of a track is put.
+//! Where the text of a track is written.
 
 pub mod memory_shelf;
 pub mod shelf;

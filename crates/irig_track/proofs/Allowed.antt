@@ -13,7 +13,7 @@ use Rattle.irig_track.proofs.Laws.{edges_of-three, edges_of-parts}
 use Rattle.irig_track.proofs.RisingLists.{rises_left, rises_right, rises_more}
 use Rattle.irig_track.proofs.PulsesBetween.{here, rises_split, rises_joined, rises_first, rises_cut, following-last}
 
--- numbers up to a bound stand below the next number
+-- numbers up to a bound are below the next number
 bounded : (low top : ℕ) (xs : List ℕ) → RisesFrom low xs → UpTo top xs → low ≤ top + 1 → RisesFrom low (xs ++ (top + 1) ∷ [])
 bounded low top [] h u le = (le, tt)
 bounded low top (x ∷ xs) h u le = (h.0, bounded (x + 1) top xs h.1 u.1 (omega (arith, u.0)))
@@ -35,14 +35,14 @@ first_and_rest d (x ∷ xs) = refl
 regroup : (d : ℕ) (ls ms rs : List ℕ) → (ls ++ (ms ++ rs)) ++ d ∷ [] ≡ ls ++ (ms ++ (rs ++ d ∷ []))
 regroup d ls ms rs = append_assoc ls (ms ++ rs) (d ∷ []) ∙ ap (λ xs. ls ++ xs) (append_assoc ms rs (d ∷ []))
 
--- the middle of three parts stands between the other two
+-- the middle of three parts is between the other two
 middle_stands : (top : ℕ) (ls ms rs : List ℕ) → RisesFrom 0 (ls ++ (ms ++ rs)) → UpTo top (ls ++ (ms ++ rs)) → RisesFrom (following 0 ls) (ms ++ first_or (top + 1) rs ∷ [])
 middle_stands top ls ms rs h u =
     let all : RisesFrom 0 (ls ++ (ms ++ (first_or (top + 1) rs ∷ rest_of (top + 1) rs))) =
     subst (RisesFrom 0) (regroup (top + 1) ls ms rs ∙ ap (λ xs. ls ++ (ms ++ xs)) (first_and_rest (top + 1) rs)) (bounded 0 top _ h u (omega arith)) in
     rises_cut (following 0 ls) (first_or (top + 1) rs) ms (rest_of (top + 1) rs) (rises_split 0 ls _ all).1
 
--- another middle that stands there makes a rising list too
+-- another middle that fits there makes a rising list too
 stands_middle : (top : ℕ) (ls gs ms rs : List ℕ) → RisesFrom 0 (ls ++ (gs ++ rs)) → UpTo top (ls ++ (gs ++ rs)) → RisesFrom (following 0 ls) (ms ++ first_or (top + 1) rs ∷ [])
     → RisesFrom 0 (ls ++ (ms ++ rs)) × UpTo top (ls ++ (ms ++ rs))
 stands_middle top ls gs ms rs h u m =
@@ -57,7 +57,7 @@ stands_middle top ls gs ms rs h u m =
 
 module _ (micros at count start high : ℕ) (put ps : List Pulse) (there : at + count ≤ length ps) (old : IsTrack micros ps)
     (starts : start ≡ following 0 (edges_of (take at ps))) (ends : high ≡ first_or (micros + 1) (edges_of (drop (at + count) ps))) where
-  -- the pulses that a splice puts stand between the two that stay
+  -- the pulses that a splice inserts fit between the two that stay
   pub splice_stands : CanSplice micros at count put ps → RisesFrom start (edges_of put ++ high ∷ [])
   splice_stands can =
       let e = edges_of-three (take at ps) put (drop (at + count) ps) in
@@ -66,7 +66,7 @@ module _ (micros at count start high : ℕ) (put ps : List Pulse) (there : at + 
   pub splice_few : CanSplice micros at count put ps → length put + length ps ≤ 2 ^ 22 + count
   splice_few can = omega (arith, can.track.few, length-spliced ps put at count there)
 
-  -- pulses that stand there, and that are few enough, may be put
+  -- pulses that fit there, and that are few enough, may be inserted
   pub stands_splice : length put + length ps ≤ 2 ^ 22 + count → RisesFrom start (edges_of put ++ high ∷ []) → CanSplice micros at count put ps
   stands_splice few m =
       let e = edges_of-three (take at ps) put (drop (at + count) ps) in let f = edges_of-parts at count ps in

@@ -34,7 +34,7 @@ below-flipped t u (x ∷ xs) le = elim (three u x) [
   ]
 ]
 
--- two edges for each pulse that ends before t, and one more where a pulse is high across t
+-- two edges for each pulse that ends before t, and one more if a pulse is high across t
 halves : (t low : ℕ) (ps : List Pulse) → RisesFrom low (edges_of ps) → (2 * ended_before t ps ≤ below t (edges_of ps)) × (below t (edges_of ps) ≤ 2 * ended_before t ps + 1)
 halves t low [] h = (omega arith, omega arith)
 halves t low (p ∷ ps) h = elim (below_or_not p.fall t) [

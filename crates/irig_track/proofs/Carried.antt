@@ -44,7 +44,7 @@ length-spliced xs put p m le = omega (arith, length-append (take p xs) (put ++ d
 pub length-piece : (xs : List Pulse) (p m : ℕ) → p + m ≤ length xs → length (piece p m xs) ≡ m
 length-piece xs p m le = length-take-le m (drop p xs) (omega (arith, length-drop p xs))
 
--- what stands in two gaps after m pulses
+-- what is in two gaps after m pulses
 abbrev pub FromLeft : GapView Pulse → ℕ → GapView Pulse
 FromLeft f m = gap_view (spliced f.place m [] f.items) f.place f.capacity
 

@@ -1,4 +1,4 @@
--- Each edit can be taken back by one of its kind.
+-- Each edit can be reversed by one of its kind.
 use Rattle.std.proofs.Common.{◌≡◌, ℕ, suc, zero, ℤ, pos, negsuc, ◌+◌, ◌-◌, ◌<◌, ◌≤◌, ◌==◌, Bool, true, false, cond, not, ◌||◌, List, [], ◌∷◌, ◌++◌, length, take, drop, slice_get, Some, refl, sym, ap, ◌∙◌, subst, arith}
 use Rattle.std.proofs.lemmas.List.{length-take-le, length-map, take-append-drop}
 use lib.IntN.{neg_ℤ}
@@ -19,14 +19,14 @@ use Rattle.irig_track.proofs.Recordings.{recording_of}
 use Rattle.irig_track.proofs.RisingLists.{RisesFrom-flipped, edges_of-append}
 use Rattle.irig_track.proofs.Sets.{only_list, edges_of-inj}
 
--- what was put stands where it was put
+-- what was inserted is where it was inserted
 pub piece-spliced : (at count : ℕ) (put ps : List Pulse) → at ≤ length ps → piece at (length put) (spliced at count put ps) ≡ put
 piece-spliced at count put ps le =
     let long : length (take at ps) ≡ at = length-take-le at ps le in
     ap (take (length put)) (ap (λ k. drop k (spliced at count put ps)) (sym long) ∙ drop-append_seam (take at ps) (put ++ drop (at + count) ps))
     ∙ take-append_seam put (drop (at + count) ps)
 
--- a splice of what was taken takes a splice back
+-- a splice of what was taken reverses a splice
 pub spliced-spliced : (at count : ℕ) (put ps : List Pulse) → at ≤ length ps → spliced at (length put) (piece at count ps) (spliced at count put ps) ≡ ps
 spliced-spliced at count put ps le =
     let long : length (take at ps) ≡ at = length-take-le at ps le in
@@ -46,7 +46,7 @@ not_twice true true = refl
 not_twice true false = refl
 not_twice false v = refl
 
--- a toggle takes itself back
+-- a toggle reverses itself
 pub toggled-toggled : (a b : ℕ) (xs : List ℕ) → a < b → RisesFrom 0 xs → toggled a b (toggled a b xs) ≡ xs
 toggled-toggled a b xs lt h =
     let once : RisesFrom 0 (toggled a b xs) = RisesFrom-flipped 0 b _ (omega arith) (RisesFrom-flipped 0 a _ (omega arith) h) in
@@ -65,7 +65,7 @@ can_toggle_back micros a b old new h can e = record {
 pub toggled_back : (a b : ℕ) (old new last : List Pulse) → a < b → RisesFrom 0 (edges_of old) → edges_of new ≡ toggled a b (edges_of old) → edges_of last ≡ toggled a b (edges_of new) → last ≡ old
 toggled_back a b old new last lt h e f = edges_of-inj last old (f ∙ ap (toggled a b) e ∙ toggled-toggled a b (edges_of old) lt h)
 
--- two distances that take each other back
+-- two distances that cancel each other
 pub record Opposite (d e : ℤ) : Type 0 where
   pub on : ahead e ≡ back d
   pub off : back e ≡ ahead d
@@ -88,7 +88,7 @@ StaysFromZero-moved : (d e : ℤ) (ps : List Pulse) → Opposite d e → StaysFr
 StaysFromZero-moved d e [] o h = tt
 StaysFromZero-moved d e (p ∷ ps) o h = let on = o.on in let off = o.off in (omega (arith, h.0), (omega (arith, h.1.0), StaysFromZero-moved d e ps o h.1.1))
 
--- a shift by the opposite distance takes a shift back
+-- a shift by the opposite distance reverses a shift
 module _ (micros i j : ℕ) (d e : ℤ) (ps : List Pulse) (o : Opposite d e) (can : CanShift micros i j d ps) where
   there : i + count_to i j ≤ length ps
   there = omega (arith, can.order, can.there)

@@ -41,11 +41,11 @@ or_none false = refl
 pub two : (a b t : ℕ) → has t (a ∷ b ∷ []) ≡ ((a == t) || (b == t))
 two a b t = elim (a == t) as (λ v. cond v true (cond (b == t) true false) ≡ (v || (b == t))) [ true ↦ refl | false ↦ elim (b == t) as (λ v. cond v true false ≡ v) [ true ↦ refl | false ↦ refl ] ]
 
--- a pulse put in
+-- a pulse inserted
 pub is_edge-inserted : (t at a b : ℕ) (ps : List Pulse) → RisesFrom 0 (edges_of ps) → is_edge t (spliced at 0 (pulse a b ∷ []) ps) ≡ with_both a b t (is_edge t ps)
 is_edge-inserted t at a b ps h = is_edge-spliced t at 0 (pulse a b ∷ []) ps h ∙ keep_or (is_edge t ps) (has t (a ∷ b ∷ [])) ∙ ap (λ v. is_edge t ps || v) (two a b t)
 
--- pulses taken out
+-- pulses removed
 pub is_edge-deleted : (t at count : ℕ) (ps : List Pulse) → RisesFrom 0 (edges_of ps) → is_edge t (spliced at count [] ps) ≡ without (edges_of (piece at count ps)) t (is_edge t ps)
 is_edge-deleted t at count ps h = is_edge-spliced t at count [] ps h ∙ or_none _
 
@@ -84,7 +84,7 @@ window_below low high t p = grind (arith, nat_tests)
 window_above : (low high t : ℕ) → high < t → (nat_le low t && nat_le t high) ≡ false
 window_above low high t p = elim (nat_le low t) as (λ v. (v && nat_le t high) ≡ false) [ true ↦ grind (arith, nat_tests) | false ↦ refl ]
 
--- of a rising list, what stands in the part stands between its bounds
+-- in a rising list, what is in the part is between its bounds
 in_window : (t low high : ℕ) (before ms after : List ℕ) (v : Bool)
     → RisesFrom 0 (before ++ ((low ∷ ms) ++ after)) → Under low before → UpTo high (low ∷ ms) → RisesFrom (high + 1) after
     → has t (before ++ ((low ∷ ms) ++ after)) ≡ true → has t (low ∷ ms) ≡ (nat_le low t && nat_le t high)

@@ -31,7 +31,7 @@ is_edge-fall (suc i) p [] is = absurd (cc)
 is_edge-fall zero p (q ∷ ps) is = (let e : q ≡ p = cc in behind p.fall q.rise (q.fall ∷ edges_of ps) (has_here q.fall p.fall (edges_of ps) (ap (λ (r : Pulse). r.fall) e)))
 is_edge-fall (suc i) p (q ∷ ps) is = behind p.fall q.rise (q.fall ∷ edges_of ps) (behind p.fall q.fall (edges_of ps) (is_edge-fall i p ps is))
 
--- a time that is x is an edge where x is one
+-- a time that is x is an edge if x is one
 same_edge : (t x : ℕ) (ps : List Pulse) → is_edge x ps ≡ true → (x == t) ≡ true → is_edge t ps ≡ true
 same_edge t x ps h e = elim (same_or_not x t) [
   | inl s ↦ subst (λ k. is_edge k ps ≡ true) s h

@@ -21,7 +21,7 @@ past : (xs zs : List Pulse) (n k : ℕ) → length xs ≡ n → slice_get (xs ++
 past [] zs n k e = let z : n + k ≡ k = omega arith in ap (slice_get zs) z
 past (x ∷ xs) zs n k e = let z : n + k ≡ suc (length xs + k) = omega arith in ap (slice_get (x ∷ (xs ++ zs))) z ∙ past xs zs (length xs) k refl
 
--- a pulse that is still to move stands as before
+-- a pulse that is still to move is as before
 unmoved : (xs ms zs : List Pulse) (at m : ℕ) → length xs ≡ at → length ms ≡ m → slice_get (xs ++ (ms ++ zs)) (at + m) ≡ slice_get zs 0
 unmoved xs ms zs at m a b =
     let z : m ≡ m + 0 = omega arith in

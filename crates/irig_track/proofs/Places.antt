@@ -37,7 +37,7 @@ first_or-drop d (suc i) p [] is = absurd (cc)
 first_or-drop d zero p (q ∷ ps) is = (let e : q ≡ p = cc in ap (λ (r : Pulse). r.rise) e)
 first_or-drop d (suc i) p (q ∷ ps) is = first_or-drop d i p ps is
 
--- where no pulse has risen there is no edge yet
+-- if no pulse has risen there is no edge yet
 pub is_edge_none : (t low : ℕ) (ps : List Pulse) → RisesFrom low (edges_of ps) → risen_by t ps ≡ 0 → is_edge t ps ≡ false
 is_edge_none t low [] h none = refl
 is_edge_none t low (p ∷ ps) h none = elim (below_or_not t p.rise) [

@@ -1,4 +1,4 @@
--- Pulses that can stand between two times.
+-- Pulses that fit between two times.
 use Rattle.std.proofs.Common.{◌≡◌, ℕ, suc, zero, ◌+◌, ◌<◌, ◌≤◌, List, [], ◌∷◌, ◌++◌, take, drop, slice_get, Some, sym, ap, ◌∙◌, subst, arith}
 use Rattle.irig_track.specs.declared.pulse.Pulse.{Pulse}
 use Rattle.irig_vcd.specs.Recording.{RisesFrom}
@@ -8,7 +8,7 @@ use Rattle.irig_track.proofs.RisingLists.{rises_right}
 use Rattle.irig_track.proofs.Turns.{first_right}
 use Rattle.irig_track.proofs.Carried.{first_of_drop}
 
--- the pulses from the i-th on stand between low and high
+-- the pulses from the i-th on fit between low and high
 abbrev pub StandFrom : ℕ → ℕ → ℕ → List Pulse → Type 0
 StandFrom low high i ps = RisesFrom low (edges_of (drop i ps) ++ high ∷ [])
 

@@ -92,24 +92,24 @@ can_toggle_few a b micros ps lt le h few = record {
   };
 }
 
--- where there is room for one more pulse
+-- if there is room for one more pulse
 pub can_toggle_room : (a b micros room : ℕ) (ps : List Pulse) → a < b → b ≤ micros → IsTrack micros ps → room + length ps ≡ 2 ^ 22 → 0 < room → CanToggle micros a b ps
 can_toggle_room a b micros room ps lt le h sum some =
     can_toggle_few a b micros ps lt le h (omega (arith, length-edges_of ps, length-flipped_most a (edges_of ps), length-flipped_most b (flipped a (edges_of ps))))
 
--- where an edge goes at a
+-- if an edge goes at a
 pub can_toggle_first : (a b micros : ℕ) (ps : List Pulse) → a < b → b ≤ micros → IsTrack micros ps → is_edge a ps ≡ true → CanToggle micros a b ps
 can_toggle_first a b micros ps lt le h e =
     can_toggle_few a b micros ps lt le h (omega (arith, h.few, length-edges_of ps, length-flipped_in a 0 (edges_of ps) h.rises e, length-flipped_most b (flipped a (edges_of ps))))
 
--- where an edge goes at b
+-- if an edge goes at b
 pub can_toggle_second : (a b micros : ℕ) (ps : List Pulse) → a < b → b ≤ micros → IsTrack micros ps → is_edge b ps ≡ true → CanToggle micros a b ps
 can_toggle_second a b micros ps lt le h e =
     let same : has b (flipped a (edges_of ps)) ≡ true = has-flipped_other a b (edges_of ps) (omega arith) ∙ e in
     let up : RisesFrom 0 (flipped a (edges_of ps)) = RisesFrom-flipped 0 a _ (omega arith) h.rises in
     can_toggle_few a b micros ps lt le h (omega (arith, h.few, length-edges_of ps, length-flipped_in b 0 (flipped a (edges_of ps)) up same, length-flipped_most a (edges_of ps)))
 
--- where two edges come to a full track
+-- if two edges come to a full track
 pub cannot_toggle : (a b micros room : ℕ) (ps : List Pulse) → room + length ps ≡ 2 ^ 22 → room ≡ 0 → is_edge a ps ≡ false → is_edge b ps ≡ false → CanToggle micros a b ps → ⊥
 cannot_toggle a b micros room ps sum none first second can =
     let lt : a < b = can.order in

@@ -36,7 +36,7 @@ lt_true a b h = grind (arith, nat_tests)
 lt_false : (a b : ℕ) → b ≤ a → nat_lt a b ≡ false
 lt_false a b h = grind (arith, nat_tests)
 
--- where all rise later
+-- if all rise later
 pub risen_none : (t low : ℕ) (ps : List Pulse) → t < low → RisesFrom low (edges_of ps) → risen_by t ps ≡ 0
 risen_none t low [] lt h = refl
 risen_none t low (p ∷ ps) lt h = omega (arith, risen_no t p ps (omega (arith, h.0)), risen_none t (p.fall + 1) ps (omega (arith, h.0, h.1.0)) h.1.1)
@@ -71,12 +71,12 @@ ended_yes t p ps h = ap (λ v. cond v 1 0 + ended_before t ps) (lt_true p.fall t
 pub ended_no : (t : ℕ) (p : Pulse) (ps : List Pulse) → t ≤ p.fall → ended_before t (p ∷ ps) ≡ 0 + ended_before t ps
 ended_no t p ps h = ap (λ v. cond v 1 0 + ended_before t ps) (lt_false p.fall t h)
 
--- where none ends before
+-- if none ends before
 pub ended_none : (t low : ℕ) (ps : List Pulse) → t ≤ low → RisesFrom low (edges_of ps) → ended_before t ps ≡ 0
 ended_none t low [] lt h = refl
 ended_none t low (p ∷ ps) lt h = omega (arith, ended_no t p ps (omega (arith, h.0, h.1.0)), ended_none t (p.fall + 1) ps (omega (arith, h.0, h.1.0)) h.1.1)
 
--- where a later pulse has risen, this one has ended
+-- if a later pulse has risen, this one has ended
 pub risen_ends : (t : ℕ) (q : Pulse) (ps : List Pulse) (n : ℕ) → RisesFrom (q.rise + 1) (q.fall ∷ edges_of ps) → risen_by t (q ∷ ps) ≡ suc n + 1 → q.fall < t
 risen_ends t q ps n h e = elim (below_or_not q.fall t) [
   | inl lt ↦ lt

@@ -12,7 +12,7 @@ has-append t (x ∷ xs) ys = elim (x == t) as (λ v. cond v true (has t (xs ++ y
 pub same_or_not : (x t : ℕ) → (x ≡ t) ⊎ (x ≢ t)
 same_or_not x t = elim (three x t) [ inl lt ↦ inr (omega arith) | inr r ↦ elim r [ inl e ↦ inl e | inr gt ↦ inr (omega arith) ] ]
 
--- what stands on the left stands not on the right
+-- what is on the left is not on the right
 pub has_once : (low t : ℕ) (xs ys : List ℕ) → RisesFrom low (xs ++ ys) → has t xs ≡ true → has t ys ≡ false
 has_once low t [] ys h e = absurd (cc)
 has_once low t (x ∷ xs) ys h e = elim (same_or_not x t) [
@@ -39,7 +39,7 @@ pub or_false : (b a : Bool) → (b || a) ≡ false → (b ≡ false) × (a ≡ f
 or_false true a e = absurd (cc)
 or_false false a e = (refl, e)
 
--- a splice takes the one part out and puts the other in
+-- a splice removes the one part and inserts the other
 pub has-splice : (t : ℕ) (before gone come after : List ℕ) → RisesFrom 0 (before ++ (gone ++ after)) → has t (before ++ (come ++ after)) ≡ ((has t (before ++ (gone ++ after)) && not (has t gone)) || has t come)
 has-splice t before gone come after h =
     let all : has t (before ++ (gone ++ after)) ≡ (has t before || (has t gone || has t after)) = has-append t before (gone ++ after) ∙ ap (λ v. has t before || v) (has-append t gone after) in

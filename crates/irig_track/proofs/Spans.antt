@@ -70,7 +70,7 @@ ended_before-le-risen_by a b low (p ∷ ps) le h = elim (below_or_not p.fall a) 
   | inr ge ↦ omega (arith, ended_zero a low p ps h ge)
 ]
 
--- how many pulses a toggle took away
+-- how many pulses a toggle removed
 pub gone_count : (a b : ℕ) (u v : GapView Pulse) (s : Stays b u v) → a ≤ b → u.place ≤ length u.items → Under a (edges_of (left_of u)) → RisesFrom (b + 1) (edges_of (right_of v)) → risen_by b u.items ≡ u.place + length s.gone
 gone_count a b u v s le inside under late =
     let r : drop u.place u.items ≡ s.gone ++ right_of v = s.right in

@@ -131,7 +131,7 @@ begun_both a p u v w h t o lt gt = record {
   stays = stays_then a u v w (stays_took a p u v (omega arith) t) (stays_wrote a (pulse p.rise a) v w (omega arith) o);
 }
 
--- the waiting rise goes on over a pulse
+-- the waiting rise continues over a pulse
 pub waiting_on : (x : ℕ) (q : Pulse) (v w y : GapView Pulse) → Took q v w → Wrote (pulse x q.rise) w y → waiting y q.fall ≡ waiting v x
 waiting_on x q v w y t o =
     let l = t.left in let r = t.right in

@@ -6,7 +6,7 @@ abbrev pub following : ℕ → List ℕ → ℕ
 following low [] = low
 following low (x ∷ xs) = following (x + 1) xs
 
--- the first number, or d where there is none
+-- the first number, or d if there is none
 abbrev pub first_or : ℕ → List ℕ → ℕ
 first_or d [] = d
 first_or d (x ∷ xs) = x

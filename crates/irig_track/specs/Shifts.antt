@@ -6,12 +6,12 @@ use Rattle.irig_track.specs.Edges.{pulse, edges_of}
 use Rattle.irig_track.specs.Splices.{spliced, piece}
 use Rattle.irig_track.specs.Track.{IsTrack}
 
--- by how much a distance goes on; 0 where it goes back
+-- by how much a distance goes on; 0 if it goes back
 abbrev pub ahead : ℤ → ℕ
 ahead (pos n) = n
 ahead (negsuc n) = 0
 
--- by how much a distance goes back; 0 where it goes on
+-- by how much a distance goes back; 0 if it goes on
 abbrev pub back : ℤ → ℕ
 back (pos n) = 0
 back (negsuc n) = suc n
@@ -20,7 +20,7 @@ back (negsuc n) = suc n
 abbrev pub moved_pulse : ℕ → ℕ → Pulse → Pulse
 moved_pulse on off p = pulse (p.rise + on - off) (p.fall + on - off)
 
--- the pulses with all edges moved by d microseconds, where none goes to before 0
+-- the pulses with all edges moved by d microseconds, if none goes to before 0
 abbrev pub moved : ℤ → List Pulse → List Pulse
 moved d ps = map (moved_pulse (ahead d) (back d)) ps
 

@@ -17,7 +17,7 @@ pub record CanSplice (micros at count : ℕ) (put ps : List Pulse) : Type 0 wher
   pub there : at + count ≤ length ps
   pub track : IsTrack micros (spliced at count put ps)
 
--- from at, gone pulses became come, and all others stand
+-- from at, gone pulses became come, and all others stay
 pub record IsSpan (at gone come : ℕ) (old new : List Pulse) : Type 0 where
   pub there : at + gone ≤ length old
   pub came : at + come ≤ length new

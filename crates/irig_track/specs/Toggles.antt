@@ -4,7 +4,7 @@ use Rattle.irig_vcd.specs.Recording.{IsRecording}
 use Rattle.irig_track.specs.declared.pulse.Pulse.{Pulse}
 use Rattle.irig_track.specs.Edges.{edges_of}
 
--- the rising list with t taken out where it is there, and put in where it is not
+-- the rising list with t removed if it is there, and added if it is not
 abbrev pub flipped : ℕ → List ℕ → List ℕ
 flipped t [] = t ∷ []
 flipped t (x ∷ xs) = cond (nat_lt t x) (t ∷ x ∷ xs) (cond (x == t) xs (x ∷ flipped t xs))

@@ -21,7 +21,7 @@ use crate::track::Track;
 use irig_gap::Gap;
 
 impl Track {
-    /// Whether a splice leaves a track within the limits: false too where the pulses that would
+    /// Whether a splice leaves a track within the limits: false too if the pulses that would
     /// go are not there. `at` counts from 0.
     pub fn can_splice(&self, at: usize, count: usize, put: &Gap<Pulse>) -> bool
         ensures { IsTrue result ↔ CanSplice self.now.micros at count put.now.items self.now.pulses }
@@ -36,7 +36,7 @@ impl Track {
         stands(put, self.free_from(at), self.free_to(at + count))
     }
 
-    /// Puts the pulses of `put` in the stead of the `count` pulses from `at` on, which go to
+    /// Replaces the `count` pulses from `at` on by the pulses of `put`. The replaced ones go to
     /// `taken`. `at` counts from 0.
     pub fn splice(
         &mut self,
@@ -77,7 +77,7 @@ impl Track {
     }
 
     /// Whether moving the pulses `i` to `j` by `by` microseconds leaves a track within the
-    /// limits: false too where one of them is not there. Pulses count from 0.
+    /// limits: false too if one of them is not there. Pulses count from 0.
     pub fn can_shift(&self, i: usize, j: usize, by: i64) -> bool
         ensures { IsTrue result ↔ CanShift self.now.micros i j by self.now.pulses }
     {
@@ -123,8 +123,8 @@ impl Track {
         self.room() > 0 || self.is_edge_at(a) || self.is_edge_at(b)
     }
 
-    /// Makes the edges their symmetric difference with `a` and `b`, in microseconds: where an
-    /// edge stands it goes, and where none stands one comes.
+    /// Makes the edges their symmetric difference with `a` and `b`, in microseconds: if an
+    /// edge is there it goes, and if none is there one comes.
     ///
     /// The Span holds the pulses that rise at or before `b` and fall at or after `a`, before and
     /// afterwards.

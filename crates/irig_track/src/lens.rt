@@ -26,7 +26,7 @@ impl Track {
 #[derive(Drop)]
 pub struct Lens<'a> {
     track: &'a Track,
-    // How many looks more can be counted. To count down to 0 is cheaper than up to 2^64 - 1.
+    // How many more looks can be counted. To count down to 0 is cheaper than up to 2^64 - 1.
     left: u64,
 }
 

@@ -10,7 +10,7 @@ ghost use Rattle.irig_track.specs.Splices.{spliced, piece};
 use crate::pulse::Pulse;
 use irig_gap::Gap;
 
-/// By how many microseconds a distance goes on: 0 where it goes back.
+/// By how many microseconds a distance goes on: 0 if it goes back.
 pub(crate) fn ahead_of(by: i64) -> u64
     ensures distance { result ≡ ahead by }
     ensures within { result < 2 ^ 63 }
@@ -18,7 +18,7 @@ pub(crate) fn ahead_of(by: i64) -> u64
     if by < 0 { 0 } else { by.unsigned_abs() }
 }
 
-/// By how many microseconds a distance goes back: 0 where it goes on.
+/// By how many microseconds a distance goes back: 0 if it goes on.
 pub(crate) fn back_of(by: i64) -> u64
     ensures distance { result ≡ back by }
     ensures within { result ≤ 2 ^ 63 }

@@ -24,7 +24,7 @@ pub(crate) fn next(pulses: &Gap<Pulse>) -> Option<Pulse>
     }
 }
 
-/// Takes the pulse right of the gap out.
+/// Removes the pulse right of the gap.
 pub(crate) fn take_next(pulses: &mut Gap<Pulse>)
     requires { pulses.old.place < length pulses.old.items }
     ensures took { (p : Pulse) →

@@ -1,6 +1,6 @@
 //! Where an edit took place.
 
-/// From pulse `at`, `old` pulses became `new`, and all others stand. Pulses count from 0.
+/// From pulse `at`, `old` pulses became `new`, and all others stay. Pulses count from 0.
 #[derive(Clone, Copy, PartialEq, Eq)]
 pub struct Span {
     /// The first pulse of the edit, from 0.

@@ -1,4 +1,4 @@
-//! Whether pulses can stand between two times.
+//! Whether pulses fit between two times.
 
 ghost use Rattle.std.specs.Prelude.{◌≡◌, ◌+◌, ◌<◌, ◌≤◌, ◌++◌, ◌∷◌, [], IsTrue, ◌↔◌};
 ghost use Rattle.irig_vcd.specs.Recording.{RisesFrom};

@@ -1,6 +1,6 @@
 //! Toggles two times among the pulses right of a gap.
 //!
-//! After the first time an odd number of edges stands: pulses left of the gap, a rise that waits
+//! After the first time there is an odd number of edges: pulses left of the gap, a rise that waits
 //! for its fall, and pulses right of the gap.
 
 ghost use Rattle.std.specs.Prelude.{◌≡◌, ◌+◌, ◌-◌, ◌<◌, ◌≤◌, ◌++◌, ◌∷◌, [], length};
@@ -14,7 +14,7 @@ use crate::pulse::Pulse;
 use crate::sides::{next, put_last, take_next};
 use irig_gap::Gap;
 
-/// Toggles `a`, and answers the rise that waits.
+/// Toggles `a`, and returns the rise that waits.
 fn begin(pulses: &mut Gap<Pulse>, a: u64) -> u64
     requires rises { RisesFrom 0 (edges_of pulses.old.items) }
     requires left { Under a (edges_of (left_of pulses.old)) }
@@ -39,7 +39,7 @@ fn begin(pulses: &mut Gap<Pulse>, a: u64) -> u64
     }
 }
 
-/// Goes on to the last pulse that rises before `b`, and answers the rise that waits there.
+/// Continues to the last pulse that rises before `b`, and returns the rise that waits there.
 fn go_on(pulses: &mut Gap<Pulse>, start: u64, b: u64) -> u64
     requires rises { RisesFrom 0 (waiting pulses.old start) }
     requires left { Under b (edges_of (left_of pulses.old)) }
@@ -84,7 +84,7 @@ fn finish(pulses: &mut Gap<Pulse>, rise: u64, b: u64)
     }
 }
 
-/// Toggles `a` and `b`, whose pulses stand right of the gap.
+/// Toggles `a` and `b`, whose pulses are right of the gap.
 pub(crate) fn toggle_right(pulses: &mut Gap<Pulse>, a: u64, b: u64)
     requires order { a < b }
     requires rises { RisesFrom 0 (edges_of pulses.old.items) }

@@ -39,7 +39,7 @@ impl Model for Track {
 }
 
 impl Track {
-    /// The track with the recording's length and edges. A refusal drops the recording.
+    /// The track with the recording's length and edges. An error drops the recording.
     pub fn new(alloc: Global, recording: Recording) -> Result<Track, AllocError>
         ensures length { IfOk result (λ t. t.micros ≡ recording.micros) }
         ensures edges { IfOk result (λ t. edges_of t.pulses ≡ recording.edges) }
@@ -89,7 +89,7 @@ impl Track {
         0 < self.pulses.len() && self.pulses.get(0).rise == 0
     }
 
-    /// Makes the spare at least `more`: so many further pulses then fit without a growth.
+    /// Makes the spare at least `more`: that many further pulses then fit without a growth.
     pub fn reserve(&mut self, more: usize) -> Result<(), AllocError>
         ensures stays { (self.new.micros ≡ self.old.micros) × (self.new.pulses ≡ self.old.pulses) }
         ensures room { OnOk result (more ≤ self.new.spare) }
@@ -120,7 +120,7 @@ impl Track {
         self.micros
     }
 
-    /// How many more pulses the limit of 2^22 lets in.
+    /// How many more pulses the limit of 2^22 allows.
     pub fn room(&self) -> usize
         ensures { result + length self.now.pulses ≡ 2 ^ 22 }
     {

@@ -29,7 +29,7 @@ vector_byte b is = elim is [
 space : (s : List ℕ) (i : ℕ) → get_or s i 0 ≡ 32 → is_space (get_or s i 0) ≡ true
 space s i is = rw is refl
 
--- a vector up to a space, and behind it another code of one byte
+-- a vector up to a space, and after it another code of one byte
 pub vector_word : (s code : List ℕ) (start mid other : ℕ) → start < length s → mid + 3 ≤ length s → is_space (get_or s start 0) ≡ false → vector ≡ kind_of_byte (get_or s start 0)
     → words_from mid true (drop mid s) ≡ words_from (start + 1) true (drop (start + 1) s)
     → get_or s mid 0 ≡ 32 → get_or s (mid + 1) 0 ≡ other → get_or s (mid + 2) 0 ≡ 10 → 32 < other → (code ≡ other ∷ [] → ⊥)
@@ -59,7 +59,7 @@ past_vector left w c ws is h = rw (is, h) refl
 vector_read : (code : List ℕ) (w c : Word) (ws : List Word) → w.kind ≡ vector → vector_level code w c.bytes ≡ Ok None → level_read w.kind code w (c ∷ ws) ≡ Ok (None, ws)
 vector_read code w c ws kind level = rw (kind, level) refl
 
--- the changes behind a value on another code are those at it
+-- the changes after a value on another code are those at it
 pub apart_on : (code : List ℕ) (unit last : ℕ) (old new : List Word) → TakesApart old new code ⊎ TakesVector old new code → changes_from any_word code unit last old ≡ changes_from any_word code unit last new
 apart_on code unit last old new takes = elim takes [
   | inl a ↦ on_level code unit last old a.word new new None a.left (ap is_hash a.kind) (apart_level code a.word new a.kind a.level)

@@ -43,7 +43,7 @@ comment : (code : List ℕ) (e last : ℕ) (ws : List Word) → changes_from com
 comment code e last [] = refl
 comment code e last (w ∷ ws) = in_comment (is_end w.bytes) code e last ws (comment code e last ws)
 
--- what is read of a word and of those that go with it, and then what comes behind them
+-- what is read of a word and of those that go with it, and then what comes after them
 abbrev pub goes_on : List ℕ → ℕ → ℕ → Result (Option Bool × List Word) VcdFault → Result (List Change × ℕ) VcdFault
 goes_on code e last read = read >>= λ x. with_level x.0 (micros_of e last) (changes_from any_word code e last x.1)
 

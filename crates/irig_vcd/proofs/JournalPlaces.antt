@@ -1,4 +1,4 @@
--- Where the journals of a text stand: behind its declarations, and within it.
+-- The places of the journals of a text: after its declarations, and within it.
 use Rattle.std.proofs.Common.{◌≡◌, ◌≤◌, ◌<◌, ◌+◌, ◌∷◌, [], ℕ, Bool, true, false, cond, List, Option, Some, None, Result, Ok, Err, IfSome, length, filter, ◌++◌, refl, ap, arith}
 use Rattle.irig_vcd.specs.Answer.{◌>>=◌}
 use Rattle.irig_vcd.specs.Code.Journals.{Holds, LiesIn, place_view, first_place}
@@ -13,7 +13,7 @@ use Rattle.irig_vcd.specs.declared.fault.VcdFault.{VcdFault}
 use Rattle.irig_vcd.specs.declared.journals.Journals.{Journals}
 use Rattle.irig_vcd.specs.declared.journals.Place.{Place}
 
--- the words behind the declarations do not hang on the wire
+-- the words after the declarations do not depend on the wire
 
 ends_so : (r : Result (ℕ × List ℕ) VcdFault) (l ws : List Word) (s : ℕ × List ℕ) → (r >>= λ s. pair_ok s l) ≡ Ok (s, ws) → l ≡ ws
 ends_so (Ok x) l ws s h = let same : ◌≡◌ {A = (ℕ × List ℕ) × List Word} (x, l) (s, ws) = cc h in ap (λ p. p.1) same
@@ -40,7 +40,7 @@ journals_behind wire bytes s ws h =
     let read = starts_so wire (read_cut nothing (cut_from None (words_of bytes))) ws s h in
     ap journals_among (cuts_so (judged nothing (cut_from None (words_of bytes)).sections) (cut_from None (words_of bytes)).stop read.0 ws read.1)
 
--- the words of a text stand in their order, from a place on and before another
+-- the words of a text are in their order, from a place on and before another
 abbrev Ordered : ℕ → ℕ → List Word → Type 0
 Ordered low top [] = Unit {0}
 Ordered low top (w ∷ ws) = (low ≤ w.offset) × (w.offset < top) × Ordered w.offset top ws

@@ -31,7 +31,7 @@ behind_end ws x h = only_words ws ∙ ap (λ r. r >>= λ x. Ok x.1) h
 pub no_end : (ws : List Word) (e : VcdFault) → end_read ws ≡ Err e → after_end ws ≡ Err e
 no_end ws e h = only_words ws ∙ ap (λ r. r >>= λ x. Ok x.1) h
 
--- a comment up to its end, and those behind it
+-- a comment up to its end, and those after it
 abbrev closed : Word → Result (ℕ × List Word) VcdFault → List Comment
 closed first (Ok x) = comment first x.0 ∷ comments_from any_word None x.1
 closed first (Err e) = []
@@ -48,7 +48,7 @@ closes first (w ∷ ws) = closed_now (is_end w.bytes) first w.offset ws (closes 
 only_journals : (b : Bool) (c : Comment) (rest : List Comment) → is_journal c ≡ b → filter is_journal (c ∷ rest) ≡ cond b (c ∷ filter is_journal rest) (filter is_journal rest)
 only_journals b c rest is = rw is refl
 
--- the journals from behind the word that begins a comment on
+-- the journals after the word that begins a comment
 pub in_comment : (b : Bool) (left : List Word) (w : Word) (ws rest : List Word) (end : ℕ) → left ≡ w ∷ ws → is_end w.bytes ≡ false → end_read ws ≡ Ok (end, rest) → bytes_eq w.bytes (codes "irig-journal-1") ≡ b
     → filter is_journal (comments_from comment_word None left) ≡ cond b (comment w end ∷ journals_among rest) (journals_among rest)
 in_comment b left w ws rest end is more h first =

@@ -114,7 +114,7 @@ digits_spell (b ∷ bs) n h =
     let one : n * 10 + (b + 208) % 256 ≡ 10 * n + (b - 48) = omega (arith, p.0, p.1) in
     ap (λ k. number_from_digits_after 10 k (map less_48 bs)) one ∙ digits_spell bs (10 * n + (b - 48)) p.2
 
--- sixteen bytes up to a place, of which the last are digits
+-- sixteen bytes up to a place, whose last are digits
 abbrev pub kept : List ℕ → ℕ → ℕ → List ℕ
 kept s from c = replicate (16 - c) 0 ++ drop (16 - c) (map less_48 (take 16 (drop (from + c - 16) s)))
 

@@ -1,4 +1,4 @@
--- The edges of changes tell their level by parity.
+-- The edges of changes give their level by parity.
 use Rattle.std.proofs.Common.{◌≡◌, ◌<◌, ℕ, zero, suc, Bool, true, false, not, List, [], ◌∷◌, ◌++◌, cond, nat_le, nat_lt, length, Option, Result, Ok, Err, refl, ap, subst, ◌∙◌, inl, inr, arith}
 use Rattle.std.specs.List.{filter}
 use Rattle.std.proofs.lemmas.List.{append-nil}
@@ -13,7 +13,7 @@ use Rattle.irig_vcd.specs.declared.fault.VcdFault.{VcdFault}
 use Rattle.irig_vcd.specs.declared.fault.VcdFault.TheVariants.{TooManyPulses}
 use Rattle.irig_vcd.proofs.Lawful.{not-not, even_below, Below, edges_are_below}
 
--- an edge behind a time leaves the level there
+-- an edge after a time leaves the level there
 level_later : (is_edge : Bool) (xs : List ℕ) (x t : ℕ) → t < x → level_by_edges t (xs ++ cond is_edge (x ∷ []) []) ≡ level_by_edges t xs
 level_later true xs x t lt =
     let no : nat_le x t ≡ false = grind (arith, nat_tests) in
@@ -39,7 +39,7 @@ level_told cs t (suc n) lt = elim (cases_lt t n) [
   | inr last ↦ (let same : n ≡ t = omega arith in ap (λ k. level_by_edges t (edges_below cs (suc k))) same ∙ level_now cs t)
 ]
 
--- below an end the edges up to it tell the level
+-- below an end the edges up to it give the level
 pub level_up_to : (cs : List Change) (end t : ℕ) → t < end → level_by_edges t (edges_up_to cs end) ≡ level_by_changes cs t
 level_up_to cs end t lt = level_later (level_before cs end) (edges_below cs end) end t lt ∙ level_told cs t end lt
 

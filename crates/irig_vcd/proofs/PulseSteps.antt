@@ -28,7 +28,7 @@ use Rattle.irig_vcd.proofs.Levels.{advanced, changed, kept_more}
 use Rattle.irig_vcd.proofs.Runs.{opened, newline, behind_newline}
 use Rattle.irig_vcd.proofs.WrittenChanges.{same_micros}
 
--- a trace that stands behind a fall takes a pulse
+-- a trace after a fall takes a pulse
 pub pulse_put : (cs : List Change) (old new : Trace) (one : Vec ℕ) (rise fall : ℕ) → HasFallen old → length old.edges.items + 2 ≤ edges_kept
     → old.time < rise → rise < fall → one.items ≡ old.edges.items ++ old.time ∷ [] → new.edges.items ≡ one.items ++ rise ∷ []
     → new.time ≡ fall → new.before ≡ true → new.now ≡ false → Follows cs old
@@ -81,7 +81,7 @@ past_edge s at high code e k =
     let ws = words_from e.end false (drop e.end s) in
     past_time (words_from at false (drop at s)) k.sign (k.level ∷ ws) k.left (ap is_hash k.is_hash) ∙ past_level (k.level ∷ ws) k.level ws refl k.is_scalar
 
--- reading goes on by a pulse
+-- reading continues by a pulse
 pub along_pulse : (code from : ℕ) (total : Result (List Change × ℕ) VcdFault) (old new : Trace) (s : List ℕ) (at : ℕ) (rise fall : Edge)
     → TakesEdge s at true code rise → TakesEdge s rise.end false code fall → from < rise.time → rise.time < fall.time → fall.time ≤ 1099511627776
     → ((changes : List Change) → Follows changes old → Follows (changes ++ record { time = rise.time; high = true } ∷ record { time = fall.time; high = false } ∷ []) new) → new.time ≡ fall.time

@@ -1,4 +1,4 @@
--- The lines of a pulse in a buffer: made, with other digits, and put.
+-- The lines of a pulse in a buffer: made, with other digits, and written.
 use Rattle.std.proofs.Common.{◌≡◌, ◌&&◌, zero, suc, T, eqb, eqb→eq, eq-zero-or-pos, get_or, inl, inr, ◌≤◌, ◌<◌, ◌+◌, ◌-◌, ◌*◌, ◌/◌, ◌%◌, ◌^◌, ◌==◌, ◌∷◌, ◌++◌, [], ℕ, Bool, true, false, List, length, length-append, take, drop, set, decimal, refl, ap, sym, ◌∙◌, arith, append_assoc}
 use lib.Ieee.Fits.{and_l, and_r}
 use Rattle.std.proofs.Math.Seq.{take-append-add, take-append_seam, drop-append_seam, set-append_seam}
@@ -10,7 +10,7 @@ use Rattle.irig_vcd.specs.FileText.{lines_at, level_line}
 use Rattle.irig_vcd.specs.declared.kept_pulse.KeptPulse.{KeptPulse}
 use Rattle.irig_vcd.specs.declared.kept_pulse.TheConstants.{PAIRS}
 
--- a part of a list between others, written anew
+-- a part of a list between others, replaced
 pub part_put : (old new p a q x : List ℕ) (i : ℕ) → old ≡ p ++ (a ++ q) → length p ≡ i → length a ≡ 4 → take i new ≡ take i old → drop i new ≡ x ++ drop (i + 4) old → new ≡ p ++ (x ++ q)
 part_put old new p a q x i is at four before behind =
     let first : take i old ≡ p = ap (take i) is ∙ (ap (λ n. take n (p ++ (a ++ q))) (sym at) ∙ take-append_seam p (a ++ q)) in
@@ -82,7 +82,7 @@ parts_apart k rise fall pad =
 pub one_in_front : (rise fall pad : List ℕ) → pulse_parts 1 rise fall pad ≡ 35 ∷ 49 ∷ (rise ++ (10 ∷ 49 ∷ 33 ∷ 10 ∷ (35 ∷ 49 ∷ (fall ++ (10 ∷ 48 ∷ 33 ∷ 10 ∷ pad)))))
 one_in_front rise fall pad = ap (λ (d : List ℕ). 35 ∷ (d ++ (rise ++ (10 ∷ 49 ∷ 33 ∷ 10 ∷ (35 ∷ (d ++ (fall ++ (10 ∷ 48 ∷ 33 ∷ 10 ∷ pad)))))))) (decimal_digit 1 (omega arith))
 
--- the lines are put and what is behind them is cut off
+-- the lines are written and what is after them is cut off
 pub parts_put : (text bytes rise fall pad : List ℕ) (k long : ℕ) → bytes ≡ pulse_parts k rise fall pad → length rise ≡ 4 → length fall ≡ 4 → length (front k) + 8 ≡ long → long ≤ 24
     → take (length text + 2 * long) (text ++ take 48 bytes) ≡ (text ++ (front k ++ (rise ++ (10 ∷ 49 ∷ 33 ∷ 10 ∷ [])))) ++ (front k ++ (fall ++ (10 ∷ 48 ∷ 33 ∷ 10 ∷ [])))
 parts_put text bytes rise fall pad k long is four more fits short =
@@ -107,7 +107,7 @@ digits_put p one two x y h four a b d e =
     let first = rise_put k p.bytes one h.rise h.fall h.pad x (p.long - 8) h.is (omega (arith, h.fits)) h.of_rise a b in
     fall_put k one two x h.fall h.pad y (2 * p.long - 8) first (omega (arith, h.fits)) four h.of_fall d e
 
--- two digits behind two
+-- two digits after two
 pub four_written : (old one two : List ℕ) (at a b d e : ℕ) → drop at one ≡ a ∷ b ∷ drop (at + 2) old → take (at + 2) two ≡ take (at + 2) one → drop (at + 2) two ≡ d ∷ e ∷ drop (at + 2 + 2) one
     → drop at two ≡ a ∷ b ∷ d ∷ e ∷ drop (at + 4) old
 four_written old one two at a b d e first same last =
@@ -134,7 +134,7 @@ pub pair_told : (n : ℕ) → n < 100 → (get_or PAIRS (2 * n) 0 ≡ 48 + n / 1
 unfolding are_told
 pair_told n few = told_below 100 n tt few
 
--- a level in a line that stands from a place on
+-- a level in a line from a place on
 pub level_again : (line digits pad : List ℕ) (start old level : ℕ) → drop start line ≡ 35 ∷ digits ++ (10 ∷ old ∷ 33 ∷ 10 ∷ pad) → start + 1 + length digits ≡ 21
     → drop start (set line 22 level) ≡ 35 ∷ digits ++ (10 ∷ level ∷ 33 ∷ 10 ∷ pad)
 level_again line digits pad start old level is at =
@@ -155,7 +155,7 @@ line_taken line digits pad start k level four is same long some near =
     let all : 24 ≡ length (one_edge k four level) + (start - 1) = omega (arith, long) in
     ap (λ n. take n (drop start line)) all ∙ (ap (take (length (one_edge k four level) + (start - 1))) whole ∙ take-append-add (one_edge k four level) pad (start - 1))
 
--- the lines of both edges, copied one behind the other
+-- the lines of both edges, copied one after the other
 pub lines_made : (high_line low_line old one two pad : List ℕ) (start k : ℕ) (digits four : List ℕ) → digits ≡ decimal k ++ four → length four ≡ 4 → start + 1 + length digits ≡ 21 → 1 ≤ start
     → drop start high_line ≡ 35 ∷ digits ++ (10 ∷ 49 ∷ 33 ∷ 10 ∷ pad) → drop start low_line ≡ 35 ∷ digits ++ (10 ∷ 48 ∷ 33 ∷ 10 ∷ pad)
     → one ≡ take 0 old ++ (take 24 (drop start high_line) ++ drop 24 old) → two ≡ take (25 - start) one ++ (take 24 (drop start low_line) ++ drop (25 - start + 24) one)

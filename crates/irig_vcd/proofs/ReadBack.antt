@@ -21,7 +21,7 @@ use Rattle.irig_vcd.proofs.WrittenEdges.{turns, high_edges, low_edges}
 use Rattle.irig_vcd.proofs.WrittenWords.{level_word}
 use Rattle.irig_vcd.proofs.WrittenChanges.{lines, last_or, last_top, last_up, rises_after, ending, SaysNothing, says_nothing}
 
--- the words behind the declarations
+-- the words after the declarations
 abbrev pub after_header : Bool → List Word → List Word
 after_header high ws =
     record { kind = hash; bytes = codes "#0"; offset = 104 }
@@ -85,7 +85,7 @@ edges_back top (e ∷ es) rest says lawful = elim (cases_eq e 0) [
       (low_edges (e ∷ es) top r lawful.within lawful.even)
 ]
 
--- with a text behind it that changes nothing
+-- with a text after it that changes nothing
 pub read_back_with : (r : RecordingView) (rest : List ℕ) → SaysNothing rest → IsRecording r.micros r.edges → dump None (file_text r ++ rest) ≡ Ok r
 read_back_with r rest says lawful = edges_back r.micros r.edges rest says lawful
 

@@ -47,7 +47,7 @@ pub rises_after : (low : ℕ) (xs : List ℕ) → RisesFrom (low + 1) xs → Ris
 rises_after low [] h = h
 rises_after low (x ∷ xs) h = (omega (arith, h.0), h.1)
 
--- what the lines of edges come to, before those behind them
+-- what the lines of edges come to, before those after them
 pub record Lines (last : ℕ) (high : Bool) (edges rest : List ℕ) (at : ℕ) : Type 0 where
   pub next : ℕ
   pub read : changes_from any_word (33 ∷ []) 9 last (words_from at false (edge_lines high edges ++ rest)) ≡ behind (turns high edges) (changes_from any_word (33 ∷ []) 9 (last_or last edges) (words_from next false rest))
@@ -83,7 +83,7 @@ last_top (x ∷ y ∷ ys) low last top r u h = elim (or_cases (x == top) (list_a
   | inr more ↦ last_top (y ∷ ys) (x + 1) x top r.1 u.1 more
 ]
 
--- a text behind the lines that changes nothing
+-- a text after the lines that changes nothing
 abbrev pub SaysNothing : List ℕ → Type 0
 SaysNothing rest = (last at : ℕ) → changes_from any_word (33 ∷ []) 9 last (words_from at false rest) ≡ pair_of [] (micros_of 9 last)
 
@@ -97,7 +97,7 @@ ends_with_line last at top rest says up low =
     let one = on_time (33 ∷ []) 9 last (words_from at false (time_line top ++ rest)) w.word (words_from w.next false rest) top w.words (ap is_hash w.kind) set in
     one ∙ (says top w.next ∙ ap (λ t. pair_of [] t) (same_micros top))
 
--- the line of the length, where there is one
+-- the line of the length, if there is one
 pub ending : (last at top : ℕ) (edges rest : List ℕ) → SaysNothing rest → last ≤ top → top ≤ 1099511627776 → (list_any (λ edge. edge == top) edges ≡ true → last ≡ top)
     → changes_from any_word (33 ∷ []) 9 last (words_from at false (end_line (recording_view top edges) ++ rest)) ≡ Ok ([], top)
 ending last at top edges rest says up low there = elim (cases_Bool (nat_lt 0 top && not (list_any (λ edge. edge == top) edges))) [

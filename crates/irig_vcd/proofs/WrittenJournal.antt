@@ -1,4 +1,4 @@
--- The journal behind the text of a recording.
+-- The journal after the text of a recording.
 use Rattle.std.proofs.Common.{◌≡◌, ◌≤◌, ◌<◌, ◌^◌, ◌+◌, ◌-◌, ◌++◌, ◌∷◌, ◌==◌, ◌&&◌, [], ℕ, Bool, true, false, not, cond, List, Some, None, Result, Ok, length, length-append, take, drop, map, codes, nat_lt, refl, ap, sym, ◌∙◌, arith, append_assoc}
 use Rattle.std.specs.List.{list_all, list_any}
 use Rattle.std.proofs.lemmas.Bool.{and_parts, not-true}
@@ -34,7 +34,7 @@ both_ways : (dark : Bool) (x y : List Word) (r : Result (ℕ × List Word) VcdFa
 both_ways true x y r h k = h
 both_ways false x y r h k = k
 
--- a text without a dollar ends at the line behind it
+-- a text without a dollar ends at the line after it
 ends_behind : (text : List ℕ) (at place : ℕ) (inside : Bool) → list_all (λ b. not (b == 36)) text ≡ true → place ≡ at + length text + 1
     → end_read (words_from at inside (text ++ 10 ∷ codes "$end\n")) ≡ Ok (place, [])
 ends_behind [] at place inside plain is = let same : place ≡ at + 1 = omega (arith, is) in rw same refl
@@ -103,7 +103,7 @@ comment_passes lines j last at =
     on_level (33 ∷ []) 9 last (words_from at false (comment_text lines)) (comment_at at) (words_from (at + 9) false (lines ++ codes "$end\n")) [] None words refl
     (comment_level at (words_from (at + 9) false (lines ++ codes "$end\n")) [] (behind_end (words_from (at + 9) false (lines ++ codes "$end\n")) _ ends))
 
--- no journal stands among the lines of a recording
+-- no journal is among the lines of a recording
 
 past_line : (time at : ℕ) (rest : List ℕ) → time < 2 ^ 64 → journals_among (words_from at false (time_line time ++ rest)) ≡ journals_among (words_from (at + length (time_line time)) false rest)
 past_line time at rest small =
@@ -135,7 +135,7 @@ past_header : (high : Bool) (ws : List Word) → journals_among (after_header hi
 past_header true ws = refl
 past_header false ws = refl
 
--- the journals of a text that begins with a recording's are those of what stands behind it
+-- the journals of a text that begins with a recording's are those of what is after it
 journals_after : (r : RecordingView) (rest : List ℕ) → IsRecording r.micros r.edges → journals_in (file_text r ++ rest) ≡ journals_among (words_from (length (file_text r)) false rest)
 unfolding file_text
 journals_after r rest is =

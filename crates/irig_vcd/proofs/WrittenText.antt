@@ -1,4 +1,4 @@
--- The text that is put edge by edge is the text of the recording.
+-- The text that is written edge by edge is the text of the recording.
 use Rattle.std.proofs.Common.{◌≡◌, ◌≤◌, ◌+◌, ◌==◌, ◌++◌, ◌∷◌, ◌&&◌, ◌||◌, [], ℕ, Bool, true, false, not, List, length, drop, nat_lt, inl, inr, subst, refl, ap, sym, ◌∙◌, arith, if◌then◌else◌}
 use Rattle.std.specs.List.{list_any}
 use Rattle.std.proofs.lemmas.List.{drop_all, append-nil}
@@ -18,7 +18,7 @@ above low high (edge ∷ edges) some r =
     let up : (edge == 0) ≡ false = ne_eqb edge 0 (λ e. omega (arith, r.0)) in
     rw (up, above (edge + 1) (not high) edges (omega arith) r.1) refl
 
--- an edge at 0 is told by the header
+-- an edge at 0 is given by the header
 lines : (edges : List ℕ) → RisesFrom 0 edges → all_lines true edges ≡ edge_lines (not (begins_high edges)) (later_edges edges)
 lines [] r = refl
 lines (edge ∷ edges) r = elim (cases_eq edge 0) [
@@ -46,7 +46,7 @@ longer : (micros : ℕ) (stands : Bool) → (micros ≡ 0 → ⊥)
     → (if nat_lt 0 micros && not stands then time_line micros else []) ≡ (if stands then [] else time_line micros)
 longer micros stands some = rw (lt-ltb 0 micros (omega (arith, some))) (turned stands (time_line micros))
 
--- no line where nothing is long
+-- no line if the length is 0
 none_long : (stands : Bool) → (if nat_lt 0 0 && not stands then time_line 0 else []) ≡ []
 none_long stands = refl
 
@@ -70,7 +70,7 @@ pub whole_text : (micros : ℕ) (edges : List ℕ) → RisesFrom 0 edges → UpT
 unfolding file_text
 whole_text micros edges r u = rw (lines edges r, ends micros edges r u) refl
 
--- what was put when no edge is left
+-- what was written when no edge is left
 pub all_put : (high : Bool) (n micros : ℕ) (text : List ℕ) (last : ℕ) (edges : List ℕ) → length edges ≤ n
     → text ++ all_lines high (drop n edges) ≡ header_text (begins_high edges) ++ all_lines true edges → last_or last (drop n edges) ≡ last_or 0 edges
     → RisesFrom 0 edges → UpTo micros edges → text ++ length_line last micros ≡ file_text (recording_view micros edges)

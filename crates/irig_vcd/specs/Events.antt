@@ -21,7 +21,7 @@ pub data Next : Type 0 where
   code_of_value : Word → Next
   comment_word : Next
 
--- a value and the word behind it, its code: real and text values say nothing
+-- a value and the word after it, its code: real and text values say nothing
 abbrev pub level_by : WordKind → List ℕ → Word → List ℕ → Result (Option Bool) VcdFault
 level_by vector code w behind = vector_level code w behind
 level_by _ code w behind = Ok None

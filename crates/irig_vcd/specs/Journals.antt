@@ -1,4 +1,4 @@
--- The journals of a dump: the comments behind its declarations whose first word is irig-journal-1.
+-- The journals of a dump: the comments after its declarations whose first word is irig-journal-1.
 -- Comments are IEEE 1364-2005, clause 18; that these are journals is this project's own.
 use Rattle.std.specs.Prelude.{◌-◌, ℕ, Bool, List, [], ◌∷◌, Option, Some, None, if◌then◌else◌, codes}
 use Rattle.std.specs.Prelude.{take, drop, map, filter}
@@ -9,7 +9,7 @@ use Rattle.irig_vcd.specs.Sections.{is_end}
 use Rattle.irig_vcd.specs.Words.{Word, WordKind, dollar, hash, scalar, vector, real, text, other}
 use Rattle.irig_vcd.specs.Words.{words_of}
 
--- a comment: its first word, which is its $end where it has no other, and the place of its $end
+-- a comment: its first word, which is its $end if it has no other, and the place of its $end
 pub record Comment : Type 0 where
   pub first : Word
   pub end : ℕ
@@ -18,7 +18,7 @@ pub record Comment : Type 0 where
 abbrev pub comment : Word → ℕ → Comment
 comment first end = record { first = first; end = end }
 
--- what comes behind a word of its own, by its kind
+-- what comes after a word of its own, by its kind
 abbrev pub next_after : WordKind → Word → Next
 next_after hash w = any_word
 next_after scalar w = any_word
@@ -33,7 +33,7 @@ abbrev pub first_or : Option Word → Word → Word
 first_or None w = w
 first_or (Some first) w = first
 
--- the comments of words behind the declarations, by what comes next; in a comment, its first word
+-- the comments of words after the declarations, by what comes next; in a comment, its first word
 abbrev pub comments_from : Next → Option Word → List Word → List Comment
 comments_from next first [] = []
 comments_from any_word first (w ∷ ws) = comments_from (next_after w.kind w) None ws
@@ -47,11 +47,11 @@ comments_from comment_word first (w ∷ ws) =
 abbrev pub is_journal : Comment → Bool
 is_journal c = bytes_eq c.first.bytes (codes "irig-journal-1")
 
--- the journals among words behind the declarations
+-- the journals among words after the declarations
 abbrev pub journals_among : List Word → List Comment
 journals_among words = filter is_journal (comments_from any_word None words)
 
--- the words behind the declarations, where these end
+-- the words after the declarations, if these end
 abbrev pub words_behind : Stop → List Word
 words_behind no_end = []
 words_behind no_definitions = []

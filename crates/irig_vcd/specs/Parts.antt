@@ -10,7 +10,7 @@ use Rattle.irig_vcd.specs.declared.fault.VcdFault.{VcdFault}
 use Rattle.irig_vcd.specs.declared.fault.VcdFault.TheVariants.{BadJournal}
 use denote.Ref.{Bor}
 
--- the one journal, where there is one; a second one is a fault
+-- the one journal, if there is one; a second one is a fault
 abbrev pub one_journal : List (List ℕ) → Result (Option (List ℕ)) VcdFault
 one_journal [] = Ok None
 one_journal (j ∷ []) = Ok (Some j)
@@ -29,7 +29,7 @@ dump_parts wire bytes = do
 abbrev pub parts_view : RecordingView × Option (Bor (List ℕ)) → RecordingView × Option (List ℕ)
 parts_view x = (x.0, name_of x.1)
 
--- lines without a dollar, of which the first is irig-journal-1
+-- lines without a dollar, whose first is irig-journal-1
 pub record IsJournalText (lines : List ℕ) : Type 0 where
   pub rest : List ℕ
   pub begins : lines ≡ codes "irig-journal-1\n" ++ rest

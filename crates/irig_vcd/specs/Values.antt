@@ -20,7 +20,7 @@ first_of (b ∷ bs) = b
 abbrev pub level_if : Bool → ℕ → Option Bool
 level_if mine b = if mine then Some (is_high b) else None
 
--- a value with its code behind it in one word
+-- a value with its code after it in one word
 abbrev pub scalar_level : List ℕ → Word → Result (Option Bool) VcdFault
 scalar_level code w =
     if length (rest_of w.bytes) == 0 then Err (BadToken w.offset)

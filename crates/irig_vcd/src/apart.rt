@@ -1,4 +1,4 @@
-//! Values on other codes of one byte, which are passed over with the newline behind them.
+//! Values on other codes of one byte. They are skipped, with the newline after them.
 
 ghost use Rattle.std.specs.Prelude.{◌≡◌, ◌≤◌, ◌<◌, ◌+◌, ◌∷◌, ◌↔◌, [], true, false, length, drop};
 ghost use Rattle.std.specs.Prelude.{ℕ, map, slice_index, IfSome};
@@ -20,7 +20,7 @@ fn is_byte(code: &[u8], byte: u8) -> bool
     }
 }
 
-/// Whether a 0 or a 1 stands at a place on another code of one byte, where a newline is behind it.
+/// Whether a 0 or a 1 on another code of one byte, with a newline after it, is at a place.
 #[inline(always)]
 pub fn is_apart(source: &[u8], start: usize, code: &[u8]) -> bool
     requires room { start + 3 ≤ length source.now }
@@ -46,7 +46,7 @@ fn spaces(bytes: u8x16) -> u64
     bytes.simd_le(u8x16::splat(b' ')).to_bitmask()
 }
 
-/// How many bytes above a space stand from a place on, 16 of them at most.
+/// How many bytes above a space there are from a place on, 16 at most.
 #[inline(always)]
 fn dark_count(source: &[u8], from: usize) -> usize
     requires { from + 16 ≤ length source.now }
@@ -61,7 +61,7 @@ fn dark_count(source: &[u8], from: usize) -> usize
     found.trailing_zeros() as usize
 }
 
-/// Where the bytes above a space end that stand from a place on, or a place among them where few
+/// The end of the bytes above a space from a place on, or a place among them if few
 /// bytes are left. A function of its own for the machine too: the loop over the tokens keeps its
 /// registers.
 #[inline(never)]
@@ -82,8 +82,8 @@ fn dark_end(source: &[u8], from: usize) -> usize
     at
 }
 
-/// The place behind the vector that stands at a place, where another code of one byte and a newline
-/// are behind it. What its digits are is not looked at.
+/// The place after the vector at a place, if another code of one byte and a newline
+/// are after it. Its digits are not looked at.
 #[inline(always)]
 pub fn vector_apart(source: &[u8], start: usize, code: &[u8]) -> Option<usize>
     requires { start < length source.now }

@@ -44,7 +44,7 @@ fn is_plain(code: &[u8]) -> bool
     !code.is_empty() && code.len() <= LONGEST_CODE && is_code(code)
 }
 
-/// What stands behind the first byte.
+/// What is after the first byte.
 fn digits_of(word: &[u8]) -> &[u8]
     ensures { result.now ≡ rest_of word.now }
 {
@@ -63,7 +63,7 @@ fn is_quick(is_plain: bool, unit: Unit, code: &[u8]) -> bool
     is_plain && unit.is_microsecond() && code.len() == 1
 }
 
-/// Takes the pulses that stand here, where they are taken in one step, and gives the time then.
+/// Takes the pulses here, if they are taken in one step, and returns the time then.
 #[inline(always)]
 fn ahead(
     is_quick: bool,
@@ -124,7 +124,7 @@ fn take(
     Ok(clock)
 }
 
-/// What stands behind the declarations: the last time in microseconds, the edges, and the journals.
+/// What is after the declarations: the last time in microseconds, the edges, and the journals.
 #[derive(Drop)]
 pub struct Body {
     pub end: u64,
@@ -132,7 +132,7 @@ pub struct Body {
     pub journals: Journals,
 }
 
-/// Reads what stands behind the declarations. A function of its own for the machine too: what it
+/// Reads what is after the declarations. A function of its own for the machine too: what it
 /// is called from would take its registers.
 #[inline(never)]
 pub fn changes(

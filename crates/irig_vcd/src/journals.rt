@@ -40,7 +40,7 @@ impl Journals {
         }
     }
 
-    /// A journal more.
+    /// One more journal.
     fn put(&mut self, place: Place)
         ensures { (all : List Comment) (c : Comment)
             → place.start ≡ c.first.offset → place.end ≡ c.end
@@ -52,7 +52,7 @@ impl Journals {
         }
     }
 
-    /// Goes past the `$end` of a comment, and keeps its place where it is a journal.
+    /// Goes past the `$end` of a comment, and keeps its place if it is a journal.
     pub fn take_comment(&mut self, tokens: &mut Tokens) -> Result<(), VcdFault>
         ensures exact { Gives (λ _. tokens.new) result (after_end tokens.old) }
         ensures fewer { length tokens.new ≤ length tokens.old }
@@ -77,7 +77,7 @@ impl Journals {
         Ok(())
     }
 
-    /// The text of the one journal, where there is one. A second one is a fault, at line 1.
+    /// The text of the one journal, if there is one. A second one is a fault, at line 1.
     pub fn text<'a>(self, source: &'a [u8]) -> Result<Option<&'a [u8]>, VcdFault>
         requires within { LiesIn source.now self }
         ensures one { (all : List Comment) → Holds all self

@@ -38,8 +38,8 @@ impl KeptPulse {
         }
     }
 
-    /// Whether the times of a pulse, in microseconds, have the digits that are kept. Where the one
-    /// in front of the last four is one behind, it is counted up first.
+    /// Whether the times of a pulse, in microseconds, have the digits that are kept. If the one
+    /// in front of the last four is one too low, it is counted up first.
     #[inline(always)]
     pub fn comes_near(&mut self, rise: u64, fall: u64) -> bool
         requires holds { HoldsPulse self.old }
@@ -49,7 +49,7 @@ impl KeptPulse {
         self.catches_up(rise) && self.is_near(fall)
     }
 
-    /// Makes the lines anew, both edges at a time in microseconds. The line is where they are made.
+    /// Makes new lines, both edges at a time in microseconds. The line is where they are made.
     pub fn renew(&mut self, line: &mut [u8], time: u64)
         requires some { 10000 ≤ time }
         requires few { time < 10 ^ 15 }
@@ -68,7 +68,7 @@ impl KeptPulse {
         self.base = time - time % 10000;
     }
 
-    /// Puts the lines of a pulse whose times, in microseconds, have the digits that are kept.
+    /// Writes the lines of a pulse whose times, in microseconds, have the digits that are kept.
     #[inline(always)]
     pub fn put(&mut self, text: &mut Vec<u8>, rise: u64, fall: u64) -> Result<(), AllocError>
         requires holds { HoldsPulse self.old }
@@ -113,7 +113,7 @@ impl KeptPulse {
         past < 20000 && self.count_up()
     }
 
-    /// Counts up by one the digits in front of the last four, where that changes one digit alone.
+    /// Counts up by one the digits in front of the last four, if that changes only one digit.
     #[inline(always)]
     fn count_up(&mut self) -> bool
         requires holds { HoldsPulse self.old }

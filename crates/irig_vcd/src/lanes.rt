@@ -37,7 +37,7 @@ fn fours(twos: u16x8) -> u32x4
     (u32x4::from_le_bytes(twos.to_le_bytes()) * u32x4::splat(6553601)) >> u32x4::splat(16)
 }
 
-/// The number of eight digits that two of four make, which stand in one word.
+/// The number of eight digits that two of four make, in one word.
 #[inline(always)]
 fn eight(pair: u64) -> u64
     ensures { (a b : ℕ) → pair ≡ a + 2 ^ 32 * b → a < 10000 → b < 10000 → result ≡ 10000 * a + b }
@@ -77,7 +77,7 @@ fn no_digits(bytes: u8x16) -> u64
         .to_bitmask()
 }
 
-/// The last lanes, so many of them, and 0 in place of the others.
+/// This many of the last lanes, and 0 for the others.
 #[inline(always)]
 fn last_lanes(lanes: u8x16, count: usize) -> u8x16
     requires { count ≤ 16 }
@@ -86,7 +86,7 @@ fn last_lanes(lanes: u8x16, count: usize) -> u8x16
     lanes & u8x16::from_slice(&KEEP[count..])
 }
 
-/// How many digits stand from a place on, at most 15; 0 where more do.
+/// How many digits there are from a place on, at most 15; 0 if there are more.
 #[inline(always)]
 fn digits_count(source: &[u8], from: usize) -> usize
     requires { from + 16 ≤ length source.now }
@@ -101,7 +101,7 @@ fn digits_count(source: &[u8], from: usize) -> usize
     found.trailing_zeros() as usize
 }
 
-/// Where the digits from a place on end, and the number that they spell: none of them where they
+/// Where the digits from a place on end, and the number that they spell: none of them if they
 /// are more than 15.
 #[inline(always)]
 pub fn lanes_end(source: &[u8], from: usize) -> (usize, u64)

@@ -13,20 +13,20 @@ use crate::token::Tokens;
 use crate::trace::Trace;
 use std::alloc::AllocError;
 
-/// As many bytes as two edges may have.
+/// The most bytes that two edges have.
 const LONGEST_PULSE: usize = 64;
 
 /// The largest time in microseconds.
 const LAST_TIME: u64 = 1 << 40;
 
-/// A time in microseconds with a value at it, and the place behind both lines, in bytes from 0.
+/// A time in microseconds with a value at it, and the place after both lines, in bytes from 0.
 #[derive(Clone, Copy)]
 pub struct Edge {
     pub time: u64,
     pub end: usize,
 }
 
-/// Whether a newline, a value, a code and a newline stand at a place.
+/// Whether a newline, a value, a code and a newline are at a place.
 #[inline(always)]
 fn is_line(source: &[u8], at: usize, value: u8, code: u8) -> bool
     requires { at + 4 ≤ length source.now }
@@ -41,7 +41,7 @@ fn is_line(source: &[u8], at: usize, value: u8, code: u8) -> bool
     stands == line
 }
 
-/// The edge that stands at a place, to this level and of this code.
+/// The edge at a place, to this level and of this code.
 #[inline(always)]
 fn edge_at(source: &[u8], at: usize, high: bool, code: u8) -> Option<Edge>
     requires back { 16 ≤ at }
@@ -63,7 +63,7 @@ fn edge_at(source: &[u8], at: usize, high: bool, code: u8) -> Option<Edge>
     Some(Edge { time, end: end + 4 })
 }
 
-/// Takes the pulses that stand here behind a time in microseconds, and gives the time of the last
+/// Takes the pulses here, after a time in microseconds, and returns the time of the last
 /// fall. It stops at what is no pulse. A function of its own for the machine: its state stays in
 /// registers.
 #[inline(never)]

@@ -1,4 +1,4 @@
-//! A level that is told by its changes, traced.
+//! A level that is given by its changes, traced.
 
 ghost use Rattle.std.specs.Prelude.{◌≡◌, ◌≤◌, ◌<◌, ◌+◌, ◌^◌, true, false, ◌∷◌, [], ◌++◌, ℕ, List, OnOk, OnErr, IfOk};
 ghost use Rattle.std.specs.Prelude.{length, take, if◌then◌else◌};
@@ -80,7 +80,7 @@ impl Trace {
         self.edges.len() < EDGES_LIMIT
     }
 
-    /// Takes a rise and a fall behind a fall, at times in microseconds.
+    /// Takes a rise and a fall after a fall, at times in microseconds.
     #[inline(always)]
     pub fn put_pulse(&mut self, rise: u64, fall: u64) -> Result<(), AllocError>
         requires fallen { HasFallen self.old }
@@ -119,7 +119,7 @@ pub fn differ(level: bool, other: bool) -> bool
     level != other
 }
 
-/// Puts an edge, where there is one, behind the others, unless there is one too many already: then
+/// Adds an edge, if there is one, after the others, unless there is one too many already: then
 /// no memory is asked for.
 fn keep(edges: &mut Vec<u64>, is_edge: bool, edge: u64) -> Result<(), AllocError>
     ensures ok { OnOk result

@@ -40,7 +40,7 @@ impl Unit {
         self.exponent == 9
     }
 
-    /// How many digits of a number of units stand below one microsecond.
+    /// How many digits of a number of units are below one microsecond.
     #[inline(always)]
     pub fn digits_below(self) -> u8
         ensures value { result ≡ 9 - self }

@@ -20,15 +20,15 @@ kind_or_b text = unwrap_or (kind_named text) kind.B
 abbrev pub digit_named : Text → ℕ
 digit_named text = slice_index text 0 - 48
 
--- the kind that matches ask for: B where none is given
+-- the kind that matches ask for: B if none is given
 abbrev pub kind_of : Found → Kind
 kind_of f = kind_or_b (unwrap_or (first_value f (codes "format")) (codes "B"))
 
--- the expression that matches ask for: 2 where none is given
+-- the expression that matches ask for: 2 if none is given
 abbrev pub expression_of : Found → ℕ
 expression_of f = digit_named (unwrap_or (first_value f (codes "expression")) (codes "2"))
 
--- the settings are the values of the matches; what is written is the track, where no path is given
+-- the settings are the values of the matches; what is written is the track, if no path is given
 pub record AreValues (f : Found) (s : Settings) : Type 0 where
   pub track : first_value f (codes "TRACK") ≡ Some s.track.now
   pub wire : first_value f (codes "wire") ≡ option_map (λ w. w.now) s.wire

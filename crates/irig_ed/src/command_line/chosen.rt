@@ -7,11 +7,11 @@ use irig_codes::Format;
 pub struct Settings<'a> {
     /// The path of the dump.
     pub track: &'a str,
-    /// The name of the wire in the dump, where one is given.
+    /// The name of the wire in the dump, if one is given.
     pub wire: Option<&'a str>,
-    /// The path that `write` writes: that of the dump, where none is given.
+    /// The path that `write` writes: that of the dump, if none is given.
     pub out: &'a str,
-    /// The format in which frames are read: B with expression 2, where none is given.
+    /// The format in which frames are read: B with expression 2, if none is given.
     pub format: Format,
 }
 

@@ -36,7 +36,7 @@ pub fn not_text(alloc: Global) -> Error
     }
 }
 
-/// The same, where memory suffices.
+/// The same, if memory suffices.
 fn said_of_bytes(alloc: Global) -> Result<Error, AllocError>
     ensures { IfOk result IsMistake }
 {

@@ -9,13 +9,13 @@ use irig_script::ShelfFault;
 
 /// Files by their paths. What a real file holds no contract can say; what is asked of one can.
 pub trait Disk {
-    /// What the file at a path holds, where it is known.
+    /// What the file at a path holds, if it is known.
     ghost held: { Self → List ℕ → Option (List ℕ) };
 
-    /// What was put, in order, where it is known.
+    /// What was written, in order, if it is known.
     ghost puts: { Self → Option (List Put) };
 
-    /// All bytes of the file at a path, of which one byte more than 2^28 are read at most.
+    /// All bytes of the file at a path. At most one more byte than 2^28 is read.
     fn read(&self, path: &str) -> Result<Vec<u8>, DumpFileFault>
         ensures short { IfOk result (λ bytes. vec_len bytes ≤ 2 ^ 28) }
         ensures whole { IfOk result (λ bytes.
@@ -23,7 +23,7 @@ pub trait Disk {
         ensures long { IsErrOf result DumpFileFault.TooLong
             → IfSome (held self.now path.now) (λ all. 2 ^ 28 < length all) };
 
-    /// Puts a text into the file at a path. A fault leaves the files as they were.
+    /// Writes a text to the file at a path. A fault leaves the files as they were.
     fn put(&mut self, path: &str, text: &[u8]) -> Result<(), ShelfFault>
         ensures ok { OnOk result
             (GrowsBy (puts self.old) (puts self.new) ((path.now, text.now) ∷ [])) }

@@ -41,8 +41,8 @@ impl From<io::Error> for DumpFileFault {
     }
 }
 
-/// All bytes of the file at a path, of which one byte more than 2^28 are read at most, and none
-/// where its size is greater.
+/// All bytes of the file at a path. At most one more byte than 2^28 is read, and none
+/// if its size is greater.
 pub fn read_dump<R: Files + AllocGlobal>(rt: &R, path: &str) -> Result<Vec<u8>, DumpFileFault>
     ensures { IfOk result (λ bytes. vec_len bytes ≤ 2 ^ 28) }
 {
@@ -53,7 +53,7 @@ pub fn read_dump<R: Files + AllocGlobal>(rt: &R, path: &str) -> Result<Vec<u8>, 
     }
 }
 
-/// The room for the bytes of an open file, as far as the file tells its size.
+/// The room for the bytes of an open file, as far as the file shows its size.
 fn room_of<F: OpenFile>(file: &F) -> Result<usize, DumpFileFault>
     ensures most { IfOk result (λ room. room ≤ 2 ^ 28) }
     ensures long { IfErr result (λ fault. fault ≡ TooLong) }
@@ -65,7 +65,7 @@ fn room_of<F: OpenFile>(file: &F) -> Result<usize, DumpFileFault>
 }
 
 /// The room for the bytes of a file that is so described: of a regular one its size; none is asked
-/// for any other, whose size tells nothing.
+/// for any other, whose size says nothing.
 fn room_for(described: &Metadata) -> Result<usize, DumpFileFault>
     ensures long { IsFile (file_type described.now) → 2 ^ 28 < metadata_len described.now
         → result ≡ Err TooLong }
@@ -116,11 +116,11 @@ fn append_all<R: Read>(reader: &mut R, bytes: &mut Vec<u8>) -> io::Result<()>
             return Ok(());
         }
     }
-    // no file has so many parts: only a reader that is interrupted again and again comes here
+    // no file has that many parts: only a reader that is interrupted again and again comes here
     Err(io::Error::from(ErrorKind::TimedOut))
 }
 
-/// Appends what a reader gives in one read, and tells whether it had nothing left.
+/// Appends what a reader gives in one read, and returns whether it had nothing left.
 fn append_part<R: Read>(reader: &mut R, part: &mut [u8], bytes: &mut Vec<u8>) -> io::Result<bool>
     requires { 0 < length part.old }
     ensures length { length part.new ≡ length part.old }

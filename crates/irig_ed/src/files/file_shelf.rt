@@ -7,7 +7,7 @@ ghost use Rattle.irig_ed.specs.Files.Puts.{texts_at};
 use crate::files::disk::Disk;
 use irig_script::{Shelf, ShelfFault};
 
-/// A shelf that is a file: each put replaces the file at a path whole.
+/// A shelf that is a file: each write replaces the file at a path whole.
 #[derive(Drop)]
 pub struct FileShelf<'d, 'p, D: Disk> {
     disk: &'d mut D,
@@ -16,7 +16,7 @@ pub struct FileShelf<'d, 'p, D: Disk> {
 }
 
 impl<'d, 'p, D: Disk> FileShelf<'d, 'p, D> {
-    /// The shelf of the file at a path, which need not be there.
+    /// The shelf of the file at a path, which does not have to be there.
     pub fn new(disk: &'d mut D, path: &'p str) -> FileShelf<'d, 'p, D>
         ensures same_disk { result.disk.ghost_name ≡ disk.entry.ghost_name }
         ensures disk { result.disk.now ≡ disk.old }

@@ -1,4 +1,4 @@
-//! The bytes of a file, put whole: a new file is written beside the old one and takes its name.
+//! Writes the bytes of a file whole: a new file is written next to the old one and takes its name.
 
 ghost use Rattle.std.specs.Prelude.{◌≡◌, Ok, IfOk, OnErr, OnOk, IsErr};
 ghost use Rattle.std.specs.Io.KnownBytes.{Appends};
@@ -14,10 +14,10 @@ use std::{fs, io};
 /// How many symbolic links a path may lead through.
 const LINKS: u32 = 40;
 
-/// How many names are tried for a new file: so many may other runs hold, or have left when they were killed.
+/// How many names are tried for a new file. Other runs may hold that many, or have left them.
 const NAMES: u32 = 10_000;
 
-/// What a call gives, of whose error nothing is told.
+/// What a call gives; its error is not reported.
 fn or_shelf_fault<T: Drop, E: Drop>(outcome: Result<T, E>) -> Result<T, ShelfFault>
     ensures given { IfOk result (λ value. outcome ≡ Ok value) }
     ensures failed { OnErr result (IsErr outcome) }
@@ -28,7 +28,7 @@ fn or_shelf_fault<T: Drop, E: Drop>(outcome: Result<T, E>) -> Result<T, ShelfFau
     }
 }
 
-/// Puts the bytes into a file: a regular one, or none yet, is replaced; any other is written.
+/// Writes the bytes to a file: a regular one, or none yet, is replaced; any other is written.
 pub fn put_file<R: Files + Print + AllocGlobal>(
     rt: &R,
     path: &str,
@@ -41,7 +41,7 @@ pub fn put_file<R: Files + Print + AllocGlobal>(
     }
 }
 
-/// Puts the bytes into a file that is there.
+/// Writes the bytes to a file that is there.
 fn put_over<R: Files + Print + AllocGlobal>(
     rt: &R,
     path: &str,
@@ -76,7 +76,7 @@ fn is_standard_output<R: Files>(rt: &R, file: &Metadata) -> bool {
     }
 }
 
-/// Replaces the regular file that a path leads to, where one is there, or makes it.
+/// Replaces the regular file that a path leads to, if one is there, or makes it.
 fn replace<R: Files + AllocGlobal>(
     rt: &R,
     path: &str,
@@ -106,7 +106,7 @@ fn follow_links<R: Files + AllocGlobal>(rt: &R, path: &str) -> Result<PathBuf, S
     Err(ShelfFault)
 }
 
-/// Follows a symbolic link, and tells whether there was one.
+/// Follows a symbolic link, and returns whether there was one.
 fn follow_link<R: Files + AllocGlobal>(rt: &R, target: &mut PathBuf) -> Result<bool, ShelfFault> {
     let next = match fs::read_link(rt, target.as_str()) {
         Ok(next) => next,
@@ -127,7 +127,7 @@ fn writable<R: Files>(rt: &R, target: &str) -> Result<Metadata, ShelfFault> {
     }
 }
 
-/// Replaces the regular file at the target, or none, by a new one that is written beside it, under
+/// Replaces the regular file at the target, or none, by a new one that is written next to it, under
 /// the first name that is free.
 fn replace_target<R: Files + AllocGlobal>(
     rt: &R,
@@ -158,7 +158,7 @@ fn name_beside<R: AllocGlobal>(rt: &R, target: &str, number: u32) -> Result<Path
     or_shelf_fault(target.with_file_name(rt.alloc(), marked.as_str()))
 }
 
-/// Writes a new file, and gives it the target's name; false where its own name is taken, so that
+/// Writes a new file, and gives it the target's name; false if its own name is taken, so that
 /// no other run ever has it open.
 fn replace_by<R: Files>(
     rt: &R,

@@ -8,8 +8,8 @@ use crate::files::put_file::put_file;
 use irig_script::ShelfFault;
 use std::rt::Files;
 
-/// The files of the system, of which nothing is known. `docs/SCRIPT.md` says what was tested: a
-/// put replaces the file at its path whole, and one that fails leaves it as it was.
+/// The files of the system. Nothing is known of them. `docs/SCRIPT.md` says what was tested: a
+/// write replaces the file at its path whole, and one that fails leaves it as it was.
 #[derive(Drop)]
 pub struct System<'a, R> {
     runtime: &'a R,

@@ -1,4 +1,4 @@
--- A change is taken back by the change that it leaves. This project's own.
+-- A change is reversed by the change that it leaves. This project's own.
 use Rattle.std.proofs.Common.{◌≡◌, List, ap, ap₂}
 use Rattle.irig_journal.specs.Laws.Backs.{LeadsBack, lead_all_back, ways_back-ways_back}
 use Rattle.irig_journal.specs.Laws.Turns.{keeps_all}

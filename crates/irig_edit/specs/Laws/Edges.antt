@@ -1,4 +1,4 @@
--- Pulses and their edges tell each other. This project's own.
+-- Pulses and their edges determine each other. This project's own.
 use Rattle.std.proofs.Common.{◌≡◌, ℕ, Bool, true, false, not, List, [], ◌∷◌, refl, ap, sym, ◌∙◌}
 use Rattle.irig_vcd.specs.Recording.{is_even_long}
 use Rattle.irig_track.specs.declared.pulse.Pulse.{Pulse}
@@ -6,7 +6,7 @@ use Rattle.irig_track.specs.Edges.{edges_of}
 use Rattle.irig_track.specs.Toggles.{CanToggle, toggled}
 use Rattle.irig_edit.specs.Single.{pulses_of}
 
--- pulses are told by their edges
+-- pulses are determined by their edges
 pub pulses_of-edges_of : (ps : List Pulse) → pulses_of (edges_of ps) ≡ ps
 pulses_of-edges_of [] = refl
 pulses_of-edges_of (p ∷ ps) = ap (λ (qs : List Pulse). p ∷ qs) (pulses_of-edges_of ps)

@@ -30,7 +30,7 @@ changes_are_of_singles : IsOfParts Fits turned FitsSingle turned_single singles_
 changes_are_of_singles =
     record { fit = fit_singles; state = singles_state; back = singles_back }
 
--- the group of changes can be made where they can, one after another
+-- the group of changes can be made if they can, one after another
 pub Fits-gathered : (s : State) (ds : List Delta) → FitAll Fits turned s ds → Fits s (gathered ds)
 Fits-gathered s ds can =
     fit_of_parts Fits turned FitsSingle turned_single singles_of changes_are_of_singles s ds can

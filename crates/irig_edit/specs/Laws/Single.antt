@@ -1,4 +1,4 @@
--- A single change is taken back by the one that it leaves. This project's own.
+-- A single change is reversed by the one that it leaves. This project's own.
 use Rattle.std.proofs.Common.{◌≡◌, ◌<◌, ◌≤◌, ℕ, neg_ℤ, List, length, refl, ap, ◌∙◌, arith}
 use Rattle.std.proofs.Math.IntN.{neg_ℤ-neg_ℤ}
 use Rattle.irig_track.specs.Edges.{edges_of}

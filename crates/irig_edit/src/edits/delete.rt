@@ -1,4 +1,4 @@
-//! Pulses are taken out.
+//! Removes pulses.
 
 ghost use Rattle.std.specs.Prelude.{◌≡◌, ◌+◌, ◌-◌, ◌≤◌, [], None, Some, IfOk, IfErr, OnOk};
 ghost use Rattle.irig_track.specs.Splices.{spliced, CanSplice};
@@ -13,7 +13,7 @@ use crate::refusal::Refusal;
 use crate::session::Session;
 use irig_gap::Gap;
 
-/// The cursor after the pulses `i` to `j` are taken out, if they are there.
+/// The cursor after the pulses `i` to `j` are removed, if they are there.
 fn plan(present: &Present, i: usize, j: usize) -> Result<usize, Refusal>
     ensures refused { IfErr result (λ e. judgement_of (Delete i j) present.now.state ≡ Some e) }
     ensures allowed { OnOk result (judgement_of (Delete i j) present.now.state ≡ None) }
@@ -33,7 +33,7 @@ fn plan(present: &Present, i: usize, j: usize) -> Result<usize, Refusal>
 }
 
 impl Session {
-    /// Takes out the pulses `i` to `j`, from 1. The cursor goes to the pulse behind them, or else
+    /// Removes the pulses `i` to `j`, from 1. The cursor goes to the pulse after them, or else
     /// to the last one.
     ///
     /// E2 unless the pulses are there.

@@ -46,7 +46,7 @@ fn plan(present: &Present, i: usize, element: Element) -> Result<Pulse, Refusal>
     Ok(Pulse { rise, fall })
 }
 
-/// Whether the pulse behind pulse `i` rises at or before a time, in microseconds.
+/// Whether the pulse after pulse `i` rises at or before a time, in microseconds.
 fn meets_next(present: &Present, i: usize, time: u64) -> bool
     requires { i ≤ length present.now.state.pulses }
     ensures { result ≡ meets_next i time present.now.state }
@@ -58,7 +58,7 @@ impl Session {
     /// Gives pulse `i`, from 1, the nominal width of an element: its fall moves. The cursor goes to
     /// it.
     ///
-    /// E1 where the new fall is beyond the length; E2 unless the pulse is there; E3 where the new
+    /// E1 if the new fall is beyond the length; E2 unless the pulse is there; E3 if the new
     /// fall is at or after the next rise.
     pub fn force(&mut self, i: usize, element: Element) -> Result<(), Refusal>
         ensures step { Steps (Make (Force i element)) self.old result self.new }

@@ -1,4 +1,4 @@
-//! A pulse is put in.
+//! Inserts a pulse.
 
 ghost use Rattle.std.specs.Prelude.{◌≡◌, ◌+◌, [], ◌∷◌, None, Some, IfOk, IfErr, OnOk};
 ghost use Rattle.irig_track.specs.Edges.{pulse};
@@ -18,7 +18,7 @@ use crate::refusal::Refusal;
 use crate::session::Session;
 use irig_track::Pulse;
 
-/// How many pulses stand before a pulse from `a` to `b`, if it can be put in.
+/// How many pulses are before a pulse from `a` to `b`, if it can be inserted.
 fn plan(present: &Present, a: u64, b: u64) -> Result<usize, Refusal>
     ensures refused { IfErr result (λ e. judgement_of (Insert a b) present.now.state ≡ Some e) }
     ensures allowed { OnOk result (judgement_of (Insert a b) present.now.state ≡ None) }
@@ -43,10 +43,10 @@ fn plan(present: &Present, a: u64, b: u64) -> Result<usize, Refusal>
 }
 
 impl Session {
-    /// Puts in a pulse from `a` to `b`, in microseconds. The cursor goes to it.
+    /// Inserts a pulse from `a` to `b`, in microseconds. The cursor goes to it.
     ///
-    /// E1 unless `a < b` and `b` is within the length; E3 where an edge lies from `a` to `b` or the
-    /// level at `a` is high; E5 where there are 2^22 pulses.
+    /// E1 unless `a < b` and `b` is within the length; E3 if an edge lies from `a` to `b` or the
+    /// level at `a` is high; E5 if there are 2^22 pulses.
     pub fn insert(&mut self, a: u64, b: u64) -> Result<(), Refusal>
         ensures step { Steps (Make (Insert a b)) self.old result self.new }
         ensures looks { LooksAfter (Make (Insert a b)) self.old result self.new }

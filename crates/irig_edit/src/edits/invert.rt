@@ -1,4 +1,4 @@
-//! The level is turned over between two times.
+//! Inverts the level between two times.
 
 ghost use Rattle.std.specs.Prelude.{◌≡◌, None, Some, IfErr, OnOk};
 ghost use Rattle.irig_track.specs.Toggles.{CanToggle};
@@ -13,7 +13,7 @@ use crate::refusal::Refusal;
 use crate::session::Session;
 use crate::single::Single;
 
-/// Whether the level can be turned over from `a` to `b`.
+/// Whether the level can be inverted from `a` to `b`.
 fn plan(present: &Present, a: u64, b: u64) -> Result<(), Refusal>
     ensures refused { IfErr result (λ e. judgement_of (Invert a b) present.now.state ≡ Some e) }
     ensures allowed { OnOk result (judgement_of (Invert a b) present.now.state ≡ None) }
@@ -30,11 +30,11 @@ fn plan(present: &Present, a: u64, b: u64) -> Result<(), Refusal>
 }
 
 impl Session {
-    /// Turns the level over from `a` to `b`, in microseconds: an edge that stands at one of them
-    /// goes, and where none stands one comes. The cursor goes to the last pulse that rises at or
+    /// Inverts the level from `a` to `b`, in microseconds: an edge that is at one of them
+    /// goes, and if none is there one comes. The cursor goes to the last pulse that rises at or
     /// before `b`.
     ///
-    /// E1 unless `a < b` and `b` is within the length; E5 where there would be more than 2^22
+    /// E1 unless `a < b` and `b` is within the length; E5 if there would be more than 2^22
     /// pulses.
     pub fn invert(&mut self, a: u64, b: u64) -> Result<(), Refusal>
         ensures step { Steps (Make (Invert a b)) self.old result self.new }

@@ -1,4 +1,4 @@
-//! Pulses are joined into one.
+//! Joins pulses into one.
 
 ghost use Rattle.std.specs.Prelude.{◌≡◌, ◌+◌, ◌-◌, ◌≤◌, ◌<◌, [], ◌∷◌, None, Some, IfOk, IfErr, OnOk};
 ghost use Rattle.irig_track.specs.Splices.{spliced, CanSplice};

@@ -1,4 +1,4 @@
-//! A stretch of time is filled with frames.
+//! Fills a stretch of time with frames.
 
 ghost use Rattle.std.specs.Prelude.{◌≡◌, ◌+◌, ◌*◌, ◌^◌, ◌<◌, ◌≤◌, None, Some, IfOk, IfErr, OnOk, IsTrue, length, if◌then◌else◌};
 ghost use Rattle.irig_codes.specs.Format.{control_count_of};
@@ -22,7 +22,7 @@ use crate::session::Session;
 use irig_codes::control_count;
 use irig_moment::Moment;
 
-/// The pulses that rise in a stretch of time: how many stand before them, and how many they are.
+/// The pulses that rise in a stretch of time: how many are before them, and how many they are.
 #[derive(Clone, Copy)]
 struct Stretch {
     at: usize,
@@ -66,7 +66,7 @@ fn is_met(present: &Present, risen: usize, time: u64) -> bool
     risen > 0 && present.pulse(risen).fall >= time
 }
 
-/// The pulses that frames from a start on take the stead of, if the frames can be made.
+/// The pulses that frames from a start on replace, if the frames can be made.
 fn plan(
     present: &Present,
     start: u64,
@@ -121,13 +121,13 @@ fn plan(
 
 impl Session {
     /// Fills the time from a start on, in microseconds, with frames of nominal pulses: the pulses
-    /// that rise in it go. The first frame tells the moment, each further one a frame period more,
+    /// that rise in it go. The first frame carries the moment, each other one a frame period more,
     /// and all have the control functions, the first control element as the lowest bit. The cursor
     /// goes to the last new pulse.
     ///
-    /// E1 unless there are 1 to 10,000 frames, which end within the length; E3 where a pulse rises
-    /// before the start and falls at it or after it; E5 where there would be more than 2^22 pulses;
-    /// E7 where no frame begins at the moment; E8 where the format has too few control elements.
+    /// E1 unless there are 1 to 10,000 frames, which end within the length; E3 if a pulse rises
+    /// before the start and falls at it or after it; E5 if there would be more than 2^22 pulses;
+    /// E7 if no frame begins at the moment; E8 if the format has too few control elements.
     pub fn regen(
         &mut self,
         start: u64,

@@ -1,4 +1,4 @@
-//! Pulses are moved in time.
+//! Moves pulses in time.
 
 ghost use Rattle.std.specs.Prelude.{◌≡◌, ◌-◌, ◌≤◌, None, Some, IfOk, IfErr, OnOk, length};
 ghost use Rattle.irig_track.specs.Shifts.{CanShift};
@@ -86,8 +86,8 @@ impl Session {
     /// Moves the pulses `i` to `j`, from 1, by `by` microseconds, and with them each mark from the
     /// rise of the first to the fall of the last. The cursor goes to pulse `j`.
     ///
-    /// E1 where the moved pulses leave the track; E2 unless the pulses are there; E3 where they
-    /// meet the pulse before them or the one behind.
+    /// E1 if the moved pulses leave the track; E2 unless the pulses are there; E3 if they
+    /// meet the pulse before them or the one after.
     pub fn shift(&mut self, i: usize, j: usize, by: i64) -> Result<(), Refusal>
         ensures step { Steps (Make (Shift i j by)) self.old result self.new }
         ensures looks { LooksAfter (Make (Shift i j by)) self.old result self.new }

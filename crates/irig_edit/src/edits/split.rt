@@ -1,4 +1,4 @@
-//! A pulse is split in two.
+//! Splits a pulse in two.
 
 ghost use Rattle.std.specs.Prelude.{◌≡◌, ◌+◌, ◌-◌, ◌≤◌, [], ◌∷◌, None, Some, IfOk, IfErr, OnOk};
 ghost use Rattle.irig_track.specs.Edges.{pulse};
@@ -53,7 +53,7 @@ impl Session {
     /// cursor goes to the second part.
     ///
     /// E1 unless `a < b` and `b` is within the length; E2 unless the pulse is there; E4 unless both
-    /// lie inside of it; E5 where there are 2^22 pulses.
+    /// lie inside of it; E5 if there are 2^22 pulses.
     pub fn split(&mut self, i: usize, a: u64, b: u64) -> Result<(), Refusal>
         ensures step { Steps (Make (Split i a b)) self.old result self.new }
         ensures looks { LooksAfter (Make (Split i a b)) self.old result self.new }

@@ -12,11 +12,11 @@ use Rattle.irig_script.specs.declared.script.command.Command.{Command}
 use Rattle.irig_script.specs.declared.print.reply.Reply.{Reply}
 use Rattle.irig_script.specs.declared.print.reply.Reply.TheVariants.{Written, Saved, BadLine, LineTooLong}
 
--- the line is too long, which is told before anything else of it
+-- the line is too long, which is reported before anything else of it
 abbrev pub IsTooLong : Machine → List ℕ → Reply → Machine → Type 0
 IsTooLong old line reply new = (1000 < length line) × (reply ≡ LineTooLong) × (new ≡ old)
 
--- the line is none of the language
+-- the line is not valid
 abbrev pub IsBad : Machine → List ℕ → Reply → Machine → Type 0
 IsBad old line reply new =
     (length line ≤ 1000) × ((command : Command) → Means command line → ⊥)
@@ -33,12 +33,12 @@ abbrev pub Step : Machine → List ℕ → Reply → Machine → Type 0
 Step old line reply new =
     IsTooLong old line reply new ⊎ (IsBad old line reply new ⊎ IsObeyedAs old line reply new)
 
--- the session may give this answer to this line: it prints what its reply does as all stands then
+-- the session may give this answer to this line: it prints what its reply does as all is then
 abbrev pub Answered : Machine → List ℕ → Answer → Machine → Type 0
 Answered old line answer new =
     Step old line answer.reply new × (answer.text ≡ reply_text new answer.reply)
 
--- the texts that a line puts
+-- the texts that a line writes
 abbrev pub texts_put : Machine → Reply → List (List ℕ)
 texts_put m (Written count) = file_text (recording_of m.present.state) ∷ []
 texts_put m (Saved count) = saved_text (machine_in m) ∷ []

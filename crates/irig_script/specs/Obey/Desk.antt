@@ -1,4 +1,4 @@
--- What lies round a session: what was printed, the texts put on the shelf, and how often the shelf
+-- What lies round a session: what was printed, the texts written to the shelf, and how often it
 -- failed. And the status that answers make. This project's own.
 use Rattle.std.specs.Prelude.{◌≡◌, ◌+◌, ℕ, Bool, true, false, List, [], ◌∷◌, Option, Some, None, if◌then◌else◌}
 use Rattle.std.specs.Io.KnownBytes.{Appends}
@@ -11,12 +11,12 @@ use Rattle.irig_script.specs.declared.print.reply.Reply.TheVariants.{Written, Sa
 use Rattle.irig_script.specs.declared.obey.status.Status.{Status}
 use Rattle.irig_script.specs.declared.obey.status.Status.TheVariants.{SomeRefused}
 
--- how many failures of the shelf a reply tells
+-- how many failures of the shelf a reply reports
 abbrev pub failures_of : Reply → ℕ
 failures_of WriteFailed = 1
 failures_of _ = 0
 
--- a reply that tells of no put, and of no failure of the shelf
+-- a reply that reports no write, and no failure of the shelf
 abbrev pub IsQuiet : Reply → Type 0
 IsQuiet (Written count) = ⊥
 IsQuiet (Saved count) = ⊥
@@ -51,13 +51,13 @@ pub record Desk : Type 0 where
 abbrev pub desk : Option (List ℕ) → Shelved → Desk
 desk out shelf = record { out = out; shelf = shelf }
 
--- this was printed, and while these answers were given these texts were put
+-- this was printed, and while these answers were given these texts were written
 pub record Tells (old new : Desk) (text : List ℕ) (answers : List Answer) (texts : List (List ℕ))
     : Type 0 where
   pub printed : Appends old.out new.out text
   pub put : Puts old.shelf new.shelf texts (failures_in answers)
 
--- what was put for a reply, and whether the shelf failed; nothing where there is no reply
+-- what was written for a reply, and whether the shelf failed; nothing if there is no reply
 abbrev pub PutsFor : Option Reply → Shelved → Shelved → Machine → Type 0
 PutsFor None old new m = new ≡ old
 PutsFor (Some reply) old new m = Puts old new (texts_put m reply) (failures_of reply)

@@ -10,7 +10,7 @@ use Rattle.irig_script.specs.declared.obey.status.RunFault.{RunFault}
 use Rattle.irig_script.specs.declared.obey.dump_run.DumpRunFault.{DumpRunFault}
 use Rattle.irig_script.specs.declared.obey.dump_run.DumpRunFault.TheVariants.{Dump, Run}
 
--- the dump was opened, with its journal where it has one and in this format where it has none, and
+-- the dump was opened, with its journal if it has one and in this format if it has none, and
 -- the script was obeyed from there on, until the run ended
 pub record RanOnDump (wire : Option (List ℕ)) (chosen : FormatView) (source : List ℕ)
     (script left : Option (List ℕ)) (from to : Desk) (result : Result Status RunFault) : Type 0 where

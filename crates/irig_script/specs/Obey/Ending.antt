@@ -8,7 +8,7 @@ use Rattle.irig_script.specs.declared.obey.status.Status.TheVariants.{AllAccepte
 use Rattle.irig_script.specs.declared.obey.status.RunFault.{RunFault}
 use Rattle.irig_script.specs.declared.obey.status.RunFault.TheVariants.{ReadFailed, TooManyReads, PrintFailed}
 
--- the whole script was obeyed; or just the lines that were read, of at least 2^32 bytes where there
+-- the whole script was obeyed; or just the lines that were read, of at least 2^32 bytes if there
 -- were too many reads; or the lines to one whose answer was not printed whole
 abbrev pub EndsAs : Option (List ℕ) → Option (List ℕ) → Desk → Desk → Machine → Machine
     → Result Status RunFault → Type 0

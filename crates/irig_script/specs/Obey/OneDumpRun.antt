@@ -1,5 +1,5 @@
--- That a script runs on a dump in one way, but for the lines that meet want of memory or a failed
--- put. This project's own.
+-- That a script runs on a dump in one way, but for the lines that run out of memory or fail to
+-- write. This project's own.
 use Rattle.std.specs.Prelude.{◌≡◌, ℕ, List, Option, Some, Ok}
 use Rattle.irig_codes.specs.Format.{FormatView}
 use Rattle.irig_script.specs.Obey.Desk.{Desk}
@@ -30,8 +30,8 @@ run_in one = record {
   ran = one.on.ran;
 }
 
--- where one script runs twice on one dump, with the same wire, format, known output and shelf,
--- and want of memory and failed puts are met at the same lines, both runs end with the same
+-- if one script runs twice on one dump, with the same wire, format, known output and shelf,
+-- and memory runs out and writes fail at the same lines, both runs end with the same
 abbrev pub OneDumpRun : Type 0
 OneDumpRun = (wire : Option (List ℕ)) (chosen : FormatView) (source script : List ℕ)
     (one other : DumpRunOf wire chosen source script)

@@ -1,4 +1,4 @@
--- That a script has one run, but for the lines that meet want of memory or a failed put. This
+-- That a script has one run, but for the lines that run out of memory or fail to write. This
 -- project's own.
 use Rattle.std.specs.Prelude.{◌≡◌, ℕ, Bool, true, false, List, map, IsSome}
 use Rattle.irig_edit.specs.Session.{grouped_in}
@@ -11,17 +11,17 @@ use Rattle.irig_script.specs.declared.obey.status.Status.{Status}
 use Rattle.irig_script.specs.declared.print.reply.Reply.{Reply}
 use Rattle.irig_script.specs.declared.print.reply.Reply.TheVariants.{Refused, WriteFailed}
 
--- the reply tells that memory was wanting
+-- the reply reports that memory ran out
 abbrev pub wants_memory : Reply → Bool
 wants_memory (Refused OutOfMemory) = true
 wants_memory _ = false
 
--- the reply tells that the shelf failed
+-- the reply reports that the shelf failed
 abbrev pub tells_failed_put : Reply → Bool
 tells_failed_put WriteFailed = true
 tells_failed_put _ = false
 
--- memory was wanting, and the shelf failed, at the same lines
+-- memory ran out, and the shelf failed, at the same lines
 pub record MeetTheSame (one other : List Answer) : Type 0 where
   pub memory : map (λ a. wants_memory a.reply) one ≡ map (λ a. wants_memory a.reply) other
   pub puts : map (λ a. tells_failed_put a.reply) one ≡ map (λ a. tells_failed_put a.reply) other
@@ -44,8 +44,8 @@ pub record BeginTheSame {script : List ℕ} (one other : RunOf script) : Type 0 
   pub printed : one.from.out ≡ other.from.out
   pub put : one.from.shelf.texts ≡ other.from.shelf.texts
 
--- two runs give the same answers and put the same texts, end with the same status and leave the
--- same machine, and, where they are known, the same output and shelf
+-- two runs give the same answers and write the same texts, end with the same status and leave the
+-- same machine, and, if they are known, the same output and shelf
 pub record EndTheSame {script : List ℕ} (one other : RunOf script) : Type 0 where
   pub answers : one.ran.answers ≡ other.ran.answers
   pub texts : one.ran.texts ≡ other.ran.texts
@@ -54,7 +54,7 @@ pub record EndTheSame {script : List ℕ} (one other : RunOf script) : Type 0 wh
   pub printed : IsSome one.from.out → one.to.out ≡ other.to.out
   pub put : IsSome one.from.shelf.texts → one.to.shelf.texts ≡ other.to.shelf.texts
 
--- two runs of one script that begin with the same, and meet want of memory and failed puts at the
+-- two runs of one script that begin with the same, and run out of memory and fail to write at the
 -- same lines, end with the same
 abbrev pub OneRun : Type 0
 OneRun = (script : List ℕ) (one other : RunOf script) → BeginTheSame one other

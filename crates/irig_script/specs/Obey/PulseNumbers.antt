@@ -1,4 +1,4 @@
--- What addresses, ranges and times stand for, in the machine before their line. This project's own.
+-- What addresses, ranges and times mean, in the machine before their line. This project's own.
 use Rattle.std.specs.Prelude.{◌+◌, ◌-◌, ◌^◌, ℕ, ℤ, nat_le, length, Option, Some, None, option_map, unwrap_or, get_or, if◌then◌else◌}
 use Rattle.irig_track.specs.Shifts.{ahead, back}
 use Rattle.irig_track.specs.Splices.{risen_by}
@@ -11,18 +11,18 @@ use Rattle.irig_script.specs.declared.script.range.Range.TheVariants.{One, Two}
 use Rattle.irig_script.specs.declared.script.time.Time.{Time}
 use Rattle.irig_script.specs.declared.script.time.Time.TheVariants as time
 
--- the time of a mark, where it is set
+-- the time of a mark, if it is set
 abbrev pub mark_of : ℕ → Machine → Option ℕ
 mark_of letter m = get_or m.present.state.marks (letter - 97) None
 
--- the number that an address counts from; none where its mark is not set
+-- the number that an address counts from; none if its mark is not set
 abbrev pub base_of : Base → Machine → Option ℕ
 base_of (Number n) m = Some n
 base_of Current m = Some m.present.cursor
 base_of Last m = Some (length m.present.state.pulses)
 base_of (Mark letter) m = option_map (λ t. risen_by t m.present.state.pulses) (mark_of letter m)
 
--- the number that is so far behind another, or before it, where it is that of a pulse; else 0,
+-- the number that is this far after another, or before it, if it is that of a pulse; else 0,
 -- which every call refuses
 abbrev pub counted : Option ℕ → ℕ → ℤ → ℕ → ℕ
 counted None by offset count = 0
@@ -30,7 +30,7 @@ counted (Some n) by offset count =
     if nat_le (n + by + ahead offset - back offset) count
     then n + by + ahead offset - back offset else 0
 
--- the pulse that is `by` pulses behind an address
+-- the pulse that is `by` pulses after an address
 abbrev pub pulse_at : ℕ → Address → Machine → ℕ
 pulse_at by a m = counted (base_of a.base m) by a.offset (length m.present.state.pulses)
 
@@ -48,7 +48,7 @@ abbrev pub last_of : Range → Machine → ℕ
 last_of (One a) m = number_at a m
 last_of (Two a b) m = number_at b m
 
--- the last pulse of a range that is joined: one address stands for a pulse and the next
+-- the last pulse of a range that is joined: one address means a pulse and the next
 abbrev pub join_last_of : Range → Machine → ℕ
 join_last_of (One a) m = pulse_at 1 a m
 join_last_of (Two a b) m = number_at b m

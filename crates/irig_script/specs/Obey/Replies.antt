@@ -1,5 +1,5 @@
--- What the session replies to a call, a listing, a write and a choice of format: memory may be
--- wanting, and the shelf may fail. This project's own.
+-- What the session replies to a call, a listing, a write and a choice of format: memory may run
+-- out, and the shelf may fail. This project's own.
 use Rattle.std.specs.Prelude.{◌≡◌, ◌+◌, ◌-◌, ℕ, Bool, true, false, length, Result, Ok, Err}
 use Rattle.irig_vcd.specs.FileText.{file_text}
 use Rattle.irig_codes.specs.Format.{FormatView}
@@ -25,7 +25,7 @@ Calls call old _ new = ⊥
 abbrev pub Makes : Edit → Machine → Reply → Machine → Type 0
 Makes edit old reply new = Calls (Call.Make edit) old reply new
 
--- the text was put and its bytes are told, or its memory was wanting, or the shelf failed
+-- the text was written and its bytes are reported, or memory ran out, or the shelf failed
 abbrev pub Writes : Machine → Reply → Type 0
 Writes m (Written count) = count ≡ length (file_text (recording_of m.present.state))
 Writes m (Refused why) = why ≡ refusal.OutOfMemory

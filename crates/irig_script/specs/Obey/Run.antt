@@ -10,7 +10,7 @@ use Rattle.irig_script.specs.Print.Printed.{Answer, printed}
 use Rattle.irig_script.specs.Obey.Desk.{Desk, Tells, status_after}
 use Rattle.irig_script.specs.declared.obey.status.Status.{Status}
 
--- the session may give these answers to these lines and put these texts
+-- the session may give these answers to these lines and write these texts
 abbrev pub Runs : Machine → List (List ℕ) → List Answer → List (List ℕ) → Machine → Type 0
 Runs old [] [] texts new = (texts ≡ []) × (new ≡ old)
 Runs old (line ∷ lines) (answer ∷ answers) texts new =
@@ -20,7 +20,7 @@ Runs old (line ∷ lines) (answer ∷ answers) texts new =
 Runs old [] (answer ∷ answers) texts new = ⊥
 Runs old (line ∷ lines) [] texts new = ⊥
 
--- the whole script was obeyed, all its answers were printed, and its texts were put
+-- the whole script was obeyed, all its answers were printed, and its texts were written
 pub record Ran (from to : Desk) (before after : Status) (old new : Machine) (script : List ℕ)
     : Type 0 where
   pub answers : List Answer

@@ -33,12 +33,12 @@ note_text (Field name) = codes " field " ++ name_word name
 note_text SbsDisagrees = codes " sbs"
 note_text (Stray element) = codes " stray " ++ decimal element
 
--- a part that a format or an expression may lack, with its text where it is there
+-- a part that a format or an expression may lack, with its text if it is there
 abbrev pub part_text : (ℕ → List ℕ) → Option ℕ → List ℕ
 part_text text None = []
 part_text text (Some value) = text value
 
--- the hundredths of a second, where the format tells them
+-- the hundredths of a second, if the format has them
 abbrev pub hundredths_text : Option ℕ → List ℕ
 hundredths_text = part_text (λ v. codes "." ++ padded 2 v)
 
@@ -47,7 +47,7 @@ abbrev pub clock_text : Fields → List ℕ
 clock_text f =
     padded 2 f.hours ++ codes ":" ++ padded 2 f.minutes ++ codes ":" ++ padded 2 f.seconds
 
--- the day and the time of day, as far as the format tells it
+-- the day and the time of day, as far as the format has it
 abbrev pub time_text : Fields → List ℕ
 time_text f = padded 3 f.days ++ codes " " ++ clock_text f ++ hundredths_text f.hundredths
 

@@ -15,11 +15,11 @@ pulse_line f number p =
     decimal number ++ codes " " ++ decimal p.rise ++ codes " " ++ decimal p.fall ++ codes " "
     ++ class_word (class_of f (p.fall - p.rise)) ++ codes "\n"
 
--- a line for each of so many pulses behind the first `before`
+-- a line for each of this many pulses after the first `before`
 abbrev pub list_text : ℕ → ℕ → State → List ℕ
 list_text before count s = numbered (pulse_line s.format) (before + 1) (piece before count s.pulses)
 
--- the mark of a letter, where it is set
+-- the mark of a letter, if it is set
 abbrev pub mark_line : ℕ → Option ℕ → List ℕ
 mark_line letter None = []
 mark_line letter (Some t) = (letter ∷ []) ++ codes " " ++ decimal t ++ codes "\n"

@@ -39,7 +39,7 @@ record_line s number r =
 abbrev pub frames_text : State → List ℕ
 frames_text s = numbered (record_line s) 1 (frames_of s)
 
--- what a reply prints, as the machine stands with which it is given
+-- what a reply prints, as the machine is with which it is given
 abbrev pub reply_text : Machine → Reply → List ℕ
 reply_text m Silent = []
 reply_text m (Written count) = decimal count ++ 10 ∷ []
@@ -58,7 +58,7 @@ pub record Answer : Type 0 where
   pub reply : Reply
   pub text : List ℕ
 
--- the answer with a reply, as the machine stands
+-- the answer with a reply, as the machine is
 abbrev pub answer_with : Machine → Reply → Answer
 answer_with m reply = record { reply = reply; text = reply_text m reply }
 

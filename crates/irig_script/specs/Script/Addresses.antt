@@ -1,5 +1,5 @@
 -- Addresses, ranges and times as a script writes them. This project's own, after those of ed. In
--- brackets stands what may be missing:
+-- brackets is what may be missing:
 --
 -- range   := , | address [, address]
 -- address := base [offset] | offset
@@ -27,14 +27,14 @@ is_cursor [] = true
 is_cursor (b ∷ []) = b == 46
 is_cursor _ = false
 
--- what an address counts from; where nothing stands it counts from the cursor
+-- what an address counts from; if there is nothing it counts from the cursor
 abbrev pub IsBase : List ℕ → Base → Type 0
 IsBase text (Number n) = IsNumber text n
 IsBase text Current = is_cursor text ≡ true
 IsBase text Last = text ≡ 36 ∷ []
 IsBase text (Mark letter) = IsMark text letter
 
--- a sign and a number, which is 1 where it is missing; or nothing
+-- a sign and a number, which is 1 if it is missing; or nothing
 abbrev pub IsOffset : List ℕ → ℤ → Type 0
 IsOffset [] d = d ≡ pos 0
 IsOffset (sign ∷ []) d = (is_sign sign ≡ true) × IsSigned sign d × (size d ≡ 1)
@@ -53,12 +53,12 @@ pub record IsAddress (text : List ℕ) (a : Address) : Type 0 where
 abbrev pub at : Base → Address
 at base = record { base = base; offset = pos 0 }
 
--- an address; where nothing stands it is that of the cursor
+-- an address; if there is nothing it is that of the cursor
 abbrev pub IsAddressOrCursor : List ℕ → Address → Type 0
 IsAddressOrCursor [] a = a ≡ at Current
 IsAddressOrCursor text a = IsAddress text a
 
--- what stands before a comma and behind it: two addresses, or nothing, which is 1,$
+-- what is before a comma and after it: two addresses, or nothing, which is 1,$
 abbrev pub IsPair : List ℕ → List ℕ → Address → Address → Type 0
 IsPair [] [] a b = (a ≡ at (Number 1)) × (b ≡ at Last)
 IsPair first second a b = IsAddress first a × IsAddress second b

@@ -16,7 +16,7 @@ use Rattle.irig_script.specs.declared.script.keyword.Keyword.TheVariants as word
 use Rattle.irig_script.specs.declared.script.range.Range.{Range}
 use Rattle.irig_script.specs.declared.script.time.Time.{Time}
 
--- what a word asks for, with the range before it and the words behind it
+-- what a word asks for, with the range before it and the words after it
 abbrev pub Asks : Keyword → List ℕ → List (List ℕ) → Command → Type 0
 Asks word.Missing range args asked = (a : Address) × (asked ≡ command.Show a) × IsAddress range a
 Asks word.List range args asked = (r : Range) × (asked ≡ command.List r)

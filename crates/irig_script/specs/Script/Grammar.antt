@@ -1,6 +1,6 @@
 -- The script language: how a line is put together, and what it asks for. This project's own, after
--- the lines of ed. `blank` is white space or nothing, and `space` is white space; in brackets stands
--- what may be missing, and before a star what stands any number of times:
+-- the lines of ed. `blank` is white space or nothing, and `space` is white space; in brackets is
+-- what may be missing, and before a star what occurs any number of times:
 --
 -- line  := blank | blank comment | blank order
 -- order := [range] blank [word (space argument)*] blank
@@ -23,7 +23,7 @@ pub record IsWord (text : List ℕ) : Type 0 where
   pub some : text ≢ []
   pub joined : list_all (λ b. not (is_space b)) text ≡ true
 
--- arguments, white space before each; behind the last white space may stand
+-- arguments, white space before each; after the last there may be white space
 abbrev pub AreArguments : List ℕ → List (List ℕ) → Type 0
 AreArguments text [] = IsBlank text
 AreArguments text (word ∷ words) =
@@ -44,7 +44,7 @@ pub record IsOrder (text range : List ℕ) (words : List (List ℕ)) : Type 0 wh
   pub between : IsBlank blank
   pub behind : AreWords rest words
 
--- behind a range stands nothing, white space, or the first letter of a word
+-- after a range is nothing, white space, or the first letter of a word
 abbrev pub follows_range : List ℕ → Bool
 follows_range [] = true
 follows_range (b ∷ bs) = is_space b || is_letter b
@@ -68,7 +68,7 @@ is_nothing (b ∷ bs) = b == 35
 abbrev pub Does : Command → List ℕ → Type 0
 Does asked text = ((is_nothing text ≡ true) × (asked ≡ command.Nothing)) ⊎ Orders asked text
 
--- a line asks for what stands behind the white space at its front
+-- a line asks for what is after the white space at its front
 abbrev pub Means : Command → List ℕ → Type 0
 Means asked line = (blank : List ℕ) × (text : List ℕ) × (line ≡ blank ++ text)
     × IsBlank blank × Does asked text

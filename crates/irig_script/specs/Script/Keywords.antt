@@ -4,7 +4,7 @@ use Rattle.irig_script.specs.Script.Tables.{found}
 use Rattle.irig_script.specs.declared.script.keyword.Keyword.{Keyword}
 use Rattle.irig_script.specs.declared.script.keyword.Keyword.TheVariants as word
 
--- the words of the language, each with what it stands for; nothing is the word that is missing
+-- the words of the language, each with what it means; nothing is the word that is missing
 abbrev pub keywords : List (List ℕ × Keyword)
 keywords =
     (codes "", word.Missing) ∷ (codes "list", word.List) ∷ (codes "delete", word.Delete)

@@ -9,6 +9,6 @@ is_letter b = nat_le 97 b && nat_le b 122
 abbrev pub IsLetter : ℕ → Type 0
 IsLetter b = (97 ≤ b) × (b ≤ 122)
 
--- the letter that a byte is, where it is one
+-- the letter that a byte is, if it is one
 abbrev pub letter_of : ℕ → Option ℕ
 letter_of b = if is_letter b then Some b else None

@@ -28,7 +28,7 @@ size d = ahead d + back d
 abbrev pub is_sign : ℕ → Bool
 is_sign b = (b == 43) || (b == 45)
 
--- a distance goes back behind a minus, and on behind anything else
+-- a distance goes back after a minus, and on after anything else
 abbrev pub IsSigned : ℕ → ℤ → Type 0
 IsSigned sign d = (if sign == 45 then ahead d else back d) ≡ 0
 
@@ -37,7 +37,7 @@ abbrev pub unsigned : List ℕ → List ℕ
 unsigned [] = []
 unsigned (b ∷ bs) = if is_sign b then bs else b ∷ bs
 
--- its first byte; a plus where it has none
+-- its first byte; a plus if it has none
 abbrev pub first_of : List ℕ → ℕ
 first_of [] = 43
 first_of (b ∷ bs) = b
@@ -47,7 +47,7 @@ pub record IsDistance (word : List ℕ) (d : ℤ) : Type 0 where
   pub sign : IsSigned (first_of word) d
   pub size : IsNumber (unsigned word) (size d)
 
--- the digit that a byte is in hexadecimal, of either case; 16 where it is none
+-- the digit that a byte is in hexadecimal, of either case; 16 if it is none
 abbrev pub hex_digit : ℕ → ℕ
 hex_digit b =
     if is_digit b then b - 48

@@ -15,17 +15,17 @@ is_stop Text b = not (is_space b)
 is_stop Sign b = is_sign b
 is_stop Comma b = b == 44
 
--- what stands before the first such byte
+-- what is before the first such byte
 abbrev pub before : Stop → List ℕ → List ℕ
 before stop [] = []
 before stop (b ∷ bs) = if is_stop stop b then [] else b ∷ before stop bs
 
--- what stands from the first such byte on
+-- what is from the first such byte on
 abbrev pub onward : Stop → List ℕ → List ℕ
 onward stop [] = []
 onward stop (b ∷ bs) = if is_stop stop b then b ∷ bs else onward stop bs
 
--- the first of some texts, with a byte more at its front
+-- the first of some texts, with one more byte at its front
 abbrev pub onto_first : ℕ → List (List ℕ) → List (List ℕ)
 onto_first b [] = (b ∷ []) ∷ []
 onto_first b (line ∷ lines) = (b ∷ line) ∷ lines
@@ -42,7 +42,7 @@ words_of (b ∷ bs) =
     if is_space b then words_of bs
     else (if begins_word bs then onto_first b (words_of bs) else (b ∷ []) ∷ words_of bs)
 
--- a word before others; no words at all where it has no byte
+-- a word before others; no words at all if it has no byte
 abbrev pub word_and : List ℕ → List (List ℕ) → List (List ℕ)
 word_and [] words = []
 word_and (b ∷ bs) words = (b ∷ bs) ∷ words

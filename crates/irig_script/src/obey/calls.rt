@@ -1,4 +1,4 @@
-//! Commands as calls of the session: addresses and times are taken as it stands before them.
+//! Commands as calls of the session: addresses and times are taken as it is before them.
 
 ghost use Rattle.std.specs.Prelude.{◌≡◌, ◌-◌, Some, None};
 ghost use Rattle.irig_codes.specs.Format.{is_permitted};
@@ -26,7 +26,7 @@ fn reply_to(outcome: Result<(), Refusal>) -> Reply
     }
 }
 
-/// Puts the cursor at a pulse, and lists it.
+/// Moves the cursor to a pulse, and lists it.
 pub fn show(session: &mut Session, address: Address) -> Reply
     ensures { Shows (number_at address session.old) session.old result session.new }
 {
@@ -49,7 +49,7 @@ pub fn list(session: &Session, range: Range) -> Reply
     }
 }
 
-/// Takes pulses out.
+/// Removes pulses.
 pub fn delete(session: &mut Session, range: Range) -> Reply
     ensures { Makes (Edit.Delete (first_of range session.old) (last_of range session.old))
         session.old result session.new }
@@ -95,7 +95,7 @@ pub fn force(session: &mut Session, address: Address, element: Element) -> Reply
     reply_to(session.force(i, element))
 }
 
-/// Puts a pulse in.
+/// Inserts a pulse.
 pub fn insert(session: &mut Session, from: Time, to: Time) -> Reply
     ensures { Makes (Edit.Insert (time_of from session.old) (time_of to session.old))
         session.old result session.new }
@@ -104,7 +104,7 @@ pub fn insert(session: &mut Session, from: Time, to: Time) -> Reply
     reply_to(session.insert(a, b))
 }
 
-/// Turns the level between two times.
+/// Inverts the level between two times.
 pub fn invert(session: &mut Session, from: Time, to: Time) -> Reply
     ensures { Makes (Edit.Invert (time_of from session.old) (time_of to session.old))
         session.old result session.new }
@@ -113,7 +113,7 @@ pub fn invert(session: &mut Session, from: Time, to: Time) -> Reply
     reply_to(session.invert(a, b))
 }
 
-/// Writes frames anew.
+/// Generates frames.
 pub fn regen(session: &mut Session, start: Time, frames: u64, from: Moment, control: u64) -> Reply
     ensures { Makes (Edit.Regen (time_of start session.old) frames from control)
         session.old result session.new }
@@ -149,14 +149,14 @@ pub fn unmark(session: &mut Session, letter: Letter) -> Reply
     reply_to(session.mark(letter.byte(), None))
 }
 
-/// Takes the newest step back.
+/// Undoes the newest step.
 pub fn undo(session: &mut Session) -> Reply
     ensures { Calls Call.Undo session.old result session.new }
 {
     reply_to(session.undo())
 }
 
-/// Does the step again that was taken back last.
+/// Redoes the step that was undone last.
 pub fn redo(session: &mut Session) -> Reply
     ensures { Calls Call.Redo session.old result session.new }
 {
@@ -177,7 +177,7 @@ pub fn end(session: &mut Session) -> Reply
     reply_to(session.end())
 }
 
-/// Takes back what was done since the group was opened.
+/// Undoes what was done since the group was opened.
 pub fn abort(session: &mut Session) -> Reply
     ensures { Calls Call.Abort session.old result session.new }
 {

@@ -24,7 +24,7 @@ pub enum DumpRunFault {
 }
 
 /// Opens a dump and obeys a script on its session, from the bytes that come in to those that go out.
-/// The wire is chosen by its name, where one is given, and frames are read in the format, unless the
+/// The wire is chosen by its name, if one is given, and frames are read in the format, unless the
 /// dump has a journal with another. The bytes of the dump are dropped before the script is read.
 pub fn run_on_dump<R: Read, W: Write, S: Shelf>(
     alloc: Global,

@@ -59,7 +59,7 @@ pub fn run<R: Read, W: Write, S: Shelf>(
     Err(RunFault::TooManyReads)
 }
 
-/// Obeys the bytes that come after the front of a line, and tells whether the script ends in them.
+/// Obeys the bytes that come after a line's front, and returns whether the script ends in them.
 fn obey_part<W: Write, S: Shelf>(
     line: &mut Line,
     bytes: &[u8],
@@ -85,7 +85,7 @@ fn obey_part<W: Write, S: Shelf>(
     Ok(false)
 }
 
-/// Obeys a byte that comes after the front of a line, and tells whether the script ends with it.
+/// Obeys a byte that comes after the front of a line, and returns whether the script ends with it.
 fn obey_byte<W: Write, S: Shelf>(
     line: &mut Line,
     byte: u8,

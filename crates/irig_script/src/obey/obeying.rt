@@ -19,7 +19,7 @@ use crate::script::parsing::parse_line;
 use crate::shelf::shelf::Shelf;
 use irig_edit::Session;
 
-/// Obeys a line; `None` where it ends the script.
+/// Obeys a line; `None` if it ends the script.
 pub fn obey_line<S: Shelf>(line: &Line, session: &mut Session, shelf: &mut S) -> Option<Reply>
     ensures answer { Answers result session.old session.new line.now }
     ensures put { PutsFor result (S.known shelf.old) (S.known shelf.new) session.old }
@@ -36,7 +36,7 @@ pub fn obey_line<S: Shelf>(line: &Line, session: &mut Session, shelf: &mut S) ->
     }
 }
 
-/// Obeys a command that neither puts a text nor ends the script.
+/// Obeys a command that neither writes a text nor ends the script.
 fn obey(command: Command, session: &mut Session) -> Reply
     requires goes_on { command ≢ Command.Quit }
     requires writes_none { command ≢ Command.Write }

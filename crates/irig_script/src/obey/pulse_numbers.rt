@@ -1,4 +1,4 @@
-//! The numbers of the pulses that addresses and ranges stand for in a session, and its times.
+//! The numbers of the pulses that addresses and ranges mean in a session, and its times.
 
 ghost use Rattle.std.specs.Prelude.{◌≡◌, ◌+◌, ◌-◌};
 ghost use Rattle.irig_track.specs.Shifts.{ahead, back};
@@ -10,14 +10,14 @@ use crate::script::range::Range;
 use crate::script::time::Time;
 use irig_edit::Session;
 
-/// The time of a mark in microseconds, where it is set.
+/// The time of a mark in microseconds, if it is set.
 fn mark(session: &Session, letter: &Letter) -> Option<u64>
     ensures { result ≡ mark_of letter.now session.now }
 {
     session.mark_time(letter.byte())
 }
 
-/// The number that an address counts from, where there is one.
+/// The number that an address counts from, if there is one.
 fn base(session: &Session, base: &Base) -> Option<u64>
     ensures { result ≡ base_of base.now session.now }
 {
@@ -32,7 +32,7 @@ fn base(session: &Session, base: &Base) -> Option<u64>
     }
 }
 
-/// The number that is `by` and `offset` behind another; 0 where it would be less.
+/// The number that is `by` and `offset` after another; 0 if it would be less.
 fn counted(number: u64, by: u64, offset: i64) -> u128
     ensures { result ≡ number + by + ahead offset - back offset }
 {
@@ -45,7 +45,7 @@ fn counted(number: u64, by: u64, offset: i64) -> u128
     }
 }
 
-/// The pulse that is `by` pulses behind an address, from 1; 0 where there is none.
+/// The pulse that is `by` pulses after an address, from 1; 0 if there is none.
 fn pulse_at(session: &Session, by: u64, address: &Address) -> usize
     ensures { result ≡ pulse_at by address.now session.now }
 {
@@ -60,14 +60,14 @@ fn pulse_at(session: &Session, by: u64, address: &Address) -> usize
     }
 }
 
-/// The pulse of an address, from 1; 0 where there is none.
+/// The pulse of an address, from 1; 0 if there is none.
 pub fn number_at(session: &Session, address: &Address) -> usize
     ensures { result ≡ number_at address.now session.now }
 {
     pulse_at(session, 0, address)
 }
 
-/// The first and the last pulse of a range, from 1; 0 where there is none.
+/// The first and the last pulse of a range, from 1; 0 if there is none.
 pub fn ends(session: &Session, range: &Range) -> (usize, usize)
     ensures { result ≡ (first_of range.now session.now, last_of range.now session.now) }
 {
@@ -80,7 +80,7 @@ pub fn ends(session: &Session, range: &Range) -> (usize, usize)
     }
 }
 
-/// The first and the last pulse that are joined, from 1; 0 where there is none.
+/// The first and the last pulse that are joined, from 1; 0 if there is none.
 pub fn join_ends(session: &Session, range: &Range) -> (usize, usize)
     ensures { result ≡ (first_of range.now session.now, join_last_of range.now session.now) }
 {

@@ -9,7 +9,7 @@ use crate::print::reply::Reply;
 use crate::shelf::shelf::Shelf;
 use irig_edit::{Refusal, Session};
 
-/// Puts the text of the track with its journal.
+/// Writes the text of the track with its journal.
 pub fn save<S: Shelf>(session: &Session, shelf: &mut S) -> Reply
     ensures answer { Saves session.now result }
     ensures put { Puts (S.known shelf.old) (S.known shelf.new)

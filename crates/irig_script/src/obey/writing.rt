@@ -9,7 +9,7 @@ use crate::print::reply::Reply;
 use crate::shelf::shelf::Shelf;
 use irig_edit::{Refusal, Session};
 
-/// Puts the text of the track.
+/// Writes the text of the track.
 pub fn write<S: Shelf>(session: &Session, shelf: &mut S) -> Reply
     ensures answer { Writes session.now result }
     ensures put { Puts (S.known shelf.old) (S.known shelf.new)

@@ -7,7 +7,7 @@ use crate::print::row::Row;
 use irig_codes::{Fields, Name, Note};
 use irig_index::{Cause, Verdict};
 
-/// Puts why a frame is broken.
+/// Writes why a frame is broken.
 fn put_cause(row: &mut Row, cause: Cause)
     requires room { length row.old ≤ 249 }
     ensures text { row.new ≡ row.old ++ cause_word cause }
@@ -20,7 +20,7 @@ fn put_cause(row: &mut Row, cause: Cause)
     }
 }
 
-/// Puts the name of a field.
+/// Writes the name of a field.
 fn put_name(row: &mut Row, name: Name)
     requires room { length row.old ≤ 240 }
     ensures text { row.new ≡ row.old ++ name_word name }
@@ -36,7 +36,7 @@ fn put_name(row: &mut Row, name: Name)
     }
 }
 
-/// Puts what is noted of a frame that was read.
+/// Writes what is noted of a frame that was read.
 fn put_note(row: &mut Row, note: Note)
     requires room { length row.old ≤ 220 }
     ensures text { row.new ≡ row.old ++ note_text note }
@@ -56,7 +56,7 @@ fn put_note(row: &mut Row, note: Note)
     }
 }
 
-/// Puts the hundredths of a second where a format tells them.
+/// Writes the hundredths of a second if a format has them.
 fn put_hundredths(row: &mut Row, hundredths: Option<u32>)
     requires room { length row.old ≤ 240 }
     ensures text { row.new ≡ row.old ++ hundredths_text hundredths }
@@ -68,7 +68,7 @@ fn put_hundredths(row: &mut Row, hundredths: Option<u32>)
     }
 }
 
-/// Puts hours, minutes and seconds.
+/// Writes hours, minutes and seconds.
 fn put_clock(row: &mut Row, fields: &Fields)
     requires room { length row.old ≤ 200 }
     ensures text { row.new ≡ row.old ++ clock_text fields.now }
@@ -81,7 +81,7 @@ fn put_clock(row: &mut Row, fields: &Fields)
     row.put_padded(2, fields.seconds);
 }
 
-/// Puts the day and the time of day.
+/// Writes the day and the time of day.
 fn put_time(row: &mut Row, fields: &Fields)
     requires room { length row.old ≤ 80 }
     ensures text { row.new ≡ row.old ++ time_text fields.now }
@@ -93,7 +93,7 @@ fn put_time(row: &mut Row, fields: &Fields)
     put_hundredths(row, fields.hundredths);
 }
 
-/// Puts the parts that some expressions carry.
+/// Writes the parts that some expressions carry.
 fn put_parts(row: &mut Row, fields: &Fields)
     requires room { length row.old ≤ 140 }
     ensures text { row.new ≡ row.old ++ parts_text fields.now }
@@ -113,7 +113,7 @@ fn put_parts(row: &mut Row, fields: &Fields)
     }
 }
 
-/// Puts what is told of a frame.
+/// Writes what is reported of a frame.
 fn put_verdict(row: &mut Row, verdict: &Verdict)
     requires room { length row.old ≤ 80 }
     ensures text { row.new ≡ row.old ++ verdict_text verdict.now }
@@ -134,8 +134,8 @@ fn put_verdict(row: &mut Row, verdict: &Verdict)
     }
 }
 
-/// Puts the line of a record: its number and that of its marker's pulse, both from 1, the
-/// marker's rise in microseconds, and what is told of the frame.
+/// Writes the line of a record: its number and that of its marker's pulse, both from 1, the
+/// marker's rise in microseconds, and what is reported of the frame.
 pub fn put_frame(row: &mut Row, number: u64, marker: u64, rise: u64, verdict: &Verdict)
     ensures line { row.new ≡ frame_line number marker rise verdict.now }
 {

@@ -33,7 +33,7 @@ pub fn print_info<W: Write>(session: &Session, out: &mut W) -> Result<(), PrintF
     put_all(out, row.text())
 }
 
-/// Puts a word and a number.
+/// Writes a word and a number.
 fn put_count(row: &mut Row, word: &[u8], count: u64)
     requires room { length row.old + length word.now ≤ 236 }
     ensures text { row.new ≡ row.old ++ word.now ++ decimal count }

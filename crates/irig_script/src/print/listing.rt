@@ -31,7 +31,7 @@ pub fn print_frames<W: Write>(session: &Session, out: &mut W) -> Result<(), Prin
     block.flush(out)
 }
 
-/// Puts the line of a frame, from 1, into the row.
+/// Writes the line of a frame, from 1, into the row.
 fn put_record(row: &mut Row, session: &Session, number: usize)
     requires { (1 ≤ number) × (number ≤ length (frames_of session.now.present.state)) }
     ensures { (r : Record) → slice_get (frames_of session.now.present.state) (number - 1) ≡ Some r

@@ -29,7 +29,7 @@ pub fn print_marks<W: Write>(session: &Session, out: &mut W) -> Result<(), Print
     block.flush(out)
 }
 
-/// Puts the line of a mark into the row; nothing where it is not set.
+/// Writes the line of a mark into the row; nothing if it is not set.
 fn put_mark(row: &mut Row, letter: u8, time: Option<u64>)
     ensures { row.new ≡ mark_line letter time }
 {

@@ -10,13 +10,13 @@ use crate::print::pulse_line::{LINE_ROOM, write_pulse};
 use irig_edit::Session;
 use std::io::Write;
 
-/// A listing of so many lines at most goes out by a small block: a block is cleared first.
+/// A listing of this many lines at most goes out by a small block: a block is cleared first.
 const FEW: usize = 14;
 
 /// The bytes of a block of a longer listing: 227 lines have room in it.
 const BLOCK: usize = 16384;
 
-/// Prints a line for each of so many pulses behind the first `before`.
+/// Prints a line for each of this many pulses after the first `before`.
 pub fn print_pulses<W: Write>(
     session: &Session,
     before: usize,
@@ -54,7 +54,7 @@ fn print_many<W: Write>(
     print_in_blocks(session, before, count, &mut [0; BLOCK], out)
 }
 
-/// Prints a line for each of so many pulses behind the first `before`, as many at a time as the
+/// Prints a line for each of this many pulses after the first `before`, as many at a time as the
 /// block has room for.
 fn print_in_blocks<W: Write>(
     session: &Session,
@@ -80,9 +80,9 @@ fn print_in_blocks<W: Write>(
     Ok(())
 }
 
-/// Writes the lines of so many pulses up to the one of number `last`, from 1, so that they end
+/// Writes the lines of this many pulses up to the one of number `last`, from 1, so that they end
 /// where the bytes do, and gives where they start. They are written from the last to the first:
-/// so no digit has to be counted or moved before it is put.
+/// so no digit has to be counted or moved before it is written.
 fn write_pulses(bytes: &mut [u8], session: &Session, last: usize, count: usize) -> usize
     requires room { 72 * count ≤ length bytes.old }
     requires there { (count ≤ last) × (last ≤ length session.now.present.state.pulses) }

@@ -19,25 +19,25 @@ use std::io::Write;
 pub enum Reply {
     /// The line was obeyed, and prints nothing.
     Silent,
-    /// A text of this many bytes was put.
+    /// A text of this many bytes was written.
     Written(u64),
-    /// A text with the journal, of this many bytes, was put.
+    /// A text with the journal, of this many bytes, was written.
     Saved(u64),
-    /// So many pulses are listed, behind so many others.
+    /// This many pulses are listed, after this many others.
     Listed(usize, usize),
     /// The frames of the track are listed.
     Frames,
     /// The marks are listed.
     Marks,
-    /// Counts, format and cursor are told.
+    /// Counts, format and cursor are printed.
     Info,
     /// The session refuses the command.
     Refused(Refusal),
-    /// S1: the line is none of the language.
+    /// S1: the line is not valid.
     BadLine,
     /// S2: the line has more than 1,000 bytes.
     LineTooLong,
-    /// S3: the text could not be put.
+    /// S3: the text could not be written.
     WriteFailed,
 }
 
@@ -53,7 +53,7 @@ impl Reply {
     }
 }
 
-/// Prints what a reply does as the session stands: a line by one write, where the output takes
+/// Prints what a reply does as the session is: a line by one write, if the output takes
 /// it, and a listing in blocks.
 pub fn print<W: Write>(reply: Reply, session: &Session, out: &mut W) -> Result<(), PrintFault>
     ensures ok { OnOk result (Appends
@@ -75,7 +75,7 @@ pub fn print<W: Write>(reply: Reply, session: &Session, out: &mut W) -> Result<(
     }
 }
 
-/// The line that tells why a command is refused.
+/// The line that says why a command is refused.
 fn refusal_line(why: Refusal) -> &'static [u8]
     ensures { result.now ≡ refusal_text why }
 {

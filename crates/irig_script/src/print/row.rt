@@ -37,7 +37,7 @@ impl Row {
         }
     }
 
-    /// What was put so far.
+    /// What was written so far.
     pub fn text(&self) -> &[u8]
         ensures text { result.now ≡ self.now }
         ensures short { length result.now ≤ 256 }
@@ -45,14 +45,14 @@ impl Row {
         &self.bytes[..self.len]
     }
 
-    /// Takes all back.
+    /// Makes the line empty.
     pub fn clear(&mut self)
         ensures { self.new ≡ [] }
     {
         self.len = 0;
     }
 
-    /// Puts bytes at the end.
+    /// Writes bytes at the end.
     pub fn put(&mut self, text: &[u8])
         requires room { length self.old + length text.now ≤ 256 }
         ensures text { self.new ≡ self.old ++ text.now }
@@ -62,7 +62,7 @@ impl Row {
         self.len = len + text.len();
     }
 
-    /// Puts a number in decimal.
+    /// Writes a number in decimal.
     pub fn put_number(&mut self, number: u64)
         requires room { length self.old ≤ 236 }
         ensures text { self.new ≡ self.old ++ decimal number }
@@ -73,7 +73,7 @@ impl Row {
         self.put(&digits[start..]);
     }
 
-    /// Puts a number in decimal, with zeros in front where it has fewer digits than `width`.
+    /// Writes a number in decimal, with zeros in front if it has fewer digits than `width`.
     pub fn put_padded(&mut self, width: usize, number: u32)
         requires narrow { width ≤ 3 }
         requires room { length self.old ≤ 246 }
@@ -87,7 +87,7 @@ impl Row {
         self.put(&digits[start..]);
     }
 
-    /// Puts a number in lower-case hexadecimal, without zeros in front.
+    /// Writes a number in lower-case hexadecimal, without zeros in front.
     pub fn put_hexadecimal(&mut self, number: u64)
         requires room { length self.old ≤ 240 }
         ensures text { self.new ≡ self.old ++ hexadecimal number }

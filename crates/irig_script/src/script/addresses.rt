@@ -86,7 +86,7 @@ fn at(base: Base) -> Address
     Address { base, offset: 0 }
 }
 
-/// An address, or that of the cursor where none stands.
+/// An address, or that of the cursor if there is none.
 pub fn address_or_cursor(text: &[u8]) -> Result<Address, BadLine>
     ensures ok { IfOk result (IsAddressOrCursor text.now) }
     ensures err { OnErr result ((a : Address) → IsAddressOrCursor text.now a → ⊥) }
@@ -113,7 +113,7 @@ pub fn range(text: &[u8]) -> Result<Range, BadLine>
     }
 }
 
-/// What stands before a comma and behind it; a comma alone stands between the first and the last.
+/// What is before a comma and after it; a comma alone is between the first and the last.
 fn pair(first: &[u8], second: &[u8]) -> Result<(Address, Address), BadLine>
     ensures ok { IfOk result (λ p. IsPair first.now second.now p.0 p.1) }
     ensures err { OnErr result ((a : Address) → (b : Address)

@@ -30,7 +30,7 @@ pub fn times(arguments: &[u8]) -> Result<(Time, Time), BadLine>
     Ok((time(a)?, time(b)?))
 }
 
-/// The moment that a word tells.
+/// The moment of a word.
 pub fn moment(word: &[u8]) -> Result<Moment, BadLine>
     ensures ok { IfOk result (λ m. moment_of word.now ≡ Some m) }
     ensures err { OnErr result ((m : MomentView) → moment_of word.now ≡ Some m → ⊥) }
@@ -41,7 +41,7 @@ pub fn moment(word: &[u8]) -> Result<Moment, BadLine>
     }
 }
 
-/// The control functions at the end of a line; 0 where none stand.
+/// The control functions at the end of a line; 0 if there are none.
 pub fn controls(text: &[u8]) -> Result<u64, BadLine>
     ensures ok { IfOk result (AreControls (words_of text.now)) }
     ensures err { OnErr result ((n : ℕ) → AreControls (words_of text.now) n → ⊥) }

@@ -12,13 +12,13 @@ use irig_moment::Moment;
 pub enum Command {
     /// Nothing: a blank line, or a comment.
     Nothing,
-    /// Put the cursor at a pulse, and list it.
+    /// Move the cursor to a pulse, and list it.
     Show(Address),
     /// List pulses.
     List(Range),
-    /// Take pulses out.
+    /// Remove pulses.
     Delete(Range),
-    /// Move pulses by so many microseconds.
+    /// Move pulses by this many microseconds.
     Shift(Range, i64),
     /// Make one pulse of several.
     Join(Range),
@@ -26,11 +26,11 @@ pub enum Command {
     Split(Address, Time, Time),
     /// Give a pulse the width of an element.
     Force(Address, Element),
-    /// Put a pulse from the first time to the second.
+    /// Insert a pulse from the first time to the second.
     Insert(Time, Time),
-    /// Turn the level between two times.
+    /// Invert the level between two times.
     Invert(Time, Time),
-    /// Write so many frames anew from a time on. The first tells the moment; the lowest bit of the
+    /// Generate this many frames from a time on. The first has the moment; the lowest bit of the
     /// last number is the first control function.
     Regen(Time, u64, Moment, u64),
     /// Read frames as those of a kind of time code and the number of a coded expression.
@@ -39,30 +39,30 @@ pub enum Command {
     Mark(Letter, Time),
     /// Clear a mark.
     Unmark(Letter),
-    /// Take the newest step back.
+    /// Undo the newest step.
     Undo,
-    /// Do the step again that was taken back last.
+    /// Redo the step that was undone last.
     Redo,
     /// Open a group.
     Begin,
     /// Make one step of what was done since the group was opened.
     End,
-    /// Take back what was done since the group was opened.
+    /// Undo what was done since the group was opened.
     Abort,
     /// List the frames.
     Frames,
     /// List the marks.
     Marks,
-    /// Tell counts, format and cursor.
+    /// Print counts, format and cursor.
     Info,
-    /// Put the track's dump on the shelf.
+    /// Write the track's dump to the shelf.
     Write,
-    /// Put the dump and the journal on the shelf.
+    /// Write the dump and the journal to the shelf.
     Save,
     /// End the script.
     Quit,
 }
 
-/// S1: a line that is none of the language.
+/// S1: a line that is not valid.
 #[derive(Clone, Copy)]
 pub struct BadLine;

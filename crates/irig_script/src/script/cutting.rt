@@ -31,7 +31,7 @@ impl Stop {
     }
 }
 
-/// What stands before the first byte of a kind, and what stands from it on.
+/// What is before the first byte of a kind, and what is from it on.
 pub fn cut(text: &[u8], stop: Stop) -> (&[u8], &[u8])
     ensures before { result.0.now ≡ before stop text.now }
     ensures onward { result.1.now ≡ onward stop text.now }

@@ -8,7 +8,7 @@ use crate::script::table::found;
 /// The word of a line.
 #[derive(Clone, Copy)]
 pub enum Keyword {
-    /// None stands.
+    /// There is none.
     Missing,
     List,
     Delete,
@@ -33,11 +33,11 @@ pub enum Keyword {
     Write,
     Save,
     Quit,
-    /// It is none of the language.
+    /// It is not a valid word.
     Unknown,
 }
 
-/// The words of the language, each with what it stands for; nothing is the word that is missing.
+/// The words of the language, each with what it means; nothing is the word that is missing.
 static WORDS: [(&[u8], Keyword); 24] = [
     (b"", Keyword::Missing),
     (b"list", Keyword::List),

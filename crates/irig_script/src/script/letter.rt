@@ -25,7 +25,7 @@ impl Model for Letter {
 }
 
 impl Letter {
-    /// The letter that a byte is, where it is one.
+    /// The letter that a byte is, if it is one.
     pub fn new(byte: u8) -> Option<Letter>
         ensures { result ≡ letter_of byte }
     {

@@ -36,7 +36,7 @@ impl Line {
         self.long = false;
     }
 
-    /// Takes a byte more. Of a line that is too long only the front is kept.
+    /// Takes one more byte. Of a line that is too long only the front is kept.
     pub fn push(&mut self, byte: u8)
         requires { byte ≢ 10 }
         ensures { (text : List ℕ) → Holds text self.old → Holds (text ++ byte ∷ []) self.new }

@@ -49,7 +49,7 @@ pub fn distance(word: &[u8]) -> Result<i64, BadLine>
     }
 }
 
-/// A number behind a sign.
+/// A number after a sign.
 pub fn signed(sign: u8, number: u64) -> i64
     requires { number < 2 ^ 63 }
     ensures sign { IsSigned sign result }
@@ -81,7 +81,7 @@ pub fn control(word: &[u8]) -> Result<u64, BadLine>
     Ok(number)
 }
 
-/// The hexadecimal digit that a byte is, of either case; 16 where it is none.
+/// The hexadecimal digit that a byte is, of either case; 16 if it is none.
 fn hex_digit(byte: u8) -> u64
     ensures { result ≡ hex_digit byte }
 {

@@ -20,7 +20,7 @@ use crate::script::numbers::{distance, number};
 use crate::script::range::Range;
 use crate::script::words::{no_word, one_word, split_word, two_words};
 
-/// What a line asks for, its newline left out; `BadLine` where it is none of the language.
+/// What a line asks for, its newline left out; `BadLine` if it is not valid.
 pub fn parse_line(line: &[u8]) -> Result<Command, BadLine>
     ensures meant { IfOk result (λ command. Means command line.now) }
     ensures bad { OnErr result ((command : Command) → Means command line.now → ⊥) }
@@ -33,7 +33,7 @@ pub fn parse_line(line: &[u8]) -> Result<Command, BadLine>
     }
 }
 
-/// Whether nothing stands, or a comment.
+/// Whether there is nothing, or a comment.
 fn is_nothing(text: &[u8]) -> bool
     ensures { result ≡ is_nothing text.now }
 {
@@ -50,7 +50,7 @@ fn in_text(text: &[u8]) -> Result<Command, BadLine>
     asked(range, keyword_of(word), arguments)
 }
 
-/// The front of a text up to where a range ends, and what stands behind it: a text that is a range
+/// The front of a text up to where a range ends, and what is after it: a text that is a range
 /// and what may follow it is cut between them.
 fn split_range(text: &[u8]) -> (&[u8], &[u8])
     ensures whole { text.now ≡ result.0.now ++ result.1.now }
@@ -67,7 +67,7 @@ fn split_range(text: &[u8]) -> (&[u8], &[u8])
     (&text[..at], &text[at..])
 }
 
-/// Whether a byte ends a range, behind an apostrophe or not.
+/// Whether a byte ends a range, after an apostrophe or not.
 fn ends_range(quoted: bool, byte: u8) -> bool
     ensures { result ≡ (is_space byte || (not quoted && is_letter byte)) }
 {
@@ -109,7 +109,7 @@ fn asked(front: &[u8], word: Keyword, arguments: &[u8]) -> Result<Command, BadLi
     }
 }
 
-/// The command, where neither a range nor an argument stands.
+/// The command, if there is neither a range nor an argument.
 fn alone(front: &[u8], arguments: &[u8], command: Command) -> Result<Command, BadLine>
     ensures ok { IfOk result (λ c. (c ≡ command) × (front.now ≡ [])
         × (words_of arguments.now ≡ [])) }
@@ -120,7 +120,7 @@ fn alone(front: &[u8], arguments: &[u8], command: Command) -> Result<Command, Ba
     Ok(command)
 }
 
-/// Nothing, where no range stands.
+/// Nothing, if there is no range.
 fn no_range(front: &[u8]) -> Result<(), BadLine>
     ensures ok { OnOk result (front.now ≡ []) }
     ensures err { OnErr result (front.now ≡ [] → ⊥) }
@@ -132,7 +132,7 @@ fn no_range(front: &[u8]) -> Result<(), BadLine>
     }
 }
 
-/// A range, where no argument stands.
+/// A range, if there is no argument.
 fn ranged(front: &[u8], arguments: &[u8]) -> Result<Range, BadLine>
     ensures ok { IfOk result (λ r. IsRange front.now r × (words_of arguments.now ≡ [])) }
     ensures err { OnErr result ((r : Range) → IsRange front.now r
@@ -172,7 +172,7 @@ fn force(front: &[u8], arguments: &[u8]) -> Result<Command, BadLine>
     Ok(Command::Force(address_or_cursor(front)?, element(name)?))
 }
 
-/// What the arguments of `insert` ask for, where no range stands.
+/// What the arguments of `insert` ask for, if there is no range.
 fn insert(front: &[u8], arguments: &[u8]) -> Result<Command, BadLine>
     ensures ok { IfOk result (Asks Keyword.Insert front.now (words_of arguments.now)) }
     ensures err { OnErr result ((c : Command)
@@ -183,7 +183,7 @@ fn insert(front: &[u8], arguments: &[u8]) -> Result<Command, BadLine>
     Ok(Command::Insert(a, b))
 }
 
-/// What the arguments of `invert` ask for, where no range stands.
+/// What the arguments of `invert` ask for, if there is no range.
 fn invert(front: &[u8], arguments: &[u8]) -> Result<Command, BadLine>
     ensures ok { IfOk result (Asks Keyword.Invert front.now (words_of arguments.now)) }
     ensures err { OnErr result ((c : Command)
@@ -194,7 +194,7 @@ fn invert(front: &[u8], arguments: &[u8]) -> Result<Command, BadLine>
     Ok(Command::Invert(a, b))
 }
 
-/// What the arguments of `format` ask for, where no range stands.
+/// What the arguments of `format` ask for, if there is no range.
 fn format(front: &[u8], arguments: &[u8]) -> Result<Command, BadLine>
     ensures ok { IfOk result (Asks Keyword.Format front.now (words_of arguments.now)) }
     ensures err { OnErr result ((c : Command)
@@ -205,7 +205,7 @@ fn format(front: &[u8], arguments: &[u8]) -> Result<Command, BadLine>
     Ok(Command::Format(kind(name)?, expression(digit)?))
 }
 
-/// What the arguments of `mark` ask for, where no range stands.
+/// What the arguments of `mark` ask for, if there is no range.
 fn set_mark(front: &[u8], arguments: &[u8]) -> Result<Command, BadLine>
     ensures ok { IfOk result (Asks Keyword.Mark front.now (words_of arguments.now)) }
     ensures err { OnErr result ((c : Command)
@@ -216,7 +216,7 @@ fn set_mark(front: &[u8], arguments: &[u8]) -> Result<Command, BadLine>
     Ok(Command::Mark(mark(name)?, time(at)?))
 }
 
-/// What the argument of `unmark` asks for, where no range stands.
+/// What the argument of `unmark` asks for, if there is no range.
 fn unmark(front: &[u8], arguments: &[u8]) -> Result<Command, BadLine>
     ensures ok { IfOk result (Asks Keyword.Unmark front.now (words_of arguments.now)) }
     ensures err { OnErr result ((c : Command)
@@ -227,7 +227,7 @@ fn unmark(front: &[u8], arguments: &[u8]) -> Result<Command, BadLine>
     Ok(Command::Unmark(mark(name)?))
 }
 
-/// What the arguments of `regen` ask for, where no range stands.
+/// What the arguments of `regen` ask for, if there is no range.
 fn regen(front: &[u8], arguments: &[u8]) -> Result<Command, BadLine>
     ensures ok { IfOk result (Asks Keyword.Regen front.now (words_of arguments.now)) }
     ensures err { OnErr result ((c : Command)

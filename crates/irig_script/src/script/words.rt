@@ -7,7 +7,7 @@ ghost use Rattle.irig_script.specs.declared.script.cutting.Stop.TheVariants.{Bla
 use crate::script::command::BadLine;
 use crate::script::cutting::{Stop, cut};
 
-/// The first word of a text, and what stands behind it; an empty word where there is none.
+/// The first word of a text, and what is after it; an empty word if there is none.
 pub fn split_word(text: &[u8]) -> (&[u8], &[u8])
     ensures word { result.0.now ≡ before Blank (onward Text text.now) }
     ensures rest { result.1.now ≡ onward Blank (onward Text text.now) }
@@ -17,7 +17,7 @@ pub fn split_word(text: &[u8]) -> (&[u8], &[u8])
     cut(text, Stop::Blank)
 }
 
-/// Nothing, where no word stands.
+/// Nothing, if there is no word.
 pub fn no_word(text: &[u8]) -> Result<(), BadLine>
     ensures ok { OnOk result (words_of text.now ≡ []) }
     ensures err { OnErr result (words_of text.now ≡ [] → ⊥) }
@@ -30,7 +30,7 @@ pub fn no_word(text: &[u8]) -> Result<(), BadLine>
     }
 }
 
-/// The word, where just one stands.
+/// The word, if there is just one.
 pub fn one_word(text: &[u8]) -> Result<&[u8], BadLine>
     ensures ok { IfOk result (λ w. words_of text.now ≡ w.now ∷ []) }
     ensures err { OnErr result ((x : List ℕ) → words_of text.now ≡ x ∷ [] → ⊥) }
@@ -43,7 +43,7 @@ pub fn one_word(text: &[u8]) -> Result<&[u8], BadLine>
     Ok(word)
 }
 
-/// The words, where just two stand.
+/// The words, if there are just two.
 pub fn two_words(text: &[u8]) -> Result<(&[u8], &[u8]), BadLine>
     ensures ok { IfOk result (λ w. words_of text.now ≡ w.0.now ∷ w.1.now ∷ []) }
     ensures err { OnErr result ((x : List ℕ) → (y : List ℕ) → words_of text.now ≡ x ∷ y ∷ [] → ⊥) }

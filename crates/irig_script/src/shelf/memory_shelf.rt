@@ -8,7 +8,7 @@ use crate::shelf::shelf::{Shelf, ShelfFault};
 use std::alloc::Global;
 use std::marker::Model;
 
-/// A shelf that keeps its texts, for tests: one put may be told to fail.
+/// A shelf that keeps its texts, for tests: one write may be set to fail.
 #[derive(Drop)]
 pub struct MemoryShelf {
     alloc: Global,
@@ -41,7 +41,7 @@ impl MemoryShelf {
         }
     }
 
-    /// The texts put, in order.
+    /// The texts written, in order.
     pub fn texts(&self) -> &[Vec<u8>]
         ensures { map (λ t. t.items) result.now ≡ self.now.texts }
     {

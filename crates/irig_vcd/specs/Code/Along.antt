@@ -1,4 +1,4 @@
--- Where reading stands between two tokens.
+-- The state of reading between two tokens.
 use Rattle.std.specs.Prelude.{◌≡◌, ◌≤◌, ◌<◌, ◌+◌, ◌++◌, ◌∷◌, [], ℕ, List, Bool, true, false, Result}
 use Rattle.std.specs.Prelude.{drop, if◌then◌else◌}
 use Rattle.irig_vcd.specs.Answer.{◌>>=◌, pair_of}
@@ -15,12 +15,12 @@ use Rattle.irig_vcd.specs.declared.pulses.Edge.{Edge}
 use Rattle.irig_vcd.specs.declared.time.Clock.{Clock}
 use Rattle.irig_vcd.specs.declared.trace.Trace.{Trace}
 
--- what is read behind changes
+-- what is read after changes
 abbrev pub behind : List Change → Result (List Change × ℕ) VcdFault
     → Result (List Change × ℕ) VcdFault
 behind before read = read >>= λ p. pair_of (before ++ p.0) p.1
 
--- a trace has come to the words that are left, where all words come to total
+-- a trace has come to the words that are left, if all words come to total
 abbrev pub Along : List ℕ → ℕ → Result (List Change × ℕ) VcdFault → Trace → Clock → List Word
     → Type 0
 Along code unit total trace clock words =

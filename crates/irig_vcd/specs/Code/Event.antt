@@ -14,12 +14,12 @@ abbrev pub is_hash : WordKind → Bool
 is_hash hash = true
 is_hash _ = false
 
--- the code behind a value, and the words after it
+-- the code after a value, and the words after it
 abbrev pub code_behind : ℕ → List Word → Result (List ℕ × List Word) VcdFault
 code_behind offset [] = Err (BadToken offset)
 code_behind offset (w ∷ ws) = Ok (w.bytes, ws)
 
--- the level that a word of a kind gives the wire, where it gives one, and the words after it
+-- the level that a word of a kind gives the wire, if it gives one, and the words after it
 abbrev pub level_read : WordKind → List ℕ → Word → List Word
     → Result (Option Bool × List Word) VcdFault
 level_read hash code w ws = pair_of None ws

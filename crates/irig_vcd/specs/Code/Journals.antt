@@ -5,12 +5,12 @@ use Rattle.irig_vcd.specs.Journals.{Comment}
 use Rattle.irig_vcd.specs.declared.journals.Journals.{Journals}
 use Rattle.irig_vcd.specs.declared.journals.Place.{Place}
 
--- a place, where there is one, as two numbers
+-- a place, if there is one, as two numbers
 abbrev pub place_view : Option Place → Option (ℕ × ℕ)
 place_view None = None
 place_view (Some p) = Some (p.start, p.end)
 
--- the place of the first comment's text, where there is one
+-- the place of the first comment's text, if there is one
 abbrev pub first_place : List Comment → Option (ℕ × ℕ)
 first_place [] = None
 first_place (c ∷ cs) = Some (c.first.offset, c.end)
@@ -26,7 +26,7 @@ pub record Holds (all : List Comment) (j : Journals) : Type 0 where
   pub first : place_view j.first ≡ first_place all
   pub many : j.many ≡ are_many all
 
--- of the journals that were left, those before the rest were kept behind the others
+-- of the journals that were left, those before the rest were kept after the others
 abbrev pub KeepsJournals : List Comment → List Comment → Journals → Journals → Type 0
 KeepsJournals left rest old new = (done : List Comment) → Holds done old
     → (more : List Comment) × Holds (done ++ more) new × (left ≡ more ++ rest)

@@ -10,7 +10,7 @@ last_four n = (48 + n / 100 / 10) ∷ (48 + n / 100 % 10) ∷ (48 + n % 100 / 10
 abbrev pub front : ℕ → List ℕ
 front k = 35 ∷ decimal k
 
--- both edges' lines, with four digits each behind those in front, and what is behind them
+-- both edges' lines, with four digits each after those in front, and what is after them
 abbrev pub pulse_parts : ℕ → List ℕ → List ℕ → List ℕ → List ℕ
 pulse_parts k rise fall pad =
     front k ++ (rise ++ (10 ∷ 49 ∷ 33 ∷ 10 ∷ (front k ++ (fall ++ (10 ∷ 48 ∷ 33 ∷ 10 ∷ pad)))))

@@ -27,7 +27,7 @@ abbrev pub end_read : List Word → Result (ℕ × List Word) VcdFault
 end_read [] = Err Unclosed
 end_read (w ∷ ws) = if is_end w.bytes then Ok (w.offset, ws) else end_read ws
 
--- the words of a section behind those before, and the words after its end
+-- the words of a section after those before, and the words after its end
 abbrev pub section_words : List (List ℕ) → List Word → Result (List (List ℕ) × List Word) VcdFault
 section_words before [] = Err Unclosed
 section_words before (w ∷ ws) =

@@ -22,7 +22,7 @@ pub record IsTime (unit : ℕ) (c : Clock) : Type 0 where
   pub whole : c.whole ≤ limit_of unit
   pub rest : c.rest < 10 ^ (9 - unit)
 
--- the number that digits spell behind a number, or 2^41 where it is above
+-- the number that digits spell after a number, or 2^41 if it is above
 abbrev pub capped_from : ℕ → List ℕ → Option ℕ
 capped_from n digits =
     if list_all is_digit digits then Some (min (number_from n digits) 2199023255552) else None

@@ -16,7 +16,7 @@ use Rattle.irig_vcd.specs.declared.variable.Variable.{Variable}
 abbrev pub variable_view : Variable → Declared
 variable_view v = record { one_bit = v.one_bit; code = v.code.now; reference = v.reference.now }
 
--- whether the number that digits spell behind a number is 1, where all are digits
+-- whether the number that digits spell after a number is 1, if all are digits
 abbrev pub size_from : ℕ → List ℕ → Option Bool
 size_from n digits = if list_all is_digit digits then Some (number_from n digits == 1) else None
 

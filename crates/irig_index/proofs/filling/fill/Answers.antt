@@ -33,7 +33,7 @@ loop-before-init c =
 some_after : (f : FormatView) (ps : List Pulse) (before : ℕ) (p : Pulse) → StandsAfter f ps before p → record_after f ps before ≡ [] → ⊥
 some_after f ps before p found none = let no : found_record f ps before ∷ [] ≡ [] = sym found.record_is ∙ none in absurd (cc no)
 
--- the records so far and the next one fit where all do
+-- the records so far and the next one fit if all do
 fits : (f : FormatView) (ps : List Pulse) (from place before to : ℕ) (old now : GapView Record) (p : Pulse) → from ≤ place → place ≤ before → before < to
     → ((k : ℕ) → place ≤ k → k < before → record_after f ps k ≡ []) → StandsAfter f ps before p
     → left_of now ≡ left_of old ++ records_in f ps from (place - from) → kept_right now ≡ kept_right old

@@ -4,7 +4,7 @@ use Rattle.irig_index.specs.Sides.{left_of, kept_right}
 use Rattle.irig_index.proofs.LookBounds.{Spent}
 use Rattle.irig_index.proofs.filling.fill.Given as goal
 
--- the records of the places so far stand left of the gap
+-- the records of the places so far are left of the gap
 abbrev pub invariant-loop-before : goal.invariant-loop-before
 invariant-loop-before l = record {
   spent : Spent l.format l.fn.lens.track.pulses l.from l.place l.fn.lens l.lens l.fn.looks l.looks;

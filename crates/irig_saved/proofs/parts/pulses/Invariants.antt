@@ -3,6 +3,6 @@ use Rattle.irig_saved.specs.SavedText.{pulse_lines}
 use Rattle.irig_saved.specs.Reading.{Reads}
 use Rattle.irig_saved.proofs.parts.pulses.Given as goal
 
--- so many pulses as turns stand before the rest
+-- one pulse for each turn is before the rest
 abbrev pub invariant-loop : goal.invariant-loop
 invariant-loop l = Reads (ArePulses l.counter) pulse_lines l.text l.pulses l.rest

@@ -3,6 +3,6 @@ use Rattle.irig_saved.specs.SavedText.{singles_lines}
 use Rattle.irig_saved.specs.Reading.{Reads}
 use Rattle.irig_saved.proofs.parts.singles.Given as goal
 
--- so many changes as turns stand before the rest
+-- one change for each turn is before the rest
 abbrev pub invariant-loop : goal.invariant-loop
 invariant-loop l = Reads (AreSingles l.counter) singles_lines l.text l.singles l.rest

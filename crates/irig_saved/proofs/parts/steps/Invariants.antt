@@ -3,6 +3,6 @@ use Rattle.irig_saved.specs.SavedText.{steps_lines}
 use Rattle.irig_saved.specs.Reading.{Reads}
 use Rattle.irig_saved.proofs.parts.steps.Given as goal
 
--- so many steps as turns stand before the rest
+-- one step for each turn is before the rest
 abbrev pub invariant-loop : goal.invariant-loop
 invariant-loop l = Reads (ManySteps l.counter) steps_lines l.text l.steps l.rest

@@ -7,7 +7,7 @@ use Rattle.irig_edit.specs.Taken.{CanTakeAll}
 use Rattle.irig_edit.specs.Walk.{Fitting, ahead_of, gone_along}
 use Rattle.irig_edit.proofs.walk.Walk.go_back.Given as goal
 
--- those that were taken back stand ahead
+-- those that were undone are ahead
 abbrev pub invariant-loop : goal.invariant-loop
 invariant-loop l =
     ((h : History State Delta) → (ds : List (Step Delta)) → IsState h.state → CanTakeAll h.state ds

@@ -3,7 +3,7 @@ use Rattle.irig_codes.specs.Width.{class_of}
 use Rattle.irig_codes.specs.Words.{class_word}
 use Rattle.irig_script.proofs.print.pulse_line.write_pulse.Goals as goal
 
--- a part of a line that goes from behind it to its end
+-- a part of a line that goes from after it to its end
 joined : (x y z : List ℕ) (d : ℕ) → x ++ (y ++ d ∷ z) ≡ (x ++ y ++ d ∷ []) ++ z
 joined x y z d = sym (append_assoc x y (d ∷ z)) ∙ sym (append_assoc (x ++ y) (d ∷ []) z)
 
