@@ -1,5 +1,5 @@
 -- What an abort of a group leaves of the steps, and what these stand for.
-use Rattle.std.proofs.Common.{◌≡◌, ◌-◌, ℕ, suc, zero, false, List, [], ◌∷◌, length, nat_le, drop, take, Option, Some, None, option_map, refl, ap, sym, ◌∙◌, subst, arith}
+use Rattle.std.proofs.Common.{◌≡◌, ◌≤◌, ◌+◌, ◌-◌, ℕ, suc, zero, false, List, [], ◌∷◌, length, nat_le, drop, take, Option, Some, None, option_map, refl, ap, sym, ◌∙◌, subst, arith}
 use Rattle.std.specs.Prelude.{IfSome, flat_map}
 use Rattle.std.specs.List.{AllByRecursion}
 use Rattle.irig_journal.specs.declared.opening.Opening.{Opening}
@@ -141,3 +141,11 @@ aborted_rose s cursor past future (Some o) old new counts some =
       by_steps : (steps : List (Step Delta)) → CountsGathered counted gathered s steps old new → RoseWithin (looks_of s (gathered (changes_of steps))) old new
       by_steps [] same = (omega (arith, same), omega (arith, same))
       by_steps (near ∷ steps) counts = counts
+
+-- so many steps of the journal since a group was begun are as many of the machine
+pub has_made : (n : ℕ) (P : Opening → Type 0) (s : State) (cursor : ℕ) (past future : List (Step Delta)) (opening : Option Opening)
+    → ((o : Opening) → P o → o.steps + n ≤ length past) → IfSome opening P
+    → IfSome (option_map (floor_of (machine (history s cursor past future))) opening)
+    (λ f. f.height + n ≤ length (machine (history s cursor past future)).past)
+has_made n P s cursor past future None stand made = tt
+has_made n P s cursor past future (Some o) stand made = omega (arith, stand o made, length-kept_back s past)

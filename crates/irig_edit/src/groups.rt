@@ -1,7 +1,8 @@
 //! Groups: several edits that are one step.
 
+ghost use Rattle.std.specs.Prelude.{IsErrOf};
 ghost use Rattle.irig_edit.specs.Calls.Call.{Begin, End, Abort};
-ghost use Rattle.irig_edit.specs.Session.{LooksAfter, Steps};
+ghost use Rattle.irig_edit.specs.Session.{HasMade, LooksAfter, Steps};
 
 use crate::refusal::Refusal;
 use crate::session::Session;
@@ -22,11 +23,13 @@ impl Session {
     }
 
     /// Closes the open group: its steps become one. What was taken back can still be made again.
+    /// This takes memory only if there are two steps or more.
     ///
     /// E13 where no group is open.
     pub fn end(&mut self) -> Result<(), Refusal>
         ensures step { Steps End self.old result self.new }
         ensures looks { LooksAfter End self.old result self.new }
+        ensures memory { IsErrOf result Refusal.OutOfMemory → HasMade 2 self.old }
     {
         match self.journal.end(&mut self.present) {
             Ok(()) => Ok(()),
@@ -36,12 +39,14 @@ impl Session {
     }
 
     /// Closes the open group and takes its steps back for good: the present is that of its begin,
-    /// with the cursor that stood there, and nothing is left to be made again.
+    /// with the cursor that stood there, and nothing is left to be made again. This takes memory
+    /// only if there is a step.
     ///
     /// E13 where no group is open.
     pub fn abort(&mut self) -> Result<(), Refusal>
         ensures step { Steps Abort self.old result self.new }
         ensures looks { LooksAfter Abort self.old result self.new }
+        ensures memory { IsErrOf result Refusal.OutOfMemory → HasMade 1 self.old }
     {
         let before = self.present.looks();
         match self.journal.abort(&mut self.present, &mut self.cursor) {

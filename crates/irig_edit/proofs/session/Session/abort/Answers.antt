@@ -1,4 +1,4 @@
-use Rattle.std.proofs.Common.{rules, IsErrOf, IsNone, Option, Ok, Bool, not, [], ◌∷◌, refl, sym, subst, ℕ, ◌-◌, ap, ◌∙◌, arith}
+use Rattle.std.proofs.Common.{rules, IsErrOf, IsNone, Option, Ok, Bool, not, [], ◌∷◌, refl, sym, subst, ℕ, ◌-◌, ap, ◌∙◌, arith, ◌<◌, length, inl, inr}
 use Rattle.irig_journal.specs.Groups.{Grouped}
 use Rattle.irig_journal.specs.Journal.{past_of, future_of}
 use Rattle.irig_journal.specs.declared.fault.JournalFault.TheVariants as fault
@@ -11,9 +11,9 @@ use Rattle.irig_edit.specs.Limits.{IsGrouped}
 use Rattle.irig_edit.specs.Looks.{Within}
 use Rattle.irig_edit.specs.Machine.{Steps}
 use Rattle.irig_edit.specs.Refusals.{first_of, refusal_of}
-use Rattle.irig_edit.specs.Session.{SessionView, grouped_in, machine_in, made_since}
+use Rattle.irig_edit.specs.Session.{HasMade, SessionView, grouped_in, machine_in, made_since}
 use Rattle.irig_edit.specs.declared.refusal.Refusal.TheVariants.{NoGroup}
-use Rattle.irig_edit.proofs.Aborts.{IsGrouped-aborted, aborted_rose, grouped-aborted}
+use Rattle.irig_edit.proofs.Aborts.{has_made, IsGrouped-aborted, aborted_rose, grouped-aborted}
 use Rattle.irig_edit.proofs.Endings.{is_open-none, is_open-not_none}
 use Rattle.irig_edit.proofs.Floors.{over_opening}
 use Rattle.irig_edit.proofs.LooksOfSteps.{never_fell, risen_within}
@@ -76,6 +76,7 @@ returns-in-Err-NoGroup c =
         (λ k. over_opening (same.2 k) (machine (same.0 k))) ∙ ap grouped_in c.self.view_is,
       );
       looks = (same.1 ∙ ap (λ (v : SessionView). v.looks) c.self.view_is, ap (λ (v : SessionView). v.last_looks) c.self.view_is);
+      memory = λ is. absurd (cc);
     }
 
 pub returns-in-Err : goal.returns-in-Err
@@ -92,4 +93,10 @@ returns-in-Err c =
         tt,
       );
       looks = (same.1 ∙ ap (λ (v : SessionView). v.looks) c.self.view_is, ap (λ (v : SessionView). v.last_looks) c.self.view_is);
+      memory = λ is. elim c.in-Err.ensures.memory as (λ _. HasMade 1 c.args.self.now) [
+        | inl none ↦ absurd (some (c.in-Err.is ∙ none))
+        | inr out ↦
+            subst (λ (v : SessionView). HasMade 1 v) c.self.view_is
+            (has_made 1 (λ o. o.steps < length (past_of delta_of s.journal)) s.present.state s.cursor (past_of delta_of s.journal) (future_of delta_of s.journal) s.journal.floor (λ o few. omega (arith, few)) out.1)
+      ];
     }

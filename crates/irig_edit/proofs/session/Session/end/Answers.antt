@@ -1,4 +1,4 @@
-use Rattle.std.proofs.Common.{rules, IsErrOf, Ok, Bool, not, [], ◌∷◌, sym, subst, ap, ◌∙◌}
+use Rattle.std.proofs.Common.{rules, IsErrOf, Ok, Bool, not, [], ◌∷◌, sym, subst, ap, ◌∙◌, arith, ◌+◌, ◌<◌, length, inl, inr}
 use Rattle.irig_journal.specs.declared.fault.JournalFault.TheVariants as fault
 use Rattle.irig_journal.specs.Groups.{Grouped}
 use Rattle.irig_journal.specs.History.{steps_of}
@@ -10,8 +10,9 @@ use Rattle.irig_edit.specs.Kept.{Kept}
 use Rattle.irig_edit.specs.Limits.{IsGrouped}
 use Rattle.irig_edit.specs.Machine.{Steps}
 use Rattle.irig_edit.specs.Refusals.{first_of, refusal_of}
-use Rattle.irig_edit.specs.Session.{SessionView, grouped_in}
+use Rattle.irig_edit.specs.Session.{HasMade, SessionView, grouped_in}
 use Rattle.irig_edit.specs.declared.refusal.Refusal.TheVariants.{NoGroup}
+use Rattle.irig_edit.proofs.Aborts.{has_made}
 use Rattle.irig_edit.proofs.Endings.{IsGrouped-ended, grouped-ended, is_open-none, is_open-not_none}
 use Rattle.irig_edit.proofs.Floors.{over_opening}
 use Rattle.irig_edit.proofs.Machines.{history}
@@ -67,4 +68,21 @@ returns-clause-step c =
             (λ k. over_opening (same.1 k) (machine (history (stays.0 k) s.cursor (same.0 k) (future k)))) ∙ ap grouped_in c.self.view_is,
             tt,
           )
+    ]
+
+pub returns-clause-memory : goal.returns-clause-memory
+returns-clause-memory c =
+    let s = c.self.inside in
+    elim c.match-end.branch [
+      | in-Ok w ↦ rw w.result-is (λ is. absurd (cc))
+      | in-Err-NoGroup w ↦ rw w.result-is (λ is. absurd (cc))
+      | in-Err w ↦
+          let some : IsErrOf c.end.result fault.NoGroup → ⊥ = search rules in
+          let made : HasMade 2 c.args.self.now = elim w.in-Err.ensures.memory as (λ _. HasMade 2 c.args.self.now) [
+            | inl none ↦ absurd (some (w.in-Err.is ∙ none))
+            | inr out ↦
+                subst (λ (v : SessionView). HasMade 2 v) c.self.view_is
+                (has_made 2 (λ o. o.steps + 1 < length (past_of delta_of s.journal)) s.present.state s.cursor (past_of delta_of s.journal) (future_of delta_of s.journal) s.journal.floor (λ o few. omega (arith, few)) out.1)
+          ] in
+          rw w.result-is (λ is. made)
     ]
