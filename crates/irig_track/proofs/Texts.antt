@@ -1,7 +1,7 @@
 -- The text of a track, pulse by pulse.
 use Rattle.std.proofs.Common.{◌≡◌, ℕ, ◌+◌, ◌≤◌, ◌==◌, ◌++◌, true, false, List, [], ◌∷◌, length, drop, slice_get, Some, sym, ap, ◌∙◌, append_assoc}
 use Rattle.std.proofs.lemmas.List.{drop_all, append-nil}
-use Rattle.irig_vcd.specs.FileText.{WriterView, writer_view, file_text, header_text, begins_high, lines_at, length_line}
+use Rattle.irig_vcd.specs.FileText.{WriterView, file_text, header_text, begins_high, lines_at, length_line}
 use Rattle.irig_vcd.specs.Recording.{recording_view}
 use Rattle.irig_vcd.proofs.WrittenChanges.{last_or}
 use Rattle.irig_vcd.proofs.WrittenText.{all_lines, whole_text}
@@ -23,14 +23,14 @@ regroup a b c d = simp append_assoc
 
 -- one more pulse written
 pub more_put : (i : ℕ) (p : Pulse) (ps : List Pulse) (w next : WriterView) → slice_get ps i ≡ Some p → PutUpTo i ps w
-    → next ≡ writer_view ((w.text ++ lines_at true p.rise) ++ lines_at false p.fall) p.fall → PutUpTo (i + 1) ps next
-more_put i p ps w next is put lines =
+    → next.text ≡ (w.text ++ lines_at true p.rise) ++ lines_at false p.fall → next.last ≡ p.fall → PutUpTo (i + 1) ps next
+more_put i p ps w next is put lines last =
     let cut : drop i ps ≡ p ∷ drop (i + 1) ps = here ps i p is in
     let rest = all_lines true (edges_of (drop (i + 1) ps)) in
     record {
-      text = ap (λ (v : WriterView). v.text ++ rest) lines ∙ regroup w.text (lines_at true p.rise) (lines_at false p.fall) rest
+      text = ap (λ (text : List ℕ). text ++ rest) lines ∙ regroup w.text (lines_at true p.rise) (lines_at false p.fall) rest
           ∙ sym (ap (λ qs. w.text ++ all_lines true (edges_of qs)) cut) ∙ put.text;
-      last = ap (λ (v : WriterView). last_or v.last (edges_of (drop (i + 1) ps))) lines ∙ sym (ap (λ qs. last_or w.last (edges_of qs)) cut) ∙ put.last;
+      last = ap (λ (edge : ℕ). last_or edge (edges_of (drop (i + 1) ps))) last ∙ sym (ap (λ qs. last_or w.last (edges_of qs)) cut) ∙ put.last;
     }
 
 -- all pulses written

@@ -1,7 +1,7 @@
 //! The lines of a pulse, kept for the next one.
 
 ghost use Rattle.std.specs.Prelude.{◌≡◌, ◌↔◌, ◌≤◌, ◌<◌, ◌+◌, ◌-◌, ◌/◌, ◌%◌, ◌^◌, ◌++◌, ◌∷◌, true, false, OnOk};
-ghost use Rattle.std.specs.Prelude.{length, take, drop};
+ghost use Rattle.std.specs.Prelude.{length, take, drop, vec_capacity, vec_len, IsOk};
 ghost use Rattle.irig_vcd.specs.Code.KeptPulse.{HoldsPulse, IsNear, last_four};
 ghost use Rattle.irig_vcd.specs.FileText.{EndsLines, lines_at};
 
@@ -76,6 +76,8 @@ impl KeptPulse {
         requires fall { IsNear self.old fall }
         ensures text { OnOk result
             (text.new.items ≡ text.old.items ++ lines_at true rise ++ lines_at false fall) }
+        ensures enough { vec_len text.old + 48 ≤ vec_capacity text.old → IsOk result }
+        ensures keeps { vec_capacity text.old ≤ vec_capacity text.new }
         ensures holds { HoldsPulse self.new }
     {
         let (up, down) = (rise - self.base, fall - self.base);
