@@ -1,9 +1,12 @@
 //! A session is opened from a dump, with the journal that it carries.
 
-ghost use Rattle.std.specs.Prelude.{◌≤◌, ◌^◌, IfOk, IfErr, IfSome, length};
+ghost use Rattle.std.specs.Prelude.{◌≡◌, ◌≤◌, ◌^◌, Err, IfOk, IfErr, IfSome, length};
 ghost use Rattle.irig_saved.specs.Faults.{IsFault};
 ghost use Rattle.irig_saved.specs.SavedText.{saved_lines};
 ghost use Rattle.irig_vcd.specs.Answer.{name_of};
+ghost use Rattle.irig_vcd.specs.Declarations.{declarations_of};
+ghost use Rattle.irig_vcd.specs.Words.{words_of};
+ghost use Rattle.irig_vcd.specs.declared.fault.VcdFault.{VcdFault};
 ghost use Rattle.irig_edit.specs.Opened.{IsAccepted, IsLineAtFault, state_of};
 ghost use Rattle.irig_edit.specs.Openings.{ArePartsOf, IsBad, IsOpened, IsTextOf, IsUnopened};
 
@@ -28,6 +31,9 @@ impl Session {
     ) -> Result<Session, VcdFault>
         requires short { length bytes.items ≤ 2 ^ 28 }
         ensures opened { IfOk result (λ s. IsOpened (name_of wire.entry) bytes.items format s) }
+        ensures heading { (e : VcdFault)
+            → declarations_of (name_of wire.entry) (words_of bytes.items) ≡ Err e
+            → result ≡ Err e }
         ensures fault { IfErr result (λ e. IsUnopened (name_of wire.entry) bytes.items e) }
     {
         match parts_of(alloc, bytes, wire) {
@@ -52,6 +58,8 @@ fn parts_of(
     requires short { length bytes.items ≤ 2 ^ 28 }
     ensures parts { IfOk result (λ p. ArePartsOf (name_of wire.entry) bytes.items p.0 p.1) }
     ensures lines { IfOk result (λ p. IfSome p.1 (λ saved. length (saved_lines saved) ≤ 2 ^ 28)) }
+    ensures heading { (e : VcdFault)
+        → declarations_of (name_of wire.entry) (words_of bytes.items) ≡ Err e → result ≡ Err e }
     ensures fault { IfErr result (λ e. IsUnopened (name_of wire.entry) bytes.items e) }
 {
     match read_parts(alloc, bytes.as_slice(), wire) {
