@@ -6,6 +6,7 @@ pub mod Obeying
 pub mod Answer
 pub mod Desk
 pub mod Run
+pub mod Reading
 pub mod OneRun
 pub mod Ending
 pub mod Progress

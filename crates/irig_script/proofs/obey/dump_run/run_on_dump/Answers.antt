@@ -1,5 +1,9 @@
 use Rattle.std.proofs.Common.{refl}
+use Rattle.irig_script.proofs.Reading.{reads_none}
 use Rattle.irig_script.proofs.obey.dump_run.run_on_dump.Goals as goal
+
+pub returns-in-Err-clause-reads : goal.returns-in-Err-clause-reads
+returns-in-Err-clause-reads g c = reads_none _
 
 pub returns-in-Err-clause-ends : goal.returns-in-Err-clause-ends
 returns-in-Err-clause-ends g c = (c.in-Err.ensures.fault, refl, refl)
