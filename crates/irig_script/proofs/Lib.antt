@@ -32,3 +32,4 @@ pub mod Numbered
 pub mod MarkLines
 pub mod FrameLines
 pub mod Reading
+pub mod SameSavedRun

@@ -12,3 +12,4 @@ pub mod Ending
 pub mod Progress
 pub mod DumpRun
 pub mod OneDumpRun
+pub mod SavedRun
