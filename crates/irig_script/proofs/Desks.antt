@@ -27,13 +27,12 @@ grows-grows (Some s) (Some t) (Some u) ts us p q = q ∙ ap (λ l. l ++ us) p �
 
 -- a shelf on which nothing is put, and puts in turn
 pub puts_none : (a : Shelved) → Puts a a [] 0
-puts_none a = record { put = grows_none a.texts; failed = omega arith; quiet = λ z. refl; label = refl }
+puts_none a = record { put = grows_none a.texts; failed = omega arith; label = refl }
 
 puts-puts : (a b c : Shelved) (ts us : List (List ℕ)) (x y : ℕ) → Puts a b ts x → Puts b c us y → Puts a c (ts ++ us) (x + y)
 puts-puts a b c ts us x y h k = record {
   put = grows-grows a.texts b.texts c.texts ts us h.put k.put;
   failed = omega (arith, h.failed, k.failed);
-  quiet = λ z. k.quiet (omega (arith, z)) ∙ h.quiet (omega (arith, z));
   label = k.label ∙ h.label;
 }
 

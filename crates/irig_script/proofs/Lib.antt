@@ -31,3 +31,5 @@ pub mod Pieces
 pub mod Numbered
 pub mod MarkLines
 pub mod FrameLines
+pub mod Reading
+pub mod SameSavedRun

@@ -6,8 +6,10 @@ pub mod Obeying
 pub mod Answer
 pub mod Desk
 pub mod Run
+pub mod Reading
 pub mod OneRun
 pub mod Ending
 pub mod Progress
 pub mod DumpRun
 pub mod OneDumpRun
+pub mod SavedRun

@@ -1,10 +1,12 @@
 //! What holds of lines and of the runs of scripts.
 
+ghost use Rattle.irig_edit.specs.GoingOn.{IsShort};
 ghost use Rattle.irig_script.specs.Script.OneCommand.{OneCommand};
 ghost use Rattle.irig_script.specs.Obey.OneDumpRun.{OneDumpRun};
 ghost use Rattle.irig_script.specs.Obey.OneRun.{OneRun};
+ghost use Rattle.irig_script.specs.Obey.SavedRun.{RunsOn};
 
-use irig_edit::calls_give_back;
+use irig_edit::{Session, calls_give_back, saved_goes_on};
 
 /// Does nothing: it says that a line asks for one command at most.
 pub fn lines_ask_for_one_command()
@@ -21,4 +23,16 @@ pub fn scripts_have_one_run()
     ensures on_dumps { OneDumpRun }
 {
     calls_give_back();
+}
+
+/// Does nothing: it says that a script runs on a saved session as it does on the session itself.
+///
+/// The saved text is opened again without a wire's name, in any format. Each script then prints the
+/// same bytes and writes the same texts as it does from this session with no group open, if both
+/// runs meet want of memory and failed writes at the same lines.
+pub fn saved_sessions_run_on(session: &Session)
+    ensures same { IsShort session.now → RunsOn session.now }
+{
+    calls_give_back();
+    saved_goes_on(session);
 }

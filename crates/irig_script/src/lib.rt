@@ -7,7 +7,7 @@ mod print;
 mod script;
 mod shelf;
 
-pub use law::{lines_ask_for_one_command, scripts_have_one_run};
+pub use law::{lines_ask_for_one_command, saved_sessions_run_on, scripts_have_one_run};
 pub use obey::dump_run::{DumpRunFault, run_on_dump};
 pub use obey::engine::run;
 pub use obey::status::{RunFault, Status};

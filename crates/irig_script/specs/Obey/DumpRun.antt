@@ -1,6 +1,9 @@
 -- From the bytes that come in to the bytes that go out. This project's own.
 use Rattle.std.specs.Prelude.{◌≡◌, ℕ, List, Option, Result, Ok, Err}
 use Rattle.irig_codes.specs.Format.{FormatView}
+use Rattle.irig_vcd.specs.Declarations.{declarations_of}
+use Rattle.irig_vcd.specs.Words.{words_of}
+use Rattle.irig_vcd.specs.declared.fault.VcdFault.{VcdFault}
 use Rattle.irig_edit.specs.Openings.{IsOpened, IsUnopened}
 use Rattle.irig_script.specs.Obey.Machine.{Machine}
 use Rattle.irig_script.specs.Obey.Desk.{Desk}
@@ -19,11 +22,16 @@ pub record RanOnDump (wire : Option (List ℕ)) (chosen : FormatView) (source : 
   pub opened : IsOpened wire source chosen first
   pub ran : EndsAs script left from to first last result
 
+-- where the declarations have a fault it is the one told, however little memory there is
+abbrev pub TellsHeading : Option (List ℕ) → List ℕ → VcdFault → Type 0
+TellsHeading wire source fault =
+    (e : VcdFault) → declarations_of wire (words_of source) ≡ Err e → fault ≡ e
+
 -- the dump was not opened, and nothing was printed, put or read of the script; or it ran
 abbrev pub RunsOnDump : Option (List ℕ) → FormatView → List ℕ → Option (List ℕ) → Option (List ℕ)
     → Desk → Desk → Result Status DumpRunFault → Type 0
 RunsOnDump wire chosen source script left from to (Err (Dump fault)) =
-    IsUnopened wire source fault × (to ≡ from) × (left ≡ script)
+    IsUnopened wire source fault × TellsHeading wire source fault × (to ≡ from) × (left ≡ script)
 RunsOnDump wire chosen source script left from to (Err (Run fault)) =
     RanOnDump wire chosen source script left from to (Err fault)
 RunsOnDump wire chosen source script left from to (Ok status) =

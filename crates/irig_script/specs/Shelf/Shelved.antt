@@ -1,5 +1,5 @@
 -- What is known of a shelf, and what puts make of it. This project's own.
-use Rattle.std.specs.Prelude.{◌≡◌, ◌≤◌, ◌+◌, ◌-◌, ◌^◌, ◌++◌, ℕ, List, Option, Some, None, min}
+use Rattle.std.specs.Prelude.{◌≡◌, ◌+◌, ◌-◌, ◌^◌, ◌++◌, ℕ, List, Option, Some, None, max, min}
 
 -- a known list grows by these at its end
 abbrev pub GrowsBy : {T : Type 0} → Option (List T) → Option (List T) → List T → Type 0
@@ -7,9 +7,9 @@ GrowsBy None new more = Unit {0}
 GrowsBy (Some xs) None more = ⊥
 GrowsBy (Some xs) (Some ys) more = ys ≡ xs ++ more
 
--- the count of failures rose by so many at least, or stands at its last value
+-- the count of failures rose by exactly so many, up to 2^64 - 1
 abbrev pub RisesBy : ℕ → ℕ → ℕ → Type 0
-RisesBy old new count = min (old + count) (2 ^ 64 - 1) ≤ new
+RisesBy old new count = new ≡ max old (min (old + count) (2 ^ 64 - 1))
 
 -- the texts put, where the shelf tells them, how often a put failed, and what tells the shelf from
 -- others
@@ -22,9 +22,8 @@ pub record Shelved : Type 0 where
 abbrev pub shelved : Option (List (List ℕ)) → ℕ → List ℕ → Shelved
 shelved texts failures label = record { texts = texts; failures = failures; label = label }
 
--- just these texts were put, so many puts failed, and the shelf is still that one
+-- exactly these texts were put, exactly so many puts failed, and the shelf is still that one
 pub record Puts (old new : Shelved) (texts : List (List ℕ)) (count : ℕ) : Type 0 where
   pub put : GrowsBy old.texts new.texts texts
   pub failed : RisesBy old.failures new.failures count
-  pub quiet : count ≡ 0 → new.failures ≡ old.failures
   pub label : new.label ≡ old.label

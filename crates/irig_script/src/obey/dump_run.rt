@@ -4,6 +4,7 @@ ghost use Rattle.std.specs.Prelude.{◌≡◌, ◌≤◌, ◌^◌, length};
 ghost use Rattle.irig_vcd.specs.Answer.{name_of};
 ghost use Rattle.irig_script.specs.Obey.Desk.{desk};
 ghost use Rattle.irig_script.specs.Obey.DumpRun.{RunsOnDump};
+ghost use Rattle.irig_script.specs.Obey.Reading.{ReadsTo};
 
 use crate::obey::engine;
 use crate::obey::status::{RunFault, Status};
@@ -40,6 +41,7 @@ pub fn run_on_dump<R: Read, W: Write, S: Shelf>(
         (R.remaining script.old) (R.remaining script.new)
         (desk (W.contents out.old) (S.known shelf.old))
         (desk (W.contents out.new) (S.known shelf.new)) result }
+    ensures reads { ReadsTo (R.remaining script.old) (R.remaining script.new) }
     ensures label { (S.known shelf.new).label ≡ (S.known shelf.old).label }
 {
     let mut session = match Session::open_dump(alloc, source, wire, format) {

@@ -5,6 +5,7 @@ ghost use Rattle.std.specs.Io.KnownBytes.{Appends};
 ghost use Rattle.irig_script.specs.Print.Printed.{answer_with, reply_text};
 ghost use Rattle.irig_script.specs.Obey.Desk.{desk, status_after};
 ghost use Rattle.irig_script.specs.Obey.Ending.{EndsAs};
+ghost use Rattle.irig_script.specs.Obey.Reading.{ReadsTo};
 ghost use Rattle.irig_script.specs.Obey.Run.{Ran, Broke};
 ghost use Rattle.irig_script.specs.Obey.Progress.{BrokeIn, Holds, Obeyed};
 ghost use Rattle.irig_script.specs.Print.Front.{AppendsFront};
@@ -32,6 +33,7 @@ pub fn run<R: Read, W: Write, S: Shelf>(
     ensures ends { EndsAs (R.remaining script.old) (R.remaining script.new)
         (desk (W.contents out.old) (S.known shelf.old))
         (desk (W.contents out.new) (S.known shelf.new)) session.old session.new result }
+    ensures reads { ReadsTo (R.remaining script.old) (R.remaining script.new) }
     ensures label { (S.known shelf.new).label ≡ (S.known shelf.old).label }
 {
     let mut line = Line::new();

@@ -1,8 +1,8 @@
 //! A shelf in memory.
 
-ghost use Rattle.std.specs.Prelude.{◌≡◌, Some, map, []};
-ghost use Rattle.irig_script.specs.Shelf.ShelfView.{shelf_view};
-ghost use Rattle.irig_script.specs.Shelf.Shelved.{shelved};
+ghost use Rattle.std.specs.Prelude.{◌≡◌, ◌∷◌, IsErr, OnErr, OnOk, Some, map, []};
+ghost use Rattle.irig_script.specs.Shelf.ShelfView.{known_of, next_put, shelf_view};
+ghost use Rattle.irig_script.specs.Shelf.Shelved.{Puts};
 
 use crate::shelf::shelf::{Shelf, ShelfFault};
 use std::alloc::Global;
@@ -24,13 +24,14 @@ impl Model for MemoryShelf {
 
     ghost Value = { ShelfView };
 
-    ghost view = { λ s. shelf_view (map (λ t. t.items) s.texts.items) s.failures s.fail };
+    ghost view = { λ s.
+        shelf_view (map (λ t. t.items) s.texts.items) s.failures s.puts s.fail };
 }
 
 impl MemoryShelf {
     /// An empty shelf. The put of this number, from 1, fails.
     pub fn new(alloc: Global, fail: Option<u64>) -> MemoryShelf
-        ensures { result ≡ shelf_view [] 0 fail }
+        ensures { result ≡ shelf_view [] 0 0 fail }
     {
         MemoryShelf {
             alloc,
@@ -50,9 +51,15 @@ impl MemoryShelf {
 }
 
 impl Shelf for MemoryShelf {
-    ghost known = { λ s. shelved (Some s.texts) s.failures [] };
+    ghost known = { λ s. known_of s };
 
-    fn put(&mut self, text: &[u8]) -> Result<(), ShelfFault> {
+    fn put(&mut self, text: &[u8]) -> Result<(), ShelfFault>
+        ensures ok { OnOk result (Puts (known_of self.old) (known_of self.new) (text.now ∷ []) 0) }
+        ensures err { OnErr result (Puts (known_of self.old) (known_of self.new) [] 1) }
+        ensures told { self.old.fail ≡ Some (next_put self.old) → IsErr result }
+        ensures puts { self.new.puts ≡ next_put self.old }
+        ensures fail { self.new.fail ≡ self.old.fail }
+    {
         self.puts = self.puts.saturating_add(1);
         if self.fail != Some(self.puts)
             && let Ok(text) = Vec::from_slice(self.alloc, text)

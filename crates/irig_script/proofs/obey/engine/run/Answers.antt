@@ -1,12 +1,13 @@
-use Rattle.std.proofs.Common.{rules, ◌∙◌, ◌<◌, ◌++◌, [], take, true, false, length, arith, length-append, length-take}
+use Rattle.std.proofs.Common.{rules, ◌≡◌, ◌≤◌, ◌+◌, ◌^◌, ◌∙◌, ◌<◌, ◌++◌, [], take, true, false, length, arith, length-append, length-take}
 use Rattle.std.proofs.lemmas.List.{append-nil}
 use Rattle.irig_script.proofs.Lines.{obeyed_none, obeyed_more, broke_more}
 use Rattle.irig_script.proofs.Runs.{run_ended, run_quit, run_broke, run_broken}
 use Rattle.irig_script.proofs.Known.{consumes-consumes, consumes_none}
+use Rattle.irig_script.proofs.Reading.{consumes_kept, reads_to}
 use Rattle.irig_script.proofs.obey.engine.run.Goals as goal
 
 pub loop-reads-init : goal.loop-reads-init
-loop-reads-init g c = record { bytes = []; read = consumes_none _; many = omega arith; obeyed = obeyed_none _ _ [] _ _ c.new-line.ensures }
+loop-reads-init g c = record { bytes = []; read = consumes_none _; many = omega arith; most = omega arith; obeyed = obeyed_none _ _ [] _ _ c.new-line.ensures }
 
 pub returns-in_default-clause-ends : goal.returns-in_default-clause-ends
 returns-in_default-clause-ends g c =
@@ -66,9 +67,60 @@ loop-reads-preserved g c =
     let i = c.loop-reads.invariant in
     let step = rw c.in-Ok-false.field-0-test at c.in-Ok-false.ensures.ok in
     let n = c.in-Ok.count in
+    let whole : length c.read.new.buf ≡ 4096 = search rules in
     record {
       bytes = i.bytes ++ take n c.read.new.buf;
       read = consumes-consumes _ _ _ i.bytes (take n c.read.new.buf) i.read c.in-Ok.ensures.bytes.0;
       many = omega (arith, i.many, length-append i.bytes (take n c.read.new.buf), length-take n c.read.new.buf, c.in-Ok.ensures.bound, c.in-Ok.count-test);
+      most = omega (arith, i.most, whole, length-append i.bytes (take n c.read.new.buf), length-take n c.read.new.buf);
       obeyed = obeyed_more false _ _ _ _ _ _ _ _ _ i.bytes (take n c.read.new.buf) c.loop-reads.line c.obey_part.new.line i.obeyed step;
     }
+
+pub returns-in_default-clause-reads : goal.returns-in_default-clause-reads
+returns-in_default-clause-reads g c =
+    let i = c.loop-reads.invariant in
+    let none = rw c.in-Ok-eq0.field-0-test at c.in-Ok-eq0.ensures.bytes.0 in
+    let all = consumes-consumes _ _ _ i.bytes [] i.read none in
+    let most : length i.bytes + 0 ≤ 2 ^ 44 = omega (arith, i.most, c.loop-reads-test.true) in
+    reads_to _ _ _ _ _ _ _ _ i.bytes [] c.loop-reads.line all (omega arith) most i.obeyed
+
+pub returns-in-Ok-eq0-clause-reads : goal.returns-in-Ok-eq0-clause-reads
+returns-in-Ok-eq0-clause-reads g c =
+    let i = c.loop-reads.invariant in
+    let none = rw c.in-Ok-eq0.field-0-test at c.in-Ok-eq0.ensures.bytes.0 in
+    let all = consumes-consumes _ _ _ i.bytes [] i.read none in
+    let most : length i.bytes + 0 ≤ 2 ^ 44 = omega (arith, i.most, c.loop-reads-test.true) in
+    reads_to _ _ _ _ _ _ _ _ i.bytes [] c.loop-reads.line all (omega arith) most i.obeyed
+
+pub returns-in-Err-obey_part-clause-reads : goal.returns-in-Err-obey_part-clause-reads
+returns-in-Err-obey_part-clause-reads g c =
+    let i = c.loop-reads.invariant in
+    let n = c.in-Ok.count in
+    let whole : length c.read.new.buf ≡ 4096 = search rules in
+    let all = consumes-consumes _ _ _ i.bytes (take n c.read.new.buf) i.read c.in-Ok.ensures.bytes.0 in
+    let short : length (take n c.read.new.buf) ≤ 4096 = omega (arith, whole, length-take n c.read.new.buf) in
+    let most : length i.bytes + length (take n c.read.new.buf) ≤ 2 ^ 44 = omega (arith, i.most, short, c.loop-reads-test.true) in
+    reads_to _ _ _ _ _ _ _ _ i.bytes (take n c.read.new.buf) c.loop-reads.line all short most i.obeyed
+
+pub returns-in-Ok-true-clause-reads : goal.returns-in-Ok-true-clause-reads
+returns-in-Ok-true-clause-reads g c =
+    let i = c.loop-reads.invariant in
+    let n = c.in-Ok.count in
+    let whole : length c.read.new.buf ≡ 4096 = search rules in
+    let all = consumes-consumes _ _ _ i.bytes (take n c.read.new.buf) i.read c.in-Ok.ensures.bytes.0 in
+    let short : length (take n c.read.new.buf) ≤ 4096 = omega (arith, whole, length-take n c.read.new.buf) in
+    let most : length i.bytes + length (take n c.read.new.buf) ≤ 2 ^ 44 = omega (arith, i.most, short, c.loop-reads-test.true) in
+    reads_to _ _ _ _ _ _ _ _ i.bytes (take n c.read.new.buf) c.loop-reads.line all short most i.obeyed
+
+pub returns-in-Err-clause-reads : goal.returns-in-Err-clause-reads
+returns-in-Err-clause-reads g c =
+    let i = c.loop-reads.invariant in
+    let all = consumes-consumes _ _ _ i.bytes [] i.read (consumes_kept _ _ c.in-Err.ensures.bytes) in
+    let most : length i.bytes + 0 ≤ 2 ^ 44 = omega (arith, i.most, c.loop-reads-test.true) in
+    reads_to _ _ _ _ _ _ _ _ i.bytes [] c.loop-reads.line all (omega arith) most i.obeyed
+
+pub returns-clause-reads : goal.returns-clause-reads
+returns-clause-reads g c =
+    let i = c.loop-reads.invariant in
+    let most : length i.bytes + 0 ≤ 2 ^ 44 = omega (arith, i.most, c.loop-reads.auto.reads-end) in
+    reads_to _ _ _ _ _ _ _ _ i.bytes [] c.loop-reads.line (consumes-consumes _ _ _ i.bytes [] i.read (consumes_none _)) (omega arith) most i.obeyed
