@@ -58,9 +58,13 @@ along_none code unit total trace clock w ws rest hash read along =
     let k = on_level code unit (units_of unit clock) (w ∷ ws) w ws rest None refl hash read in
     (along.0, record { time = i.time; late = i.late; follows = i.follows; rest = ap (behind along.0) (sym k) ∙ i.rest })
 
-pub along_fault : (code : List ℕ) (unit : ℕ) (total : Result (List Change × ℕ) VcdFault) (trace : Trace) (clock : Clock) (w : Word) (ws : List Word) (e : VcdFault)
-    → is_hash w.kind ≡ false → level_read w.kind code w ws ≡ Err e → Along code unit total trace clock (w ∷ ws) → IsFaultOf e total
-along_fault code unit total trace clock w ws e hash read along =
+pub along_err : (code : List ℕ) (unit : ℕ) (total : Result (List Change × ℕ) VcdFault) (trace : Trace) (clock : Clock) (w : Word) (ws : List Word) (e : VcdFault)
+    → is_hash w.kind ≡ false → level_read w.kind code w ws ≡ Err e → Along code unit total trace clock (w ∷ ws) → total ≡ Err e
+along_err code unit total trace clock w ws e hash read along =
     let k = on_word code unit (units_of unit clock) (w ∷ ws) w ws refl hash in
     let fault = k ∙ ap (goes_on code unit (units_of unit clock)) read in
-    fails_now e total (sym along.1.rest ∙ ap (behind along.0) fault)
+    sym along.1.rest ∙ ap (behind along.0) fault
+
+pub along_fault : (code : List ℕ) (unit : ℕ) (total : Result (List Change × ℕ) VcdFault) (trace : Trace) (clock : Clock) (w : Word) (ws : List Word) (e : VcdFault)
+    → is_hash w.kind ≡ false → level_read w.kind code w ws ≡ Err e → Along code unit total trace clock (w ∷ ws) → IsFaultOf e total
+along_fault code unit total trace clock w ws e hash read along = fails_now e total (along_err code unit total trace clock w ws e hash read along)

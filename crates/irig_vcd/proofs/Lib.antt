@@ -40,3 +40,4 @@ pub mod ReadBack
 pub mod WrittenJournal
 -- Known values.
 pub mod StandardFacts
+pub mod StillWires

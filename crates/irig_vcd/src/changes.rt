@@ -1,17 +1,18 @@
 //! The changes of a wire.
 
-ghost use Rattle.std.specs.Prelude.{◌≡◌, ◌≤◌, ◌<◌, true, ◌^◌, ◌∷◌, ℕ, List, Result, length, IfOk, IfErr, OnOk};
+ghost use Rattle.std.specs.Prelude.{◌≡◌, ◌≤◌, ◌<◌, true, ◌^◌, ◌∷◌, ℕ, List, Result, length, [], Err, IfOk, IfErr, OnOk, OnErr};
 ghost use Rattle.irig_vcd.specs.Code.Token.{kind_view, word_of};
 ghost use Rattle.irig_vcd.specs.Answer.{IsFaultOf};
 ghost use Rattle.irig_vcd.specs.Words.{rest_of, is_code};
-ghost use Rattle.irig_vcd.specs.Changes.{changes_from};
+ghost use Rattle.irig_vcd.specs.Changes.{changes_from, IsStill};
 ghost use Rattle.irig_vcd.specs.Code.Event.{is_hash};
-ghost use Rattle.irig_vcd.specs.Code.Trace.{KeepsEdges};
+ghost use Rattle.irig_vcd.specs.Code.Trace.{Follows, KeepsEdges};
 ghost use Rattle.irig_vcd.specs.Code.Along.{Along};
 ghost use Rattle.irig_vcd.specs.Code.Time.{IsTime, units_of};
 ghost use Rattle.irig_vcd.specs.Level.{Change};
 ghost use Rattle.irig_vcd.specs.Times.{micros_of};
 ghost use Rattle.irig_vcd.specs.declared.fault.VcdFault.{VcdFault};
+ghost use Rattle.irig_vcd.specs.declared.fault.VcdFault.TheVariants.{OutOfMemory};
 ghost use Rattle.irig_vcd.specs.Code.Journals.{Holds, KeepsJournals};
 ghost use Rattle.irig_vcd.specs.Events.{any_word};
 ghost use Rattle.irig_vcd.specs.Journals.{journals_among};
@@ -83,6 +84,7 @@ fn ahead(
         → Along code.now unit total trace.new now tokens.new) }
     ensures fewer { length tokens.new ≤ length tokens.old }
     ensures journals { journals_among tokens.old ≡ journals_among tokens.new }
+    ensures memory { OnErr result (Follows [] trace.old → ⊥) }
 {
     if is_quick && trace.has_fallen() {
         let whole = pulses(tokens, code[0], clock.whole, trace)?;
@@ -114,6 +116,9 @@ fn take(
     ensures fault { IfErr result (λ e. (total : Result (List Change × ℕ) VcdFault)
         → Along code.now unit total trace.old clock (word_of token.entry ∷ tokens.old)
         → IsFaultOf e total) }
+    ensures memory { result ≡ Err OutOfMemory → (total : Result (List Change × ℕ) VcdFault)
+        → Along code.now unit total trace.old clock (word_of token.entry ∷ tokens.old)
+        → IsStill total → ⊥ }
 {
     if is_hash(token.kind) {
         return time(unit, clock, digits_of(token.slice), token.offset);
@@ -145,6 +150,8 @@ pub fn changes(
         (changes_from any_word code.now unit 0 tokens.old) }
     ensures journals { IfOk result (λ x. Holds (journals_among tokens.old) x.journals) }
     ensures short { IfOk result (λ x. x.end ≤ 2 ^ 40) }
+    ensures memory { result ≡ Err OutOfMemory →
+        IsStill (changes_from any_word code.now unit 0 tokens.old) → ⊥ }
 {
     let is_plain = is_plain(code);
     let is_quick = is_quick(is_plain, unit, code);

@@ -1,6 +1,7 @@
 //! The journals of a dump, by their places.
 
-ghost use Rattle.std.specs.Prelude.{◌≡◌, ◌≤◌, ◌++◌, ◌∷◌, [], List, None, OnOk, IfOk, IfSome};
+ghost use Rattle.std.specs.Prelude.{◌≡◌, ◌≤◌, ◌++◌, ◌∷◌, [], List, None, OnOk, IfErr, IfOk, IfSome};
+ghost use Rattle.irig_vcd.specs.declared.fault.VcdFault.TheVariants.{BadJournal};
 ghost use Rattle.std.specs.Prelude.{codes, filter, length, map};
 ghost use Rattle.std.specs.Str.{bytes_eq};
 ghost use Rattle.irig_vcd.specs.Answer.{Gives, name_of};
@@ -82,6 +83,7 @@ impl Journals {
         requires within { LiesIn source.now self }
         ensures one { (all : List Comment) → Holds all self
             → Gives name_of result (one_journal (map (text_of source.now) all)) }
+        ensures told { IfErr result (λ e. e ≡ BadJournal 1) }
         ensures short { IfOk result
             (λ text. IfSome text (λ t. length t.now ≤ length source.now)) }
     {

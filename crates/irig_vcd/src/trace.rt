@@ -40,6 +40,7 @@ impl Trace {
             ((changes : List Change) → Follows changes self.old → Follows changes self.new) }
         ensures time { OnOk result (self.new.time ≡ time) }
         ensures refused { OnErr result (length self.old.edges.items ≤ 2 ^ 23) }
+        ensures memory { OnErr result (Follows [] self.old → ⊥) }
     {
         if time <= self.time {
             return Ok(());
@@ -58,6 +59,7 @@ impl Trace {
             → Follows (changes ++ change time high ∷ []) self.new) }
         ensures time { OnOk result (self.new.time ≡ time) }
         ensures refused { OnErr result (length self.old.edges.items ≤ 2 ^ 23) }
+        ensures memory { OnErr result (Follows [] self.old → ⊥) }
     {
         self.advance(time)?;
         self.now = high;
@@ -102,9 +104,10 @@ impl Trace {
     /// The edges of a recording that ends at a time.
     pub fn finish(mut self, end: u64) -> Result<Vec<u64>, AllocError>
         requires { self.time ≤ end }
-        ensures { IfOk result
+        ensures edges { IfOk result
             (λ edges. (changes : List Change) → Follows changes self
             → edges.items ≡ take edges_kept (edges_up_to changes end)) }
+        ensures memory { OnErr result (Follows [] self → ⊥) }
     {
         self.advance(end)?;
         keep(&mut self.edges, self.before, end)?;

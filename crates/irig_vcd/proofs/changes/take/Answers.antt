@@ -2,7 +2,8 @@ use Rattle.std.proofs.Common.{◌≡◌, ◌∷◌, true, false, Some, None, Ok,
 use Rattle.std.proofs.lemmas.Result.{err_from_is_err_and}
 use Rattle.irig_vcd.specs.Code.Event.{is_hash, level_read}
 use Rattle.irig_vcd.specs.Code.Token.{word_of}
-use Rattle.irig_vcd.proofs.AlongSteps.{along_time, along_level, along_none, along_fault}
+use Rattle.irig_vcd.proofs.AlongSteps.{along_time, along_level, along_none, along_err, along_fault}
+use Rattle.irig_vcd.proofs.StillWires.{along_still, no_end}
 use Rattle.irig_vcd.proofs.changes.take.Goals as goal
 
 pub returns-then-is_hash-clause-along : goal.returns-then-is_hash-clause-along
@@ -30,3 +31,13 @@ returns-in_default-clause-along c =
     let is : c.in_ok-high.field-0 ≡ None = search rules in
     let read : level_read (word_of c.args.token).kind c.args.code.now (word_of c.args.token) c.args.tokens.now ≡ Ok (None, c.take_level.new.tokens) = rw (← is) c.in_ok-high.ensures.exact in
     λ total. along_none c.args.code.now c.args.unit total c.args.trace.now c.args.clock (word_of c.args.token) c.args.tokens.now c.take_level.new.tokens hash read
+
+pub returns-in_err-high-clause-memory : goal.returns-in_err-high-clause-memory
+returns-in_err-high-clause-memory c = λ memory total along still.
+    let hash : is_hash (word_of c.args.token).kind ≡ false = search rules in
+    let fails = along_err c.args.code.now c.args.unit total c.args.trace.now c.args.clock (word_of c.args.token) c.args.tokens.now c.in_err-high.field-0.0 hash c.in_err-high.ensures.exact along in
+    no_end total c.in_err-high.field-0.0 fails still
+
+pub returns-in_err-put-clause-memory : goal.returns-in_err-put-clause-memory
+returns-in_err-put-clause-memory c = λ memory total along still.
+    c.in_err-put.ensures.memory (along_still c.args.code.now c.args.unit total c.args.trace.now c.args.clock (word_of c.args.token ∷ c.args.tokens.now) along still)
