@@ -2,3 +2,4 @@ pub mod WholeReads
 pub mod PutsAt
 pub mod RunsBy
 pub mod Moves
+pub mod Commands

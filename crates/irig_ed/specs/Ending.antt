@@ -9,6 +9,7 @@ use Rattle.irig_script.specs.declared.obey.status.Status.{Status}
 use Rattle.irig_script.specs.declared.obey.dump_run.DumpRunFault.{DumpRunFault}
 use Rattle.irig_ed.specs.CommandLine.Settings.{Reads}
 use Rattle.irig_ed.specs.Files.Puts.{Put, texts_at}
+use Rattle.irig_ed.specs.Statuses.{HasStatus}
 use Rattle.irig_ed.specs.declared.command_line.chosen.Settings.{Settings}
 use Rattle.irig_ed.specs.declared.ending.Ending.{Ending}
 use Rattle.irig_ed.specs.declared.ending.Ending.TheVariants.{Usage, Unread, Ran}
@@ -51,3 +52,10 @@ abbrev pub EndsBy : List Text → (List ℕ → Option (List ℕ)) → Ends → 
 EndsBy words held old new (Usage fault) = Reads words (Err fault) × (new ≡ old)
 EndsBy words held old new ending =
     (chosen : Settings) × Reads words (Ok chosen) × Obeys held old new chosen ending
+
+-- the words were obeyed, and the status of the process is the one of how that ended
+pub record Serves (words : List Text) (held : List ℕ → Option (List ℕ)) (old new : Ends)
+    (status : ℕ) : Type 0 where
+  pub ending : Ending
+  pub obeyed : EndsBy words held old new ending
+  pub told : HasStatus ending status

@@ -1,6 +1,6 @@
 //! A script run on the file of a dump, as the words of a command line ask.
 
-ghost use Rattle.std.specs.Prelude.{◌≡◌, ◌≤◌, ◌^◌, map, option_map, vec_len};
+ghost use Rattle.std.specs.Prelude.{◌≡◌, ◌≤◌, ◌^◌, map, option_map, string_bytes, vec_len};
 ghost use Rattle.irig_ed.specs.Ending.{RunsBy, EndsBy, Obeys, ends};
 
 use crate::command_line::chosen::Settings;
@@ -16,12 +16,12 @@ use std::io::{Read, Write};
 /// first.
 pub fn obey_words<'a, D: Disk, R: Read, W: Write>(
     alloc: Global,
-    words: &'a [&'a str],
+    words: &'a [String],
     disk: &mut D,
     script: &mut R,
     out: &mut W,
 ) -> Ending<'a>
-    ensures { EndsBy (map (λ w. w.now) words.entry.now) (D.held disk.old)
+    ensures { EndsBy (map string_bytes words.entry.now) (D.held disk.old)
         (ends (W.contents out.old) (D.puts disk.old) (R.remaining script.old))
         (ends (W.contents out.new) (D.puts disk.new) (R.remaining script.new)) result }
 {

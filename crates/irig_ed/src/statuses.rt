@@ -1,8 +1,8 @@
 //! The statuses of the program as a process, and what it says of faults.
 
-ghost use Rattle.std.specs.Prelude.{◌≡◌};
+ghost use Rattle.std.specs.Prelude.{◌≡◌, ◌⊎◌};
 ghost use Rattle.std.specs.Process.{exit_status};
-ghost use Rattle.irig_ed.specs.Statuses.{IsMistake, HasStatus, status_number};
+ghost use Rattle.irig_ed.specs.Statuses.{IsHelp, IsMistake, HasStatus, status_number, unread_text};
 
 use crate::command_line::chosen::UsageFault;
 use crate::ending::Ending;
@@ -33,7 +33,8 @@ pub fn tell<R: Eprint, T: Display>(rt: &R, why: &T) -> ExitCode
 
 /// Prints what `clap` says: help on the standard output, a mistake on the standard error.
 pub fn explain<R: Print + Eprint>(rt: &R, error: &clap::Error) -> ExitCode
-    ensures { IsMistake error.now → exit_status result ≡ 2 }
+    ensures mistake { IsMistake error.now → exit_status result ≡ 2 }
+    ensures help { IsHelp error.now → (exit_status result ≡ 0) ⊎ (exit_status result ≡ 4) }
 {
     match error.print(rt) {
         _ if error.use_stderr() => ExitCode::from(2),
@@ -46,13 +47,20 @@ pub fn explain<R: Print + Eprint>(rt: &R, error: &clap::Error) -> ExitCode
 fn tell_unread<R: Eprint>(rt: &R, name: &str, fault: DumpFileFault) -> ExitCode
     ensures { exit_status result ≡ 3 }
 {
-    let why = match fault {
+    let why = unread_text(fault);
+    let _ = eprintln!(rt; "irig_ed: {name}: {why}");
+    ExitCode::from(3)
+}
+
+/// What the program says of a track that it did not read.
+fn unread_text<'a>(fault: DumpFileFault) -> &'a str
+    ensures { result.now ≡ unread_text fault }
+{
+    match fault {
         DumpFileFault::CannotBeRead => "cannot be read",
         DumpFileFault::TooLong => "too long",
         DumpFileFault::OutOfMemory => "V14 OutOfMemory",
-    };
-    let _ = eprintln!(rt; "irig_ed: {name}: {why}");
-    ExitCode::from(3)
+    }
 }
 
 /// The exit status for how a run ended; a fault is told on the standard error.

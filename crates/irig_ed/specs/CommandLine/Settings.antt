@@ -7,7 +7,7 @@ use Rattle.irig_codes.specs.Format.{is_permitted}
 use Rattle.irig_codes.specs.Words.{kind_named}
 use Rattle.irig_codes.specs.declared.format.Kind.{Kind}
 use Rattle.irig_codes.specs.declared.format.Kind.TheVariants as kind
-use Rattle.irig_ed.specs.CommandLine.Options.{IsParsed}
+use Rattle.irig_ed.specs.CommandLine.Options.{IsParsed, MayRefuse, WantsMemory}
 use Rattle.irig_ed.specs.declared.command_line.chosen.Settings.{Settings}
 use Rattle.irig_ed.specs.declared.command_line.chosen.UsageFault.{UsageFault}
 use Rattle.irig_ed.specs.declared.command_line.chosen.UsageFault.TheVariants as fault
@@ -40,15 +40,15 @@ pub record AreValues (f : Found) (s : Settings) : Type 0 where
 abbrev pub is_chosen_format : Found → Bool
 is_chosen_format f = is_permitted (kind_of f) (expression_of f)
 
--- the answer is that of the matches
+-- the answer is that of the matches; an error is want of memory
 abbrev pub Chooses : Found → Result Settings UsageFault → Type 0
 Chooses f (Ok s) = AreValues f s × (is_chosen_format f ≡ true)
 Chooses f (Err fault.BadExpression) = is_chosen_format f ≡ false
-Chooses f (Err (fault.Words error)) = Unit {0}
+Chooses f (Err (fault.Words error)) = WantsMemory error
 
 -- there are matches that a parse of the words may give, and the answer is theirs; or the error is
--- one of the parse
+-- one that the parse may give
 abbrev pub Reads : List Text → Result Settings UsageFault → Type 0
-Reads words (Err (fault.Words error)) = Unit {0}
+Reads words (Err (fault.Words error)) = MayRefuse words error
 Reads words result =
     (matches : ArgMatches) × IsParsed words matches × Chooses (found_of matches) result

@@ -1,8 +1,8 @@
 //! The command line, read by `clap`.
 
-ghost use Rattle.std.specs.Prelude.{◌≡◌, IfOk, None, false, map};
+ghost use Rattle.std.specs.Prelude.{◌≡◌, IfErr, IfOk, None, false, map, string_bytes};
 ghost use Rattle.clap.specs.Words.{app_of, found_of, rule_of};
-ghost use Rattle.irig_ed.specs.CommandLine.Options.{IsCommand, IsReading, IsChoice, IsParsed, option, track};
+ghost use Rattle.irig_ed.specs.CommandLine.Options.{IsCommand, IsReading, IsChoice, IsParsed, MayRefuse, option, track};
 ghost use Rattle.irig_ed.specs.Statuses.{IsMistake};
 ghost use Rattle.irig_ed.specs.CommandLine.Settings.{Chooses, Reads, digit_named, kind_or_b};
 
@@ -17,8 +17,8 @@ static LETTERS: [&str; 4] = ["A", "B", "E", "G"];
 static DIGITS: [&str; 8] = ["0", "1", "2", "3", "4", "5", "6", "7"];
 
 /// What the words of a command line ask for, the program's name being the first.
-pub fn settings<'a>(alloc: Global, words: &'a [&'a str]) -> Result<Settings<'a>, UsageFault>
-    ensures { Reads (map (λ w. w.now) words.entry.now) result }
+pub fn settings<'a>(alloc: Global, words: &'a [String]) -> Result<Settings<'a>, UsageFault>
+    ensures { Reads (map string_bytes words.entry.now) result }
 {
     match parse_words(alloc, words) {
         Ok(matches) => chosen_of(&matches),
@@ -84,8 +84,9 @@ fn digit_named(text: &str) -> u8
 }
 
 /// The matches of a command line that is accepted.
-fn parse_words<'a>(alloc: Global, words: &'a [&'a str]) -> Result<ArgMatches<'a>, Error>
-    ensures { IfOk result (IsParsed (map (λ w. w.now) words.entry.now)) }
+fn parse_words<'a>(alloc: Global, words: &'a [String]) -> Result<ArgMatches<'a>, Error>
+    ensures parsed { IfOk result (IsParsed (map string_bytes words.entry.now)) }
+    ensures refused { IfErr result (MayRefuse (map string_bytes words.entry.now)) }
 {
     command(alloc)?.try_get_matches_from(words)
 }

@@ -4,7 +4,7 @@ use Rattle.clap.specs.declared.parser.matches.ArgMatches.{ArgMatches}
 use Rattle.irig_ed.specs.declared.command_line.chosen.Settings.{Settings}
 use Rattle.irig_ed.specs.declared.command_line.chosen.UsageFault.{UsageFault}
 use Rattle.irig_ed.specs.declared.command_line.chosen.UsageFault.TheVariants as fault
-use Rattle.std.proofs.Common.{List}
+use Rattle.std.proofs.Common.{List, inl}
 use Rattle.irig_ed.specs.CommandLine.Options.{IsParsed}
 use Rattle.irig_ed.specs.CommandLine.Settings.{Chooses, Reads}
 use Rattle.irig_ed.proofs.command_line.command_line.settings.Goals as goal
@@ -12,7 +12,7 @@ use Rattle.irig_ed.proofs.command_line.command_line.settings.Goals as goal
 reads_of : (words : List Text) (m : ArgMatches) (r : Result Settings UsageFault) → IsParsed words m → Chooses (found_of m) r → Reads words r
 reads_of words m (Ok s) p h = (m, p, h)
 reads_of words m (Err fault.BadExpression) p h = (m, p, h)
-reads_of words m (Err (fault.Words e)) p h = tt
+reads_of words m (Err (fault.Words e)) p h = inl h
 
 pub returns-in-Ok : goal.returns-in-Ok
-returns-in-Ok c = reads_of _ c.in-Ok.matches c.chosen_of.result c.in-Ok.ensures c.chosen_of.ensures
+returns-in-Ok c = reads_of _ c.in-Ok.matches c.chosen_of.result c.in-Ok.ensures.parsed c.chosen_of.ensures

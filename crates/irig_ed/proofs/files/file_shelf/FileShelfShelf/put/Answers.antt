@@ -1,19 +1,17 @@
-use Rattle.std.proofs.Common.{rules, refl, arith}
+use Rattle.std.proofs.Common.{refl, arith}
 use Rattle.irig_ed.proofs.PutsAt.{texts_at-put, texts_at-none}
 use Rattle.irig_ed.proofs.files.file_shelf.FileShelfShelf.put.Goals as goal
 
 pub returns-in-Ok-clause-ok : goal.returns-in-Ok-clause-ok
 returns-in-Ok-clause-ok g c = record {
   put = texts_at-put c.args.self.now.path.now c.args.text.now (g.D.Disk.puts c.args.self.now.disk.now) (g.D.Disk.puts c.put.new.self) c.in-Ok.ensures.ok;
-  failed = search rules;
-  quiet = λ z. refl;
+  failed = omega arith;
   label = refl;
 }
 
 pub returns-in-Err-clause-err : goal.returns-in-Err-clause-err
 returns-in-Err-clause-err g c = record {
   put = texts_at-none c.args.self.now.path.now (g.D.Disk.puts c.args.self.now.disk.now) (g.D.Disk.puts c.put.new.self) c.in-Err.ensures.err;
-  failed = search rules;
-  quiet = λ z. absurd (omega (arith, z));
+  failed = omega arith;
   label = refl;
 }
