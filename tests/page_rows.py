@@ -61,5 +61,6 @@ def recording(frames: int, count: int, name: str = "track.vcd") -> Sheet:
 
 def hostile() -> Sheet:
     """A recording all of whose texts try to get out of the page."""
-    told = dataclasses.replace(place(0, 50), title=HOSTILE, reason=HOSTILE, frame=HOSTILE, lines=(HOSTILE,))
-    return dataclasses.replace(recording(3, 1, HOSTILE), places=(told,), script=(HOSTILE,), notes=(HOSTILE,))
+    spoilt = dataclasses.replace(place(0, 50), title=HOSTILE, reason=HOSTILE, frame=HOSTILE, lines=(HOSTILE,))
+    sheet = recording(3, 1, HOSTILE)
+    return dataclasses.replace(sheet, places=(spoilt,), script=(HOSTILE,), notes=(HOSTILE,))

@@ -15,7 +15,8 @@ from .texts import counted, escaped, plain, seconds
 FILES = Path(__file__).resolve().parent
 CODE = ("page_time.js", "page_strip.js", "page_wave.js", "page_place.js", "page.js")
 MOST = 2000                             # places that a page holds
-PULSES = 40000                          # pulses that a page holds, about, if there are many places
+PULSES = 30000                          # pulses that a page holds, about
+CAPS = (400, 200, 100, 60, 40)          # and how many of one waveform: the first that keeps to that
 DIGITS = "0123456789abcdefghijklmnopqrstuvwxyz"
 
 
@@ -59,7 +60,7 @@ def legend(sheet: Sheet) -> Iterator[str]:
 def data(sheet: Sheet, most: int) -> str:
     """All that the code shows, as JSON that can be part of a page."""
     places = sheet.places[:most]
-    pulses = max(40, min(200, PULSES // max(1, 2 * len(places))))
+    pulses = cap([len(wave) for place in places for wave in (place.before, place.after or ())])
     starts = parts_of(sheet.script, places)
     found = {
         "length": max(1, sheet.length),
@@ -71,6 +72,12 @@ def data(sheet: Sheet, most: int) -> str:
     }
     words = json.dumps(found, ensure_ascii=False, separators=(",", ":"))
     return words.replace("<", "\\u003c").replace("\u2028", "\\u2028").replace("\u2029", "\\u2029")
+
+
+def cap(lengths: Sequence[int]) -> int:
+    """How many pulses of a waveform a page holds, if it has waveforms of these lengths."""
+    fits = (most for most in CAPS if sum(min(length, most) for length in lengths) <= PULSES)
+    return next(fits, CAPS[-1])
 
 
 def place_data(sheet: Sheet, place: Place, start: int, pulses: int) -> dict[str, object]:
@@ -98,7 +105,7 @@ def parts_of(script: Sequence[str], places: Sequence[Place]) -> list[int]:
 
 
 def part_of(script: Sequence[str], lines: Sequence[str], numbers: dict[str, list[int]]) -> int:
-    """Where some lines begin in the script. Their rarest line is looked for first, and is found once only."""
+    """Where some lines begin in the script. Their rarest line is looked for first."""
     if not lines:
         return -1
     rarest = min(range(len(lines)), key=lambda index: len(numbers.get(lines[index], ())))
@@ -106,6 +113,7 @@ def part_of(script: Sequence[str], lines: Sequence[str], numbers: dict[str, list
         start = number - rarest
         if start >= 0 and tuple(script[start:start + len(lines)]) == tuple(lines):
             numbers[lines[rarest]].remove(number)
+            numbers[lines[rarest]].append(number)       # the next place with the same lines has the next ones
             return start
     return -1
 
@@ -135,7 +143,7 @@ def strip_words(sheet: Sheet) -> str:
 def wave_words(wave: Wave, most: int) -> str:
     """The pulses, each as the time since the fall before it, the letter of its class, and its width.
 
-    If there are too many, those in the middle are left out, and a star and their number stand there instead.
+    If there are too many, those in the middle are left out, and a star and their number are there instead.
     """
     skipped = range(most * 3 // 4, len(wave) - most // 4) if len(wave) > most else range(0)
     words, last = [], 0

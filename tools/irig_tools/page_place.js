@@ -14,7 +14,7 @@ function times(place) {
 function shownPlace(place) {
   const picture = draw("svg", {class: "waves", role: "img", "aria-label": describe(place)});
   const facts = [make("p", {class: "times"}, times(place))];
-  if (place.frame) facts.push(make("p", {}, "In " + place.frame));
+  if (!place.reason.includes(place.frame)) facts.push(make("p", {}, "In " + place.frame));
   facts.push(make("p", {class: "reason"}, place.reason));
   const open = "No repair is proposed: this place is left to you.";
   if (!place.after && held.script.length) facts.push(make("p", {class: "open"}, open));

@@ -109,14 +109,14 @@ function paintWave(view, place) {
 }
 
 // Which classes a waveform has, for readers who cannot see it.
-function told(wave) {
+function classesOf(wave) {
   const words = wave.map((pulse) => pulse.kind ? SIGNS[pulse.kind] : `(${pulse.count} not shown)`);
   return words.join(" ") || "no pulse";
 }
 
 function describe(place) {
-  const before = "Classes as it is: " + told(place.before);
-  return place.after ? before + ". After the repair: " + told(place.after) : before;
+  const before = "Classes as it is: " + classesOf(place.before);
+  return place.after ? before + ". After the repair: " + classesOf(place.after) : before;
 }
 
 // The pulses before and after as one list, each with what becomes of it.

@@ -97,7 +97,7 @@ def place_blocks(sheet: Sheet, number: int, place: Place) -> Iterator[Block]:
     times = "from %s to %s" % (seconds(place.at), seconds(place.end))
     yield 30, [rule, text(LEFT, 25, 14, words, "start", ' font-weight="bold"'),
                text(RIGHT, 25, 12, times, "end")]
-    yield from lines_of([words for words in (place.frame, place.reason) if words])
+    yield from lines_of([place.reason] if place.frame in place.reason else [place.frame, place.reason])
     yield waveforms(sheet, place)
 
 
