@@ -1,1 +1,1 @@
-"""What irig_damage and irig_mend are made of: find and mend damage of recorded time code by irig_ed's answers."""
+"""What irig_damage and irig_mend are made of: they find and mend damage of recordings by what irig_ed says."""
