@@ -236,7 +236,7 @@ def threshold(rng, pulses, interval):
     shorter)."""
     by = rng.choice((rng.randint(8, 25), -rng.randint(8, 16))) * interval // 100
     for at, pulse in enumerate(pulses):
-        end = pulses[at + 1][0] - 1 if at + 1 < len(pulses) else pulse[1] + by
+        end = pulses[at + 1][0] - 1 if at + 1 < len(pulses) else pulse[0] + interval - 2
         pulse[1] = min(pulse[1] + by, max(end, pulse[0] + 1))
 
 

@@ -192,6 +192,18 @@ def starts(name, got, wanted):
     return good or same(name, got, wanted)
 
 
+def gives_back(name, change, length):
+    """Whether the script that is proposed gives back the recording, and is empty if nothing is damaged."""
+    pulses = recording()
+    change(pulses)
+    with tempfile.TemporaryDirectory() as folder:
+        opened = editor.Editor(["--expression", "4", written(folder, pulses, length)])
+        script = mend.propose(opened, lambda text: None)
+        after = opened.ask([repair.lines() for repair in script])
+    good = same(name + ", mended", list(zip(after.rises, after.falls)), [tuple(each) for each in recording()])
+    return good and same(name + ", a script", bool(script), name != "a sound recording")
+
+
 def larger_rows():
     """Rows that are not the eight frames with one change."""
     leap = recording(10, leap=True)
@@ -321,4 +333,5 @@ def no_line_refused(top):
 def check(top):
     """Whether each row holds."""
     results = [row(*each) for each in ROWS]
+    results += [gives_back(name, change, length) for name, change, length, _ in ROWS[:9]]
     return results + list(larger_rows()) + list(processes(top)) + list(no_line_refused(top))

@@ -1,2 +1,1 @@
-"""What irig_damage and irig_mend are made of: find and mend damage of recorded time code by the answers of
-irig_ed."""
+"""What irig_damage and irig_mend are made of: they find and mend damage by what irig_ed says of a track."""

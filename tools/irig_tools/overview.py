@@ -44,9 +44,9 @@ def _place(seen: Seen, damage: Damage, script: Sequence[Repair], after: Optional
         wave = tuple((rise - moved, fall - moved, name) for rise, fall, name in cut_out)
     listing = seen.listing
     before = cut(listing.rises, listing.falls, listing.classes, start, end)
-    reason = damage.line().partition(" ")[2]
+    title = damage.seen.partition(";")[0]
     return Place(
-        damage.at, max(damage.until, damage.at), damage.seen, reason, before, wave, lines, damage.name
+        damage.at, max(damage.until, damage.at), title, damage.seen, before, wave, lines, damage.name
     )
 
 

@@ -55,7 +55,8 @@ def _why_not(faults: Faults, zone: Zone) -> str:
         return "the recording is too short to move the rest back"
     classes = faults.track.classes
     sure = all(tells_phase(classes[run.first:run.last + 1]) for run in (zone.left, zone.right))
-    if zone.late > MOST_LATE * zone.interval and zone.right.step > 1 and not sure:
+    timed = any(100 * number + 99 <= zone.first for number, _ in faults.times.read)
+    if zone.late > MOST_LATE * zone.interval and zone.right.step > 1 and not (sure and timed):
         return "that is too uncertain to move the rest"
     return ""
 
