@@ -179,9 +179,11 @@ def ends(top):
     """Help, folders, files that are not there, a reader that goes away."""
     with tempfile.TemporaryDirectory() as folder:
         whole = subprocess.run([top + "/tools/irig_wire"], stderr=subprocess.DEVNULL, check=False)
-        return [whole.returncode == 2, run("irig_wire", ["--help"])[0] == 0, run("irig_wire", [])[0] == 2, run("irig_wire", [folder])[0] == 2,
+        unread = subprocess.run(["bash", "-c", "%s/tools/irig_wire --help | true" % top], check=False)
+        return [whole.returncode == 2, run("irig_wire", ["--help"])[0] == 0,
+                run("irig_wire", [])[0] == 2, run("irig_wire", [folder])[0] == 2,
                 run("irig_wire", [folder + "/none"])[0] == 2,
-                subprocess.run(["bash", "-c", "%s/tools/irig_wire --help | true" % top], check=False).returncode == 0]
+                unread.returncode == 0]
 
 
 def check(top):

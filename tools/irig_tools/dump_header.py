@@ -106,7 +106,8 @@ class Reader:
     def _declare(self, section: bytes, words: List[bytes]) -> None:
         if section == b"$timescale":
             text = b"".join(words)
-            self.header.unit = text.decode("latin-1") if b"\xb5" in text and b"\xc2" not in text else shown(text)
+            greek = b"\xb5" in text and b"\xc2" not in text  # in Latin-1
+            self.header.unit = text.decode("latin-1") if greek else shown(text)
         elif section == b"$scope":
             self.scopes.append(shown(words[1] if len(words) > 1 else b"?"))
         elif section == b"$upscope" and self.scopes:

@@ -2,8 +2,10 @@
 from __future__ import annotations
 
 import subprocess
+import tempfile
+from contextlib import contextmanager
 from dataclasses import dataclass, field
-from typing import IO, List, Optional, Sequence, Set
+from typing import IO, Iterator, List, Optional, Sequence, Set
 
 from .editor import Problem, find_editor
 
@@ -60,9 +62,8 @@ def read(track: str, kind: str) -> Readings:
     found, row = Readings(), Reading(kind, 0)
     command = [find_editor(), "--out", "/dev/null", track]
     pipe = subprocess.PIPE
-    with subprocess.Popen(command, stdin=pipe, stdout=pipe, stderr=pipe) as run:
-        assert run.stdin is not None and run.stdout is not None and run.stderr is not None
-        _give(run.stdin, script.encode())
+    with given(script) as lines, subprocess.Popen(command, stdin=lines, stdout=pipe, stderr=pipe) as run:
+        assert run.stdout is not None and run.stderr is not None
         for line in run.stdout:
             words = line.decode(errors="replace").split()
             if words[0] == "length":
@@ -75,20 +76,22 @@ def read(track: str, kind: str) -> Readings:
     return found
 
 
-def _give(stream: IO[bytes], script: bytes) -> None:
-    try:
-        stream.write(script)
-        stream.close()
-    except BrokenPipeError:
-        pass  # the editor has refused the track, and says so
+@contextmanager
+def given(script: str) -> Iterator[IO[bytes]]:
+    """A script as a file: a pipe would break if the editor refuses the track."""
+    with tempfile.TemporaryFile() as lines:
+        lines.write(script.encode())
+        lines.seek(0)
+        yield lines
 
 
 def is_read(track: str, wire: Optional[str], pulses: int) -> bool:
     """Whether the editor reads the wire of this dump as it is."""
     options = [] if wire is None else ["--wire=" + wire]
+    command = [find_editor(), *options, "--out", "/dev/null", track]
     try:
-        run = subprocess.run([find_editor(), *options, "--out", "/dev/null", track], input=b"info\n",
-                             stdout=subprocess.PIPE, stderr=subprocess.DEVNULL, check=False)
+        with given("info\n") as lines:
+            run = subprocess.run(command, stdin=lines, capture_output=True, check=False)
     except OSError as error:
         raise Problem("irig_ed cannot be run: %s" % error.strerror) from error
     words = run.stdout.split()
