@@ -3,9 +3,10 @@ import io
 import sys
 from unittest import mock
 
-from irig_tools import what_program, wire_program
+from irig_tools import demodulate_program, what_program, wire_program
 
-MAINS = {"irig_wire": wire_program.main, "irig_what": what_program.main}
+MAINS = {"irig_wire": wire_program.main, "irig_what": what_program.main,
+         "irig_demodulate": demodulate_program.main}
 
 
 def run(tool, words, data=b""):
