@@ -136,7 +136,8 @@ def refused():
     sound, silent = wav(array("h", [0] * 8000), 8000), wav(b"", 8000)
     rows = [([], sound, 1), ([], silent, 1), ([], b"", 2), ([], b"RIFF", 2), ([], sound[:30], 2),
             (["--raw=s16"], b"", 2), (["--raw=what"], b"", 2), (["--format=G"], sound, 2),
-            (["--format=A"], sound, 2), (["--channel=2"], sound, 2), (["--channel=0"], sound, 2), (["--raw=text", "--rate=9"], b"a\n", 2), (["--what"], b"", 2),
+            (["--format=A"], sound, 2), (["--channel=2"], sound, 2), (["--channel=0"], sound, 2),
+            (["--raw=text", "--rate=9"], b"a\n", 2), (["--what"], b"", 2),
             ([], wav(b"", 8000, 4), 2), (["--help"], b"", 0)]
     results = []
     for words, data, status in rows:

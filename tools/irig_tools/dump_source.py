@@ -15,11 +15,11 @@ from .editor import Problem
 
 BLOCK = 1 << 20  # bytes that are read at once
 LONGEST = 1 << 24  # bytes of a word
-HEAD = 8  # bytes that say what a file is
+HEAD = 9  # bytes that say what a file is
 OTHERS = (
-    (b"\x00\x00\x00\x00\x00\x00\x01\x49", "an FST file; 'fst2vcd FILE' makes a dump of it"),
+    (b"\x00\x00\x00\x00\x00\x00\x00\x01\x49", "an FST file; 'fst2vcd FILE' makes a dump of it"),
     (b"\x13\x80", "an LXT2 file; 'lxt2vcd FILE' makes a dump of it"),
-    (b"VZT", "a VZT file; 'vzt2vcd FILE' makes a dump of it"),
+    (b"VZ", "a VZT file; 'vzt2vcd FILE' makes a dump of it"),
     (b"PK\x03\x04", "a packed folder; if sigrok wrote it, 'sigrok-cli -i FILE -O vcd' makes a dump of it"),
     (b"\x28\xb5\x2f\xfd", "packed by zstd; 'zstd -dc FILE' unpacks it"),
     (b"RIFF", "a WAV file; 'irig_demodulate FILE' makes a dump of it"),
