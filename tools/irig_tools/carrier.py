@@ -25,12 +25,12 @@ Edge = Tuple[float, int]  # in samples, and the level after it
 
 @dataclass
 class Stretch:
-    """Some hundreds of cycles: running sums with sine and cosine, and the phase in cycles."""
+    """Some hundreds of cycles: running sums with cosine and sine, their mean, and the phase in cycles."""
 
     begin: int
     length: int
-    cosine: List[float]
-    sine: List[float]
+    sums: List[complex]
+    mean: float
     phase: float
 
     @property
@@ -49,8 +49,8 @@ class Carrier:
         period = samples.rate // math.gcd(samples.rate, hertz)
         self.size = max(1, round(CYCLES * self.cycle / period)) * period
         turns = [2 * math.pi * place / self.cycle for place in range(period)]
-        self.sine = [math.sin(turn) for turn in turns] * (self.size // period)
-        self.cosine = [math.cos(turn) for turn in turns] * (self.size // period)
+        self.turns = [complex(math.cos(turn), math.sin(turn)) for turn in turns] * (self.size // period)
+        self.turned = list(accumulate(self.turns, initial=0j))
         self.level, self.number, self.length = 0, 0, 0
         self.coded = 0  # stretches with code
 
@@ -69,14 +69,13 @@ class Carrier:
 
     def _stretch(self, values: Sequence[float], before: Optional[Stretch]) -> Stretch:
         mean = sum(values) / len(values)
-        plain = [value - mean for value in values]
-        cosine = list(accumulate(map(mul, plain, self.cosine), initial=0.0))
-        sine = list(accumulate(map(mul, plain, self.sine), initial=0.0))
-        phase = math.atan2(cosine[-1], sine[-1]) / (2 * math.pi)
+        sums = list(accumulate(map(mul, values, self.turns), initial=0j))
+        whole = sums[-1] - mean * self.turned[len(values)]
+        phase = math.atan2(whole.real, whole.imag) / (2 * math.pi)
         if before:
             phase += round(before.phase - phase)
         begin, self.length = self.length, self.length + len(values)
-        return Stretch(begin, len(values), cosine, sine, phase)
+        return Stretch(begin, len(values), sums, mean, phase)
 
     def _starts(self, one: Stretch, other: Optional[Stretch], end: float) -> Iterator[float]:
         """Where the next cycles begin, up to a place; the phase is a straight line between the stretches."""
@@ -119,11 +118,13 @@ class Carrier:
         places = [max(0, math.ceil(start) - now.begin) for start in starts]
         if starts:
             places.append(max(places[-1], math.ceil(starts[-1] + self.cycle) - now.begin))
-        cosine, sine = now.cosine, now.sine
-        if after:
-            extra = range(1, min(len(after.cosine), int(self.cycle) + 3))
-            cosine = cosine + [cosine[-1] + after.cosine[place] for place in extra]
-            sine = sine + [sine[-1] + after.sine[place] for place in extra]
-        most = len(cosine) - 1
-        sums = [cosine[min(place, most)] * across + sine[min(place, most)] * along for place in places]
+        found = [self._sum(place, now, after) for place in places]
+        sums = [whole.real * across + whole.imag * along for whole in found]
         return [(last - first) / self.cycle for first, last in zip(sums, sums[1:])]
+
+    def _sum(self, place: int, now: Stretch, after: Optional[Stretch]) -> complex:
+        """The running sum without the mean, up to a place, which may be in the next stretch."""
+        over = place - now.length
+        place = min(place, now.length)
+        whole = now.sums[place] - now.mean * self.turned[place]
+        return whole + self._sum(over, after, None) if after and over > 0 else whole
