@@ -1,0 +1,152 @@
+"""Signals on a carrier, made at random with a seed: the frames and the rises that irig_demodulate finds."""
+import io
+import math
+import os
+import random
+import statistics
+import subprocess
+import wave
+from array import array
+
+from rows.in_process import run
+from rows.tools_what import INTERVALS, track
+
+CARRIER = {"A": 10000, "B": 1000, "E": 100}
+
+
+def signal(kind, rng, rate, hertz, ratio, noise, drift, fade, frames):
+    """16-bit samples of some frames, and the true rises in microseconds."""
+    edges, length = track(kind, frames)
+    clock, start = 1 + drift, rng.random() * INTERVALS[kind]
+    rises, values, place, level = [start + time for time, up in edges if up], array("h"), 0, 0
+    count = int((length + start) * rate / 1000000)
+    for number in range(count):
+        time = number * 1000000 / rate * clock - start
+        while place < len(edges) and edges[place][0] <= time:
+            level = edges[place][1]
+            place += 1
+        height = 10000 * (1 if level else 1 / ratio) * (1 - fade * number / count)
+        wave_value = height * math.sin(2 * math.pi * hertz * time / 1000000)
+        values.append(int(wave_value + rng.gauss(0, noise * 10000) + 700))
+    return values, [time / clock for time in rises]
+
+
+def wav(values, rate, size=2, channels=1):
+    file = io.BytesIO()
+    with wave.open(file, "wb") as sound:
+        sound.setnchannels(channels)
+        sound.setsampwidth(size)
+        sound.setframerate(rate)
+        sound.writeframes(values if isinstance(values, bytes) else values.tobytes())
+    return file.getvalue()
+
+
+def rises_of(dump):
+    time, found = 0, []
+    for line in dump.decode().split("\n"):
+        if line.startswith("#"):
+            time = int(line[1:])
+        elif line == "1!":
+            found.append(time)
+    return found
+
+
+def fine(dump, kind):
+    """How many frames the editor reads as fine."""
+    path = os.path.join("/proc/self/fd", str(memory(dump)))
+    done = subprocess.run([os.environ["IRIG_ED"], "--format", kind, "--out", "/dev/null", path], input=b"frames\n",
+                          stdout=subprocess.PIPE, check=False, close_fds=False)
+    return done.stdout.decode().count(" fine\n")
+
+
+def memory(data):
+    number = os.memfd_create("dump", 0)
+    os.write(number, data)
+    os.lseek(number, 0, 0)
+    return number
+
+
+def measured(kind, seed, frames, rate, hertz=0):
+    """Fine frames, and the middle error of the rises in cycles of the carrier."""
+    rng = random.Random("%s %d" % (kind, seed))
+    hertz = hertz or CARRIER[kind]
+    values, rises = signal(kind, rng, rate, hertz, rng.uniform(3, 6), rng.uniform(0, 0.07), rng.uniform(-2e-4, 2e-4),
+                           rng.uniform(0, 0.4), frames)
+    status, dump, _ = run("irig_demodulate", ["--format", kind, "--carrier", str(hertz), "-"], wav(values, rate))
+    found = rises_of(dump)
+    errors = [min(abs(rise - other) for other in found) for rise in rises[:200]] if found else [1e9]
+    return fine(dump, kind), statistics.median(errors) * hertz / 1000000
+
+
+# format, samples a second, carrier, frames, signals
+RATES = (("B", 8000, 0, 3, 6), ("B", 44100, 0, 3, 1), ("B", 48000, 0, 3, 1), ("A", 48000, 0, 6, 5),
+         ("A", 96000, 0, 6, 2), ("E", 8000, 0, 1, 3), ("E", 8000, 1000, 1, 2))
+
+
+def rates():
+    """At least 99 of 100 frames are right, and the middle error of the rises is at most a fiftieth of a cycle."""
+    frames = good = 0
+    errors = []
+    for kind, rate, hertz, many, signals in RATES:
+        for seed in range(signals):
+            right, error = measured(kind, seed, many, rate, hertz)
+            frames, good = frames + many, good + right
+            errors.append(error)
+    held = good >= 0.99 * frames and max(errors) <= 0.02
+    if not held:
+        print("FAILED irig_demodulate: %d of %d frames, worst middle error %.4f" % (good, frames, max(errors)))
+    return held
+
+
+def same(name, words, data, true):
+    """Whether other samples of one signal give its rises, to 300 microseconds."""
+    status, dump, said = run("irig_demodulate", [*words, "-"], data)
+    found = rises_of(dump)
+    held = status == 0 and len(found) == len(true) and all(abs(a - b) < 300 for a, b in zip(found, true))
+    if not held:
+        print("FAILED irig_demodulate, %s: status %d, %d rises of %d %s" % (name, status, len(found), len(true), said))
+    return held
+
+
+def forms():
+    """The same signal in every form that is read."""
+    values, rises = signal("B", random.Random(9), 8000, 1000, 3.3, 0.01, 0, 0, 2)
+    whole = values.tobytes()
+    small = bytes(value // 256 + 128 for value in values)
+    wide = b"".join(b"\0" + whole[at:at + 2] for at in range(0, len(whole), 2))
+    two = array("h", [part for value in values for part in (0, value)]).tobytes()
+    swapped = array("h", [-value for value in values])
+    level = array("h", [0] * 8000)
+    for place in range(10):
+        level[800 * place + 80:800 * place + 240] = array("h", [9000] * 160)
+    text = "".join("%d\n" % value for value in values).encode()
+    with_rate = ["--rate", "8000"]
+    return [same("8 bits", [], wav(small, 8000, 1), rises), same("16 bits", [], wav(values, 8000), rises),
+            same("24 bits", [], wav(wide, 8000, 3), rises),
+            same("a second channel", ["--channel=2"], wav(two, 8000, 2, 2), rises),
+            same("swapped", ["--swap"], wav(swapped, 8000), rises),
+            same("raw", ["--raw=s16", *with_rate], whole, rises), same("raw 8", ["--raw=u8", *with_rate], small, rises),
+            same("raw 24", ["--raw=s24", *with_rate], wide, rises),
+            same("numbers", ["--raw=text", *with_rate], text, rises),
+            same("a level", ["--level"], wav(level, 8000), [100000 * place + 10000 for place in range(10)])]
+
+
+def refused():
+    """Statuses and what is said of samples that are not read."""
+    sound, silent = wav(array("h", [0] * 8000), 8000), wav(b"", 8000)
+    rows = [([], sound, 1), ([], silent, 1), ([], b"", 2), ([], b"RIFF", 2), ([], sound[:30], 2),
+            (["--raw=s16"], b"", 2), (["--raw=what"], b"", 2), (["--format=G"], sound, 2),
+            (["--format=A"], sound, 2), (["--channel=2"], sound, 2), (["--channel=0"], sound, 2),
+            (["--raw=text", "--rate=9"], b"a\n", 2), (["--what"], b"", 2),
+            ([], wav(b"", 8000, 4), 2), (["--help"], b"", 0)]
+    results = []
+    for words, data, status in rows:
+        got, _, said = run("irig_demodulate", [*words, "-"], data)
+        results.append(got == status and "Traceback" not in said)
+        if not results[-1]:
+            print("FAILED irig_demodulate %s: status %d, not %d: %s" % (words, got, status, said))
+    return results
+
+
+def check():
+    return [rates()] + forms() + refused()

@@ -1,0 +1,133 @@
+"""Worked rows for irig_what: dumps with time code, made by an encoder of its own, and what is found in them."""
+import os
+import random
+import shlex
+import subprocess
+import tempfile
+
+from rows.in_process import run
+
+INTERVALS = {"A": 1000, "B": 10000, "E": 100000, "G": 100}  # microseconds
+IDENTIFIERS = (0, 9, 19, 29, 39, 49, 59, 69, 79, 89, 99)
+FIELDS = {"seconds": (1, 2, 3, 4, 6, 7, 8), "minutes": (10, 11, 12, 13, 15, 16, 17), "hours": (20, 21, 22, 23, 25, 26),
+          "year": (50, 51, 52, 53, 55, 56, 57, 58), "hundredths": (50, 51, 52, 53, 45, 46, 47, 48)}
+
+
+def digits(elements, number):
+    """The elements that are one if a number has decimal digits of four bits there."""
+    bits = [number % 10 >> bit & 1 for bit in range(4)] + [number // 10 >> bit & 1 for bit in range(4)]
+    return {element for element, bit in zip(elements, bits) if bit}
+
+
+def frame(kind, second, hundredths=0, year=None, seconds=False):
+    """The widths of a frame of day 61, 12:34 and a second, in tenths of an interval."""
+    ones = digits(FIELDS["minutes"], 34) | digits(FIELDS["hours"], 12) | {30, 36, 37}  # day 61: 1, and 20 and 40
+    ones |= digits(FIELDS["seconds"], second)
+    if kind == "A":
+        ones |= digits(FIELDS["hundredths"][4:], hundredths // 10)
+    if kind == "G":
+        ones |= digits(FIELDS["hundredths"], hundredths)
+    if year is not None:
+        ones |= digits(FIELDS["year"], year)
+    if seconds:
+        number, places = 45240 + second, [*range(80, 89), *range(90, 98)]
+        ones |= {element for bit, element in enumerate(places) if number >> bit & 1}
+    return [8 if element in IDENTIFIERS else 5 if element in ones else 2 for element in range(100)]
+
+
+def track(kind, frames, start=0, jitter=None, **told):
+    """The edges of a position identifier and some frames, in microseconds, and their length."""
+    step, edges = INTERVALS[kind], []
+    widths = [8]
+    for number in range(frames):
+        hundredths = number * (10 if kind == "A" else 1) if kind in "AG" else 0
+        second = {"A": 20, "G": 20, "B": 20 + number, "E": 10 * (number % 6)}[kind]
+        widths += frame(kind, second, hundredths, **told)
+    for place, width in enumerate(widths):
+        rise = start + place * step + (jitter.randrange(-step // 50, step // 50) if jitter else 0)
+        edges += [(rise, 1), (rise + width * step // 10, 0)]
+    return edges, start + (len(widths) + 2) * step
+
+
+def dump(edges, length, unit="1 us", scale=1, upside=False, declared="$var wire 1 ! irig $end", ends=""):
+    lines = ["$timescale %s $end" % unit if unit else "", declared, "$enddefinitions $end", "#0 %d!" % upside]
+    lines += ["#%d %d!" % (time * scale, level ^ upside) for time, level in edges]
+    return "\n".join([*lines, "#%d" % (length * scale), ends]) + "\n"
+
+
+B = track("B", 4, 30000)
+YEAR = track("B", 4, 30000, year=24, seconds=True)
+SCOPES = "$scope module tb $end $var wire 1 c clock $end $var wire 1 ! irig $end $upscope $end"
+BUS = "$scope module tb $end $var wire 1 c clock $end $var reg 4 ! bus [3:0] $end $upscope $end"
+CLOCK = "".join("#%d %dc " % (i, i % 2) for i in range(3000))
+
+
+def bus(edges):
+    return "\n".join(["$timescale 1 us $end", BUS, "$enddefinitions $end #0 b0 !"]
+                     + ["#%d b%d00 ! 1c" % (time, level) for time, level in edges])
+
+
+# name, dump, arguments, status, parts of what is printed, the frames that the last line lists as fine
+ROWS = [
+    ("format B", dump(*B), [], 0, ["upright, format B", "expression 2: 4 of 4 frames fine, 061 12:34:20"], 4),
+    ("with year and seconds", dump(*YEAR), [], 0, ["expression 7: 4 of 4 frames fine, 061 12:34:20 year 24 to"], 4),
+    ("format A", dump(*track("A", 5)), [], 0, ["expression 2: 5 of 5", "12:34:20.00 to 061 12:34:20.40"], 5),
+    ("format E", dump(*track("E", 3)), [], 0, ["format E", "expression 2: 3 of 3"], 3),
+    ("format G", dump(*track("G", 9)), [], 0, ["format G", "expression 2: 9 of 9"], 9),
+    ("upside down", dump(*B, upside=True), [], 0, ["upside down, format B", "irig_wire --invert"], 4),
+    ("trembling rises", dump(*track("B", 5, 30000, random.Random(1))), [], 0, ["expression 2: 5 of 5"], 5),
+    ("in nanoseconds", dump(*B, unit="1 ns", scale=1000), [], 0, ["upright, format B"], 4),
+    ("no unit", dump(*B, unit="", scale=1000), [], 0, ["1 ns makes time code of it", "--timescale=1ns"], 4),
+    ("a clock beside it", dump(*B, declared=SCOPES).replace("#0 0!", "#0 0! 0c"), [], 0, ["--wire=irig"], 4),
+    ("letters on a clock", dump(*B, declared=SCOPES).replace("#0 0!", "#0 0! Uc"), [], 0, ["irig_wire"], 4),
+    ("a bit of a vector", bus(B[0]), [], 0, ["tb.bus[2]", "irig_wire", "'bus[2]'"], 4),
+    ("two dumps in a file", dump(*B) + dump(*B), [], 1, ["the file has 2 dumps", "--dump=1"], 4),
+    ("two wires with time code", dump(*B, declared=SCOPES).replace("0!", "0! 0c").replace("1!", "1! 1c"), [], 1,
+     ["tb.clock (code c)", "tb.irig (code !)"], 4),
+    ("no frame", dump(B[0][:40], 300000), [], 1, ["no frame is fine under any expression"], 0),
+    ("nothing", dump([(5, 1), (9, 0)], 99), [], 1, ["no wire of 1 carries time code"], None),
+    ("a clock alone", dump([], 0, declared="$var wire 1 c c $end").replace("#0 0!", CLOCK), [], 1, ["no wire"], None),
+    ("no dump", "hello", [], 2, [], None),
+    ("a folder", None, ["/"], 2, [], None),
+    ("a wrong unit", dump(*B), ["--timescale=1 mile"], 2, [], None),
+]
+
+
+def fine_frames(top, command, folder):
+    """How many frames the last line leads to."""
+    places = os.path.join(top, "tools") + ":" + os.path.join(folder, "bin") + ":" + os.environ["PATH"]
+    done = subprocess.run(["bash", "-c", command.replace("; irig_ed", "; echo frames | irig_ed")], cwd=folder,
+                          input=b"frames\n", env=dict(os.environ, PATH=places), stdout=subprocess.PIPE,
+                          stderr=subprocess.DEVNULL, check=False)
+    return done.stdout.decode().count(" fine\n")
+
+
+def row_holds(top, name, text, words, status, parts, fine):
+    with tempfile.TemporaryDirectory() as folder:
+        os.mkdir(folder + "/bin")
+        os.symlink(os.environ["IRIG_ED"], folder + "/bin/irig_ed")
+        path = os.path.join(folder, "some track.vcd")
+        if text is not None:
+            with open(path, "w", encoding="utf-8") as file:
+                file.write(text)
+        got, printed, said = run("irig_what", [*words] + ([path] if text is not None else []))
+        shown = printed.decode()
+        last = shown.strip().split("\n")[-1]
+        good = got == status and all(part in shown for part in parts) and (status < 2 or said.startswith("irig_what: "))
+        if good and fine is not None:
+            good = shlex.quote(path) in last and fine_frames(top, last, folder) == fine
+    if not good:
+        print("FAILED irig_what, %s: status %d\n%s%s" % (name, got, shown, said))
+    return good
+
+
+def piped(top):
+    """A dump from standard input, and a reader that goes away."""
+    code = "%s/tools/irig_what - | head -n 1" % top
+    done = subprocess.run(["bash", "-c", code], input=dump(*B).encode(), stdout=subprocess.PIPE,
+                          stderr=subprocess.PIPE, check=False)
+    return done.stdout == b"wire irig (code !), upright, format B\n" and not done.stderr
+
+
+def check(top):
+    return [row_holds(top, *row) for row in ROWS] + [piped(top), run("irig_what", ["--help"])[0] == 0]

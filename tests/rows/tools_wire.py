@@ -1,0 +1,195 @@
+"""Worked rows for irig_wire: dumps of every kind, and the edges that are in them."""
+import bz2
+import gzip
+import lzma
+import os
+import random
+import subprocess
+import tempfile
+
+from rows.in_process import run
+
+HEAD = "$timescale 1 us $end $var wire 1 ! a $end $enddefinitions $end "
+TWO = """$timescale 1 ns $end $scope module tb $end $var reg 8 # bus [7:0] $end $var wire 1 " clock $end
+$scope module g $end $var wire 1 ! irig $end $upscope $end $scope module h $end $var wire 1 % irig $end $upscope $end
+$upscope $end $enddefinitions $end
+#0 0! 1" 0% b00000000 # #1000 1! #2000 b1010 # #3000 0! 1% #4000 0" bx #
+"""
+UP = "#0 0! #5 1! #7 0! #9"
+EDGES = [(5000, 1), (7000, 0), (9000, None)]  # of UP, in nanoseconds
+# name, dump, arguments, edges in nanoseconds, then the length; status, a part of what is said
+ROWS = [
+    ("one wire", HEAD + UP, [], EDGES, 0, "the wire is a (code !)"),
+    ("a path of scopes", TWO, ["tb.g.irig"], [(1000, 1), (3000, 0), (4000, None)], 0, "3 other wires were left out"),
+    ("the end of a path", TWO, ["h.irig"], [(3000, 1), (4000, None)], 0, "tb.h.irig"),
+    ("a code", TWO, ["%"], [(3000, 1), (4000, None)], 0, "tb.h.irig"),
+    ("a bit of a vector", TWO, ["bus[3]"], [(2000, 1), (4000, 0), (4000, None)], 0, "tb.bus[3]"),
+    ("a bit of a vector by its path", TWO, ["tb.bus[1]"], [(2000, 1), (4000, 0), (4000, None)], 0, "bus[1]"),
+    ("a vector that counts upward", TWO.replace("[7:0]", "[0:7]"), ["bus[4]"], [(2000, 1), (4000, 0), (4000, None)],
+     0, ""),
+    ("a name that two wires have", TWO, ["irig"], None, 2, "several wires are named 'irig'"),
+    ("a vector without a bit", TWO, ["bus"], None, 2, "as 'tb.bus[0]'"),
+    ("a bit that is not there", TWO, ["bus[8]"], None, 2, "no wire is named"),
+    ("a wire that is not there", TWO, ["none"], None, 2, "tb.g.irig (code !)"),
+    ("no name and several wires", TWO, [], None, 2, "several wires of one bit"),
+    ("letters of VHDL", HEAD + "#0 U! #5 H! #6 1! #7 L! #8 W! #9", [], EDGES, 0, "letters other than"),
+    ("letters on another wire", TWO.replace('1"', 'U"'), ["%"], [(3000, 1), (4000, None)], 0, ""),
+    ("a vector of one bit", HEAD + "#0 b0 ! #5 b1 ! #7 bU ! #9", [], EDGES, 0, ""),
+    ("a code that looks like a time", HEAD.replace("!", "#5") + "#0 0#5 b1 #5 #7 0#5 #9", [],
+     [(0, 1), (7000, 0), (9000, None)], 0, ""),
+    ("a code that looks like a change", HEAD + "#0 b1 1! s1 1! #5 1! #7 0! #9", [], EDGES, 0, ""),
+    ("a unit of ten million", (HEAD + UP).replace("1 us", "10000000ps"), [],
+     [(50000, 1), (70000, 0), (90000, None)], 0, "10000000ps is written as 10 us"),
+    ("a unit of 25", (HEAD + UP).replace("1 us", "25 ns"), [], [(125, 1), (175, 0), (225, None)], 0, "by 25"),
+    ("a unit with a point", (HEAD + UP).replace("1 us", "0.5 us"), [], [(2500, 1), (3500, 0), (4500, None)], 0, ""),
+    ("a unit with a Greek letter", (HEAD + UP).replace("1 us", "1 \u00b5s"), [], EDGES, 0, "written as 1 us"),
+    ("no unit", (HEAD + UP).replace("$timescale 1 us $end", ""), [], None, 2, "give one, as --timescale 1ns"),
+    ("no unit, but an option", (HEAD + UP).replace("$timescale 1 us $end", ""), ["--timescale", "1us"], EDGES, 0, ""),
+    ("a unit that is none", (HEAD + UP).replace("1 us", "1 fortnight"), [], None, 2, "is no unit of time"),
+    ("sigrok's first line", "META samplerate: 1 MHz\n" + HEAD + UP, [], EDGES, 0, "before the header"),
+    ("sections of other tools", "$attrbegin misc 02 $end " + HEAD + "$comment x 1! $end " + UP, [], EDGES, 0, ""),
+    ("words that mean nothing", HEAD + "#0 0! y! #5 1! ? #7 0! #9", [], EDGES, 1, "2 words that mean no change"),
+    ("a comment that is not closed", HEAD + UP + " $comment #10 1!", [], EDGES, 1, "a comment has no $end"),
+    ("a saved session", HEAD + UP + " $comment irig-journal-1 spoilt\r\n $end", [], EDGES, 0, "history of a saved"),
+    ("a declaration that is not closed", (HEAD + UP).replace("a $end", "a"), [], EDGES, 0, "has no $end"),
+    ("declarations that do not end", (HEAD + UP).replace("$enddefinitions $end", ""), [], EDGES, 0, "have no end"),
+    ("two dumps", HEAD + UP + " " + HEAD + "#0 1! #1", [], EDGES, 1, "the file has 2 dumps"),
+    ("the second of two dumps", HEAD + UP + " " + HEAD + "#0 1! #1", ["--dump", "2"], [(0, 1), (1000, None)], 1, ""),
+    ("two recordings under one header", HEAD + UP + " #0 1! #1", ["--dump=2"], [(0, 1), (1000, None)], 1, ""),
+    ("a dump that is not there", HEAD + UP, ["--dump=3"], None, 2, "has no dump 3; it has 1"),
+    ("nanoseconds since 1970", (HEAD + "#0 x! #1700000000123456789 0! #1700000000123461789 1! #1700000000123463789 0! "
+                                "#1700000000123465789").replace("1 us", "1 ns"), [], EDGES[:0] + [
+        (5000, 1), (7000, 0), (9000, None)], 0, "1700000000123456789 of the dump's unit was taken off"),
+    ("a part", HEAD + "#0 0! #2 1! #8 0! #12 1! #20 0!", ["--from=4", "--to", "14"],
+     [(0, 1), (4000, 0), (8000, 1), (10000, None)], 0, "4 of the dump's unit"),
+    ("upside down", HEAD + "#0 1! #5 0! #7 1! #9", ["--invert"], EDGES, 0, "swapped"),
+    ("an extended dump", HEAD.replace("wire", "port").replace("!", "<0") + "#0 pD 6 0 <0 #5 pU 0 6 <0 #7 pN 0 0 <0 #9",
+     [], EDGES, 0, "of ports"),
+    ("a wire that never changes", HEAD + "#0 0! #9", [], [(9000, None)], 1, "never changes"),
+    ("a track that is too long", HEAD + "#0 0! #5 1! #9000000000000 0!", [], None, 1, "reads at most"),
+    ("no dump", "hello world\n", [], None, 2, "is no dump"),
+    ("an empty file", "", [], None, 2, "is no dump"),
+    ("declarations alone", "$timescale 1 us $end", [], None, 2, "do not end"),
+    ("digits without end", HEAD + "#" + "9" * 5000 + " #0 0! #5 1! #7 0! #9", [], EDGES, 1, "mean no change"),
+    ("an option that is none", HEAD, ["--what"], None, 2, "is no option"),
+    ("a number that is none", HEAD, ["--dump", "x"], None, 2, "a whole number"),
+]
+
+
+def edges_of(dump):
+    """The edges of a dump as irig_wire writes it, in nanoseconds, and its length; read by its own simple rules."""
+    lines = dump.decode().split("\n")
+    number, unit = lines[0].split()[1:3]
+    scale = int(number) * {"us": 1000, "ns": 1, "ms": 10**6, "ps": 0.001}[unit]
+    time, level, found = 0, "0", []
+    for line in lines[5:]:
+        if line.startswith("#"):
+            time = int(line[1:]) * scale
+        elif line.endswith("!"):
+            new = "1" if line[0] == "1" else "0"
+            if new != level:
+                found.append((time, int(new)))
+            level = new
+    return found + [(time, None)]
+
+
+def row_holds(name, dump, words, edges, status, text):
+    got, printed, said = run("irig_wire", ["-", *words], dump.encode("latin-1"))
+    found = edges_of(printed) if edges is not None and got < 2 else None
+    if (got, found) == (status, edges) and text in said and "Traceback" not in said:
+        return True
+    print("FAILED irig_wire, %s: status %d, %s\n%s" % (name, got, found, said))
+    return False
+
+
+def packed():
+    """The same dump in other bytes."""
+    plain = (HEAD + UP).encode()
+    texts = {"gzip": gzip.compress(plain), "bzip2": bz2.compress(plain), "xz": lzma.compress(plain),
+             "a byte order mark": b"\xef\xbb\xbf" + plain, "UTF-16": plain.decode().encode("utf-16"),
+             "CR LF": plain.replace(b" ", b"\r\n")}
+    results = []
+    for name, data in texts.items():
+        status, printed, said = run("irig_wire", ["-"], data)
+        good = status == 0 and edges_of(printed) == EDGES
+        good or print("FAILED irig_wire, %s: %d %s" % (name, status, said))
+        results.append(good)
+    heads = {b"\0" * 7 + b"\1I": "fst2vcd", b"\x13\x80": "lxt2vcd", b"PK\3\4": "sigrok-cli", b"RIFF": "WAV"}
+    for head, text in heads.items():
+        status, _, said = run("irig_wire", ["-"], head + plain)
+        results.append(status == 2 and text in said)
+    cut, _, said = run("irig_wire", ["-"], gzip.compress(plain)[:-9])
+    results.append(cut == 2 and "cannot be unpacked" in said)
+    return results
+
+
+def long_file(top):
+    """A file of 300 million bytes through a pipe with little memory."""
+    maker = "import sys\nw=sys.stdout.write\nw(%r)\nfor i in range(%d):w('#%%d 1!\\n' %% (2*i))\nw('#9999999 0!\\n')"
+    code = maker % (HEAD, 400000) + "\nfor i in range(60):w('$comment '+'x'*5000000+' $end ')"
+    command = "ulimit -v 200000; %s -c \"$CODE\" | %s/tools/irig_wire - | tail -n 2" % ("python3", top)
+    done = subprocess.run(["bash", "-c", command], env=dict(os.environ, CODE=code), stdout=subprocess.PIPE, check=False)
+    return done.stdout == b"#9999999\n0!\n"
+
+
+def random_dump(rng):
+    """A dump of some wires and vectors, and the edges of one bit."""
+    size, place = rng.choice(((1, 0), (8, rng.randrange(8)))), 0
+    width, place = size
+    name = "a" if width == 1 else "a[%d]" % place
+    lines = ["$timescale 1 ns $end $scope module m $end $var wire 1 0 z $end",
+             "$var wire %d ! a %s $end $upscope $end $enddefinitions $end #0" % (width, "[7:0]" * (width > 1))]
+    time, level, edges = 0, 0, []
+    for _ in range(rng.randrange(40)):
+        time += 1 + rng.randrange(3) * rng.randrange(50)
+        lines.append("#%d" % time)
+        number = rng.getrandbits(width)
+        lines.append(rng.choice(("%d!" % number, "b%d !" % number)) if width == 1 else "b{:b} !".format(number))
+        lines.append(rng.choice(("00", "10", "b1 0", "$comment 1! #9 $end", "s1! 0")))
+        new = number >> place & 1
+        if new != level:
+            edges.append((time, new))
+        level = new
+    return "\n".join(lines), name, edges + [(time, None)]
+
+
+def random_rows():
+    results = []
+    for seed in range(30):
+        dump, name, edges = random_dump(random.Random(seed))
+        status, printed, said = run("irig_wire", ["-", name], dump.encode())
+        good = status < 2 and edges_of(printed) == edges
+        good or print("FAILED irig_wire, random dump %d: %s" % (seed, said))
+        results.append(good)
+    return results
+
+
+def hostile():
+    """Spoilt dumps: an answer, a status, and no trace of Python."""
+    good, plain = True, TWO.encode()
+    for seed in range(40):
+        rng = random.Random(seed)
+        data = bytearray(plain)
+        for _ in range(rng.randrange(1, 30)):
+            data[rng.randrange(len(data))] = rng.randrange(256)
+        status, _, said = run("irig_wire", ["-", "tb.g.irig"], bytes(data[:rng.randrange(len(data))]))
+        if status not in (0, 1, 2) or "Traceback" in said:
+            print("FAILED irig_wire, spoilt dump %d: %d %s" % (seed, status, said))
+            good = False
+    return good
+
+
+def ends(top):
+    """Help, folders, files that are not there, a reader that goes away."""
+    with tempfile.TemporaryDirectory() as folder:
+        whole = subprocess.run([top + "/tools/irig_wire"], stderr=subprocess.DEVNULL, check=False)
+        unread = subprocess.run(["bash", "-c", "%s/tools/irig_wire --help | true" % top], check=False)
+        return [whole.returncode == 2, run("irig_wire", ["--help"])[0] == 0,
+                run("irig_wire", [])[0] == 2, run("irig_wire", [folder])[0] == 2,
+                run("irig_wire", [folder + "/none"])[0] == 2,
+                unread.returncode == 0]
+
+
+def check(top):
+    results = [row_holds(*row) for row in ROWS]
+    return results + packed() + [long_file(top), hostile()] + random_rows() + ends(top)

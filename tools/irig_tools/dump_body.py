@@ -1,0 +1,136 @@
+"""The changes of a dump: which of the wanted signals changes when."""
+from __future__ import annotations
+
+from collections import Counter
+from dataclasses import dataclass, field
+from typing import Dict, Iterator, List, Optional, Tuple
+
+from .dump_header import BODY, HEADS, shown
+from .dump_source import Source
+
+Change = Tuple[int, int, str]  # a time in the dump's unit, a signal, a letter of 0 1 x z
+PLAIN = {"0": "0", "1": "1", "x": "x", "X": "x", "z": "z", "Z": "z"}
+STRONG = {"h": "1", "H": "1", "l": "0", "L": "0", "u": "x", "U": "x", "w": "x", "W": "x", "-": "x"}
+PORTS = {"D": "0", "d": "0", "L": "0", "l": "0", "0": "0", "U": "1", "u": "1", "H": "1", "h": "1", "1": "1",
+         "T": "z", "F": "z", "Z": "z"}
+SCALAR = frozenset(b"01xXzZuUwWlLhH-")
+PAIRS = frozenset(b"bBrRsS")
+SKIPPED = BODY | {b"$end"}
+
+
+@dataclass
+class Wanted:
+    """The signals that are looked for: by code, each with its place from the right of a vector."""
+
+    signals: Dict[bytes, List[Tuple[int, int]]] = field(default_factory=dict)
+    scalars: Dict[bytes, List[Tuple[int, str]]] = field(default_factory=dict)
+
+    def add(self, signal: int, code: bytes, place: int) -> None:
+        self.signals.setdefault(code, []).append((signal, place))
+        if place == 0:
+            for letter, value in {**PLAIN, **STRONG}.items():
+                self.scalars.setdefault(letter.encode() + code, []).append((signal, value))
+
+    def drop(self, signal: int, code: bytes) -> None:
+        """This signal is not looked for any more."""
+        self.signals[code] = [pair for pair in self.signals[code] if pair[0] != signal]
+        if not self.signals[code]:
+            del self.signals[code]
+        for letter in {**PLAIN, **STRONG}:
+            name = letter.encode() + code
+            self.scalars[name] = [pair for pair in self.scalars.get(name, ()) if pair[0] != signal]
+
+
+class Body:
+    """The changes of one dump, up to its end, the next header or a time below the last."""
+
+    def __init__(self, source: Source, wanted: Wanted) -> None:
+        self.source, self.wanted = source, wanted
+        self.now = 0  # the last time
+        self.begun = 0  # the first time that is not 0
+        self.more = ""  # "header" or "backward" if something follows
+        self.counts: Counter[str] = Counter()
+        self.strange: Optional[str] = None
+
+    def changes(self) -> Iterator[Change]:
+        """The wanted changes; `now` is the last time that was read."""
+        scalars = self.wanted.scalars
+        for word in self.source.words():
+            found = scalars.get(word)
+            if found:
+                self.counts["letters"] += word[0] not in b"01xXzZ"
+                for signal, value in found:
+                    yield self.now, signal, value
+            elif word[0] not in SCALAR:
+                if word[0] == 35:
+                    self._time(word)
+                else:
+                    yield from self._other(word)
+                if self.more:
+                    return
+
+    def _other(self, word: bytes) -> Iterator[Change]:
+        first = word[0]
+        if first in PAIRS:
+            code = next(self.source, b"")
+            if first in b"bB" and code in self.wanted.signals:
+                yield from self._vector(word.decode("latin-1"), self.wanted.signals[code])
+        elif first == 112:
+            yield from self._port(word)
+        elif first == 36:
+            self._word(word)
+        else:
+            self._strange(word)
+
+    def _time(self, word: bytes) -> None:
+        digits = word[1:]
+        if not digits.isdigit() or len(digits) > 60:
+            self._strange(word)
+            return
+        time = int(digits)
+        if time < self.now:
+            self.source.give_back(word)
+            self.more = "backward"
+            return
+        self.now = time
+        self.begun = self.begun or time
+
+    def _vector(self, word: str, signals: List[Tuple[int, int]]) -> Iterator[Change]:
+        for signal, place in signals:
+            at = len(word) - 1 - place
+            letter = word[at] if at > 0 else "0" if word[1:2] in ("0", "1", "") else word[1]
+            if letter not in PLAIN:
+                self.counts["letters"] += 1
+            yield self.now, signal, PLAIN.get(letter, STRONG.get(letter, "x"))
+
+    def _port(self, word: bytes) -> Iterator[Change]:
+        """A change of an extended dump: states, two strengths, a code."""
+        code = [next(self.source, b"") for _ in range(3)][2]
+        states = word.decode("latin-1")
+        for signal, place in self.wanted.signals.get(code, ()):
+            at = len(states) - 1 - place
+            self.counts["ports"] += 1
+            yield self.now, signal, PORTS.get(states[at] if at > 0 else "0", "x")
+
+    def _word(self, word: bytes) -> None:
+        if word == b"$comment":
+            self._comment()
+        elif word in HEADS:
+            self.source.give_back(word)
+            self.more = "header"
+        elif word not in SKIPPED:
+            self._strange(word)
+
+    def _comment(self) -> None:
+        first = word = next(self.source, b"")
+        while word and word != b"$end":
+            word = next(self.source, b"")
+        if first == b"irig-journal-1":
+            self.counts["journals"] += 1
+        if not word:
+            self.counts["unclosed"] += 1
+
+    def _strange(self, word: bytes) -> None:
+        self.counts["strange"] += 1
+        if self.strange is None:
+            self.strange = shown(word[:40])

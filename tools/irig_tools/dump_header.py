@@ -1,0 +1,135 @@
+"""The declarations of a dump: its unit and its wires."""
+from __future__ import annotations
+
+import re
+from dataclasses import dataclass, field
+from typing import List, Optional, Tuple
+
+from .dump_source import Source
+from .editor import Problem
+
+HEADS = {b"$date", b"$version", b"$timescale", b"$scope", b"$upscope", b"$var", b"$enddefinitions",
+         b"$attrbegin", b"$attrend"}
+BODY = {b"$dumpvars", b"$dumpall", b"$dumpon", b"$dumpoff", b"$dumpports", b"$dumpportsall", b"$dumpportson",
+        b"$dumpportsoff"}
+NO_BITS = {"real", "realtime", "event", "parameter", "string", "shortreal"}
+MOST_BEFORE = 10000  # words before the header
+
+
+def shown(word: bytes) -> str:
+    """A word of a dump for people."""
+    text = word.decode("utf-8", "replace")
+    return "".join(letter if letter.isprintable() else "\ufffd" for letter in text)
+
+
+@dataclass(frozen=True)
+class Wire:
+    """A variable of a dump, of one bit or more."""
+
+    code: bytes
+    path: str  # with its scopes, parted by dots
+    size: int
+    first: int  # the number of its leftmost bit
+    last: int  # that of its rightmost
+    bits: bool  # whether it is made of bits
+
+    @property
+    def single(self) -> bool:
+        return self.size == 1 and self.bits
+
+
+@dataclass
+class Header:
+    """What is declared."""
+
+    unit: Optional[str] = None
+    wires: List[Wire] = field(default_factory=list)
+    notes: List[str] = field(default_factory=list)
+
+
+class Reader:
+    """Reads one header, up to the first word of the changes."""
+
+    def __init__(self, source: Source) -> None:
+        self.source = source
+        self.header = Header()
+        self.scopes: List[str] = []
+
+    def read(self) -> Header:
+        self._skip_before()
+        for word in self.source:
+            if word == b"$enddefinitions":
+                self._section()
+                return self.header
+            if not word.startswith(b"$") or word in BODY:
+                if word[:1] == b"#" or word in BODY:
+                    self.source.give_back(word)
+                    self._note("the declarations have no end; the changes begin at '%s'" % shown(word))
+                    return self.header
+                self._note("words between the declarations were left out, the first '%s'" % shown(word[:40]))
+            elif word != b"$end":
+                self._declare(word, self._section())
+        raise Problem("%s: is no dump: the declarations do not end" % self.source.path)
+
+    def _note(self, text: str) -> None:
+        if text not in self.header.notes and len(self.header.notes) < 5:
+            self.header.notes.append(text)
+
+    def _skip_before(self) -> None:
+        before: List[bytes] = []
+        for word in self.source:
+            if word in HEADS or word == b"$comment":
+                self.source.give_back(word)
+                if before:
+                    text = shown(b" ".join(before)[:60])
+                    self._note("'%s' before the header was left out" % text)
+                return
+            before.append(word)
+            if len(before) > MOST_BEFORE:
+                break
+        raise Problem("%s: is no dump: no declaration is found" % self.source.path)
+
+    def _section(self) -> List[bytes]:
+        """The words up to `$end`; a declaration that is not closed ends at the next one."""
+        words: List[bytes] = []
+        for word in self.source:
+            if word == b"$end":
+                return words
+            if word in HEADS:
+                self.source.give_back(word)
+                self._note("a declaration has no $end")
+                return words
+            if len(words) < MOST_BEFORE:
+                words.append(word)
+        raise Problem("%s: is no dump: the declarations do not end" % self.source.path)
+
+    def _declare(self, section: bytes, words: List[bytes]) -> None:
+        if section == b"$timescale":
+            text = b"".join(words)
+            greek = b"\xb5" in text and b"\xc2" not in text  # in Latin-1
+            self.header.unit = text.decode("latin-1") if greek else shown(text)
+        elif section == b"$scope":
+            self.scopes.append(shown(words[1] if len(words) > 1 else b"?"))
+        elif section == b"$upscope" and self.scopes:
+            self.scopes.pop()
+        elif section == b"$var":
+            self._wire(words)
+
+    def _wire(self, words: List[bytes]) -> None:
+        if len(words) < 4 or not words[1].isdigit() or len(words[1]) > 9:
+            self._note("a $var that is not of the standard was left out: '%s'" % shown(b" ".join(words)[:60]))
+            return
+        kind, size, code = shown(words[0]), int(words[1]), words[2]
+        name, ends = _range(shown(b"".join(words[3:])), size)
+        path = ".".join([*self.scopes, name])
+        self.header.wires.append(Wire(code, path, size, *ends, kind not in NO_BITS and size > 0))
+
+
+def _range(reference: str, size: int) -> Tuple[str, Tuple[int, int]]:
+    """The name without the range of a vector, and the numbers of its outer bits."""
+    name, bracket, inside = reference.rpartition("[")
+    left, colon, right = inside.rstrip("]").partition(":")
+    number = "".join(left.split("-", 1)), "".join(right.split("-", 1))
+    if bracket and name and colon and all(re.fullmatch("[0-9]{1,9}", part) for part in number):
+        return name, (int(left), int(right))
+    return reference, (size - 1, 0)

@@ -1,0 +1,113 @@
+"""The words of a dump, from a file or a pipe of any size, packed or not."""
+from __future__ import annotations
+
+import bz2
+import codecs
+import gzip
+import io
+import lzma
+import sys
+import zlib
+from itertools import chain
+from typing import IO, Callable, Iterator, List, Tuple, cast
+
+from .editor import Problem
+
+BLOCK = 1 << 20  # bytes that are read at once
+LONGEST = 1 << 24  # bytes of a word
+HEAD = 9  # bytes that say what a file is
+OTHERS = (
+    (b"\x00\x00\x00\x00\x00\x00\x00\x01\x49", "an FST file; 'fst2vcd FILE' makes a dump of it"),
+    (b"\x13\x80", "an LXT2 file; 'lxt2vcd FILE' makes a dump of it"),
+    (b"VZ", "a VZT file; 'vzt2vcd FILE' makes a dump of it"),
+    (b"PK\x03\x04", "a packed folder; if sigrok wrote it, 'sigrok-cli -i FILE -O vcd' makes a dump of it"),
+    (b"\x28\xb5\x2f\xfd", "packed by zstd; 'zstd -dc FILE' unpacks it"),
+    (b"RIFF", "a WAV file; 'irig_demodulate FILE' makes a dump of it"),
+)
+PACKED: Tuple[Tuple[bytes, str, Callable[[IO[bytes]], object]], ...] = (
+    (b"\x1f\x8b", "gzip", lambda stream: gzip.GzipFile(fileobj=stream)),
+    (b"BZh", "bzip2", bz2.BZ2File),
+    (b"\xfd7zXZ", "xz", lzma.LZMAFile),
+)
+
+
+class _Joined(io.RawIOBase):
+    """The bytes that were looked at, and then the rest of the stream."""
+
+    def __init__(self, head: bytes, stream: IO[bytes]) -> None:
+        self.head, self.stream = head, stream
+
+    def readable(self) -> bool:
+        return True
+
+    def readinto(self, room: object) -> int:
+        view = memoryview(room).cast("B")  # type: ignore[arg-type]
+        data = self.head or self.stream.read(len(view))
+        part, self.head = data[:len(view)], data[len(view):]
+        view[:len(part)] = part
+        return len(part)
+
+
+class Source:
+    """A dump as words. `notes` says what was done to its bytes."""
+
+    def __init__(self, path: str) -> None:
+        self.path = path
+        self.notes: List[str] = []
+        self._words: Iterator[bytes] = self._all_words()
+
+    def __iter__(self) -> Iterator[bytes]:
+        return self
+
+    def __next__(self) -> bytes:
+        return next(self._words)
+
+    def give_back(self, word: bytes) -> None:
+        """The word is the next one again."""
+        self._words = chain([word], self._words)
+
+    def words(self) -> Iterator[bytes]:
+        """All that follows, quicker than this object itself; it ends to be true when a word is given back."""
+        return self._words
+
+    def _all_words(self) -> Iterator[bytes]:
+        rest = b""
+        try:
+            for block in self._blocks():
+                words = (rest + block).split()
+                rest = b"" if block[-1:].isspace() or not words else words.pop()
+                if len(rest) > LONGEST:
+                    raise Problem("%s: is no dump: a word has more than %d bytes" % (self.path, LONGEST))
+                yield from words
+        except (EOFError, zlib.error, lzma.LZMAError, gzip.BadGzipFile) as error:
+            raise Problem("%s: cannot be unpacked: %s" % (self.path, error)) from error
+        if rest:
+            yield rest
+
+    def _blocks(self) -> Iterator[bytes]:
+        opened = cast(IO[bytes], sys.stdin.buffer) if self.path == "-" else open(self.path, "rb")
+        with opened as stream:
+            head = stream.read(HEAD)
+            joined = cast(IO[bytes], io.BufferedReader(_Joined(head, stream), BLOCK))
+            for magic, what in OTHERS:
+                if head.startswith(magic):
+                    raise Problem("%s: is no dump but %s" % (self.path, what))
+            for magic, name, unpack in PACKED:
+                if head.startswith(magic):
+                    self.notes.append("the file is packed by %s and was unpacked" % name)
+                    joined = cast(IO[bytes], unpack(joined))
+            yield from self._plain(joined)
+
+    def _plain(self, stream: IO[bytes]) -> Iterator[bytes]:
+        block = stream.read(BLOCK)
+        marks = (codecs.BOM_UTF16_LE, "utf-16-le"), (codecs.BOM_UTF16_BE, "utf-16-be"), (codecs.BOM_UTF8, "")
+        decode = None
+        for mark, code in marks:
+            if block.startswith(mark):
+                block = block[len(mark):]
+                self.notes.append("UTF-16 was made bytes" if code else "the byte order mark was left out")
+                decode = codecs.getincrementaldecoder(code)("replace") if code else None
+                break
+        while block:
+            yield decode.decode(block).encode() or b" " if decode else block
+            block = stream.read(BLOCK)

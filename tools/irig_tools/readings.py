@@ -1,0 +1,113 @@
+"""What the editor reads on one wire under each coded expression."""
+from __future__ import annotations
+
+import subprocess
+import tempfile
+from contextlib import contextmanager
+from dataclasses import dataclass, field
+from typing import IO, Iterator, List, Optional, Sequence, Set
+
+from .editor import Problem, find_editor
+
+EXPRESSIONS = {"A": range(8), "B": range(8), "E": (1, 2, 5, 6), "G": (1, 2, 5, 6)}
+SECONDS = (0, 3, 4, 7)  # expressions with straight binary seconds
+YEARS = (4, 5, 6, 7)  # with the year
+CONTROLS = (0, 1, 4, 5)  # with control functions
+
+
+@dataclass
+class Reading:
+    """The frames under one expression."""
+
+    kind: str
+    expression: int
+    frames: int = 0
+    fine: int = 0
+    first: str = ""  # the time of the first fine frame
+    last: str = ""
+    years: Set[str] = field(default_factory=set)
+    controls: Set[str] = field(default_factory=set)
+
+    def line(self, words: Sequence[str]) -> None:
+        """Takes one line of `frames`."""
+        self.frames += 1
+        if words[-1] != "fine":
+            return
+        self.fine += 1
+        self.last = " ".join(words[3:5])
+        for name, kept in (("year", self.years), ("control", self.controls)):
+            if name in words and len(kept) < 1000:
+                kept.add(words[words.index(name) + 1])
+                self.last += " year " + words[words.index(name) + 1] if name == "year" else ""
+        self.first = self.first or self.last
+
+    def text(self) -> str:
+        told = "expression %d: %d of %d frames fine" % (self.expression, self.fine, self.frames)
+        return told + (", %s to %s" % (self.first, self.last) if self.fine else "")
+
+
+@dataclass
+class Readings:
+    """All expressions of one wire, or why the editor does not read it."""
+
+    rows: List[Reading] = field(default_factory=list)
+    pulses: int = 0
+    length: int = 0
+    refused: str = ""
+
+
+def read(track: str, kind: str) -> Readings:
+    """Asks the editor for the frames of a track of one wire under every expression of a format."""
+    script = "".join("format %s %d\ninfo\nframes\n" % (kind, number) for number in EXPRESSIONS[kind])
+    found, row = Readings(), Reading(kind, 0)
+    command = [find_editor(), "--out", "/dev/null", track]
+    pipe = subprocess.PIPE
+    with given(script) as lines, subprocess.Popen(command, stdin=lines, stdout=pipe, stderr=pipe) as run:
+        assert run.stdout is not None and run.stderr is not None
+        for line in run.stdout:
+            words = line.decode(errors="replace").split()
+            if words[0] == "length":
+                row = Reading(kind, int(words[8]))
+                found.rows.append(row)
+                found.length, found.pulses = int(words[1]), int(words[3])
+            elif words[0].isdigit():
+                row.line(words)
+        found.refused = run.stderr.read().decode(errors="replace").strip().rpartition(": ")[2]
+    return found
+
+
+@contextmanager
+def given(script: str) -> Iterator[IO[bytes]]:
+    """A script as a file: a pipe would break if the editor refuses the track."""
+    with tempfile.TemporaryFile() as lines:
+        lines.write(script.encode())
+        lines.seek(0)
+        yield lines
+
+
+def is_read(track: str, wire: Optional[str], pulses: int) -> bool:
+    """Whether the editor reads the wire of this dump as it is."""
+    options = [] if wire is None else ["--wire=" + wire]
+    command = [find_editor(), *options, "--out", "/dev/null", track]
+    try:
+        with given("info\n") as lines:
+            run = subprocess.run(command, stdin=lines, capture_output=True, check=False)
+    except OSError as error:
+        raise Problem("irig_ed cannot be run: %s" % error.strerror) from error
+    words = run.stdout.split()
+    return run.returncode == 0 and len(words) > 3 and int(words[3]) == pulses
+
+
+def best(rows: Sequence[Reading]) -> Reading:
+    """The expression with the most fine frames; of several that which uses what is there, and no more."""
+    most = max(row.fine for row in rows)
+    if not most:
+        return next(row for row in rows if row.expression == 2)
+    left = [row for row in rows if row.fine == most]
+    with_seconds = [row for row in left if row.expression in SECONDS]
+    left = with_seconds or left
+    dated = [row for row in left if 0 < len(row.years) < 3 and row.years != {"00"}]
+    plain = [row for row in left if row.expression not in YEARS]
+    left = dated or plain or left
+    quiet = [row for row in left if row.expression not in CONTROLS]
+    return (quiet or left)[0]

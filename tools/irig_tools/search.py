@@ -1,0 +1,153 @@
+"""Looks for time code on every wire of a dump, in one pass and little memory."""
+from __future__ import annotations
+
+from collections import Counter
+from dataclasses import dataclass
+from typing import Dict, List, Sequence, Tuple
+
+from .dump_body import Body, Wanted
+from .dump_choice import Signal, bit_of, singles
+from .dump_header import Header
+from .dump_parts import each_dump
+from .dump_source import Source
+from .dump_units import MICROSECOND, unit_of
+from .editor import Problem
+from .layout import INTERVAL
+
+WINDOW = 1024  # edges that are judged together
+FEWEST = 16  # edges that are judged
+HOPELESS = 16  # windows without time code, after which a wire is no longer looked at
+WIDEST = 64  # bits of a vector that is looked at
+TRIED = ("1 us", "1 ns", "1 ps", "1 ms", "1 fs", "1 s")  # if the dump names no unit
+
+Kind = Tuple[str, bool]  # a format, and whether the wire is upside down
+
+
+def kinds_of(edges: Sequence[int], rise_first: bool, steps: Dict[str, float]) -> Dict[Kind, float]:
+    """How much these edges look like each kind of time code, from 0 to 1; only what can be is there."""
+    found: Dict[Kind, float] = {}
+    for inverted in (False, True):
+        first = 0 if rise_first != inverted else 1
+        starts, ends = edges[first::2], edges[first + 1::2]
+        gaps = [after - before for before, after in zip(starts, starts[1:])]
+        for kind, step in steps.items():
+            near = sum(0.9 * step <= gap <= 1.1 * step for gap in gaps)
+            if 2 * near >= len(gaps) > 0 and _has_classes(starts, ends, step):
+                found[kind, inverted] = near / len(gaps)
+    return found
+
+
+def _has_classes(starts: Sequence[int], ends: Sequence[int], step: float) -> bool:
+    """Whether there are position identifiers and others among the pulses."""
+    widths = [end - start for start, end in zip(starts, ends)]
+    positions = sum(0.65 * step <= width < 0.95 * step for width in widths)
+    others = sum(0.05 * step <= width < 0.65 * step for width in widths)
+    return positions > 0.04 * len(widths) and others > 0.04 * len(widths)
+
+
+class Probe:
+    """The edges of one wire, judged a window at a time."""
+
+    def __init__(self, signal: Signal, steps: Dict[str, float]) -> None:
+        self.signal, self.steps = signal, steps
+        self.high, self.rise_first = False, True
+        self.edges: List[int] = []
+        self.votes: Counter[Kind] = Counter()
+        self.windows = 0
+
+    def change(self, time: int, high: bool) -> bool:
+        """Whether the wire is hopeless."""
+        if high != self.high:
+            self.high = high
+            if not self.edges:
+                self.rise_first = high
+            self.edges.append(time)
+            if len(self.edges) == WINDOW:
+                self.judge()
+        return self.windows >= HOPELESS and not self.votes
+
+    def judge(self) -> None:
+        if len(self.edges) >= FEWEST:
+            found = kinds_of(self.edges, self.rise_first, self.steps)
+            if found:
+                self.votes[max(found, key=lambda kind: found[kind])] += 1
+            self.windows += 1
+        self.edges = []
+
+    @property
+    def kind(self) -> Kind:
+        return self.votes.most_common(1)[0][0]
+
+
+@dataclass
+class Found:
+    """The wires on which there may be time code."""
+
+    header: Header
+    unit: str
+    probes: List[Probe]
+    looked_at: int
+    dumps: int = 1
+
+
+def signals(header: Header) -> List[Signal]:
+    """Every wire of one bit, and every bit of a vector."""
+    found = {(signal.code, signal.place): signal for signal in singles(header)}
+    for wire in header.wires:
+        if wire.bits and 1 < wire.size <= WIDEST and abs(wire.first - wire.last) < WIDEST:
+            for number in range(min(wire.first, wire.last), max(wire.first, wire.last) + 1):
+                signal = bit_of(wire, number)
+                if signal:
+                    found.setdefault((signal.code, signal.place), signal)
+    return list(found.values())
+
+
+def search(path: str, unit: str, number: int) -> Found:
+    """Looks through one dump of a file; `unit` is used if the dump names none, after '=' in any case."""
+    source, results = Source(path), []
+
+    def use(header: Header) -> Body:
+        named = unit[1:] if unit.startswith("=") else header.unit or unit
+        probes = [Probe(signal, steps_of(named)) for signal in signals(header)]
+        results.append(Found(header, named, probes, len(probes)))
+        return _look(source, probes)
+
+    dumps = each_dump(source, number, use)
+    found = results[0]
+    found.dumps = dumps
+    for probe in found.probes:
+        probe.judge()
+    found.probes = [probe for probe in found.probes if probe.votes]
+    return found
+
+
+def steps_of(named: str) -> Dict[str, float]:
+    """The index count intervals, in the unit of the dump."""
+    unit = unit_of(named)
+    return {kind: step * MICROSECOND / (unit.femtoseconds * unit.factor) for kind, step in INTERVAL.items()}
+
+
+def _look(source: Source, probes: List[Probe]) -> Body:
+    wanted = Wanted()
+    for number, probe in enumerate(probes):
+        wanted.add(number, probe.signal.code, probe.signal.place)
+    body = Body(source, wanted)
+    for time, number, letter in body.changes():
+        probe = probes[number]
+        if probe.change(time, letter == "1"):
+            wanted.drop(number, probe.signal.code)
+    return body
+
+
+def search_any(path: str, unit: str, number: int) -> Found:
+    """Looks through a dump; one that names no unit is tried with several."""
+    if unit:
+        return search(path, "=" + unit, number)
+    found = search(path, TRIED[0], number)
+    for other in TRIED[1:]:
+        if found.header.unit or found.probes:
+            break
+        found = search(path, other, number)
+    if not found.looked_at:
+        raise Problem("%s: has no wire of bits" % path)
+    return found

@@ -1,0 +1,147 @@
+"""Says which wires of a dump carry time code, and how to go on."""
+from __future__ import annotations
+
+import os
+import shlex
+import tempfile
+from dataclasses import dataclass
+from typing import List, Optional
+
+from .dump_choice import Signal, choose, singles
+from .dump_header import Header, shown
+from .editor import Problem
+from .readings import Reading, Readings, best, is_read, read
+from .search import Found, Probe, search_any
+from .wire import Extract, Wish
+
+OFTEN = 8  # wires that are read; the others are only named
+
+
+@dataclass
+class Carrier:
+    """A wire with time code, as it was read."""
+
+    signal: Signal
+    inverted: bool
+    kind: str
+    readings: Readings
+    doubtful: List[str]
+
+    @property
+    def best(self) -> Optional[Reading]:
+        return best(self.readings.rows) if self.readings.rows else None
+
+    @property
+    def fine(self) -> int:
+        return self.best.fine if self.best else 0
+
+    def lines(self) -> List[str]:
+        side = "upside down" if self.inverted else "upright"
+        lines = ["wire %s, %s, format %s" % (self.signal.text(), side, self.kind)]
+        if not self.readings.rows:
+            lines.append("  irig_ed does not read it: " + (self.readings.refused or "no answer"))
+        else:
+            seconds = self.readings.length / 1000000
+            lines.append("  %d pulses in %.6f seconds" % (self.readings.pulses, seconds))
+        return lines + ["  " + text for text in self._rows() + self.doubtful]
+
+    def _rows(self) -> List[str]:
+        """The expressions under which a frame is fine, the best first, and the others in one line."""
+        chosen, rows = self.best, self.readings.rows
+        fine = [row for row in rows if row.fine]
+        fine.sort(key=lambda row: (row is not chosen, -row.fine, row.expression))
+        texts = [row.text() for row in fine]
+        others = " ".join(str(row.expression) for row in rows if not row.fine)
+        if rows and not fine:
+            return ["no frame is fine under any expression"]
+        if others:
+            texts.append("other expressions (%s): no frame is fine" % others)
+        alike = [row for row in fine[1:] if row.fine == fine[0].fine]
+        if alike:
+            text = "the first fits as well as the next %d, and has just the fields that are used"
+            texts.append(text % len(alike))
+        return texts
+
+
+class What:
+    """One dump of a file."""
+
+    def __init__(self, path: str, shown_path: str, unit: str, dump: int) -> None:
+        self.path, self.shown_path, self.unit, self.dump = path, shown_path, unit, dump
+        self.found: Found = search_any(path, unit, dump)
+        self.carriers = [self._read(probe) for probe in self.found.probes[:OFTEN]]
+        self.carriers = sorted(self.carriers, key=lambda carrier: -carrier.fine)
+
+    def _read(self, probe: Probe) -> Carrier:
+        kind, inverted = probe.kind
+        name = wire_name(self.found.header, probe.signal)
+        wish = Wish(name, self.found.unit, self.dump, invert=inverted)
+        with tempfile.NamedTemporaryFile(suffix=".vcd") as track:
+            report = Extract(self.path, wish, track).run()
+            track.flush()
+            readings = read(track.name, kind)
+        doubtful = [text for text in report.doubtful if not text.startswith("the file has")]
+        return Carrier(probe.signal, inverted, kind, readings, doubtful)
+
+    def lines(self) -> List[str]:
+        found = self.found
+        lines = [line for carrier in self.carriers for line in carrier.lines()]
+        lines += ["wire %s may carry time code, and was not read" % probe.signal.text()
+                  for probe in found.probes[OFTEN:]]
+        if not found.header.unit and not self.unit and found.probes:
+            lines.append("the dump names no unit of time; %s makes time code of it" % found.unit)
+        if found.dumps > 1:
+            lines.append("the file has %d dumps, one after the other; this is number %d (--dump N)" % (
+                found.dumps, self.dump))
+        return lines
+
+    def sure(self) -> bool:
+        """Whether just one wire carries time code, and some frame is fine."""
+        return len(self.found.probes) == 1 and self.found.dumps == 1 and self.carriers[0].fine > 0
+
+    def command(self) -> str:
+        """The line to go on with, for the wire with the most fine frames."""
+        carrier = self.carriers[0]
+        number = carrier.best.expression if carrier.best else 2
+        options = "--format %s --expression %d --out new.vcd" % (carrier.kind, number)
+        name = self._wire_option()
+        if self._is_read(carrier, name):
+            wire = "" if name is None else "--wire=%s " % shlex.quote(name)
+            return "irig_ed %s%s %s" % (wire, options, shlex.quote(_no_option(self.shown_path)))
+        return "irig_wire %s > one.vcd; irig_ed %s one.vcd" % (self._extraction(carrier, name), options)
+
+    def _is_read(self, carrier: Carrier, name: Optional[str]) -> bool:
+        whole = not carrier.inverted and self.found.dumps == 1 and not self.unit
+        return whole and self.shown_path != "-" and is_read(self.path, name, carrier.readings.pulses)
+
+    def _extraction(self, carrier: Carrier, name: Optional[str]) -> str:
+        words = ["--invert"] if carrier.inverted else []
+        if self.unit or not self.found.header.unit:
+            words.append("--timescale=" + self.found.unit.replace(" ", ""))
+        if self.found.dumps > 1:
+            words.append("--dump=%d" % self.dump)
+        if (name or "").startswith("--"):
+            words.append("--")
+        words.append(_no_option(self.shown_path))
+        return " ".join(map(shlex.quote, words + ([] if name is None else [name])))
+
+    def _wire_option(self) -> Optional[str]:
+        header, signal = self.found.header, self.carriers[0].signal
+        alone = singles(header)
+        return None if len(alone) == 1 and alone[0] == signal else wire_name(header, signal)
+
+
+def _no_option(path: str) -> str:
+    return os.path.join(".", path) if path.startswith("-") and path != "-" else path
+
+
+def wire_name(header: Header, signal: Signal) -> str:
+    """The shortest name that means just this signal."""
+    for name in (signal.name, signal.path, shown(signal.code)):
+        try:
+            chosen = choose(header, name)
+        except Problem:
+            continue
+        if (chosen.code, chosen.place) == (signal.code, signal.place):
+            return name
+    raise Problem("no name means the wire %s alone" % signal.text())

@@ -1,0 +1,182 @@
+"""Makes of any dump the dump of one wire, as a stream."""
+from __future__ import annotations
+
+from dataclasses import dataclass, field
+from typing import IO, Iterator, List, Optional
+
+from .dump_body import Body, Change, Wanted
+from .dump_choice import Signal, choose
+from .dump_header import Header
+from .dump_parts import each_dump
+from .dump_source import Source
+from .dump_units import MICROSECOND, Unit, unit_of
+from .editor import Problem
+
+LONGEST = 1 << 40  # microseconds that the editor reads
+MOST_BYTES = 1 << 28
+MOST_EDGES = 1 << 23
+LINES = 1 << 14  # that are written at once
+SWAPPED = {"0": "1", "1": "0", "x": "x", "z": "z"}
+
+
+@dataclass
+class Wish:
+    """What is asked for."""
+
+    name: Optional[str] = None
+    unit: Optional[str] = None  # instead of the dump's own
+    dump: int = 1
+    start: Optional[int] = None  # in the unit of the dump
+    end: Optional[int] = None
+    invert: bool = False
+
+
+@dataclass
+class Report:
+    """What was done; what is doubtful is for the user to look at."""
+
+    done: List[str] = field(default_factory=list)
+    doubtful: List[str] = field(default_factory=list)
+    length: int = 0  # in microseconds
+    edges: int = 0
+    size: int = 0
+
+
+class Writer:
+    """Writes the changes of one wire; what comes before the start is one level at 0."""
+
+    def __init__(self, out: IO[bytes], signal: Signal, unit: Unit, wish: Wish) -> None:
+        self.out, self.unit, self.wish = out, unit, wish
+        self.offset: Optional[int] = wish.start
+        self.letter, self.at = "", 0
+        self.size = self.edges = 0
+        self.lines: List[str] = []
+        declared = "$var wire 1 ! %s $end" % signal.name
+        self._lines("$timescale %s $end" % unit.text, "$scope module irig $end", declared, "$upscope $end",
+                    "$enddefinitions $end", "#0", "$dumpvars")
+        self.begun = False
+
+    def _lines(self, *lines: str) -> None:
+        self.lines += lines
+        if len(self.lines) > LINES:
+            self.flush()
+
+    def flush(self) -> None:
+        data = "".join(line + "\n" for line in self.lines).encode("utf-8", "replace")
+        self.size += len(data)
+        self.lines = []
+        self.out.write(data)
+
+    def place(self, time: int, body: Body) -> int:
+        """The time that is written for a time of the dump."""
+        if self.offset is None:
+            if not time:
+                return 0
+            limit = LONGEST * MICROSECOND // (self.unit.femtoseconds * self.unit.factor)
+            self.offset = body.begun if body.begun > limit else 0
+        return max(0, time - self.offset) * self.unit.factor
+
+    def all(self, changes: Iterator[Change], body: Body) -> None:
+        for time, _, letter in changes:
+            if letter != self.letter and (self.wish.end is None or time <= self.wish.end):
+                self._change(self.place(time, body), letter)
+        last = body.now if self.wish.end is None else min(body.now, self.wish.end)
+        at = self.place(last, body)
+        self._begin()
+        if at > self.at:
+            self._lines("#%d" % at)
+        self.at = at
+        self.flush()
+
+    def _begin(self) -> None:
+        if not self.begun:
+            self.begun = True
+            self._lines(self._shown(), "$end")
+
+    def _change(self, at: int, letter: str) -> None:
+        if at:
+            self._begin()
+            self.edges += "1" in (letter, self.letter)
+            self.letter = letter
+            if at != self.at:
+                self._lines("#%d" % at, self._shown())
+                self.at = at
+            else:
+                self._lines(self._shown())
+        self.letter = letter
+
+    def _shown(self) -> str:
+        letter = self.letter or "x"
+        return (SWAPPED[letter] if self.wish.invert else letter) + "!"
+
+
+class Extract:
+    """One wire out of a file of dumps."""
+
+    def __init__(self, path: str, wish: Wish, out: IO[bytes]) -> None:
+        self.source, self.wish, self.out = Source(path), wish, out
+        self.report = Report()
+
+    def run(self) -> Report:
+        """Reads the whole file, and writes the dump that is asked for."""
+        dumps = each_dump(self.source, self.wish.dump, self._write)
+        if dumps > 1:
+            text = "the file has %d dumps, one after the other; this is number %d (--dump N)"
+            self.report.doubtful.append(text % (dumps, self.wish.dump))
+        return self.report
+
+    def _write(self, header: Header) -> Body:
+        named = self.wish.unit or header.unit
+        if not named:
+            raise Problem("%s: names no unit of time; give one, as --timescale 1ns" % self.source.path)
+        unit, signal = unit_of(named), choose(header, self.wish.name)
+        wanted = Wanted()
+        wanted.add(0, signal.code, signal.place)
+        body, writer = Body(self.source, wanted), Writer(self.out, signal, unit, self.wish)
+        writer.all(body.changes(), body)
+        self._say_header(header, signal, unit, named)
+        self._say_body(body, writer)
+        self._say_limits(writer)
+        return body
+
+    def _say_header(self, header: Header, signal: Signal, unit: Unit, named: str) -> None:
+        say = self.report.done.append
+        self.report.done += self.source.notes + header.notes
+        say("the wire is %s" % signal.text())
+        others = len({wire.code for wire in header.wires} - {signal.code})
+        if others:
+            say("%d other wire%s left out" % (others, " was" if others == 1 else "s were"))
+        if unit.text.replace(" ", "") != named.replace(" ", ""):
+            many = "" if unit.factor == 1 else ", and every time is multiplied by %d" % unit.factor
+            say("the unit %s is written as %s%s" % (named, unit.text, many))
+        if self.wish.invert:
+            say("high and low are swapped")
+
+    def _say_body(self, body: Body, writer: Writer) -> None:
+        say, doubt, counts = self.report.done.append, self.report.doubtful.append, body.counts
+        if writer.offset:
+            say("%d of the dump's unit was taken off all times" % writer.offset)
+        if counts["letters"]:
+            say("letters other than 0 1 x z, %d of them: H is 1, L is 0, the rest is x" % counts["letters"])
+        if counts["ports"]:
+            say("the changes are those of an extended dump (of ports)")
+        if counts["journals"]:
+            say("the history of a saved session was left out")
+        if counts["unclosed"]:
+            doubt("a comment has no $end, and the rest of the file was left out with it")
+        if counts["strange"]:
+            text = "%d words that mean no change were left out, the first '%s'"
+            doubt(text % (counts["strange"], body.strange))
+        if not writer.edges:
+            doubt("the wire never changes")
+
+    def _say_limits(self, writer: Writer) -> None:
+        report = self.report
+        report.length = writer.at * writer.unit.femtoseconds // MICROSECOND
+        report.edges, report.size = writer.edges, writer.size
+        most = ("microseconds", report.length, LONGEST), ("edges", report.edges, MOST_EDGES), (
+            "bytes", report.size, MOST_BYTES)
+        for what, has, limit in most:
+            if has > limit:
+                text = "it has %d %s, and irig_ed reads at most %d: take a part by --from and --to"
+                report.doubtful.append(text % (has, what, limit))
