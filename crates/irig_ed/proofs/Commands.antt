@@ -1,7 +1,7 @@
 -- What the command refuses.
 use Rattle.std.proofs.Common.{◌≡◌, ◌∙◌, List, Result, Ok, Err, true, inr, ap, refl}
 use Rattle.std.specs.Prelude.{IfErr}
-use Rattle.clap.specs.Words.{App, FailsBy, HasKind, Text, fault_of, is_simple_and_free, kind_of, takes}
+use Rattle.clap.specs.Words.{App, FailsBy, Text, fault_of, is_simple_and_free, kind_of, takes}
 use Rattle.clap.specs.declared.error.Error.{Error}
 use Rattle.clap.specs.declared.error.kind.ErrorKind.TheVariants.{OutOfMemory}
 use Rattle.clap.specs.declared.builder.value_parser.ValueParser.{ValueParser}
