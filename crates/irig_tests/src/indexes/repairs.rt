@@ -49,7 +49,9 @@ fn both_ways(alloc: Global, format: Format, edit: Edit) -> Result<bool, AllocErr
 
 #[test]
 fn an_inversion_at_each_place_of_a_short_track(rt: HostRuntime) -> Result<(), Fail> {
-    let format = Format::new(Kind::G, 2).expect(&rt, "G permits expression 2");
+    let format = Format::new(Kind::G, 2)
+        .ok()
+        .expect(&rt, "G permits expression 2");
     for number in 0..1600u64 {
         let edit = Edit::Invert(number % 40 * 20, number / 40 * 20 + 20);
         assert!(rt; both_ways(rt.alloc(), format, edit)?);
@@ -59,7 +61,9 @@ fn an_inversion_at_each_place_of_a_short_track(rt: HostRuntime) -> Result<(), Fa
 
 #[test]
 fn a_move_at_each_place_of_a_short_track(rt: HostRuntime) -> Result<(), Fail> {
-    let format = Format::new(Kind::G, 2).expect(&rt, "G permits expression 2");
+    let format = Format::new(Kind::G, 2)
+        .ok()
+        .expect(&rt, "G permits expression 2");
     for pulse in 0..8usize {
         for by in [-90i64, -20, -10, -1, 1, 10, 19] {
             assert!(rt; both_ways(rt.alloc(), format, Edit::Move(pulse, by))?);
@@ -70,7 +74,9 @@ fn a_move_at_each_place_of_a_short_track(rt: HostRuntime) -> Result<(), Fail> {
 
 #[test]
 fn a_cut_at_each_place_of_a_short_track(rt: HostRuntime) -> Result<(), Fail> {
-    let format = Format::new(Kind::G, 2).expect(&rt, "G permits expression 2");
+    let format = Format::new(Kind::G, 2)
+        .ok()
+        .expect(&rt, "G permits expression 2");
     for number in 0..64usize {
         let edit = Edit::Cut(number / 8, number % 8 + 1);
         assert!(rt; all_agree(rt.alloc(), positions(rt.alloc())?, format, &[edit])?);
@@ -80,7 +86,9 @@ fn a_cut_at_each_place_of_a_short_track(rt: HostRuntime) -> Result<(), Fail> {
 
 #[test]
 fn a_pulse_more_at_each_place_of_four_frames(rt: HostRuntime) -> Result<(), Fail> {
-    let format = Format::new(Kind::G, 2).expect(&rt, "G permits expression 2");
+    let format = Format::new(Kind::G, 2)
+        .ok()
+        .expect(&rt, "G permits expression 2");
     for place in 0..400u64 {
         let edit = Edit::Invert(100 * place + 84, 100 * place + 88);
         assert!(rt; all_agree(rt.alloc(), sound(rt.alloc(), 400)?, format, &[edit, edit])?);
@@ -90,7 +98,9 @@ fn a_pulse_more_at_each_place_of_four_frames(rt: HostRuntime) -> Result<(), Fail
 
 #[test]
 fn edits_in_turn(rt: HostRuntime) -> Result<(), Fail> {
-    let format = Format::new(Kind::G, 2).expect(&rt, "G permits expression 2");
+    let format = Format::new(Kind::G, 2)
+        .ok()
+        .expect(&rt, "G permits expression 2");
     let near = Edit::Invert(84, 88);
     let far = Edit::Invert(39_984, 39_988);
     let rows: [&[Edit]; 6] = [

@@ -68,7 +68,9 @@ fn is_read(index: &Index, lens: &Lens<'_>) -> bool {
 
 #[test]
 fn a_sound_track_is_read_with_few_looks(rt: HostRuntime) -> Result<(), Fail> {
-    let format = Format::new(Kind::G, 2).expect(&rt, "G permits expression 2");
+    let format = Format::new(Kind::G, 2)
+        .ok()
+        .expect(&rt, "G permits expression 2");
     let track = sound(rt.alloc(), 200)?;
     let mut lens = track.lens();
     let index = Index::build(rt.alloc(), &mut lens, format)?;
@@ -123,7 +125,9 @@ fn rows_hold(
 
 #[test]
 fn frames_are_read_or_broken_where_they_are(rt: HostRuntime) -> Result<(), Fail> {
-    let format = Format::new(Kind::G, 2).expect(&rt, "G permits expression 2");
+    let format = Format::new(Kind::G, 2)
+        .ok()
+        .expect(&rt, "G permits expression 2");
     let mut track = sound(rt.alloc(), 200)?;
     let mut index = Index::build(rt.alloc(), &mut track.lens(), format)?;
     let mut other = Index::build(rt.alloc(), &mut track.lens(), format)?;

@@ -115,11 +115,11 @@ fn check_toggle(
     let answer = toggle(&mut track, a, b)?;
     let new = count_of(&track, b, a, u64::MAX);
     if a < b && b <= length {
-        assert_eq!(rt; answer, Some(Span { at, old, new }), "{bits:b} {a} {b}");
+        assert!(rt; answer == Some(Span { at, old, new }));
         let edges = times_in(alloc, bits ^ (1 << a) ^ (1 << b))?;
         check_edges(rt, alloc, &track, edges.as_slice())?;
     } else {
-        assert_eq!(rt; answer, None, "{bits:b} {a} {b}");
+        assert!(rt; answer == None);
     }
     Ok(())
 }
@@ -141,17 +141,17 @@ fn check_shift(
     match shifted(alloc, edges.as_slice(), i, j, by)? {
         Some(times) if there && may_be_edges(times.as_slice(), length) => {
             let count = (j - i).saturating_add(1);
-            assert_eq!(rt;
-                answer,
-                Some(Span {
-                    at: i,
-                    old: count,
-                    new: count
-                })
+            assert!(rt;
+                answer
+                    == Some(Span {
+                        at: i,
+                        old: count,
+                        new: count
+                    })
             );
             check_edges(rt, alloc, &track, times.as_slice())?;
         }
-        _ => assert_eq!(rt; answer, None, "{bits:b} {i} {j} {by}"),
+        _ => assert!(rt; answer == None),
     }
     Ok(())
 }
@@ -174,17 +174,17 @@ fn check_splice(
     let mut pulses = pulses_of(alloc, put)?;
     let answer = splice(rt, alloc, &mut track, at, count, &mut pulses)?;
     if there && may_be_edges(times.as_slice(), length) {
-        assert_eq!(rt;
-            answer,
-            Some(Span {
-                at,
-                old: count,
-                new: put.len()
-            })
+        assert!(rt;
+            answer
+                == Some(Span {
+                    at,
+                    old: count,
+                    new: put.len()
+                })
         );
         check_edges(rt, alloc, &track, times.as_slice())?;
     } else {
-        assert_eq!(rt; answer, None, "{bits:b} {at} {count}");
+        assert!(rt; answer == None);
     }
     Ok(())
 }
