@@ -66,16 +66,26 @@ def memory(data):
     return number
 
 
+def error_of(dump, rises, hertz):
+    """The middle error of the first rises in cycles of the carrier."""
+    found = rises_of(dump)
+    errors = [min(abs(rise - other) for other in found) for rise in rises[:200]] if found else [1e9]
+    return statistics.median(errors) * hertz / 1000000
+
+
 def measured(kind, seed, frames, rate, hertz=0):
-    """Fine frames, and the middle error of the rises in cycles of the carrier."""
+    """Fine frames and the error of a signal, and of the same one with plus and minus swapped; whether that was seen."""
     rng = random.Random("%s %d" % (kind, seed))
     hertz = hertz or CARRIER[kind]
     values, rises = signal(kind, rng, rate, hertz, rng.uniform(3, 6), rng.uniform(0, 0.07), rng.uniform(-2e-4, 2e-4),
                            rng.uniform(0, 0.4), frames)
-    status, dump, _ = run("irig_demodulate", ["--format", kind, "--carrier", str(hertz), "-"], wav(values, rate))
-    found = rises_of(dump)
-    errors = [min(abs(rise - other) for other in found) for rise in rises[:200]] if found else [1e9]
-    return fine(dump, kind), statistics.median(errors) * hertz / 1000000
+    words, results = ["--format", kind, "--carrier", str(hertz), "-"], []
+    for swapped in (False, True):
+        data = array("h", [-value for value in values]) if swapped else values
+        _, dump, said = run("irig_demodulate", words, wav(data, rate))
+        seen = "plus and minus are swapped, as" in said if swapped else "swapped" not in said
+        results.append((fine(dump, kind), error_of(dump, rises, hertz), seen))
+    return results
 
 
 # format, samples a second, carrier, frames, signals
@@ -84,18 +94,59 @@ RATES = (("B", 8000, 0, 3, 6), ("B", 44100, 0, 3, 1), ("B", 48000, 0, 3, 1), ("A
 
 
 def rates():
-    """At least 99 of 100 frames are right, and the middle error of the rises is at most a fiftieth of a cycle."""
-    frames = good = 0
+    """At least 99 of 100 frames are right, and the middle error of the rises is at most a fiftieth of a cycle.
+    Plus and minus are seen in every signal."""
+    frames = good = signals = known = 0
     errors = []
-    for kind, rate, hertz, many, signals in RATES:
-        for seed in range(signals):
-            right, error = measured(kind, seed, many, rate, hertz)
-            frames, good = frames + many, good + right
-            errors.append(error)
-    held = good >= 0.99 * frames and max(errors) <= 0.02
+    for kind, rate, hertz, many, count in RATES:
+        for seed in range(count):
+            for right, error, seen in measured(kind, seed, many, rate, hertz):
+                frames, good, signals, known = frames + many, good + right, signals + 1, known + seen
+                errors.append(error)
+    held = good >= 0.99 * frames and max(errors) <= 0.02 and known == signals
     if not held:
-        print("FAILED irig_demodulate: %d of %d frames, worst middle error %.4f" % (good, frames, max(errors)))
+        print("FAILED irig_demodulate: %d of %d frames, worst middle error %.4f, plus and minus seen in %d of %d"
+              % (good, frames, max(errors), known, signals))
     return held
+
+
+def filtered(values, rate, hertz):
+    """A signal after a filter that takes out what is below a frequency: 12 decibels an octave."""
+    turn = 2 * math.pi * hertz / rate
+    wide, middle = math.sin(turn) / math.sqrt(2), math.cos(turn)
+    past, result = (0.0, 0.0, 0.0, 0.0), array("h")
+    for value in values:
+        one, two, last, before = past
+        new = ((1 + middle) * (value - 2 * one + two) / 2 + 2 * middle * last - (1 - wide) * before) / (1 + wide)
+        past = value, one, new, last
+        result.append(round(new))
+    return result
+
+
+def polarity():
+    """The options, a filter that hides plus and minus or does not, and a recording that is too short to show them."""
+    values, rises = signal("B", random.Random(4), 8000, 1000, 3, 0.02, 1e-4, 0.1, 2)
+    other = array("h", [-value for value in values])
+    seen, hidden, none = "plus and minus are swapped, as", "nothing shows whether plus and minus", ""
+    results = []
+    # name, options, samples, what is said, error of the rises in cycles
+    for name, words, data, text, wanted in (
+            ("seen", [], other, seen, 0), ("--swap", ["--swap"], other, none, 0),
+            ("--no-swap", ["--no-swap"], other, none, 0.5), ("not swapped, --no-swap", ["--no-swap"], values, none, 0),
+            ("not swapped, --swap", ["--swap"], values, none, 0.5),
+            ("after silence", [], array("h", [700] * 99999) + other, seen, None),
+            ("a filter at 50 Hz", [], filtered(other, 8000, 50), seen, 0),
+            ("a filter at 300 Hz", [], filtered(values, 8000, 300), hidden, None),
+            ("a filter at 300 Hz, swapped", [], filtered(other, 8000, 300), hidden, None),
+            ("5 pulses", [], values[:500], hidden, None)):
+        status, dump, said = run("irig_demodulate", [*words, "-"], wav(data, 8000))
+        error = error_of(dump, rises, 1000)
+        held = status == 0 and (text in said if text else "swapped" not in said)
+        held = held and (wanted is None or abs(error - wanted) < 0.02)
+        results.append(held)
+        if not held:
+            print("FAILED irig_demodulate, %s: status %d, error %.3f %s" % (name, status, error, said))
+    return results
 
 
 def same(name, words, data, true):
@@ -137,7 +188,7 @@ def refused():
     rows = [([], sound, 1), ([], silent, 1), ([], b"", 2), ([], b"RIFF", 2), ([], sound[:30], 2),
             (["--raw=s16"], b"", 2), (["--raw=what"], b"", 2), (["--format=G"], sound, 2),
             (["--format=A"], sound, 2), (["--channel=2"], sound, 2), (["--channel=0"], sound, 2),
-            (["--raw=text", "--rate=9"], b"a\n", 2), (["--what"], b"", 2),
+            (["--raw=text", "--rate=9"], b"a\n", 2), (["--what"], b"", 2), (["--swap", "--no-swap"], sound, 2),
             ([], wav(b"", 8000, 4), 2), (["--help"], b"", 0)]
     results = []
     for words, data, status in rows:
@@ -149,4 +200,4 @@ def refused():
 
 
 def check():
-    return [rates()] + forms() + refused()
+    return [rates()] + polarity() + forms() + refused()

@@ -93,6 +93,12 @@ ROWS = [
 ]
 
 
+def verilator(top):
+    """The dump that Verilator made of a generator of format A."""
+    with open(os.path.join(top, "tests", "rows", "dumps", "irig_a.vcd"), encoding="ascii") as file:
+        return file.read()
+
+
 def fine_frames(top, command, folder):
     """How many frames the last line leads to."""
     places = os.path.join(top, "tools") + ":" + os.path.join(folder, "bin") + ":" + os.environ["PATH"]
@@ -130,4 +136,6 @@ def piped(top):
 
 
 def check(top):
-    return [row_holds(top, *row) for row in ROWS] + [piped(top), run("irig_what", ["--help"])[0] == 0]
+    parts = ["wire TOP.bench.irig (code $), upright, format A", "expression 2: 1 of 1", "109 12:34:56.70"]
+    simulated = "a simulator's dump", verilator(top), [], 0, parts, 1
+    return [row_holds(top, *row) for row in (*ROWS, simulated)] + [piped(top), run("irig_what", ["--help"])[0] == 0]

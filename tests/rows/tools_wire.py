@@ -80,11 +80,11 @@ def edges_of(dump):
     """The edges of a dump as irig_wire writes it, in nanoseconds, and its length; read by its own simple rules."""
     lines = dump.decode().split("\n")
     number, unit = lines[0].split()[1:3]
-    scale = int(number) * {"us": 1000, "ns": 1, "ms": 10**6, "ps": 0.001}[unit]
+    scale = int(number) * {"ms": 10**12, "us": 10**9, "ns": 10**6, "ps": 1000, "fs": 1}[unit]
     time, level, found = 0, "0", []
     for line in lines[5:]:
         if line.startswith("#"):
-            time = int(line[1:]) * scale
+            time = int(line[1:]) * scale // 10**6
         elif line.endswith("!"):
             new = "1" if line[0] == "1" else "0"
             if new != level:
@@ -100,6 +100,25 @@ def row_holds(name, dump, words, edges, status, text):
         return True
     print("FAILED irig_wire, %s: status %d, %s\n%s" % (name, got, found, said))
     return False
+
+
+# dumps that simulators and a logic analyser wrote, and whose edges other tools read
+REAL = {"icarus": "icarus", "ghdl": "ghdl", "gtkwave": "gtkwave", "verilator": "verilator", "sigrok": "sigrok",
+        "sigrok_with_meta": "sigrok"}
+
+
+def real(top):
+    """The edges in microseconds; the file of edges ends with the length."""
+    results = []
+    for name, edges in REAL.items():
+        folder = os.path.join(top, "examples", "dumps")
+        with open(os.path.join(folder, edges + ".edges"), encoding="ascii") as file:
+            wanted = [int(line.split()[-1]) for line in file]
+        with open(os.path.join(folder, name + ".vcd"), "rb") as dump:
+            status, printed, said = run("irig_wire", ["-"], dump.read())
+        results.append(status == 0 and [time // 1000 for time, _ in edges_of(printed)] == wanted)
+        results[-1] or print("FAILED irig_wire, the dump of %s: %d %s" % (name, status, said))
+    return results
 
 
 def packed():
@@ -128,7 +147,8 @@ def long_file(top):
     maker = "import sys\nw=sys.stdout.write\nw(%r)\nfor i in range(%d):w('#%%d 1!\\n' %% (2*i))\nw('#9999999 0!\\n')"
     code = maker % (HEAD, 400000) + "\nfor i in range(60):w('$comment '+'x'*5000000+' $end ')"
     command = "ulimit -v 200000; %s -c \"$CODE\" | %s/tools/irig_wire - | tail -n 2" % ("python3", top)
-    done = subprocess.run(["bash", "-c", command], env=dict(os.environ, CODE=code), stdout=subprocess.PIPE, check=False)
+    done = subprocess.run(["bash", "-c", command], env=dict(os.environ, CODE=code), stdout=subprocess.PIPE,
+                          stderr=subprocess.DEVNULL, check=False)
     return done.stdout == b"#9999999\n0!\n"
 
 
@@ -192,4 +212,4 @@ def ends(top):
 
 def check(top):
     results = [row_holds(*row) for row in ROWS]
-    return results + packed() + [long_file(top), hostile()] + random_rows() + ends(top)
+    return results + real(top) + packed() + [long_file(top), hostile()] + random_rows() + ends(top)

@@ -3,45 +3,36 @@
 The pulses begin and end where the carrier crosses zero upward. Its phase is measured over hundreds of
 cycles, so it says where each cycle begins far better than one crossing does. The amplitude is then
 measured over each such cycle.
+
+If plus and minus are swapped, the pulses begin and end where the carrier crosses zero downward. At first
+the cycles are read in both ways. In the right way the amplitude steps between two cycles; in the other way
+it does so in the middle of one.
 """
 from __future__ import annotations
 
 import math
-from dataclasses import dataclass
-from itertools import accumulate, chain
+from itertools import accumulate
 from operator import mul
-from typing import Iterator, List, Optional, Sequence, Tuple
+from typing import Iterator, List, Optional, Sequence
 
+from .cycles import Cycles, Edge, Stretch
 from .editor import Problem
-from .samples import Samples, ranks
+from .samples import Samples
 
 CARRIERS = {"A": (10000,), "B": (1000,), "E": (100, 1000)}
 CYCLES = 500  # over which a phase is measured
-LEAST_RATIO = 1.6  # of the amplitudes; below there is no code
 FEWEST = 4  # samples in a cycle
-
-Edge = Tuple[float, int]  # in samples, and the level after it
-
-
-@dataclass
-class Stretch:
-    """Some hundreds of cycles: running sums with cosine and sine, their mean, and the phase in cycles."""
-
-    begin: int
-    length: int
-    sums: List[complex]
-    mean: float
-    phase: float
-
-    @property
-    def middle(self) -> float:
-        return self.begin + self.length / 2
+SOON, LATE = 50, 1000  # steps of the amplitude: the way can be chosen, and has to be
+FEW = 20  # steps; fewer in a whole recording do not show the way
+SHARP = 0.75  # of the steps, in the right way
 
 
 class Carrier:
-    """Turns samples into edges, a stretch at a time."""
+    """Turns samples into edges, a stretch at a time.
 
-    def __init__(self, samples: Samples, hertz: int) -> None:
+    If `swapped` is None, the signal shows whether plus and minus are."""
+
+    def __init__(self, samples: Samples, hertz: int, swapped: Optional[bool] = None) -> None:
         self.samples, self.hertz = samples, hertz
         self.cycle = samples.rate / hertz  # in samples
         if self.cycle < FEWEST:
@@ -51,8 +42,11 @@ class Carrier:
         turns = [2 * math.pi * place / self.cycle for place in range(period)]
         self.turns = [complex(math.cos(turn), math.sin(turn)) for turn in turns] * (self.size // period)
         self.turned = list(accumulate(self.turns, initial=0j))
-        self.level, self.number, self.length = 0, 0, 0
-        self.coded = 0  # stretches with code
+        self.length = 0
+        self.ways = [Cycles(self.cycle, way) for way in (False, True) if swapped in (None, way)]
+        self.found: List[List[Edge]] = [[] for _ in self.ways]  # until one way is chosen
+        self.asked = swapped is None
+        self.chosen = False  # by the signal
 
     def edges(self) -> Iterator[Edge]:
         before: Optional[Stretch] = None
@@ -64,7 +58,8 @@ class Carrier:
             before, now = now, after
         if now:
             yield from self._read(before, now, None)
-        if self.level:
+        yield from self._choose(0, 0)
+        if self.ways[0].level:
             yield float(self.length), 0
 
     def _stretch(self, values: Sequence[float], before: Optional[Stretch]) -> Stretch:
@@ -75,56 +70,26 @@ class Carrier:
         if before:
             phase += round(before.phase - phase)
         begin, self.length = self.length, self.length + len(values)
-        return Stretch(begin, len(values), sums, mean, phase)
-
-    def _starts(self, one: Stretch, other: Optional[Stretch], end: float) -> Iterator[float]:
-        """Where the next cycles begin, up to a place; the phase is a straight line between the stretches."""
-        slope = (other.phase - one.phase) / (other.middle - one.middle) if other else 0.0
-        start = one.phase - slope * one.middle
-        rate = 1 / self.cycle + slope
-        place = (self.number - start) / rate
-        while place < end:
-            yield place
-            self.number += 1
-            place = (self.number - start) / rate
+        return Stretch(begin, len(values), sums, self.turned, mean, phase)
 
     def _read(self, before: Optional[Stretch], now: Stretch, after: Optional[Stretch]) -> Iterator[Edge]:
-        """The edges in a stretch."""
-        end = now.begin + now.length
-        if self.number == 0:
-            self.number = math.ceil(now.phase + now.begin / self.cycle)
-        first = self._starts(now, before or after, now.middle)
-        starts = list(chain(first, self._starts(now, after or before, end)))
-        heights = self._heights(starts, now, after)
-        if len(heights) < 10:
+        """The edges in a stretch; none until one way is chosen, and then those of all stretches so far."""
+        if len(self.ways) == 1:
+            yield from self.ways[0].edges(before, now, after)
             return
-        low, high = ranks(heights)
-        if high < LEAST_RATIO * max(low, 0) or high <= 0:
-            if self.level:
-                self.level = 0
-                yield starts[0], 0
+        for way, found in zip(self.ways, self.found):
+            new = list(way.edges(before, now, after))
+            way.count(new, now, after)
+            found += new
+        yield from self._choose(SOON, LATE)
+
+    def _choose(self, soon: int, late: int) -> Iterator[Edge]:
+        """Chooses the way in which most steps are sharp, or after many steps the first."""
+        steps = max(way.steps for way in self.ways)
+        sharp = [way for way in self.ways if way.steps >= FEW and way.sharp >= SHARP * way.steps]
+        if len(self.ways) == 1 or steps < (soon if sharp else late):
             return
-        self.coded += 1
-        up, down = low + 0.6 * (high - low), low + 0.4 * (high - low)
-        for place, height in zip(starts, heights):
-            if height > up and not self.level or height < down and self.level:
-                self.level = 1 - self.level
-                yield max(place, 0.0), self.level
-
-    def _heights(self, starts: Sequence[float], now: Stretch, after: Optional[Stretch]) -> List[float]:
-        """The amplitude of each cycle, along the phase of the carrier."""
-        angle = 2 * math.pi * now.phase
-        across, along = math.sin(angle), math.cos(angle)
-        places = [max(0, math.ceil(start) - now.begin) for start in starts]
-        if starts:
-            places.append(max(places[-1], math.ceil(starts[-1] + self.cycle) - now.begin))
-        found = [self._sum(place, now, after) for place in places]
-        sums = [whole.real * across + whole.imag * along for whole in found]
-        return [(last - first) / self.cycle for first, last in zip(sums, sums[1:])]
-
-    def _sum(self, place: int, now: Stretch, after: Optional[Stretch]) -> complex:
-        """The running sum without the mean, up to a place, which may be in the next stretch."""
-        over = place - now.length
-        place = min(place, now.length)
-        whole = now.sums[place] - now.mean * self.turned[place]
-        return whole + self._sum(over, after, None) if after and over > 0 else whole
+        self.chosen = bool(sharp)
+        right = sharp[0] if sharp else self.ways[0]
+        yield from self.found[self.ways.index(right)]
+        self.ways, self.found = [right], []

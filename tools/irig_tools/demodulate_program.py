@@ -4,8 +4,9 @@ from __future__ import annotations
 import sys
 from typing import Iterator, Sequence, Union
 
-from .carrier import CARRIERS, Carrier, Edge
+from .carrier import CARRIERS, Carrier
 from .command import FOUND, SOUND, Usage
+from .cycles import Edge
 from .editor import complain
 from .options import Options, parse, run
 from .samples import RAW, Samples, ranks
@@ -22,7 +23,8 @@ line; - is standard input.
   --carrier HERTZ     another carrier: 1000 for format E
   --level             the code is not on a carrier: the samples are its level
   --channel N         the channel of the WAV file, from 1
-  --swap              the recorder swapped plus and minus
+  --swap, --no-swap   the recorder swapped plus and minus, or did not; code on a
+                      carrier shows it if neither is given
   --raw KIND          u8, s8, s16, s24 or s32: integers; text: a number a line
   --rate HERTZ        the samples in a second, with --raw
   -h, --help          prints this text
@@ -31,6 +33,7 @@ The status is 0 if pulses were found, 1 if there are none, and 2 if the samples
 were not read.
 """
 HEAD = "$timescale 1 us $end\n$scope module irig $end\n$var wire 1 ! irig $end\n$upscope $end\n"
+PROGRAM = "irig_demodulate"
 STRETCH = 1 << 20  # samples of a level that are looked at together
 
 
@@ -65,36 +68,57 @@ class Levels:
             self.length += len(values)
 
 
-def samples_of(options: Options) -> Samples:
+def samples_of(options: Options, swapped: bool) -> Samples:
     raw = options.get("--raw") or ""
     if raw and raw not in RAW and raw != "text":
         raise Usage("--raw is one of %s and text" % ", ".join(RAW))
-    kind = Negative if options.has("--swap") else Samples
+    kind = Negative if swapped else Samples
     channel, rate = options.number("--channel", 1) or 1, options.number("--rate", 1) or 0
     return kind(options.names[0], channel, raw, rate)
 
 
+def reader_of(options: Options, name: str) -> Union[Levels, Carrier]:
+    if options.has("--swap") and options.has("--no-swap"):
+        raise Usage("--swap and --no-swap exclude each other")
+    if options.has("--level"):
+        return Levels(samples_of(options, options.has("--swap")))
+    known = options.has("--swap") or options.has("--no-swap")
+    hertz = options.number("--carrier", 1) or CARRIERS[name][0]
+    return Carrier(samples_of(options, False), hertz, options.has("--swap") if known else None)
+
+
+def remark(reader: Union[Levels, Carrier]) -> None:
+    """Says what was found out about plus and minus."""
+    if isinstance(reader, Carrier) and reader.asked:
+        way = reader.ways[0]
+        if not reader.chosen:
+            complain("nothing shows whether plus and minus are swapped; if they are, use --swap", PROGRAM)
+        elif way.swapped:
+            text = "plus and minus are swapped, as %d of %d amplitude steps show; this is corrected"
+            complain(text % (way.sharp, way.steps), PROGRAM)
+
+
 def work(words: Sequence[str]) -> int:
     valued = "--format", "--carrier", "--channel", "--raw", "--rate"
-    options = parse(words, valued, ("--level", "--swap"))
+    options = parse(words, valued, ("--level", "--swap", "--no-swap"))
     name = options.get("--format") or "B"
     if len(options.names) != 1:
         raise Usage("one file of SAMPLES is needed")
     if name not in CARRIERS and not options.has("--level"):
         raise Usage("--format is A, B or E; G is read as a level")
-    samples = samples_of(options)
-    hertz = options.number("--carrier", 1) or CARRIERS.get(name, (0,))[0]
-    reader: Union[Levels, Carrier] = Levels(samples) if options.has("--level") else Carrier(samples, hertz)
+    reader = reader_of(options, name)
     sys.stdout.write(HEAD + "$enddefinitions $end\n#0\n$dumpvars\n0!\n$end\n")
     pulses = 0
     for place, level in reader.edges():
         pulses += level
-        sys.stdout.write("#%d\n%d!\n" % (round(place * 1000000 / samples.rate), level))
-    sys.stdout.write("#%d\n" % round(reader.length * 1000000 / samples.rate))
+        sys.stdout.write("#%d\n%d!\n" % (round(place * 1000000 / reader.samples.rate), level))
+    sys.stdout.write("#%d\n" % round(reader.length * 1000000 / reader.samples.rate))
     sys.stdout.flush()
-    complain("%d pulses in %.3f seconds" % (pulses, reader.length / samples.rate), "irig_demodulate")
+    if pulses:
+        remark(reader)
+    complain("%d pulses in %.3f seconds" % (pulses, reader.length / reader.samples.rate), PROGRAM)
     return SOUND if pulses else FOUND
 
 
 def main() -> int:
-    return run("irig_demodulate", USAGE, work)
+    return run(PROGRAM, USAGE, work)
