@@ -12,7 +12,7 @@ from .interval import Clock, Run, share_in_step
 from .layout import Layout
 from .remarks import remarks
 from .script import Repair
-from .slots import SURE, link, parts
+from .slots import SURE, link, parts, sure_parts
 from .threshold import level
 from .track import Track
 
@@ -76,12 +76,15 @@ def _examine_parts(listing: Listing, findings: Findings) -> None:
     clock = findings.clock = Clock(listing, findings.layout.interval)
     found = parts(clock, listing.classes)
     for runs in reversed(found):
-        if link(clock, runs, listing.classes) > 5 + sum(run.count for run in runs) / 18:
+        cost = link(clock, runs, listing.classes, findings.layout.unused)
+        if cost > 5 + sum(run.count for run in runs) / 18:
             at = listing.rises[runs[0].first]
             seen = "from pulse %d on the position identifiers are not ten apart" % (runs[0].first + 1)
             findings.remarks.append(Remark(at, seen, "is it another format, or another wire?"))
         else:
-            findings.parts.append(_part(listing, findings.layout, clock, runs))
+            for part in reversed(sure_parts(runs)):
+                findings.parts.append(_part(listing, findings.layout, clock, part))
+            findings.remarks += [_of_unsure(listing, run) for run in runs if run.others]
     for before, after in zip(found, found[1:]):
         elements = round((after[0].begin - before[-1].end) / clock.interval) - 1
         findings.remarks.append(
@@ -93,6 +96,18 @@ def _examine_parts(listing: Listing, findings: Findings) -> None:
         )
     if not found:
         findings.remarks.append(Remark(0, "no pulses follow each other in step", "is it another wire?"))
+
+
+def _of_unsure(listing: Listing, run: Run) -> Remark:
+    """A run that is left alone, since nothing decides its place."""
+    elements = sorted({run.place % 100, *run.others})
+    seen = "pulses %d to %d may begin with element %s, and nothing decides which" % (
+        run.first + 1,
+        run.last + 1,
+        " or ".join(map(str, elements)),
+    )
+    choice = "they are left, and what comes before and after them is mended for itself"
+    return Remark(listing.rises[run.first], seen, choice)
 
 
 def _part(listing: Listing, layout: Layout, clock: Clock, runs: List[Run]) -> Part:

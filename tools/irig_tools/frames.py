@@ -105,12 +105,24 @@ class Times:
 
     def against(self, number: int, base: int) -> Tuple[int, int]:
         """How many elements of a frame speak against a base, and, negative, how many for it."""
-        text, wanted = self.texts[number], self.layout.encode(
-            self.calendar.fields(base + number * self.layout.period)
-        )
-        told = [(text[element], wanted[element]) for element in self.layout.carried if text[element] in "01"]
-        wrong = sum(a != b for a, b in told)
-        return wrong, wrong - len(told)
+        votes = self.votes(number, base).values()
+        wrong = sum(each < 0 for each in votes)
+        return wrong, wrong - len(votes)
+
+    def votes(self, number: int, base: int) -> Dict[int, int]:
+        """For each element of a frame that can be read, 1 if it speaks for a base, and -1 if against it."""
+        text, fields = self.texts[number], self.calendar.fields(base + number * self.layout.period)
+        wanted = self.layout.encode(fields)
+        read = [element for element in self.layout.carried if text[element] in "01"]
+        return {element: 1 if text[element] == wanted[element] else -1 for element in read}
+
+    def is_borne(self, numbers: Sequence[int], base: int) -> bool:
+        """Whether at least one element of these frames speaks for a base, and each that speaks against it is
+        outvoted."""
+        votes: Counter[int] = Counter()
+        for number in numbers:
+            votes.update(self.votes(number, base))
+        return min(votes.values(), default=0) > 0
 
     def _find_spans(self) -> List[Span]:
         spans: List[Span] = []

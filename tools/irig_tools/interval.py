@@ -3,7 +3,7 @@ pulses in step."""
 from __future__ import annotations
 
 import statistics
-from dataclasses import dataclass
+from dataclasses import dataclass, field
 from itertools import islice
 from typing import List, Optional, Sequence
 
@@ -29,7 +29,11 @@ class Run:
     late: float = 0  # how much it came late
     glued: bool = False  # it follows the run before at once, but with another element
     gone: Optional[int] = None  # how many elements are missing before a glued run, if the times say so
-    ends: str = ""  # `<` or `>` if nothing says the phase of the pulses before or after it
+    lead: float = 0  # how much dearer it is to give it another phase
+    others: List[int] = field(default_factory=list)  # the elements that it may as well begin with
+    # `<` or `>` if nothing says the phase of the pulses before or after it; `[` or `]` if those are left
+    # alone
+    ends: str = ""
 
     @property
     def count(self) -> int:

@@ -10,7 +10,7 @@ import re
 from collections import Counter
 from itertools import accumulate, cycle, islice
 from operator import add, ne
-from typing import Container, Iterable, List, Optional, Sequence, Set, Tuple
+from typing import Callable, Container, Iterable, List, Optional, Sequence, Set, Tuple
 
 from .layout import POSITIONS, READABLE
 
@@ -50,6 +50,33 @@ class Marks:
         """The phases with the fewest faults, and with at most `within` more."""
         faults = sorted((self.faults(phase), phase) for phase in range(100))
         return [phase for fault, phase in faults if fault <= faults[0][0] + within][:most]
+
+
+class Usual:
+    """The classes that most frames have, element by element."""
+
+    def __init__(self, unused: Iterable[int], runs: Iterable[Tuple[str, int]] = ()) -> None:
+        """From elements that are always zero, and from texts of classes, each with its phase."""
+        counted: List[Counter[str]] = [Counter() for _ in range(100)]
+        for element in unused:
+            counted[element]["0"] = 2
+        for text, phase in runs:
+            for element in range(100):
+                part = text[(element - phase) % 100::100]
+                for name in "01":
+                    counted[element][name] += part.count(name)
+        self.zeros, self.ones = (_mask(counted, name) for name in "01")
+
+    def unlike(self, text: str) -> Callable[[int], int]:
+        """How many pulses of a text, of less than 100, have another class if the first is at a phase."""
+        zeros, ones = (int("".join("01"[each == name] for each in reversed(text)), 2) for name in "01")
+        return lambda phase: bin((zeros & self.ones >> phase) | (ones & self.zeros >> phase)).count("1")
+
+
+def _mask(counted: Sequence[Counter[str]], name: str) -> int:
+    """A bit for each element that is mostly of this class, twice one after the other."""
+    usual = [each[name] >= max(2, 0.9 * (each["0"] + each["1"])) for each in counted]
+    return sum(1 << at for at, is_usual in enumerate(usual * 2) if is_usual)
 
 
 def faults_along(text: str, phase: int) -> List[int]:

@@ -21,7 +21,7 @@ def remarks(track: Track, times: Times) -> List[Remark]:
 
 def _of_format(track: Track, times: Times) -> List[Remark]:
     expression, at = track.layout.expression, track.rises[track.runs[0].first]
-    if not times.read:
+    if not times.read and not times.spans:
         return [
             Remark(
                 at,

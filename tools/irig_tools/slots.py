@@ -2,14 +2,20 @@
 to be."""
 from __future__ import annotations
 
-from typing import Dict, List, Optional, Sequence, Tuple
+from typing import Callable, Dict, Iterator, List, NamedTuple, Optional, Sequence, Tuple
 
 from .interval import Clock, Run
-from .phases import Marks, tells_phase
+from .phases import Marks, Usual, tells_phase
 
 SURE = 5  # a run of that many pulses is no accident
 MANY = 13  # phases that fit equally well: no position identifier is there
 UNLIKELY = 8  # a way that costs so much more than the cheapest does not count
+LONG = 40  # pulses of a run whose position identifiers say its phase
+MOST_LATE = 12  # elements
+BARELY = 2  # what a rest costs that is late by less than a pulse may stray
+LEAST = 2  # a run whose phase leads by less is left alone
+LEAD = 3  # a run whose phase leads by less is looked at again, with what most frames have
+ODD = 0.5  # what an element costs that is not as in most frames
 LONGEST_HOLE = 200000  # elements; what is farther apart is mended part by part
 
 # what a phase costs, the phase of the run before, the elements between, how late it comes
@@ -59,7 +65,7 @@ def _hop(clock: Clock, distance: float, interval: float, step: int) -> Tuple[int
     steps = step + 100 * max(0, more)
     late = distance - steps * interval
     if abs(late) <= clock.slack(steps):
-        return steps, late, 0 if steps == 1 else 0.3
+        return steps, late, 0 if steps == 1 else 0.3 if abs(late) <= clock.least_late(steps) else BARELY
     if late < 0:
         return steps, late, 6
     return steps, late, 3 + (steps > 1) + 0.5 * (late > 3.2 * interval)
@@ -73,56 +79,82 @@ def _jump(distance: float, interval: float, step: int) -> Tuple[int, float, floa
     return steps, distance - steps * interval, 6 if steps == straight + 100 else 1
 
 
+class _Way(NamedTuple):
+    """What is looked at to go on to a run: which steps from the run before, and which phases of its own."""
+
+    price: Callable[[int], float]  # what a phase costs
+    distance: float
+    interval: float
+    steps: Sequence[int]
+    own: Sequence[int]
+
+
 class _Linker:
     """The cheapest way through all runs, with the fewest faults, late rests and holes."""
 
-    def __init__(self, clock: Clock, runs: Sequence[Run], classes: str) -> None:
-        self.clock, self.runs, self.classes = clock, runs, classes
-        marks = Marks(_classes(runs[0], classes))
+    def __init__(self, clock: Clock, runs: Sequence[Run], classes: str, usual: Usual) -> None:
+        self.clock, self.runs, self.classes, self.usual = clock, runs, classes, usual
+        marks, price = self._marks(runs[0])
         first = marks.best(2, 100 if runs[0].count < 12 else 40)
-        self.table: List[Dict[int, Choice]] = [{phase: (marks.faults(phase), None, 0, 0) for phase in first}]
+        self.table: List[Dict[int, Choice]] = [{phase: (price(phase), None, 0, 0) for phase in first}]
+        self.ways: List[_Way] = []
         for before, run in zip(runs, runs[1:]):
+            self.ways.append(self._way(before, run))
             self.table.append(self._choices(before, run))
 
+    def _marks(self, run: Run) -> Tuple[Marks, Callable[[int], float]]:
+        """The position identifiers of a run, and what each phase costs."""
+        text = _classes(run, self.classes)
+        marks, known = Marks(text), {}
+        unlike = self.usual.unlike(text) if run.count < 100 else lambda phase: 0
+
+        def price(phase: int) -> float:
+            if phase not in known:
+                known[phase] = marks.faults(phase) + ODD * unlike(phase)
+            return known[phase]
+
+        return marks, price
+
+    def _onward(self, at: int, old: int) -> Iterator[Tuple[int, int, float, float]]:
+        """From a phase of run `at` to the next run: each phase, the step, how late it is, and its price."""
+        before, run, way = self.runs[at], self.runs[at + 1], self.ways[at]
+        last = old + before.count - 1
+        for phase in {(last + step) % 100 for step in way.steps}.union(way.own):
+            step = (phase - last) % 100
+            step, late, cost = (
+                _jump(way.distance, way.interval, step)
+                if run.glued
+                else _hop(self.clock, way.distance, way.interval, step)
+            )
+            yield phase, step, late, cost + way.price(phase)
+
     def _choices(self, before: Run, run: Run) -> Dict[int, Choice]:
-        marks, distance = Marks(_classes(run, self.classes)), run.begin - before.end
-        interval = self.clock.interval_between(before, run)
-        steps, own = self._ways(before, run, marks, distance, interval)
-        known: Dict[int, int] = {}
         choices: Dict[int, Choice] = {}
         for old, told in self.table[-1].items():
-            last = old + before.count - 1
-            for phase in {(last + step) % 100 for step in steps}.union(own):
-                if phase not in known:
-                    known[phase] = marks.faults(phase)
-                step = (phase - last) % 100
-                step, late, cost = (
-                    _jump(distance, interval, step)
-                    if run.glued
-                    else _hop(self.clock, distance, interval, step)
-                )
-                cost += told[0] + known[phase]
-                if phase not in choices or cost < choices[phase][0]:
-                    choices[phase] = cost, old, step, late
+            for phase, step, late, cost in self._onward(len(self.table) - 1, old):
+                if phase not in choices or told[0] + cost < choices[phase][0]:
+                    choices[phase] = told[0] + cost, old, step, late
         return choices
 
-    def _ways(
-        self, before: Run, run: Run, marks: Marks, distance: float, interval: float
-    ) -> Tuple[Sequence[int], Sequence[int]]:
+    def _way(self, before: Run, run: Run) -> _Way:
         """The steps from run to run that are worth a look, and the phases that the run itself has."""
+        marks, price = self._marks(run)
+        distance, interval = run.begin - before.end, self.clock.interval_between(before, run)
         straight = round(distance / interval)
-        most = min(told[0] for told in self.table[-1].values()) + UNLIKELY
-        likely = {
-            (phase + before.count - 1 + straight) % 100
-            for phase, told in self.table[-1].items()
-            if told[0] <= most
-        }
         if not run.glued and abs(distance - straight * interval) <= self.clock.slack(straight):
-            faults = min(marks.faults(phase) for phase in likely)
-            if faults == 0 or faults <= min(1 + run.count // 100, 1 + marks.faults(marks.best(0, 1)[0])):
-                return [straight], ()
-        steps = {1, *range(max(1, straight - 3), straight + 1)}.union({0} if straight == 0 else ())
-        return sorted(steps), marks.best(2, 20) if run.count >= 12 else ()
+            if self._follows(marks, run.count, before.count - 1 + straight):
+                return _Way(price, distance, interval, [straight], ())
+        steps = {1, *range(max(1, straight - MOST_LATE), straight + 1)}.union({0} if straight == 0 else ())
+        own = marks.best(2, 20) if run.count >= 12 else marks.best(0, 20) if marks.many else ()
+        return _Way(price, distance, interval, sorted(steps), own)
+
+    def _follows(self, marks: Marks, count: int, onward: int) -> bool:
+        """Whether a run goes on from the cheapest phase so far, that many elements on, beyond doubt."""
+        costs = sorted((told[0], old) for old, told in self.table[-1].items())
+        faults = marks.faults((costs[0][1] + onward) % 100)
+        if not faults:
+            return count >= LONG or len(costs) == 1 or costs[1][0] > costs[0][0] + UNLIKELY
+        return faults <= min(1 + count // 100, 1 + marks.faults(marks.best(0, 1)[0]))
 
     def follow(self) -> float:
         """Gives each run its phase as its place, from the last to the first, and returns what the way
@@ -132,7 +164,22 @@ class _Linker:
         for run, choices in zip(reversed(self.runs), reversed(self.table)):
             run.place = phase or 0
             _, phase, run.step, run.late = choices[run.place]
+        self._find_leads(cost)
         return cost
+
+    def _find_leads(self, cost: float) -> None:
+        """For each run, how much dearer the cheapest way is on which it has another phase."""
+        rest = dict.fromkeys(self.table[-1], 0.0)
+        for at in range(len(self.runs) - 1, -1, -1):
+            run, choices = self.runs[at], self.table[at]
+            if at < len(self.ways):
+                rest = {
+                    old: min(each + rest[phase] for phase, _, _, each in self._onward(at, old))
+                    for old in choices
+                }
+            others = {phase: choices[phase][0] + rest[phase] for phase in choices if phase != run.place}
+            run.lead = min(others.values(), default=cost + UNLIKELY) - cost
+            run.others = [phase for phase, each in sorted(others.items()) if each < cost + LEAST]
 
 
 def _without_strays(clock: Clock, runs: List[Run], classes: str) -> bool:
@@ -161,11 +208,35 @@ def _says_nothing(run: Run, classes: str) -> bool:
     return run.count < 30 and len(Marks(_classes(run, classes)).best(0, MANY)) == MANY
 
 
-def link(clock: Clock, runs: List[Run], classes: str) -> float:
+def _follow(clock: Clock, runs: List[Run], classes: str, unused: Sequence[int]) -> float:
+    """The cheapest way; if it leads by little, again with the classes that most frames have."""
+    cost = _Linker(clock, runs, classes, Usual(unused)).follow()
+    if all(run.lead >= LEAD and abs(run.late) <= clock.least_late(run.step) for run in runs):
+        return cost
+    usual = Usual(unused, ((_classes(run, classes), run.place) for run in runs if run.lead >= LEAD))
+    return _Linker(clock, runs, classes, usual).follow()
+
+
+def sure_parts(runs: Sequence[Run]) -> List[List[Run]]:
+    """The runs whose phase is sure, parted at those that are left alone."""
+    found: List[List[Run]] = [[]]
+    for run in runs:
+        if run.lead >= LEAST:
+            found[-1].append(run)
+        elif found[-1]:
+            found[-1][-1].ends += "]"
+            found.append([])
+    for before, after in zip(runs, runs[1:]):
+        if before.lead < LEAST <= after.lead:
+            after.glued, after.ends = False, after.ends + "["
+    return [part for part in found if part]
+
+
+def link(clock: Clock, runs: List[Run], classes: str, unused: Sequence[int]) -> float:
     """Gives each run its place, and returns what it costs to believe them."""
-    cost = _Linker(clock, runs, classes).follow()
+    cost = _follow(clock, runs, classes, unused)
     while _without_strays(clock, runs, classes):
-        cost = _Linker(clock, runs, classes).follow()
+        cost = _follow(clock, runs, classes, unused)
     for before, run in zip(runs, runs[1:]):
         whole = 100 * clock.interval
         if run.late < -1.5 * clock.interval and not run.glued and tells_phase(_classes(run, classes)):

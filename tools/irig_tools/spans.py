@@ -4,6 +4,8 @@ from __future__ import annotations
 
 from typing import TYPE_CHECKING, Dict, List, Optional, Sequence, Tuple
 
+from .pieces import pieced
+
 if TYPE_CHECKING:
     from .frames import Times
 
@@ -23,8 +25,8 @@ def _sums(choices: Sequence[int], rows: Sequence[List[int]], start: Optional[int
 
 
 def _borne(times: Times, base: int, gap: Sequence[int]) -> bool:
-    """Whether at least two frames bear a base out."""
-    return sum(times.against(number, base) < (1, -19) for number in gap) > 1
+    """Whether at least two frames bear a base out, and each element that speaks against it is outvoted."""
+    return sum(times.against(number, base) < (1, -19) for number in gap) > 1 and times.is_borne(gap, base)
 
 
 def fit(
@@ -33,7 +35,8 @@ def fit(
     """The base of each frame of a gap, or None if two are as good, between the bases `left` and `right`."""
     if not gap:
         return {}
-    known = {left, right, *(times.own.get(number) for number in gap)}
+    together = pieced(times, gap) if left is right is None else None
+    known = {left, right, together, *(times.own.get(number) for number in gap)}
     choices = sorted(base for base in known if base is not None)[:MOST_CHOICES]
     if len(choices) == 1 and (left or right):
         return {number: choices[0] for number in gap}
@@ -48,6 +51,6 @@ def fit(
         found[number] = None
         if whole and (len(whole) == 1 or whole[0][0] < whole[1][0]):
             base = whole[0][1]
-            if base in (left, right) or _borne(times, base, gap):
+            if base in (left, right, together) or _borne(times, base, gap):
                 found[number] = base
     return found

@@ -7,7 +7,7 @@ from typing import List, Optional
 
 from .edits import Item
 from .faults import Faults, Remark
-from .phases import tells_phase
+from .slots import LEAD
 from .zones import Zone
 
 # intervals; what comes later is moved only if the position identifiers on both sides are unmistakable
@@ -53,8 +53,7 @@ def _why_not(faults: Faults, zone: Zone) -> str:
     assert zone.left and zone.right
     if zone.late < 0 and faults.falls[-1] - zone.late > faults.track.listing.length:
         return "the recording is too short to move the rest back"
-    classes = faults.track.classes
-    sure = all(tells_phase(classes[run.first:run.last + 1]) for run in (zone.left, zone.right))
+    sure = min(zone.left.lead, zone.right.lead) >= LEAD
     timed = any(100 * number + 99 <= zone.first for number, _ in faults.times.read)
     if zone.late > MOST_LATE * zone.interval and zone.right.step > 1 and not (sure and timed):
         return "that is too uncertain to move the rest"

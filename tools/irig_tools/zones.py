@@ -49,9 +49,10 @@ class Zone:
         if left and right:
             return left.last, right.first
         if right:
-            return right.first if "<" in right.ends else self._reach(listing, right.first, -1), right.first
+            first = right.first if {"<", "["} & set(right.ends) else self._reach(listing, right.first, -1)
+            return first, right.first
         assert left
-        return left.last, left.last if ">" in left.ends else self._reach(listing, left.last, 1)
+        return left.last, left.last if {">", "]"} & set(left.ends) else self._reach(listing, left.last, 1)
 
     def _places(self, first: int, last: int) -> Tuple[int, int]:
         near = [self.place_of(pulse) for pulse in range(first, last + 1) if self._in_step(pulse)]

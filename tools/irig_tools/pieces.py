@@ -1,0 +1,82 @@
+"""The time that parts of several frames say together, if no frame can be read whole."""
+from __future__ import annotations
+
+from collections import Counter
+from typing import TYPE_CHECKING, Callable, Dict, Optional, Sequence
+
+from .moments import DAY
+
+if TYPE_CHECKING:
+    from .frames import Times
+
+# each field with how many hundredths of a second one of it is, and after how many it begins again
+LEVELS = (
+    ("hundredths", 1, 100),
+    ("seconds", 100, 6000),
+    ("minutes", 6000, 360000),
+    ("hours", 360000, DAY),
+)
+WITNESSES = 2  # frames that have to say a field
+
+
+class _Pieces:
+    """The fields that can be read in some frames, one by one."""
+
+    def __init__(self, times: Times, numbers: Sequence[int]) -> None:
+        self.times, self.layout, self.numbers = times, times.layout, numbers
+
+    def _read(self, name: str) -> Dict[int, int]:
+        """What the frames say of a field."""
+        rows, said = self.layout.fields[name], {}
+        for number in self.numbers:
+            text = self.times.texts[number]
+            if all(text[element] in "01" for element, _ in rows):
+                value = self.layout.value(name, text)
+                if value >= 0:
+                    said[number] = value
+        return said
+
+    def _vote(self, name: str, means: Callable[[int, int], int]) -> Optional[int]:
+        """What most frames mean by a field; None if too few say it, or as many say another thing."""
+        often = Counter(means(number, value) for number, value in self._read(name).items()).most_common(2)
+        if not often or often[0][1] < WITNESSES or (len(often) > 1 and often[1][1] == often[0][1]):
+            return None
+        return often[0][0]
+
+    def within_day(self) -> Optional[int]:
+        """The time of day of frame 0, field by field from the finest."""
+        known: Optional[int] = 0
+        for name, unit, most in LEVELS:
+            if known is not None and name in self.layout.fields:
+                known = self._level(name, unit, most, known)
+        return known
+
+    def _level(self, name: str, unit: int, most: int, known: int) -> Optional[int]:
+        """The time of frame 0 within `most`, from that within `unit`."""
+
+        def means(number: int, value: int) -> int:
+            later = number * self.layout.period
+            return ((known + later) % unit + value * unit - later) % most
+
+        return self._vote(name, means)
+
+    def base(self) -> Optional[int]:
+        within = self.within_day()
+        year = self._vote("year", lambda number, value: value) if self.layout.with_year else 0
+        if within is None or year is None:
+            return None
+        start, midnight = within, {"hours": 0, "minutes": 0, "seconds": 0, "year": year}
+
+        def means(number: int, value: int) -> int:
+            """The base by the day of the year that a frame has."""
+            later = number * self.layout.period
+            return self.times.calendar.number({**midnight, "days": value}) + (start + later) % DAY - later
+
+        return self._vote("days", means)
+
+
+def pieced(times: Times, numbers: Sequence[int]) -> Optional[int]:
+    """The base that these frames lead to together: two of them say each field, and no element is outvoted.
+    """
+    base = _Pieces(times, numbers).base() if len(numbers) > 1 else None
+    return base if base is not None and times.is_borne(numbers, base) else None
