@@ -49,7 +49,7 @@ impl KeptPulse {
         self.catches_up(rise) && self.is_near(fall)
     }
 
-    /// Makes new lines, both edges at a time in microseconds. The line is where they are made.
+    /// Makes new lines, with both edges at a time in microseconds. They are made in `line`.
     pub fn renew(&mut self, line: &mut [u8], time: u64)
         requires some { 10000 ≤ time }
         requires few { time < 10 ^ 15 }
