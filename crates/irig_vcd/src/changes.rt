@@ -139,8 +139,8 @@ pub struct Body {
 }
 
 /// Reads what is after the declarations. A function of its own for the machine too: what it
-/// is called from would take its registers. Pulses are looked for only after a value of the wire with
-/// no other value since the one before: in a dump of many wires few would be found.
+/// is called from would take its registers. Pulses are looked for only after a value of the wire
+/// with no other value since the one before: in a dump of many wires few would be found.
 #[inline(never)]
 pub fn changes(
     alloc: Global,
