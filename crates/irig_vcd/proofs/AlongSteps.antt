@@ -1,4 +1,4 @@
--- A trace comes along by one token.
+-- A trace follows one token.
 use Rattle.std.proofs.Common.{◌≡◌, ◌≤◌, ◌++◌, ◌∷◌, [], ℕ, Bool, true, false, List, Some, None, Result, Ok, Err, IfOk, refl, ap, sym, ◌∙◌, arith}
 use Rattle.irig_vcd.specs.Answer.{Gives, IsFaultOf}
 use Rattle.irig_vcd.specs.Changes.{changes_from}

@@ -54,13 +54,6 @@ pub in_comment : (b : Bool) (left : List Word) (w : Word) (ws rest : List Word) 
 in_comment b left w ws rest end is more h first =
     rw (is, more) (ap (filter is_journal) (closes w ws ∙ ap (closed w) h) ∙ only_journals b (comment w end) (comments_from any_word None rest) first)
 
-no_word : (w : List ℕ) → is_end w ≡ true → bytes_eq w (codes "irig-journal-1") ≡ false
-no_word w h = let is : w ≡ codes "$end" = (bytes_eq-Decides w (codes "$end")).0 h in rw is refl
-
--- a comment without a word is no journal
-pub empty_comment : (left : List Word) (w : Word) (ws : List Word) → left ≡ w ∷ ws → is_end w.bytes ≡ true → filter is_journal (comments_from comment_word None left) ≡ journals_among ws
-empty_comment left w ws is ends = rw (is, ends) (only_journals false (comment w w.offset) (comments_from any_word None ws) (no_word w.bytes ends))
-
 -- the journals before those left are held
 abbrev pub HoldsUpTo : List Comment → List Comment → Journals → Type 0
 HoldsUpTo all left j = (done : List Comment) × Holds done j × (all ≡ done ++ left)

@@ -47,7 +47,7 @@ pub rises_after : (low : ℕ) (xs : List ℕ) → RisesFrom (low + 1) xs → Ris
 rises_after low [] h = h
 rises_after low (x ∷ xs) h = (omega (arith, h.0), h.1)
 
--- what the lines of edges come to, before those after them
+-- the changes of the lines of edges, before those after them
 pub record Lines (last : ℕ) (high : Bool) (edges rest : List ℕ) (at : ℕ) : Type 0 where
   pub next : ℕ
   pub read : changes_from any_word (33 ∷ []) 9 last (words_from at false (edge_lines high edges ++ rest)) ≡ behind (turns high edges) (changes_from any_word (33 ∷ []) 9 (last_or last edges) (words_from next false rest))

@@ -14,7 +14,7 @@ pub record Comment : Type 0 where
   pub first : Word
   pub end : ℕ
 
--- the two put together
+-- a comment of its two parts
 abbrev pub comment : Word → ℕ → Comment
 comment first end = record { first = first; end = end }
 

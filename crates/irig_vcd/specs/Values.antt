@@ -16,7 +16,7 @@ abbrev pub first_of : List ℕ → ℕ
 first_of [] = 0
 first_of (b ∷ bs) = b
 
--- the level of a value on the wire, none of one on another
+-- the level of a value on the wire; a value on another wire gives none
 abbrev pub level_if : Bool → ℕ → Option Bool
 level_if mine b = if mine then Some (is_high b) else None
 

@@ -4,8 +4,8 @@ ghost use Rattle.std.specs.Prelude.{◌≡◌, ◌≤◌, ◌<◌, ◌+◌, ◌�
 ghost use Rattle.std.specs.Prelude.{ℕ, map, slice_index, IfSome};
 ghost use Rattle.std.specs.Simd.Lanes.{mask_l};
 ghost use Rattle.irig_vcd.specs.Code.Lanes.{is_low};
-ghost use Rattle.irig_vcd.specs.Words.{words_from};
-ghost use Rattle.irig_vcd.specs.Code.Short.{TakesApart, TakesVector};
+ghost use Rattle.irig_vcd.specs.Words.{words_from, kind_of_byte};
+ghost use Rattle.irig_vcd.specs.Code.Short.{TakesApart, TakesValue, takes_code};
 
 use std::simd::prelude::*;
 
@@ -82,17 +82,26 @@ fn dark_end(source: &[u8], from: usize) -> usize
     at
 }
 
-/// The place after the vector at a place, if another code of one byte and a newline
-/// are after it. Its digits are not looked at.
+/// Whether a vector, a real or a text begins with a byte.
 #[inline(always)]
-pub fn vector_apart(source: &[u8], start: usize, code: &[u8]) -> Option<usize>
+fn begins_value(byte: u8) -> bool
+    ensures kind { result ≡ takes_code (kind_of_byte byte) }
+    ensures dark { result ≡ true → 32 < byte }
+{
+    matches!(byte, b'b' | b'B' | b'r' | b'R' | b's' | b'S')
+}
+
+/// The place after the vector, the real or the text at a place, if another code of one byte and a
+/// newline are after it. Its bytes are not looked at.
+#[inline(always)]
+pub fn value_apart(source: &[u8], start: usize, code: &[u8]) -> Option<usize>
     requires { start < length source.now }
-    ensures taken { IfSome result (λ end. TakesVector
+    ensures taken { IfSome result (λ end. TakesValue
         (words_from start false (drop start source.now))
         (words_from end false (drop end source.now)) code.now) }
     ensures within { IfSome result (λ end. end ≤ length source.now) }
 {
-    if !matches!(source[start], b'b' | b'B') {
+    if !begins_value(source[start]) {
         return None;
     }
     let space = dark_end(source, start + 1);

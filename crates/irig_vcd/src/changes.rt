@@ -1,6 +1,7 @@
 //! The changes of a wire.
 
-ghost use Rattle.std.specs.Prelude.{◌≡◌, ◌≤◌, ◌<◌, true, ◌^◌, ◌∷◌, ℕ, List, Result, length, [], Err, IfOk, IfErr, OnOk, OnErr};
+ghost use Rattle.std.specs.Prelude.{◌≡◌, ◌≤◌, ◌<◌, true, ◌^◌, ◌∷◌, ℕ, List, Result, length, []};
+ghost use Rattle.std.specs.Prelude.{Err, IfOk, IfErr, OnOk, OnErr};
 ghost use Rattle.irig_vcd.specs.Code.Token.{kind_view, word_of};
 ghost use Rattle.irig_vcd.specs.Answer.{IsFaultOf};
 ghost use Rattle.irig_vcd.specs.Words.{rest_of, is_code};
@@ -138,7 +139,8 @@ pub struct Body {
 }
 
 /// Reads what is after the declarations. A function of its own for the machine too: what it
-/// is called from would take its registers.
+/// is called from would take its registers. Pulses are looked for only after a value of the wire
+/// with no other value since the one before: in a dump of many wires few would be found.
 #[inline(never)]
 pub fn changes(
     alloc: Global,
@@ -158,6 +160,7 @@ pub fn changes(
     let mut trace = Trace::new(alloc);
     let mut journals = Journals::new();
     let mut clock = Clock { whole: 0, rest: 0 };
+    let mut is_alone = false;
     'tokens: loop {
         match tokens.next_short(code, is_plain) {
             Short::Time(number) => {
@@ -165,10 +168,12 @@ pub fn changes(
             }
             Short::Bit(high) => {
                 trace.put(micros(unit, clock), high)?;
-                clock = ahead(is_quick, tokens, unit, code, clock, &mut trace)?;
+                clock = ahead(is_quick && is_alone, tokens, unit, code, clock, &mut trace)?;
+                is_alone = true;
             }
-            Short::Apart => {}
+            Short::Apart => is_alone = false,
             Short::Other => {
+                is_alone = false;
                 let Some(token) = tokens.next() else {
                     break;
                 };

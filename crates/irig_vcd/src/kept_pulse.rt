@@ -1,7 +1,7 @@
 //! The lines of a pulse, kept for the next one.
 
-ghost use Rattle.std.specs.Prelude.{◌≡◌, ◌↔◌, ◌≤◌, ◌<◌, ◌+◌, ◌-◌, ◌/◌, ◌%◌, ◌^◌, ◌++◌, ◌∷◌, true, false, OnOk};
-ghost use Rattle.std.specs.Prelude.{length, take, drop, vec_capacity, vec_len, IsOk};
+ghost use Rattle.std.specs.Prelude.{◌≡◌, ◌↔◌, ◌≤◌, ◌<◌, ◌+◌, ◌-◌, ◌/◌, ◌%◌, ◌^◌, ◌++◌, ◌∷◌, true, false};
+ghost use Rattle.std.specs.Prelude.{OnOk, length, take, drop, vec_capacity, vec_len, IsOk};
 ghost use Rattle.irig_vcd.specs.Code.KeptPulse.{HoldsPulse, IsNear, last_four};
 ghost use Rattle.irig_vcd.specs.FileText.{EndsLines, lines_at};
 
@@ -16,8 +16,8 @@ static PAIRS: [u8; 200] = *b"\
     6061626364656667686970717273747576777879\
     8081828384858687888990919293949596979899";
 
-/// The four lines of a pulse at the front of a buffer, `long` bytes for each edge. The digits of its
-/// times in front of the last four are those of `base`, in microseconds.
+/// The four lines of a pulse at the front of a buffer, `long` bytes for each edge. `base` has the
+/// digits of its times, in microseconds, with 0 for the last four.
 #[derive(Drop)]
 pub struct KeptPulse {
     bytes: [u8; 56],
@@ -38,18 +38,18 @@ impl KeptPulse {
         }
     }
 
-    /// Whether the times of a pulse, in microseconds, have the digits that are kept. If the one
-    /// in front of the last four is one too low, it is counted up first.
+    /// Counts up the digit in front of the last four if it is one too low for the rise. Returns
+    /// whether the times of the pulse, in microseconds, have the digits that are kept then.
     #[inline(always)]
-    pub fn comes_near(&mut self, rise: u64, fall: u64) -> bool
+    pub fn catch_up(&mut self, rise: u64, fall: u64) -> bool
         requires holds { HoldsPulse self.old }
         ensures holds { HoldsPulse self.new }
         ensures near { result ≡ true ↔ IsNear self.new rise × IsNear self.new fall }
     {
-        self.catches_up(rise) && self.is_near(fall)
+        self.catch_up_to(rise) && self.is_near(fall)
     }
 
-    /// Makes new lines, both edges at a time in microseconds. The line is where they are made.
+    /// Makes new lines, with both edges at a time in microseconds. They are made in `line`.
     pub fn renew(&mut self, line: &mut [u8], time: u64)
         requires some { 10000 ≤ time }
         requires few { time < 10 ^ 15 }
@@ -97,10 +97,10 @@ impl KeptPulse {
         self.base <= time && time - self.base < 10000
     }
 
-    /// Whether a time, in microseconds, has the digits that are kept, or has them once these have
-    /// counted up by one.
+    /// Counts up if that gives the kept digits to a time, in microseconds. Returns whether the time
+    /// has them then.
     #[inline(always)]
-    fn catches_up(&mut self, time: u64) -> bool
+    fn catch_up_to(&mut self, time: u64) -> bool
         requires holds { HoldsPulse self.old }
         ensures holds { HoldsPulse self.new }
         ensures near { result ≡ true ↔ IsNear self.new time }

@@ -1,6 +1,7 @@
 //! A level that is given by its changes, traced.
 
-ghost use Rattle.std.specs.Prelude.{◌≡◌, ◌≤◌, ◌<◌, ◌+◌, ◌^◌, true, false, ◌∷◌, [], ◌++◌, ℕ, List, OnOk, OnErr, IfOk};
+ghost use Rattle.std.specs.Prelude.{◌≡◌, ◌≤◌, ◌<◌, ◌+◌, ◌^◌, true, false, ◌∷◌, [], ◌++◌, ℕ, List};
+ghost use Rattle.std.specs.Prelude.{OnOk, OnErr, IfOk};
 ghost use Rattle.std.specs.Prelude.{length, take, if◌then◌else◌};
 ghost use Rattle.irig_vcd.specs.Level.{Change, change, edges_up_to, differs};
 ghost use Rattle.irig_vcd.specs.Code.Along.{HasFallen};
@@ -9,8 +10,8 @@ ghost use Rattle.irig_vcd.specs.Code.Trace.{edges_kept, Follows};
 use crate::recording::EDGES_LIMIT;
 use std::alloc::{AllocError, Global};
 
-/// A level that was followed up to a time: the edges before it, and the levels before it and
-/// there.
+/// A level that was followed up to a time: the edges before it, the level before it, and the level
+/// from it on.
 #[derive(Drop)]
 pub struct Trace {
     time: u64,
@@ -33,7 +34,7 @@ impl Trace {
         }
     }
 
-    /// Goes on to a time.
+    /// Continues to a time.
     fn advance(&mut self, time: u64) -> Result<(), AllocError>
         requires { self.old.time ≤ time }
         ensures ok { OnOk result
@@ -122,8 +123,8 @@ pub fn differ(level: bool, other: bool) -> bool
     level != other
 }
 
-/// Adds an edge, if there is one, after the others, unless there is one too many already: then
-/// no memory is asked for.
+/// Adds an edge, if there is one, after the others. If there is one too many already, it adds none
+/// and asks for no memory.
 fn keep(edges: &mut Vec<u64>, is_edge: bool, edge: u64) -> Result<(), AllocError>
     ensures ok { OnOk result
         ((all : List ℕ) → edges.old.items ≡ take edges_kept all

@@ -20,7 +20,7 @@ abbrev pub behind : List Change → Result (List Change × ℕ) VcdFault
     → Result (List Change × ℕ) VcdFault
 behind before read = read >>= λ p. pair_of (before ++ p.0) p.1
 
--- a trace has come to the words that are left, if all words come to total
+-- a trace has followed all words but those that are left, and reading all words gives total
 abbrev pub Along : List ℕ → ℕ → Result (List Change × ℕ) VcdFault → Trace → Clock → List Word
     → Type 0
 Along code unit total trace clock words =

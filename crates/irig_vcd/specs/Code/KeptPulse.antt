@@ -4,7 +4,9 @@ use Rattle.irig_vcd.specs.declared.kept_pulse.KeptPulse.{KeptPulse}
 
 -- the four digits of a number below 10,000
 abbrev pub last_four : ℕ → List ℕ
-last_four n = (48 + n / 100 / 10) ∷ (48 + n / 100 % 10) ∷ (48 + n % 100 / 10) ∷ (48 + n % 100 % 10) ∷ []
+last_four n =
+    (48 + n / 100 / 10) ∷ (48 + n / 100 % 10)
+    ∷ (48 + n % 100 / 10) ∷ (48 + n % 100 % 10) ∷ []
 
 -- a number sign and digits
 abbrev pub front : ℕ → List ℕ

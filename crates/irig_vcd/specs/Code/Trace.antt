@@ -23,7 +23,7 @@ pub record Follows (changes : List Change) (t : Trace) : Type 0 where
   pub now : t.now ≡ level_by_changes changes t.time
   pub edges : t.edges.items ≡ take edges_kept (edges_below changes t.time)
 
--- of the edges of changes up to an end, as many as are kept
+-- the edges of changes up to an end, up to the most that are kept
 abbrev pub IsKept : List Change → ℕ → List ℕ → Type 0
 IsKept changes end edges = edges ≡ take edges_kept (edges_up_to changes end)
 
