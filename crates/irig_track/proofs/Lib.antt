@@ -19,5 +19,4 @@ pub mod Turns
 pub mod Spans
 -- Laws of edits for the crates above.
 pub mod Laws
-pub mod Meaning
 pub mod Inverses
