@@ -20,14 +20,26 @@ frames_count f a y b =
     let front = records_in f (a ++ (y ++ b)) 0 m in
     let window = records_in f (a ++ (y ++ b)) m (length a + length y - m) in
     let rest = map (moved (length a + length y)) (frames f b) in
-    omega (arith, ap length (frames_in_parts f a y b), length-append front (window ++ rest), length-append window rest, length-map (frames f b) (moved (length a + length y)))
+    omega (
+      arith,
+      ap length (frames_in_parts f a y b),
+      length-append front (window ++ rest),
+      length-append window rest,
+      length-map (frames f b) (moved (length a + length y)),
+    )
 
 -- those before the window stay, and those after it
 pub frames_few : (f : FormatView) (a x y b : List Pulse)
     → length (frames f (a ++ (y ++ b))) ≤ length (frames f (a ++ (x ++ b))) + (length y + 100)
 frames_few f a x y b =
     let m = length a - 100 in
-    omega (arith, frames_count f a x b, frames_count f a y b, ap length (edits_are_local f a x y b), length-records_in f (a ++ (y ++ b)) m (length a + length y - m))
+    omega (
+      arith,
+      frames_count f a x b,
+      frames_count f a y b,
+      ap length (edits_are_local f a x y b),
+      length-records_in f (a ++ (y ++ b)) m (length a + length y - m),
+    )
 
 -- an edited track has at most as many more as pulses came, and 100
 pub frames_few_after : (f : FormatView) (at gone come micros : ℕ) (records : List Record) (ps : List Pulse)

@@ -1,5 +1,7 @@
 -- A repaired index has the frames of the track as it is.
-use Rattle.std.proofs.Common.{◌≡◌, ℕ, ◌+◌, ◌-◌, ◌%◌, ◌^◌, ◌<◌, ◌≤◌, List, [], ◌∷◌, ◌++◌, length, take, drop, map, min, refl, sym, ap, subst, ◌∙◌, inl, inr, arith, append_assoc, length-append, length-drop}
+use Rattle.std.proofs.Common.{◌≡◌, ℕ, ◌+◌, ◌-◌, ◌%◌, ◌^◌, ◌<◌, ◌≤◌, List, [], ◌∷◌, ◌++◌, length, take, drop}
+use Rattle.std.proofs.Common.{map, min, refl, sym, ap, subst, ◌∙◌, inl, inr, arith, append_assoc}
+use Rattle.std.proofs.Common.{length-append, length-drop}
 use Rattle.std.proofs.lemmas.Bool.{cases_lt}
 use Rattle.std.proofs.lemmas.List.{take-append-drop, drop-drop, length-take-le}
 use Rattle.irig_codes.specs.Format.{FormatView}
@@ -13,7 +15,8 @@ use Rattle.irig_index.specs.Laws.{moved}
 use Rattle.irig_index.specs.Cuts.{Cut}
 use Rattle.irig_index.specs.Sides.{from_other_end, turned, left_of, kept_right, right_of, shown, EndsUpTo, BeginsAfter, AllUpTo, AllAfter, Dropped}
 use Rattle.irig_index.proofs.FrameLemmas.{record_after-last, window_same}
-use Rattle.irig_index.proofs.MarkerBounds.{AllAfter-append, AllAfter-less, AllAfter-moved, AllUpTo-ends, AllUpTo-more, parted_same, records_in-after, records_in-up_to}
+use Rattle.irig_index.proofs.MarkerBounds.{AllAfter-append, AllAfter-less, AllAfter-moved, AllUpTo-ends}
+use Rattle.irig_index.proofs.MarkerBounds.{AllUpTo-more, parted_same, records_in-after, records_in-up_to}
 use Rattle.irig_index.proofs.SideLemmas.{from_other_end-moved, length-shown, length-sides}
 use Rattle.irig_index.proofs.Window.{edits_are_local, frames_in_parts}
 
@@ -215,7 +218,8 @@ module _ (f : FormatView) (at gone come micros : ℕ) (records : List Record) (p
       let same : now ≡ ((pulses + (2 ^ 64 - length x)) % 2 ^ 64 + length y) % 2 ^ 64 =
       number ∙ λ i. ((pulses + (2 ^ 64 - sym x_long i)) % 2 ^ 64 + sym y_long i) % 2 ^ 64 in
       ap (λ n. shown n g3) same
-      ∙ (repaired_parts f a x y b pulses g0 g1 g2 g3 (omega (arith, x_long, small)) (omega (arith, a_long, y_long, length-drop (at + come) ps, were.span.came, few))
+      ∙ (repaired_parts f a x y b pulses g0 g1 g2 g3 (omega (arith, x_long, small))
+      (omega (arith, a_long, y_long, length-drop (at + come) ps, were.span.came, few))
       (subst (λ (rs : List Record). Cut (length a - 100) (length a + length x) rs (left_of g0) (right_of pulses g0)) (were.frames ∙ ap (frames f) former)
       (subst (λ (n : ℕ). Cut (length a - 100) n records (left_of g0) (right_of pulses g0)) (λ i. sym a_long i + sym x_long i)
       (subst (λ (n : ℕ). Cut n (at + gone) records (left_of g0) (right_of pulses g0)) place shows)))

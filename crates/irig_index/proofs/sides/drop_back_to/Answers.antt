@@ -24,6 +24,13 @@ loop-records-2-preserved c =
           ∙ ap (λ rs. left_of v ++ (w.one ∷ (before.gone ++ rs))) (sym right)));
       after = (w.after, before.after);
       up_to = (w.up_to, before.up_to);
-      long = omega (arith, ap (λ g. length g.items) rest, length-removed u.items w.number inside, w.at, before.long, ap (λ k. length (remove u.items k)) number);
+      long = omega (
+        arith,
+        ap (λ g. length g.items) rest,
+        length-removed u.items w.number inside,
+        w.at,
+        before.long,
+        ap (λ k. length (remove u.items k)) number,
+      );
       capacity = ap (λ g. g.capacity) rest ∙ before.capacity;
     }

@@ -8,25 +8,39 @@ use Rattle.irig_index.proofs.index.Index.repair.Goals as goal
 
 pub unwrap-requires : goal.unwrap-requires
 unwrap-requires c =
-    let last : c.min-to.result ≡ min (length c.args.lens.now.track.pulses - 1) (c.args.edit.at + c.args.edit.new) = omega (arith, c.min-to.ensures, c.len-len.ensures.len, c.saturating_sub.ensures) in
-    let cut = subst (λ rs. Cut c.saturating_sub-from.result (c.args.edit.at + c.args.edit.old) rs (left_of c.drop_back_to.new.records) (right_of c.self.inside.pulses c.drop_back_to.new.records))
+    let last : c.min-to.result ≡ min (length c.args.lens.now.track.pulses - 1) (c.args.edit.at + c.args.edit.new) =
+    omega (arith, c.min-to.ensures, c.len-len.ensures.len, c.saturating_sub.ensures) in
+    let cut = subst (λ rs. Cut c.saturating_sub-from.result (c.args.edit.at + c.args.edit.old) rs (left_of c.drop_back_to.new.records)
+    (right_of c.self.inside.pulses c.drop_back_to.new.records))
     (ap (λ v. v.records) c.self.view_is) c.drop_back_to.ensures.cut in
-    let long = frames_long c.args.format c.args.edit.at c.args.edit.old c.args.edit.new c.args.lens.now.track.micros c.args.self.now.records c.args.lens.now.track.pulses c.requires.were
+    let long = frames_long c.args.format c.args.edit.at c.args.edit.old c.args.edit.new c.args.lens.now.track.micros
+    c.args.self.now.records c.args.lens.now.track.pulses c.requires.were
     c.len-len.ensures.track.few (omega arith) c.self.inside.pulses c.saturating_sub-from.result c.min-to.result
     c.drop_back_to.new.records c.part.new.records c.drop_up_to.new.records c.saturating_sub-from.ensures
     cut c.part.ensures.shown c.part.ensures.left c.part.ensures.right
     c.drop_up_to.ensures.left c.drop_up_to.ensures.right last in
     let room = all_room c.self.inside.records c.self.inside.pulses c.self.inside.looks c.args.self.now c.self.view_is (omega (arith, c.len-count.ensures)) in
-    (c.fill.ensures.room (omega (arith, long, room, c.requires.room, c.drop_back_to.ensures.capacity, c.part.ensures.capacity, c.drop_up_to.ensures.capacity))).0
+    (c.fill.ensures.room (omega (
+      arith,
+      long,
+      room,
+      c.requires.room,
+      c.drop_back_to.ensures.capacity,
+      c.part.ensures.capacity,
+      c.drop_up_to.ensures.capacity,
+    ))).0
 
 pub returns-clause-frames : goal.returns-clause-frames
 returns-clause-frames c =
     let left = rw c.unwrap.ensures at c.fill.ensures.left in
     let right = rw c.unwrap.ensures at c.fill.ensures.right in
-    let last : c.min-to.result ≡ min (length c.args.lens.now.track.pulses - 1) (c.args.edit.at + c.args.edit.new) = omega (arith, c.min-to.ensures, c.len-len.ensures.len, c.saturating_sub.ensures) in
-    let cut = subst (λ rs. Cut c.saturating_sub-from.result (c.args.edit.at + c.args.edit.old) rs (left_of c.drop_back_to.new.records) (right_of c.self.inside.pulses c.drop_back_to.new.records))
+    let last : c.min-to.result ≡ min (length c.args.lens.now.track.pulses - 1) (c.args.edit.at + c.args.edit.new) =
+    omega (arith, c.min-to.ensures, c.len-len.ensures.len, c.saturating_sub.ensures) in
+    let cut = subst (λ rs. Cut c.saturating_sub-from.result (c.args.edit.at + c.args.edit.old) rs (left_of c.drop_back_to.new.records)
+    (right_of c.self.inside.pulses c.drop_back_to.new.records))
     (ap (λ v. v.records) c.self.view_is) c.drop_back_to.ensures.cut in
-    repaired c.args.format c.args.edit.at c.args.edit.old c.args.edit.new c.args.lens.now.track.micros c.args.self.now.records c.args.lens.now.track.pulses c.requires.were
+    repaired c.args.format c.args.edit.at c.args.edit.old c.args.edit.new c.args.lens.now.track.micros
+    c.args.self.now.records c.args.lens.now.track.pulses c.requires.were
     c.len-len.ensures.track.few (omega arith) c.self.inside.pulses c.saturating_sub-from.result c.min-to.result _
     c.drop_back_to.new.records c.part.new.records c.drop_up_to.new.records c.fill.new.records c.saturating_sub-from.ensures
     cut c.part.ensures.shown c.part.ensures.left c.part.ensures.right
@@ -43,6 +57,26 @@ returns-clause-room c =
     let long = length-filled c.drop_up_to.new.records c.fill.new.records window left right in
     let room = all_room c.self.inside.records c.self.inside.pulses c.self.inside.looks c.args.self.now c.self.view_is (omega (arith, c.len-count.ensures)) in
     let place : length c.drop_up_to.new.records.items + length window ≤ c.drop_up_to.new.records.capacity =
-    omega (arith, ap length told, shows, long, room, c.requires.room, c.drop_back_to.ensures.capacity, c.part.ensures.capacity, c.drop_up_to.ensures.capacity) in
+    omega (
+      arith,
+      ap length told,
+      shows,
+      long,
+      room,
+      c.requires.room,
+      c.drop_back_to.ensures.capacity,
+      c.part.ensures.capacity,
+      c.drop_up_to.ensures.capacity,
+    ) in
     let capacity = (c.fill.ensures.room place).1 in
-    omega (arith, shows, long, room, capacity, place, c.drop_back_to.ensures.capacity, c.part.ensures.capacity, c.drop_up_to.ensures.capacity)
+    omega (
+      arith,
+      shows,
+      long,
+      room,
+      capacity,
+      place,
+      c.drop_back_to.ensures.capacity,
+      c.part.ensures.capacity,
+      c.drop_up_to.ensures.capacity,
+    )
