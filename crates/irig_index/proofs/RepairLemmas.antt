@@ -1,17 +1,22 @@
 -- A repaired index has the frames of the track as it is.
-use Rattle.std.proofs.Common.{◌≡◌, ℕ, ◌+◌, ◌-◌, ◌%◌, ◌^◌, ◌<◌, ◌≤◌, List, [], ◌∷◌, ◌++◌, length, take, drop, map, min, refl, sym, ap, subst, ◌∙◌, inl, inr, arith, append_assoc, length-append, length-drop}
+use Rattle.std.proofs.Common.{◌≡◌, ℕ, ◌+◌, ◌-◌, ◌%◌, ◌^◌, ◌<◌, ◌≤◌, List, [], ◌∷◌, ◌++◌, length, take, drop}
+use Rattle.std.proofs.Common.{map, min, refl, sym, ap, subst, ◌∙◌, inl, inr, arith, append_assoc}
+use Rattle.std.proofs.Common.{length-append, length-drop}
 use Rattle.std.proofs.lemmas.Bool.{cases_lt}
 use Rattle.std.proofs.lemmas.List.{take-append-drop, drop-drop, length-take-le}
 use Rattle.irig_codes.specs.Format.{FormatView}
-use Rattle.irig_gap.specs.Items.{GapView}
+use Rattle.std.proofs.Math.Seq.{take-append_seam, drop-append_seam}
+use Rattle.irig_gap.specs.Items.{GapView, gap_view}
 use Rattle.irig_track.specs.declared.pulse.Pulse.{Pulse}
 use Rattle.irig_index.specs.declared.record.Record.{Record}
 use Rattle.irig_index.specs.Frames.{frames, records_in}
 use Rattle.irig_index.specs.Index.{IndexView, WereFrames, index_view}
 use Rattle.irig_index.specs.Laws.{moved}
+use Rattle.irig_index.specs.Cuts.{Cut}
 use Rattle.irig_index.specs.Sides.{from_other_end, turned, left_of, kept_right, right_of, shown, EndsUpTo, BeginsAfter, AllUpTo, AllAfter, Dropped}
 use Rattle.irig_index.proofs.FrameLemmas.{record_after-last, window_same}
-use Rattle.irig_index.proofs.MarkerBounds.{AllAfter-append, AllAfter-less, AllAfter-moved, AllUpTo-ends, AllUpTo-more, parted_same, records_in-after, records_in-up_to}
+use Rattle.irig_index.proofs.MarkerBounds.{AllAfter-append, AllAfter-less, AllAfter-moved, AllUpTo-ends}
+use Rattle.irig_index.proofs.MarkerBounds.{AllUpTo-more, parted_same, records_in-after, records_in-up_to}
 use Rattle.irig_index.proofs.SideLemmas.{from_other_end-moved, length-shown, length-sides}
 use Rattle.irig_index.proofs.Window.{edits_are_local, frames_in_parts}
 
@@ -45,10 +50,61 @@ turned_moved pulses at gone come bound few fits (k ∷ ks) (s ∷ ss) up e =
     let later = turned_moved pulses at gone come bound few fits ks ss up.1 rest in
     λ i. record { marker = place i; verdict = words i } ∷ later i
 
+-- if records up to a number go from records after it, nothing goes
+none_cut : (last : ℕ) (left gone right rest : List Record) → left ++ (gone ++ right) ≡ rest → AllUpTo last gone → AllAfter last rest
+    → left ++ right ≡ rest
+none_cut last [] [] right rest e up after = e
+none_cut last [] (g ∷ gone) right [] e up after = cc
+none_cut last [] (g ∷ gone) right (r ∷ rest) e up after =
+    let same : g ≡ r = cc in
+    absurd (omega (arith, ap (λ s. s.marker) same, up.0, after.0))
+none_cut last (l ∷ left) gone right [] e up after = cc
+none_cut last (l ∷ left) gone right (r ∷ rest) e up after =
+    let same : l ≡ r = cc in
+    let others : left ++ (gone ++ right) ≡ rest = cc in
+    λ i. same i ∷ none_cut last left gone right rest others up after.1 i
+
+-- records in three parts, of which some of the middle one have gone
+record Thinned (first last : ℕ) (all start rest : List Record) : Type 0 where
+  left : List Record
+  whole : all ≡ start ++ (left ++ rest)
+  after : AllAfter first left
+  up_to : AllUpTo last left
+
+thinned : (first last : ℕ) (start left gone right touched rest : List Record)
+    → left ++ (gone ++ right) ≡ start ++ (touched ++ rest) → AllAfter first gone → AllUpTo last gone
+    → AllUpTo first start → AllAfter first touched → AllUpTo last touched → AllAfter last rest
+    → Thinned first last (left ++ right) start rest
+thinned first last [] [] [] right touched rest e ga gu su ta tu ra =
+    record { left = touched; whole = e; after = ta; up_to = tu }
+thinned first last [] [] (g ∷ gone) right [] rest e ga gu su ta tu ra =
+    record { left = []; whole = none_cut last [] (g ∷ gone) right rest e gu ra; after = tt; up_to = tt }
+thinned first last [] [] (g ∷ gone) right (t ∷ touched) rest e ga gu su ta tu ra =
+    let others : gone ++ right ≡ touched ++ rest = cc in
+    thinned first last [] [] gone right touched rest others ga.1 gu.1 su ta.1 tu.1 ra
+thinned first last [] (l ∷ left) gone right [] rest e ga gu su ta tu ra =
+    record { left = []; whole = none_cut last (l ∷ left) gone right rest e gu ra; after = tt; up_to = tt }
+thinned first last [] (l ∷ left) gone right (t ∷ touched) rest e ga gu su ta tu ra =
+    let same : l ≡ t = cc in
+    let others : left ++ (gone ++ right) ≡ touched ++ rest = cc in
+    let more = thinned first last [] left gone right touched rest others ga gu su ta.1 tu.1 ra in
+    record { left = t ∷ more.left; whole = (λ i. same i ∷ more.whole i); after = (ta.0, more.after); up_to = (tu.0, more.up_to) }
+thinned first last (s ∷ start) [] [] right touched rest e ga gu su ta tu ra =
+    record { left = touched; whole = e; after = ta; up_to = tu }
+thinned first last (s ∷ start) [] (g ∷ gone) right touched rest e ga gu su ta tu ra =
+    let same : g ≡ s = cc in
+    absurd (omega (arith, ap (λ r. r.marker) same, ga.0, su.0))
+thinned first last (s ∷ start) (l ∷ left) gone right touched rest e ga gu su ta tu ra =
+    let same : l ≡ s = cc in
+    let others : left ++ (gone ++ right) ≡ start ++ (touched ++ rest) = cc in
+    let more = thinned first last start left gone right touched rest others ga gu su.1 ta tu ra in
+    record { left = more.left; whole = (λ i. same i ∷ more.whole i); after = more.after; up_to = more.up_to }
+
 -- the parts of the track before and after an edit
-module _ (f : FormatView) (a x y b : List Pulse) (pulses : ℕ) (g1 g2 g3 : GapView Record)
+module _ (f : FormatView) (a x y b : List Pulse) (pulses : ℕ) (g0 g1 g2 g3 : GapView Record)
     (few : length x < 2 ^ 64) (fits : length b + length a + length y < 2 ^ 64)
-    (were : shown pulses g1 ≡ frames f (a ++ (x ++ b)))
+    (were : Cut (length a - 100) (length a + length x) (frames f (a ++ (x ++ b))) (left_of g0) (right_of pulses g0))
+    (same : shown pulses g1 ≡ shown pulses g0)
     (ends : EndsUpTo (length a - 100) (left_of g1))
     (begins : BeginsAfter (length a - 100) (right_of pulses g1))
     (stays : left_of g2 ≡ left_of g1)
@@ -74,22 +130,35 @@ module _ (f : FormatView) (a x y b : List Pulse) (pulses : ℕ) (g1 g2 g3 : GapV
       AllUpTo-more (length a - 100 + (length a + length x - (length a - 100))) (length a + length x) touched (omega arith)
       (records_in-up_to f (a ++ (x ++ b)) (length a - 100) (length a + length x - (length a - 100)))
 
-  -- the gap is before the window
-  parted : (start ≡ left_of g1) × (touched ++ rest ≡ right_of pulses g1)
+  start_up_to : AllUpTo (length a - 100) start
+  unfolding start
+  start_up_to =
+      AllUpTo-more (0 + (length a - 100)) (length a - 100) start (omega arith) (records_in-up_to f (a ++ (x ++ b)) 0 (length a - 100))
+
+  touched_after : AllAfter (length a - 100) touched
+  unfolding touched
+  touched_after = records_in-after f (a ++ (x ++ b)) (length a - 100) (length a + length x - (length a - 100))
+
+  -- what is left of the window if some of it has gone
+  stood : Thinned (length a - 100) (length a + length x) (shown pulses g0) start rest
   unfolding start touched rest
+  stood =
+      thinned (length a - 100) (length a + length x) start (left_of g0) were.gone (right_of pulses g0) touched rest
+      (sym were.whole ∙ frames_in_parts f a x b) were.after were.up_to start_up_to touched_after touched_up_to rest_after
+
+  -- the gap is before the window
+  parted : (start ≡ left_of g1) × (stood.left ++ rest ≡ right_of pulses g1)
   parted =
-      parted_same (length a - 100) start (touched ++ rest) (left_of g1) (right_of pulses g1)
-      (sym (frames_in_parts f a x b) ∙ sym were)
-      (AllUpTo-more (0 + (length a - 100)) (length a - 100) start (omega arith) (records_in-up_to f (a ++ (x ++ b)) 0 (length a - 100)))
-      (AllAfter-append (length a - 100) touched rest
-      (records_in-after f (a ++ (x ++ b)) (length a - 100) (length a + length x - (length a - 100)))
+      parted_same (length a - 100) start (stood.left ++ rest) (left_of g1) (right_of pulses g1)
+      (sym stood.whole ∙ sym same) start_up_to
+      (AllAfter-append (length a - 100) stood.left rest stood.after
       (AllAfter-less (length a + length x) (length a - 100) rest (omega arith) rest_after))
       ends begins
 
   -- and what is right of it then is after the window
   behind : rest ≡ right_of pulses g2
-  behind = (parted_same (length a + length x) touched rest dropped.gone (right_of pulses g2) (parted.1 ∙ dropped.all)
-      touched_up_to rest_after (AllUpTo-ends (length a + length x) dropped.gone dropped.up_to) dropped.rest).1
+  behind = (parted_same (length a + length x) stood.left rest dropped.gone (right_of pulses g2) (parted.1 ∙ dropped.all)
+      stood.up_to rest_after (AllUpTo-ends (length a + length x) dropped.gone dropped.up_to) dropped.rest).1
 
   pub repaired_parts : shown (((pulses + (2 ^ 64 - length x)) % 2 ^ 64 + length y) % 2 ^ 64) g3 ≡ frames f (a ++ (y ++ b))
   unfolding start rest
@@ -107,19 +176,20 @@ module _ (f : FormatView) (a x y b : List Pulse) (pulses : ℕ) (g1 g2 g3 : GapV
       ∙ sym (frames_in_parts f a y b))
 
 -- a list in three parts
-parts : (ps : List Pulse) (at n : ℕ) → ps ≡ take at ps ++ (take n (drop at ps) ++ drop (at + n) ps)
+pub parts : (ps : List Pulse) (at n : ℕ) → ps ≡ take at ps ++ (take n (drop at ps) ++ drop (at + n) ps)
 parts ps at n =
     sym (take-append-drop at ps)
     ∙ ap (λ qs. take at ps ++ qs) (sym (take-append-drop n (drop at ps)) ∙ ap (λ qs. take n (drop at ps) ++ qs) (drop-drop n at ps))
 
-piece_long : (ps : List Pulse) (at n : ℕ) → at + n ≤ length ps → length (take n (drop at ps)) ≡ n
+pub piece_long : (ps : List Pulse) (at n : ℕ) → at + n ≤ length ps → length (take n (drop at ps)) ≡ n
 piece_long ps at n le = length-take-le n (drop at ps) (omega (arith, length-drop at ps))
 
 -- an edited track: the records of the window, between those that stay
 module _ (f : FormatView) (at gone come micros : ℕ) (records : List Record) (ps : List Pulse) (were : WereFrames f at gone come records micros ps)
-    (few : length ps ≤ 2 ^ 22) (small : gone < 2 ^ 64) (pulses from to now : ℕ) (g1 g2 g3 : GapView Record)
+    (few : length ps ≤ 2 ^ 22) (small : gone < 2 ^ 64) (pulses from to now : ℕ) (g0 g1 g2 g3 : GapView Record)
     (first : from ≡ at - 100)
-    (shows : shown pulses g1 ≡ records)
+    (shows : Cut from (at + gone) records (left_of g0) (right_of pulses g0))
+    (same_shown : shown pulses g1 ≡ shown pulses g0)
     (ends : EndsUpTo from (left_of g1))
     (begins : BeginsAfter from (right_of pulses g1))
     (stays : left_of g2 ≡ left_of g1)
@@ -148,8 +218,12 @@ module _ (f : FormatView) (at gone come micros : ℕ) (records : List Record) (p
       let same : now ≡ ((pulses + (2 ^ 64 - length x)) % 2 ^ 64 + length y) % 2 ^ 64 =
       number ∙ λ i. ((pulses + (2 ^ 64 - sym x_long i)) % 2 ^ 64 + sym y_long i) % 2 ^ 64 in
       ap (λ n. shown n g3) same
-      ∙ (repaired_parts f a x y b pulses g1 g2 g3 (omega (arith, x_long, small)) (omega (arith, a_long, y_long, length-drop (at + come) ps, were.span.came, few))
-      (shows ∙ (were.frames ∙ ap (frames f) former))
+      ∙ (repaired_parts f a x y b pulses g0 g1 g2 g3 (omega (arith, x_long, small))
+      (omega (arith, a_long, y_long, length-drop (at + come) ps, were.span.came, few))
+      (subst (λ (rs : List Record). Cut (length a - 100) (length a + length x) rs (left_of g0) (right_of pulses g0)) (were.frames ∙ ap (frames f) former)
+      (subst (λ (n : ℕ). Cut (length a - 100) n records (left_of g0) (right_of pulses g0)) (λ i. sym a_long i + sym x_long i)
+      (subst (λ (n : ℕ). Cut n (at + gone) records (left_of g0) (right_of pulses g0)) place shows)))
+      same_shown
       (subst (λ n. EndsUpTo n (left_of g1)) place ends)
       (subst (λ n. BeginsAfter n (right_of pulses g1)) place begins)
       stays
@@ -167,3 +241,26 @@ pub length-filled : (g h : GapView Record) (rs : List Record) → left_of h ≡ 
     → length h.items ≡ length g.items + length rs
 length-filled g h rs left right =
     omega (arith, ap length left, length-append (left_of g) rs, ap length right, length-sides g, length-sides h)
+
+-- how many frames an edited track has: those that stay, and those of the window
+module _ (f : FormatView) (at gone come micros : ℕ) (records : List Record) (ps : List Pulse) (were : WereFrames f at gone come records micros ps)
+    (few : length ps ≤ 2 ^ 22) (small : gone < 2 ^ 64) (pulses from to : ℕ) (g0 g1 g2 : GapView Record)
+    (first : from ≡ at - 100)
+    (shows : Cut from (at + gone) records (left_of g0) (right_of pulses g0))
+    (same_shown : shown pulses g1 ≡ shown pulses g0)
+    (ends : EndsUpTo from (left_of g1))
+    (begins : BeginsAfter from (right_of pulses g1))
+    (stays : left_of g2 ≡ left_of g1)
+    (dropped : Dropped (at + gone) (right_of pulses g1) (right_of pulses g2))
+    (last : to ≡ min (length ps - 1) (at + come)) where
+  pub frames_long : length (frames f ps) ≡ length g2.items + length (records_in f ps from (to - from))
+  frames_long =
+      let window = records_in f ps from (to - from) in
+      let front = left_of g2 ++ window in
+      let g3 = gap_view (front ++ kept_right g2) (length front) 0 in
+      let left : left_of g3 ≡ front = take-append_seam front (kept_right g2) in
+      let kept : kept_right g3 ≡ kept_right g2 = drop-append_seam front (kept_right g2) in
+      let now = ((pulses + (2 ^ 64 - gone)) % 2 ^ 64 + come) % 2 ^ 64 in
+      let told = repaired f at gone come micros records ps were few small pulses from to now g0 g1 g2 g3 first shows same_shown ends begins stays
+      dropped last left kept refl in
+      omega (arith, ap length told, length-shown now g3, length-filled g2 g3 window left kept)

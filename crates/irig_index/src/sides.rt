@@ -1,7 +1,10 @@
 //! The records on both sides of a gap.
 
-ghost use Rattle.std.specs.Prelude.{◌≡◌, ℕ, ◌+◌, ◌*◌, ◌^◌, ◌<◌, ◌≤◌, ◌∷◌, ◌++◌, [], true, false, length, max, slice_get, Some, IsOk, OnOk};
-ghost use Rattle.irig_index.specs.Sides.{turned, left_of, kept_right, right_of, shown, EndsUpTo, BeginsAfter, BeginsUpTo, Dropped};
+ghost use Rattle.std.specs.Prelude.{◌≡◌, ℕ, ◌+◌, ◌*◌, ◌^◌, ◌<◌, ◌≤◌, ◌∷◌, ◌++◌, [], true, false, length, max};
+ghost use Rattle.std.specs.Prelude.{slice_get, Some, IsOk, OnOk};
+ghost use Rattle.irig_index.specs.Cuts.{Cut, EndsWithin};
+ghost use Rattle.irig_index.specs.Sides.{turned, left_of, kept_right, right_of, shown};
+ghost use Rattle.irig_index.specs.Sides.{EndsUpTo, BeginsAfter, BeginsUpTo, Dropped};
 
 use crate::record::Record;
 use irig_gap::Gap;
@@ -60,6 +63,23 @@ pub fn part(records: &mut Gap<Record>, pulses: usize, last: usize)
     }
 }
 
+/// Moves the gap left over the records of the markers after `last`, and then removes the records
+/// left of it that are of markers after `first`. If the records rise, those that are still to go
+/// are right of the gap then.
+pub fn drop_back_to(records: &mut Gap<Record>, pulses: usize, first: usize, last: usize)
+    ensures cut { Cut first last (shown pulses records.old)
+        (left_of records.new) (right_of pulses records.new) }
+    ensures length { length records.new.items ≤ length records.old.items }
+    ensures capacity { records.new.capacity ≡ records.old.capacity }
+{
+    while ends_after(records, last) {
+        step_left(records, pulses);
+    }
+    while ends_within(records, first, last) {
+        records.take_left();
+    }
+}
+
 /// Removes the records right of the gap that are of markers up to `last`.
 pub fn drop_up_to(records: &mut Gap<Record>, pulses: usize, last: usize)
     ensures left { left_of records.new ≡ left_of records.old }
@@ -79,6 +99,18 @@ fn ends_after(records: &Gap<Record>, last: usize) -> bool
 {
     let place = records.gap_at();
     place > 0 && records.get(place - 1).marker > last
+}
+
+/// Whether the record left of the gap is of a marker after `first`, up to `last`.
+fn ends_within(records: &Gap<Record>, first: usize, last: usize) -> bool
+    ensures { result ≡ true → EndsWithin first last records.now.items records.now.place }
+{
+    let place = records.gap_at();
+    if place == 0 {
+        return false;
+    }
+    let marker = records.get(place - 1).marker;
+    marker > first && marker <= last
 }
 
 /// Whether the record right of the gap is of a marker up to `last`.

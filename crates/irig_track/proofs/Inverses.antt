@@ -1,5 +1,7 @@
 -- Each edit can be reversed by one of its kind.
-use Rattle.std.proofs.Common.{◌≡◌, ℕ, suc, zero, ℤ, pos, negsuc, ◌+◌, ◌-◌, ◌<◌, ◌≤◌, ◌==◌, Bool, true, false, cond, not, ◌||◌, List, [], ◌∷◌, ◌++◌, length, take, drop, slice_get, Some, refl, sym, ap, ◌∙◌, subst, arith}
+use Rattle.std.proofs.Common.{◌≡◌, ℕ, suc, zero, ℤ, pos, negsuc, ◌+◌, ◌-◌, ◌<◌, ◌≤◌, ◌==◌, Bool, true, false}
+use Rattle.std.proofs.Common.{cond, not, ◌||◌, List, [], ◌∷◌, ◌++◌, length, take, drop, slice_get, Some, refl}
+use Rattle.std.proofs.Common.{sym, ap, ◌∙◌, subst, arith}
 use Rattle.std.proofs.lemmas.List.{length-take-le, length-map, take-append-drop}
 use lib.IntN.{neg_ℤ}
 use Rattle.std.proofs.Math.Seq.{take-append_seam, drop-append_seam, drop-append-add}
@@ -17,7 +19,7 @@ use Rattle.irig_track.proofs.Carried.{length-spliced, length-piece}
 use Rattle.irig_track.proofs.Laws.{parts, has-toggled}
 use Rattle.irig_track.proofs.Recordings.{recording_of}
 use Rattle.irig_track.proofs.RisingLists.{RisesFrom-flipped, edges_of-append}
-use Rattle.irig_track.proofs.Sets.{only_list, edges_of-inj}
+use Rattle.irig_track.proofs.Sets.{only_list}
 
 -- what was inserted is where it was inserted
 pub piece-spliced : (at count : ℕ) (put ps : List Pulse) → at ≤ length ps → piece at (length put) (spliced at count put ps) ≡ put
@@ -35,7 +37,8 @@ spliced-spliced at count put ps le =
     ∙ (λ j. take-append_seam xs (put ++ zs) j ++ (piece at count ps ++ (drop-append-add xs (put ++ zs) (length put) ∙ drop-append_seam put zs) j))
     ∙ parts at count ps
 
-pub can_splice_back : (micros at count : ℕ) (put ps : List Pulse) → IsTrack micros ps → at + count ≤ length ps → CanSplice micros at (length put) (piece at count ps) (spliced at count put ps)
+pub can_splice_back : (micros at count : ℕ) (put ps : List Pulse) → IsTrack micros ps → at + count ≤ length ps
+    → CanSplice micros at (length put) (piece at count ps) (spliced at count put ps)
 can_splice_back micros at count put ps h le = record {
   there = omega (arith, length-spliced ps put at count le);
   track = subst (IsTrack micros) (sym (spliced-spliced at count put ps (omega arith))) h;
@@ -54,16 +57,13 @@ toggled-toggled a b xs lt h =
     only_list 0 (toggled a b (toggled a b xs)) xs twice h
     (λ t. has-toggled t a b (toggled a b xs) lt once ∙ ap (inverted a b t) (has-toggled t a b xs lt h) ∙ not_twice ((a == t) || (b == t)) (has t xs))
 
-pub can_toggle_back : (micros a b : ℕ) (old new : List Pulse) → IsTrack micros old → CanToggle micros a b old → edges_of new ≡ toggled a b (edges_of old) → CanToggle micros a b new
+pub can_toggle_back : (micros a b : ℕ) (old new : List Pulse) → IsTrack micros old → CanToggle micros a b old → edges_of new ≡ toggled a b (edges_of old)
+    → CanToggle micros a b new
 can_toggle_back micros a b old new h can e = record {
   order = can.order;
   within = can.within;
   track = subst (IsRecording micros) (sym (ap (toggled a b) e ∙ toggled-toggled a b (edges_of old) can.order h.rises)) (recording_of micros old h);
 }
-
--- after two toggles the pulses are as before
-pub toggled_back : (a b : ℕ) (old new last : List Pulse) → a < b → RisesFrom 0 (edges_of old) → edges_of new ≡ toggled a b (edges_of old) → edges_of last ≡ toggled a b (edges_of new) → last ≡ old
-toggled_back a b old new last lt h e f = edges_of-inj last old (f ∙ ap (toggled a b) e ∙ toggled-toggled a b (edges_of old) lt h)
 
 -- two distances that cancel each other
 pub record Opposite (d e : ℤ) : Type 0 where
@@ -97,7 +97,8 @@ module _ (micros i j : ℕ) (d e : ℤ) (ps : List Pulse) (o : Opposite d e) (ca
   long = length-map (piece i (count_to i j) ps) (moved_pulse (ahead d) (back d)) ∙ length-piece ps i (count_to i j) there
 
   piece-shifted : piece i (count_to i j) (shifted i j d ps) ≡ moved d (piece i (count_to i j) ps)
-  piece-shifted = ap (λ k. piece i k (shifted i j d ps)) (sym long) ∙ piece-spliced i (count_to i j) (moved d (piece i (count_to i j) ps)) ps (omega (arith, there))
+  piece-shifted = ap (λ k. piece i k (shifted i j d ps)) (sym long) ∙ piece-spliced i (count_to i j) (moved d (piece i (count_to i j) ps)) ps
+      (omega (arith, there))
 
   pub shifted-shifted : shifted i j e (shifted i j d ps) ≡ ps
   shifted-shifted =
@@ -124,7 +125,8 @@ first_or-within top [] [] h = omega arith
 first_or-within top [] (y ∷ ys) h = omega (arith, h.0)
 first_or-within top (x ∷ xs) ys h = first_or-within top xs ys h.1
 
-within_length : (d : ℤ) (start high rise fall micros : ℕ) → start + back d ≤ rise + ahead d → fall + ahead d < high + back d → high ≤ micros + 1 → rise ≤ micros → (ahead d ≤ micros) × (back d ≤ micros)
+within_length : (d : ℤ) (start high rise fall micros : ℕ) → start + back d ≤ rise + ahead d → fall + ahead d < high + back d → high ≤ micros + 1
+    → rise ≤ micros → (ahead d ≤ micros) × (back d ≤ micros)
 within_length (pos n) start high rise fall micros early late le within = (omega arith, omega arith)
 within_length (negsuc n) start high rise fall micros early late le within = (omega arith, omega arith)
 

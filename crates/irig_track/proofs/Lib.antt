@@ -14,9 +14,9 @@ pub mod Allowed
 -- What the edits do to pulses and edges, and where.
 pub mod Carried
 pub mod MovedPulses
+pub mod Exchanges
 pub mod Turns
 pub mod Spans
 -- Laws of edits for the crates above.
 pub mod Laws
-pub mod Meaning
 pub mod Inverses

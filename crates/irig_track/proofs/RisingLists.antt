@@ -1,9 +1,11 @@
 -- Laws of a rising list of edges.
-use Rattle.std.proofs.Common.{◌≡◌, ℕ, suc, zero, ◌+◌, ◌*◌, ◌<◌, ◌≤◌, ◌≢◌, ◌==◌, nat_lt, true, false, cond, not, List, [], ◌∷◌, ◌++◌, length, get_or, refl, sym, ap, ◌∙◌, subst, ◌⊎◌, inl, inr, arith}
+use Rattle.std.proofs.Common.{◌≡◌, ℕ, suc, zero, ◌+◌, ◌*◌, ◌<◌, ◌≤◌, ◌≢◌, ◌==◌, nat_lt, true, false, cond}
+use Rattle.std.proofs.Common.{not, List, [], ◌∷◌, ◌++◌, length, get_or, refl, sym, ap, ◌∙◌, subst, ◌⊎◌, inl}
+use Rattle.std.proofs.Common.{inr, arith}
 use Rattle.std.proofs.lemmas.Bool.Decides.{nat_tests}
 use Rattle.irig_vcd.specs.Recording.{RisesFrom, UpTo}
 use Rattle.irig_track.specs.Edges.{Under, has, edges_of}
-use Rattle.irig_track.specs.Toggles.{flipped, toggled}
+use Rattle.irig_track.specs.Toggles.{flipped}
 use Rattle.irig_track.specs.declared.pulse.Pulse.{Pulse}
 
 pub rises_low : (low : ℕ) (xs : List ℕ) (j : ℕ) → RisesFrom low xs → j < length xs → low ≤ get_or xs j 0
@@ -80,7 +82,8 @@ has-flipped_same low t (x ∷ xs) h = elim (three t x) [
   | inl lt ↦ ap (has t) (flip_low t x xs lt) ∙ has_here t t (x ∷ xs) refl ∙ ap not (sym (has_none (t + 1) t (x ∷ xs) (omega arith, h.1) (omega arith)))
   | inr r ↦ elim r [
     | inl e ↦ ap (has t) (flip_same t x xs e) ∙ has_none (x + 1) t xs h.1 (omega arith) ∙ ap not (sym (has_here x t xs (sym e)))
-    | inr gt ↦ ap (has t) (flip_high t x xs gt) ∙ has_there x t (flipped t xs) (omega arith) ∙ has-flipped_same (x + 1) t xs h.1 ∙ ap not (sym (has_there x t xs (omega arith)))
+    | inr gt ↦ ap (has t) (flip_high t x xs gt) ∙ has_there x t (flipped t xs) (omega arith) ∙ has-flipped_same (x + 1) t xs h.1 ∙ ap not
+        (sym (has_there x t xs (omega arith)))
   ]
 ]
 
@@ -115,19 +118,11 @@ rises_strict low (x ∷ xs) h (suc i) (suc j) le lt = rises_strict (x + 1) xs h.
 pub test_lt : (x y : ℕ) → x < y → nat_lt x y ≡ true
 test_lt x y h = grind (arith, nat_tests)
 
-pub test_ge : (x y : ℕ) → y ≤ x → nat_lt x y ≡ false
-test_ge x y h = grind (arith, nat_tests)
-
 pub test_eq : (x y : ℕ) → x ≡ y → (x == y) ≡ true
 test_eq x y h = grind (arith, nat_tests)
 
 pub test_ne : (x y : ℕ) → x ≢ y → (x == y) ≡ false
 test_ne x y h = grind (arith, nat_tests)
-
--- flipped among edges that all lie above it
-pub above_all : (t low : ℕ) (xs : List ℕ) → t < low → RisesFrom low xs → flipped t xs ≡ t ∷ xs
-above_all t low [] h r = refl
-above_all t low (x ∷ xs) h r = flip_low t x xs (omega (arith, r.0))
 
 pub UpTo-flipped : (high t : ℕ) (xs : List ℕ) → t ≤ high → UpTo high xs → UpTo high (flipped t xs)
 UpTo-flipped high t [] le h = (le, tt)
@@ -146,9 +141,6 @@ flipped-past t (x ∷ l) ys h = flip_high t x (l ++ ys) h.0 ∙ ap (λ zs. x ∷
 pub Under-more : (t u : ℕ) (l : List ℕ) → t ≤ u → Under t l → Under u l
 Under-more t u [] le h = tt
 Under-more t u (x ∷ l) le h = (omega (arith, h.0), Under-more t u l le h.1)
-
-pub toggled-past : (a b : ℕ) (l ys : List ℕ) → a < b → Under a l → toggled a b (l ++ ys) ≡ l ++ toggled a b ys
-toggled-past a b l ys lt h = ap (flipped b) (flipped-past a l ys h) ∙ flipped-past b l (flipped a ys) (Under-more a b l (omega arith) h)
 
 pub edges_of-append : (ps qs : List Pulse) → edges_of (ps ++ qs) ≡ edges_of ps ++ edges_of qs
 edges_of-append [] qs = refl

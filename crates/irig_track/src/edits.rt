@@ -14,7 +14,7 @@ ghost use Rattle.irig_track.specs.Toggles.{toggled, CanToggle};
 use crate::pulse::Pulse;
 use crate::shift::{ahead_of, back_of, move_pulses};
 use crate::span::Span;
-use crate::splice::carry;
+use crate::splice::replace;
 use crate::stands::stands;
 use crate::toggle::toggle_right;
 use crate::track::Track;
@@ -63,12 +63,8 @@ impl Track {
         ensures spanned { IsSpan result.at result.old result.new self.old.pulses self.new.pulses }
     {
         let _count = self.pulses.len();
-        self.pulses.move_to(at);
-        taken.move_to(0);
-        carry(&mut self.pulses, count, taken);
-        put.move_to(0);
         let come = put.len();
-        carry(put, come, &mut self.pulses);
+        replace(&mut self.pulses, at, count, put, taken);
         Span {
             at,
             old: count,

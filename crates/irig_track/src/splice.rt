@@ -1,4 +1,4 @@
-//! Moves pulses from one gap buffer to another.
+//! Replaces pulses of a gap buffer by those of another.
 
 ghost use Rattle.std.specs.Prelude.{◌≡◌, ◌+◌, ◌<◌, ◌≤◌, ◌++◌, [], length};
 ghost use Rattle.irig_gap.specs.Items.{gap_view};
@@ -7,8 +7,75 @@ ghost use Rattle.irig_track.specs.Splices.{spliced, piece};
 use crate::pulse::Pulse;
 use irig_gap::Gap;
 
+/// Replaces the `count` pulses from `at` on by those of `put`. The replaced ones go to `taken`.
+/// If as many come as go, no other pulse moves.
+pub(crate) fn replace(
+    pulses: &mut Gap<Pulse>,
+    at: usize,
+    count: usize,
+    put: &mut Gap<Pulse>,
+    taken: &mut Gap<Pulse>,
+)
+    requires there { at + count ≤ length pulses.old.items }
+    requires spare { length pulses.old.items + length put.old.items ≤ pulses.old.capacity + count }
+    requires empty { taken.old.items ≡ [] }
+    requires room { count ≤ taken.old.capacity }
+    ensures pulses { pulses.new.items ≡ spliced at count put.old.items pulses.old.items }
+    ensures taken { taken.new.items ≡ piece at count pulses.old.items }
+    ensures put { put.new.items ≡ [] }
+    ensures capacities { (pulses.new.capacity ≡ pulses.old.capacity)
+        × (put.new.capacity ≡ put.old.capacity) × (taken.new.capacity ≡ taken.old.capacity) }
+{
+    let come = put.len();
+    put.move_to(0);
+    taken.move_to(0);
+    if count == come {
+        exchange(pulses, at, count, put, taken);
+    } else {
+        let _count = pulses.len();
+        pulses.move_to(at);
+        carry(pulses, count, taken);
+        carry(put, come, pulses);
+    }
+}
+
+/// Replaces the `count` pulses from `at` on by the first pulses right of the gap of `put`, each in
+/// its place. The replaced ones go to `taken`.
+fn exchange(
+    pulses: &mut Gap<Pulse>,
+    at: usize,
+    count: usize,
+    put: &mut Gap<Pulse>,
+    taken: &mut Gap<Pulse>,
+)
+    requires there { at + count ≤ length pulses.old.items }
+    requires put { (put.old.place ≡ 0) × (length put.old.items ≡ count) }
+    requires taken { (taken.old.place ≡ 0) × (taken.old.items ≡ []) }
+    requires room { count ≤ taken.old.capacity }
+    ensures pulses { pulses.new ≡
+        gap_view (spliced at count put.old.items pulses.old.items)
+        pulses.old.place pulses.old.capacity }
+    ensures taken { taken.new ≡
+        gap_view (piece at count pulses.old.items) count taken.old.capacity }
+    ensures put { put.new ≡ gap_view [] 0 put.old.capacity }
+{
+    // Read for its bound alone.
+    let _len = pulses.len();
+    let mut moved = 0;
+    while moved < count {
+        match put.take_right() {
+            Some(pulse) => {
+                taken.put(pulses.get(at + moved));
+                pulses.set(at + moved, pulse);
+            }
+            None => unreachable!(),
+        }
+        moved += 1;
+    }
+}
+
 /// Takes `count` pulses right of the gap of `from`, and puts them left of that of `to`.
-pub(crate) fn carry(from: &mut Gap<Pulse>, count: usize, to: &mut Gap<Pulse>)
+fn carry(from: &mut Gap<Pulse>, count: usize, to: &mut Gap<Pulse>)
     requires there { from.old.place + count ≤ length from.old.items }
     requires room { length to.old.items + count ≤ to.old.capacity }
     ensures from { from.new ≡

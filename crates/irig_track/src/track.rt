@@ -57,7 +57,9 @@ impl Track {
 
     /// The recording with the track's length and edges.
     pub fn recording(&self, alloc: Global) -> Result<Recording, AllocError>
-        ensures { IfOk result (λ r. r ≡ recording_view self.now.micros (edges_of self.now.pulses)) }
+        ensures exact { IfOk result (λ r.
+            r ≡ recording_view self.now.micros (edges_of self.now.pulses)) }
+        ensures refused { OnErr result (0 < length self.now.pulses) }
     {
         let mut edges = Vec::with_capacity(alloc, 2 * self.pulses.len())?;
         for index in 0..self.pulses.len() {

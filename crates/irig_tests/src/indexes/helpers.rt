@@ -111,7 +111,8 @@ pub(crate) fn back(edit: Edit) -> Edit {
     }
 }
 
-/// Makes an edit, if it can be made, and repairs the index. False if too many looks were made.
+/// Makes an edit, if it can be made, and repairs the index, which then has places for the frames
+/// afterwards and for no more. False if too many looks were made.
 pub(crate) fn repaired(
     alloc: Global,
     track: &mut Track,
@@ -130,7 +131,8 @@ pub(crate) fn repaired(
     // Read for its bound alone.
     let _after = track.len();
     let before = index.looks();
-    index.reserve(span.new + 100)?;
+    let count = Index::count(&mut track.lens(), format);
+    index.reserve(count.saturating_sub(index.len()))?;
     let mut lens = track.lens();
     index.repair(&mut lens, format, span);
     let few = lens.looks() <= 3 * (span.new as u64 + 200);
