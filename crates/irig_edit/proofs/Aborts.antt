@@ -1,4 +1,4 @@
--- What an abort of a group leaves of the steps, and what these stand for.
+-- What an abort of a group leaves of the steps, and what these mean.
 use Rattle.std.proofs.Common.{◌≡◌, ◌≤◌, ◌+◌, ◌-◌, ℕ, suc, zero, false, List, [], ◌∷◌, length, nat_le, drop, take, Option, Some, None, option_map, refl, ap, sym, ◌∙◌, subst, arith}
 use Rattle.std.specs.Prelude.{IfSome, flat_map}
 use Rattle.std.specs.List.{AllByRecursion}
@@ -142,7 +142,7 @@ aborted_rose s cursor past future (Some o) old new counts some =
       by_steps [] same = (omega (arith, same), omega (arith, same))
       by_steps (near ∷ steps) counts = counts
 
--- so many steps of the journal since a group was begun are as many of the machine
+-- the steps of the journal since a group was begun are the same number of steps of the machine
 pub has_made : (n : ℕ) (P : Opening → Type 0) (s : State) (cursor : ℕ) (past future : List (Step Delta)) (opening : Option Opening)
     → ((o : Opening) → P o → o.steps + n ≤ length past) → IfSome opening P
     → IfSome (option_map (floor_of (machine (history s cursor past future))) opening)

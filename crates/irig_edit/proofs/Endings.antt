@@ -138,7 +138,7 @@ IsGrouped-ended g h is closes = by_floor g.floor closes where
       } in
       subst (λ (x : Grouped Kept). IsGrouped x) there new
 
--- a begin puts the floor where the machine is
+-- a begin sets the floor to the place of the machine
 pub grouped-began : (s : State) (cursor : ℕ) (past future all more : List (Step Delta)) (old new : Option Opening)
     → begun (grouped_states s cursor past future old) ≡ Some (grouped_states s cursor all more new) → all ≡ past → more ≡ future
     → begun (over_opening old (machine (history s cursor past future))) ≡ Some (over_opening new (machine (history s cursor all more)))

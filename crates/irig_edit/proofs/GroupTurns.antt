@@ -13,13 +13,13 @@ use Rattle.irig_edit.specs.Delta.Delta.{Together}
 use Rattle.irig_edit.specs.Held.{delta_of, parts_of, single_of}
 use Rattle.irig_edit.specs.Looks.{RoseWithin, both, looks_along, looks_by}
 use Rattle.irig_edit.specs.Present.{PresentView}
-use Rattle.irig_edit.specs.Room.{HasRoomForAll, KeepsPlaces, brought}
+use Rattle.irig_edit.specs.Room.{KeepsPlaces, brought}
 use Rattle.irig_edit.specs.Single.{FitsSingle, SingleDelta, brought_by, turned_single}
 use Rattle.irig_edit.specs.State.{State}
 use Rattle.irig_edit.specs.declared.change.Change.{Change}
 use Rattle.irig_edit.specs.declared.change.Change.TheVariants.{One, Group}
 use Rattle.irig_edit.specs.declared.single.Single.{Single}
-use Rattle.irig_edit.proofs.Rooms.{StaysReady, brought-cons, ready_first, ready_next}
+use Rattle.irig_edit.proofs.Rooms.{StaysReady, brought-cons, ready_next}
 
 -- what holds of each of two lists holds of each of both
 pub all-append : {X : Type 0} (P : X → Type 0) (xs ys : List X) → AllByRecursion P xs → AllByRecursion P ys
@@ -84,12 +84,6 @@ pub record TurnedSoFar (first : PresentView) (all : List Single) (now : PresentV
       ≡ map single_of done ++ backs turned_single now.state (map single_of left)
   pub looks : (most : ℕ) → RoseWithin (looks_along now.state (map single_of left)) now.index.looks most
       → RoseWithin (looks_along first.state (map single_of all)) first.index.looks most
-
--- before the first turn
-pub turned_none : (p : PresentView) (all : List Single) → FitAll FitsSingle turned_single p.state (map single_of all)
-    → HasRoomForAll p all → TurnedSoFar p all p [] all
-turned_none p all fit room =
-    record { fit = fit; ready = ready_first p all room; state = refl; backs = refl; looks = λ most h. h }
 
 -- after one more turn
 pub turned_more : (first now next : PresentView) (all done left : List Single) (x y : Single)

@@ -19,18 +19,9 @@ opened_state s r saved is format =
     let pulses = sym (pulses_of-edges_of s.pulses) ∙ ap (λ (x : RecordingView). pulses_of x.edges) is in
     (λ k. state (micros k) (pulses k) (format k) saved.marks)
 
--- a test that fails, and one that holds
-unless_not : {X : Type 0} (b : Bool) (x y : X) → (IsTrue b → ⊥) → (if not b then x else y) ≡ x
-unless_not true x y never = absurd (never refl)
-unless_not false x y never = refl
-
 unless_is : {X : Type 0} (b : Bool) (x y : X) → IsTrue b → (if not b then x else y) ≡ y
 unless_is true x y is = refl
 unless_is false x y is = let bad : false ≡ true = is in cc
-
--- a format that is not permitted
-pub head_format : (s : State) (saved : Saved) → (IsTrue (is_permitted saved.kind saved.expression) → ⊥) → head_fault s saved ≡ Some 2
-head_format s saved never = unless_not (is_permitted saved.kind saved.expression) _ _ never
 
 lt_yes : {X : Type 0} (m n : ℕ) (x y : X) → m < n → (if nat_lt m n then x else y) ≡ x
 lt_yes m n x y less = let yes : nat_lt m n ≡ true = grind (arith, nat_tests) in rw yes refl

@@ -52,7 +52,7 @@ moved_all d (suc n) (b ∷ named) (m ∷ marks) all = ap (λ ms. moved_if d b m 
 abbrev pub stands_now : ℕ → ℕ → Option ℕ → Bool → Bool
 stands_now low high mark before = stands low high mark
 
--- all letters told
+-- all letters
 pub told_all : (low high n : ℕ) (marks : List (Option ℕ)) (letters : List Bool) → length marks ≤ n → length letters ≡ length marks
     → made_first (stands_now low high) n marks letters ≡ map (stands low high) marks
 told_all low high zero [] [] all same = refl

@@ -1,5 +1,6 @@
 -- Whether a pulse meets a time, and what lies before the time and after it.
 use Rattle.std.proofs.Common.{◌≡◌, ◌≤◌, ◌<◌, ◌+◌, ◌-◌, ℕ, suc, zero, Bool, true, false, ◌&&◌, ◌||◌, ◌⊎◌, inl, inr, nat_lt, nat_le, List, [], ◌∷◌, length, take, drop, slice_get, Some, refl, ap, sym, ◌∙◌, subst, arith}
+use Rattle.std.proofs.Math.Bool.{or-false}
 use Rattle.std.proofs.lemmas.Bool.Decides.{nat_tests}
 use Rattle.std.specs.List.{list_any}
 use Rattle.irig_vcd.specs.Recording.{RisesFrom}
@@ -18,10 +19,6 @@ meets_time t p = nat_lt p.rise t && nat_le t p.fall
 or-both : (v w : Bool) → (v || w) ≡ false → (v ≡ false) × (w ≡ false)
 or-both true w h = let bad : true ≡ false = h in cc
 or-both false w h = (refl, h)
-
-or-none : (v : Bool) → (v || false) ≡ v
-or-none true = refl
-or-none false = refl
 
 met_no : (t : ℕ) (p : Pulse) → t ≤ p.rise → meets_time t p ≡ false
 met_no t p h = let no : nat_lt p.rise t ≡ false = grind (arith, nat_tests) in rw no refl
@@ -53,7 +50,7 @@ met_last t low zero q (p ∷ ps) h count is = by_case (below_or_not p.rise t) wh
       let P : List Pulse → Type 0 = λ qs. length qs ≡ suc zero in
       let one = subst P (before_yes t p ps early) count in
       let others : list_any (meets_time t) ps ≡ false = met_none t ps (omega (arith, one)) in
-      rw others (rw yes (or-none (nat_le t p.fall) ∙ ap (λ (r : Pulse). nat_le t r.fall) same))
+      rw others (rw yes (or-false (nat_le t p.fall) ∙ ap (λ (r : Pulse). nat_le t r.fall) same))
   by_case (inr late) =
       let P : List Pulse → Type 0 = λ qs. length qs ≡ suc zero in
       let none = none_before t p.rise (p ∷ ps) late (omega arith, h.1) in

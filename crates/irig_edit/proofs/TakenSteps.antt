@@ -1,7 +1,7 @@
 -- The steps of a saved journal that were taken so far.
 use Rattle.std.proofs.Common.{Bool, true, false, Result, Ok, Err, ◌≡◌, ◌≤◌, ◌<◌, ◌^◌, ℕ, ◌+◌, ◌++◌, List, [], ◌∷◌, length, map, take, reverse, refl, ap, ap₂, sym, ◌∙◌, subst, arith, append_assoc}
 use Rattle.std.proofs.Math.Seq.{take-append-add, take-append_seam}
-use Rattle.std.proofs.lemmas.List.{append-nil, length-append, map-append, reverse-append}
+use Rattle.std.proofs.lemmas.List.{length-append, map-append, reverse-append}
 use Rattle.irig_saved.specs.SavedText.{step_lines, steps_lines}
 use Rattle.irig_saved.specs.declared.step.Step.{Step as SavedStep}
 use Rattle.irig_journal.specs.declared.step.Step.{Step}
@@ -40,10 +40,6 @@ pub record TakenSoFar (h : History State Delta) (names : List SavedStep) (now : 
   pub taken : AreTaken h.state done steps
   pub stands : now ≡ gone_along h steps
   pub lines : before ≡ length (steps_lines done)
-
-pub taken_none : (h : History State Delta) (names : List SavedStep) → TakenSoFar h names h names 0
-taken_none h names =
-    record { done = []; steps = []; all = refl; taken = record { named = refl; can = tt }; stands = refl; lines = refl }
 
 -- one more was taken
 pub taken_more : (h now next : History State Delta) (names left : List SavedStep) (before behind : ℕ) (s : SavedStep) (d : Step Delta)
@@ -105,13 +101,6 @@ taken_stops h now names left before behind s so_far none counted few =
           ∙ ap (λ (l : List SavedStep). length (steps_lines l)) (sym more));
       few = omega (arith, so_far.lines, ap (λ (l : List SavedStep). length (steps_lines l)) so_far.all, lines-append done (s ∷ left));
     }
-
--- none is left
-pub taken_all : (h now : History State Delta) (names left : List SavedStep) (before : ℕ) (so_far : TakenSoFar h names now left before)
-    → left ≡ [] → AreTaken h.state names so_far.steps
-taken_all h now names left before so_far none =
-    let all : names ≡ so_far.done = so_far.all ∙ (ap (λ (l : List SavedStep). so_far.done ++ l) none ∙ append-nil so_far.done) in
-    subst (λ (l : List SavedStep). AreTaken h.state l so_far.steps) (sym all) so_far.taken
 
 -- the next of what is left
 pub taken_next : (h now : History State Delta) (names steps rest : List SavedStep) (s : SavedStep) (before : ℕ)

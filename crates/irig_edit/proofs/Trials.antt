@@ -1,7 +1,5 @@
 -- Single changes made one after another as far as they can be made.
-use Rattle.std.proofs.Common.{◌≡◌, ◌≤◌, ◌++◌, ℕ, List, [], ◌∷◌, length, map, take, drop, refl, ap, ap₂, sym, subst, ◌∙◌, append_assoc}
-use Rattle.std.proofs.lemmas.List.{append-nil, map-append, take_all}
-use Rattle.std.proofs.Math.ListN.{drop_of_length-le}
+use Rattle.std.proofs.Common.{◌≡◌, ◌++◌, List, [], map, ap}
 use Rattle.irig_journal.specs.Turns.{FitAll, backs, left_by, ways_back}
 use Rattle.irig_edit.specs.Delta.{Delta}
 use Rattle.irig_edit.specs.Delta.Delta.{Together}
@@ -18,41 +16,6 @@ pub record MadeSoFar (first : State) (all : List Single) (now : State) (done lef
   pub state : left_by turned_single first (map single_of all) ≡ left_by turned_single now (map single_of left)
   pub backs : backs turned_single first (map single_of all)
       ≡ map single_of done ++ backs turned_single now (map single_of left)
-
-pub made_none : (s : State) (all : List Single) → MadeSoFar s all s [] all
-made_none s all = record { rest_fits = λ h. h; all_fit = λ h. h; state = refl; backs = refl }
-
-pub made_more : (first now next : State) (all done left : List Single) (x y : Single)
-    → MadeSoFar first all now done (x ∷ left) → FitsSingle now (single_of x)
-    → (next, single_of y) ≡ turned_single now (single_of x)
-    → MadeSoFar first all next (done ++ y ∷ []) left
-made_more first now next all done left x y so_far fits turn =
-    let there : next ≡ (turned_single now (single_of x)).0 = ap (λ (p : State × SingleDelta). p.0) turn in
-    let back : single_of y ≡ (turned_single now (single_of x)).1 = ap (λ (p : State × SingleDelta). p.1) turn in
-    let rest = map single_of left in
-    let ways : map single_of (done ++ y ∷ []) ++ backs turned_single next rest
-    ≡ map single_of done ++ backs turned_single now (single_of x ∷ rest) =
-    ap (λ (l : List SingleDelta). l ++ backs turned_single next rest) (map-append single_of done (y ∷ []))
-    ∙ (append_assoc (map single_of done) (single_of y ∷ []) (backs turned_single next rest)
-    ∙ ap₂ (λ (d : SingleDelta) (s : State). map single_of done ++ d ∷ backs turned_single s rest) back there) in
-    record {
-      rest_fits = λ h. subst (λ (s : State). FitAll FitsSingle turned_single s rest) (sym there) (so_far.rest_fits h).1;
-      all_fit = λ h. so_far.all_fit (fits, subst (λ (s : State). FitAll FitsSingle turned_single s rest) there h);
-      state = so_far.state ∙ ap (λ (s : State). left_by turned_single s rest) (sym there);
-      backs = so_far.backs ∙ sym ways;
-    }
-
--- after the last all were made
-pub made_all : (first now : State) (all xs : List Single) (i : ℕ) → length xs ≤ i
-    → MadeSoFar first all now (take i xs) (drop i xs) → MadeSoFar first all now xs []
-made_all first now all xs i over so_far =
-    subst (λ (l : List Single). MadeSoFar first all now l []) (take_all i xs over)
-    (subst (λ (l : List Single). MadeSoFar first all now (take i xs) l) (drop_of_length-le xs over) so_far)
-
--- and what leads back is there instead of each
-pub made_backs : (first now : State) (all xs : List Single) → MadeSoFar first all now xs []
-    → map single_of xs ≡ backs turned_single first (map single_of all)
-made_backs first now all xs so_far = sym (so_far.backs ∙ append-nil (map single_of xs))
 
 -- the ways back can be made
 pub ways_fit : (s : State) (ds : List SingleDelta) → IsState s → FitAll FitsSingle turned_single s ds

@@ -1,7 +1,7 @@
 -- What the opening of a dump answers. This project's own.
-use Rattle.std.specs.Prelude.{◌≡◌, ◌⊎◌, ℕ, List, Option, Some, None, Ok}
-use Rattle.irig_codes.specs.Format.{FormatView}
-use Rattle.irig_saved.specs.Faults.{IsFault}
+use Rattle.std.specs.Prelude.{◌≡◌, ◌⊎◌, ℕ, List, Option, Some, None, Result, Ok, Err, IsTrue}
+use Rattle.irig_codes.specs.Format.{FormatView, is_permitted}
+use Rattle.irig_saved.specs.Faults.{IsFault, ReachesSteps}
 use Rattle.irig_saved.specs.Ranges.{IsSaved}
 use Rattle.irig_saved.specs.SavedText.{journal_text}
 use Rattle.irig_saved.specs.declared.saved.Saved.{Saved}
@@ -61,3 +61,13 @@ IsUnopened wire bytes fault =
     IsFaultOf fault (dump_parts wire bytes)
     ⊎ ((r : RecordingView) × ((text : List ℕ) × (
     (dump_parts wire bytes ≡ Ok (r, Some text)) × IsBad (IsJournalFault r text) fault)))
+
+-- what a dump says can be read, so memory may run out after it: for the session; if it carries a
+-- journal, only if its text reaches the steps, or is whole and names a permitted format
+abbrev pub MayBeShort : Result (RecordingView × Option (List ℕ)) VcdFault → Type 0
+MayBeShort (Err e) = ⊥
+MayBeShort (Ok (r, None)) = Unit {0}
+MayBeShort (Ok (r, Some text)) =
+    ReachesSteps text
+    ⊎ ((saved : Saved) × IsTextOf text saved
+    × IsTrue (is_permitted saved.kind saved.expression))

@@ -22,10 +22,10 @@ impl Session {
         }
     }
 
-    /// Closes the open group: its steps become one. What was taken back can still be made again.
+    /// Closes the open group: its steps become one. What was undone can still be redone.
     /// This takes memory only if there are two steps or more.
     ///
-    /// E13 where no group is open.
+    /// E13 if no group is open.
     pub fn end(&mut self) -> Result<(), Refusal>
         ensures step { Steps End self.old result self.new }
         ensures looks { LooksAfter End self.old result self.new }
@@ -38,11 +38,11 @@ impl Session {
         }
     }
 
-    /// Closes the open group and takes its steps back for good: the present is that of its begin,
-    /// with the cursor that stood there, and nothing is left to be made again. This takes memory
-    /// only if there is a step.
+    /// Closes the open group and undoes its steps for good: the present is that of its begin, with
+    /// the cursor of that time, and nothing is left to redo. This takes memory only if there is a
+    /// step.
     ///
-    /// E13 where no group is open.
+    /// E13 if no group is open.
     pub fn abort(&mut self) -> Result<(), Refusal>
         ensures step { Steps Abort self.old result self.new }
         ensures looks { LooksAfter Abort self.old result self.new }

@@ -1,7 +1,9 @@
 //! What a saved journal says above its steps: format, cursor and marks.
 
-ghost use Rattle.std.specs.Prelude.{◌≡◌, ◌+◌, ◌≤◌, IfOk, IfErr, MatchResult, None, Some, [], length};
+ghost use Rattle.std.specs.Prelude.{◌≡◌, ◌+◌, ◌≤◌, Err, IfOk, IfErr, IsTrue, MatchResult, None, Some, [], length};
+ghost use Rattle.irig_codes.specs.Format.{is_permitted};
 ghost use Rattle.irig_saved.specs.SavedText.{mark_lines};
+ghost use Rattle.irig_vcd.specs.declared.fault.VcdFault.TheVariants.{OutOfMemory};
 ghost use Rattle.irig_edit.specs.Opened.{head_fault, mark_beyond, state_of};
 ghost use Rattle.irig_edit.specs.Openings.{IsBad};
 ghost use Rattle.irig_edit.specs.State.{state};
@@ -29,6 +31,8 @@ pub(crate) fn start(
         × (saved.now.cursor ≤ length (state_of recording saved.now).pulses)))) }
     ensures fault { IfErr result
         (IsBad (λ line. head_fault (state_of recording saved.now) saved.now ≡ Some line)) }
+    ensures memory { result ≡ Err OutOfMemory
+        → IsTrue (is_permitted saved.now.kind saved.now.expression) }
 {
     let Ok(format) = Format::new(saved.kind, saved.expression) else {
         return Err(VcdFault::BadJournal(2));

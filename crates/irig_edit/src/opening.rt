@@ -1,14 +1,19 @@
 //! A session is opened from a dump, with the journal that it carries.
 
-ghost use Rattle.std.specs.Prelude.{◌≡◌, ◌≤◌, ◌^◌, Err, IfOk, IfErr, IfSome, length};
-ghost use Rattle.irig_saved.specs.Faults.{IsFault};
+ghost use Rattle.std.specs.Prelude.{◌≡◌, ◌≤◌, ◌^◌, Err, IfOk, IfErr, IfSome, IsTrue, length};
+ghost use Rattle.irig_codes.specs.Format.{is_permitted};
+ghost use Rattle.irig_saved.specs.Faults.{IsFault, ReachesSteps};
 ghost use Rattle.irig_saved.specs.SavedText.{saved_lines};
 ghost use Rattle.irig_vcd.specs.Answer.{name_of};
+ghost use Rattle.irig_vcd.specs.Changes.{IsStill};
 ghost use Rattle.irig_vcd.specs.Declarations.{declarations_of};
+ghost use Rattle.irig_vcd.specs.Dump.{changes_of};
+ghost use Rattle.irig_vcd.specs.Parts.{dump_parts};
 ghost use Rattle.irig_vcd.specs.Words.{words_of};
 ghost use Rattle.irig_vcd.specs.declared.fault.VcdFault.{VcdFault};
+ghost use Rattle.irig_vcd.specs.declared.fault.VcdFault.TheVariants.{OutOfMemory};
 ghost use Rattle.irig_edit.specs.Opened.{IsAccepted, IsLineAtFault, state_of};
-ghost use Rattle.irig_edit.specs.Openings.{ArePartsOf, IsBad, IsOpened, IsTextOf, IsUnopened};
+ghost use Rattle.irig_edit.specs.Openings.{ArePartsOf, IsBad, IsOpened, IsTextOf, IsUnopened, MayBeShort};
 
 use crate::head::start;
 use crate::session::Session;
@@ -35,6 +40,8 @@ impl Session {
             → declarations_of (name_of wire.entry) (words_of bytes.items) ≡ Err e
             → result ≡ Err e }
         ensures fault { IfErr result (λ e. IsUnopened (name_of wire.entry) bytes.items e) }
+        ensures memory { IsStill (changes_of (name_of wire.entry) bytes.items)
+            → result ≡ Err OutOfMemory → MayBeShort (dump_parts (name_of wire.entry) bytes.items) }
     {
         match parts_of(alloc, bytes, wire) {
             Ok((recording, journal)) => match journal {
@@ -61,6 +68,8 @@ fn parts_of(
     ensures heading { (e : VcdFault)
         → declarations_of (name_of wire.entry) (words_of bytes.items) ≡ Err e → result ≡ Err e }
     ensures fault { IfErr result (λ e. IsUnopened (name_of wire.entry) bytes.items e) }
+    ensures memory { IsStill (changes_of (name_of wire.entry) bytes.items)
+        → result ≡ Err OutOfMemory → MayBeShort (dump_parts (name_of wire.entry) bytes.items) }
 {
     match read_parts(alloc, bytes.as_slice(), wire) {
         Ok((recording, journal)) => match journal {
@@ -80,6 +89,7 @@ fn journal_of(alloc: Global, text: &[u8]) -> Result<Saved, VcdFault>
     ensures saved { IfOk result (IsTextOf text.now) }
     ensures lines { IfOk result (λ saved. length (saved_lines saved) ≤ 2 ^ 28) }
     ensures fault { IfErr result (IsBad (λ line. IsFault line text.now)) }
+    ensures memory { result ≡ Err OutOfMemory → ReachesSteps text.now }
 {
     match parse(alloc, text) {
         Ok(saved) => Ok(saved),
@@ -93,6 +103,8 @@ fn session_of(alloc: Global, recording: Recording, saved: Saved) -> Result<Sessi
     requires short { length (saved_lines saved) ≤ 2 ^ 28 }
     ensures opened { IfOk result (IsAccepted (state_of recording saved) saved) }
     ensures fault { IfErr result (IsBad (IsLineAtFault (state_of recording saved) saved)) }
+    ensures memory { result ≡ Err OutOfMemory
+        → IsTrue (is_permitted saved.kind saved.expression) }
 {
     let (mut walk, marked) = match start(alloc, recording, &saved) {
         Ok(start) => start,

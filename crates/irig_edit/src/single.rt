@@ -84,7 +84,7 @@ impl Single {
     }
 }
 
-/// Turns a toggle, and returns where.
+/// Turns a toggle, and returns the pulses that it touched.
 pub(crate) fn turn_toggle(track: &mut Track, a: u64, b: u64) -> Span
     requires can { CanToggle track.old.micros a b track.old.pulses }
     requires spare { 0 < track.old.spare }
@@ -103,8 +103,8 @@ pub(crate) fn turn_toggle(track: &mut Track, a: u64, b: u64) -> Span
     span
 }
 
-/// Turns a shift: pulses and marks move, and the distance becomes its opposite. Returns
-/// where.
+/// Turns a shift: pulses and marks move, and the distance becomes its opposite. Returns the
+/// pulses that it touched.
 pub(crate) fn turn_shift(track: &mut Track, marks: &mut Marks, shift: &mut Shift) -> Span
     requires can { CanShift track.old.micros shift.old.i shift.old.j shift.old.by
         track.old.pulses }

@@ -36,7 +36,7 @@ impl Splice {
     }
 }
 
-/// Turns a splice, and returns where.
+/// Turns a splice, and returns the pulses that it touched.
 pub(crate) fn turn_splice(track: &mut Track, splice: &mut Splice) -> Span
     requires can { CanSplice track.old.micros splice.old.at splice.old.count splice.old.put.items
         track.old.pulses }

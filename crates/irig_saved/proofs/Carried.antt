@@ -81,7 +81,7 @@ carried {X} {Z} IsX IsZ xs zs text rest to from s =
       ];
     }
 
--- where one part stops and another stops there, so do their readings
+-- if one part stops and another stops there, so do their readings
 pub stopped : {P Q : List ℕ → Type 0} {M N : Type 0} (stop : Stop) → ((rest : List ℕ) → P rest → Q rest) → (M → N)
     → IsStop P M stop → IsStop Q N stop
 stopped (At rest) f out h = f rest.now h

@@ -42,13 +42,6 @@ onward text l mid line rest ls cut e more =
 abbrev group_lines : ℕ → List (List ℕ)
 group_lines n = number_lines (codes "group") n
 
-pub group_reads : (text l mid rest : List ℕ) (n : ℕ) (xs : List Single) → text ≡ l ++ 10 ∷ mid → IsNumber n → l ≡ numbered (codes "group") (n ∷ [])
-    → Reads (AreSingles n) singles_lines mid xs rest → Reads IsChange change_lines text (Group xs) rest
-group_reads text l mid rest n xs cut h e r = record {
-  lawful = (subst IsNumber (sym r.lawful.0) h, r.lawful.1);
-  same = onward text l mid (number_line (codes "group") (length xs)) rest (singles_lines xs) cut (e ∙ ap (number_line (codes "group")) (sym r.lawful.0)) r.same;
-}
-
 pub group_stops : (text l mid rest : List ℕ) (n : ℕ) → text ≡ l ++ 10 ∷ mid → Lacks 10 l → IsNumber n → l ≡ numbered (codes "group") (n ∷ [])
     → Stops (AreSingles n) singles_lines mid rest → Stops IsChange change_lines text rest
 group_stops text l mid rest n cut whole hn e s =
@@ -66,9 +59,6 @@ group_stops text l mid rest n cut whole hn e s =
       from (One x) h = inr (other_line text l mid (single_line x) (pulse_lines (put_of x)) cut whole (first_lacks newline x h) (λ k. other x h (sym e ∙ k)))
 
 -- one change
-
-pub one_reads : (text rest : List ℕ) (x : Single) → Reads IsSingle single_lines text x rest → Reads IsChange change_lines text (One x) rest
-one_reads text rest x r = record { lawful = r.lawful; same = r.same }
 
 pub one_stops : (text l mid rest : List ℕ) → text ≡ l ++ 10 ∷ mid → Lacks 10 l → ((n : ℕ) → IsNumber n → l ≡ numbered (codes "group") (n ∷ []) → ⊥)
     → Stops IsSingle single_lines text rest → Stops IsChange change_lines text rest
@@ -98,14 +88,6 @@ no_step = record { cursor = 0; change = One no_change }
 no_step_lawful : IsStep no_step
 unfolding no_step
 no_step_lawful = (lit< tt, no_change_lawful)
-
-pub step_reads : (text l mid rest : List ℕ) (n : ℕ) (c : Change) (s : Step) → s.cursor ≡ n → s.change ≡ c → text ≡ l ++ 10 ∷ mid → IsNumber n → l ≡ numbered (codes "at") (n ∷ [])
-    → Reads IsChange change_lines mid c rest → Reads IsStep step_lines text s rest
-step_reads text l mid rest n c s cursor change cut h e r = record {
-  lawful = (subst IsNumber (sym cursor) h, subst IsChange (sym change) r.lawful);
-  same = onward text l mid (number_line (codes "at") s.cursor) rest (change_lines s.change) cut (e ∙ ap (number_line (codes "at")) (sym cursor))
-      (r.same ∙ ap (λ (d : Change). text_of (change_lines d) ++ rest) (sym change));
-}
 
 pub step_stops : (text l mid rest : List ℕ) (n : ℕ) → text ≡ l ++ 10 ∷ mid → IsNumber n → l ≡ numbered (codes "at") (n ∷ [])
     → Stops IsChange change_lines mid rest → Stops IsStep step_lines text rest

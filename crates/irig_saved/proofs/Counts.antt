@@ -1,7 +1,6 @@
 -- The counts of a saved journal are bounded by its text.
 use Rattle.std.proofs.Common.{◌≡◌, ◌<◌, ◌≤◌, ◌^◌, ◌++◌, ◌∷◌, [], List, length, codes, arith, length-append}
 use Rattle.std.specs.List.{AllByRecursion}
-use Rattle.irig_saved.specs.Lines.{text_of}
 use Rattle.irig_saved.specs.SavedText.{single_lines, singles_lines, change_lines, step_lines, steps_lines, mark_lines, counted_lines, saved_lines, journal_text}
 use Rattle.irig_saved.specs.Ranges.{IsNumber, IsTime, IsPulse, IsSingle, IsChange, IsStep, AreSteps, IsSaved}
 use Rattle.irig_saved.specs.declared.single.Single.{Single}
@@ -61,9 +60,6 @@ step_of_numbers t few h = (h.0, change_of_numbers t.change (omega (arith, few)) 
 steps_have_lines : (ss : List Step) → length ss ≤ length (steps_lines ss)
 steps_have_lines [] = omega arith
 steps_have_lines (s ∷ ss) = let more = steps_have_lines ss in omega (arith, more, length-append (step_lines s) (steps_lines ss))
-
-pub steps_fit : (ss : List Step) → length ss ≤ length (text_of (steps_lines ss))
-steps_fit ss = omega (arith, steps_have_lines ss, lines_fit (steps_lines ss))
 
 all_of_numbers : (ss : List Step) → IsNumber (length (steps_lines ss)) → AllByRecursion NumbersOfStep ss → AllByRecursion IsStep ss
 all_of_numbers [] few h = tt

@@ -6,7 +6,7 @@ use Rattle.irig_saved.specs.Ranges.{IsSaved}
 use Rattle.irig_saved.specs.SavedText.{journal_text}
 use Rattle.irig_saved.specs.declared.saved.Saved.{Saved}
 use Rattle.irig_saved.proofs.Bytes.{not_lacking}
-use Rattle.irig_saved.proofs.SavedParts.{name_stops, format_stops, saved_stops, format_line}
+use Rattle.irig_saved.proofs.SavedParts.{name_stops}
 use Rattle.irig_saved.proofs.FaultLines.{line_of_stop}
 
 -- a journal's own text goes wrong nowhere
@@ -19,9 +19,3 @@ no_line w more e = let P : List ℕ → Type 0 = λ l. Lacks 10 l in not_lacking
 -- if there is nothing, line 1 is missing
 pub empty_text : IsFault 1 []
 empty_text = line_of_stop [] [] 1 (name_stops [] (λ more e. no_line (codes "irig-journal-1") more e)) refl
-
--- after the line that names the journal, line 2
-pub name_alone : IsFault 2 (codes "irig-journal-1\n")
-name_alone =
-    line_of_stop (codes "irig-journal-1\n") [] 2
-    (saved_stops (codes "irig-journal-1\n") [] [] refl (format_stops [] (λ f more h e. no_line (format_line f) more e))) refl

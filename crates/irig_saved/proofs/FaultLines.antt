@@ -92,7 +92,7 @@ rest_fault s text rest n r left at = record {
   nothing : rest ≡ [] → ⊥
   nothing e = let none : length rest ≡ 0 = ap length e in omega (arith, none, left)
 
--- the line where a part stops, or where the text goes on after a journal
+-- the line at which a part stops, or at which the text goes on after a journal
 
 pub line_of_stop : (text rest : List ℕ) (n : ℕ) (s : Stops IsSaved saved_lines text rest) → n ≡ 1 + count_by is_newline (take (length text - length rest) text) → IsFault n text
 line_of_stop text rest n s at =

@@ -49,7 +49,7 @@ pub counted_begins : (head text l mid : List ℕ) (n : ℕ) → text ≡ l ++ 10
 counted_begins head text l mid n cut h e some =
     record { count = n; number = h; mid = mid; same = cut ∙ ap (λ (w : List ℕ). w ++ 10 ∷ mid) e; some = some }
 
--- so many steps, the first of which has a cursor
+-- this many steps, the first of which has a cursor
 record Many (cursor count : ℕ) : Type 0 where
   steps : List Step
   others : List (List ℕ)
@@ -69,7 +69,7 @@ many cursor (suc n) h some =
       lines = refl;
     }
 
--- so many lines of those that stand
+-- this many lines of those that are there
 begins_by : (n : ℕ) (ls others : List (List ℕ)) (bytes rest : List ℕ) → n ≤ length ls → bytes ≡ text_of ls ++ rest → Begins n (ls ++ others) bytes
 begins_by n ls others bytes rest few e = record {
   there = omega (arith, few, length-append ls others);
@@ -80,7 +80,7 @@ begins_by n ls others bytes rest few e = record {
       ∙ ap (λ (l : List (List ℕ)). text_of l ++ (text_of (drop n ls) ++ rest)) (sym (take-append-le n ls others few))));
 }
 
--- the head, and what stands behind it
+-- the head, and what is after it
 reached : (text named formatted placed rest : List ℕ) (s : Saved) (ls others : List (List ℕ)) → IsSaved s → 0 < length s.past + length s.future
     → text ≡ codes "irig-journal-1" ++ 10 ∷ named → named ≡ format_line (s.kind, s.expression) ++ 10 ∷ formatted → formatted ≡ cursor_line s.cursor ++ 10 ∷ placed
     → mark_lines 97 s.marks ++ counted_lines (codes "past") s.past ++ counted_lines (codes "future") s.future ≡ ls ++ others

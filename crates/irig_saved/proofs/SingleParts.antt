@@ -45,16 +45,6 @@ same_three t u ht hu e =
       triple : (a b c d e f : ℕ) → a ≡ b → c ≡ d → e ≡ f → (let k : ℕ × ℕ × ℕ = (a, c, e) in k) ≡ (b, d, f)
       triple a b c d e f one two three = ap₂ (λ x y. (let k : ℕ × ℕ × ℕ = (x, y, e) in k)) one two ∙ ap (λ z. (let k : ℕ × ℕ × ℕ = (b, d, z) in k)) three
 
-pub splice_reads : (text l mid rest : List ℕ) (t : ℕ × ℕ × ℕ) (ps : List Pulse) → text ≡ l ++ 10 ∷ mid → AreThree t → l ≡ splice_line t
-    → Reads (ArePulses t.2) pulse_lines mid ps rest → Reads IsSingle single_lines text (Splice t.0 t.1 ps) rest
-splice_reads text l mid rest t ps cut h e r = record {
-  lawful = (h.0, h.1, subst IsNumber (sym r.lawful.0) h.2, r.lawful.1);
-  same = cut ∙ ap (λ (w : List ℕ). w ++ 10 ∷ mid) e
-      ∙ ap (λ n. line (codes "splice") (decimal t.0 ∷ decimal t.1 ∷ decimal n ∷ []) ++ 10 ∷ mid) (sym r.lawful.0)
-      ∙ ap (λ (m : List ℕ). single_line (Splice t.0 t.1 ps) ++ 10 ∷ m) r.same
-      ∙ sym (append_assoc (single_line (Splice t.0 t.1 ps)) (10 ∷ text_of (pulse_lines ps)) rest);
-}
-
 -- no other change has the first line of a splice
 other_head : (x : Single) (t : ℕ × ℕ × ℕ) → IsSingle x → AreThree t → (codes "splice" ≡ head_of x → ⊥) → splice_line t ≡ single_line x → ⊥
 other_head x t h ht not e =

@@ -1,11 +1,8 @@
 -- Texts of lines.
-use Rattle.std.proofs.Common.{◌≡◌, ◌<◌, ◌+◌, ◌++◌, ◌∷◌, [], ℕ, suc, List, length, drop, get_or, refl, sym, ap, ◌∙◌, append_assoc}
-use Rattle.std.proofs.lemmas.List.{drop_more}
+use Rattle.std.proofs.Common.{◌≡◌, ◌+◌, ◌++◌, ◌∷◌, [], ℕ, suc, List, length, refl, sym, ap, ◌∙◌, append_assoc}
 use Rattle.irig_saved.specs.Lines.{text_of}
-use Rattle.irig_saved.specs.SavedText.{pulse_lines, single_lines, singles_lines, step_lines, steps_lines}
+use Rattle.irig_saved.specs.SavedText.{pulse_lines}
 use Rattle.irig_track.specs.declared.pulse.Pulse.{Pulse}
-use Rattle.irig_saved.specs.declared.single.Single.{Single}
-use Rattle.irig_saved.specs.declared.step.Step.{Step}
 
 pub text_of_append : (ls ms : List (List ℕ)) → text_of (ls ++ ms) ≡ text_of ls ++ text_of ms
 text_of_append [] ms = refl
@@ -17,22 +14,6 @@ pub further : (old new whole : List ℕ) (ls ms : List (List ℕ)) → new ≡ o
     → old ++ text_of (ls ++ ms) ≡ whole → new ++ text_of ms ≡ whole
 further old new whole ls ms put all =
     ap (λ t. t ++ text_of ms) put ∙ append_assoc old (text_of ls) (text_of ms) ∙ ap (λ t. old ++ t) (sym (text_of_append ls ms)) ∙ all
-
--- a line and lines after it
-pub line_and : (old mid new l : List ℕ) (ls : List (List ℕ)) → mid ≡ old ++ (l ++ 10 ∷ []) → new ≡ mid ++ text_of ls
-    → new ≡ old ++ text_of (l ∷ ls)
-line_and old mid new l ls first rest =
-    rest ∙ ap (λ t. t ++ text_of ls) first ∙ append_assoc old (l ++ 10 ∷ []) (text_of ls) ∙ ap (λ t. old ++ t) (append_assoc l (10 ∷ []) (text_of ls))
-
-pub singles_next : (xs : List Single) (i : ℕ) (x : Single) → i < length xs → x ≡ get_or xs i x
-    → singles_lines (drop i xs) ≡ single_lines x ++ singles_lines (drop (i + 1) xs)
-singles_next xs i x within is =
-    ap singles_lines (drop_more xs i x within) ∙ ap (λ y. single_lines y ++ singles_lines (drop (i + 1) xs)) (sym is)
-
-pub steps_next : (xs : List Step) (i : ℕ) (x : Step) → i < length xs → x ≡ get_or xs i x
-    → steps_lines (drop i xs) ≡ step_lines x ++ steps_lines (drop (i + 1) xs)
-steps_next xs i x within is =
-    ap steps_lines (drop_more xs i x within) ∙ ap (λ y. step_lines y ++ steps_lines (drop (i + 1) xs)) (sym is)
 
 pub whole : (t1 t2 t3 t4 t5 t6 t7 t8 a b c p f : List ℕ) (ms ss fs : List (List ℕ))
     → t1 ≡ a ++ 10 ∷ [] → t2 ≡ t1 ++ (b ++ 10 ∷ []) → t3 ≡ t2 ++ (c ++ 10 ∷ []) → t4 ≡ t3 ++ text_of ms

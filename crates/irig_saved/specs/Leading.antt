@@ -4,14 +4,14 @@ use Rattle.std.specs.Borrow.{Bor}
 use Rattle.irig_saved.specs.Lines.{line, numbered}
 use Rattle.irig_saved.specs.Ranges.{IsNumber}
 
--- the first line is read, with what stands behind it; else the text begins with no such line
+-- the first line is read, with what is after it; else the text begins with no such line
 abbrev pub FirstLine : {X : Type 0} → (X → Type 0) → (X → List ℕ) → List ℕ
     → Option (X × Bor (List ℕ)) → Type 0
 FirstLine {X} Is write text r = MatchOption r
     ((x : X) (more : List ℕ) → Is x → text ≡ write x ++ 10 ∷ more → ⊥)
     (λ p. Is p.0 × (text ≡ write p.0 ++ 10 ∷ p.1.now))
 
--- mark x TIME, where x is a letter's byte
+-- mark x TIME, of a letter's byte x
 abbrev pub mark_line : ℕ → ℕ → List ℕ
 mark_line x t = line (codes "mark") ((x ∷ []) ∷ decimal t ∷ [])
 

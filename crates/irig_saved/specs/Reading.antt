@@ -62,7 +62,7 @@ pub record Stops {X : Type 0} (Is : X → Type 0) (lines : X → List (List ℕ)
       → text ≡ text_of (take (n + 1) (lines x)) ++ more → ⊥
   pub refused : (x : X) (more : List ℕ) → Is x → text ≡ text_of (lines x) ++ more → ⊥
 
--- this holds of the rest where a reading stops, and that if it is out of memory
+-- this holds of the rest at which a reading stops, and that if it is out of memory
 abbrev pub IsStop : (List ℕ → Type 0) → Type 0 → Stop → Type 0
 IsStop P M (At rest) = P rest.now
 IsStop P M Memory = M

@@ -1,4 +1,4 @@
-//! Lines and words, cut from a text where `bstr` finds a byte.
+//! Lines and words, cut from a text at the byte that `bstr` finds.
 
 ghost use Rattle.std.specs.Prelude.{◌≡◌, ◌++◌, ◌∷◌, MatchOption};
 ghost use Rattle.irig_saved.specs.Reading.{Lacks, CutAt};

@@ -80,7 +80,7 @@ pub fn pulse(text: &[u8]) -> Option<Pulse>
     Some(Pulse { rise, fall })
 }
 
-/// The first line of a splice: from where on pulses go, how many, and how many come.
+/// The first line of a splice: the first pulse that goes, how many go, and how many come.
 pub fn splice(text: &[u8]) -> Option<(u64, u64, u64)>
     ensures { Decodes AreThree (λ t. line (codes "splice") (words_of_three t)) text.now result }
 {

@@ -18,7 +18,7 @@ use crate::steps::Steps;
 use crate::stop::Stop;
 use std::alloc::Global;
 
-/// Lines of pulses, so many of them.
+/// This many lines of pulses.
 pub fn pulses(alloc: Global, count: u64, text: &[u8]) -> Result<(Pulses, &[u8]), Stop<'_>>
     ensures { Parses (ArePulses count) pulse_lines Any text.now result }
 {
@@ -58,7 +58,7 @@ pub fn single(alloc: Global, text: &[u8]) -> Result<(Single, &[u8]), Stop<'_>>
     }
 }
 
-/// Changes, so many of them.
+/// This many changes.
 pub fn singles(alloc: Global, count: u64, text: &[u8]) -> Result<(Singles, &[u8]), Stop<'_>>
     ensures { Parses (AreSingles count) singles_lines Any text.now result }
 {
@@ -112,7 +112,7 @@ pub fn step(alloc: Global, text: &[u8]) -> Result<(Step, &[u8]), Stop<'_>>
     }
 }
 
-/// Steps, so many of them.
+/// This many steps.
 pub fn steps(alloc: Global, count: u64, text: &[u8]) -> Result<(Steps, &[u8]), Stop<'_>>
     ensures { Parses (ManySteps count) steps_lines (BeginsSome count) text.now result }
 {

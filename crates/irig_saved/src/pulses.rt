@@ -7,7 +7,7 @@ use irig_track::Pulse;
 use std::alloc::{AllocError, Global};
 use std::marker::Model;
 
-/// Pulses that a splice puts, in a buffer with its place after the last. The buffer grows by half,
+/// Pulses that a splice inserts, in a buffer with its place after the last. The buffer grows by half,
 /// for pulses that are there: no number in a text makes it take memory.
 #[derive(Drop)]
 pub struct Pulses {

@@ -22,7 +22,7 @@ use std::alloc::Global;
 pub enum Fault {
     /// The line of this number, from 1, is the first with which it begins none.
     Line(usize),
-    /// No memory was found. It tells that the text begins a journal with a step.
+    /// Memory ran out. So the text begins a journal with a step.
     Memory,
 }
 
@@ -30,8 +30,8 @@ pub enum Fault {
 /// line 1, up to the newline of its last line. Memory is taken only for lines that were read,
 /// whatever the counts among them say.
 ///
-/// An error tells the first line with which the text begins no journal. Where a line is missing,
-/// or more text stands behind the last one, that is the line where the text ends or goes on.
+/// An error has the first line with which the text begins no journal. If a line is missing, that
+/// is the line at which the text ends; if there is text after the last line, that is its line.
 /// `Fault::Memory` comes only after the first lines of a journal that has a step: its head, its
 /// marks, how many steps back there are, and one line more. Whether the steps apply is not judged
 /// here.
@@ -60,7 +60,7 @@ fn line_at(text: &[u8], rest: &[u8]) -> usize
     1 + text[..before].iter().filter(|byte| **byte == b'\n').count()
 }
 
-/// A journal from the head of a text, and what stands behind it.
+/// A journal from the head of a text, and what is after it.
 fn saved(alloc: Global, text: &[u8]) -> Result<(Saved, &[u8]), Stop<'_>>
     ensures { Parses IsSaved saved_lines ReachesSteps text.now result }
 {

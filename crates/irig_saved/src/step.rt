@@ -1,4 +1,4 @@
-//! A change and where it leads.
+//! A change and the cursor that it leads to.
 
 ghost use Rattle.std.specs.Prelude.{◌≡◌, ◌<◌, ◌^◌, length};
 ghost use Rattle.irig_saved.specs.SavedText.{step_lines};
