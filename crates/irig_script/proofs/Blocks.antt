@@ -25,22 +25,6 @@ front_behind a b c x y p q = record {
   appends = appends-appends a b c x q.front p q.appends;
 }
 
-appends_nothing : (a : Option (List ℕ)) → Appends a a []
-appends_nothing None = tt
-appends_nothing (Some s) = sym (append-nil s)
-
--- nothing was sent yet
-pub sends_nothing : (a : Option (List ℕ)) → Sends a a [] [] []
-sends_nothing a = ([], appends_nothing a, λ j. [])
-
--- a text that the block had room for
-pub sends_none : (a : Option (List ℕ)) (x y z : List ℕ) → z ≡ x ++ y → Sends a a x z y
-sends_none a x y z e = ([], appends_nothing a, sym e)
-
--- a text after the block was sent
-pub sends_held : (a b : Option (List ℕ)) (x y z : List ℕ) → Appends a b x → z ≡ y → Sends a b x z y
-sends_held a b x y z p e = (x, p, ap (λ l. x ++ l) (sym e))
-
 -- a text after another
 pub sends_more : (a b c : Option (List ℕ)) (w x z t u : List ℕ) → Sends a b w x t → Sends b c x z u → Sends a c w z (t ++ u)
 sends_more a b c w x z t u p q = (

@@ -25,7 +25,7 @@ grows-grows (Some s) None c ts us p q = absurd p
 grows-grows (Some s) (Some t) None ts us p q = absurd q
 grows-grows (Some s) (Some t) (Some u) ts us p q = q ∙ ap (λ l. l ++ us) p ∙ append_assoc s ts us
 
--- a shelf on which nothing is put, and puts in turn
+-- a shelf to which nothing is written, and writes in turn
 pub puts_none : (a : Shelved) → Puts a a [] 0
 puts_none a = record { put = grows_none a.texts; failed = omega arith; label = refl }
 
@@ -47,7 +47,7 @@ pub status_after-append : (s : Status) (rs qs : List Answer) → status_after s 
 status_after-append s [] qs = refl
 status_after-append s (r ∷ rs) qs = status_after-append _ rs qs
 
--- a desk that stays as it is, and what is told in turn
+-- a desk that stays as it is, and what is answered in turn
 pub tells_none : (a : Desk) → Tells a a [] [] []
 tells_none a = record { printed = appends_none a.out; put = puts_none a.shelf }
 

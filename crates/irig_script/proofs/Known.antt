@@ -1,8 +1,9 @@
 -- Bytes that are known, over several calls.
 use Rattle.std.proofs.Common.{[], ◌≡◌, ◌≢◌, ◌++◌, ℕ, List, Option, Some, None, refl, ap, sym, ◌∙◌, append_assoc, subst, length, take, drop, ◌-◌, ◌+◌, ◌<◌, arith}
-use Rattle.std.proofs.Math.Seq.{take-add, take-length}
+use Rattle.std.proofs.Math.Seq.{take-add}
 use Rattle.std.proofs.lemmas.List.{length-drop}
 use Rattle.std.specs.Io.KnownBytes.{Appends, Consumes, Keeps}
+use Rattle.irig_script.proofs.WordLemmas.{rest_whole}
 
 pub appends-appends : (a b c : Option (List ℕ)) (x y : List ℕ) → Appends a b x → Appends b c y → Appends a c (x ++ y)
 appends-appends None b c x y p q = tt
@@ -22,17 +23,7 @@ consumes-consumes (Some s) None c x y p q = absurd p
 consumes-consumes (Some s) (Some t) None x y p q = absurd q
 consumes-consumes (Some s) (Some t) (Some u) x y p q = p ∙ (ap (λ l. x ++ l) q ∙ sym (append_assoc x y u))
 
-pub consumes-keeps : (a b c : Option (List ℕ)) (x : List ℕ) → Consumes a b x → Keeps b c → Consumes a c x
-consumes-keeps None b c x p q = tt
-consumes-keeps (Some s) None c x p q = absurd p
-consumes-keeps (Some s) (Some t) None x p q = absurd q
-consumes-keeps (Some s) (Some t) (Some u) x p q = p ∙ ap (λ l. x ++ l) (sym q)
-
--- what is left of a text is all that is after a place
-pub rest_whole : (l : List ℕ) (done : ℕ) → take (length l - done) (drop done l) ≡ drop done l
-rest_whole l done = ap (λ n. take n (drop done l)) (sym (length-drop done l)) ∙ take-length (drop done l)
-
--- and before the end of the text it is not nothing
+-- before the end of a text, what is left of it is not nothing
 pub rest_some : (l : List ℕ) (done : ℕ) → done < length l → drop done l ≢ []
 rest_some l done h = λ e. absurd (omega (arith, h, sym (length-drop done l) ∙ ap length e))
 

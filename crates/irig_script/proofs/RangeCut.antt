@@ -25,11 +25,6 @@ abbrev pub range_length : Bool → List ℕ → ℕ
 range_length quoted [] = 0
 range_length quoted (b ∷ bs) = if ends_range quoted b then 0 else suc (range_length (b == 39) bs)
 
--- one more byte of a range
-pub range_more : (quoted : Bool) (s : List ℕ) (i : ℕ) → i < length s → ends_range quoted (get_or s i 0) ≡ false
-    → i + range_length quoted (drop i s) ≡ i + 1 + range_length (get_or s i 0 == 39) (drop (i + 1) s)
-range_more quoted s i h k = rw (opened s i h, k) (omega arith)
-
 pub range_stops : (quoted : Bool) (s : List ℕ) (i : ℕ) → i < length s → ends_range quoted (get_or s i 0) ≡ true → range_length quoted (drop i s) ≡ 0
 range_stops quoted s i h k = rw (opened s i h, k) refl
 

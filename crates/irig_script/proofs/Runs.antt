@@ -96,8 +96,3 @@ run_broken (Some input) (Some ys) a b c st su s t u read line p e h f =
       told = subst (λ (l : List Answer). Tells a c (printed (h.answers ++ m.answers) ++ m.front) l (h.texts ++ m.texts)) back some;
       runs = subst (λ (l : List Answer). Runs s (goes.lines ++ m.lines) l (h.texts ++ m.texts) u) back (runs-runs s t u goes.lines m.lines h.answers (m.answers ++ m.last ∷ []) h.texts m.texts goes.runs m.runs);
     }
-
--- a script that could not be read on
-pub run_stopped : (from to : Option (List ℕ)) (a b : Desk) (st su : Status) (s t : Machine) (read : List ℕ) (line : Line) (least : ℕ) → Consumes from to read → least ≤ length read → Obeyed false a b st su s t read line
-    → Stopped a b from to s t least
-run_stopped from to a b st su s t read line least p n h = record { bytes = read; read = p; many = n; answers = h.answers; texts = h.texts; rest = h.ends.0; begun = h.ends.2.plain; told = h.told; goes = h.ends.1 }

@@ -45,33 +45,6 @@ before_at stop b s e = rw e refl
 pub onward_at : (stop : Stop) (b : ℕ) (s : List ℕ) → is_stop stop b ≡ true → onward stop (b ∷ s) ≡ b ∷ s
 onward_at stop b s e = rw e refl
 
--- one more byte before the cut
-pub cut_more : (stop : Stop) (s : List ℕ) (i : ℕ) → i < length s → is_stop stop (get_or s i 0) ≡ false → IsCut stop s i → IsCut stop s (i + 1)
-cut_more stop s i h e c =
-    let b = get_or s i 0 in
-    let rest = drop (i + 1) s in
-    let front : before stop (drop i s) ≡ b ∷ before stop rest = ap (before stop) (opened s i h) ∙ before_on stop b rest e in
-    let back : onward stop (drop i s) ≡ onward stop rest = ap (onward stop) (opened s i h) ∙ onward_on stop b rest e in (
-      c.0 ∙ ap (λ l. take i s ++ l) front ∙ sym (append_assoc (take i s) (b ∷ []) (before stop rest)) ∙ ap (λ l. l ++ before stop rest) (sym (take_more s i 0 h)),
-      c.1 ∙ back,
-    )
-
--- the cut
-pub cut_here : (stop : Stop) (s : List ℕ) (i : ℕ) → i < length s → is_stop stop (get_or s i 0) ≡ true → IsCut stop s i → (before stop s ≡ take i s) × (onward stop s ≡ drop i s)
-cut_here stop s i h e c =
-    let b = get_or s i 0 in
-    let rest = drop (i + 1) s in (
-      c.0 ∙ ap (λ l. take i s ++ l) (ap (before stop) (opened s i h) ∙ before_at stop b rest e) ∙ append-nil (take i s),
-      c.1 ∙ ap (onward stop) (opened s i h) ∙ onward_at stop b rest e ∙ sym (opened s i h),
-    )
-
-pub cut_end : (stop : Stop) (s : List ℕ) (i : ℕ) → length s ≤ i → IsCut stop s i → (before stop s ≡ take i s) × (onward stop s ≡ drop i s)
-cut_end stop s i h c =
-    let none = nothing_left s i h in (
-      c.0 ∙ ap (λ l. take i s ++ l) (ap (before stop) none) ∙ append-nil (take i s),
-      c.1 ∙ ap (onward stop) none ∙ sym none,
-    )
-
 -- what a byte at the front does
 pub words_blank : (b : ℕ) (s : List ℕ) → is_space b ≡ true → words_of (b ∷ s) ≡ words_of s
 words_blank b s e = rw e refl

@@ -29,7 +29,7 @@ pub fn scripts_have_one_run()
 ///
 /// The saved text is opened again without a wire's name, in any format. Each script then prints the
 /// same bytes and writes the same texts as it does from this session with no group open, if both
-/// runs meet want of memory and failed writes at the same lines.
+/// runs run out of memory and fail to write at the same lines.
 pub fn saved_sessions_run_on(session: &Session)
     ensures same { IsShort session.now → RunsOn session.now }
 {

@@ -22,12 +22,12 @@ pub record RanOnDump (wire : Option (List ℕ)) (chosen : FormatView) (source : 
   pub opened : IsOpened wire source chosen first
   pub ran : EndsAs script left from to first last result
 
--- where the declarations have a fault it is the one told, however little memory there is
+-- if the declarations have a fault it is the one reported, however little memory there is
 abbrev pub TellsHeading : Option (List ℕ) → List ℕ → VcdFault → Type 0
 TellsHeading wire source fault =
     (e : VcdFault) → declarations_of wire (words_of source) ≡ Err e → fault ≡ e
 
--- the dump was not opened, and nothing was printed, put or read of the script; or it ran
+-- the dump was not opened, and nothing was printed, written or read of the script; or it ran
 abbrev pub RunsOnDump : Option (List ℕ) → FormatView → List ℕ → Option (List ℕ) → Option (List ℕ)
     → Desk → Desk → Result Status DumpRunFault → Type 0
 RunsOnDump wire chosen source script left from to (Err (Dump fault)) =

@@ -15,8 +15,8 @@ abbrev pub BeginsAt : {script : List ℕ} → Machine → RunOf script → Type 
 BeginsAt m one = (one.before ≡ AllAccepted) × (grouped_in one.old ≡ over None (machine_in m))
 
 -- if one script runs on the session and on its saved text, in any format, with the same known
--- output and shelf, and meets want of memory and failed puts at the same lines, both runs end with
--- the same
+-- output and shelf, and runs out of memory and fails to write at the same lines, both runs end
+-- with the same
 abbrev pub RunsOn : Machine → Type 0
 RunsOn m = (script : List ℕ) (chosen : FormatView) (one : RunOf script)
     (other : DumpRunOf None chosen (saved_text (machine_in m)) script)

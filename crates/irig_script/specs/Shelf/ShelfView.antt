@@ -1,5 +1,5 @@
--- What a shelf in memory is: its texts in order, how often it failed, how many puts were asked of
--- it, and the number of the one that it was told to fail, from 1. This project's own.
+-- What a shelf in memory is: its texts in order, how often it failed, how many writes were asked of
+-- it, and the number of the one that it was set to fail, from 1. This project's own.
 use Rattle.std.specs.Prelude.{◌≡◌, ◌+◌, ◌-◌, ◌^◌, ℕ, List, [], Option, Some, min}
 use Rattle.irig_script.specs.Shelf.Shelved.{Shelved, shelved}
 
@@ -19,6 +19,6 @@ shelf_view texts failures puts fail =
 abbrev pub known_of : ShelfView → Shelved
 known_of s = shelved (Some s.texts) s.failures []
 
--- the number of the next put, up to 2^64 - 1
+-- the number of the next write, up to 2^64 - 1
 abbrev pub next_put : ShelfView → ℕ
 next_put s = min (s.puts + 1) (2 ^ 64 - 1)

@@ -19,7 +19,10 @@ use crate::shelf::shelf::Shelf;
 use irig_edit::Session;
 use std::io::{Read, Write};
 
-/// The most reads of a script, each for at most 4,096 bytes.
+/// The most bytes of one read of a script.
+const READ_LIMIT: usize = 4096;
+
+/// The most reads of a script.
 const READS_LIMIT: u64 = 4_294_967_296;
 
 /// Obeys a script to its end, or to its line `quit`. Each line is answered before the next is
@@ -37,7 +40,7 @@ pub fn run<R: Read, W: Write, S: Shelf>(
     ensures label { (S.known shelf.new).label ≡ (S.known shelf.old).label }
 {
     let mut line = Line::new();
-    let mut buffer = [0; 4096];
+    let mut buffer = [0; READ_LIMIT];
     let mut status = Status::AllAccepted;
     for reads in 0..READS_LIMIT {
         match script.read(&mut buffer) {

@@ -9,10 +9,13 @@ use crate::print::output::{PrintFault, put_all};
 use std::io::Write;
 use std::marker::Model;
 
+/// The most bytes that a block holds back.
+const BLOCK_LIMIT: usize = 8192;
+
 /// Bytes that are held back until 8,192 have come, or they are flushed. It takes no memory.
 #[derive(Drop)]
 pub struct Block {
-    bytes: [u8; 8192],
+    bytes: [u8; BLOCK_LIMIT],
     len: usize,
 }
 
@@ -32,7 +35,7 @@ impl Block {
         ensures { result ≡ [] }
     {
         Block {
-            bytes: [0; 8192],
+            bytes: [0; BLOCK_LIMIT],
             len: 0,
         }
     }
@@ -57,7 +60,7 @@ impl Block {
         ensures err { OnErr result (AppendsFront
             (W.contents out.old) (W.contents out.new) (self.old ++ text.now)) }
     {
-        if text.len() > 8192 - self.len {
+        if text.len() > BLOCK_LIMIT - self.len {
             self.flush(out)?;
         }
         self.hold(text);

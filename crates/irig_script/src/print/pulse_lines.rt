@@ -54,8 +54,7 @@ fn print_many<W: Write>(
     print_in_blocks(session, before, count, &mut [0; BLOCK], out)
 }
 
-/// Prints a line for each of this many pulses after the first `before`, as many at a time as the
-/// block has room for.
+/// Prints a line for each of this many pulses after the first `before`, a block at a time.
 fn print_in_blocks<W: Write>(
     session: &Session,
     before: usize,

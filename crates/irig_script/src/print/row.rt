@@ -7,12 +7,12 @@ ghost use Rattle.irig_script.specs.Print.Row.{padded, hexadecimal};
 use std::marker::Model;
 
 /// The most bytes of a printed line.
-const LONGEST: usize = 256;
+const ROW_LIMIT: usize = 256;
 
 /// One printed line of at most 256 bytes, while it is put together. It takes no memory.
 #[derive(Drop)]
 pub struct Row {
-    bytes: [u8; 256],
+    bytes: [u8; ROW_LIMIT],
     len: usize,
 }
 
@@ -32,7 +32,7 @@ impl Row {
         ensures { result ≡ [] }
     {
         Row {
-            bytes: [0; 256],
+            bytes: [0; ROW_LIMIT],
             len: 0,
         }
     }

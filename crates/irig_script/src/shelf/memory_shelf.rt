@@ -29,7 +29,7 @@ impl Model for MemoryShelf {
 }
 
 impl MemoryShelf {
-    /// An empty shelf. The put of this number, from 1, fails.
+    /// An empty shelf. The write of this number, from 1, fails.
     pub fn new(alloc: Global, fail: Option<u64>) -> MemoryShelf
         ensures { result ≡ shelf_view [] 0 0 fail }
     {
