@@ -1,0 +1,9 @@
+pub mod Calls
+pub mod Disk
+pub mod Log
+pub mod LogLaws
+pub mod Moves
+pub mod Put
+pub mod Stays
+pub mod System
+pub mod Writing

@@ -1,0 +1,39 @@
+-- What a rename and a removal make of a folder. This project's own.
+use Rattle.std.specs.Prelude.{◌≡◌, ◌≢◌, ◌⊎◌, ℕ, List, Option, None}
+use Rattle.irig_disk.specs.Disk.{Disk}
+use Rattle.irig_disk.specs.Stays.{OtherNamesStay, FilesStay}
+
+-- What a rename may leave: either name as it was or as it is after it, whether it succeeds or not.
+pub record MayMove (old new : Disk) («from» to : List ℕ) : Type 0 where
+  pub left_to : (x : Option ℕ) → new.may_lead to x
+      → old.may_lead to x ⊎ (x ≡ old.leads «from»)
+  pub left_from : (x : Option ℕ) → new.may_lead «from» x → old.may_lead «from» x ⊎ (x ≡ None)
+  pub names : OtherNamesStay old new «from» to
+  pub files : FilesStay old new
+
+-- the file of one name has another
+pub record Moved (old new : Disk) («from» to : List ℕ) : Type 0 where
+  pub seen_to : new.leads to ≡ old.leads «from»
+  pub seen_from : «from» ≢ to → new.leads «from» ≡ None
+  pub may : MayMove old new «from» to
+
+-- no rename is seen, but a crash may show it
+pub record NotMoved (old new : Disk) («from» to : List ℕ) : Type 0 where
+  pub seen : (n : List ℕ) → new.leads n ≡ old.leads n
+  pub may : MayMove old new «from» to
+
+-- what a removal may leave
+pub record MayRemove (old new : Disk) (name : List ℕ) : Type 0 where
+  pub left : (x : Option ℕ) → new.may_lead name x → old.may_lead name x ⊎ (x ≡ None)
+  pub names : OtherNamesStay old new name name
+  pub files : FilesStay old new
+
+-- the name is free
+pub record Removed (old new : Disk) (name : List ℕ) : Type 0 where
+  pub seen : new.leads name ≡ None
+  pub may : MayRemove old new name
+
+-- no removal is seen, but a crash may show it
+pub record NotRemoved (old new : Disk) (name : List ℕ) : Type 0 where
+  pub seen : new.leads name ≡ old.leads name
+  pub may : MayRemove old new name

@@ -1,0 +1,74 @@
+-- What writing a text whole makes of a folder. This project's own.
+use Rattle.std.specs.Prelude.{◌≡◌, ◌≢◌, ◌⊎◌, ◌<◌, ◌++◌, ℕ, List, Option, Some, None, flat_map}
+use Rattle.std.specs.Fmt.{decimal}
+use denote.Ref.{Bor}
+use Rattle.irig_disk.specs.Disk.{Disk, Held, seen_under, MayLeave}
+use Rattle.irig_disk.specs.Calls.{owner_only}
+use Rattle.irig_disk.specs.declared.fault.PutFault.{PutFault}
+use Rattle.irig_disk.specs.declared.fault.PutFault.TheVariants.{Memory, NamesTaken, Failed, LeftBehind, NotKept}
+
+-- the mode of a file that takes one or keeps the usual one: at first, and in the end
+abbrev pub first_mode : ℕ → Option ℕ → ℕ
+first_mode usual mode = elim mode [ None ↦ usual | Some _ ↦ owner_only ]
+
+abbrev pub last_mode : ℕ → Option ℕ → ℕ
+last_mode usual mode = elim mode [ None ↦ usual | Some taken ↦ taken ]
+
+-- a text with its mode
+abbrev pub held : ℕ → Option ℕ → List ℕ → Held
+held usual mode text = record { bytes = text; mode = last_mode usual mode }
+
+-- A crash leaves under a name what a crash before might have left there, or at the target the new
+-- text whole.
+abbrev pub OldOrNew : Disk → List ℕ → Held → List ℕ → Option Held → Type 0
+OldOrNew old target new name c = MayLeave old name c ⊎ ((name ≡ target) × (c ≡ Some new))
+
+-- that of the target and of each name under which a file was seen
+abbrev pub OldOrNewIfThere : Disk → List ℕ → Held → List ℕ → Option Held → Type 0
+OldOrNewIfThere old target new name c =
+    (name ≡ target) ⊎ (old.leads name ≢ None) → OldOrNew old target new name c
+
+-- A crash leaves under the target, and under each name that was there, what a crash before might
+-- have left.
+abbrev pub OldIfThere : Disk → List ℕ → List ℕ → Option Held → Type 0
+OldIfThere old target name c = (name ≡ target) ⊎ (old.leads name ≢ None) → MayLeave old name c
+
+-- under each name is seen what was
+abbrev pub SeenSame : Disk → Disk → Type 0
+SeenSame old new = (n : List ℕ) → seen_under new n ≡ seen_under old n
+
+-- that of the target and of each name under which a file was seen
+abbrev pub SeenSameIfThere : Disk → Disk → List ℕ → Type 0
+SeenSameIfThere old new target =
+    (n : List ℕ) → (n ≡ target) ⊎ (old.leads n ≢ None) → seen_under new n ≡ seen_under old n
+
+-- the text is seen at the target, and under each other name what was
+pub record IsPut (old new : Disk) (target : List ℕ) (text : Held) : Type 0 where
+  pub at_target : seen_under new target ≡ Some text
+  pub others : (n : List ℕ) → n ≢ target → seen_under new n ≡ seen_under old n
+
+-- and each crash from now on leaves it there
+pub record IsKept (old new : Disk) (target : List ℕ) (text : Held) : Type 0 where
+  pub put : IsPut old new target text
+  pub kept : (c : Option Held) → MayLeave new target c → c ≡ Some text
+
+-- what a fault leaves behind
+abbrev pub AfterFault : {X : Type 0} → Disk → Disk → List ℕ → Held → PutFault X → Type 0
+AfterFault old new target text Memory = SeenSame old new
+AfterFault old new target text NamesTaken = SeenSame old new
+AfterFault old new target text (Failed _) = SeenSame old new
+AfterFault old new target text (LeftBehind _ _) = SeenSameIfThere old new target
+AfterFault old new target text (NotKept _) = IsPut old new target text
+
+-- the name of a new file, if this many others were tried before it
+abbrev pub name_after : List ℕ → ℕ → List ℕ
+name_after stem number = stem ++ decimal number
+
+-- each of the first names for a new file leads to a file, or is the target's own
+abbrev pub AllTaken : Disk → List ℕ → List ℕ → ℕ → Type 0
+AllTaken disk stem target count =
+    (k : ℕ) → k < count → name_after stem k ≢ target → disk.leads (name_after stem k) ≢ None
+
+-- the parts, one after another
+abbrev pub joined : List (Bor (List ℕ)) → List ℕ
+joined parts = flat_map (λ part. part.now) parts

@@ -1,0 +1,114 @@
+//! Single system calls on the names of one folder.
+
+ghost use Rattle.std.specs.Prelude.{◌≡◌, ◌≤◌, ℕ, List, Option, OnOk, OnErr, MatchResult, MatchOption};
+ghost use Rattle.irig_disk.specs.Disk.{Disk, Held, Elapses, MayLeave};
+ghost use Rattle.irig_disk.specs.Stays.{Stays};
+ghost use Rattle.irig_disk.specs.Calls.{Made, IsTaken, Wrote, WroteSome, TookMode, SyncedFile, MaySpoil, SyncedNames, mode_made};
+ghost use Rattle.irig_disk.specs.Moves.{Moved, NotMoved, Removed, NotRemoved};
+
+/// The names of one folder. Each method is one call, and says what a crash may leave of it.
+///
+/// A call that succeeds gives a value of a type that only that call makes, so that nobody can say of
+/// a call that was never made that it succeeded.
+pub trait Folder {
+    /// A new file that is open. Only `make` gives one.
+    type File: Drop;
+
+    /// Bytes were written. Only `append` gives one.
+    type Appended: Drop;
+
+    /// A mode was taken. Only `take_mode` gives one.
+    type ModeTaken: Drop;
+
+    /// A file is kept. Only `sync_file` gives one.
+    type FileSynced: Drop;
+
+    /// A file has another name. Only `rename` gives one.
+    type Renamed: Drop;
+
+    /// A name is free. Only `remove` gives one.
+    type NameRemoved: Drop;
+
+    /// The names are kept. Only `sync_names` gives one.
+    type NamesSynced: Drop;
+
+    /// Why a call failed. Only a call gives one.
+    type Fault: Drop;
+
+    /// Whether the state below is told. Of a folder whose state is not, no clause says anything.
+    ghost is_told: { Type 0 };
+
+    /// The mode of a new file that is not hidden.
+    ghost usual_mode: { ℕ };
+
+    /// What is seen, and what a crash may leave.
+    ghost disk: { Self → Disk };
+
+    /// The number of an open file.
+    ghost number: { Self.File → ℕ };
+
+    /// Makes a new file under a name if it is free; a hidden one is its owner's alone. `None`: the
+    /// name is taken.
+    fn make(&mut self, name: &str, hidden: bool) -> Result<Option<Self::File>, Self::Fault>
+        ensures done { is_told → MatchResult result
+            (λ file. MatchOption file (IsTaken (disk self.old) (disk self.new) name.now)
+            (λ file. Made (disk self.old) (disk self.new) name.now (number file)
+            (mode_made usual_mode hidden)))
+            (λ _. Stays (disk self.old) (disk self.new)) }
+        ensures time { is_told → Elapses (disk self.old) (disk self.new) };
+
+    /// Writes to the end of the file. A call that fails may have written a part.
+    fn append(&mut self, file: &mut Self::File, bytes: &[u8]) -> Result<Self::Appended, Self::Fault>
+        ensures ok { is_told → OnOk result
+            (Wrote (disk self.old) (disk self.new) (number file.old) bytes.now) }
+        ensures err { is_told → OnErr result
+            (WroteSome (disk self.old) (disk self.new) (number file.old) bytes.now) }
+        ensures same { number file.new ≡ number file.old }
+        ensures time { is_told → Elapses (disk self.old) (disk self.new) };
+
+    /// Gives the file a mode.
+    fn take_mode(&mut self, file: &Self::File, mode: u32) -> Result<Self::ModeTaken, Self::Fault>
+        ensures ok { is_told → OnOk result
+            (TookMode (disk self.old) (disk self.new) (number file.now) mode) }
+        ensures err { is_told → OnErr result
+            (MaySpoil (disk self.old) (disk self.new) (number file.now)) }
+        ensures time { is_told → Elapses (disk self.old) (disk self.new) };
+
+    /// Keeps what the file holds: after it, a crash leaves that.
+    fn sync_file(&mut self, file: &Self::File) -> Result<Self::FileSynced, Self::Fault>
+        ensures ok { is_told → OnOk result
+            (SyncedFile (disk self.old) (disk self.new) (number file.now)) }
+        ensures err { is_told → OnErr result
+            (MaySpoil (disk self.old) (disk self.new) (number file.now)) }
+        ensures time { is_told → Elapses (disk self.old) (disk self.new) };
+
+    /// Gives a file another name, instead of the file that had it.
+    fn rename(&mut self, from: &str, to: &str) -> Result<Self::Renamed, Self::Fault>
+        ensures ok { is_told → OnOk result
+            (Moved (disk self.old) (disk self.new) from.now to.now) }
+        ensures err { is_told → OnErr result
+            (NotMoved (disk self.old) (disk self.new) from.now to.now) }
+        ensures time { is_told → Elapses (disk self.old) (disk self.new) };
+
+    /// Frees a name.
+    fn remove(&mut self, name: &str) -> Result<Self::NameRemoved, Self::Fault>
+        ensures ok { is_told → OnOk result (Removed (disk self.old) (disk self.new) name.now) }
+        ensures err { is_told → OnErr result
+            (NotRemoved (disk self.old) (disk self.new) name.now) }
+        ensures time { is_told → Elapses (disk self.old) (disk self.new) };
+
+    /// Keeps the names: after it, a crash leaves each as it is seen.
+    fn sync_names(&mut self) -> Result<Self::NamesSynced, Self::Fault>
+        ensures ok { is_told → OnOk result (SyncedNames (disk self.old) (disk self.new)) }
+        ensures err { is_told → OnErr result (Stays (disk self.old) (disk self.new)) }
+        ensures time { is_told → Elapses (disk self.old) (disk self.new) };
+
+    /// This moment is one of those since an earlier one.
+    ghost counts_now: { (folder : Self) (t : ℕ) (name : List ℕ) (c : Option Held)
+        → t ≤ (disk folder).moment → MayLeave (disk folder) name c
+        → (disk folder).left_since t name c };
+
+    /// Since this moment there is no other.
+    ghost only_now: { (folder : Self) (name : List ℕ) (c : Option Held)
+        → (disk folder).left_since (disk folder).moment name c → MayLeave (disk folder) name c };
+}

@@ -1,0 +1,21 @@
+//! A text written whole on a disk: a crash at any moment leaves the old one or the new one.
+#![tactic(auto)]
+
+mod call;
+mod calls;
+mod fault;
+mod folder;
+mod left;
+mod memory;
+mod new_text;
+mod put;
+mod system;
+
+pub use call::Call;
+pub use fault::PutFault;
+pub use folder::Folder;
+pub use left::{bytes_of, is_kept, mode_of};
+pub use memory::{Memory, MemoryFault, MemoryFile, file_at};
+pub use new_text::NewText;
+pub use put::put_text;
+pub use system::SystemFolder;

@@ -1,0 +1,216 @@
+//! A folder in memory, for tests. It is the log of the calls that were done on it, the newest first.
+
+ghost use Rattle.std.specs.Prelude.{◌≡◌, ◌∷◌, [], OnOk, OnErr};
+ghost use Rattle.irig_disk.specs.Log.{leads_in, disk_of};
+ghost use Rattle.irig_disk.specs.LogLaws.{log_counts_now, log_only_now};
+ghost use Rattle.irig_disk.specs.declared.memory.TheConstants.{USUAL};
+
+use crate::call::Call;
+use crate::folder::Folder;
+use std::alloc::{AllocError, AllocFailed, Global};
+
+/// Why a call on a folder in memory failed.
+#[derive(Clone, Copy, Debug, PartialEq, Eq)]
+pub enum MemoryFault {
+    /// A growth of the log was refused.
+    NoMemory,
+    /// The call was to fail.
+    Planned,
+    /// No file has the name.
+    NoSuchName,
+}
+
+impl From<AllocError> for MemoryFault {
+    fn from(_: AllocError) -> Self {
+        MemoryFault::NoMemory
+    }
+}
+
+impl<T: Drop> From<AllocFailed<T>> for MemoryFault {
+    fn from(_: AllocFailed<T>) -> Self {
+        MemoryFault::NoMemory
+    }
+}
+
+/// The mode of a file that is its owner's alone.
+const OWNER_ONLY: u32 = 0o600;
+
+/// The mode of any other new file.
+const USUAL: u32 = 0o644;
+
+/// A file of a folder in memory.
+#[derive(Drop)]
+pub struct MemoryFile {
+    number: usize,
+}
+
+/// A folder in memory. It can be told to let some calls fail.
+#[derive(Drop)]
+pub struct Memory {
+    alloc: Global,
+    calls: Vec<Call>,
+    done: u64,
+    fails_from: u64,
+    fails_to: u64,
+}
+
+/// The number of the file that a name leads to.
+pub fn file_at(calls: &[Call], name: &[u8]) -> Option<usize>
+    ensures { result ≡ leads_in calls.now name.now }
+{
+    let (call, older) = calls.split_first()?;
+    match call {
+        Call::Make(made, _) if made.as_slice() == name => Some(older.len()),
+        Call::Rename(from, to) if to.as_slice() == name => file_at(older, from.as_slice()),
+        Call::Rename(from, _) if from.as_slice() == name => None,
+        Call::Remove(gone) if gone.as_slice() == name => None,
+        _ => file_at(older, name),
+    }
+}
+
+/// Adds a call to a log.
+fn add(calls: &mut Vec<Call>, call: Call) -> Result<(), MemoryFault>
+    ensures ok { OnOk result (calls.new.items ≡ call ∷ calls.old.items) }
+    ensures err { OnErr result (calls.new.items ≡ calls.old.items) }
+{
+    calls.insert(0, call)?;
+    Ok(())
+}
+
+impl Memory {
+    /// An empty folder.
+    pub fn new(alloc: Global) -> Self
+        ensures { result.calls.items ≡ [] }
+    {
+        Memory {
+            alloc,
+            calls: Vec::new(alloc),
+            done: 0,
+            fails_from: 0,
+            fails_to: 0,
+        }
+    }
+
+    /// The calls that were done, the newest first.
+    pub fn calls(&self) -> &[Call]
+        ensures { result.now ≡ self.now.calls.items }
+    {
+        &self.calls
+    }
+
+    /// Lets the calls from one on fail, up to but not including another, counted from here from 0.
+    pub fn fail(&mut self, from: u64, to: u64)
+        ensures { self.new.calls ≡ self.old.calls }
+    {
+        self.done = 0;
+        self.fails_from = from;
+        self.fails_to = to;
+    }
+
+    /// Whether this call is to fail.
+    fn is_planned(&mut self) -> bool
+        ensures { self.new.calls ≡ self.old.calls }
+    {
+        let now = self.done;
+        self.done = now.saturating_add(1);
+        self.fails_from <= now && now < self.fails_to
+    }
+}
+
+impl Folder for Memory {
+    type File = MemoryFile;
+
+    type Appended = ();
+
+    type ModeTaken = ();
+
+    type FileSynced = ();
+
+    type Renamed = ();
+
+    type NameRemoved = ();
+
+    type NamesSynced = ();
+
+    type Fault = MemoryFault;
+
+    ghost is_told = { Unit {0} };
+
+    ghost usual_mode = { USUAL };
+
+    ghost disk = { λ folder. disk_of folder.calls.items };
+
+    ghost number = { λ file. file.number };
+
+    ghost counts_now = { λ folder. log_counts_now folder.calls.items };
+
+    ghost only_now = { λ folder. log_only_now folder.calls.items };
+
+    fn make(&mut self, name: &str, hidden: bool) -> Result<Option<MemoryFile>, MemoryFault> {
+        if self.is_planned() {
+            return Err(MemoryFault::Planned);
+        }
+        if file_at(&self.calls, name.as_bytes()).is_some() {
+            return Ok(None);
+        }
+        let number = self.calls.len();
+        let mode = if hidden { OWNER_ONLY } else { USUAL };
+        let name = name.as_bytes().to_vec(self.alloc)?;
+        add(&mut self.calls, Call::Make(name, mode))?;
+        Ok(Some(MemoryFile { number }))
+    }
+
+    fn append(&mut self, file: &mut MemoryFile, bytes: &[u8]) -> Result<(), MemoryFault> {
+        if self.is_planned() {
+            let part = bytes[..bytes.len() / 2].to_vec(self.alloc)?;
+            add(&mut self.calls, Call::Append(file.number, part))?;
+            return Err(MemoryFault::Planned);
+        }
+        let all = bytes.to_vec(self.alloc)?;
+        add(&mut self.calls, Call::Append(file.number, all))
+    }
+
+    fn take_mode(&mut self, file: &MemoryFile, mode: u32) -> Result<(), MemoryFault> {
+        if self.is_planned() {
+            return Err(MemoryFault::Planned);
+        }
+        add(&mut self.calls, Call::TakeMode(file.number, mode))
+    }
+
+    fn sync_file(&mut self, file: &MemoryFile) -> Result<(), MemoryFault> {
+        if self.is_planned() {
+            return Err(MemoryFault::Planned);
+        }
+        add(&mut self.calls, Call::SyncFile(file.number))
+    }
+
+    fn rename(&mut self, from: &str, to: &str) -> Result<(), MemoryFault> {
+        if self.is_planned() {
+            return Err(MemoryFault::Planned);
+        }
+        if file_at(&self.calls, from.as_bytes()).is_none() {
+            return Err(MemoryFault::NoSuchName);
+        }
+        let old_name = from.as_bytes().to_vec(self.alloc)?;
+        let new_name = to.as_bytes().to_vec(self.alloc)?;
+        add(&mut self.calls, Call::Rename(old_name, new_name))
+    }
+
+    fn remove(&mut self, name: &str) -> Result<(), MemoryFault> {
+        if self.is_planned() {
+            return Err(MemoryFault::Planned);
+        }
+        if file_at(&self.calls, name.as_bytes()).is_none() {
+            return Err(MemoryFault::NoSuchName);
+        }
+        let gone = name.as_bytes().to_vec(self.alloc)?;
+        add(&mut self.calls, Call::Remove(gone))
+    }
+
+    fn sync_names(&mut self) -> Result<(), MemoryFault> {
+        if self.is_planned() {
+            return Err(MemoryFault::Planned);
+        }
+        add(&mut self.calls, Call::SyncNames)
+    }
+}

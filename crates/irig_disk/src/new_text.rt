@@ -1,0 +1,197 @@
+//! A text of a target, in parts, written whole.
+
+ghost use Rattle.std.specs.Prelude.{◌≡◌, ◌≢◌, ◌++◌, ℕ, List, [], take, string_bytes, IfOk, IfErr, OnOk, OnErr, IsErrOf};
+ghost use Rattle.irig_disk.specs.Disk.{LeavesOnly};
+ghost use Rattle.irig_disk.specs.declared.fault.PutFault.TheVariants.{NamesTaken};
+ghost use Rattle.irig_disk.specs.Put.{OldIfThere, OldOrNewIfThere, SeenSame, SeenSameIfThere, IsKept, AllTaken, name_after, held, first_mode, last_mode};
+ghost use Rattle.irig_disk.specs.Writing.{NotFinished, IsBeside, IsWriting, IsPlaced, IsStuck, NotBegun, WhileWriting};
+ghost use Rattle.irig_disk.specs.Calls.{mode_made};
+
+use crate::fault::{PutFault, fault_after};
+use crate::folder::Folder;
+use std::alloc::{AllocError, Global};
+
+/// How many names are tried for a new file. Other runs may hold that many, or have left them.
+const NAMES: u32 = 10_000;
+
+/// A new file next to its target, whose name it takes in the end.
+#[derive(Drop)]
+pub struct NewText<F: Folder> {
+    file: F::File,
+    beside: String,
+    target: String,
+    mode: Option<u32>,
+}
+
+impl<F: Folder> NewText<F> {
+    /// Makes the new file, under the first name that is free: the stem and a number from 0. If it is
+    /// to take a mode it is its owner's alone until then.
+    pub fn begin(
+        folder: &mut F,
+        alloc: Global,
+        target: &str,
+        stem: &str,
+        mode: Option<u32>,
+    ) -> Result<Self, PutFault<F::Fault>>
+        ensures target { IfOk result (λ new. string_bytes new.target ≡ target.now) }
+        ensures mode { IfOk result (λ new. new.mode ≡ mode) }
+        ensures ok { F.is_told → IfOk result (λ new. IsWriting (F.disk folder.old)
+            (F.disk folder.new) (string_bytes new.beside) target.now (F.number new.file) []
+            (first_mode F.usual_mode mode)) }
+        ensures err { F.is_told → IfErr result
+            (NotBegun (F.disk folder.old) (F.disk folder.new)) }
+        ensures taken { F.is_told → IsErrOf result NamesTaken
+            → AllTaken (F.disk folder.old) stem.now target.now NAMES }
+    {
+        let owned = String::from_str(alloc, target)?;
+        let (file, beside) = make_beside(folder, alloc, target, stem, mode.is_some())?;
+        Ok(NewText {
+            file,
+            beside,
+            target: owned,
+            mode,
+        })
+    }
+
+    /// Writes a part. After a fault, give the text up.
+    pub fn append(&mut self, folder: &mut F, part: &[u8]) -> Result<F::Appended, F::Fault>
+        ensures beside { string_bytes self.new.beside ≡ string_bytes self.old.beside }
+        ensures target { string_bytes self.new.target ≡ string_bytes self.old.target }
+        ensures mode { self.new.mode ≡ self.old.mode }
+        ensures file { F.number self.new.file ≡ F.number self.old.file }
+        ensures ok { F.is_told → (target : List ℕ) (mode : ℕ) → WhileWriting F.disk folder.old
+            (string_bytes self.old.beside) target (F.number self.old.file) mode (λ start text.
+            OnOk result (IsWriting start (F.disk folder.new) (string_bytes self.old.beside) target
+            (F.number self.old.file) (text ++ part.now) mode)) }
+        ensures err { F.is_told → (target : List ℕ) (mode : ℕ) → WhileWriting F.disk folder.old
+            (string_bytes self.old.beside) target (F.number self.old.file) mode (λ start text.
+            OnErr result ((n : ℕ) × IsWriting start (F.disk folder.new)
+            (string_bytes self.old.beside) target (F.number self.old.file)
+            (text ++ take n part.now) mode)) }
+    {
+        folder.append(&mut self.file, part)
+    }
+
+    /// Gives the text its mode and its name, and keeps both.
+    pub fn finish(self, folder: &mut F) -> Result<(), PutFault<F::Fault>>
+        ensures ok { F.is_told → WhileWriting F.disk folder.old (string_bytes self.beside)
+            (string_bytes self.target) (F.number self.file) (first_mode F.usual_mode self.mode)
+            (λ start text. OnOk result (IsKept start (F.disk folder.new)
+            (string_bytes self.target) (held F.usual_mode self.mode text))) }
+        ensures err { F.is_told → WhileWriting F.disk folder.old (string_bytes self.beside)
+            (string_bytes self.target) (F.number self.file) (first_mode F.usual_mode self.mode)
+            (λ start text. IfErr result (NotFinished start (F.disk folder.new)
+            (string_bytes self.target) (held F.usual_mode self.mode text))) }
+        ensures any_moment { F.is_told → WhileWriting F.disk folder.old (string_bytes self.beside)
+            (string_bytes self.target) (F.number self.file) (first_mode F.usual_mode self.mode)
+            (λ start text. LeavesOnly start (F.disk folder.new) (OldOrNewIfThere start
+            (string_bytes self.target) (held F.usual_mode self.mode text))) }
+    {
+        match place(
+            folder,
+            &self.file,
+            self.beside.as_str(),
+            self.target.as_str(),
+            self.mode,
+        ) {
+            Ok(_) => match folder.sync_names() {
+                Ok(_) => Ok(()),
+                Err(fault) => Err(PutFault::NotKept(fault)),
+            },
+            Err(fault) => Err(fault_after(fault, folder.remove(self.beside.as_str()))),
+        }
+    }
+
+    /// Removes the new file.
+    pub fn give_up(self, folder: &mut F) -> Result<F::NameRemoved, F::Fault>
+        ensures ok { F.is_told → (mode : ℕ) → WhileWriting F.disk folder.old
+            (string_bytes self.beside) (string_bytes self.target) (F.number self.file) mode
+            (λ start text. OnOk result (SeenSame start (F.disk folder.new))) }
+        ensures err { F.is_told → (mode : ℕ) → WhileWriting F.disk folder.old
+            (string_bytes self.beside) (string_bytes self.target) (F.number self.file) mode
+            (λ start text. OnErr result
+            (SeenSameIfThere start (F.disk folder.new) (string_bytes self.target))) }
+        ensures any_moment { F.is_told → (mode : ℕ) → WhileWriting F.disk folder.old
+            (string_bytes self.beside) (string_bytes self.target) (F.number self.file) mode
+            (λ start text. LeavesOnly start (F.disk folder.new)
+            (OldIfThere start (string_bytes self.target))) }
+    {
+        folder.remove(self.beside.as_str())
+    }
+}
+
+/// The name of a new file: the stem, and how many others were tried before it.
+fn numbered(alloc: Global, stem: &str, number: u32) -> Result<String, AllocError>
+    ensures { IfOk result (λ name. string_bytes name ≡ name_after stem.now number) }
+{
+    format!(in alloc; "{stem}{number}")
+}
+
+/// Makes a new file, under the first name that is free and is not the target's.
+fn make_beside<F: Folder>(
+    folder: &mut F,
+    alloc: Global,
+    target: &str,
+    stem: &str,
+    hidden: bool,
+) -> Result<(F::File, String), PutFault<F::Fault>>
+    ensures ok { F.is_told → IfOk result (λ new. IsWriting (F.disk folder.old)
+        (F.disk folder.new) (string_bytes new.1) target.now (F.number new.0) []
+        (mode_made F.usual_mode hidden)) }
+    ensures err { F.is_told → IfErr result (NotBegun (F.disk folder.old) (F.disk folder.new)) }
+    ensures taken { F.is_told → IsErrOf result NamesTaken
+        → AllTaken (F.disk folder.old) stem.now target.now NAMES }
+{
+    for number in 0..NAMES {
+        let beside = numbered(alloc, stem, number)?;
+        if beside.as_str() != target {
+            match folder.make(beside.as_str(), hidden) {
+                Ok(Some(file)) => return Ok((file, beside)),
+                Ok(None) => {}
+                Err(fault) => return Err(PutFault::Failed(fault)),
+            }
+        }
+    }
+    Err(PutFault::NamesTaken)
+}
+
+/// Gives a new file the mode, syncs it and renames it.
+fn place<F: Folder>(
+    folder: &mut F,
+    file: &F::File,
+    beside: &str,
+    target: &str,
+    mode: Option<u32>,
+) -> Result<F::Renamed, F::Fault>
+    ensures ok { F.is_told → WhileWriting F.disk folder.old beside.now target.now
+        (F.number file.now) (first_mode F.usual_mode mode) (λ start text. OnOk result
+        (IsPlaced start (F.disk folder.new) beside.now target.now
+        (held F.usual_mode mode text))) }
+    ensures err { F.is_told → WhileWriting F.disk folder.old beside.now target.now
+        (F.number file.now) (first_mode F.usual_mode mode) (λ start text. OnErr result
+        (IsStuck start (F.disk folder.new) beside.now target.now
+        (held F.usual_mode mode text))) }
+{
+    give_mode(folder, file, mode)?;
+    folder.sync_file(file)?;
+    folder.rename(beside, target)
+}
+
+/// Gives a new file the mode, if there is one.
+fn give_mode<F: Folder>(folder: &mut F, file: &F::File, mode: Option<u32>) -> Result<(), F::Fault>
+    ensures ok { F.is_told → (beside : List ℕ) (target : List ℕ) → WhileWriting F.disk folder.old
+        beside target (F.number file.now) (first_mode F.usual_mode mode) (λ start text.
+        OnOk result (IsWriting start (F.disk folder.new) beside target (F.number file.now) text
+        (last_mode F.usual_mode mode))) }
+    ensures err { F.is_told → (beside : List ℕ) (target : List ℕ) → WhileWriting F.disk folder.old
+        beside target (F.number file.now) (first_mode F.usual_mode mode) (λ start text.
+        OnErr result (IsBeside start (F.disk folder.new) beside target (F.number file.now))) }
+{
+    match mode {
+        None => Ok(()),
+        Some(mode) => match folder.take_mode(file, mode) {
+            Ok(_) => Ok(()),
+            Err(fault) => Err(fault),
+        },
+    }
+}
