@@ -139,8 +139,7 @@ pub struct Body {
 }
 
 /// Reads what is after the declarations. A function of its own for the machine too: what it
-/// is called from would take its registers. Pulses are looked for only after a value of the wire
-/// with no other value since the one before: in a dump of many wires few would be found.
+/// is called from would take its registers.
 #[inline(never)]
 pub fn changes(
     alloc: Global,
@@ -160,7 +159,6 @@ pub fn changes(
     let mut trace = Trace::new(alloc);
     let mut journals = Journals::new();
     let mut clock = Clock { whole: 0, rest: 0 };
-    let mut is_alone = false;
     'tokens: loop {
         match tokens.next_short(code, is_plain) {
             Short::Time(number) => {
@@ -168,12 +166,10 @@ pub fn changes(
             }
             Short::Bit(high) => {
                 trace.put(micros(unit, clock), high)?;
-                clock = ahead(is_quick && is_alone, tokens, unit, code, clock, &mut trace)?;
-                is_alone = true;
+                clock = ahead(is_quick, tokens, unit, code, clock, &mut trace)?;
             }
-            Short::Apart => is_alone = false,
+            Short::Apart => {}
             Short::Other => {
-                is_alone = false;
                 let Some(token) = tokens.next() else {
                     break;
                 };
