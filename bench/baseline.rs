@@ -6,7 +6,7 @@
 //!
 //! `baseline [--wire NAME] --list A|B|E|G TRACK`: reads TRACK and prints its pulses with their classes in that format.
 //!
-//! `baseline [--wire NAME] --edit A|B|E|G --expression N TRACK`: reads TRACK, tells its frames and obeys the script on
+//! `baseline [--wire NAME] --edit A|B|E|G --expression N TRACK`: reads TRACK, finds its frames and obeys the script on
 //! standard input (editor.rs).
 
 mod editor;
@@ -347,7 +347,7 @@ fn interval(format: &str) -> u64 {
     }
 }
 
-/// What a pulse of this width stands for, both in microseconds.
+/// What a pulse of this width means, both in microseconds.
 fn class(interval: u64, width: u64) -> &'static [u8] {
     let twentieths = 20 * width;
     if twentieths < interval {
@@ -381,7 +381,7 @@ fn list(interval: u64, edges: &[u64], out: &mut impl Write) -> io::Result<()> {
     out.flush()
 }
 
-/// Puts the bytes at a path: in a new file beside it, which is made durable and then renamed over it.
+/// Writes the bytes to a path: to a new file next to it, which is synced and then renamed over it.
 fn put(path: &str, bytes: &[u8]) -> io::Result<()> {
     let new = format!("{path}.new");
     let mut file = fs::File::create(&new)?;

@@ -146,7 +146,7 @@ impl Default for Verdict {
     }
 }
 
-/// A marker, from the front left of the gap and from the back right of it, and what its frame tells.
+/// A marker, from the front left of the gap and from the back right of it, and what its frame says.
 #[derive(Clone, Copy, Default)]
 struct Record {
     marker: usize,
@@ -293,7 +293,7 @@ impl Editor {
         stray.map_or(Note::Fine, Note::Stray)
     }
 
-    /// Decides the markers anew that an edit can reach: `old` pulses from `at` on became `new`.
+    /// Decides again the markers that an edit can reach: `old` pulses from `at` on became `new`.
     fn repair(&mut self, at: usize, old: usize, new: usize) {
         let former = self.pulses.len() + old - new;
         let first = at.saturating_sub(99);

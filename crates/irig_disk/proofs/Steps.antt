@@ -1,4 +1,4 @@
--- What each call makes of a new file beside its target.
+-- What each call makes of a new file next to its target.
 use Rattle.std.proofs.Common.{◌≡◌, ◌≢◌, ◌⊎◌, inl, inr, ⊎_elim, refl, sym, ◌∙◌, ap, subst, ℕ, List, [], ◌++◌, Option, Some, None, Result, Ok, Err, OnOk, OnErr, IfErr, IsErrOf, MatchResult}
 use Rattle.irig_disk.specs.declared.fault.PutFault.{PutFault}
 use Rattle.irig_disk.specs.declared.fault.PutFault.TheVariants.{Memory, NamesTaken, Failed, LeftBehind, NotKept}
@@ -23,7 +23,7 @@ shows a b n same holds = go (a.leads n) (b.leads n) same holds
     go (Some i) None same holds = absurd (cc same)
     go (Some i) (Some j) same holds = let ij : j ≡ i = cc same in ap (λ k. Some (b.holds k)) ij ∙ ap Some (holds i refl)
 
--- nothing that a name may be left with is new, where neither it nor the files behind it change
+-- nothing that a name may be left with is new, if neither it nor the files that it led to change
 may_follow : (a b : Disk) (n : List ℕ) → ((x : Option ℕ) → b.may_lead n x → a.may_lead n x) → ((i : ℕ) (h : Held) → a.may_lead n (Some i) → b.may_hold i h → a.may_hold i h) → (c : Option Held) → MayLeave b n c → MayLeave a n c
 may_follow a b n leads holds None left = leads None left
 may_follow a b n leads holds (Some h) left = (left.0, leads (Some left.0) left.1, holds left.0 h (leads (Some left.0) left.1) left.2)

@@ -52,7 +52,7 @@ pub record IsKept (old new : Disk) (target : List ℕ) (text : Held) : Type 0 wh
   pub put : IsPut old new target text
   pub kept : (c : Option Held) → MayLeave new target c → c ≡ Some text
 
--- what a fault leaves behind
+-- what a fault leaves
 abbrev pub AfterFault : {X : Type 0} → Disk → Disk → List ℕ → Held → PutFault X → Type 0
 AfterFault old new target text Memory = SeenSame old new
 AfterFault old new target text NamesTaken = SeenSame old new

@@ -1,8 +1,8 @@
--- A folder of which nothing is told.
+-- A folder of which nothing is known.
 use Rattle.std.specs.Prelude.{ℕ, List, [], Option, Some, None, ◌≤◌}
 use Rattle.irig_disk.specs.Disk.{Disk, Held, MayLeave}
 
--- stands where a state is asked for: no clause speaks of it
+-- a state, because one is asked for: no clause speaks of it
 abbrev pub untold : Disk
 untold = record { leads = λ _. None; holds = λ _. record { bytes = []; mode = 0 }; may_lead = λ _ _. ⊥; may_hold = λ _ _. ⊥; moment = 0; left_since = λ _ _ _. ⊥ }
 

@@ -48,7 +48,7 @@ pub record IsStuck (start now : Disk) (beside target : List ℕ) (text : Held) :
   pub left : (n : List ℕ) (c : Option Held) → MayLeave now n c
       → OldOrNewIfThere start target text n c
 
--- what a write that has not begun leaves behind
+-- what a write that has not begun leaves
 abbrev pub NotBegun : {X : Type 0} → Disk → Disk → PutFault X → Type 0
 NotBegun old new Memory = IsUnchanged old new
 NotBegun old new NamesTaken = IsUnchanged old new
@@ -56,7 +56,7 @@ NotBegun old new (Failed _) = IsUnchanged old new
 NotBegun old new (LeftBehind _ _) = ⊥
 NotBegun old new (NotKept _) = ⊥
 
--- what a write that has begun and has not succeeded leaves behind
+-- what a write that has begun and has not succeeded leaves
 abbrev pub NotFinished : {X : Type 0} → Disk → Disk → List ℕ → Held → PutFault X → Type 0
 NotFinished old new target text Memory = ⊥
 NotFinished old new target text NamesTaken = ⊥

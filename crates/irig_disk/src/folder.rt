@@ -35,7 +35,7 @@ pub trait Folder {
     /// Why a call failed. Only a call gives one.
     type Fault: Drop;
 
-    /// Whether the state below is told. Of a folder whose state is not, no clause says anything.
+    /// Whether the contracts give the state below. If they do not, no clause says anything.
     ghost is_told: { Type 0 };
 
     /// The mode of a new file that is not hidden.

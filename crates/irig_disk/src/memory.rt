@@ -44,7 +44,7 @@ pub struct MemoryFile {
     number: usize,
 }
 
-/// A folder in memory. It can be told to let some calls fail.
+/// A folder in memory. It can let some calls fail.
 #[derive(Drop)]
 pub struct Memory {
     alloc: Global,

@@ -63,7 +63,7 @@ fn unread_text<'a>(fault: DumpFileFault) -> &'a str
     }
 }
 
-/// The exit status for how a run ended; a fault is told on the standard error.
+/// The exit status for how a run ended; a fault is printed on the standard error.
 fn tell_ended<R: Eprint>(rt: &R, name: &str, outcome: Result<Status, DumpRunFault>) -> ExitCode
     ensures { exit_status result ≡ status_number outcome }
 {

@@ -74,7 +74,7 @@ fn exchange(
     }
 }
 
-/// Takes `count` pulses right of the gap of `from`, and puts them left of that of `to`.
+/// Takes `count` pulses right of the gap of `from`, and moves them to the left of that of `to`.
 fn carry(from: &mut Gap<Pulse>, count: usize, to: &mut Gap<Pulse>)
     requires there { from.old.place + count ≤ length from.old.items }
     requires room { length to.old.items + count ≤ to.old.capacity }

@@ -8,7 +8,7 @@ use crate::files::put_file::put_file;
 use irig_script::ShelfFault;
 use std::rt::Files;
 
-/// The files of the system. Nothing is known of them. `docs/SCRIPT.md` says what was tested: a
+/// The files of the system. Nothing is known of them. `docs/FORMATS.md` says what was tested: a
 /// write replaces the file at its path whole, and one that fails leaves it as it was.
 #[derive(Drop)]
 pub struct System<'a, R> {
