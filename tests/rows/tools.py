@@ -192,16 +192,36 @@ def starts(name, got, wanted):
     return good or same(name, got, wanted)
 
 
-def gives_back(name, change, length):
-    """Whether the script that is proposed gives back the recording, and is empty if nothing is damaged."""
-    pulses = recording()
-    change(pulses)
+def mended(pulses, length):
+    """The script that is proposed, and the pulses after it."""
     with tempfile.TemporaryDirectory() as folder:
         opened = editor.Editor(["--expression", "4", written(folder, pulses, length)])
         script = mend.propose(opened, lambda text: None)
         after = opened.ask([repair.lines() for repair in script])
-    good = same(name + ", mended", list(zip(after.rises, after.falls)), [tuple(each) for each in recording()])
+    return mend.text(script), [list(each) for each in zip(after.rises, after.falls)]
+
+
+def gives_back(name, change, length):
+    """Whether the script that is proposed gives back the recording, and is empty if nothing is damaged."""
+    pulses = recording()
+    change(pulses)
+    script, after = mended(pulses, length)
+    good = same(name + ", mended", after, recording())
     return good and same(name + ", a script", bool(script), name != "a sound recording")
+
+
+def in_every_frame(pulses):
+    """No frame shows its time whole; each field can be read in several frames."""
+    for frame, element in enumerate((2, 12, 22, 33) * 2):
+        rise = pulses[100 * frame + element][0]
+        pulses[100 * frame + element][1] = rise + 9700
+
+
+def left_alone(pulses):
+    """Six zeros between two holes, 4300 late by either side."""
+    for pulse in pulses[260:266]:
+        pulse[0], pulse[1] = pulse[0] + 4300, pulse[1] + 4300
+    del pulses[266:310], pulses[225:260]
 
 
 def larger_rows():
@@ -236,6 +256,14 @@ def larger_rows():
         lines_of(tremble, 8000000),
         ["0 the whole recording: rises tremble: half of all"],
     )
+    yield gives_back("the time from parts of several frames", in_every_frame, 8000000)
+    unsure = recording()
+    left_alone(unsure)
+    seen = "pulses 226 to 231 may begin with element "
+    yield starts("a run that is left", lines_of(unsure, 8000000), ["2604300 " + seen])
+    script, after = mended(unsure, 8000000)
+    yield starts("a run that is left, the script", script.splitlines(), ["# undecided: at 2604300: " + seen])
+    yield same("a run that is left, the pulses", after, unsure)
     late = [[rise + 3000000000, fall + 3000000000] for rise, fall in recording()]
     del late[243]
     yield same(

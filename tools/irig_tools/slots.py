@@ -141,7 +141,7 @@ class _Linker:
         marks, price = self._marks(run)
         distance, interval = run.begin - before.end, self.clock.interval_between(before, run)
         straight = round(distance / interval)
-        if not run.glued and abs(distance - straight * interval) <= self.clock.slack(straight):
+        if not run.glued and abs(distance - straight * interval) <= self.clock.least_late(straight):
             if self._follows(marks, run.count, before.count - 1 + straight):
                 return _Way(price, distance, interval, [straight], ())
         steps = {1, *range(max(1, straight - MOST_LATE), straight + 1)}.union({0} if straight == 0 else ())
@@ -154,7 +154,7 @@ class _Linker:
         faults = marks.faults((costs[0][1] + onward) % 100)
         if not faults:
             return count >= LONG or len(costs) == 1 or costs[1][0] > costs[0][0] + UNLIKELY
-        return faults <= min(1 + count // 100, 1 + marks.faults(marks.best(0, 1)[0]))
+        return count >= LONG and faults <= min(1 + count // 100, 1 + marks.faults(marks.best(0, 1)[0]))
 
     def follow(self) -> float:
         """Gives each run its phase as its place, from the last to the first, and returns what the way
