@@ -1,6 +1,6 @@
 //! What a growth that is refused leaves: run with each growth refused in turn, by `tests/no_memory`.
 
-use crate::sessions::helpers::two_pulses;
+use crate::scripts::helpers::two_pulses;
 use irig_codes::{Format, Kind};
 use irig_edit::{Refusal, Session};
 use irig_script::{DumpRunFault, MemoryShelf, Status, run_on_dump};

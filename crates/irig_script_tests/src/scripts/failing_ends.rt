@@ -1,10 +1,10 @@
 //! Runs whose script cannot be read, or whose output or texts cannot be written, from each byte and
 //! each write on.
 
+use crate::scripts::helpers::two_pulses;
 use crate::scripts::stops::{
     DELETED, INVERTED, Stop, Worked, first_printing, front, last_read, stands,
 };
-use crate::sessions::helpers::two_pulses;
 use irig_edit::Session;
 use irig_script::{MemoryShelf, RunFault, Status, run};
 use std::alloc::Global;

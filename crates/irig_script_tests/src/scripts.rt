@@ -3,6 +3,7 @@
 mod dumps;
 mod edit_rows;
 mod failing_ends;
+pub mod helpers;
 mod line_rows;
 mod refused_growths;
 mod row;

@@ -2,8 +2,8 @@ use Rattle.std.proofs.Common.{◌≡◌, ◌∙◌, ◌++◌, ◌∷◌, [], add
 use Rattle.irig_vcd.specs.Code.Trace.{change_of}
 use Rattle.std.proofs.lemmas.List.{append-nil}
 use Rattle.irig_vcd.specs.Level.{differs, level_by_changes, level_before}
-use Rattle.irig_tests.proofs.dumps.plain.plain_edges.Goals as goal
-use Rattle.irig_tests.proofs.dumps.plain.plain_edges.Goals.{then-differ+in_ok-push, else-differ}
+use Rattle.irig_part_tests.proofs.dumps.plain.plain_edges.Goals as goal
+use Rattle.irig_part_tests.proofs.dumps.plain.plain_edges.Goals.{then-differ+in_ok-push, else-differ}
 
 pub loop-time-preserved : goal.loop-time-preserved
 loop-time-preserved c =

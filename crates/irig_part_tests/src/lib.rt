@@ -1,4 +1,4 @@
-//! The crates below, tested by their public calls. It has no code of its own.
+//! The crates below the session, tested by their public calls. It has no code of its own.
 #![tactic(auto)]
 
 #[cfg(test)]
@@ -15,9 +15,5 @@ mod journal_texts;
 mod journals;
 #[cfg(test)]
 mod moments;
-#[cfg(test)]
-mod scripts;
-#[cfg(test)]
-mod sessions;
 #[cfg(test)]
 mod tracks;

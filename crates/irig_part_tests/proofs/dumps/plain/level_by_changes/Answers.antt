@@ -1,7 +1,7 @@
 use Rattle.std.proofs.Common.{◌∙◌}
-use Rattle.irig_tests.proofs.PlainLemmas.{counted, uncounted}
-use Rattle.irig_tests.proofs.dumps.plain.level_by_changes.Goals as goal
-use Rattle.irig_tests.proofs.dumps.plain.level_by_changes.Goals.{then-change-time, else-change-time}
+use Rattle.irig_part_tests.proofs.PlainLemmas.{counted, uncounted}
+use Rattle.irig_part_tests.proofs.dumps.plain.level_by_changes.Goals as goal
+use Rattle.irig_part_tests.proofs.dumps.plain.level_by_changes.Goals.{then-change-time, else-change-time}
 
 pub loop-change-preserved : goal.loop-change-preserved
 loop-change-preserved c =
