@@ -1,9 +1,9 @@
 -- Room for changes in turn: in more places, and for the one changes and then the others. This
 -- project's own.
-use Rattle.std.proofs.Common.{◌≡◌, ◌≤◌, ◌+◌, ◌++◌, ◌∷◌, [], ℕ, List, length, map, arith}
+use Rattle.std.proofs.Common.{◌≤◌, ◌∷◌, [], ℕ, List, arith}
 use Rattle.irig_journal.specs.declared.stack.Edit.{Edit}
 use Rattle.irig_journal.specs.Stack.{HasPlace, HasPlaceFor, made, singles_of}
-use Rattle.irig_journal.specs.Turns.{RoomForAll, left_by}
+use Rattle.irig_journal.specs.Turns.{RoomForAll}
 
 module _ {S C D : Type 0} where
   -- where the one has room, the other has
