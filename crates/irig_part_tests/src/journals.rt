@@ -1,7 +1,8 @@
 //! Calls of a journal over the stack, with what each answers and leaves, worked out by hand.
 
-ghost use Rattle.irig_journal.specs.Journal.{FitsState};
-ghost use Rattle.irig_journal.specs.Stack.{CanEdit, edited};
+ghost use Rattle.std.specs.Prelude.{vec_capacity};
+ghost use Rattle.irig_journal.specs.Journal.{AreReady};
+ghost use Rattle.irig_journal.specs.Stack.{CanEdit, HasPlace, edited};
 
 mod sides;
 
@@ -65,8 +66,10 @@ fn step<R: Reversible>(
     cursor: &mut usize,
     call: Call,
 ) -> Result<(), JournalFault>
-    requires { FitsState R.fits R.turned R.delta (R.content state.old) journal.old }
-    ensures { FitsState R.fits R.turned R.delta (R.content state.new) journal.new }
+    requires { AreReady R.fits R.turned R.delta (R.has_room (R.places state.old))
+        (R.content state.old) journal.old }
+    ensures { AreReady R.fits R.turned R.delta (R.has_room (R.places state.new))
+        (R.content state.new) journal.new }
 {
     match call {
         Call::Undo => journal.undo(state, cursor),
@@ -86,8 +89,10 @@ fn make<R: Reversible>(
     change: R::Change,
     after: usize,
 ) -> Reply
-    requires { FitsState R.fits R.turned R.delta (R.content state.old) journal.old }
-    ensures { FitsState R.fits R.turned R.delta (R.content state.new) journal.new }
+    requires { AreReady R.fits R.turned R.delta (R.has_room (R.places state.old))
+        (R.content state.old) journal.old }
+    ensures { AreReady R.fits R.turned R.delta (R.has_room (R.places state.new))
+        (R.content state.new) journal.new }
 {
     if !state.applies(&change) {
         return Reply::Unfit;
@@ -107,8 +112,10 @@ fn reply_to(answer: Result<(), JournalFault>) -> Reply {
 
 /// Obeys a call.
 fn obey(journal: &mut Journal<Stack>, stack: &mut Stack, cursor: &mut usize, call: Call) -> Reply
-    requires { FitsState CanEdit edited (λ d. d) stack.old.items.items journal.old }
-    ensures { FitsState CanEdit edited (λ d. d) stack.new.items.items journal.new }
+    requires { AreReady CanEdit edited (λ d. d) (HasPlace (vec_capacity stack.old.items))
+        stack.old.items.items journal.old }
+    ensures { AreReady CanEdit edited (λ d. d) (HasPlace (vec_capacity stack.new.items))
+        stack.new.items.items journal.new }
 {
     match call {
         Call::Push(x, after) => make(journal, stack, cursor, Edit::One(Single::Push(x)), after),
@@ -226,15 +233,15 @@ fn an_abort_gives_back_what_stood_at_the_begin(rt: HostRuntime) -> Result<(), Fa
         (Call::Pop(4), Reply::Done, b"a", 4, 3, 0, 5, (1, 0)),
         (Call::Pop(5), Reply::Done, b"", 5, 4, 0, 6, (2, 0)),
         (Call::Undo, Reply::Done, b"a", 4, 3, 1, 7, (1, 0)),
-        // All in one turn, to the cursor of the begin, also after the move to 9.
-        (Call::Abort, Reply::Done, b"a", 1, 1, 0, 8, (0, 0)),
-        (Call::Redo, NO_STEP_ON, b"a", 1, 1, 0, 8, (0, 0)),
+        // A turn for each step, to the cursor of the begin, also after the move to 9.
+        (Call::Abort, Reply::Done, b"a", 1, 1, 0, 9, (0, 0)),
+        (Call::Redo, NO_STEP_ON, b"a", 1, 1, 0, 9, (0, 0)),
         // Without a step there is no turn, and nothing is left to redo.
-        (Call::Undo, Reply::Done, b"", 0, 0, 1, 9, (0, 1)),
-        (Call::Begin, Reply::Done, b"", 0, 0, 1, 9, (0, 1)),
-        (Call::Abort, Reply::Done, b"", 0, 0, 0, 9, (0, 0)),
-        (Call::Redo, NO_STEP_ON, b"", 0, 0, 0, 9, (0, 0)),
-        (Call::End, NONE_OPEN, b"", 0, 0, 0, 9, (0, 0)),
+        (Call::Undo, Reply::Done, b"", 0, 0, 1, 10, (0, 1)),
+        (Call::Begin, Reply::Done, b"", 0, 0, 1, 10, (0, 1)),
+        (Call::Abort, Reply::Done, b"", 0, 0, 0, 10, (0, 0)),
+        (Call::Redo, NO_STEP_ON, b"", 0, 0, 0, 10, (0, 0)),
+        (Call::End, NONE_OPEN, b"", 0, 0, 0, 10, (0, 0)),
     ];
     check(&rt, rt.alloc(), &rows);
     Ok(())

@@ -1,8 +1,8 @@
 //! The steps that a journal shows, and what becomes of them when it is turned round.
 
-ghost use Rattle.std.specs.Prelude.{◌≡◌, None};
-ghost use Rattle.irig_journal.specs.Journal.{FitsState};
-ghost use Rattle.irig_journal.specs.Stack.{CanEdit, edited};
+ghost use Rattle.std.specs.Prelude.{◌≡◌, None, vec_capacity};
+ghost use Rattle.irig_journal.specs.Journal.{AreReady};
+ghost use Rattle.irig_journal.specs.Stack.{CanEdit, HasPlace, edited};
 
 use irig_journal::Journal;
 use irig_journal::stack::{Edit, Single, Stack};
@@ -11,8 +11,10 @@ use std::test::Fail;
 
 /// Pushes a byte on a stack with this cursor. If memory runs out nothing is pushed.
 fn push(journal: &mut Journal<Stack>, stack: &mut Stack, byte: u8, cursor: usize)
-    requires fits { FitsState CanEdit edited (λ d. d) stack.old.items.items journal.old }
-    ensures fits { FitsState CanEdit edited (λ d. d) stack.new.items.items journal.new }
+    requires ready { AreReady CanEdit edited (λ d. d) (HasPlace (vec_capacity stack.old.items))
+        stack.old.items.items journal.old }
+    ensures ready { AreReady CanEdit edited (λ d. d) (HasPlace (vec_capacity stack.new.items))
+        stack.new.items.items journal.new }
     ensures floor { journal.new.floor ≡ journal.old.floor }
 {
     let _done = journal.record(stack, Edit::One(Single::Push(byte)), cursor);
