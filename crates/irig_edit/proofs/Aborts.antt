@@ -6,7 +6,7 @@ use Rattle.irig_journal.specs.declared.opening.Opening.{Opening}
 use Rattle.irig_journal.specs.declared.step.Step.{Step}
 use Rattle.irig_journal.specs.Groups.{Floor, Grouped, aborted, dropped_over, is_at_floor, over, undone_over}
 use Rattle.irig_journal.specs.History as journal
-use Rattle.irig_journal.specs.Joining.{CountsGathered, beyond, changes_of, farthest}
+use Rattle.irig_journal.specs.Joining.{CountsAlong, beyond, changes_of, farthest}
 use Rattle.irig_journal.specs.Machine.{undone}
 use Rattle.irig_journal.specs.Machine as states
 use Rattle.irig_journal.specs.Openings as openings
@@ -19,6 +19,7 @@ use Rattle.irig_edit.specs.Looks.{RoseWithin, both, looks_of}
 use Rattle.irig_edit.specs.Session.{made_since}
 use Rattle.irig_edit.specs.State.{State}
 use Rattle.irig_edit.proofs.Floors.{over_opening}
+use Rattle.irig_edit.proofs.GroupTurns.{rose_then}
 use Rattle.irig_edit.proofs.LooksOfSteps.{counted}
 use Rattle.irig_edit.proofs.Machines.{history, length-kept_back}
 use Rattle.irig_edit.proofs.MachineSteps.{allowed_some}
@@ -127,8 +128,18 @@ looks_back-along (suc n) s cursor (near ∷ steps) =
     ap (both (looks_of s near.change)) (looks_back-along n after near.cursor steps)
     ∙ looks_first s near.change (flat_map singles_of (changes_of (take n steps)))
 
+-- turns one after another look as often as a turn of them all may
+rose_along : (s : State) (steps : List (Step Delta)) (old new : ℕ) → CountsAlong counted turned s steps old new
+    → RoseWithin (looks_of s (gathered (changes_of steps))) old new
+rose_along s [] old new same = (omega (arith, same), omega (arith, same))
+rose_along s (near ∷ steps) old new counts =
+    let after = (turned s near.change).0 in
+    let rest = looks_of after (gathered (changes_of steps)) in
+    subst (λ (most : Option ℕ). RoseWithin most old new) (looks_first s near.change (flat_map singles_of (changes_of steps)))
+    (rose_then (looks_of s near.change) rest old counts.0 new counts.1 (rose_along after steps counts.0 new counts.2))
+
 pub aborted_rose : (s : State) (cursor : ℕ) (past future : List (Step Delta)) (opening : Option Opening) (old new : ℕ)
-    → IfSome opening (λ o. CountsGathered counted gathered s (beyond o.steps past) old new)
+    → IfSome opening (λ o. CountsAlong counted turned s (beyond o.steps past) old new)
     → (opening ≡ None → ⊥)
     → RoseWithin (looks_back (made_since (option_map (floor_of (machine (history s cursor past future))) opening) (machine (history s cursor past future)))) old new
 aborted_rose s cursor past future None old new counts some = absurd (some refl)
@@ -137,10 +148,7 @@ aborted_rose s cursor past future (Some o) old new counts some =
     let bound : looks_back (take (length (kept_back s past) - o.steps) (kept s cursor (exchange_back s past) ∷ kept_back s past)) ≡ looks_of s (gathered (changes_of (beyond o.steps past))) =
     (λ i. looks_back (take (long i - o.steps) (kept s cursor (exchange_back s past) ∷ kept_back s past)))
     ∙ looks_back-along (length past - o.steps) s cursor past in
-    subst (λ (most : Option ℕ). RoseWithin most old new) (sym bound) (by_steps (beyond o.steps past) counts) where
-      by_steps : (steps : List (Step Delta)) → CountsGathered counted gathered s steps old new → RoseWithin (looks_of s (gathered (changes_of steps))) old new
-      by_steps [] same = (omega (arith, same), omega (arith, same))
-      by_steps (near ∷ steps) counts = counts
+    subst (λ (most : Option ℕ). RoseWithin most old new) (sym bound) (rose_along s (beyond o.steps past) old new counts)
 
 -- the steps of the journal since a group was begun are the same number of steps of the machine
 pub has_made : (n : ℕ) (P : Opening → Type 0) (s : State) (cursor : ℕ) (past future : List (Step Delta)) (opening : Option Opening)

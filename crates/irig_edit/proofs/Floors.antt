@@ -1,22 +1,31 @@
 -- The floor of an open group stays where it is while the machine above it moves.
-use Rattle.std.proofs.Common.{◌≡◌, ◌≤◌, ◌<◌, ◌-◌, ℕ, suc, zero, Bool, true, false, List, [], ◌∷◌, length, nat_le, Option, Some, None, option_map, if◌then◌else◌, refl, ap, sym, ◌∙◌, subst, arith}
+use Rattle.std.proofs.Common.{◌≡◌, ◌≤◌, ◌-◌, ℕ, suc, zero, Bool, true, false, List, [], ◌∷◌, length, nat_le, Option, Some, None, option_map, if◌then◌else◌, refl, ap, sym, ◌∙◌, subst, arith}
 use Rattle.std.proofs.lemmas.Bool.{leb-false}
 use Rattle.std.proofs.lemmas.Bool.Decides.{nat_tests}
 use Rattle.irig_journal.specs.declared.opening.Opening.{Opening}
 use Rattle.irig_journal.specs.Groups.{Floor, Grouped, begun, floored, is_at_floor, over, recorded_over, redone_over, undone_over}
 use Rattle.irig_journal.specs.Machine.{Machine, mirrored, recorded, redone, taken_back, undone}
 use Rattle.irig_journal.specs.Openings.{AtFloor}
-use Rattle.irig_edit.specs.Keeping.{behind, floor_at, floor_of}
+use Rattle.irig_journal.specs.Journal.{Steps}
+use Rattle.irig_edit.specs.Keeping.{behind, floor_at, floor_of, grouped_at}
 use Rattle.irig_edit.specs.Kept.{Exchange, Kept, kept}
 use Rattle.irig_edit.specs.Limits.{IsFloor, IsGrouped}
 use Rattle.irig_edit.specs.Machine.{with_cursor}
+use Rattle.irig_edit.specs.Present.{PresentView}
 use Rattle.irig_edit.specs.State.{State, IsState}
+use Rattle.irig_edit.specs.declared.change.Change.{Change}
 use Rattle.irig_edit.proofs.Machines.{IsMachine-recorded, IsMachine-redone, IsMachine-undone}
 use Rattle.irig_edit.proofs.MachineSteps.{allowed_some, over_some}
 
 -- a machine over the floor of its open group, if one is open
 abbrev pub over_opening : Option Opening → Machine Kept → Grouped Kept
 over_opening opening m = over (option_map (floor_of m) opening) m
+
+-- the same state, cursor and journal mean the same machine with its floor
+pub same_grouped : (p q : PresentView) (m n : ℕ) (i j : Steps Change) → q ≡ p → n ≡ m → j ≡ i
+    → grouped_at q.state n j ≡ grouped_at p.state m i
+same_grouped p q m n i j here at steps = ap (λ (x : PresentView). grouped_at x.state n j) here
+    ∙ (ap (λ (x : ℕ). grouped_at p.state x j) at ∙ ap (grouped_at p.state m) steps)
 
 -- one more state is before the present
 floor_of-deeper : (o : Opening) (now present : Kept) (past : List Kept) → o.steps ≤ length past
@@ -50,15 +59,6 @@ IsGrouped-recorded {g} {h} s cursor made old state within step =
       by_floor (Some f) is = (omega (arith, is.0), is.1)
 
 -- whether the past goes beyond the floor
-pub not_at_floor : (m : Machine Kept) (long : ℕ) (opening : Option Opening) → length m.past ≡ long → (AtFloor opening long → ⊥)
-    → is_at_floor (option_map (floor_of m) opening) m.past ≡ false
-not_at_floor m long None same above = refl
-not_at_floor m long (Some o) same above =
-    let beyond : o.steps < length m.past = by_length (length m.past) same in
-    grind (arith, nat_tests) where
-      by_length : (n : ℕ) → n ≡ long → o.steps < n
-      by_length n is = omega (arith, above)
-
 pub is_at_floor-yes : (m : Machine Kept) (long : ℕ) (opening : Option Opening) → length m.past ≡ long → AtFloor opening long
     → is_at_floor (option_map (floor_of m) opening) m.past ≡ true
 is_at_floor-yes m long None same low = absurd low

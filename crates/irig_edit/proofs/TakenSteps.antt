@@ -12,7 +12,7 @@ use Rattle.irig_edit.specs.Saved.{saved_change, saved_step}
 use Rattle.irig_edit.specs.State.{State}
 use Rattle.irig_edit.specs.Stops.{StopsAt, Told}
 use Rattle.irig_edit.specs.Taken.{AreTaken, CanTake, CanTakeAll}
-use Rattle.irig_edit.specs.Walk.{Fitting, gone_along, gone_on}
+use Rattle.irig_edit.specs.Walk.{gone_along, gone_on}
 use Rattle.irig_edit.proofs.Names.{same_change, same_step}
 use Rattle.irig_edit.proofs.Walks.{can_take-append, can_take-next, gone_along-append}
 
@@ -132,10 +132,10 @@ told_no false P Q is h = h
 -- a change made that a step names is the step taken
 pub took : {E : Type 0} (r : Result Bool E) (h new : History State Delta) (s : SavedStep) (d : Delta) → s.change ≡ saved_change d
     → IfOk r (λ made. Told made
-    ((Fits h.state d × (s.cursor ≤ length (turned h.state d).0.pulses)) × ((new ≡ gone_on h (step d s.cursor)) × Fitting new))
+    ((Fits h.state d × (s.cursor ≤ length (turned h.state d).0.pulses)) × (new ≡ gone_on h (step d s.cursor)))
     (Fits h.state d → s.cursor ≤ length (turned h.state d).0.pulses → ⊥))
     → IfOk r (λ taken. Told taken
-    ((x : Step Delta) × ((s ≡ saved_step x) × (CanTake h.state x × ((new ≡ gone_on h x) × Fitting new))))
+    ((x : Step Delta) × ((s ≡ saved_step x) × (CanTake h.state x × (new ≡ gone_on h x))))
     ((x : Step Delta) → s ≡ saved_step x → CanTake h.state x → ⊥))
 took (Ok true) h new s d named made =
     (step d s.cursor, ((λ k. record { cursor = s.cursor; change = named k }), (record { fits = made.0.0; cursor = made.0.1 }, made.1)))

@@ -1,9 +1,11 @@
 -- A state that continues along steps, and back again.
-use Rattle.std.proofs.Common.{◌≡◌, ℕ, suc, zero, ◌++◌, ◌≤◌, List, [], ◌∷◌, Some, length, take, drop, refl, ap, ap₂, sym, ◌∙◌, subst, arith}
+use Rattle.std.proofs.Common.{◌≡◌, ◌≢◌, ◌⊎◌, inl, inr, Ok, Err, Result, OnOk, OnErr, IsErrOf, None, ℕ, suc, zero, ◌++◌, ◌≤◌, List, [], ◌∷◌, Some, length, take, drop, refl, ap, ap₂, sym, ◌∙◌, subst, arith}
 use Rattle.std.proofs.lemmas.List.{take-append-drop, take_all}
 use Rattle.std.proofs.Math.ListN.{drop_of_length-le}
 use Rattle.irig_journal.specs.declared.step.Step.{Step}
-use Rattle.irig_journal.specs.History.{History, step, stepped_back}
+use Rattle.irig_journal.specs.History.{History, step, stepped_back, turned_back}
+use Rattle.irig_journal.specs.declared.fault.JournalFault.{JournalFault}
+use Rattle.irig_journal.specs.declared.fault.JournalFault.TheVariants.{GroupFloor, NothingToUndo}
 use Rattle.irig_edit.specs.Delta.{Delta, turned}
 use Rattle.irig_edit.specs.Laws.Delta.{IsState-turned, turned-turned}
 use Rattle.irig_edit.specs.State.{State, IsState}
@@ -65,11 +67,27 @@ split_more (suc n) (d ∷ ds) short =
     let rest = split_more n ds (omega arith) in
     (rest.0, (ap (λ (xs : List (Step Delta)). d ∷ xs) rest.1.0, rest.1.1))
 
+-- what steps back has a step
+back_some : (old new : History State Delta) → stepped_back turned old ≡ Some new → old.past ≢ []
+back_some old new back none =
+    let gone : Some new ≡ None =
+    sym back ∙ ap (λ (l : List (Step Delta)). turned_back turned old.state old.cursor l old.future) none in
+    absurd (cc)
+
+-- an undo that can only be refused if there is no step, or below a floor, is made
+pub made_back : (r : Result Unit JournalFault) (P : Type 0) → OnOk r P → OnErr r (IsErrOf r NothingToUndo ⊎ IsErrOf r GroupFloor)
+    → (IsErrOf r NothingToUndo → ⊥) → (IsErrOf r GroupFloor → ⊥) → P
+made_back (Ok u) P ok faults some above = ok
+made_back (Err e) P ok faults some above = elim faults as (λ _. P) [
+  | inl none ↦ absurd (some none)
+  | inr low ↦ absurd (above low)
+]
+
 -- one more of the steps that were taken is undone
 pub back_more : (h old new : History State Delta) (ds : List (Step Delta)) (n : ℕ) → IsState h.state → CanTakeAll h.state ds
     → suc n ≤ length ds → old ≡ ahead_of (gone_along h (take (suc n) ds)) (drop (suc n) ds)
-    → stepped_back turned old ≡ Some new → new ≡ ahead_of (gone_along h (take n ds)) (drop n ds)
-back_more h old new ds n is can long stands back =
+    → (old.past ≢ [] → stepped_back turned old ≡ Some new) → new ≡ ahead_of (gone_along h (take n ds)) (drop n ds)
+back_more h old new ds n is can long stands goes =
     let split = split_more n ds long in
     let d = split.0 in
     let firsts = take n ds in
@@ -79,8 +97,9 @@ back_more h old new ds n is can long stands back =
     let can_these = can_take-first h (firsts ++ d ∷ []) es (subst (λ (xs : List (Step Delta)). CanTakeAll h.state xs) whole can) in
     let there : old ≡ ahead_of (gone_along h (firsts ++ d ∷ [])) es =
     stands ∙ ap (λ (xs : List (Step Delta)). ahead_of (gone_along h xs) es) split.1.0 in
-    let gone : Some new ≡ Some (ahead_of (gone_along h firsts) (d ∷ es)) =
-    sym back ∙ (ap (stepped_back turned) there ∙ back_last h firsts es d is can_these) in
+    let last = ap (stepped_back turned) there ∙ back_last h firsts es d is can_these in
+    let some : old.past ≢ [] = back_some old (ahead_of (gone_along h firsts) (d ∷ es)) last in
+    let gone : Some new ≡ Some (ahead_of (gone_along h firsts) (d ∷ es)) = sym (goes some) ∙ last in
     let same : new ≡ ahead_of (gone_along h firsts) (d ∷ es) = cc in
     same ∙ ap (λ (xs : List (Step Delta)). ahead_of (gone_along h firsts) xs) (sym split.1.1)
 

@@ -3,6 +3,7 @@ pub mod Delta
 pub mod Edges
 pub mod Groups
 pub mod Marks
+pub mod Room
 pub mod SetMarks
 pub mod Single
 pub mod State

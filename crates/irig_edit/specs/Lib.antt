@@ -1,3 +1,4 @@
+pub mod Ample
 pub mod Becoming
 pub mod Calls
 pub mod Changes
@@ -17,8 +18,10 @@ pub mod Machine
 pub mod Marks
 pub mod Opened
 pub mod Openings
+pub mod Places
 pub mod Present
 pub mod ReadBack
+pub mod Ready
 pub mod Refusals
 pub mod Regenerated
 pub mod Room

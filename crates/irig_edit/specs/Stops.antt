@@ -7,7 +7,7 @@ use Rattle.irig_journal.specs.History.{History}
 use Rattle.irig_edit.specs.Delta.{Delta}
 use Rattle.irig_edit.specs.State.{State}
 use Rattle.irig_edit.specs.Taken.{AreTaken, StopsAfter}
-use Rattle.irig_edit.specs.Walk.{Fitting, walk}
+use Rattle.irig_edit.specs.Walk.{walk}
 use Rattle.irig_edit.specs.declared.taking.Stop.{Stop}
 use Rattle.irig_edit.specs.declared.taking.Stop.TheVariants.{At, Memory}
 
@@ -37,4 +37,3 @@ pub record HasTaken (old : History State Delta) (past future : List SavedStep)
   pub back : AreTaken old.state (reverse past) behind
   pub on : AreTaken old.state future ahead
   pub stands : new ≡ walk old.state old.cursor behind ahead
-  pub fitting : Fitting new

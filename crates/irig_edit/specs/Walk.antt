@@ -1,17 +1,13 @@
 -- A state that continues along steps. This project's own.
 use Rattle.std.specs.Prelude.{ℕ, List, [], ◌∷◌}
 use Rattle.irig_journal.specs.declared.step.Step.{Step}
-use Rattle.irig_journal.specs.History.{FitInTurn, History, step}
-use Rattle.irig_edit.specs.Delta.{Delta, Fits, turned}
+use Rattle.irig_journal.specs.History.{History, step}
+use Rattle.irig_edit.specs.Delta.{Delta, turned}
 use Rattle.irig_edit.specs.State.{State}
 
 -- a state with its cursor and its steps
 abbrev pub walk : State → ℕ → List (Step Delta) → List (Step Delta) → History State Delta
 walk s cursor past future = record { state = s; cursor = cursor; past = past; future = future }
-
--- the steps apply in turn, back and forward
-abbrev pub Fitting : History State Delta → Type 0
-Fitting h = FitInTurn Fits turned h.state h.past × FitInTurn Fits turned h.state h.future
 
 -- a change made, with the cursor of the state that it leads back to
 abbrev pub changed : History State Delta → Delta → History State Delta

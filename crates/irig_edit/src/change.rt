@@ -1,14 +1,11 @@
 //! A change of the present state: one, or several in a group.
 
-ghost use Rattle.std.specs.Prelude.{◌≡◌, ◌-◌, ◌≤◌, ◌^◌, IfSome, OnOk, flat_map, length, map, min, vec_capacity, vec_len};
-ghost use Rattle.std.specs.List.{AllByRecursion};
+ghost use Rattle.std.specs.Prelude.{◌≡◌, ◌≤◌, IfSome, flat_map, length, vec_capacity, vec_len};
 ghost use Rattle.irig_edit.specs.Delta.{weight_of};
 ghost use Rattle.irig_edit.specs.Held.{delta_of, parts_of};
-ghost use Rattle.irig_edit.specs.Room.{TakesIn, brought};
 
 use crate::single::Single;
 use crate::singles::Singles;
-use std::alloc::AllocError;
 
 /// A change of a state: a single one, or a group of them. Its turn leaves the change that leads
 /// back.
@@ -40,27 +37,6 @@ impl Change {
             Change::Group(singles) => singles.items.len(),
         }
     }
-
-    /// How many pulses its turn brings at most, counted up to 2^64 - 1.
-    fn brought(&self) -> usize
-        ensures { result ≡ min (brought (parts_of self.now)) (2 ^ 64 - 1) }
-    {
-        match self {
-            Change::One(single) => single.brought(),
-            Change::Group(singles) => singles.brought(),
-        }
-    }
-
-    /// Makes places in it for the pulses that its turn takes.
-    fn reserve_taken(&mut self) -> Result<(), AllocError>
-        ensures same { delta_of self.new ≡ delta_of self.old }
-        ensures takes { OnOk result (AllByRecursion TakesIn (parts_of self.new)) }
-    {
-        match self {
-            Change::One(single) => single.reserve_taken(),
-            Change::Group(singles) => singles.reserve_taken(),
-        }
-    }
 }
 
 /// How many single changes there are in all, if this is a number of 64 bits.
@@ -72,28 +48,6 @@ pub(crate) fn count_in(changes: &[Change]) -> Option<usize>
         count = count.checked_add(change.len())?;
     }
     Some(count)
-}
-
-/// How many pulses their turns bring at most, counted up to 2^64 - 1.
-pub(crate) fn brought_in(changes: &[Change]) -> usize
-    ensures { result ≡ min (brought (flat_map parts_of changes.now)) (2 ^ 64 - 1) }
-{
-    let mut brought: usize = 0;
-    for change in changes {
-        brought = brought.saturating_add(change.brought());
-    }
-    brought
-}
-
-/// Makes places in them for the pulses that their turns take.
-pub(crate) fn reserve_taken_in(changes: &mut Vec<Change>) -> Result<(), AllocError>
-    ensures same { map delta_of changes.new.items ≡ map delta_of changes.old.items }
-    ensures takes { OnOk result (AllByRecursion TakesIn (flat_map parts_of changes.new.items)) }
-{
-    for i in 0..changes.len() {
-        changes[i].reserve_taken()?;
-    }
-    Ok(())
 }
 
 /// The single changes of all of them, in a list with places for them.

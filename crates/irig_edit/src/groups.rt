@@ -23,7 +23,7 @@ impl Session {
     }
 
     /// Closes the open group: its steps become one. What was undone can still be redone.
-    /// This takes memory only if there are two steps or more.
+    /// This takes memory only if there are two steps or more: a list of their changes.
     ///
     /// E13 if no group is open.
     pub fn end(&mut self) -> Result<(), Refusal>
@@ -31,7 +31,7 @@ impl Session {
         ensures looks { LooksAfter End self.old result self.new }
         ensures memory { IsErrOf result Refusal.OutOfMemory → HasMade 2 self.old }
     {
-        match self.journal.end(&mut self.present) {
+        match self.journal.end(&self.present) {
             Ok(()) => Ok(()),
             Err(JournalFault::NoGroup) => Err(Refusal::NoGroup),
             Err(_) => Err(Refusal::OutOfMemory),
@@ -39,14 +39,12 @@ impl Session {
     }
 
     /// Closes the open group and undoes its steps for good: the present is that of its begin, with
-    /// the cursor of that time, and nothing is left to redo. This takes memory only if there is a
-    /// step.
+    /// the cursor of that time, and nothing is left to redo. This takes no memory.
     ///
     /// E13 if no group is open.
     pub fn abort(&mut self) -> Result<(), Refusal>
         ensures step { Steps Abort self.old result self.new }
         ensures looks { LooksAfter Abort self.old result self.new }
-        ensures memory { IsErrOf result Refusal.OutOfMemory → HasMade 1 self.old }
     {
         let before = self.present.looks();
         match self.journal.abort(&mut self.present, &mut self.cursor) {
@@ -54,8 +52,7 @@ impl Session {
                 self.last_looks = self.present.looks_since(before);
                 Ok(())
             }
-            Err(JournalFault::NoGroup) => Err(Refusal::NoGroup),
-            Err(_) => Err(Refusal::OutOfMemory),
+            Err(_) => Err(Refusal::NoGroup),
         }
     }
 }

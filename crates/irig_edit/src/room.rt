@@ -1,14 +1,16 @@
 //! Whether a change of the present state can be made, and room for its turn.
 
-ghost use Rattle.std.specs.Prelude.{◌≡◌, ◌≤◌, ◌↔◌, IfOk, IsTrue, OnErr, OnOk, flat_map, length, map, vec_capacity, vec_len};
+ghost use Rattle.std.specs.Prelude.{◌≡◌, ◌≤◌, ◌↔◌, IsTrue, OnErr, OnOk, map};
+ghost use Rattle.irig_journal.specs.Turns.{FitAll};
 ghost use Rattle.irig_track.specs.Shifts.{CanShift};
 ghost use Rattle.irig_track.specs.Toggles.{CanToggle};
-ghost use Rattle.irig_edit.specs.Held.{delta_of, parts_of, single_of};
-ghost use Rattle.irig_edit.specs.Room.{HasPlacesFor, HasRoomFor, HasRoomForAll, PutsIn, records_for};
-ghost use Rattle.irig_edit.specs.Single.{FitsSingle};
+ghost use Rattle.irig_edit.specs.Ample.{HasPlacesFor, IsAmpleFor, IsAmpleForAll, PutsIn, records_for};
+ghost use Rattle.irig_edit.specs.Held.{single_of};
+ghost use Rattle.irig_edit.specs.Places.{IsWithin, places_in};
+ghost use Rattle.irig_edit.specs.Room.{HasRoomFor, HaveRoom};
+ghost use Rattle.irig_edit.specs.Single.{FitsSingle, turned_single};
 ghost use Rattle.irig_edit.specs.State.{IsState};
 
-use crate::change::{Change, brought_in, count_in, reserve_taken_in};
 use crate::marks::all_may_move;
 use crate::present::Present;
 use crate::single::Single;
@@ -58,15 +60,17 @@ impl Present {
 
 /// Room for turns.
 impl Present {
-    /// Makes room for a turn of a single change, which stays what it is.
+    /// Makes room for a turn of a single change, which stays what it is, and for its turn back.
     pub(crate) fn room_for(&mut self, single: &mut Single) -> Result<(), AllocError>
         requires fits { FitsSingle self.old.state (single_of single.old) }
         ensures known { IsState self.old.state }
-        ensures state { self.new.state ≡ self.old.state }
-        ensures single { single_of single.new ≡ single_of single.old }
-        ensures looks { self.new.index.looks ≡ self.old.index.looks }
-        ensures room { OnOk result (HasRoomFor self.new single.new) }
-        ensures refused { OnErr result (HasRoomFor self.old single.old → ⊥) }
+        ensures stays { (self.new.state ≡ self.old.state)
+            × (single_of single.new ≡ single_of single.old)
+            × (self.new.index.looks ≡ self.old.index.looks) }
+        ensures grows { IsWithin (places_in self.old) (places_in self.new) }
+        ensures room { OnOk result (HasRoomFor (places_in self.new) self.new.state single.new) }
+        ensures refused { OnErr result
+            (IsAmpleFor (places_in self.old) self.old.state single.old → ⊥) }
     {
         let records = self.records_for(single);
         self.reserve_put(single)?;
@@ -99,27 +103,34 @@ impl Present {
     fn reserve_put(&mut self, single: &Single) -> Result<(), AllocError>
         ensures state { self.new.state ≡ self.old.state }
         ensures index { self.new.index ≡ self.old.index }
-        ensures puts { OnOk result (PutsIn self.new.spare (single_of single.now)) }
-        ensures refused { OnErr result (PutsIn self.old.spare (single_of single.now) → ⊥) }
+        ensures grows { self.old.spare ≤ self.new.spare }
+        ensures puts { OnOk result
+            (PutsIn (places_in self.new) self.new.state (single_of single.now)) }
+        ensures refused { OnErr result
+            (PutsIn (places_in self.old) self.old.state (single_of single.now) → ⊥) }
     {
         match single {
             Single::Splice(splice) => {
                 self.track
                     .reserve(splice.put.len().saturating_sub(splice.count))
             }
-            Single::Toggle { .. } => self.track.reserve(1),
+            Single::Toggle { .. } => self.track.reserve(2),
             _ => Ok(()),
         }
     }
 
-    /// Makes room for a turn of a group, whose single changes stay what they are.
+    /// Makes room for a turn of a group, whose single changes stay what they are, and for its turn
+    /// back.
     pub(crate) fn room_for_all(&mut self, singles: &mut Singles) -> Result<(), AllocError>
+        requires fit { FitAll FitsSingle turned_single self.old.state (map single_of singles.old) }
         ensures known { IsState self.old.state }
-        ensures state { self.new.state ≡ self.old.state }
-        ensures singles { map single_of singles.new ≡ map single_of singles.old }
-        ensures looks { self.new.index.looks ≡ self.old.index.looks }
-        ensures room { OnOk result (HasRoomForAll self.new singles.new) }
-        ensures refused { OnErr result (HasRoomForAll self.old singles.old → ⊥) }
+        ensures stays { (self.new.state ≡ self.old.state)
+            × (map single_of singles.new ≡ map single_of singles.old)
+            × (self.new.index.looks ≡ self.old.index.looks) }
+        ensures grows { IsWithin (places_in self.old) (places_in self.new) }
+        ensures room { OnOk result (HaveRoom (places_in self.new) self.new.state singles.new) }
+        ensures refused { OnErr result
+            (IsAmpleForAll (places_in self.old) self.old.state singles.old → ⊥) }
     {
         let _len = self.len();
         singles.reserve_taken()?;
@@ -130,34 +141,15 @@ impl Present {
     fn reserve_brought(&mut self, brought: usize) -> Result<(), AllocError>
         ensures state { self.new.state ≡ self.old.state }
         ensures looks { self.new.index.looks ≡ self.old.index.looks }
-        ensures room { OnOk result (HasPlacesFor brought self.new) }
-        ensures refused { OnErr result (HasPlacesFor brought self.old → ⊥) }
+        ensures grows { IsWithin (places_in self.old) (places_in self.new) }
+        ensures room { OnOk result (HasPlacesFor brought (places_in self.new) self.new.state) }
+        ensures refused { OnErr result
+            (HasPlacesFor brought (places_in self.old) self.old.state → ⊥) }
     {
-        let pulses = self.len().saturating_add(brought).min(1 << 22);
-        let records = (2 * pulses + 100).saturating_sub(self.index.len());
-        self.track.reserve(brought)?;
+        let pulses = self.len();
+        let most = pulses.saturating_add(brought).min(1 << 22);
+        let records = most.saturating_sub(self.index.len());
+        self.track.reserve(most + 1 - pulses)?;
         self.index.reserve(records)
-    }
-
-    /// Makes room for a turn of the group of changes, which stay what they are, and a list with
-    /// places for their single changes.
-    pub(crate) fn room_to_gather(
-        &mut self,
-        changes: &mut Vec<Change>,
-    ) -> Result<Vec<Single>, AllocError>
-        ensures state { self.new.state ≡ self.old.state }
-        ensures looks { self.new.index.looks ≡ self.old.index.looks }
-        ensures changes { map delta_of changes.new.items ≡ map delta_of changes.old.items }
-        ensures places { IfOk result (λ places. (vec_len places ≡ 0)
-            × (length (flat_map parts_of changes.new.items) ≤ vec_capacity places)) }
-        ensures room { OnOk result (HasRoomForAll self.new (flat_map parts_of changes.new.items)) }
-    {
-        let Some(count) = count_in(changes) else {
-            return Err(AllocError);
-        };
-        let places = Vec::with_capacity(*changes.allocator(), count)?;
-        reserve_taken_in(changes)?;
-        self.reserve_brought(brought_in(changes))?;
-        Ok(places)
     }
 }

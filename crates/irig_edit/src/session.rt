@@ -45,12 +45,10 @@ pub struct Session {
 }
 
 impl Model for Session {
-    ghost use Rattle.irig_journal.specs.Journal.{FitsState};
     ghost use Rattle.irig_edit.specs.Keeping.{grouped_at};
     ghost use Rattle.irig_edit.specs.Session.{SessionView, session_view};
     ghost use Rattle.irig_edit.specs.Limits.{IsGrouped};
-    ghost use Rattle.irig_edit.specs.Delta.{Fits, turned};
-    ghost use Rattle.irig_edit.specs.Held.{delta_of};
+    ghost use Rattle.irig_edit.specs.Ready.{StepsAreReady};
 
     ghost Value = { SessionView };
 
@@ -59,7 +57,7 @@ impl Model for Session {
         s.last_looks };
 
     ghost invariant = { λ s. IsGrouped (grouped_at s.present.state s.cursor s.journal)
-        × FitsState Fits turned delta_of s.present.state s.journal };
+        × StepsAreReady s.present s.journal };
 }
 
 impl Session {
@@ -104,7 +102,7 @@ impl Session {
         self.change(Change::One(Single::SetMark { letter, time }), cursor)
     }
 
-    /// Undoes the newest step.
+    /// Undoes the newest step. This takes no memory.
     ///
     /// E9 if there is none; E14 if it was made before the open group was begun.
     pub fn undo(&mut self) -> Result<(), Refusal>
@@ -118,12 +116,11 @@ impl Session {
                 Ok(())
             }
             Err(JournalFault::NothingToUndo) => Err(Refusal::NothingToUndo),
-            Err(JournalFault::GroupFloor) => Err(Refusal::GroupFloor),
-            Err(_) => Err(Refusal::OutOfMemory),
+            Err(_) => Err(Refusal::GroupFloor),
         }
     }
 
-    /// Redoes the step that was undone last.
+    /// Redoes the step that was undone last. This takes no memory.
     ///
     /// E10 if there is none.
     pub fn redo(&mut self) -> Result<(), Refusal>
@@ -136,8 +133,7 @@ impl Session {
                 self.last_looks = self.present.looks_since(before);
                 Ok(())
             }
-            Err(JournalFault::NothingToRedo) => Err(Refusal::NothingToRedo),
-            Err(_) => Err(Refusal::OutOfMemory),
+            Err(_) => Err(Refusal::NothingToRedo),
         }
     }
 
@@ -181,7 +177,8 @@ impl Session {
         self.change(Change::One(Single::Splice(splice)), cursor)
     }
 
-    /// Makes a change, as a step that leaves the cursor at a place.
+    /// Makes a change, as a step that leaves the cursor at a place. The memory that its undo and
+    /// its redo take is asked for here.
     pub(crate) fn change(&mut self, change: Change, cursor: usize) -> Result<(), Refusal>
         requires fits { Fits self.old.present.state (delta_of change) }
         requires cursor { cursor ≤

@@ -4,9 +4,12 @@ ghost use Rattle.std.specs.Prelude.{◌≡◌, ◌-◌, ◌≤◌, ◌^◌, OnOk
 ghost use Rattle.std.specs.List.{AllByRecursion, sum_by};
 ghost use Rattle.irig_journal.specs.Turns.{FitAll, left_by, ways_back};
 ghost use Rattle.irig_edit.specs.Held.{single_of};
+ghost use Rattle.irig_edit.specs.Ample.{brought};
 ghost use Rattle.irig_edit.specs.Looks.{RoseWithin, looks_along};
-ghost use Rattle.irig_edit.specs.Room.{HasRoomForAll, TakesIn, brought};
+ghost use Rattle.irig_edit.specs.Places.{KeepsPlaces, places_in};
+ghost use Rattle.irig_edit.specs.Room.{HaveRoom, TakesIn};
 ghost use Rattle.irig_edit.specs.Single.{FitsSingle, held_in, turned_single};
+ghost use Rattle.irig_edit.specs.State.{IsState};
 
 use crate::present::Present;
 use crate::single::Single;
@@ -63,21 +66,24 @@ impl Singles {
         Ok(())
     }
 
-    /// Makes each in turn, and leaves what leads back, in the opposite order.
+    /// Makes each in turn, and leaves what leads back, in the opposite order, with its room.
     pub(crate) fn turn(&mut self, present: &mut Present)
         requires fit { FitAll FitsSingle turned_single present.old.state
             (map single_of self.old) }
-        requires room { HasRoomForAll present.old self.old }
-        ensures state { present.new.state
-            ≡ left_by turned_single present.old.state (map single_of self.old) }
-        ensures back { map single_of self.new
-            ≡ ways_back turned_single present.old.state (map single_of self.old) }
+        requires room { HaveRoom (places_in present.old) present.old.state self.old }
+        ensures turned { (present.new.state
+            ≡ left_by turned_single present.old.state (map single_of self.old))
+            × (map single_of self.new
+            ≡ ways_back turned_single present.old.state (map single_of self.old)) }
         ensures looks { RoseWithin
             (looks_along present.old.state (map single_of self.old))
             present.old.index.looks present.new.index.looks }
+        ensures places { KeepsPlaces present.old present.new }
+        ensures ready { HaveRoom (places_in present.new) present.new.state self.new }
+        ensures known { IsState present.old.state }
     {
+        let _len = present.len();
         for i in 0..self.items.len() {
-            let _len = present.len();
             present.turn_single(&mut self.items[i]);
         }
         self.items.reverse();

@@ -49,6 +49,7 @@ pub(crate) fn turn_splice(track: &mut Track, splice: &mut Splice) -> Span
         × (splice.new.put.items ≡ piece splice.old.at splice.old.count track.old.pulses) }
     ensures places { length track.new.pulses + track.new.spare
         ≡ length track.old.pulses + track.old.spare }
+    ensures takes { splice.new.count ≤ splice.new.taken.capacity }
     ensures size { result.new ≡ length splice.old.put.items }
     ensures spanned { IsSpan result.at result.old result.new track.old.pulses track.new.pulses }
 {

@@ -12,7 +12,7 @@ ghost use Rattle.irig_edit.specs.Saved.{saved_step};
 ghost use Rattle.irig_edit.specs.State.{IsState, State};
 ghost use Rattle.irig_edit.specs.Stops.{HasTaken, IsStop, Told};
 ghost use Rattle.irig_edit.specs.Taken.{AreTaken, CanTake, CanTakeAll};
-ghost use Rattle.irig_edit.specs.Walk.{Fitting, ahead_of, gone_along, gone_on};
+ghost use Rattle.irig_edit.specs.Walk.{ahead_of, gone_along, gone_on};
 
 use crate::change::Change;
 use crate::naming::change_named;
@@ -34,20 +34,17 @@ impl Walk {
     /// Takes steps, the last first, and goes back: they are ahead then.
     fn follow(&mut self, alloc: Global, steps: Steps) -> Result<(), Stop>
         requires ahead { self.old.future ≡ [] }
-        requires fitting { Fitting self.old }
         requires lines { length (steps_lines (reverse steps)) < 2 ^ 63 }
         ensures { MatchResult result
             (λ _. (ds : List (Step Delta)) × (AreTaken self.old.state (reverse steps) ds
-            × ((self.new ≡ ahead_of self.old ds) × Fitting self.new)))
+            × (self.new ≡ ahead_of self.old ds)))
             (λ stop. IsStop self.old.state (reverse steps) stop) }
     {
         let _len = self.len();
         let count = steps.len();
         self.take_all(alloc, steps)?;
-        match self.go_back(count) {
-            Ok(()) => Ok(()),
-            Err(_) => Err(Stop::Memory),
-        }
+        self.go_back(count);
+        Ok(())
     }
 
     /// Takes the steps back of a journal, and goes back; then the steps forward, and goes back.
@@ -84,11 +81,10 @@ impl Walk {
 
     /// Takes steps, the last first.
     fn take_all(&mut self, alloc: Global, mut steps: Steps) -> Result<(), Stop>
-        requires fitting { Fitting self.old }
         requires lines { length (steps_lines (reverse steps)) < 2 ^ 63 }
         ensures { MatchResult result
             (λ _. (ds : List (Step Delta)) × (AreTaken self.old.state (reverse steps) ds
-            × ((self.new ≡ gone_along self.old ds) × Fitting self.new)))
+            × (self.new ≡ gone_along self.old ds)))
             (λ stop. IsStop self.old.state (reverse steps) stop) }
     {
         let mut before = 0;
@@ -104,46 +100,41 @@ impl Walk {
     }
 
     /// Takes this many steps back.
-    fn go_back(&mut self, count: usize) -> Result<(), AllocError>
-        requires fitting { Fitting self.old }
-        ensures back { OnOk result ((h : History State Delta) → (ds : List (Step Delta))
+    fn go_back(&mut self, count: usize)
+        ensures { (h : History State Delta) → (ds : List (Step Delta))
             → IsState h.state → CanTakeAll h.state ds → self.old ≡ gone_along h ds
             → h.future ≡ [] → length ds ≡ count
-            → self.new ≡ ahead_of h ds) }
-        ensures fitting { Fitting self.new }
+            → self.new ≡ ahead_of h ds }
     {
         for _ in 0..count {
-            self.undo()?;
+            self.undo();
         }
-        Ok(())
     }
 
     /// Takes a step, and returns whether it can be taken.
     fn take(&mut self, alloc: Global, step: irig_saved::Step) -> Result<bool, AllocError>
-        requires fitting { Fitting self.old }
         ensures { IfOk result (λ taken. Told taken
             ((d : Step Delta) × ((step ≡ saved_step d) × (CanTake self.old.state d
-            × ((self.new ≡ gone_on self.old d) × Fitting self.new))))
+            × (self.new ≡ gone_on self.old d))))
             ((d : Step Delta) → step ≡ saved_step d → CanTake self.old.state d → ⊥)) }
     {
         let irig_saved::Step { cursor, change } = step;
         match change_named(alloc, change)? {
             None => Ok(false),
-            Some(change) => self.make(change, cursor),
+            Some(change) => self.make(alloc, change, cursor),
         }
     }
 
     /// Makes a change that leads to a cursor, and returns whether both can be.
-    fn make(&mut self, mut change: Change, cursor: u64) -> Result<bool, AllocError>
-        requires fitting { Fitting self.old }
+    fn make(&mut self, alloc: Global, mut change: Change, cursor: u64) -> Result<bool, AllocError>
         ensures { IfOk result (λ made. Told made
             ((Fits self.old.state (delta_of change)
             × (cursor ≤ length (turned self.old.state (delta_of change)).0.pulses))
-            × ((self.new ≡ gone_on self.old (step (delta_of change) cursor)) × Fitting self.new))
+            × (self.new ≡ gone_on self.old (step (delta_of change) cursor)))
             (Fits self.old.state (delta_of change)
             → cursor ≤ length (turned self.old.state (delta_of change)).0.pulses → ⊥)) }
     {
-        if !self.present.can_make(&mut change)? {
+        if !self.can_make(alloc, &mut change)? {
             return Ok(false);
         }
         self.change(change)?;

@@ -1,10 +1,13 @@
 //! Whether a change can be made, whatever it is: a group is made and undone.
 
-ghost use Rattle.std.specs.Prelude.{◌≡◌, ◌↔◌, IfOk, IsTrue, map};
+ghost use Rattle.std.specs.Prelude.{◌≡◌, ◌↔◌, IfOk, IsTrue, map, reverse};
 ghost use Rattle.irig_journal.specs.Turns.{FitAll, backs, left_by};
 ghost use Rattle.irig_edit.specs.Delta.{Fits};
 ghost use Rattle.irig_edit.specs.Held.{delta_of, single_of};
+ghost use Rattle.irig_edit.specs.Places.{IsWithin, places_in};
+ghost use Rattle.irig_edit.specs.Room.{HasRoomFor, HaveRoom};
 ghost use Rattle.irig_edit.specs.Single.{FitsSingle, turned_single};
+ghost use Rattle.irig_edit.specs.State.{IsState};
 
 use crate::change::Change;
 use crate::present::Present;
@@ -20,6 +23,8 @@ impl Present {
         ensures can { IfOk result (λ can. IsTrue can ↔ Fits self.old.state (delta_of change.old)) }
         ensures same { IfOk result (λ can. IsTrue can → (self.new.state ≡ self.old.state)
             × (delta_of change.new ≡ delta_of change.old)) }
+        ensures grows { IfOk result (λ can. IsTrue can
+            → IsWithin (places_in self.old) (places_in self.new)) }
     {
         match change {
             Change::One(single) => Ok(self.allows(single)),
@@ -33,13 +38,14 @@ impl Present {
             ↔ FitAll FitsSingle turned_single self.old.state (map single_of singles.old)) }
         ensures same { IfOk result (λ can. IsTrue can → (self.new.state ≡ self.old.state)
             × (map single_of singles.new ≡ map single_of singles.old)) }
+        ensures grows { IfOk result (λ can. IsTrue can
+            → IsWithin (places_in self.old) (places_in self.new)) }
     {
         let _len = self.len();
         if !self.make_all(singles)? {
             return Ok(false);
         }
         singles.items.reverse();
-        self.room_for_all(singles)?;
         singles.turn(self);
         Ok(true)
     }
@@ -53,6 +59,10 @@ impl Present {
             ≡ left_by turned_single self.old.state (map single_of singles.old))
             × (map single_of singles.new
             ≡ backs turned_single self.old.state (map single_of singles.old))) }
+        ensures grows { IfOk result (λ can. IsTrue can
+            → IsWithin (places_in self.old) (places_in self.new)) }
+        ensures ready { IfOk result (λ can. IsTrue can
+            → HaveRoom (places_in self.new) self.new.state (reverse singles.new)) }
     {
         for i in 0..singles.items.len() {
             if !self.make(&mut singles.items[i])? {
@@ -68,6 +78,11 @@ impl Present {
             IsTrue can ↔ FitsSingle self.old.state (single_of single.old)) }
         ensures made { IfOk result (λ can. IsTrue can → (self.new.state, single_of single.new)
             ≡ turned_single self.old.state (single_of single.old)) }
+        ensures known { IfOk result (λ can. IsTrue can → IsState self.old.state) }
+        ensures grows { IfOk result (λ can. IsTrue can
+            → IsWithin (places_in self.old) (places_in self.new)) }
+        ensures ready { IfOk result (λ can. IsTrue can
+            → HasRoomFor (places_in self.new) self.new.state single.new) }
     {
         if !self.allows(single) {
             return Ok(false);

@@ -1,16 +1,20 @@
 //! Changes of the present state, turned in place.
 
 ghost use Rattle.std.specs.Prelude.{◌≡◌, ℕ, IfErr, IfOk, map};
+ghost use Rattle.irig_journal.specs.Turns.{RoomForAll};
+ghost use Rattle.irig_edit.specs.Ample.{IsAmple};
 ghost use Rattle.irig_edit.specs.Delta.{Delta, Fits, IsAlone, gathered, turned, weight_of};
 ghost use Rattle.irig_edit.specs.Held.{delta_of};
 ghost use Rattle.irig_edit.specs.Laws.Delta.{Fits-turned, IsState-turned, turned-turned};
 ghost use Rattle.irig_edit.specs.Laws.Groups.{Fits-gathered, turned-gathered, weight_of-gathered};
+ghost use Rattle.irig_edit.specs.Laws.Room.{HasRoom-wider};
 ghost use Rattle.irig_edit.specs.Looks.{RoseWithin, looks_of};
 ghost use Rattle.irig_edit.specs.Present.{looks_in, state_in};
+ghost use Rattle.irig_edit.specs.Places.{IsWithin, Places, places_in};
 ghost use Rattle.irig_edit.specs.Room.{HasRoom};
 ghost use Rattle.irig_edit.specs.State.{State, IsState};
 
-use crate::change::{Change, joined};
+use crate::change::{Change, count_in, joined};
 use crate::present::Present;
 use irig_journal::Reversible;
 use std::alloc::AllocError;
@@ -24,11 +28,17 @@ impl Reversible for Present {
 
     ghost Tally = { ℕ };
 
+    ghost Places = { Places };
+
     ghost content = { state_in };
 
     ghost delta = { delta_of };
 
     ghost tally = { looks_in };
+
+    ghost places = { places_in };
+
+    ghost is_within = { IsWithin };
 
     ghost is_state = { IsState };
 
@@ -42,6 +52,8 @@ impl Reversible for Present {
 
     ghost has_room = { HasRoom };
 
+    ghost is_ample = { IsAmple };
+
     ghost weighs = { weight_of };
 
     ghost gathered = { gathered };
@@ -53,24 +65,26 @@ impl Reversible for Present {
         }
     }
 
-    fn room(&mut self, change: &mut Change) -> Result<(), AllocError> {
+    fn prepare(&mut self, change: &mut Change) -> Result<(), AllocError> {
         match change {
             Change::One(single) => self.room_for(single),
             Change::Group(singles) => self.room_for_all(singles),
         }
     }
 
-    fn gather(&mut self, mut changes: Vec<Change>) -> Result<Change, Vec<Change>>
-        ensures known { IsState self.old.state }
-        ensures state { self.new.state ≡ self.old.state }
-        ensures tally { self.new.index.looks ≡ self.old.index.looks }
+    fn gather(&self, changes: Vec<Change>) -> Result<Change, Vec<Change>>
+        ensures known { IsState self.now.state }
         ensures one { IfOk result (λ one. delta_of one ≡ gathered (map delta_of changes.items)) }
-        ensures room { IfOk result (λ one. HasRoom self.new one) }
-        ensures refused { IfErr result (λ list.
-            map delta_of list.items ≡ map delta_of changes.items) }
+        ensures room { IfOk result (λ one. (p : Places)
+            → RoomForAll turned delta_of (HasRoom p) self.now.state changes.items
+            → HasRoom p self.now.state one) }
+        ensures refused { IfErr result (λ list. list.items ≡ changes.items) }
     {
         let _len = self.len();
-        match self.room_to_gather(&mut changes) {
+        let Some(count) = count_in(&changes) else {
+            return Err(changes);
+        };
+        match Vec::with_capacity(*changes.allocator(), count) {
             Ok(places) => Ok(Change::Group(joined(changes, places))),
             Err(_) => Err(changes),
         }
@@ -98,4 +112,6 @@ impl Reversible for Present {
     ghost gathered_turns = { λ s ds _ h. turned-gathered s ds };
 
     ghost gathered_holds = { λ ds. weight_of-gathered ds };
+
+    ghost wider = { λ a b s c h room. HasRoom-wider a b s c h room };
 }

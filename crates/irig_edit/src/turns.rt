@@ -1,17 +1,17 @@
 //! Single changes turned in place, with the frames repaired at their places.
 
-ghost use Rattle.std.specs.Prelude.{◌≡◌, ◌≤◌, ◌<◌, ◌+◌, ◌-◌, neg_ℤ, length, min};
+ghost use Rattle.std.specs.Prelude.{◌≡◌, ◌≤◌, ◌<◌, neg_ℤ, length};
 ghost use Rattle.irig_track.specs.Edges.{edges_of};
 ghost use Rattle.irig_track.specs.Shifts.{CanShift, count_to, shifted};
-ghost use Rattle.irig_track.specs.Splices.{CanSplice, piece, risen_by, spliced};
+ghost use Rattle.irig_track.specs.Splices.{CanSplice, piece, spliced};
 ghost use Rattle.irig_track.specs.Toggles.{CanToggle, toggled};
-ghost use Rattle.irig_index.specs.Frames.{frames};
 ghost use Rattle.irig_edit.specs.Held.{single_of};
 ghost use Rattle.irig_edit.specs.Looks.{Rose, RoseWithin, looks_by, standing_in, window};
 ghost use Rattle.irig_edit.specs.Marks.{AllMayMove, marks_moved};
-ghost use Rattle.irig_edit.specs.Room.{HasRoomFor, KeepsPlaces};
+ghost use Rattle.irig_edit.specs.Places.{HoldsState, KeepsPlaces, places_in};
+ghost use Rattle.irig_edit.specs.Room.{HasRoomFor, TakesIn};
 ghost use Rattle.irig_edit.specs.Single.{FitsSingle, pulses_of, turned_single};
-ghost use Rattle.irig_edit.specs.State.{frames_of, state, with_pulses};
+ghost use Rattle.irig_edit.specs.State.{IsState, state, with_pulses};
 
 use crate::present::Present;
 use crate::single::{Shift, Single, turn_mark, turn_shift, turn_toggle};
@@ -21,17 +21,33 @@ use std::mem;
 
 /// The turns that move pulses or frames.
 impl Present {
-    /// Turns a single change. This takes no memory.
+    /// Turns a single change, which then has room for its turn back. This takes no memory.
     pub(crate) fn turn_single(&mut self, single: &mut Single)
         requires fits { FitsSingle self.old.state (single_of single.old) }
-        requires room { HasRoomFor self.old single.old }
+        requires room { HasRoomFor (places_in self.old) self.old.state single.old }
+        ensures known { IsState self.old.state }
         ensures turned { (self.new.state, single_of single.new)
             ≡ turned_single self.old.state (single_of single.old) }
         ensures looks { RoseWithin (looks_by (single_of single.old) self.new.state.pulses)
             self.old.index.looks self.new.index.looks }
         ensures places { KeepsPlaces self.old self.new }
+        ensures back { HasRoomFor (places_in self.new) self.new.state single.new }
     {
         let _len = self.len();
+        self.turn_kind(single);
+    }
+
+    /// Turns a single change by its kind.
+    fn turn_kind(&mut self, single: &mut Single)
+        requires fits { FitsSingle self.old.state (single_of single.old) }
+        requires room { HasRoomFor (places_in self.old) self.old.state single.old }
+        ensures turned { (self.new.state, single_of single.new)
+            ≡ turned_single self.old.state (single_of single.old) }
+        ensures looks { RoseWithin (looks_by (single_of single.old) self.new.state.pulses)
+            self.old.index.looks self.new.index.looks }
+        ensures places { KeepsPlaces self.old self.new }
+        ensures takes { TakesIn single.new }
+    {
         match single {
             Single::Splice(splice) => self.splice(splice),
             Single::Toggle { a, b } => self.toggle(*a, *b),
@@ -45,9 +61,9 @@ impl Present {
     fn splice(&mut self, splice: &mut Splice)
         requires can { CanSplice self.old.state.micros splice.old.at splice.old.count
             splice.old.put.items self.old.state.pulses }
-        requires put { length splice.old.put.items ≤ self.old.spare + splice.old.count }
         requires taken { splice.old.count ≤ splice.old.taken.capacity }
-        requires records { length splice.old.put.items + 100 ≤ self.old.index.room }
+        requires holds { HoldsState (places_in self.old) 0 (with_pulses (spliced splice.old.at
+            splice.old.count splice.old.put.items self.old.state.pulses) self.old.state) }
         ensures state { self.new.state ≡ with_pulses (spliced splice.old.at splice.old.count
             splice.old.put.items self.old.state.pulses) self.old.state }
         ensures back { (splice.new.at ≡ splice.old.at)
@@ -56,6 +72,7 @@ impl Present {
         ensures looks { RoseWithin (window (length splice.old.put.items)) self.old.index.looks
             self.new.index.looks }
         ensures places { KeepsPlaces self.old self.new }
+        ensures takes { splice.new.count ≤ splice.new.taken.capacity }
     {
         let span = turn_splice(&mut self.track, splice);
         self.index.repair(&mut self.track.lens(), self.format, span);
@@ -64,10 +81,9 @@ impl Present {
     /// Turns a toggle, which leads back itself.
     fn toggle(&mut self, a: u64, b: u64)
         requires can { CanToggle self.old.state.micros a b self.old.state.pulses }
-        requires spare { 1 ≤ self.old.spare }
-        requires records { min (risen_by b self.old.state.pulses
-            - risen_by a self.old.state.pulses + 102) (length self.old.state.pulses + 101)
-            ≤ self.old.index.room }
+        requires before { HoldsState (places_in self.old) 1 self.old.state }
+        requires holds { HoldsState (places_in self.old) 1 (with_pulses
+            (pulses_of (toggled a b (edges_of self.old.state.pulses))) self.old.state) }
         ensures state { self.new.state ≡ with_pulses
             (pulses_of (toggled a b (edges_of self.old.state.pulses))) self.old.state }
         ensures looks { RoseWithin (window (standing_in a b self.new.state.pulses))
@@ -84,7 +100,10 @@ impl Present {
             self.old.state.pulses }
         requires marks { AllMayMove self.old.state.micros shift.old.by shift.old.letters
             self.old.state.marks }
-        requires records { count_to shift.old.i shift.old.j + 100 ≤ self.old.index.room }
+        requires holds { HoldsState (places_in self.old) 0 (state self.old.state.micros
+            (shifted shift.old.i shift.old.j shift.old.by self.old.state.pulses)
+            self.old.state.format
+            (marks_moved shift.old.by shift.old.letters self.old.state.marks)) }
         ensures state { self.new.state ≡ state self.old.state.micros
             (shifted shift.old.i shift.old.j shift.old.by self.old.state.pulses)
             self.old.state.format
@@ -102,8 +121,8 @@ impl Present {
 
     /// Turns the setting of a format, after which all frames are read again.
     fn set_format(&mut self, format: &mut Format)
-        requires records { length (frames format.old self.old.state.pulses)
-            - length (frames_of self.old.state) ≤ self.old.index.room }
+        requires holds { HoldsState (places_in self.old) 0 (state self.old.state.micros
+            self.old.state.pulses format.old self.old.state.marks) }
         ensures state { self.new.state ≡ state self.old.state.micros self.old.state.pulses
             format.old self.old.state.marks }
         ensures back { format.new ≡ self.old.state.format }

@@ -1,6 +1,6 @@
 //! A state on its way along steps.
 
-ghost use Rattle.std.specs.Prelude.{◌≡◌, ◌≤◌, Some, None, OnOk, [], length};
+ghost use Rattle.std.specs.Prelude.{◌≡◌, ◌≢◌, ◌≤◌, ◌↔◌, IfOk, IsTrue, Some, None, OnOk, [], length};
 ghost use Rattle.irig_journal.specs.Groups.{over};
 ghost use Rattle.irig_journal.specs.History.{stepped_back, turned_round};
 ghost use Rattle.irig_edit.specs.Delta.{Fits, turned};
@@ -9,7 +9,7 @@ ghost use Rattle.irig_edit.specs.Keeping.{machine};
 ghost use Rattle.irig_edit.specs.Session.{session_view};
 ghost use Rattle.irig_edit.specs.State.{IsState};
 ghost use Rattle.irig_edit.specs.Taken.{CanTakeAll};
-ghost use Rattle.irig_edit.specs.Walk.{Fitting, changed, walk};
+ghost use Rattle.irig_edit.specs.Walk.{changed, walk};
 
 use crate::change::Change;
 use crate::present::Present;
@@ -34,13 +34,14 @@ impl Model for Walk {
     ghost use Rattle.irig_journal.specs.Journal.{history_of};
     ghost use Rattle.irig_edit.specs.Delta.{Delta};
     ghost use Rattle.irig_edit.specs.Held.{delta_of};
+    ghost use Rattle.irig_edit.specs.Ready.{StepsAreReady};
     ghost use Rattle.irig_edit.specs.State.{State};
 
     ghost Value = { History State Delta };
 
     ghost view = { λ w. history_of delta_of w.present.state w.cursor w.journal };
 
-    ghost invariant = { λ w. w.journal.floor ≡ None };
+    ghost invariant = { λ w. (w.journal.floor ≡ None) × StepsAreReady w.present w.journal };
 }
 
 impl Walk {
@@ -63,12 +64,29 @@ impl Walk {
         self.present.len()
     }
 
+    /// Whether a change can be made. If not, the state may be another, so the steps are dropped.
+    pub(crate) fn can_make(
+        &mut self,
+        alloc: Global,
+        change: &mut Change,
+    ) -> Result<bool, AllocError>
+        ensures can { IfOk result (λ can. IsTrue can ↔ Fits self.old.state (delta_of change.old)) }
+        ensures same { IfOk result (λ can. IsTrue can → (self.new ≡ self.old)
+            × (delta_of change.new ≡ delta_of change.old)) }
+    {
+        match self.present.can_make(change) {
+            Ok(true) => Ok(true),
+            other => {
+                self.journal = Journal::new(alloc);
+                other
+            }
+        }
+    }
+
     /// Makes a change, and stays at its cursor.
     pub(crate) fn change(&mut self, change: Change) -> Result<(), AllocError>
-        requires fits { Fits self.old.state (delta_of change) }
-        requires steps { Fitting self.old }
-        ensures changed { OnOk result (self.new ≡ changed self.old (delta_of change)) }
-        ensures steps { Fitting self.new }
+        requires { Fits self.old.state (delta_of change) }
+        ensures { OnOk result (self.new ≡ changed self.old (delta_of change)) }
     {
         match self.journal.record(&mut self.present, change, self.cursor) {
             Ok(()) => Ok(()),
@@ -83,16 +101,12 @@ impl Walk {
         self.cursor = cursor;
     }
 
-    /// Undoes the nearest step.
-    pub(crate) fn undo(&mut self) -> Result<(), AllocError>
-        requires steps { Fitting self.old }
-        ensures back { OnOk result (stepped_back turned self.old ≡ Some self.new) }
-        ensures steps { Fitting self.new }
+    /// Undoes the nearest step, if there is one. This takes no memory.
+    pub(crate) fn undo(&mut self)
+        ensures { self.old.past ≢ [] → stepped_back turned self.old ≡ Some self.new }
     {
-        match self.journal.undo(&mut self.present, &mut self.cursor) {
-            Ok(()) => Ok(()),
-            Err(_) => Err(AllocError),
-        }
+        // It is refused only if there is no step, as no group is open.
+        let _undone = self.journal.undo(&mut self.present, &mut self.cursor);
     }
 
     /// Swaps past and future.
@@ -104,7 +118,6 @@ impl Walk {
 
     /// The session, which shows no looks yet.
     pub(crate) fn into_session(self, alloc: Global) -> Session
-        requires fitting { Fitting self }
         requires cursor { self.cursor ≤ length self.state.pulses }
         requires steps { CanTakeAll self.state self.past × CanTakeAll self.state self.future }
         ensures { result ≡ session_view (over None (machine self)) result.looks 0 }

@@ -17,6 +17,7 @@ pub mod MovedPulses
 pub mod Exchanges
 pub mod Turns
 pub mod Spans
+pub mod ToggleSpans
 -- Laws of edits for the crates above.
 pub mod Laws
 pub mod Inverses

@@ -11,7 +11,7 @@ returns-clause-same c =
     let s = c.session.inside in
     let h = history_of delta_of s.present.state s.cursor s.journal in
     let m = c.session.invariant.0.machine in
-    let fits = c.session.invariant.1 in
+    let fits = c.session.invariant.1.0 in
     subst (λ (v : SessionView). IsShort v → GoesOn v) c.session.view_is
     (goes_on h m.present.state m.present.cursor (can_go_back h.state h.past fits.0 m.past) (can_go_on h.state h.future fits.1 m.future))
 
@@ -20,6 +20,6 @@ returns-clause-opened c =
     let s = c.session.inside in
     let h = history_of delta_of s.present.state s.cursor s.journal in
     let m = c.session.invariant.0.machine in
-    let fits = c.session.invariant.1 in
+    let fits = c.session.invariant.1.0 in
     subst (λ (v : SessionView). IsShort v → IsAlwaysOpened v) c.session.view_is
     (always_opened h m.present.state m.present.cursor (can_go_back h.state h.past fits.0 m.past) (can_go_on h.state h.future fits.1 m.future))

@@ -1,9 +1,11 @@
-use Rattle.std.proofs.Common.{rules, ◌≡◌, ap, length, ◌∙◌, arith}
-use Rattle.irig_index.specs.Index.{WereFrames}
-use Rattle.irig_index.proofs.FewFrames.{frames_few_after}
+use Rattle.std.proofs.Common.{rules, ◌≡◌, List, ap, length, sym, subst, ◌∙◌, arith}
 use Rattle.irig_index.specs.Frames.{frames}
 use Rattle.irig_track.specs.Looks.{LensView}
-use Rattle.irig_edit.specs.Present.{state_in}
+use Rattle.irig_track.specs.Shifts.{shifted}
+use Rattle.irig_track.specs.declared.pulse.Pulse.{Pulse}
+use Rattle.irig_edit.specs.Marks.{marks_moved}
+use Rattle.irig_edit.specs.Places.{HoldsState, places_in}
+use Rattle.irig_edit.specs.Present.{PresentView, state_in}
 use Rattle.irig_edit.specs.State.{state}
 use Rattle.irig_edit.proofs.Turned.{shift_turned}
 use Rattle.irig_edit.proofs.present.Present.shift.Goals as goal
@@ -23,15 +25,9 @@ invariant_of-self c =
 pub repair-requires-clause-room : goal.repair-requires-clause-room
 repair-requires-clause-room c =
     let p = c.self.inside in
-    let span = c.turn_shift-span.result in
-    let new = c.turn_shift-span.new.track in
-    let were : WereFrames p.format span.at span.old span.new p.index.records p.track.micros new.pulses = record {
-      former = p.track.pulses;
-      track = search rules;
-      frames = c.self.invariant.1;
-      span = c.turn_shift-span.ensures.spanned;
-    } in
+    let x = c.args.shift.now in
+    let holds = subst (λ (v : PresentView). HoldsState (places_in v) 0
+    (state v.state.micros (shifted x.i x.j x.by v.state.pulses) v.state.format (marks_moved x.by x.letters v.state.marks))) (sym c.self.view_is) c.requires.holds in
     let told = ap (λ (l : LensView). length (frames p.format l.track.pulses)) c.lens.ensures in
-    let room = ap (λ v. v.index.room) c.self.view_is in
-    let few = frames_few_after p.format span.at span.old span.new p.track.micros p.index.records new.pulses were in
-    omega (arith, few, told, room, c.requires.records, c.turn_shift-span.ensures.size)
+    let made = ap (λ (ps : List Pulse). length (frames p.format ps)) c.turn_shift-span.ensures.track.1 in
+    omega (arith, told, made, holds.records, ap length c.self.invariant.1)

@@ -1,11 +1,14 @@
-use Rattle.std.proofs.Common.{rules, ap, length, ◌∙◌, arith}
-use Rattle.irig_index.specs.Index.{WereFrames}
-use Rattle.irig_index.proofs.FewFrames.{frames_few_after}
+use Rattle.std.proofs.Common.{◌≡◌, List, ap, length, sym, subst, ◌∙◌, arith}
 use Rattle.irig_index.specs.Frames.{frames}
-use Rattle.irig_track.specs.Splices.{risen_by}
+use Rattle.irig_track.specs.Edges.{edges_of}
 use Rattle.irig_track.specs.Looks.{LensView}
-use Rattle.irig_edit.specs.Present.{state_in}
-use Rattle.irig_edit.specs.State.{state}
+use Rattle.irig_track.specs.Toggles.{toggled}
+use Rattle.irig_track.specs.declared.pulse.Pulse.{Pulse}
+use Rattle.irig_edit.specs.Laws.Edges.{pulses_of-edges_of}
+use Rattle.irig_edit.specs.Places.{HoldsState, places_in}
+use Rattle.irig_edit.specs.Present.{PresentView, state_in}
+use Rattle.irig_edit.specs.Single.{pulses_of}
+use Rattle.irig_edit.specs.State.{state, with_pulses}
 use Rattle.irig_edit.proofs.Turned.{toggle_turned}
 use Rattle.irig_edit.proofs.present.Present.toggle.Goals as goal
 
@@ -24,18 +27,18 @@ returns-clause-state c =
     c.turn_toggle-span.new.track.micros c.turn_toggle-span.new.track.pulses (ap state_in c.self.view_is) c.self.invariant.0 c.requires.can
     c.turn_toggle-span.ensures.micros c.turn_toggle-span.ensures.pulses).1
 
+pub turn_toggle-span-requires-clause-spare : goal.turn_toggle-span-requires-clause-spare
+turn_toggle-span-requires-clause-spare c =
+    let before = subst (λ (v : PresentView). HoldsState (places_in v) 1 v.state) (sym c.self.view_is) c.requires.before in
+    omega (arith, before.pulses)
+
 pub repair-requires-clause-room : goal.repair-requires-clause-room
 repair-requires-clause-room c =
     let p = c.self.inside in
-    let span = c.turn_toggle-span.result in
-    let new = c.turn_toggle-span.new.track in
-    let were : WereFrames p.format span.at span.old span.new p.index.records p.track.micros new.pulses = record {
-      former = p.track.pulses;
-      track = search rules;
-      frames = c.self.invariant.1;
-      span = c.turn_toggle-span.ensures.spanned;
-    } in
+    let a = c.args.a in
+    let b = c.args.b in
+    let new = c.turn_toggle-span.new.track.pulses in
+    let holds = subst (λ (v : PresentView). HoldsState (places_in v) 1 (with_pulses (pulses_of (toggled a b (edges_of v.state.pulses))) v.state)) (sym c.self.view_is) c.requires.holds in
     let told = ap (λ (l : LensView). length (frames p.format l.track.pulses)) c.lens.ensures in
-    let room = ap (λ v. v.index.room) c.self.view_is in
-    let few = frames_few_after p.format span.at span.old span.new p.track.micros p.index.records new.pulses were in
-    omega (arith, few, told, room, c.requires.records, c.turn_toggle-span.ensures.few, ap (λ v. length v.state.pulses) c.self.view_is, ap (λ v. risen_by c.args.b v.state.pulses) c.self.view_is, ap (λ v. risen_by c.args.a v.state.pulses) c.self.view_is)
+    let pulses : new ≡ pulses_of (toggled a b (edges_of p.track.pulses)) = sym (pulses_of-edges_of new) ∙ ap pulses_of c.turn_toggle-span.ensures.pulses in
+    omega (arith, told, ap (λ (ps : List Pulse). length (frames p.format ps)) pulses, holds.records, ap length c.self.invariant.1)

@@ -1,21 +1,21 @@
-use Rattle.std.proofs.Common.{rules, IsErrOf, IsNone, Option, Ok, Bool, not, [], ◌∷◌, refl, sym, subst, ℕ, ◌-◌, ap, ◌∙◌, arith, ◌<◌, length, inl, inr}
+use Rattle.std.proofs.Common.{rules, IsErr, IsNone, Option, Ok, Bool, not, [], ◌∷◌, refl, sym, subst, ℕ, ◌-◌, ap, ◌∙◌, arith}
 use Rattle.irig_journal.specs.Groups.{Grouped}
 use Rattle.irig_journal.specs.Journal.{past_of, future_of}
-use Rattle.irig_journal.specs.declared.fault.JournalFault.TheVariants as fault
 use Rattle.irig_journal.specs.declared.opening.Opening.{Opening}
 use Rattle.irig_edit.specs.Calls.Call.{Abort}
 use Rattle.irig_edit.specs.Held.{delta_of}
-use Rattle.irig_edit.specs.Keeping.{grouped_at, machine, machine_at}
+use Rattle.irig_edit.specs.Keeping.{grouped_at, machine_at}
 use Rattle.irig_edit.specs.Kept.{Kept, looks_back}
 use Rattle.irig_edit.specs.Limits.{IsGrouped}
 use Rattle.irig_edit.specs.Looks.{Within}
 use Rattle.irig_edit.specs.Machine.{Steps}
+use Rattle.irig_edit.specs.Present.{PresentView}
 use Rattle.irig_edit.specs.Refusals.{first_of, refusal_of}
-use Rattle.irig_edit.specs.Session.{HasMade, SessionView, grouped_in, machine_in, made_since}
+use Rattle.irig_edit.specs.Session.{SessionView, grouped_in, machine_in, made_since}
 use Rattle.irig_edit.specs.declared.refusal.Refusal.TheVariants.{NoGroup}
-use Rattle.irig_edit.proofs.Aborts.{has_made, IsGrouped-aborted, aborted_rose, grouped-aborted}
-use Rattle.irig_edit.proofs.Endings.{is_open-none, is_open-not_none}
-use Rattle.irig_edit.proofs.Floors.{over_opening}
+use Rattle.irig_edit.proofs.Aborts.{IsGrouped-aborted, aborted_rose, grouped-aborted}
+use Rattle.irig_edit.proofs.Endings.{is_open-none}
+use Rattle.irig_edit.proofs.Floors.{same_grouped}
 use Rattle.irig_edit.proofs.LooksOfSteps.{never_fell, risen_within}
 use Rattle.irig_edit.proofs.MachineSteps.{Steps-aborted}
 use Rattle.irig_edit.proofs.session.Session.abort.Goals as goal
@@ -26,17 +26,12 @@ invariant_of-self c =
     let t = c.abort.new in
     let step = grouped-aborted s.present.state t.state.state s.cursor t.cursor (past_of delta_of s.journal) (future_of delta_of s.journal)
     (past_of delta_of t.self) (future_of delta_of t.self) s.journal.floor t.self.floor c.in-Ok.ensures.grouped c.in-Ok.ensures.steps.1 c.in-Ok.ensures.steps.0 in
-    (IsGrouped-aborted (grouped_at s.present.state s.cursor s.journal) (grouped_at t.state.state t.cursor t.self) c.self.invariant.0 step, c.abort.ensures.fits)
-
-pub invariant_of-self-in-Err-NoGroup : goal.invariant_of-self-in-Err-NoGroup
-invariant_of-self-in-Err-NoGroup c =
-    let same = c.in-Err-NoGroup.ensures.err in
-    (subst (λ (g : Grouped Kept). IsGrouped g) (λ k. over_opening (sym same.2 k) (machine (sym same.0 k))) c.self.invariant.0, c.abort.ensures.fits)
+    (IsGrouped-aborted (grouped_at s.present.state s.cursor s.journal) (grouped_at t.state.state t.cursor t.self) c.self.invariant.0 step, c.abort.ensures.ready)
 
 pub invariant_of-self-in-Err : goal.invariant_of-self-in-Err
 invariant_of-self-in-Err c =
     let same = c.in-Err.ensures.err in
-    (subst (λ (g : Grouped Kept). IsGrouped g) (λ k. over_opening (sym same.2 k) (machine (sym same.0 k))) c.self.invariant.0, c.abort.ensures.fits)
+    (subst (λ (g : Grouped Kept). IsGrouped g) (sym (same_grouped _ _ _ _ _ _ same.2 same.3 same.1)) c.self.invariant.0, c.abort.ensures.ready)
 
 pub returns-in-Ok-clause-step : goal.returns-in-Ok-clause-step
 returns-in-Ok-clause-step c =
@@ -53,7 +48,7 @@ returns-in-Ok-clause-looks c =
     let old = s.present.index.looks in
     let new = c.abort.new.state.index.looks in
     let rise = c.looks_since-self-inside.result in
-    let shut : IsErrOf c.abort.result fault.NoGroup → ⊥ = search rules in
+    let shut : IsErr c.abort.result → ⊥ = search rules in
     let rose = aborted_rose s.present.state s.cursor (past_of delta_of s.journal) (future_of delta_of s.journal) s.journal.floor old new c.in-Ok.ensures.once
     (λ none. shut (c.abort.ensures.none.1 (subst (λ (f : Option Opening). IsNone f) (sym none) refl))) in
     let most = looks_back (made_since (grouped_at s.present.state s.cursor s.journal).floor (machine_at s.present.state s.cursor s.journal)) in (
@@ -63,40 +58,20 @@ returns-in-Ok-clause-looks c =
           (risen_within most old new c.looks-before.result rise rose c.looks-before.ensures c.looks_since-self-inside.ensures),
     )
 
-pub returns-in-Err-NoGroup : goal.returns-in-Err-NoGroup
-returns-in-Err-NoGroup c =
-    let s = c.self.inside in
-    let none : IsErrOf c.abort.result fault.NoGroup = search rules in
-    let shut = is_open-none (machine_at s.present.state s.cursor s.journal) s.journal.floor (c.abort.ensures.none.0 none) in
-    let refused = ap (λ (test : Bool). first_of ((not test, NoGroup) ∷ [])) shut in
-    let same = c.in-Err-NoGroup.ensures.err in
-    record {
-      step = (
-        ap (λ (v : SessionView). refusal_of Abort (grouped_in v)) (sym c.self.view_is) ∙ refused,
-        (λ k. over_opening (same.2 k) (machine (same.0 k))) ∙ ap grouped_in c.self.view_is,
-      );
-      looks = (same.1 ∙ ap (λ (v : SessionView). v.looks) c.self.view_is, ap (λ (v : SessionView). v.last_looks) c.self.view_is);
-      memory = λ is. absurd (cc);
-    }
-
 pub returns-in-Err : goal.returns-in-Err
 returns-in-Err c =
     let s = c.self.inside in
-    let some : IsErrOf c.abort.result fault.NoGroup → ⊥ = search rules in
-    let open_now = is_open-not_none (machine_at s.present.state s.cursor s.journal) s.journal.floor (λ none. some (c.abort.ensures.none.1 none)) in
-    let none = ap (λ (test : Bool). first_of ((not test, NoGroup) ∷ [])) open_now in
+    let failed : IsErr c.abort.result = search rules in
+    let shut = is_open-none (machine_at s.present.state s.cursor s.journal) s.journal.floor (c.abort.ensures.none.0 failed) in
+    let refused = ap (λ (test : Bool). first_of ((not test, NoGroup) ∷ [])) shut in
     let same = c.in-Err.ensures.err in
     record {
       step = (
-        ap (λ (v : SessionView). refusal_of Abort (grouped_in v)) (sym c.self.view_is) ∙ none,
-        (λ k. over_opening (same.2 k) (machine (same.0 k))) ∙ ap grouped_in c.self.view_is,
-        tt,
+        ap (λ (v : SessionView). refusal_of Abort (grouped_in v)) (sym c.self.view_is) ∙ refused,
+        same_grouped _ _ _ _ _ _ same.2 same.3 same.1 ∙ ap grouped_in c.self.view_is,
       );
-      looks = (same.1 ∙ ap (λ (v : SessionView). v.looks) c.self.view_is, ap (λ (v : SessionView). v.last_looks) c.self.view_is);
-      memory = λ is. elim c.in-Err.ensures.memory as (λ _. HasMade 1 c.args.self.now) [
-        | inl none ↦ absurd (some (c.in-Err.is ∙ none))
-        | inr out ↦
-            subst (λ (v : SessionView). HasMade 1 v) c.self.view_is
-            (has_made 1 (λ o. o.steps < length (past_of delta_of s.journal)) s.present.state s.cursor (past_of delta_of s.journal) (future_of delta_of s.journal) s.journal.floor (λ o few. omega (arith, few)) out.1)
-      ];
+      looks = (
+        ap (λ (p : PresentView). p.index.looks) same.2 ∙ ap (λ (v : SessionView). v.looks) c.self.view_is,
+        ap (λ (v : SessionView). v.last_looks) c.self.view_is,
+      );
     }

@@ -1,12 +1,12 @@
 use Rattle.std.proofs.Common.{rules, IsErr, Ok, Bool, [], ◌∷◌, sym, subst, ap, ◌∙◌}
-use Rattle.irig_journal.specs.History.{FitInTurn, steps_of}
-use Rattle.irig_journal.specs.Journal.{FitsState, Steps as Journaled, past_of, future_of}
+use Rattle.irig_journal.specs.History.{steps_of}
+use Rattle.irig_journal.specs.Journal.{Steps as Journaled, past_of, future_of}
 use Rattle.irig_edit.specs.Calls.Call.{Begin}
-use Rattle.irig_edit.specs.Delta.{Fits, turned}
 use Rattle.irig_edit.specs.Held.{delta_of}
 use Rattle.irig_edit.specs.Keeping.{grouped_at, machine_at}
 use Rattle.irig_edit.specs.Limits.{IsGrouped}
 use Rattle.irig_edit.specs.Machine.{Steps}
+use Rattle.irig_edit.specs.Ready.{StepsAreReady}
 use Rattle.irig_edit.specs.Refusals.{first_of, refusal_of}
 use Rattle.irig_edit.specs.Session.{SessionView, grouped_in}
 use Rattle.irig_edit.specs.declared.change.Change.{Change}
@@ -14,6 +14,7 @@ use Rattle.irig_edit.specs.declared.refusal.Refusal.TheVariants.{GroupOpen}
 use Rattle.irig_edit.proofs.Endings.{grouped-began, is_open-some}
 use Rattle.irig_edit.proofs.Floors.{IsGrouped-begun}
 use Rattle.irig_edit.proofs.MachineSteps.{Steps-begun}
+use Rattle.irig_edit.proofs.Readiness.{ready_same}
 use Rattle.irig_edit.proofs.session.Session.begin.Goals.{in-Ok, in-Err}
 use Rattle.irig_edit.proofs.session.Session.begin.Goals as goal
 
@@ -24,16 +25,14 @@ invariant_of-self c =
     let kept = c.begin.ensures.steps in
     let past = ap (steps_of delta_of) kept.0 in
     let future = ap (steps_of delta_of) kept.1 in
-    let fits : FitsState Fits turned delta_of s.present.state t = (
-      subst (FitInTurn Fits turned s.present.state) (sym past) c.self.invariant.1.0,
-      subst (FitInTurn Fits turned s.present.state) (sym future) c.self.invariant.1.1,
-    ) in
+    let ready : StepsAreReady s.present t =
+    ready_same s.present s.journal t kept.0 kept.1 c.self.invariant.1 in
     elim c.match-begin.branch [
       | in-Ok w ↦
           let step = grouped-began s.present.state s.cursor (past_of delta_of s.journal) (future_of delta_of s.journal) (past_of delta_of t) (future_of delta_of t)
           s.journal.floor t.floor (w.in-Ok.ensures.grouped s.present.state) past future in
-          (IsGrouped-begun (grouped_at s.present.state s.cursor s.journal) (grouped_at s.present.state s.cursor t) c.self.invariant.0 step, fits)
-      | in-Err w ↦ (subst (λ (j : Journaled Change). IsGrouped (grouped_at s.present.state s.cursor j)) (sym w.in-Err.ensures.err.1) c.self.invariant.0, fits)
+          (IsGrouped-begun (grouped_at s.present.state s.cursor s.journal) (grouped_at s.present.state s.cursor t) c.self.invariant.0 step, ready)
+      | in-Err w ↦ (subst (λ (j : Journaled Change). IsGrouped (grouped_at s.present.state s.cursor j)) (sym w.in-Err.ensures.err.1) c.self.invariant.0, ready)
     ]
 
 pub returns-clause-step : goal.returns-clause-step

@@ -1,5 +1,6 @@
 use Rattle.std.proofs.Common.{◌≡◌, Ok, ◌≤◌, length, ap, sym, ◌∙◌, subst, ℕ, ◌-◌, arith}
 use Rattle.irig_journal.specs.Groups.{Grouped, recorded_over}
+use Rattle.irig_journal.specs.History.{steps_of}
 use Rattle.irig_journal.specs.Journal.{past_of, future_of}
 use Rattle.irig_journal.specs.Machine.{Machine}
 use Rattle.irig_journal.specs.Machine as journal
@@ -35,7 +36,7 @@ invariant_of-self c =
     let made = machine-made s c.record.new.state.state d c.self.inside.cursor c.args.cursor (past_of delta_of c.self.inside.journal) (future_of delta_of c.self.inside.journal)
     (past_of delta_of c.record.new.self) (future_of delta_of c.record.new.self) is fits stands c.in-Ok.ensures.steps.0 c.in-Ok.ensures.steps.1 in
     let grouped = grouped-recorded (machine_at c.self.inside.present.state c.self.inside.cursor c.self.inside.journal) (machine (history c.record.new.state.state c.args.cursor (past_of delta_of c.record.new.self) (future_of delta_of c.record.new.self))) (kept (turned s d).0 c.args.cursor (exchange_of s d)) c.self.inside.journal.floor c.record.new.self.floor made c.in-Ok.ensures.steps.2 c.self.invariant.0.floor in
-    (IsGrouped-recorded (turned s d).0 c.args.cursor (exchange_of s d) c.self.invariant.0 (IsState-turned s d is fits) within grouped, c.record.ensures.fits)
+    (IsGrouped-recorded (turned s d).0 c.args.cursor (exchange_of s d) c.self.invariant.0 (IsState-turned s d is fits) within grouped, c.record.ensures.ready)
 
 pub invariant_of-self-in-Err : goal.invariant_of-self-in-Err
 invariant_of-self-in-Err c =
@@ -43,8 +44,8 @@ invariant_of-self-in-Err c =
     let P : Grouped Kept → Type 0 = IsGrouped in
     let is : over_opening c.record.new.self.floor (machine (history c.record.new.state.state c.self.inside.cursor (past_of delta_of c.record.new.self) (future_of delta_of c.record.new.self)))
     ≡ over_opening c.self.inside.journal.floor (machine (history c.self.inside.present.state c.self.inside.cursor (past_of delta_of c.self.inside.journal) (future_of delta_of c.self.inside.journal))) =
-    (λ k. over_opening (unmoved.5 k) (machine (history (unmoved.1 k) c.self.inside.cursor (unmoved.3 k) (unmoved.4 k)))) in
-    (subst P (sym is) c.self.invariant.0, c.record.ensures.fits)
+    (λ k. over_opening (unmoved.5 k) (machine (history (unmoved.1 k) c.self.inside.cursor (steps_of delta_of (unmoved.3 k)) (steps_of delta_of (unmoved.4 k))))) in
+    (subst P (sym is) c.self.invariant.0, c.record.ensures.ready)
 
 pub returns-in-Ok-clause-ok : goal.returns-in-Ok-clause-ok
 returns-in-Ok-clause-ok c =

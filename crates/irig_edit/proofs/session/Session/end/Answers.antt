@@ -1,4 +1,4 @@
-use Rattle.std.proofs.Common.{rules, IsErrOf, Ok, Bool, not, [], ◌∷◌, sym, subst, ap, ◌∙◌, arith, ◌+◌, ◌<◌, length, inl, inr}
+use Rattle.std.proofs.Common.{rules, IsErrOf, Ok, Bool, not, [], ◌∷◌, refl, sym, subst, ap, ◌∙◌, arith, ◌+◌, ◌<◌, length, inl, inr}
 use Rattle.irig_journal.specs.declared.fault.JournalFault.TheVariants as fault
 use Rattle.irig_journal.specs.Groups.{Grouped}
 use Rattle.irig_journal.specs.History.{steps_of}
@@ -24,40 +24,38 @@ pub invariant_of-self : goal.invariant_of-self
 invariant_of-self c =
     let s = c.self.inside in
     let t = c.end.new in
-    let stays = c.end.ensures.stays in
-    let future = ap (steps_of delta_of) stays.2 in
+    let future = ap (steps_of delta_of) c.end.ensures.stays in
     elim c.match-end.branch [
       | in-Ok w ↦
-          let step = grouped-ended s.present.state t.state.state s.cursor (past_of delta_of s.journal) (future_of delta_of s.journal) (past_of delta_of t.self) (future_of delta_of t.self)
-          s.journal.floor t.self.floor (w.in-Ok.ensures.grouped s.cursor) w.in-Ok.ensures.steps stays.0 future c.self.invariant.0.machine.present.state c.self.invariant.1.0 in
-          (IsGrouped-ended (grouped_at s.present.state s.cursor s.journal) (grouped_at t.state.state s.cursor t.self) c.self.invariant.0 step, c.end.ensures.fits)
+          let step = grouped-ended s.present.state s.present.state s.cursor (past_of delta_of s.journal) (future_of delta_of s.journal) (past_of delta_of t.self) (future_of delta_of t.self)
+          s.journal.floor t.self.floor (w.in-Ok.ensures.grouped s.cursor) w.in-Ok.ensures.steps refl future c.self.invariant.0.machine.present.state c.self.invariant.1.0.0 in
+          (IsGrouped-ended (grouped_at s.present.state s.cursor s.journal) (grouped_at s.present.state s.cursor t.self) c.self.invariant.0 step, c.end.ensures.ready)
       | in-Err-NoGroup w ↦
           let same = w.in-Err-NoGroup.ensures.err in
-          (subst (λ (g : Grouped Kept). IsGrouped g) (λ k. over_opening (sym same.1 k) (machine (history (sym stays.0 k) s.cursor (sym same.0 k) (sym future k)))) c.self.invariant.0, c.end.ensures.fits)
+          (subst (λ (g : Grouped Kept). IsGrouped g) (λ k. over_opening (sym same.1 k) (machine (history s.present.state s.cursor (steps_of delta_of (sym same.0 k)) (sym future k)))) c.self.invariant.0, c.end.ensures.ready)
       | in-Err w ↦
           let same = w.in-Err.ensures.err in
-          (subst (λ (g : Grouped Kept). IsGrouped g) (λ k. over_opening (sym same.1 k) (machine (history (sym stays.0 k) s.cursor (sym same.0 k) (sym future k)))) c.self.invariant.0, c.end.ensures.fits)
+          (subst (λ (g : Grouped Kept). IsGrouped g) (λ k. over_opening (sym same.1 k) (machine (history s.present.state s.cursor (steps_of delta_of (sym same.0 k)) (sym future k)))) c.self.invariant.0, c.end.ensures.ready)
     ]
 
 pub returns-clause-step : goal.returns-clause-step
 returns-clause-step c =
     let s = c.self.inside in
     let t = c.end.new in
-    let stays = c.end.ensures.stays in
-    let future = ap (steps_of delta_of) stays.2 in
+    let future = ap (steps_of delta_of) c.end.ensures.stays in
     elim c.match-end.branch [
       | in-Ok w ↦
-          let step = grouped-ended s.present.state t.state.state s.cursor (past_of delta_of s.journal) (future_of delta_of s.journal) (past_of delta_of t.self) (future_of delta_of t.self)
-          s.journal.floor t.self.floor (w.in-Ok.ensures.grouped s.cursor) w.in-Ok.ensures.steps stays.0 future c.self.invariant.0.machine.present.state c.self.invariant.1.0 in
-          rw w.result-is (subst (λ (v : SessionView). Steps End (grouped_in v) (Ok tt) (grouped_at t.state.state s.cursor t.self)) c.self.view_is
-          (Steps-ended (grouped_at s.present.state s.cursor s.journal) (grouped_at t.state.state s.cursor t.self) step))
+          let step = grouped-ended s.present.state s.present.state s.cursor (past_of delta_of s.journal) (future_of delta_of s.journal) (past_of delta_of t.self) (future_of delta_of t.self)
+          s.journal.floor t.self.floor (w.in-Ok.ensures.grouped s.cursor) w.in-Ok.ensures.steps refl future c.self.invariant.0.machine.present.state c.self.invariant.1.0.0 in
+          rw w.result-is (subst (λ (v : SessionView). Steps End (grouped_in v) (Ok tt) (grouped_at s.present.state s.cursor t.self)) c.self.view_is
+          (Steps-ended (grouped_at s.present.state s.cursor s.journal) (grouped_at s.present.state s.cursor t.self) step))
       | in-Err-NoGroup w ↦
           let same = w.in-Err-NoGroup.ensures.err in
           let none : IsErrOf c.end.result fault.NoGroup = search rules in
           let shut = is_open-none (machine_at s.present.state s.cursor s.journal) s.journal.floor (c.end.ensures.none.0 none) in
           rw w.result-is (
             ap (λ (v : SessionView). refusal_of End (grouped_in v)) (sym c.self.view_is) ∙ ap (λ (test : Bool). first_of ((not test, NoGroup) ∷ [])) shut,
-            (λ k. over_opening (same.1 k) (machine (history (stays.0 k) s.cursor (same.0 k) (future k)))) ∙ ap grouped_in c.self.view_is,
+            (λ k. over_opening (same.1 k) (machine (history s.present.state s.cursor (steps_of delta_of (same.0 k)) (future k)))) ∙ ap grouped_in c.self.view_is,
           )
       | in-Err w ↦
           let same = w.in-Err.ensures.err in
@@ -65,7 +63,7 @@ returns-clause-step c =
           let open_now = is_open-not_none (machine_at s.present.state s.cursor s.journal) s.journal.floor (λ none. some (c.end.ensures.none.1 none)) in
           rw w.result-is (
             ap (λ (v : SessionView). refusal_of End (grouped_in v)) (sym c.self.view_is) ∙ ap (λ (test : Bool). first_of ((not test, NoGroup) ∷ [])) open_now,
-            (λ k. over_opening (same.1 k) (machine (history (stays.0 k) s.cursor (same.0 k) (future k)))) ∙ ap grouped_in c.self.view_is,
+            (λ k. over_opening (same.1 k) (machine (history s.present.state s.cursor (steps_of delta_of (same.0 k)) (future k)))) ∙ ap grouped_in c.self.view_is,
             tt,
           )
     ]

@@ -1,40 +1,35 @@
-use Rattle.std.proofs.Common.{rules, IsErrOf, Ok, sym, subst, ℕ, ◌-◌, ap, ◌∙◌, arith}
+use Rattle.std.proofs.Common.{Ok, sym, subst, ℕ, ◌-◌, ap, ◌∙◌, arith}
 use Rattle.irig_journal.specs.Groups.{Grouped}
 use Rattle.irig_journal.specs.Journal.{future_of}
-use Rattle.irig_journal.specs.declared.fault.JournalFault.TheVariants.{NothingToRedo}
 use Rattle.irig_edit.specs.Calls.Call.{Redo}
 use Rattle.irig_edit.specs.Held.{delta_of}
+use Rattle.irig_edit.specs.Present.{PresentView}
 use Rattle.irig_edit.specs.Refusals.{refusal_of}
-use Rattle.irig_edit.specs.Keeping.{grouped_at, machine}
+use Rattle.irig_edit.specs.Keeping.{grouped_at}
 use Rattle.irig_edit.specs.Kept.{Kept}
 use Rattle.irig_edit.specs.Limits.{IsGrouped}
 use Rattle.irig_edit.specs.Machine.{Steps}
 use Rattle.irig_edit.specs.Session.{SessionView, grouped_in}
-use Rattle.irig_edit.proofs.Floors.{IsGrouped-redone, grouped-redone, over_opening}
+use Rattle.irig_edit.proofs.Floors.{IsGrouped-redone, grouped-redone, same_grouped}
 use Rattle.irig_edit.proofs.LooksOfSteps.{never_fell, risen_within, redone_rose}
 use Rattle.irig_edit.proofs.Machines.{machine-redone}
-use Rattle.irig_edit.proofs.MachineSteps.{Steps-redone, no_refusal_forward}
+use Rattle.irig_edit.proofs.MachineSteps.{Steps-redone, refusal_forward}
 use Rattle.irig_edit.proofs.session.Session.redo.Goals as goal
 
 pub invariant_of-self : goal.invariant_of-self
 invariant_of-self c =
-    let again = machine-redone _ _ c.self.invariant.0.machine.present.state c.self.invariant.1.1 c.in-Ok.ensures.step.steps in
+    let again = machine-redone _ _ c.self.invariant.0.machine.present.state c.self.invariant.1.0.1 c.in-Ok.ensures.step.steps in
     let step = grouped-redone _ _ _ _ again c.in-Ok.ensures.grouped.1 c.self.invariant.0.floor in
-    (IsGrouped-redone _ _ c.self.invariant.0 step, c.redo.ensures.fits)
-
-pub invariant_of-self-in-Err-NothingToRedo : goal.invariant_of-self-in-Err-NothingToRedo
-invariant_of-self-in-Err-NothingToRedo c =
-    let same = c.in-Err-NothingToRedo.ensures.err in
-    (subst (λ (g : Grouped Kept). IsGrouped g) (λ k. over_opening (sym same.2 k) (machine (sym same.0 k))) c.self.invariant.0, c.redo.ensures.fits)
+    (IsGrouped-redone _ _ c.self.invariant.0 step, c.redo.ensures.ready)
 
 pub invariant_of-self-in-Err : goal.invariant_of-self-in-Err
 invariant_of-self-in-Err c =
     let same = c.in-Err.ensures.err in
-    (subst (λ (g : Grouped Kept). IsGrouped g) (λ k. over_opening (sym same.2 k) (machine (sym same.0 k))) c.self.invariant.0, c.redo.ensures.fits)
+    (subst (λ (g : Grouped Kept). IsGrouped g) (sym (same_grouped _ _ _ _ _ _ same.1 same.2 same.0)) c.self.invariant.0, c.redo.ensures.ready)
 
 pub returns-in-Ok-clause-step : goal.returns-in-Ok-clause-step
 returns-in-Ok-clause-step c =
-    let again = machine-redone _ _ c.self.invariant.0.machine.present.state c.self.invariant.1.1 c.in-Ok.ensures.step.steps in
+    let again = machine-redone _ _ c.self.invariant.0.machine.present.state c.self.invariant.1.0.1 c.in-Ok.ensures.step.steps in
     subst (λ (v : SessionView). Steps Redo (grouped_in v) (Ok tt) (grouped_at c.redo.new.state.state c.redo.new.cursor c.redo.new.self)) c.self.view_is
     (Steps-redone _ _ (grouped-redone _ _ _ _ again c.in-Ok.ensures.grouped.1 c.self.invariant.0.floor))
 
@@ -43,7 +38,7 @@ returns-in-Ok-clause-looks c =
     let old = c.self.inside.present.index.looks in
     let new = c.redo.new.state.index.looks in
     let rise = c.looks_since-self-inside.result in
-    let rose = redone_rose _ _ old new c.self.invariant.0.machine.present.state c.self.invariant.1.1 c.in-Ok.ensures.step.steps c.in-Ok.ensures.step.once in (
+    let rose = redone_rose _ _ old new c.self.invariant.0.machine.present.state c.self.invariant.1.0.1 c.in-Ok.ensures.step.steps c.in-Ok.ensures.step.once in (
       never_fell _ old new c.looks-before.result _ rose c.looks-before.ensures (ap (λ (v : SessionView). v.looks) c.self.view_is) (omega arith),
       c.looks_since-self-inside.ensures ∙ ap (λ (n : ℕ). new - n) (c.looks-before.ensures ∙ ap (λ (v : SessionView). v.looks) c.self.view_is),
       risen_within _ old new c.looks-before.result rise rose c.looks-before.ensures c.looks_since-self-inside.ensures,
@@ -52,14 +47,15 @@ returns-in-Ok-clause-looks c =
 pub returns-in-Err : goal.returns-in-Err
 returns-in-Err c =
     let s = c.self.inside in
-    let other : IsErrOf c.redo.result NothingToRedo → ⊥ = search rules in
-    let none = no_refusal_forward s.present.state (future_of delta_of s.journal) (λ empty. other (c.redo.ensures.nothing.1 empty)) in
+    let none = refusal_forward s.present.state (future_of delta_of s.journal) (c.redo.ensures.nothing.0 (c.in-Err.is ∙ c.in-Err.ensures.faults)) in
     let same = c.in-Err.ensures.err in
     record {
       step = (
         ap (λ (v : SessionView). refusal_of Redo (grouped_in v)) (sym c.self.view_is) ∙ none,
-        (λ k. over_opening (same.2 k) (machine (same.0 k))) ∙ ap grouped_in c.self.view_is,
-        tt,
+        same_grouped _ _ _ _ _ _ same.1 same.2 same.0 ∙ ap grouped_in c.self.view_is,
       );
-      looks = (same.1 ∙ ap (λ (v : SessionView). v.looks) c.self.view_is, ap (λ (v : SessionView). v.last_looks) c.self.view_is);
+      looks = (
+        ap (λ (p : PresentView). p.index.looks) same.1 ∙ ap (λ (v : SessionView). v.looks) c.self.view_is,
+        ap (λ (v : SessionView). v.last_looks) c.self.view_is,
+      );
     }

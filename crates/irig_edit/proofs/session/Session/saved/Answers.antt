@@ -19,12 +19,12 @@ use Rattle.irig_edit.proofs.session.Session.saved.Goals as goal
 pub put_steps-requires-clause-back : goal.put_steps-requires-clause-back
 put_steps-requires-clause-back c =
     let s = c.self.inside in
-    steps_named s.present.state (past_of delta_of s.journal) c.self.invariant.0.machine.present.state c.self.invariant.1.0
+    steps_named s.present.state (past_of delta_of s.journal) c.self.invariant.0.machine.present.state c.self.invariant.1.0.0
 
 pub put_steps-requires-clause-on : goal.put_steps-requires-clause-on
 put_steps-requires-clause-on c =
     let s = c.self.inside in
-    steps_named s.present.state (future_of delta_of s.journal) c.self.invariant.0.machine.present.state c.self.invariant.1.1
+    steps_named s.present.state (future_of delta_of s.journal) c.self.invariant.0.machine.present.state c.self.invariant.1.0.1
 
 pub returns : goal.returns
 returns c =

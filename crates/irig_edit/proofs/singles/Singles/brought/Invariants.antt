@@ -1,5 +1,5 @@
 use Rattle.std.proofs.Common.{◌≡◌, ◌-◌, ◌^◌, min, take}
-use Rattle.irig_edit.specs.Room.{brought}
+use Rattle.irig_edit.specs.Ample.{brought}
 use Rattle.irig_edit.proofs.singles.Singles.brought.Given as goal
 
 -- the pulses brought so far

@@ -1,11 +1,16 @@
-use Rattle.std.proofs.Common.{List, map, ap, ◌∙◌}
+use Rattle.std.proofs.Common.{List, map, ap, sym, subst, ◌∙◌}
 use Rattle.irig_edit.specs.Delta.Delta.{Together}
 use Rattle.irig_edit.specs.Held.{single_of}
+use Rattle.irig_edit.specs.Room.{HaveRoom}
 use Rattle.irig_edit.specs.declared.single.Single.{Single}
-use Rattle.irig_edit.proofs.GroupTurns.{parts-gathered}
+use Rattle.irig_edit.proofs.GroupTurns.{parts-gathered, room_gathered}
 use Rattle.irig_edit.proofs.turn.PresentReversible.gather.Goals as goal
 
 pub returns-in-Ok-clause-one : goal.returns-in-Ok-clause-one
 returns-in-Ok-clause-one c =
-    ap (λ (xs : List Single). Together (map single_of xs)) c.joined.ensures
-    ∙ parts-gathered c.room_to_gather.new.changes.items c.args.changes.items c.room_to_gather.ensures.changes
+    ap (λ (xs : List Single). Together (map single_of xs)) c.joined.ensures ∙ parts-gathered c.args.changes.items
+
+pub returns-in-Ok-clause-room : goal.returns-in-Ok-clause-room
+returns-in-Ok-clause-room c = λ p room.
+    let s = c.args.self.now.state in
+    subst (λ (l : List Single). HaveRoom p s l) (sym c.joined.ensures) (room_gathered p s c.args.changes.items room)

@@ -9,8 +9,8 @@ use Rattle.irig_edit.specs.Walk.{changed, walk}
 use Rattle.irig_edit.proofs.walk.Walk.change.Goals as goal
 use Rattle.irig_edit.proofs.walk.Walk.change.Goals.{in-Ok, in-Err}
 
-pub returns-clause-changed : goal.returns-clause-changed
-returns-clause-changed c =
+pub returns : goal.returns
+returns c =
     let d = delta_of c.args.change in
     elim c.match-record.branch [
       | in-Ok w ↦

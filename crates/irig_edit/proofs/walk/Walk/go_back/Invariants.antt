@@ -4,13 +4,12 @@ use Rattle.irig_journal.specs.History.{History}
 use Rattle.irig_edit.specs.Delta.{Delta}
 use Rattle.irig_edit.specs.State.{State, IsState}
 use Rattle.irig_edit.specs.Taken.{CanTakeAll}
-use Rattle.irig_edit.specs.Walk.{Fitting, ahead_of, gone_along}
+use Rattle.irig_edit.specs.Walk.{ahead_of, gone_along}
 use Rattle.irig_edit.proofs.walk.Walk.go_back.Given as goal
 
 -- those that were undone are ahead
 abbrev pub invariant-loop : goal.invariant-loop
 invariant-loop l =
-    ((h : History State Delta) → (ds : List (Step Delta)) → IsState h.state → CanTakeAll h.state ds
+    (h : History State Delta) → (ds : List (Step Delta)) → IsState h.state → CanTakeAll h.state ds
     → l.fn.self ≡ gone_along h ds → h.future ≡ [] → length ds ≡ l.fn.count
-    → l.self ≡ ahead_of (gone_along h (take (l.fn.count - l.counter) ds)) (drop (l.fn.count - l.counter) ds))
-    × Fitting l.self
+    → l.self ≡ ahead_of (gone_along h (take (l.fn.count - l.counter) ds)) (drop (l.fn.count - l.counter) ds)

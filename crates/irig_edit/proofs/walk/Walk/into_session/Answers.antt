@@ -6,7 +6,6 @@ use Rattle.irig_edit.specs.Delta.{Delta}
 use Rattle.irig_edit.specs.Keeping.{floor_of, machine, machine_at}
 use Rattle.irig_edit.specs.Limits.{IsGrouped, IsMachine}
 use Rattle.irig_edit.specs.State.{State}
-use Rattle.irig_edit.specs.Walk.{Fitting}
 use Rattle.irig_edit.proofs.OpenedMachines.{IsMachine-walk}
 use Rattle.irig_edit.proofs.walk.Walk.into_session.Goals as goal
 
@@ -17,6 +16,6 @@ invariant_of-result c =
     let is : IsMachine (machine h) =
     IsMachine-walk h.state h.cursor h.past h.future c.len-len.ensures.state c.requires.cursor c.requires.steps.0 c.requires.steps.1 in
     let there : IsMachine m = subst (λ (x : History State Delta). IsMachine (machine x)) (sym c.self.view_is) is in (
-      subst (λ (f : Option Opening). IsGrouped (over (option_map (floor_of m) f) m)) (sym c.self.invariant) (record { machine = there; floor = tt }),
-      subst Fitting (sym c.self.view_is) c.requires.fitting,
+      subst (λ (f : Option Opening). IsGrouped (over (option_map (floor_of m) f) m)) (sym c.self.invariant.0) (record { machine = there; floor = tt }),
+      c.self.invariant.1,
     )
