@@ -1,23 +1,16 @@
 -- Steps removed from a list and added again, and what several steps do in turn.
-use Rattle.std.proofs.Common.{◌≡◌, ◌∷◌, ◌+◌, ◌-◌, ◌≤◌, ◌++◌, [], ℕ, suc, List, length, get_or, map, refl, ap, sym, subst, ◌∙◌, arith, add-one, append_assoc, length-append}
-use Rattle.std.proofs.lemmas.List.{map-append, length-map, take-append-drop, take_at, drop_at, length-drop}
+use Rattle.std.proofs.Common.{◌≡◌, ◌∷◌, ◌+◌, ◌-◌, ◌≤◌, ◌++◌, [], ℕ, List, length, get_or, map, reverse, refl, ap, ap₂, sym, subst, ◌∙◌, arith, add-one, append_assoc, length-append}
+use Rattle.std.proofs.lemmas.List.{map-append, reverse-append, take-append-drop, take_at, drop_at, length-drop}
 use Rattle.irig_journal.specs.declared.step.Step.{Step}
 use Rattle.irig_journal.specs.History.{FitInTurn, step, steps_of}
 use Rattle.irig_journal.specs.Joining.{beyond, changes_of, cursor_of_farthest, farthest, joined, paired}
-use Rattle.irig_journal.specs.Turns.{FitAll, left_by}
-use Rattle.irig_journal.proofs.StepLemmas.{steps-push}
+use Rattle.irig_journal.specs.Journal.{nearest_first}
+use Rattle.irig_journal.specs.Turns.{FitAll, RoomForAll, left_by}
 
 sub_none : (m n : ℕ) → m ≤ n → m - n ≡ 0
 sub_none m n short = omega arith
 
 module _ {D : Type 0} where
-  pub length-paired : (ds : List D) (ns : List ℕ) → length ds ≡ length ns
-      → length (paired ds ns) ≡ length ns
-  length-paired [] [] same = refl
-  length-paired [] (n ∷ ns) same = absurd (omega arith)
-  length-paired (d ∷ ds) [] same = absurd (omega arith)
-  length-paired (d ∷ ds) (n ∷ ns) same = ap suc (length-paired ds ns (omega arith))
-
   pub changes-paired : (ds : List D) (ns : List ℕ) → length ds ≡ length ns
       → changes_of (paired ds ns) ≡ ds
   changes-paired [] [] same = refl
@@ -72,25 +65,54 @@ module _ {D : Type 0} where
   pub farthest_all : (n : ℕ) (steps : List (Step D)) → length steps ≤ n → farthest n steps ≡ steps
   farthest_all n steps short = rw (sub_none (length steps) n short) refl
 
-module _ {C D : Type 0} where
+module _ {C : Type 0} where
   -- a step is last on the one side, or farthest on the other
-  pub paired-steps : (delta : C → D) (cs : List C) (ns : List ℕ) (x : Step C) (xs : List (Step C))
+  pub paired-reverse : (cs : List C) (ns : List ℕ) (x : Step C) (xs : List (Step C))
       → length cs ≡ length ns
-      → paired (map delta (cs ++ x.change ∷ [])) (ns ++ x.cursor ∷ []) ++ steps_of delta xs
-      ≡ paired (map delta cs) ns ++ steps_of delta (xs ++ x ∷ [])
-  paired-steps delta cs ns x xs same =
-      let d = delta x.change in
-      let ds = map delta cs in
-      let long : length ds ≡ length ns = length-map cs delta ∙ same in
-      ap (λ l. paired l (ns ++ x.cursor ∷ []) ++ steps_of delta xs) (map-append delta cs (x.change ∷ []))
-      ∙ (ap (λ l. l ++ steps_of delta xs) (paired-push ds ns d x.cursor long)
-      ∙ (append_assoc (paired ds ns) (step d x.cursor ∷ []) (steps_of delta xs)
-      ∙ ap (λ l. paired ds ns ++ l) (sym (steps-push delta xs x))))
+      → paired (cs ++ x.change ∷ []) (ns ++ x.cursor ∷ []) ++ reverse xs
+      ≡ paired cs ns ++ reverse (xs ++ x ∷ [])
+  paired-reverse cs ns x xs same =
+      ap (λ l. l ++ reverse xs) (paired-push cs ns x.change x.cursor same)
+      ∙ (append_assoc (paired cs ns) (x ∷ []) (reverse xs)
+      ∙ ap (λ l. paired cs ns ++ l) (sym (reverse-append xs (x ∷ []))))
 
-  pub length-same : (delta : C → D) (cs es : List C) → map delta cs ≡ map delta es
-      → length cs ≡ length es
-  length-same delta cs es same =
-      sym (length-map cs delta) ∙ (ap length same ∙ length-map es delta)
+-- the same of each item, the last first
+map_of-reverse : {A B : Type 0} (f : A → B) (xs : List A) → map f (reverse xs) ≡ reverse (map f xs)
+map_of-reverse f [] = refl
+map_of-reverse f (x ∷ xs) =
+    ap (map f) (reverse-append (x ∷ []) xs)
+    ∙ (map-append f (reverse xs) (x ∷ [])
+    ∙ (ap (λ l. l ++ f x ∷ []) (map_of-reverse f xs) ∙ sym (reverse-append (f x ∷ []) (map f xs))))
+
+module _ {C D : Type 0} where
+  map-paired : (delta : C → D) (cs : List C) (ns : List ℕ)
+      → map (λ (s : Step C). step (delta s.change) s.cursor) (paired cs ns) ≡ paired (map delta cs) ns
+  map-paired delta [] ns = refl
+  map-paired delta (c ∷ cs) [] = refl
+  map-paired delta (c ∷ cs) (n ∷ ns) = ap (λ l. step (delta c) n ∷ l) (map-paired delta cs ns)
+
+  -- what the steps of a list are, if the nearest are taken out of it
+  pub taken_steps : (delta : C → D) (cs : List C) (ns : List ℕ) (xs left : List (Step C))
+      → reverse xs ≡ paired cs ns ++ reverse left
+      → steps_of delta xs ≡ paired (map delta cs) ns ++ steps_of delta left
+  taken_steps delta cs ns xs left taken =
+      let told : Step C → Step D = λ s. step (delta s.change) s.cursor in
+      sym (map_of-reverse told xs)
+      ∙ (ap (map told) taken
+      ∙ (map-append told (paired cs ns) (reverse left)
+      ∙ ap₂ (λ (l m : List (Step D)). l ++ m) (map-paired delta cs ns) (map_of-reverse told left)))
+
+module _ {C : Type 0} where
+  -- what their changes are
+  pub taken_changes : (cs : List C) (ns : List ℕ) (xs left : List (Step C)) → length cs ≡ length ns
+      → reverse xs ≡ paired cs ns ++ reverse left
+      → nearest_first xs ≡ cs ++ nearest_first left
+  taken_changes cs ns xs left same taken =
+      let told : Step C → C = λ s. s.change in
+      sym (map_of-reverse told xs)
+      ∙ (ap (map told) taken
+      ∙ (map-append told (paired cs ns) (reverse left)
+      ∙ ap₂ (λ (l m : List C). l ++ m) (changes-paired cs ns same) (map_of-reverse told left)))
 
 module _ {S D : Type 0} where
   pub FitInTurn-parts : (fits : S → D → Type 0) (turned : S → D → S × D) (s : S) (near rest : List (Step D))
@@ -122,3 +144,14 @@ module _ {S D : Type 0} where
     subst (λ (t : S). FitInTurn fits turned t (farthest n steps)) (sym same)
         (fit_parts fits turned s n steps fit).1,
   )
+
+module _ {S C D : Type 0} where
+  -- the room of the one changes, and that of those after them
+  pub RoomForAll-parts : (turned : S → D → S × D) (delta : C → D) (has_room : S → C → Type 0) (s : S) (cs es : List C)
+      → RoomForAll turned delta has_room s (cs ++ es)
+      → (RoomForAll turned delta has_room s cs)
+      × (RoomForAll turned delta has_room (left_by turned s (map delta cs)) es)
+  RoomForAll-parts turned delta has_room s [] es room = (tt, room)
+  RoomForAll-parts turned delta has_room s (c ∷ cs) es room =
+      let parts = RoomForAll-parts turned delta has_room (turned s (delta c)).0 cs es room.1 in
+      ((room.0, parts.0), parts.1)

@@ -38,10 +38,10 @@ module _ {D : Type 0} where
       then steps else joined gathered (beyond n steps) ∷ farthest n steps
 
 module _ {S D T : Type 0} where
-  -- the tally moved by one turn, that of the change that steps are gathered to; without steps, not
-  -- at all
-  abbrev pub CountsGathered : (S → D → T → T → Type 0) → (List D → D) → S → List (Step D) → T → T
+  -- the tally moved by a turn of each step, one after another, the nearest first
+  abbrev pub CountsAlong : (S → D → T → T → Type 0) → (S → D → S × D) → S → List (Step D) → T → T
       → Type 0
-  CountsGathered counted gathered s [] old new = new ≡ old
-  CountsGathered counted gathered s (near ∷ steps) old new =
-      counted s (gathered (changes_of (near ∷ steps))) old new
+  CountsAlong counted turned s [] old new = new ≡ old
+  CountsAlong counted turned s (near ∷ steps) old new = (between : T)
+      × counted s near.change old between
+      × CountsAlong counted turned (turned s near.change).0 steps between new

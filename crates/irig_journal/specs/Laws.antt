@@ -3,5 +3,6 @@ pub mod Backs
 pub mod Edits
 pub mod Groups
 pub mod Parts
+pub mod Rooms
 pub mod Stack
 pub mod Turns

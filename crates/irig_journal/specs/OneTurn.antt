@@ -1,5 +1,5 @@
--- What a turn of the nearest step does, and when it has no room. This project's own.
-use Rattle.std.specs.Prelude.{◌≡◌, ◌∷◌, ◌++◌, [], List, Option, Some}
+-- What a turn of the nearest step does. This project's own.
+use Rattle.std.specs.Prelude.{◌≡◌, List, Option, Some}
 use Rattle.irig_journal.specs.declared.step.Step.{Step}
 use Rattle.irig_journal.specs.History.{CountsNearest, History, machine}
 use Rattle.irig_journal.specs.Machine.{Kept, Machine}
@@ -13,9 +13,3 @@ pub record LedByOneTurn {S D T : Type 0} (turned : S → D → S × D)
   pub states : move (machine turned old) ≡ Some (machine turned new)
   pub steps : step old ≡ Some new
   pub once : CountsNearest counted old.state nearest before after
-
-module _ {S C : Type 0} where
-  -- a state has no room for a turn of the nearest step, the last of a list
-  abbrev pub LacksRoom : (S → C → Type 0) → S → List (Step C) → Type 0
-  LacksRoom has_room s steps = (others : List (Step C)) (near : Step C)
-      → steps ≡ others ++ near ∷ [] → has_room s near.change → ⊥

@@ -1,10 +1,10 @@
 //! Groups: several edits that one undo reverses.
 
-ghost use Rattle.std.specs.Prelude.{◌≡◌, ◌⊎◌, ◌+◌, ◌<◌, ◌↔◌, [], ℕ, IsErr, IsErrOf, IsNone, IsSome, IfSome, OnErr, OnOk, None, Some, length, vec_len};
+ghost use Rattle.std.specs.Prelude.{◌≡◌, ◌⊎◌, ◌+◌, ◌<◌, ◌≤◌, ◌↔◌, [], ℕ, IsErr, IsErrOf, IsNone, IsSome, IfSome, OnErr, OnOk, None, Some, length, vec_capacity, vec_len};
 ghost use Rattle.irig_journal.specs.Groups.{aborted, begun, ended};
-ghost use Rattle.irig_journal.specs.History.{FitInTurn, steps_of};
-ghost use Rattle.irig_journal.specs.Joining.{CountsGathered, beyond, changes_of, farthest, joined_beyond};
-ghost use Rattle.irig_journal.specs.Journal.{FitsState, future_of, grouped_of, history_of, past_of};
+ghost use Rattle.irig_journal.specs.History.{steps_of};
+ghost use Rattle.irig_journal.specs.Joining.{CountsAlong, beyond, changes_of, farthest, joined_beyond};
+ghost use Rattle.irig_journal.specs.Journal.{AreReady, ReadyInTurn, future_of, grouped_of, past_of};
 ghost use Rattle.irig_journal.specs.Turns.{left_by};
 
 use crate::gathering::gather_beyond;
@@ -35,24 +35,25 @@ impl<R: Reversible> Journal<R> {
     }
 
     /// Closes the open group: the steps made since its begin become one. One alone stays as it is.
-    pub fn end(&mut self, state: &mut R) -> Result<(), JournalFault>
-        requires fits { FitsState R.fits R.turned R.delta (R.content state.old) self.old }
+    pub fn end(&mut self, state: &R) -> Result<(), JournalFault>
+        requires ready { AreReady R.fits R.turned R.delta (R.has_room (R.places state.now))
+            (R.content state.now) self.old }
 
         ensures grouped { OnOk result ((cursor : ℕ) →
-            ended (grouped_of R.turned R.delta (R.content state.old) cursor self.old)
-            ≡ Some (grouped_of R.turned R.delta (R.content state.new) cursor self.new)) }
+            ended (grouped_of R.turned R.delta (R.content state.now) cursor self.old)
+            ≡ Some (grouped_of R.turned R.delta (R.content state.now) cursor self.new)) }
         ensures steps { OnOk result (IfSome self.old.floor (λ opening. past_of R.delta self.new
             ≡ joined_beyond R.gathered opening.steps (past_of R.delta self.old))) }
-        ensures stays { (R.content state.new ≡ R.content state.old)
-            × (R.tally state.new ≡ R.tally state.old) × (self.new.future ≡ self.old.future) }
+        ensures stays { self.new.future ≡ self.old.future }
 
         ensures none { IsErrOf result JournalFault.NoGroup ↔ IsNone self.old.floor }
         ensures memory { OnErr result (IsErrOf result JournalFault.NoGroup
             ⊎ (IsErrOf result JournalFault.OutOfMemory × IfSome self.old.floor (λ opening.
             opening.steps + 1 < length (past_of R.delta self.old)))) }
-        ensures err { OnErr result ((past_of R.delta self.new ≡ past_of R.delta self.old)
+        ensures err { OnErr result ((self.new.past ≡ self.old.past)
             × (self.new.floor ≡ self.old.floor)) }
-        ensures fits { FitsState R.fits R.turned R.delta (R.content state.new) self.new }
+        ensures ready { AreReady R.fits R.turned R.delta (R.has_room (R.places state.now))
+            (R.content state.now) self.new }
     {
         let opening = match self.floor {
             None => return Err(JournalFault::NoGroup),
@@ -65,10 +66,12 @@ impl<R: Reversible> Journal<R> {
         Ok(())
     }
 
-    /// Closes the open group and undoes its steps for good: state and cursor become those of its
-    /// begin, and nothing is left to redo.
+    /// Closes the open group and undoes its steps for good, one after another: state and cursor
+    /// become those of its begin, and nothing is left to redo. It takes no memory, and the only
+    /// error is `NoGroup`.
     pub fn abort(&mut self, state: &mut R, cursor: &mut usize) -> Result<(), JournalFault>
-        requires fits { FitsState R.fits R.turned R.delta (R.content state.old) self.old }
+        requires ready { AreReady R.fits R.turned R.delta (R.has_room (R.places state.old))
+            (R.content state.old) self.old }
 
         ensures grouped { OnOk result (
             aborted (grouped_of R.turned R.delta (R.content state.old) cursor.old self.old)
@@ -77,27 +80,21 @@ impl<R: Reversible> Journal<R> {
             × IfSome self.old.floor (λ opening. past_of R.delta self.new
             ≡ farthest opening.steps (past_of R.delta self.old))) }
         ensures once { OnOk result (IfSome self.old.floor (λ opening.
-            CountsGathered R.counted R.gathered (R.content state.old)
+            CountsAlong R.counted R.turned (R.content state.old)
             (beyond opening.steps (past_of R.delta self.old))
             (R.tally state.old) (R.tally state.new))) }
 
-        ensures none { IsErrOf result JournalFault.NoGroup ↔ IsNone self.old.floor }
-        ensures memory { OnErr result (IsErrOf result JournalFault.NoGroup
-            ⊎ (IsErrOf result JournalFault.OutOfMemory × IfSome self.old.floor (λ opening.
-            opening.steps < length (past_of R.delta self.old)))) }
-        ensures err { OnErr result (
-            (history_of R.delta (R.content state.new) cursor.new self.new
-            ≡ history_of R.delta (R.content state.old) cursor.old self.old)
-            × (R.tally state.new ≡ R.tally state.old) × (self.new.floor ≡ self.old.floor)) }
-        ensures fits { FitsState R.fits R.turned R.delta (R.content state.new) self.new }
+        ensures none { IsErr result ↔ IsNone self.old.floor }
+        ensures err { OnErr result (IsErrOf result JournalFault.NoGroup × (self.new ≡ self.old)
+            × (state.new ≡ state.old) × (cursor.new ≡ cursor.old)) }
+        ensures ready { AreReady R.fits R.turned R.delta (R.has_room (R.places state.new))
+            (R.content state.new) self.new }
     {
         let opening = match self.floor {
             None => return Err(JournalFault::NoGroup),
             Some(opening) => opening,
         };
-        if turn_beyond(&mut self.past, opening.steps, state).is_err() {
-            return Err(JournalFault::OutOfMemory);
-        }
+        turn_beyond(&mut self.past, opening.steps, state);
         *cursor = opening.cursor;
         self.future.clear();
         self.floor = None;
@@ -109,19 +106,19 @@ impl<R: Reversible> Journal<R> {
 fn join_beyond<R: Reversible>(
     past: &mut Vec<Step<R::Change>>,
     at: usize,
-    state: &mut R,
+    state: &R,
 ) -> Result<(), AllocError>
-    requires fits { FitInTurn R.fits R.turned (R.content state.old)
-        (steps_of R.delta past.old.items) }
+    requires ready { ReadyInTurn R.fits R.turned R.delta (R.has_room (R.places state.now))
+        (R.content state.now) past.old.items }
     ensures joined { OnOk result (steps_of R.delta past.new.items
         ≡ joined_beyond R.gathered at (steps_of R.delta past.old.items)) }
-    ensures fits { OnOk result (FitInTurn R.fits R.turned (R.content state.old)
-        (steps_of R.delta past.new.items)) }
-    ensures known { OnOk result (at + 1 < vec_len past.old → R.is_state (R.content state.old)) }
-    ensures state { (R.content state.new ≡ R.content state.old)
-        × (R.tally state.new ≡ R.tally state.old) }
-    ensures err { OnErr result ((steps_of R.delta past.new.items
-        ≡ steps_of R.delta past.old.items) × (at + 1 < vec_len past.old)) }
+    ensures ready { ReadyInTurn R.fits R.turned R.delta (R.has_room (R.places state.now))
+        (R.content state.now) past.new.items }
+    ensures known { OnOk result (at + 1 < vec_len past.old → R.is_state (R.content state.now)) }
+    ensures places { (vec_len past.new ≤ vec_len past.old)
+        × (vec_capacity past.old ≤ vec_capacity past.new) }
+    ensures err { OnErr result ((past.new.items ≡ past.old.items)
+        × (at + 1 < vec_len past.old)) }
 {
     if past.len() <= at || past.len() - at == 1 {
         return Ok(());
@@ -131,31 +128,24 @@ fn join_beyond<R: Reversible>(
     Ok(())
 }
 
-/// Turns the steps beyond the `at` farthest back, all in one turn, and drops them.
-fn turn_beyond<R: Reversible>(
-    past: &mut Vec<Step<R::Change>>,
-    at: usize,
-    state: &mut R,
-) -> Result<(), AllocError>
-    requires fits { FitInTurn R.fits R.turned (R.content state.old)
-        (steps_of R.delta past.old.items) }
-    ensures rest { OnOk result (steps_of R.delta past.new.items
-        ≡ farthest at (steps_of R.delta past.old.items)) }
-    ensures state { OnOk result (R.content state.new ≡ left_by R.turned (R.content state.old)
-        (changes_of (beyond at (steps_of R.delta past.old.items)))) }
-    ensures once { OnOk result (CountsGathered R.counted R.gathered (R.content state.old)
-        (beyond at (steps_of R.delta past.old.items)) (R.tally state.old) (R.tally state.new)) }
-    ensures fits { OnOk result (FitInTurn R.fits R.turned (R.content state.new)
-        (steps_of R.delta past.new.items)) }
-    ensures err { OnErr result ((R.content state.new ≡ R.content state.old)
-        × (R.tally state.new ≡ R.tally state.old)
-        × (steps_of R.delta past.new.items ≡ steps_of R.delta past.old.items)
-        × (at < vec_len past.old)) }
+/// Turns the steps beyond the `at` farthest back, one after another, and drops them. It takes no
+/// memory.
+fn turn_beyond<R: Reversible>(past: &mut Vec<Step<R::Change>>, at: usize, state: &mut R)
+    requires ready { ReadyInTurn R.fits R.turned R.delta (R.has_room (R.places state.old))
+        (R.content state.old) past.old.items }
+    ensures rest { steps_of R.delta past.new.items
+        ≡ farthest at (steps_of R.delta past.old.items) }
+    ensures state { R.content state.new ≡ left_by R.turned (R.content state.old)
+        (changes_of (beyond at (steps_of R.delta past.old.items))) }
+    ensures once { CountsAlong R.counted R.turned (R.content state.old)
+        (beyond at (steps_of R.delta past.old.items)) (R.tally state.old) (R.tally state.new) }
+    ensures ready { ReadyInTurn R.fits R.turned R.delta (R.has_room (R.places state.new))
+        (R.content state.new) past.new.items }
+    ensures places { (vec_len past.new ≤ vec_len past.old)
+        × (vec_capacity past.old ≤ vec_capacity past.new) }
 {
-    if past.len() <= at {
-        return Ok(());
+    while past.len() > at {
+        let mut nearest = past.pop().unwrap();
+        state.turn(&mut nearest.change);
     }
-    let mut one = gather_beyond(past, at, state)?;
-    state.turn(&mut one.change);
-    Ok(())
 }

@@ -2,7 +2,7 @@
 
 ghost use Rattle.std.specs.Prelude.{◌≡◌, ◌<◌, ℕ, None, Some, length, reverse, slice_get};
 ghost use Rattle.irig_journal.specs.History.{step};
-ghost use Rattle.irig_journal.specs.Journal.{FitsState, future_of, machine_of, past_of};
+ghost use Rattle.irig_journal.specs.Journal.{AreReady, future_of, machine_of, past_of};
 ghost use Rattle.irig_journal.specs.Machine.{mirrored};
 
 use crate::Reversible;
@@ -39,8 +39,9 @@ impl<R: Reversible> Journal<R> {
         ensures machine { (s : R.Content) (cursor : ℕ) →
             machine_of R.turned R.delta s cursor self.new
             ≡ mirrored (machine_of R.turned R.delta s cursor self.old) }
-        ensures fits { (s : R.Content) → FitsState R.fits R.turned R.delta s self.old
-            → FitsState R.fits R.turned R.delta s self.new }
+        ensures ready { (p : R.Places) (s : R.Content) →
+            AreReady R.fits R.turned R.delta (R.has_room p) s self.old
+            → AreReady R.fits R.turned R.delta (R.has_room p) s self.new }
     {
         mem::swap(&mut self.past, &mut self.future);
     }

@@ -7,7 +7,6 @@ use Rattle.irig_journal.specs.Openings.{StandsOnFloor}
 use Rattle.irig_journal.specs.Machine.{mirrored}
 use Rattle.irig_journal.proofs.FloorLemmas.{floor_in, floor_kept, stepped_back-parts, redone_over_by}
 use Rattle.irig_journal.proofs.StepLemmas.{length-steps}
-use Rattle.irig_journal.proofs.journal.Journal.redo.Goals.{in-Ok, in-Err}
 use Rattle.irig_journal.proofs.journal.Journal.redo.Goals as goal
 
 pub returns-clause-grouped : goal.returns-clause-grouped
@@ -19,19 +18,14 @@ returns-clause-grouped g c =
     let past = steps_of r.delta c.self.inside.past.items in
     let future = steps_of r.delta c.self.inside.future.items in
     let more = steps_of r.delta c.turn_nearest.new.to.items in
-    let stands : StandsOnFloor floor (length past) = subst (StandsOnFloor floor) (sym (length-steps r.delta c.self.inside.past.items)) c.self.invariant in
-    let fit = subst (λ j. FitInTurn r.fits r.turned s (future_of r.delta j)) (sym c.self.view_is) c.requires.fits.1 in
-    elim c.match-turn_nearest.branch [
-      | in-Ok w ↦
-          let t = stepped_back-parts r.turned s after c.args.cursor.now c.turn_nearest.new.cursor future (steps_of r.delta c.turn_nearest.new.from.items) past more w.in-Ok.ensures.step.steps in
-          let near = t.near.change in
-          let fits = (subst (FitInTurn r.fits r.turned s) t.parts fit).0 in
-          let home = ap (λ x. (r.turned x (r.turned s near).1).0) (sym t.state) ∙ ap (λ p. p.0) (g.met.R.Reversible.back s near w.in-Ok.ensures.known fits) in
-          let floors = floor_kept r.turned floor s after (step (r.turned s near).1 c.args.cursor.now) past more t.longer home stands in
-          rw w.result-is (
-            ap (λ j. redone_over (grouped_of r.turned r.delta s c.args.cursor.now j)) (sym c.self.view_is)
-                ∙ redone_over_by _ _ _ _ (ap (option_map mirrored) w.in-Ok.ensures.step.states) (sym floors),
-            ap floor_in c.self.view_is,
-          )
-      | in-Err w ↦ rw w.result-is tt
-    ]
+    let stands : StandsOnFloor floor (length past) = subst (StandsOnFloor floor) (sym (length-steps r.delta c.self.inside.past.items)) c.self.invariant.0 in
+    let fit = subst (λ j. FitInTurn r.fits r.turned s (future_of r.delta j)) (sym c.self.view_is) c.requires.ready.0.1 in
+    let t = stepped_back-parts r.turned s after c.args.cursor.now c.turn_nearest.new.cursor future (steps_of r.delta c.turn_nearest.new.from.items) past more c.turn_nearest.ensures.step.steps in
+    let near = t.near.change in
+    let fits = (subst (FitInTurn r.fits r.turned s) t.parts fit).0 in
+    let home = ap (λ x. (r.turned x (r.turned s near).1).0) (sym t.state) ∙ ap (λ p. p.0) (g.met.R.Reversible.back s near c.turn_nearest.ensures.known fits) in
+    let floors = floor_kept r.turned floor s after (step (r.turned s near).1 c.args.cursor.now) past more t.longer home stands in (
+      ap (λ j. redone_over (grouped_of r.turned r.delta s c.args.cursor.now j)) (sym c.self.view_is)
+          ∙ redone_over_by _ _ _ _ (ap (option_map mirrored) c.turn_nearest.ensures.step.states) (sym floors),
+      ap floor_in c.self.view_is,
+    )

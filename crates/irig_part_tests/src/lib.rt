@@ -1,0 +1,19 @@
+//! The crates below the session, tested by their public calls. It has no code of its own.
+#![tactic(auto)]
+
+#[cfg(test)]
+mod codes;
+#[cfg(test)]
+mod dumps;
+#[cfg(test)]
+mod gaps;
+#[cfg(test)]
+mod indexes;
+#[cfg(test)]
+mod journal_texts;
+#[cfg(test)]
+mod journals;
+#[cfg(test)]
+mod moments;
+#[cfg(test)]
+mod tracks;

@@ -1,0 +1,110 @@
+//! What a growth that is refused leaves: run with each growth refused in turn, by `tests/no_memory`.
+
+use crate::scripts::helpers::two_pulses;
+use irig_codes::{Format, Kind};
+use irig_edit::{Refusal, Session};
+use irig_script::{DumpRunFault, MemoryShelf, Status, run_on_dump};
+use irig_vcd::VcdFault;
+use std::alloc::Global;
+
+/// A dump of 1,000 microseconds with pulses 100-120 and 200-280.
+const DUMP: &[u8] =
+    b"$timescale 1 us $end $var wire 1 ! c $end $enddefinitions $end #100 1! #120 0! #200 1! #280 0! #1000";
+
+/// Whether a pulse is inserted; an error leaves pulses and steps, and the next call succeeds.
+fn inserts(session: &mut Session) -> bool {
+    if session.insert(400, 450) == Err(Refusal::OutOfMemory) {
+        session.len() == 2 && session.steps_back() == 0 && session.insert(400, 450) == Ok(())
+    } else {
+        session.len() == 3 && session.cursor() == 3
+    }
+}
+
+/// Whether that is undone; an error leaves pulses and steps, and the next call succeeds.
+fn undoes(session: &mut Session) -> bool {
+    if session.undo() == Err(Refusal::OutOfMemory) {
+        session.len() == 3 && session.steps_back() == 1 && session.undo() == Ok(())
+    } else {
+        session.len() == 2 && session.steps_forward() == 1
+    }
+}
+
+/// Whether another pulse is inserted and undone; an error leaves what can be redone.
+fn inserts_another(session: &mut Session) -> bool {
+    if session.insert(500, 510) == Err(Refusal::OutOfMemory) {
+        session.len() == 2 && session.steps_forward() == 1
+    } else {
+        session.undo() == Ok(())
+    }
+}
+
+/// Whether that is redone; an error leaves pulses and steps, and the next call succeeds.
+fn redoes(session: &mut Session) -> bool {
+    if session.redo() == Err(Refusal::OutOfMemory) {
+        session.len() == 2 && session.steps_forward() == 1 && session.redo() == Ok(())
+    } else {
+        session.len() == 3 && session.steps_forward() == 0
+    }
+}
+
+/// Whether each of these calls in turn leaves what it says.
+fn is_left(session: &mut Session) -> bool {
+    inserts(session) && undoes(session) && inserts_another(session) && redoes(session)
+}
+
+// A call that runs out of memory leaves pulses and steps, and then succeeds.
+#[test]
+fn a_refused_call_leaves_the_session(rt: HostRuntime) {
+    if let Some(mut session) = two_pulses(rt.alloc()) {
+        assert!(rt; is_left(&mut session));
+    }
+}
+
+/// What the script below prints, by the growth that is refused.
+static PRINTED: [&[u8]; 7] = [
+    b"147\n163\n",
+    b"? E11 OutOfMemory\n163\n? E9 NothingToUndo\n163\n",
+    b"? E11 OutOfMemory\n163\n",
+    b"? S3 WriteFailed\n163\n",
+    b"147\n? E11 OutOfMemory\n147\n",
+    b"147\n? E11 OutOfMemory\n",
+    b"147\n? S3 WriteFailed\n",
+];
+
+/// How a script ends on the dump; nothing if the dump itself found no room.
+fn ran(alloc: Global, out: &mut Vec<u8>) -> Option<Result<Status, DumpRunFault>> {
+    let format = Format::new(Kind::G, 2).ok()?;
+    let dump = Vec::from_slice(alloc, DUMP).ok()?;
+    let mut script = b"invert 100 120\nwrite\nundo\nwrite\n".as_slice();
+    let mut shelf = MemoryShelf::new(alloc, None);
+    Some(run_on_dump(alloc, dump, None, format, &mut script, out, &mut shelf))
+}
+
+/// Whether only the line that runs out of memory is refused.
+fn is_expected(outcome: Option<Result<Status, DumpRunFault>>, out: &[u8]) -> bool {
+    match outcome {
+        None => true,
+        Some(Err(fault)) => fault == DumpRunFault::Dump(VcdFault::OutOfMemory) && out.is_empty(),
+        Some(Ok(_)) => is_printed(out),
+    }
+}
+
+/// Whether it is one of those texts.
+fn is_printed(out: &[u8]) -> bool {
+    for text in PRINTED.iter() {
+        if *text == out {
+            return true;
+        }
+    }
+    false
+}
+
+// In a script only the line that runs out of memory is refused, and the next ones are obeyed.
+#[test]
+fn a_refused_line_leaves_the_rest(rt: HostRuntime) {
+    let Ok(mut out) = Vec::with_capacity(rt.alloc(), 200) else {
+        return;
+    };
+    let outcome = ran(rt.alloc(), &mut out);
+    assert!(rt; is_expected(outcome, out.as_slice()));
+}

@@ -1,0 +1,5 @@
+//! Sessions, tested by their public calls. It has no code of its own.
+#![tactic(auto)]
+
+#[cfg(test)]
+mod sessions;
