@@ -91,7 +91,7 @@ impl<T> Cells<T> {
         unsafe { &*self.start.add(index) }
     }
 
-    /// Puts an item in a place. What the place held is forgotten.
+    /// Writes an item to a place. What the place held is forgotten.
     pub(crate) fn write(&mut self, index: usize, item: T)
         requires { index < length self.old.slots }
         ensures slots { self.new.slots ≡ slice_set self.old.slots index (Some item) }

@@ -132,7 +132,7 @@ impl<T: Copy> Gap<T> {
         self.cells.write(slot, item);
     }
 
-    /// Puts `item` at the place, and the place is then right of it.
+    /// Inserts `item` at the place, and the place is then right of it.
     pub fn put(&mut self, item: T)
         requires { length self.old.items < self.old.capacity }
         ensures { self.new ≡

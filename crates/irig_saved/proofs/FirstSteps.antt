@@ -49,7 +49,7 @@ pub counted_begins : (head text l mid : List ℕ) (n : ℕ) → text ≡ l ++ 10
 counted_begins head text l mid n cut h e some =
     record { count = n; number = h; mid = mid; same = cut ∙ ap (λ (w : List ℕ). w ++ 10 ∷ mid) e; some = some }
 
--- this many steps, the first of which has a cursor
+-- this many steps; the first has a cursor
 record Many (cursor count : ℕ) : Type 0 where
   steps : List Step
   others : List (List ℕ)

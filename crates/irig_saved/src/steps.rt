@@ -63,7 +63,7 @@ impl Steps {
         self.items.pop()
     }
 
-    /// Puts the steps in the opposite order.
+    /// Reverses the steps.
     pub fn reverse(&mut self)
         ensures { self.new ≡ reverse self.old }
     {

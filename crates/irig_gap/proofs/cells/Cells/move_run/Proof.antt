@@ -1,4 +1,4 @@
--- `move_run` hands a run of items and the memory of another run to `copy_nonoverlapping`, and puts both back. Assumes `Logic`.
+-- `move_run` hands a run of items and the memory of another run to `copy_nonoverlapping`, and gets both back. Assumes `Logic`.
 use Rattle.irig_gap.proofs.Steps.{◌≡◌, refl, sym, ap, subst, ◌∙◌, ℕ, ◌+◌, ◌*◌, ◌≤◌, ◌<◌, ◌^◌, arith, List, [], ◌∷◌, map, T, length, take, dropped, replicate, length-replicate, length-take, length-drop, emp, id⊢, ftrue, froom, flft, Fn, w64, named, ty_unit, ty_array, inst_fn, Val, vint, vunit, has_ty, WT, ◌⊑◌, fact, fact_i, tables, ‵, raw, ◌⊛◌, later, at_ret, ◌$◌, ◌∵◌, !, qed, done, move, keep, drop, use0, use1, use3, split, join, await, fsplit, fsplit3, fjoin, fjoin3, feq_i, feq_l, rewrite, suffices, pick, some, whole, sub, look_in, stop, fld, load, size_word, unit_lit, of_opd, bin, and_then, no_more, first, blocks, exec, returns, enter, alloc_all, pass_all, free_all, look_at, local, is, through, sets, lands_last, env, usize, unit, yes, uint_vals, uint_Tells, owns, RawPtr, block_ptr, mut_vals, mut_Tells, plain, types_at, heard, nothing, Stays, stay_dropped, stay_ref, walk_of, Goes-dropped, Goes-ref, ends_at, proved, Some, None, El, R, args, elτ, after}
 use lib.ListN.{length-map}
 use base.Fraction.{full_share}

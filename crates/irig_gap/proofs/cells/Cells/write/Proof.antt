@@ -1,4 +1,4 @@
--- `write` puts an item in a place, over whatever it held. Assumes `Logic`.
+-- `write` writes an item to a place, over whatever it held. Assumes `Logic`.
 use Rattle.irig_gap.proofs.Steps.{refl, sym, subst, ℕ, ◌+◌, ◌*◌, ◌<◌, ◌^◌, arith, List, [], ◌∷◌, ◌++◌, length, set, length-set, ftrue, froom, flft, Fn, w64, inst_fn, Val, vint, vptr, vunit, WpFn, ◌⊑◌, fact, tables, ‵, raw, ◌⊛◌, at_ret, ◌$◌, ◌∵◌, !, qed, done, move, keep, drop, use1, use3, split, join, fsplit, fsplit3, fjoin, fjoin3, feq_i, rewrite, suffices, regoal, prop, whole, sub, look_in, init, stop, fld, load, size_lit, unit_lit, of_opd, bin, assigns_last, first, blocks, exec, returns, enter, alloc_all, pass_all, free_all, look_at, local, through, sets, env, usize, yes, no, owns, plain, types_at, heard, nothing, Stays, stay_dropped, stay_ref, walk_of, Goes-dropped, Goes-ref, ends_at, proved_at, Some, El, R, args, elτ, after}
 use Rattle.core.proofs.mem.Param.{lawful, one}
 use Rattle.core.proofs.mem.Facts.{says_two}
