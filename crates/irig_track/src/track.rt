@@ -17,6 +17,9 @@ use std::marker::Model;
 /// The most pulses of a track.
 const PULSES_LIMIT: usize = 1 << 22;
 
+/// How many more pulses than it has a new track has room for.
+const NEW_SPARE: usize = 1024;
+
 /// A length and pulses, in microseconds. The edges rise strictly and lie within the length.
 ///
 /// The limits are a length of 2^40 microseconds and 2^22 pulses.
@@ -40,14 +43,17 @@ impl Model for Track {
 
 impl Track {
     /// The track with the recording's length and edges. An error drops the recording.
+    ///
+    /// It has some spare room, so that the first pulse that comes does not move it to another
+    /// block, and later ones move many pulses at a time.
     pub fn new(alloc: Global, recording: Recording) -> Result<Track, AllocError>
         ensures length { IfOk result (λ t. t.micros ≡ recording.micros) }
         ensures edges { IfOk result (λ t. edges_of t.pulses ≡ recording.edges) }
-        ensures spare { IfOk result (λ t. t.spare ≡ 0) }
+        ensures spare { IfOk result (λ t. t.spare ≡ 1024) }
     {
         let edges = recording.edges();
         let mut pulses = Gap::new(alloc);
-        pulses.reserve(edges.len() / 2)?;
+        pulses.reserve(edges.len() / 2 + NEW_SPARE)?;
         put_pairs(&mut pulses, edges);
         Ok(Track {
             micros: recording.length(),

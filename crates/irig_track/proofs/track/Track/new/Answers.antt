@@ -17,4 +17,13 @@ pub returns-clause-spare : goal.returns-clause-spare
 returns-clause-spare c =
     let ps = c.put_pairs.new.pulses.items in
     let same : edges_of ps ≡ c.edges-edges.result.now = c.put_pairs.ensures.edges in
-    omega (arith, length-edges_of ps, ap length same, c.put_pairs.ensures.capacity, c.in_ok-reserve.ensures.bounded, ap (λ v. v.capacity) c.new-pulses.ensures, ap (λ v. length v.items) c.new-pulses.ensures)
+    omega (
+      arith,
+      length-edges_of ps,
+      ap length same,
+      c.put_pairs.ensures.capacity,
+      c.in_ok-reserve.ensures.bounded,
+      c.in_ok-reserve.ensures.room,
+      ap (λ v. v.capacity) c.new-pulses.ensures,
+      ap (λ v. length v.items) c.new-pulses.ensures,
+    )
