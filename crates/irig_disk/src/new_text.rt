@@ -9,6 +9,7 @@ ghost use Rattle.irig_disk.specs.Calls.{mode_made};
 
 use crate::fault::{PutFault, fault_after};
 use crate::folder::Folder;
+use crate::kept::Kept;
 use std::alloc::{AllocError, Global};
 
 /// How many names are tried for a new file. Other runs may hold that many, or have left them.
@@ -73,7 +74,7 @@ impl<F: Folder> NewText<F> {
     }
 
     /// Gives the text its mode and its name, and keeps both.
-    pub fn finish(self, folder: &mut F) -> Result<(), PutFault<F::Fault>>
+    pub fn finish(self, folder: &mut F) -> Result<Kept, PutFault<F::Fault>>
         ensures ok { F.is_told → WhileWriting F.disk folder.old (string_bytes self.beside)
             (string_bytes self.target) (F.number self.file) (first_mode F.usual_mode self.mode)
             (λ start text. OnOk result (IsKept start (F.disk folder.new)
@@ -95,7 +96,7 @@ impl<F: Folder> NewText<F> {
             self.mode,
         ) {
             Ok(_) => match folder.sync_names() {
-                Ok(_) => Ok(()),
+                Ok(_) => Ok(Kept(())),
                 Err(fault) => Err(PutFault::NotKept(fault)),
             },
             Err(fault) => Err(fault_after(fault, folder.remove(self.beside.as_str()))),

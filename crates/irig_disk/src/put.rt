@@ -8,6 +8,7 @@ ghost use Rattle.irig_disk.specs.Put.{OldOrNewIfThere, AfterFault, IsKept, AllTa
 
 use crate::fault::{PutFault, fault_after};
 use crate::folder::Folder;
+use crate::kept::Kept;
 use crate::new_text::NewText;
 use std::alloc::Global;
 
@@ -20,7 +21,7 @@ pub fn put_text<F: Folder>(
     stem: &str,
     mode: Option<u32>,
     parts: &[&[u8]],
-) -> Result<(), PutFault<F::Fault>>
+) -> Result<Kept, PutFault<F::Fault>>
     // A crash at any moment of the call leaves the old text at the target or the new one, whole, and
     // each other name that was there as it was.
     ensures any_moment { F.is_told → LeavesOnly (F.disk folder.old) (F.disk folder.new)

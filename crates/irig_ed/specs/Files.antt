@@ -1,3 +1,4 @@
 -- Files.
+pub mod Keeps
 pub mod Puts
 pub mod Reads

@@ -2,6 +2,7 @@
 
 ghost use Rattle.std.specs.Prelude.{◌≡◌, ◌≤◌, ◌^◌, map, option_map, string_bytes, vec_len};
 ghost use Rattle.irig_ed.specs.Ending.{RunsBy, EndsBy, Obeys, ends};
+ghost use Rattle.irig_ed.specs.Files.Keeps.{Keeps};
 
 use crate::command_line::chosen::Settings;
 use crate::command_line::command_line::settings;
@@ -21,9 +22,11 @@ pub fn obey_words<'a, D: Disk, R: Read, W: Write>(
     script: &mut R,
     out: &mut W,
 ) -> Ending<'a>
-    ensures { EndsBy (map string_bytes words.entry.now) (D.held disk.old)
+    ensures ends { EndsBy (map string_bytes words.entry.now) (D.held disk.old)
         (ends (W.contents out.old) (D.puts disk.old) (R.remaining script.old))
         (ends (W.contents out.new) (D.puts disk.new) (R.remaining script.new)) result }
+    // What was written through a crash at any moment.
+    ensures kept { Keeps (D.left_at_first disk.new) (D.left_since disk.new) (D.puts disk.new) }
 {
     match settings(alloc, words) {
         Ok(chosen) => run_on_track(alloc, &chosen, disk, script, out),

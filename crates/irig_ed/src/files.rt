@@ -3,5 +3,8 @@
 pub mod disk;
 pub mod dump_file;
 pub mod file_shelf;
+pub mod in_place;
 mod put_file;
 pub mod system;
+mod whole;
+pub mod written;

@@ -10,6 +10,7 @@ mod statuses;
 ghost use Rattle.std.specs.Prelude.{map, string_bytes};
 ghost use Rattle.std.specs.Process.{exit_status};
 ghost use Rattle.irig_ed.specs.Ending.{Serves, ends};
+ghost use Rattle.irig_ed.specs.Files.Keeps.{Keeps};
 
 use command_line::command_line::not_text;
 use file_run::obey_words;
@@ -55,10 +56,11 @@ fn start<P: Print + Eprint + AllocGlobal, D: Disk, R: Read, W: Write>(
     script: &mut R,
     out: &mut W,
 ) -> ExitCode
-    ensures { Serves (map string_bytes words.now) (D.held disk.old)
+    ensures served { Serves (map string_bytes words.now) (D.held disk.old)
         (ends (W.contents out.old) (D.puts disk.old) (R.remaining script.old))
         (ends (W.contents out.new) (D.puts disk.new) (R.remaining script.new))
         (exit_status result) }
+    ensures kept { Keeps (D.left_at_first disk.new) (D.left_since disk.new) (D.puts disk.new) }
 {
     let ending = obey_words(rt.alloc(), words, disk, script, out);
     report(rt, &ending)

@@ -1,18 +1,32 @@
 -- Texts written to files. This project's own.
-use Rattle.std.specs.Prelude.{ℕ, List, [], ◌∷◌, Option, Some, None, option_map, if◌then◌else◌}
+use Rattle.std.specs.Prelude.{ℕ, List, [], ◌∷◌, Bool, true, false, Option, Some, None, option_map, if◌then◌else◌}
 use Rattle.std.specs.Str.{bytes_eq}
 
--- a path, and the text that was written there
-abbrev pub Put : Type 0
-Put = List ℕ × List ℕ
+-- a write that was tried: its path, its text, and whether it succeeded
+pub record Put : Type 0 where
+  pub path : List ℕ
+  pub text : List ℕ
+  pub is_kept : Bool
 
--- the texts of some writes, if each of them was at the path
+-- one that succeeded, and one that failed
+abbrev pub kept : List ℕ → List ℕ → Put
+kept path text = record { path = path; text = text; is_kept = true }
+
+abbrev pub not_kept : List ℕ → List ℕ → Put
+not_kept path text = record { path = path; text = text; is_kept = false }
+
+-- the texts with that of one more write before them, if it succeeded
+abbrev pub with_text : Bool → List ℕ → Option (List (List ℕ)) → Option (List (List ℕ))
+with_text true text texts = option_map (λ ts. text ∷ ts) texts
+with_text false text texts = texts
+
+-- the texts of the writes that succeeded, if each write was at the path
 abbrev pub texts_of : List ℕ → List Put → Option (List (List ℕ))
 texts_of path [] = Some []
 texts_of path (put ∷ puts) =
-    if bytes_eq put.0 path then option_map (λ texts. put.1 ∷ texts) (texts_of path puts) else None
+    if bytes_eq put.path path then with_text put.is_kept put.text (texts_of path puts) else None
 
--- the texts written at a path, if the writes are known and none was written elsewhere
+-- the texts written at a path, if the writes are known and none was elsewhere
 abbrev pub texts_at : List ℕ → Option (List Put) → Option (List (List ℕ))
 texts_at path None = None
 texts_at path (Some puts) = texts_of path puts

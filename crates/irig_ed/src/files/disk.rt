@@ -2,9 +2,11 @@
 
 ghost use Rattle.std.specs.Prelude.{◌≡◌, ◌≤◌, ◌<◌, ◌^◌, ◌∷◌, [], ℕ, List, Option, IfOk, IfSome, IsErrOf, OnOk, OnErr, length, vec_len};
 ghost use Rattle.irig_script.specs.Shelf.Shelved.{GrowsBy};
-ghost use Rattle.irig_ed.specs.Files.Puts.{Put};
+ghost use Rattle.irig_ed.specs.Files.Keeps.{Keeps};
+ghost use Rattle.irig_ed.specs.Files.Puts.{Put, kept, not_kept};
 
 use crate::files::dump_file::DumpFileFault;
+use crate::files::written::Written;
 use irig_script::ShelfFault;
 
 /// Files by their paths. What a real file holds no contract can say; what is asked of one can.
@@ -12,8 +14,14 @@ pub trait Disk {
     /// What the file at a path holds, if it is known.
     ghost held: { Self → List ℕ → Option (List ℕ) };
 
-    /// What was written, in order, if it is known.
+    /// The writes that were tried, in order, if they are known.
     ghost puts: { Self → Option (List Put) };
+
+    /// What a crash might have left at a path before the first write.
+    ghost left_at_first: { Self → List ℕ → Option (List ℕ) → Type 0 };
+
+    /// What a crash might have left at a path since this many writes were tried, now included.
+    ghost left_since: { Self → ℕ → List ℕ → Option (List ℕ) → Type 0 };
 
     /// All bytes of the file at a path. At most one more byte than 2^28 is read.
     fn read(&self, path: &str) -> Result<Vec<u8>, DumpFileFault>
@@ -23,9 +31,15 @@ pub trait Disk {
         ensures long { IsErrOf result DumpFileFault.TooLong
             → IfSome (held self.now path.now) (λ all. 2 ^ 28 < length all) };
 
-    /// Writes a text to the file at a path. A fault leaves the files as they were.
-    fn put(&mut self, path: &str, text: &[u8]) -> Result<(), ShelfFault>
+    /// Writes a text to the file at a path. A fault leaves the file as it was; only if the names of
+    /// its folder could not be kept does it hold the text, and a crash can bring the old one back.
+    fn put(&mut self, path: &str, text: &[u8]) -> Result<Written, ShelfFault>
         ensures ok { OnOk result
-            (GrowsBy (puts self.old) (puts self.new) ((path.now, text.now) ∷ [])) }
-        ensures err { OnErr result (GrowsBy (puts self.old) (puts self.new) []) };
+            (GrowsBy (puts self.old) (puts self.new) (kept path.now text.now ∷ [])) }
+        ensures err { OnErr result
+            (GrowsBy (puts self.old) (puts self.new) (not_kept path.now text.now ∷ [])) };
+
+    /// A crash leaves a text that was written, or a later one, whole.
+    ghost keeps: { (disk : Self)
+        → Keeps (left_at_first disk) (left_since disk) (puts disk) };
 }

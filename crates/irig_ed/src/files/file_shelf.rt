@@ -37,7 +37,7 @@ impl<'d, 'p, D: Disk> Shelf for FileShelf<'d, 'p, D> {
 
     fn put(&mut self, text: &[u8]) -> Result<(), ShelfFault> {
         match self.disk.put(self.path, text) {
-            Ok(()) => Ok(()),
+            Ok(_) => Ok(()),
             Err(fault) => {
                 self.failures = self.failures.saturating_add(1);
                 Err(fault)

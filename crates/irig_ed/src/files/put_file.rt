@@ -1,21 +1,21 @@
-//! Writes the bytes of a file whole: a new file is written next to the old one and takes its name.
+//! Finds the file that a path leads to, and how it is written: replaced whole, or in place.
 
-ghost use Rattle.std.specs.Prelude.{◌≡◌, Ok, IfOk, OnErr, OnOk, IsErr};
-ghost use Rattle.std.specs.Io.KnownBytes.{Appends};
+ghost use Rattle.std.specs.Prelude.{◌≡◌, Ok, IfOk, OnErr, IsErr};
 
+use crate::files::in_place::write_in_place;
+use crate::files::whole::write_whole;
+use crate::files::written::Written;
+use irig_disk::SystemFolder;
 use irig_script::ShelfFault;
 use std::fs::{Metadata, OpenFile, OpenOptions};
 use std::io::{ErrorKind, Write};
-use std::os::unix::fs::{MetadataExt, OpenOptionsExt};
+use std::os::unix::fs::{MetadataExt, PermissionsExt};
 use std::path::{Path, PathBuf};
 use std::rt::Files;
 use std::{fs, io};
 
 /// How many symbolic links a path may lead through.
 const LINKS: u32 = 40;
-
-/// How many names are tried for a new file. Other runs may hold that many, or have left them.
-const NAMES: u32 = 10_000;
 
 /// What a call gives; its error is not reported.
 fn or_shelf_fault<T: Drop, E: Drop>(outcome: Result<T, E>) -> Result<T, ShelfFault>
@@ -33,7 +33,7 @@ pub fn put_file<R: Files + Print + AllocGlobal>(
     rt: &R,
     path: &str,
     bytes: &[u8],
-) -> Result<(), ShelfFault> {
+) -> Result<Written, ShelfFault> {
     match fs::metadata(rt, path) {
         Ok(old) => put_over(rt, path, &old, bytes),
         Err(e) if e.kind() == ErrorKind::NotFound => replace(rt, path, false, bytes),
@@ -47,14 +47,22 @@ fn put_over<R: Files + Print + AllocGlobal>(
     path: &str,
     old: &Metadata,
     bytes: &[u8],
-) -> Result<(), ShelfFault> {
+) -> Result<Written, ShelfFault> {
     if is_standard_output(rt, old) {
-        or_shelf_fault(io::writer(rt).write_all(bytes))
+        in_place(&mut io::writer(rt), bytes)
     } else if old.is_file() {
         replace(rt, path, true, bytes)
     } else {
         let mut file = open_to_write(rt, path)?;
-        write_whole(&mut file, bytes)
+        in_place(&mut file, bytes)
+    }
+}
+
+/// Writes the bytes to what is no regular file.
+fn in_place<F: Write>(file: &mut F, bytes: &[u8]) -> Result<Written, ShelfFault> {
+    match write_in_place(file, bytes) {
+        Ok(all) => Ok(Written::InPlace(all)),
+        Err(fault) => Err(fault),
     }
 }
 
@@ -82,12 +90,12 @@ fn replace<R: Files + AllocGlobal>(
     path: &str,
     is_there: bool,
     bytes: &[u8],
-) -> Result<(), ShelfFault> {
+) -> Result<Written, ShelfFault> {
     let target = follow_links(rt, path)?;
     let target = target.as_str();
     if is_there {
         let old = writable(rt, target)?;
-        replace_target(rt, target, Some(&old), bytes)
+        replace_target(rt, target, Some(old.permissions().mode()), bytes)
     } else {
         replace_target(rt, target, None, bytes)
     }
@@ -127,90 +135,40 @@ fn writable<R: Files>(rt: &R, target: &str) -> Result<Metadata, ShelfFault> {
     }
 }
 
-/// Replaces the regular file at the target, or none, by a new one that is written next to it, under
-/// the first name that is free.
+/// Replaces the regular file at the target, or none, by a new one that takes the mode, if one is
+/// given. The folder is opened first: without a sync of it nothing can be kept.
 fn replace_target<R: Files + AllocGlobal>(
     rt: &R,
     target: &str,
-    old: Option<&Metadata>,
+    mode: Option<u32>,
     bytes: &[u8],
-) -> Result<(), ShelfFault> {
-    for number in 0..NAMES {
-        let beside = name_beside(rt, target, number)?;
-        match replace_by(rt, beside.as_str(), target, old, bytes) {
-            Ok(true) => return Ok(()),
-            Ok(false) => {}
-            Err(fault) => return Err(fault),
-        }
+) -> Result<Written, ShelfFault> {
+    let stem = stem_beside(rt, target)?;
+    let folder = or_shelf_fault(fs::open(rt, folder_of(target)))?;
+    let mut names = SystemFolder::new(rt, folder);
+    match write_whole(&mut names, rt.alloc(), target, stem.as_str(), mode, bytes) {
+        Ok(kept) => Ok(Written::Whole(kept)),
+        Err(fault) => Err(fault),
     }
-    Err(ShelfFault)
 }
 
-/// A name for the new file: that of the target, hidden, marked and numbered, in the same folder.
-fn name_beside<R: AllocGlobal>(rt: &R, target: &str, number: u32) -> Result<PathBuf, ShelfFault> {
+/// The names of new files but for their numbers: that of the target, hidden and marked, in its
+/// folder.
+fn stem_beside<R: AllocGlobal>(rt: &R, target: &str) -> Result<PathBuf, ShelfFault> {
     let target = Path::new(target);
     let Some(name) = target.file_name() else {
         return Err(ShelfFault);
     };
     // a folder takes no name of more than 255 bytes
     let kept = if name.len() <= 200 { name } else { "" };
-    let marked = or_shelf_fault(format!(in rt.alloc(); ".{kept}.irig_ed-new-{number}"))?;
+    let marked = or_shelf_fault(format!(in rt.alloc(); ".{kept}.irig_ed-new-"))?;
     or_shelf_fault(target.with_file_name(rt.alloc(), marked.as_str()))
 }
 
-/// Writes a new file, and gives it the target's name; false if its own name is taken, so that
-/// no other run ever has it open.
-fn replace_by<R: Files>(
-    rt: &R,
-    beside: &str,
-    target: &str,
-    old: Option<&Metadata>,
-    bytes: &[u8],
-) -> Result<bool, ShelfFault> {
-    match create_new_file(rt, beside, old.is_some()) {
-        Ok(mut file) => {
-            let put = match fill(&mut file, old, bytes) {
-                Ok(()) => or_shelf_fault(fs::rename(rt, beside, target)),
-                Err(fault) => Err(fault),
-            };
-            if put.is_err() {
-                let _ = fs::remove_file(rt, beside);
-            }
-            put.map(|()| true)
-        }
-        Err(e) if e.kind() == ErrorKind::AlreadyExists => Ok(false),
-        Err(_) => Err(ShelfFault),
+/// The folder of a path.
+fn folder_of(target: &str) -> &str {
+    match Path::new(target).parent() {
+        Some(folder) if !folder.as_os_str().is_empty() => folder.as_os_str(),
+        _ => ".",
     }
-}
-
-/// A new file; one that takes the rights of another is its owner's alone until then.
-fn create_new_file<R: Files>(rt: &R, path: &str, hidden: bool) -> io::Result<R::File> {
-    let mut how = OpenOptions::new();
-    how.write(true).create_new(true);
-    if hidden {
-        how.mode(0o600);
-    }
-    how.open(rt, path)
-}
-
-/// Writes the new file, durably.
-fn fill<F: OpenFile + Write>(
-    file: &mut F,
-    old: Option<&Metadata>,
-    bytes: &[u8],
-) -> Result<(), ShelfFault>
-    ensures { OnOk result (Appends (F.contents file.old) (F.contents file.new) bytes.now) }
-{
-    if let Some(old) = old {
-        or_shelf_fault(file.set_permissions(old.permissions()))?;
-    }
-    write_whole(file, bytes)?;
-    or_shelf_fault(file.sync_all())
-}
-
-/// Writes all of the bytes.
-fn write_whole<F: Write>(file: &mut F, bytes: &[u8]) -> Result<(), ShelfFault>
-    ensures { OnOk result (Appends (F.contents file.old) (F.contents file.new) bytes.now) }
-{
-    or_shelf_fault(file.write_all(bytes))
 }

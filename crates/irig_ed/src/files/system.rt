@@ -5,11 +5,11 @@ ghost use Rattle.std.specs.Prelude.{None};
 use crate::files::disk::Disk;
 use crate::files::dump_file::{DumpFileFault, read_dump};
 use crate::files::put_file::put_file;
+use crate::files::written::Written;
 use irig_script::ShelfFault;
 use std::rt::Files;
 
-/// The files of the system. Nothing is known of them. `docs/FORMATS.md` says what was tested: a
-/// write replaces the file at its path whole, and one that fails leaves it as it was.
+/// The files of the system. Nothing is known of them. `docs/FORMATS.md` says how one is written.
 #[derive(Drop)]
 pub struct System<'a, R> {
     runtime: &'a R,
@@ -27,11 +27,17 @@ impl<R: Files + Print + AllocGlobal> Disk for System<'_, R> {
 
     ghost puts = { λ s. None };
 
+    ghost left_at_first = { λ s path c. Unit {0} };
+
+    ghost left_since = { λ s count path c. Unit {0} };
+
+    ghost keeps = { λ s. tt };
+
     fn read(&self, path: &str) -> Result<Vec<u8>, DumpFileFault> {
         read_dump(self.runtime, path)
     }
 
-    fn put(&mut self, path: &str, text: &[u8]) -> Result<(), ShelfFault> {
+    fn put(&mut self, path: &str, text: &[u8]) -> Result<Written, ShelfFault> {
         put_file(self.runtime, path, text)
     }
 }

@@ -12,5 +12,5 @@ ends_by words held old new chosen (Usage fault) r o = absurd o
 ends_by words held old new chosen (Unread path fault) r o = (chosen, r, o)
 ends_by words held old new chosen (Ran path result) r o = (chosen, r, o)
 
-pub returns-in-Ok : goal.returns-in-Ok
-returns-in-Ok g c = ends_by _ _ _ _ c.in-Ok.chosen c.run_on_track.result c.in-Ok.ensures c.run_on_track.ensures
+pub returns-in-Ok-clause-ends : goal.returns-in-Ok-clause-ends
+returns-in-Ok-clause-ends g c = ends_by _ _ _ _ c.in-Ok.chosen c.run_on_track.result c.in-Ok.ensures c.run_on_track.ensures

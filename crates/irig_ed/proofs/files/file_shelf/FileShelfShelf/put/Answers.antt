@@ -11,7 +11,7 @@ returns-in-Ok-clause-ok g c = record {
 
 pub returns-in-Err-clause-err : goal.returns-in-Err-clause-err
 returns-in-Err-clause-err g c = record {
-  put = texts_at-none c.args.self.now.path.now (g.D.Disk.puts c.args.self.now.disk.now) (g.D.Disk.puts c.put.new.self) c.in-Err.ensures.err;
+  put = texts_at-none c.args.self.now.path.now c.args.text.now (g.D.Disk.puts c.args.self.now.disk.now) (g.D.Disk.puts c.put.new.self) c.in-Err.ensures.err;
   failed = omega arith;
   label = refl;
 }
