@@ -61,6 +61,8 @@ class Times:
 
     def _find_year_length(self) -> None:
         """Without a year the day after 365 is told by the frames themselves."""
+        if self.calendar.with_year:
+            return
         agree = {}
         for days in (366, 365):
             self.calendar.days = days

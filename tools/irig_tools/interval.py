@@ -4,7 +4,8 @@ from __future__ import annotations
 
 import statistics
 from dataclasses import dataclass, field
-from itertools import islice
+from itertools import compress, count, islice
+from operator import sub
 from typing import List, Optional, Sequence
 
 from .editor import Listing
@@ -45,7 +46,7 @@ class Run:
 
 
 def distances(times: Sequence[int]) -> List[int]:
-    return [after - before for before, after in zip(times, islice(times, 1, None))]
+    return list(map(sub, islice(times, 1, None), times))
 
 
 def share_in_step(times: Sequence[int], interval: int) -> float:
@@ -94,7 +95,8 @@ class Clock:
 
     def _find_runs(self, apart: Sequence[int]) -> List[Run]:
         low, high = self.interval - self.margin, self.interval + self.margin
-        breaks = [at for at, distance in enumerate(apart, 1) if not low <= distance <= high]
+        odd = {distance for distance in set(apart) if not low <= distance <= high}
+        breaks = list(compress(count(1), map(odd.__contains__, apart)))
         return [Run(first, after - 1) for first, after in zip([0] + breaks, breaks + [len(apart) + 1])]
 
     def _fit(self, run: Run, rises: Sequence[int]) -> None:

@@ -27,6 +27,7 @@ class Layout:
         self.interval, self.period = INTERVAL[kind], PERIOD[kind]
         self.fields: Dict[str, List[Tuple[int, int]]] = {}
         self._known: Dict[Tuple[str, str], int] = {}
+        self._within: Dict[Tuple[str, str], int] = {}
         self._add_time()
         self._add_rest()
         with_control = expression in (0, 1, 4, 5)
@@ -36,6 +37,7 @@ class Layout:
         used = {*self.carried, *self.control, *POSITIONS}
         self.unused = [element for element in range(100) if element not in used]
         self._carried_of = itemgetter(*self.carried)
+        self._parts = [(name, rows[0][0], rows[-1][0] + 1) for name, rows in self.fields.items()]
 
     def _add_time(self) -> None:
         if self.kind != "E":
@@ -67,25 +69,33 @@ class Layout:
         """The number in a field, or -1 if one of its decimal digits is above 9."""
         rows = self.fields[name]
         part = text[rows[0][0]:rows[-1][0] + 1]
+        if name == "binary":  # the position identifier at element 89 is in its middle
+            return int((part[:9] + part[10:])[::-1], 2)
         if (name, part) not in self._known:
             ones = {weight for element, weight in rows if text[element] == "1"}
-            above = name != "binary" and any(
-                8 * unit in ones and ones & {2 * unit, 4 * unit} for unit in (1, 10)
-            )
+            above = any(8 * unit in ones and ones & {2 * unit, 4 * unit} for unit in (1, 10))
             self._known[name, part] = -1 if above else sum(ones)
         return self._known[name, part]
+
+    def _value_within(self, name: str, part: str, text: str) -> int:
+        """The number in a field, of which `part` is its part of the frame, or -1 if it is out of range."""
+        known = self._within.get((name, part))
+        if known is None:
+            known = self.value(name, text)
+            known = known if known <= MOST[name] else -1
+            if name != "binary":  # that is another one in each second
+                self._within[name, part] = known
+        return known
 
     def decode(self, text: str) -> Optional[Fields]:
         """The fields of a frame, or None if an element is damaged, a field is out of range, or two fields
         disagree."""
         if not set(self._carried_of(text)) <= {"0", "1"}:
             return None
-        told = {name: self.value(name, text) for name in self.fields}
-        if (
-            min(told.values()) < 0
-            or any(value > MOST[name] for name, value in told.items())
-            or not told["days"]
-        ):
+        told = {
+            name: self._value_within(name, text[first:beyond], text) for name, first, beyond in self._parts
+        }
+        if min(told.values()) < 0 or not told["days"]:
             return None
         if told["seconds"] == 60 and (told["minutes"], told["hours"]) != (59, 23):
             return None

@@ -20,9 +20,12 @@ def _shown(calendar: Calendar, read: Sequence[Tuple[int, Fields]]) -> Set[int]:
 
 def _possible(calendar: Calendar, read: Sequence[Tuple[int, Fields]], base: Base) -> Set[int]:
     """The midnights before which there is time for one second more than the frames show."""
-    found = set()
-    for (left, before), (right, after) in zip(read, read[1:]):
-        if base(right, after) - base(left, before) == -SECOND and before["days"] in LEAP_DAYS:
+    found: Set[int] = set()
+    if not any(told["days"] in LEAP_DAYS for _, told in read):
+        return found
+    bases = [base(*each) for each in read]
+    for (left, before), (right, after), earlier, later in zip(read, read[1:], bases, bases[1:]):
+        if later - earlier == -SECOND and before["days"] in LEAP_DAYS:
             midnight = calendar.number(before) // DAY * DAY + DAY
             if calendar.number(after) % DAY <= (right - left) * calendar.layout.period:
                 found.add(midnight)
@@ -35,7 +38,7 @@ def find_leap(calendar: Calendar, read: Sequence[Tuple[int, Fields]], base: Base
         return None
     shown = _shown(calendar, read)
     candidates: List[int] = sorted(shown | _possible(calendar, read, base))
-    plain = Counter(base(*each) for each in read)
+    plain = Counter(base(*each) for each in read if candidates)
     found = None
     for moment in candidates:
         calendar.leap = moment

@@ -17,12 +17,15 @@ class Calendar:
         self.layout, self.with_year = layout, layout.with_year
         self.days = 365  # of the year that ends within the recording, if the format has no year
         self.leap: Optional[int] = None  # the moment at which second 60 begins
+        self._first_days = {
+            year: datetime.date(2000 + year, 1, 1).toordinal() if self.with_year else 1 for year in range(100)
+        }
 
     def number(self, told: Fields) -> int:
         within = 100 * (3600 * told["hours"] + 60 * told["minutes"] + told["seconds"]) + told.get(
             "hundredths", 0
         )
-        first = datetime.date(2000 + told["year"], 1, 1).toordinal() if self.with_year else 1
+        first = self._first_days[told.get("year", 0)]
         plain = (first + told["days"] - 1) * DAY + within
         if self.leap is None:
             return plain

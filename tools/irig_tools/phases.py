@@ -6,21 +6,31 @@ nowhere else.
 """
 from __future__ import annotations
 
-import re
 from collections import Counter
 from itertools import accumulate, cycle, islice
 from operator import add, ne
 from typing import Callable, Container, Iterable, List, Optional, Sequence, Set, Tuple
 
-from .layout import POSITIONS, READABLE
+from .layout import POSITIONS
 
 ONLY_P = str.maketrans("01b", "---")
+NO_DIGITS = str.maketrans("01", "--")
 PATTERN = "".join("P" if element in POSITIONS else "-" for element in range(100))
-# a frame between two markers, or one and the end of a run
-WHOLE = re.compile("(?<=P)%s(?=P|$)" % READABLE.pattern)
 LONGEST_TURN = 3000  # elements
 
 Place = Tuple[int, int]
+
+
+def whole_frames(classes: str) -> List[int]:
+    """Where a frame begins that can be read, between two markers, or between one and the end of a run."""
+    text, found, wanted = classes.translate(NO_DIGITS), [], "P" + PATTERN
+    at = text.find(wanted)
+    while at >= 0:
+        if text[at + 101:at + 102] in ("P", ""):
+            found.append(at + 1)
+            at += 99
+        at = text.find(wanted, at + 1)
+    return found
 
 
 class Marks:
@@ -28,10 +38,10 @@ class Marks:
 
     def __init__(self, text: str) -> None:
         self.count = len(text)
-        self.places = Counter(found.start() % 100 for found in re.finditer("P", text))
-        self.many = sum(self.places.values())
+        self.places = [text[place::100].count("P") for place in range(100)]
+        self.many = sum(self.places)
         self.whole: Container[int] = (
-            {-found.start() % 100 for found in WHOLE.finditer(text)} if self.count > 100 else ()
+            {-start % 100 for start in whole_frames(text)} if self.count > 100 else ()
         )
 
     def faults(self, phase: int) -> int:
@@ -124,7 +134,7 @@ def _turn(text: str, lefts: Sequence[int], rights: Sequence[int]) -> Optional[Pl
 def turns(classes: str) -> List[Place]:
     """The places (first, last) at which a run goes on with another phase: between whole frames, before and
     after them."""
-    whole = [found.start() for found in WHOLE.finditer(classes)]
+    whole = whole_frames(classes)
     text, every = classes.translate(ONLY_P), range(100)
     if not whole:
         alone = _turn(text, every, every) if len(text) > 60 else None

@@ -2,6 +2,7 @@
 to be."""
 from __future__ import annotations
 
+from math import inf
 from typing import Callable, Dict, Iterator, List, NamedTuple, Optional, Sequence, Tuple
 
 from .interval import Clock, Run
@@ -10,8 +11,10 @@ from .phases import Marks, Usual, tells_phase
 SURE = 5  # a run of that many pulses is no accident
 MANY = 13  # phases that fit equally well: no position identifier is there
 UNLIKELY = 8  # a way that costs so much more than the cheapest does not count
+HOPELESS = 12  # a way that costs so much more up to a run is not followed, so that the search stays short
 LONG = 40  # pulses of a run whose position identifiers say its phase
 MOST_LATE = 12  # elements
+EARLY = 0.4  # intervals by which a run may come early if rises stray
 BARELY = 2  # what a rest costs that is late by less than a pulse may stray
 LEAST = 2  # a run whose phase leads by less is left alone
 LEAD = 3  # a run whose phase leads by less is looked at again, with what most frames have
@@ -61,7 +64,9 @@ def _trim(runs: List[Run], classes: str) -> List[Run]:
 def _hop(clock: Clock, distance: float, interval: float, step: int) -> Tuple[int, float, float]:
     """Elements to go on by (`step` modulo 100), how late what follows then is, and what it costs to believe
     that."""
-    more = int((distance + clock.slack(distance / interval)) / interval - step) // 100
+    # a run that comes early by less than this is not taken for one that comes late by nearly a frame
+    early = max(clock.slack(distance / interval), EARLY * interval if clock.noise else 0)
+    more = int((distance + early) / interval - step) // 100
     steps = step + 100 * max(0, more)
     late = distance - steps * interval
     if abs(late) <= clock.slack(steps):
@@ -134,7 +139,8 @@ class _Linker:
             for phase, step, late, cost in self._onward(len(self.table) - 1, old):
                 if phase not in choices or told[0] + cost < choices[phase][0]:
                     choices[phase] = told[0] + cost, old, step, late
-        return choices
+        most = HOPELESS + min(choice[0] for choice in choices.values())
+        return {phase: choice for phase, choice in choices.items() if choice[0] <= most}
 
     def _way(self, before: Run, run: Run) -> _Way:
         """The steps from run to run that are worth a look, and the phases that the run itself has."""
@@ -173,13 +179,16 @@ class _Linker:
         for at in range(len(self.runs) - 1, -1, -1):
             run, choices = self.runs[at], self.table[at]
             if at < len(self.ways):
-                rest = {
-                    old: min(each + rest[phase] for phase, _, _, each in self._onward(at, old))
-                    for old in choices
-                }
+                rest = {old: self._least_rest(at, old, rest) for old in choices}
             others = {phase: choices[phase][0] + rest[phase] for phase in choices if phase != run.place}
             run.lead = min(others.values(), default=cost + UNLIKELY) - cost
             run.others = [phase for phase, each in sorted(others.items()) if each < cost + LEAST]
+
+    def _least_rest(self, at: int, old: int, rest: Dict[int, float]) -> float:
+        """What the cheapest way from a phase of run `at` to the last run costs; `rest` is that of the next
+        run."""
+        costs = [each + rest[phase] for phase, _, _, each in self._onward(at, old) if phase in rest]
+        return min(costs, default=inf)
 
 
 def _without_strays(clock: Clock, runs: List[Run], classes: str) -> bool:
