@@ -73,12 +73,12 @@ pub record IsParsed (words : List Text) (matches : ArgMatches) : Type 0 where
   pub is_command : IsCommand app
   pub promised : HasMatchesOf app words matches
 
--- the error is want of memory
+-- the error is that memory ran out
 abbrev pub WantsMemory : Error → Type 0
 WantsMemory error = kind_of error ≡ OutOfMemory
 
--- the command refuses the words with an error of this kind; if it takes them, only for want of
--- memory
+-- the command refuses the words with an error of this kind; if it takes them, only because memory
+-- ran out
 pub record IsRefused (words : List Text) (error : Error) : Type 0 where
   pub app : App
   pub is_command : IsCommand app

@@ -40,7 +40,7 @@ pub record AreValues (f : Found) (s : Settings) : Type 0 where
 abbrev pub is_chosen_format : Found → Bool
 is_chosen_format f = is_permitted (kind_of f) (expression_of f)
 
--- the answer is that of the matches; an error is want of memory
+-- the answer is that of the matches; an error is that memory ran out
 abbrev pub Chooses : Found → Result Settings UsageFault → Type 0
 Chooses f (Ok s) = AreValues f s × (is_chosen_format f ≡ true)
 Chooses f (Err fault.BadExpression) = is_chosen_format f ≡ false
