@@ -22,7 +22,7 @@ pub fn has_form(form: &[u8], text: &[u8]) -> bool
     true
 }
 
-/// Whether a byte is what a form has there: any digit in the place of a 0, and else that byte.
+/// Whether a byte fits a character of a form: a digit for 0, and else the same character.
 fn fits_form(form: u8, byte: u8) -> bool
     ensures { result ≡ fits_form_of form byte }
 {
