@@ -5,8 +5,10 @@ ghost use Rattle.irig_index.specs.Checked.{looks_of};
 ghost use Rattle.irig_index.specs.Frames.{frames, records_in};
 ghost use Rattle.irig_index.specs.Looked.{Looked};
 ghost use Rattle.irig_index.specs.Sides.{left_of, kept_right};
+ghost use Rattle.irig_index.specs.Stale.{LastMayBeStale, last_retold};
 
 use crate::frame::{looks_of, verdict};
+use crate::look::add_looks;
 use crate::marker::next_marker;
 use crate::record::{Record, Verdict};
 use crate::sides::put;
@@ -64,6 +66,39 @@ pub fn fill(
         place = next_place(marker, verdict, to);
     }
     Ok(())
+}
+
+/// Checks the frame of the last marker left of the gap again, unless that marker is one up to
+/// `settled`.
+pub fn retell(
+    records: &mut Gap<Record>,
+    lens: &mut Lens<'_>,
+    looks: &mut u64,
+    format: Format,
+    settled: usize,
+)
+    requires stale { LastMayBeStale format lens.old.track.pulses settled (left_of records.old) }
+    ensures left { left_of records.new
+        ≡ last_retold format lens.old.track.pulses (left_of records.old) }
+    ensures right { kept_right records.new ≡ kept_right records.old }
+    ensures length { length records.new.items ≡ length records.old.items }
+    ensures capacity { records.new.capacity ≡ records.old.capacity }
+    ensures looked { Looked lens.old lens.new looks.old looks.new 100 }
+{
+    // Read for its bound alone.
+    let _len = lens.len();
+    let place = records.gap_at();
+    if place == 0 {
+        return;
+    }
+    let marker = records.get(place - 1).marker;
+    if marker <= settled {
+        return;
+    }
+    let first = lens.pulse(marker);
+    add_looks(looks, 1);
+    let verdict = verdict(lens, looks, format, marker, first);
+    records.set(place - 1, Record { marker, verdict });
 }
 
 /// The place from which on the next marker is sought, none later than `to`: none is between the
