@@ -17,11 +17,11 @@ digit_other (Some Zero) e = refl
 digit_other (Some One) e = refl
 digit_other (Some Position) e = cc
 
-either : (b : Bool) → (b ≡ true) ⊎ (b ≡ false)
+pub either : (b : Bool) → (b ≡ true) ⊎ (b ≡ false)
 either true = inl refl
 either false = inr refl
 
-nine : (k : ℕ) → (k % 10 == 9) ≡ true → k % 10 ≡ 9
+pub nine : (k : ℕ) → (k % 10 == 9) ≡ true → k % 10 ≡ 9
 nine k e = grind (arith, nat_tests)
 
 not_nine : (k : ℕ) → (k % 10 == 9) ≡ false → k % 10 ≡ 9 → ⊥

@@ -9,16 +9,31 @@ use Rattle.std.proofs.Math.Seq.{take-append_seam, drop-append_seam}
 use Rattle.irig_gap.specs.Items.{GapView, gap_view}
 use Rattle.irig_track.specs.declared.pulse.Pulse.{Pulse}
 use Rattle.irig_index.specs.declared.record.Record.{Record}
-use Rattle.irig_index.specs.Frames.{frames, records_in}
+use Rattle.irig_index.specs.Frames.{frames, record_after, records_in}
 use Rattle.irig_index.specs.Index.{IndexView, WereFrames, index_view}
 use Rattle.irig_index.specs.Laws.{moved}
 use Rattle.irig_index.specs.Cuts.{Cut}
 use Rattle.irig_index.specs.Sides.{from_other_end, turned, left_of, kept_right, right_of, shown, EndsUpTo, BeginsAfter, AllUpTo, AllAfter, Dropped}
-use Rattle.irig_index.proofs.FrameLemmas.{record_after-last, window_same}
+use Rattle.irig_index.specs.Stale.{LastMayBeStale, last_retold}
+use Rattle.irig_index.proofs.FrameLemmas.{record_after-last, records_in-none, window_same}
+use Rattle.irig_index.proofs.PlaceLemmas.{window_none}
 use Rattle.irig_index.proofs.MarkerBounds.{AllAfter-append, AllAfter-less, AllAfter-moved, AllUpTo-ends}
 use Rattle.irig_index.proofs.MarkerBounds.{AllUpTo-more, parted_same, records_in-after, records_in-up_to}
 use Rattle.irig_index.proofs.SideLemmas.{from_other_end-moved, length-shown, length-sides}
-use Rattle.irig_index.proofs.Window.{edits_are_local, frames_in_parts}
+use Rattle.irig_index.proofs.StaleLemmas.{start_retold}
+use Rattle.irig_index.proofs.Window.{frames_parted, records_in-append}
+
+-- a window from its first marker on
+pub window_skipped : (f : FormatView) (ps : List Pulse) (from place to : ℕ) → from ≤ place → place ≤ to
+    → ((k : ℕ) → from ≤ k → k < place → record_after f ps k ≡ []) → records_in f ps place (to - place) ≡ records_in f ps from (to - from)
+window_skipped f ps from place to past inside none =
+    let all : place - from + (to - place) ≡ to - from = omega (arith, past, inside) in
+    let here : from + (place - from) ≡ place = omega (arith, past) in
+    let start : from - from ≡ 0 = omega arith in
+    let before : records_in f ps from (place - from) ≡ [] =
+    window_none f ps from from place (omega arith) past none ∙ (ap (records_in f ps from) start ∙ records_in-none f ps from) in
+    (λ i. sym before i ++ records_in f ps (sym here i) (to - place))
+    ∙ (sym (records_in-append f ps from (place - from) (to - place)) ∙ ap (records_in f ps from) all)
 
 -- a window that ends with the track
 pub window_end : (f : FormatView) (ps : List Pulse) (from last : ℕ) → from ≤ last → from ≤ length ps - 1 → last ≤ length ps
@@ -101,21 +116,15 @@ thinned first last (s ∷ start) (l ∷ left) gone right touched rest e ga gu su
     record { left = more.left; whole = (λ i. same i ∷ more.whole i); after = more.after; up_to = more.up_to }
 
 -- the parts of the track before and after an edit
-module _ (f : FormatView) (a x y b : List Pulse) (pulses : ℕ) (g0 g1 g2 g3 : GapView Record)
-    (few : length x < 2 ^ 64) (fits : length b + length a + length y < 2 ^ 64)
-    (were : Cut (length a - 100) (length a + length x) (frames f (a ++ (x ++ b))) (left_of g0) (right_of pulses g0))
-    (same : shown pulses g1 ≡ shown pulses g0)
-    (ends : EndsUpTo (length a - 100) (left_of g1))
-    (begins : BeginsAfter (length a - 100) (right_of pulses g1))
-    (stays : left_of g2 ≡ left_of g1)
-    (dropped : Dropped (length a + length x) (right_of pulses g1) (right_of pulses g2))
-    (left : left_of g3 ≡ left_of g2 ++ records_in f (a ++ (y ++ b)) (length a - 100) (length a + length y - (length a - 100)))
-    (kept : kept_right g3 ≡ kept_right g2) where
+module _ (f : FormatView) (a x y b : List Pulse) (m count : ℕ) (order : m ≤ length a - 1) (all : List Record)
+    (were : all ≡ frames f (a ++ (x ++ b)))
+    (ends : EndsUpTo m (take count all))
+    (begins : BeginsAfter m (drop count all)) where
   start : List Record
-  start = records_in f (a ++ (x ++ b)) 0 (length a - 100)
+  start = records_in f (a ++ (x ++ b)) 0 m
 
   touched : List Record
-  touched = records_in f (a ++ (x ++ b)) (length a - 100) (length a + length x - (length a - 100))
+  touched = records_in f (a ++ (x ++ b)) m (length a + length x - m)
 
   rest : List Record
   rest = map (moved (length a + length x)) (frames f b)
@@ -127,53 +136,92 @@ module _ (f : FormatView) (a x y b : List Pulse) (pulses : ℕ) (g0 g1 g2 g3 : G
   touched_up_to : AllUpTo (length a + length x) touched
   unfolding touched
   touched_up_to =
-      AllUpTo-more (length a - 100 + (length a + length x - (length a - 100))) (length a + length x) touched (omega arith)
-      (records_in-up_to f (a ++ (x ++ b)) (length a - 100) (length a + length x - (length a - 100)))
+      AllUpTo-more (m + (length a + length x - m)) (length a + length x) touched (omega (arith, order))
+      (records_in-up_to f (a ++ (x ++ b)) m (length a + length x - m))
 
-  start_up_to : AllUpTo (length a - 100) start
-  unfolding start
-  start_up_to =
-      AllUpTo-more (0 + (length a - 100)) (length a - 100) start (omega arith) (records_in-up_to f (a ++ (x ++ b)) 0 (length a - 100))
+  starts_up_to : (z : List Pulse) → AllUpTo m (records_in f z 0 m)
+  starts_up_to z = AllUpTo-more (0 + m) m (records_in f z 0 m) (omega arith) (records_in-up_to f z 0 m)
 
-  touched_after : AllAfter (length a - 100) touched
+  touched_after : AllAfter m touched
   unfolding touched
-  touched_after = records_in-after f (a ++ (x ++ b)) (length a - 100) (length a + length x - (length a - 100))
+  touched_after = records_in-after f (a ++ (x ++ b)) m (length a + length x - m)
 
-  -- what is left of the window if some of it has gone
-  stood : Thinned (length a - 100) (length a + length x) (shown pulses g0) start rest
+  -- the first records are those before the edit
+  parted_first : (start ≡ take count all) × (touched ++ rest ≡ drop count all)
   unfolding start touched rest
-  stood =
-      thinned (length a - 100) (length a + length x) start (left_of g0) were.gone (right_of pulses g0) touched rest
-      (sym were.whole ∙ frames_in_parts f a x b) were.after were.up_to start_up_to touched_after touched_up_to rest_after
-
-  -- the gap is before the window
-  parted : (start ≡ left_of g1) × (stood.left ++ rest ≡ right_of pulses g1)
-  parted =
-      parted_same (length a - 100) start (stood.left ++ rest) (left_of g1) (right_of pulses g1)
-      (sym stood.whole ∙ sym same) start_up_to
-      (AllAfter-append (length a - 100) stood.left rest stood.after
-      (AllAfter-less (length a + length x) (length a - 100) rest (omega arith) rest_after))
+  parted_first =
+      parted_same m start (touched ++ rest) (take count all) (drop count all)
+      (sym (frames_parted f a x b m (omega (arith, order))) ∙ (sym were ∙ sym (take-append-drop count all)))
+      (starts_up_to (a ++ (x ++ b)))
+      (AllAfter-append m touched rest touched_after (AllAfter-less (length a + length x) m rest (omega (arith, order)) rest_after))
       ends begins
 
-  -- and what is right of it then is after the window
-  behind : rest ≡ right_of pulses g2
-  behind = (parted_same (length a + length x) stood.left rest dropped.gone (right_of pulses g2) (parted.1 ∙ dropped.all)
-      stood.up_to rest_after (AllUpTo-ends (length a + length x) dropped.gone dropped.up_to) dropped.rest).1
+  -- and told again they are those of the edited track
+  pub told_parts : (last_retold f (a ++ (y ++ b)) (take count all) ≡ records_in f (a ++ (y ++ b)) 0 m)
+      × LastMayBeStale f (a ++ (y ++ b)) (length a - 100) (take count all)
+  unfolding start
+  told_parts =
+      subst (λ rs. (last_retold f (a ++ (y ++ b)) rs ≡ records_in f (a ++ (y ++ b)) 0 m) × LastMayBeStale f (a ++ (y ++ b)) (length a - 100) rs)
+      parted_first.0 (start_retold f a (x ++ b) (y ++ b) m order)
 
-  pub repaired_parts : shown (((pulses + (2 ^ 64 - length x)) % 2 ^ 64 + length y) % 2 ^ 64) g3 ≡ frames f (a ++ (y ++ b))
-  unfolding start rest
-  repaired_parts =
-      let now = ((pulses + (2 ^ 64 - length x)) % 2 ^ 64 + length y) % 2 ^ 64 in
-      let window = records_in f (a ++ (y ++ b)) (length a - 100) (length a + length y - (length a - 100)) in
-      let front : left_of g3 ≡ records_in f (a ++ (y ++ b)) 0 (length a - 100) ++ window =
-      left ∙ ap (λ rs. rs ++ window) (stays ∙ (sym parted.0 ∙ edits_are_local f a x y b)) in
-      let back : right_of now g3 ≡ map (moved (length a + length y)) (frames f b) =
-      ap (map (turned now)) kept
-      ∙ turned_moved pulses (length a) (length x) (length y) (length b) few fits (kept_right g2) (frames f b)
-      (AllUpTo-more (0 + (length b - 1)) (length b) (frames f b) (omega arith) (records_in-up_to f b 0 (length b - 1))) (sym behind) in
-      (λ i. front i ++ back i)
-      ∙ (append_assoc (records_in f (a ++ (y ++ b)) 0 (length a - 100)) window (map (moved (length a + length y)) (frames f b))
-      ∙ sym (frames_in_parts f a y b))
+  module _ (told : List Record) (now : told ≡ last_retold f (a ++ (y ++ b)) (take count all) ++ drop count all) where
+    told_whole : told ≡ records_in f (a ++ (y ++ b)) 0 m ++ (touched ++ rest)
+    told_whole = now ∙ λ i. told_parts.0 i ++ sym parted_first.1 i
+
+    -- no record went or came, and none has a new number
+    pub kept_parts : length x ≡ length y → BeginsAfter (length a + length x) (drop count all)
+        → records_in f (a ++ (y ++ b)) m (length a + length y - m) ≡ [] → told ≡ frames f (a ++ (y ++ b))
+    unfolding rest
+    kept_parts same after none =
+        let none_went = (parted_same (length a + length x) touched rest [] (drop count all) parted_first.1 touched_up_to rest_after tt after).0 in
+        told_whole
+        ∙ ((λ i. records_in f (a ++ (y ++ b)) 0 m ++ ((none_went ∙ sym none) i ++ map (moved (length a + same i)) (frames f b)))
+        ∙ sym (frames_parted f a y b m (omega (arith, order))))
+
+    module _ (pulses : ℕ) (g0 g1 g2 : GapView Record)
+        (few : length x < 2 ^ 64) (fits : length b + length a + length y < 2 ^ 64)
+        (cut : Cut m (length a + length x) told (left_of g0) (right_of pulses g0))
+        (same : shown pulses g1 ≡ shown pulses g0)
+        (ends_then : EndsUpTo m (left_of g1))
+        (begins_then : BeginsAfter m (right_of pulses g1))
+        (stays : left_of g2 ≡ left_of g1)
+        (dropped : Dropped (length a + length x) (right_of pulses g1) (right_of pulses g2)) where
+      -- what is left of the window if some of it has gone
+      stood : Thinned m (length a + length x) (shown pulses g0) (records_in f (a ++ (y ++ b)) 0 m) rest
+      stood =
+          thinned m (length a + length x) (records_in f (a ++ (y ++ b)) 0 m) (left_of g0) cut.gone (right_of pulses g0) touched rest
+          (sym cut.whole ∙ told_whole) cut.after cut.up_to (starts_up_to (a ++ (y ++ b))) touched_after touched_up_to rest_after
+
+      -- the gap is before the window
+      parted : (records_in f (a ++ (y ++ b)) 0 m ≡ left_of g1) × (stood.left ++ rest ≡ right_of pulses g1)
+      parted =
+          parted_same m (records_in f (a ++ (y ++ b)) 0 m) (stood.left ++ rest) (left_of g1) (right_of pulses g1)
+          (sym stood.whole ∙ sym same) (starts_up_to (a ++ (y ++ b)))
+          (AllAfter-append m stood.left rest stood.after
+          (AllAfter-less (length a + length x) m rest (omega (arith, order)) rest_after))
+          ends_then begins_then
+
+      -- and what is right of it then is after the window
+      behind : rest ≡ right_of pulses g2
+      behind = (parted_same (length a + length x) stood.left rest dropped.gone (right_of pulses g2) (parted.1 ∙ dropped.all)
+          stood.up_to rest_after (AllUpTo-ends (length a + length x) dropped.gone dropped.up_to) dropped.rest).1
+
+      module _ (g3 : GapView Record)
+          (left : left_of g3 ≡ left_of g2 ++ records_in f (a ++ (y ++ b)) m (length a + length y - m))
+          (kept : kept_right g3 ≡ kept_right g2) where
+        pub repaired_parts : shown (((pulses + (2 ^ 64 - length x)) % 2 ^ 64 + length y) % 2 ^ 64) g3 ≡ frames f (a ++ (y ++ b))
+        unfolding rest
+        repaired_parts =
+            let number = ((pulses + (2 ^ 64 - length x)) % 2 ^ 64 + length y) % 2 ^ 64 in
+            let window = records_in f (a ++ (y ++ b)) m (length a + length y - m) in
+            let front : left_of g3 ≡ records_in f (a ++ (y ++ b)) 0 m ++ window = left ∙ ap (λ rs. rs ++ window) (stays ∙ sym parted.0) in
+            let back : right_of number g3 ≡ map (moved (length a + length y)) (frames f b) =
+            ap (map (turned number)) kept
+            ∙ turned_moved pulses (length a) (length x) (length y) (length b) few fits (kept_right g2) (frames f b)
+            (AllUpTo-more (0 + (length b - 1)) (length b) (frames f b) (omega arith) (records_in-up_to f b 0 (length b - 1))) (sym behind) in
+            (λ i. front i ++ back i)
+            ∙ (append_assoc (records_in f (a ++ (y ++ b)) 0 m) window (map (moved (length a + length y)) (frames f b))
+            ∙ sym (frames_parted f a y b m (omega (arith, order))))
 
 -- a list in three parts
 pub parts : (ps : List Pulse) (at n : ℕ) → ps ≡ take at ps ++ (take n (drop at ps) ++ drop (at + n) ps)
@@ -184,83 +232,132 @@ parts ps at n =
 pub piece_long : (ps : List Pulse) (at n : ℕ) → at + n ≤ length ps → length (take n (drop at ps)) ≡ n
 piece_long ps at n le = length-take-le n (drop at ps) (omega (arith, length-drop at ps))
 
--- an edited track: the records of the window, between those that stay
-module _ (f : FormatView) (at gone come micros : ℕ) (records : List Record) (ps : List Pulse) (were : WereFrames f at gone come records micros ps)
-    (few : length ps ≤ 2 ^ 22) (small : gone < 2 ^ 64) (pulses from to now : ℕ) (g0 g1 g2 g3 : GapView Record)
-    (first : from ≡ at - 100)
-    (shows : Cut from (at + gone) records (left_of g0) (right_of pulses g0))
-    (same_shown : shown pulses g1 ≡ shown pulses g0)
-    (ends : EndsUpTo from (left_of g1))
-    (begins : BeginsAfter from (right_of pulses g1))
-    (stays : left_of g2 ≡ left_of g1)
-    (dropped : Dropped (at + gone) (right_of pulses g1) (right_of pulses g2))
-    (last : to ≡ min (length ps - 1) (at + come))
-    (left : left_of g3 ≡ left_of g2 ++ records_in f ps from (to - from))
-    (kept : kept_right g3 ≡ kept_right g2)
-    (number : now ≡ ((pulses + (2 ^ 64 - gone)) % 2 ^ 64 + come) % 2 ^ 64) where
-  pub repaired : shown now g3 ≡ frames f ps
-  repaired =
-      let a = take at ps in
-      let y = take come (drop at ps) in
-      let x = take gone (drop at were.former) in
-      let b = drop (at + come) ps in
-      let a_long : length a ≡ at = length-take-le at ps (omega (arith, were.span.came)) in
-      let y_long : length y ≡ come = piece_long ps at come were.span.came in
-      let x_long : length x ≡ gone = piece_long were.former at gone were.span.there in
-      let whole : ps ≡ a ++ (y ++ b) = parts ps at come in
-      let former : were.former ≡ a ++ (x ++ b) =
-      parts were.former at gone ∙ ((λ i. sym were.span.before i ++ (x ++ sym were.span.after i))) in
-      let place : from ≡ length a - 100 = omega (arith, a_long, first) in
-      let window : records_in f ps from (to - from) ≡ records_in f (a ++ (y ++ b)) (length a - 100) (length a + length y - (length a - 100)) =
-      (λ i. records_in f ps (first i) (last i - first i))
-      ∙ (window_end f ps (at - 100) (at + come) (omega arith) (omega (arith, were.span.came)) were.span.came
-      ∙ λ i. records_in f (whole i) (sym a_long i - 100) (sym a_long i + sym y_long i - (sym a_long i - 100))) in
-      let same : now ≡ ((pulses + (2 ^ 64 - length x)) % 2 ^ 64 + length y) % 2 ^ 64 =
-      number ∙ λ i. ((pulses + (2 ^ 64 - sym x_long i)) % 2 ^ 64 + sym y_long i) % 2 ^ 64 in
-      ap (λ n. shown n g3) same
-      ∙ (repaired_parts f a x y b pulses g0 g1 g2 g3 (omega (arith, x_long, small))
-      (omega (arith, a_long, y_long, length-drop (at + come) ps, were.span.came, few))
-      (subst (λ (rs : List Record). Cut (length a - 100) (length a + length x) rs (left_of g0) (right_of pulses g0)) (were.frames ∙ ap (frames f) former)
-      (subst (λ (n : ℕ). Cut (length a - 100) n records (left_of g0) (right_of pulses g0)) (λ i. sym a_long i + sym x_long i)
-      (subst (λ (n : ℕ). Cut n (at + gone) records (left_of g0) (right_of pulses g0)) place shows)))
-      same_shown
-      (subst (λ n. EndsUpTo n (left_of g1)) place ends)
-      (subst (λ n. BeginsAfter n (right_of pulses g1)) place begins)
-      stays
-      (subst (λ n. Dropped n (right_of pulses g1) (right_of pulses g2)) (λ i. sym a_long i + sym x_long i) dropped)
-      (left ∙ ap (λ rs. left_of g2 ++ rs) window)
-      kept
-      ∙ ap (frames f) (sym whole))
-
--- the room of an index
-pub all_room : (g : GapView Record) (pulses looks : ℕ) (v : IndexView) → index_view g pulses looks ≡ v → length g.items ≤ g.capacity
-    → length v.records + v.room ≡ g.capacity
-all_room g pulses looks v is within = omega (arith, ap (λ w. length w.records) is, ap (λ w. w.room) is, length-shown pulses g)
-
 pub length-filled : (g h : GapView Record) (rs : List Record) → left_of h ≡ left_of g ++ rs → kept_right h ≡ kept_right g
     → length h.items ≡ length g.items + length rs
 length-filled g h rs left right =
     omega (arith, ap length left, length-append (left_of g) rs, ap length right, length-sides g, length-sides h)
 
--- how many frames an edited track has: those that stay, and those of the window
+-- an edited track: the records of the window, between those that stay
 module _ (f : FormatView) (at gone come micros : ℕ) (records : List Record) (ps : List Pulse) (were : WereFrames f at gone come records micros ps)
-    (few : length ps ≤ 2 ^ 22) (small : gone < 2 ^ 64) (pulses from to : ℕ) (g0 g1 g2 : GapView Record)
-    (first : from ≡ at - 100)
-    (shows : Cut from (at + gone) records (left_of g0) (right_of pulses g0))
-    (same_shown : shown pulses g1 ≡ shown pulses g0)
-    (ends : EndsUpTo from (left_of g1))
-    (begins : BeginsAfter from (right_of pulses g1))
-    (stays : left_of g2 ≡ left_of g1)
-    (dropped : Dropped (at + gone) (right_of pulses g1) (right_of pulses g2))
-    (last : to ≡ min (length ps - 1) (at + come)) where
-  pub frames_long : length (frames f ps) ≡ length g2.items + length (records_in f ps from (to - from))
-  frames_long =
-      let window = records_in f ps from (to - from) in
-      let front = left_of g2 ++ window in
-      let g3 = gap_view (front ++ kept_right g2) (length front) 0 in
-      let left : left_of g3 ≡ front = take-append_seam front (kept_right g2) in
-      let kept : kept_right g3 ≡ kept_right g2 = drop-append_seam front (kept_right g2) in
-      let now = ((pulses + (2 ^ 64 - gone)) % 2 ^ 64 + come) % 2 ^ 64 in
-      let told = repaired f at gone come micros records ps were few small pulses from to now g0 g1 g2 g3 first shows same_shown ends begins stays
-      dropped last left kept refl in
-      omega (arith, ap length told, length-shown now g3, length-filled g2 g3 window left kept)
+    (few : length ps ≤ 2 ^ 22) (small : gone < 2 ^ 64) (from count : ℕ)
+    (first : from ≡ at - 1)
+    (ends : EndsUpTo from (take count records))
+    (begins : BeginsAfter from (drop count records)) where
+  before : List Pulse
+  before = take at ps
+
+  went : List Pulse
+  went = take gone (drop at were.former)
+
+  came : List Pulse
+  came = take come (drop at ps)
+
+  after : List Pulse
+  after = drop (at + come) ps
+
+  before_long : length before ≡ at
+  unfolding before
+  before_long = length-take-le at ps (omega (arith, were.span.came))
+
+  went_long : length went ≡ gone
+  unfolding went
+  went_long = piece_long were.former at gone were.span.there
+
+  came_long : length came ≡ come
+  unfolding came
+  came_long = piece_long ps at come were.span.came
+
+  whole : ps ≡ before ++ (came ++ after)
+  unfolding before came after
+  whole = parts ps at come
+
+  former : were.former ≡ before ++ (went ++ after)
+  unfolding before went after
+  former = parts were.former at gone ∙ (λ i. sym were.span.before i ++ (went ++ sym were.span.after i))
+
+  order : from ≤ length before - 1
+  order = omega (arith, before_long, first)
+
+  fits : length after + length before + length came < 2 ^ 64
+  unfolding after
+  fits = omega (arith, before_long, came_long, length-drop (at + come) ps, were.span.came, few)
+
+  last_gone : at + gone ≡ length before + length went
+  last_gone = omega (arith, before_long, went_long)
+
+  stood_so : records ≡ frames f (before ++ (went ++ after))
+  stood_so = were.frames ∙ ap (frames f) former
+
+  -- the first records are those before the edit
+  pub stale : LastMayBeStale f ps (at - 100) (take count records)
+  stale =
+      subst (λ qs. LastMayBeStale f qs (at - 100) (take count records)) (sym whole)
+      (subst (λ n. LastMayBeStale f (before ++ (came ++ after)) (n - 100) (take count records)) before_long
+      (told_parts f before went came after from count order records stood_so ends begins).1)
+
+  module _ (to place : ℕ) (last : to ≡ min (length ps - 1) (at + come)) (past : from ≤ place) (inside : place ≤ to)
+      (none : (k : ℕ) → from ≤ k → k < place → record_after f ps k ≡ [])
+      (told : List Record) (now : told ≡ last_retold f ps (take count records) ++ drop count records) where
+    -- the window from its first marker on
+    window : records_in f ps place (to - place) ≡ records_in f (before ++ (came ++ after)) from (length before + length came - from)
+    window =
+        window_skipped f ps from place to past inside none
+        ∙ ((λ i. records_in f ps from (last i - from))
+        ∙ (window_end f ps from (at + come) (omega (arith, first)) (omega (arith, first, were.span.came)) were.span.came
+        ∙ λ i. records_in f (whole i) from (sym before_long i + sym came_long i - from)))
+
+    told_so : told ≡ last_retold f (before ++ (came ++ after)) (take count records) ++ drop count records
+    told_so = now ∙ ap (λ qs. last_retold f qs (take count records) ++ drop count records) whole
+
+    -- no record went or came
+    pub kept_in_place : gone ≡ come → place ≡ to → BeginsAfter (at + gone) (drop count records) → told ≡ frames f ps
+    kept_in_place same done behind =
+        let empty : to - place ≡ 0 = omega (arith, done) in
+        kept_parts f before went came after from count order records stood_so ends begins told told_so
+        (omega (arith, went_long, came_long, same)) (subst (λ n. BeginsAfter n (drop count records)) last_gone behind)
+        (sym window ∙ (ap (records_in f ps place) empty ∙ records_in-none f ps place))
+        ∙ ap (frames f) (sym whole)
+
+    module _ (pulses : ℕ) (g0 g1 g2 : GapView Record)
+        (shows : Cut from (at + gone) told (left_of g0) (right_of pulses g0))
+        (same_shown : shown pulses g1 ≡ shown pulses g0)
+        (ends_then : EndsUpTo from (left_of g1))
+        (begins_then : BeginsAfter from (right_of pulses g1))
+        (stays : left_of g2 ≡ left_of g1)
+        (dropped : Dropped (at + gone) (right_of pulses g1) (right_of pulses g2)) where
+      cut : Cut from (length before + length went) told (left_of g0) (right_of pulses g0)
+      cut = subst (λ (n : ℕ). Cut from n told (left_of g0) (right_of pulses g0)) last_gone shows
+
+      thin : Dropped (length before + length went) (right_of pulses g1) (right_of pulses g2)
+      thin = subst (λ n. Dropped n (right_of pulses g1) (right_of pulses g2)) last_gone dropped
+
+      pub repaired : (number : ℕ) (g3 : GapView Record) → left_of g3 ≡ left_of g2 ++ records_in f ps place (to - place)
+          → kept_right g3 ≡ kept_right g2 → number ≡ ((pulses + (2 ^ 64 - gone)) % 2 ^ 64 + come) % 2 ^ 64 → shown number g3 ≡ frames f ps
+      repaired number g3 left kept is =
+          let same : number ≡ ((pulses + (2 ^ 64 - length went)) % 2 ^ 64 + length came) % 2 ^ 64 =
+          is ∙ λ i. ((pulses + (2 ^ 64 - sym went_long i)) % 2 ^ 64 + sym came_long i) % 2 ^ 64 in
+          ap (λ n. shown n g3) same
+          ∙ (repaired_parts f before went came after from count order records stood_so ends begins told told_so
+          pulses g0 g1 g2 (omega (arith, went_long, small)) fits cut same_shown ends_then begins_then stays thin
+          g3 (left ∙ ap (λ rs. left_of g2 ++ rs) window) kept
+          ∙ ap (frames f) (sym whole))
+
+      -- how many frames an edited track has: those that stay, and those of the window
+      pub frames_long : length (frames f ps) ≡ length g2.items + length (records_in f ps place (to - place))
+      frames_long =
+          let front = left_of g2 ++ records_in f ps place (to - place) in
+          let g3 = gap_view (front ++ kept_right g2) (length front) 0 in
+          let left : left_of g3 ≡ front = take-append_seam front (kept_right g2) in
+          let kept : kept_right g3 ≡ kept_right g2 = drop-append_seam front (kept_right g2) in
+          let number = ((pulses + (2 ^ 64 - gone)) % 2 ^ 64 + come) % 2 ^ 64 in
+          omega (
+            arith,
+            ap length (repaired number g3 left kept refl),
+            length-shown number g3,
+            length-filled g2 g3 (records_in f ps place (to - place)) left kept,
+          )
+
+-- the room of an index
+pub all_room : (g : GapView Record) (pulses looks : ℕ) (v : IndexView) → index_view g pulses looks ≡ v → length g.items ≤ g.capacity
+    → length v.records + v.room ≡ g.capacity
+all_room g pulses looks v is within = omega (arith, ap (λ w. length w.records) is, ap (λ w. w.room) is, length-shown pulses g)

@@ -1,15 +1,19 @@
 //! What is made of the markers of a part of a track: their records, or their number.
 
-ghost use Rattle.std.specs.Prelude.{◌≡◌, ℕ, ◌+◌, ◌-◌, ◌*◌, ◌<◌, ◌≤◌, ◌++◌, length, max, min, OnOk, IsOk};
+ghost use Rattle.std.specs.Prelude.{◌≡◌, ℕ, ◌+◌, ◌-◌, ◌*◌, ◌<◌, ◌≤◌, ◌++◌, length, take, drop, max, min, OnOk, IsOk};
 ghost use Rattle.irig_index.specs.Checked.{looks_of};
 ghost use Rattle.irig_index.specs.Frames.{frames, records_in};
 ghost use Rattle.irig_index.specs.Looked.{Looked};
-ghost use Rattle.irig_index.specs.Sides.{left_of, kept_right};
+ghost use Rattle.irig_index.specs.Passed.{Passed};
+ghost use Rattle.irig_index.specs.Sides.{left_of, kept_right, shown};
+ghost use Rattle.irig_index.specs.Stale.{LastMayBeStale, last_retold};
 
 use crate::frame::{looks_of, verdict};
+use crate::look::add_looks;
 use crate::marker::next_marker;
+use crate::places::set_record;
 use crate::record::{Record, Verdict};
-use crate::sides::put;
+use crate::sides::{put, record_at};
 use irig_codes::Format;
 use irig_gap::Gap;
 use irig_track::Lens;
@@ -64,6 +68,64 @@ pub fn fill(
         place = next_place(marker, verdict, to);
     }
     Ok(())
+}
+
+/// Checks the frame of the last of the first `count` markers again, unless that marker is one up to
+/// `settled`.
+pub fn retell(
+    records: &mut Gap<Record>,
+    pulses: usize,
+    count: usize,
+    lens: &mut Lens<'_>,
+    looks: &mut u64,
+    format: Format,
+    settled: usize,
+)
+    requires within { count ≤ length records.old.items }
+    requires stale { LastMayBeStale format lens.old.track.pulses settled
+        (take count (shown pulses records.old)) }
+    ensures shown { shown pulses records.new
+        ≡ last_retold format lens.old.track.pulses (take count (shown pulses records.old))
+        ++ drop count (shown pulses records.old) }
+    ensures length { length records.new.items ≡ length records.old.items }
+    ensures capacity { records.new.capacity ≡ records.old.capacity }
+    ensures looked { Looked lens.old lens.new looks.old looks.new 100 }
+{
+    // Read for its bound alone.
+    let _len = lens.len();
+    if count == 0 {
+        return;
+    }
+    let marker = record_at(records, pulses, count - 1).marker;
+    if marker <= settled {
+        return;
+    }
+    let first = lens.pulse(marker);
+    add_looks(looks, 1);
+    let verdict = verdict(lens, looks, format, marker, first);
+    set_record(records, pulses, count - 1, Record { marker, verdict });
+}
+
+/// The first place from `from` to `to` with a marker after it, or `to`.
+pub fn next_marked(
+    lens: &mut Lens<'_>,
+    looks: &mut u64,
+    format: Format,
+    from: usize,
+    to: usize,
+) -> usize
+    requires order { from ≤ to }
+    requires within { from < to → to < length lens.old.track.pulses }
+    ensures passed { Passed format lens.old.track.pulses from result 2
+        lens.old lens.new looks.old looks.new }
+    ensures within { result ≤ to }
+{
+    // Read for its bound alone.
+    let _len = lens.len();
+    match next_marker(lens, looks, format, from, to) {
+        Some((before, _)) => before,
+        None => to,
+    }
 }
 
 /// The place from which on the next marker is sought, none later than `to`: none is between the

@@ -93,7 +93,7 @@ pub fn drop_up_to(records: &mut Gap<Record>, pulses: usize, last: usize)
 }
 
 /// Whether the record left of the gap is of a marker after `last`.
-fn ends_after(records: &Gap<Record>, last: usize) -> bool
+pub fn ends_after(records: &Gap<Record>, last: usize) -> bool
     ensures left { result ≡ false → EndsUpTo last (left_of records.now) }
     ensures some { result ≡ true → 0 < records.now.place }
 {
@@ -114,7 +114,7 @@ fn ends_within(records: &Gap<Record>, first: usize, last: usize) -> bool
 }
 
 /// Whether the record right of the gap is of a marker up to `last`.
-fn begins_up_to(records: &Gap<Record>, pulses: usize, last: usize) -> bool
+pub fn begins_up_to(records: &Gap<Record>, pulses: usize, last: usize) -> bool
     ensures right { result ≡ false → BeginsAfter last (right_of pulses records.now) }
     ensures some { result ≡ true → BeginsUpTo last (right_of pulses records.now) }
 {

@@ -1,0 +1,36 @@
+-- Which verdict an edit may make stale: that of the last marker before it, and no other, since the
+-- check of a frame ends at the next marker at the latest. This project's own.
+use Rattle.std.specs.Prelude.{◌≡◌, ℕ, ◌≤◌, List, [], ◌∷◌, slice_get, Some}
+use Rattle.irig_codes.specs.declared.width.Element.TheVariants.{Position}
+use Rattle.irig_codes.specs.Format.{FormatView}
+use Rattle.irig_track.specs.declared.pulse.Pulse.{Pulse}
+use Rattle.irig_index.specs.declared.record.Record.{Record}
+use Rattle.irig_index.specs.Frames.{frame_at}
+use Rattle.irig_index.specs.Marker.{class_at}
+use Rattle.irig_index.specs.Verdict.{verdict_of}
+
+-- the record is of a pulse of the track that a frame may begin with, and tells the verdict on that
+-- frame unless its marker is after `settled`
+pub record MayBeStale (f : FormatView) (pulses : List Pulse) (settled : ℕ) (r : Record)
+    : Type 0 where
+  pub first : Pulse
+  pub stands : slice_get pulses r.marker ≡ Some first
+  pub position : class_at f first ≡ Some Position
+  pub told : r.marker ≤ settled → r.verdict ≡ verdict_of f (frame_at pulses r.marker)
+
+-- the last record, if there is one, is such a record
+abbrev pub LastMayBeStale : FormatView → List Pulse → ℕ → List Record → Type 0
+LastMayBeStale f pulses settled [] = Unit {0}
+LastMayBeStale f pulses settled (r ∷ []) = MayBeStale f pulses settled r
+LastMayBeStale f pulses settled (r ∷ s ∷ rs) = LastMayBeStale f pulses settled (s ∷ rs)
+
+-- the record of the same marker, with the verdict on its frame in these pulses
+abbrev pub retold : FormatView → List Pulse → Record → Record
+retold f pulses r =
+    record { marker = r.marker; verdict = verdict_of f (frame_at pulses r.marker) }
+
+-- the records, the last one told again
+abbrev pub last_retold : FormatView → List Pulse → List Record → List Record
+last_retold f pulses [] = []
+last_retold f pulses (r ∷ []) = retold f pulses r ∷ []
+last_retold f pulses (r ∷ s ∷ rs) = r ∷ last_retold f pulses (s ∷ rs)
