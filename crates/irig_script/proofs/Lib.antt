@@ -23,6 +23,7 @@ pub mod Steps
 pub mod SameReply
 pub mod SameRun
 pub mod SameDumpRun
+pub mod DumpRuns
 pub mod SameOpening
 -- what is printed
 pub mod RowLemmas

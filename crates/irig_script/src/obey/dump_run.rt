@@ -1,10 +1,11 @@
 //! A script run on a dump.
 
-ghost use Rattle.std.specs.Prelude.{◌≡◌, ◌≤◌, ◌^◌, length};
+ghost use Rattle.std.specs.Prelude.{◌≡◌, ◌≤◌, ◌^◌, length, Ok, Err, MatchResult};
 ghost use Rattle.irig_vcd.specs.Answer.{name_of};
 ghost use Rattle.irig_script.specs.Obey.Desk.{desk};
 ghost use Rattle.irig_script.specs.Obey.DumpRun.{RunsOnDump};
 ghost use Rattle.irig_script.specs.Obey.Reading.{ReadsTo};
+ghost use Rattle.irig_script.specs.declared.obey.dump_run.DumpRunFault.TheVariants.{Run};
 
 use crate::obey::engine;
 use crate::obey::status::{RunFault, Status};
@@ -48,8 +49,12 @@ pub fn run_on_dump<R: Read, W: Write, S: Shelf>(
         Ok(session) => session,
         Err(fault) => return Err(DumpRunFault::Dump(fault)),
     };
-    match engine::run(&mut session, script, out, shelf) {
-        Ok(status) => Ok(status),
-        Err(fault) => Err(DumpRunFault::Run(fault)),
-    }
+    as_run(engine::run(&mut session, script, out, shelf))
+}
+
+/// How a run on a dump ended, by how the run of the script ended.
+fn as_run(ended: Result<Status, RunFault>) -> Result<Status, DumpRunFault>
+    ensures { MatchResult ended (λ status. result ≡ Ok status) (λ fault. result ≡ Err (Run fault)) }
+{
+    ended.map_err(DumpRunFault::Run)
 }

@@ -1,7 +1,9 @@
 //! The run of a script.
 
-ghost use Rattle.std.specs.Prelude.{◌≡◌, ◌++◌, ◌∷◌, [], ℕ, List, IfOk, OnOk, OnErr};
-ghost use Rattle.std.specs.Io.KnownBytes.{Appends};
+ghost use Rattle.std.specs.Prelude.{◌≡◌, ◌++◌, ◌∷◌, [], ℕ, List, IfOk, IfErr, OnOk, OnErr};
+ghost use Rattle.std.specs.Io.{ReadsAtMost};
+ghost use Rattle.std.specs.Io.KnownBytes.{Appends, ReadConsumes};
+ghost use Rattle.irig_script.specs.declared.obey.status.RunFault.TheVariants.{ReadFailed};
 ghost use Rattle.irig_script.specs.Print.Printed.{answer_with, reply_text};
 ghost use Rattle.irig_script.specs.Obey.Desk.{desk, status_after};
 ghost use Rattle.irig_script.specs.Obey.Ending.{EndsAs};
@@ -43,8 +45,8 @@ pub fn run<R: Read, W: Write, S: Shelf>(
     let mut buffer = [0; READ_LIMIT];
     let mut status = Status::AllAccepted;
     for reads in 0..READS_LIMIT {
-        match script.read(&mut buffer) {
-            Err(_) => return Err(RunFault::ReadFailed),
+        match read_part(script, &mut buffer) {
+            Err(fault) => return Err(fault),
             Ok(0) => {
                 let Ok(()) = finish(&line, session, out, shelf, &mut status) else {
                     return Err(RunFault::PrintFailed);
@@ -62,6 +64,19 @@ pub fn run<R: Read, W: Write, S: Shelf>(
         }
     }
     Err(RunFault::TooManyReads)
+}
+
+/// One read of a script. An error of the system goes no further than this.
+fn read_part<R: Read>(script: &mut R, buffer: &mut [u8]) -> Result<usize, RunFault>
+    ensures bound { ReadsAtMost result buffer.new }
+    ensures bytes { ReadConsumes (R.remaining script.old) (R.remaining script.new) result
+        buffer.new }
+    ensures fault { IfErr result (λ fault. fault ≡ ReadFailed) }
+{
+    match script.read(buffer) {
+        Ok(count) => Ok(count),
+        Err(_) => Err(RunFault::ReadFailed),
+    }
 }
 
 /// Obeys the bytes that come after a line's front, and returns whether the script ends in them.

@@ -81,11 +81,11 @@ fn asked(front: &[u8], word: Keyword, arguments: &[u8]) -> Result<Command, BadLi
         → Asks word front.now (words_of arguments.now) c → ⊥) }
 {
     match word {
-        Keyword::Missing => Ok(Command::Show(address(front)?)),
-        Keyword::List => Ok(Command::List(ranged(front, arguments)?)),
-        Keyword::Delete => Ok(Command::Delete(ranged(front, arguments)?)),
+        Keyword::Missing => show(front),
+        Keyword::List => list(front, arguments),
+        Keyword::Delete => delete(front, arguments),
         Keyword::Shift => shift(front, arguments),
-        Keyword::Join => Ok(Command::Join(ranged(front, arguments)?)),
+        Keyword::Join => join(front, arguments),
         Keyword::Split => split(front, arguments),
         Keyword::Force => force(front, arguments),
         Keyword::Insert => insert(front, arguments),
@@ -140,6 +140,41 @@ fn ranged(front: &[u8], arguments: &[u8]) -> Result<Range, BadLine>
 {
     no_word(arguments)?;
     range(front)
+}
+
+/// What an address asks for that has no word after it.
+fn show(front: &[u8]) -> Result<Command, BadLine>
+    ensures ok { IfOk result (Asks Keyword.Missing front.now []) }
+    ensures err { OnErr result ((c : Command) → Asks Keyword.Missing front.now [] c → ⊥) }
+{
+    Ok(Command::Show(address(front)?))
+}
+
+/// What a range asks for before `list`.
+fn list(front: &[u8], arguments: &[u8]) -> Result<Command, BadLine>
+    ensures ok { IfOk result (Asks Keyword.List front.now (words_of arguments.now)) }
+    ensures err { OnErr result ((c : Command)
+        → Asks Keyword.List front.now (words_of arguments.now) c → ⊥) }
+{
+    Ok(Command::List(ranged(front, arguments)?))
+}
+
+/// What a range asks for before `delete`.
+fn delete(front: &[u8], arguments: &[u8]) -> Result<Command, BadLine>
+    ensures ok { IfOk result (Asks Keyword.Delete front.now (words_of arguments.now)) }
+    ensures err { OnErr result ((c : Command)
+        → Asks Keyword.Delete front.now (words_of arguments.now) c → ⊥) }
+{
+    Ok(Command::Delete(ranged(front, arguments)?))
+}
+
+/// What a range asks for before `join`.
+fn join(front: &[u8], arguments: &[u8]) -> Result<Command, BadLine>
+    ensures ok { IfOk result (Asks Keyword.Join front.now (words_of arguments.now)) }
+    ensures err { OnErr result ((c : Command)
+        → Asks Keyword.Join front.now (words_of arguments.now) c → ⊥) }
+{
+    Ok(Command::Join(ranged(front, arguments)?))
 }
 
 /// What a range and the arguments of `shift` ask for.

@@ -12,7 +12,7 @@ loop-reads-init g c = record { bytes = []; read = consumes_none _; many = omega 
 pub returns-in_default-clause-ends : goal.returns-in_default-clause-ends
 returns-in_default-clause-ends g c =
     let i = c.loop-reads.invariant in
-    let room : 0 < length c.read.new.buf = search rules in
+    let room : 0 < length c.read_part.new.buffer = search rules in
     let at_end = c.in-Ok-eq0.ensures.bytes.1 c.in-Ok-eq0.field-0-test room in
     let none = rw c.in-Ok-eq0.field-0-test at c.in-Ok-eq0.ensures.bytes.0 in
     let all = rw append-nil at (consumes-consumes _ _ _ i.bytes [] i.read none) in
@@ -41,7 +41,7 @@ returns-in-Ok-true-clause-label g c =
 pub returns-in-Ok-eq0-clause-ends : goal.returns-in-Ok-eq0-clause-ends
 returns-in-Ok-eq0-clause-ends g c =
     let i = c.loop-reads.invariant in
-    let room : 0 < length c.read.new.buf = search rules in
+    let room : 0 < length c.read_part.new.buffer = search rules in
     let at_end = c.in-Ok-eq0.ensures.bytes.1 c.in-Ok-eq0.field-0-test room in
     let none = rw c.in-Ok-eq0.field-0-test at c.in-Ok-eq0.ensures.bytes.0 in
     let all = rw append-nil at (consumes-consumes _ _ _ i.bytes [] i.read none) in
@@ -51,29 +51,29 @@ pub returns-in-Err-obey_part-clause-ends : goal.returns-in-Err-obey_part-clause-
 returns-in-Err-obey_part-clause-ends g c =
     let i = c.loop-reads.invariant in
     let n = c.in-Ok.count in
-    let all = consumes-consumes _ _ _ i.bytes (take n c.read.new.buf) i.read c.in-Ok.ensures.bytes.0 in
-    run_broke _ _ _ _ _ _ (i.bytes ++ take n c.read.new.buf) all (broke_more _ _ _ _ _ _ _ _ i.bytes (take n c.read.new.buf) c.loop-reads.line i.obeyed c.in-Err-obey_part.ensures.err)
+    let all = consumes-consumes _ _ _ i.bytes (take n c.read_part.new.buffer) i.read c.in-Ok.ensures.bytes.0 in
+    run_broke _ _ _ _ _ _ (i.bytes ++ take n c.read_part.new.buffer) all (broke_more _ _ _ _ _ _ _ _ i.bytes (take n c.read_part.new.buffer) c.loop-reads.line i.obeyed c.in-Err-obey_part.ensures.err)
 
 pub returns-in-Ok-true-clause-ends : goal.returns-in-Ok-true-clause-ends
 returns-in-Ok-true-clause-ends g c =
     let i = c.loop-reads.invariant in
     let step = rw c.in-Ok-true.field-0-test at c.in-Ok-true.ensures.ok in
     let n = c.in-Ok.count in
-    let all = consumes-consumes _ _ _ i.bytes (take n c.read.new.buf) i.read c.in-Ok.ensures.bytes.0 in
-    run_quit _ _ _ _ _ _ _ _ (i.bytes ++ take n c.read.new.buf) c.obey_part.new.line all (obeyed_more true _ _ _ _ _ _ _ _ _ i.bytes (take n c.read.new.buf) c.loop-reads.line c.obey_part.new.line i.obeyed step)
+    let all = consumes-consumes _ _ _ i.bytes (take n c.read_part.new.buffer) i.read c.in-Ok.ensures.bytes.0 in
+    run_quit _ _ _ _ _ _ _ _ (i.bytes ++ take n c.read_part.new.buffer) c.obey_part.new.line all (obeyed_more true _ _ _ _ _ _ _ _ _ i.bytes (take n c.read_part.new.buffer) c.loop-reads.line c.obey_part.new.line i.obeyed step)
 
 pub loop-reads-preserved : goal.loop-reads-preserved
 loop-reads-preserved g c =
     let i = c.loop-reads.invariant in
     let step = rw c.in-Ok-false.field-0-test at c.in-Ok-false.ensures.ok in
     let n = c.in-Ok.count in
-    let whole : length c.read.new.buf ≡ 4096 = search rules in
+    let whole : length c.read_part.new.buffer ≡ 4096 = search rules in
     record {
-      bytes = i.bytes ++ take n c.read.new.buf;
-      read = consumes-consumes _ _ _ i.bytes (take n c.read.new.buf) i.read c.in-Ok.ensures.bytes.0;
-      many = omega (arith, i.many, length-append i.bytes (take n c.read.new.buf), length-take n c.read.new.buf, c.in-Ok.ensures.bound, c.in-Ok.count-test);
-      most = omega (arith, i.most, whole, length-append i.bytes (take n c.read.new.buf), length-take n c.read.new.buf);
-      obeyed = obeyed_more false _ _ _ _ _ _ _ _ _ i.bytes (take n c.read.new.buf) c.loop-reads.line c.obey_part.new.line i.obeyed step;
+      bytes = i.bytes ++ take n c.read_part.new.buffer;
+      read = consumes-consumes _ _ _ i.bytes (take n c.read_part.new.buffer) i.read c.in-Ok.ensures.bytes.0;
+      many = omega (arith, i.many, length-append i.bytes (take n c.read_part.new.buffer), length-take n c.read_part.new.buffer, c.in-Ok.ensures.bound, c.in-Ok.count-test);
+      most = omega (arith, i.most, whole, length-append i.bytes (take n c.read_part.new.buffer), length-take n c.read_part.new.buffer);
+      obeyed = obeyed_more false _ _ _ _ _ _ _ _ _ i.bytes (take n c.read_part.new.buffer) c.loop-reads.line c.obey_part.new.line i.obeyed step;
     }
 
 pub returns-in_default-clause-reads : goal.returns-in_default-clause-reads
@@ -96,21 +96,21 @@ pub returns-in-Err-obey_part-clause-reads : goal.returns-in-Err-obey_part-clause
 returns-in-Err-obey_part-clause-reads g c =
     let i = c.loop-reads.invariant in
     let n = c.in-Ok.count in
-    let whole : length c.read.new.buf ≡ 4096 = search rules in
-    let all = consumes-consumes _ _ _ i.bytes (take n c.read.new.buf) i.read c.in-Ok.ensures.bytes.0 in
-    let short : length (take n c.read.new.buf) ≤ 4096 = omega (arith, whole, length-take n c.read.new.buf) in
-    let most : length i.bytes + length (take n c.read.new.buf) ≤ 2 ^ 44 = omega (arith, i.most, short, c.loop-reads-test.true) in
-    reads_to _ _ _ _ _ _ _ _ i.bytes (take n c.read.new.buf) c.loop-reads.line all short most i.obeyed
+    let whole : length c.read_part.new.buffer ≡ 4096 = search rules in
+    let all = consumes-consumes _ _ _ i.bytes (take n c.read_part.new.buffer) i.read c.in-Ok.ensures.bytes.0 in
+    let short : length (take n c.read_part.new.buffer) ≤ 4096 = omega (arith, whole, length-take n c.read_part.new.buffer) in
+    let most : length i.bytes + length (take n c.read_part.new.buffer) ≤ 2 ^ 44 = omega (arith, i.most, short, c.loop-reads-test.true) in
+    reads_to _ _ _ _ _ _ _ _ i.bytes (take n c.read_part.new.buffer) c.loop-reads.line all short most i.obeyed
 
 pub returns-in-Ok-true-clause-reads : goal.returns-in-Ok-true-clause-reads
 returns-in-Ok-true-clause-reads g c =
     let i = c.loop-reads.invariant in
     let n = c.in-Ok.count in
-    let whole : length c.read.new.buf ≡ 4096 = search rules in
-    let all = consumes-consumes _ _ _ i.bytes (take n c.read.new.buf) i.read c.in-Ok.ensures.bytes.0 in
-    let short : length (take n c.read.new.buf) ≤ 4096 = omega (arith, whole, length-take n c.read.new.buf) in
-    let most : length i.bytes + length (take n c.read.new.buf) ≤ 2 ^ 44 = omega (arith, i.most, short, c.loop-reads-test.true) in
-    reads_to _ _ _ _ _ _ _ _ i.bytes (take n c.read.new.buf) c.loop-reads.line all short most i.obeyed
+    let whole : length c.read_part.new.buffer ≡ 4096 = search rules in
+    let all = consumes-consumes _ _ _ i.bytes (take n c.read_part.new.buffer) i.read c.in-Ok.ensures.bytes.0 in
+    let short : length (take n c.read_part.new.buffer) ≤ 4096 = omega (arith, whole, length-take n c.read_part.new.buffer) in
+    let most : length i.bytes + length (take n c.read_part.new.buffer) ≤ 2 ^ 44 = omega (arith, i.most, short, c.loop-reads-test.true) in
+    reads_to _ _ _ _ _ _ _ _ i.bytes (take n c.read_part.new.buffer) c.loop-reads.line all short most i.obeyed
 
 pub returns-in-Err-clause-reads : goal.returns-in-Err-clause-reads
 returns-in-Err-clause-reads g c =

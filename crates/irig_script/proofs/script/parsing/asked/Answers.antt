@@ -1,10 +1,7 @@
 use Rattle.std.proofs.Common.{rules, ◌≡◌}
-use Rattle.irig_script.specs.Script.Commands.{Asks}
 use Rattle.irig_script.specs.Script.Words.{words_of}
-use Rattle.irig_script.specs.declared.script.command.Command.{Command}
 use Rattle.irig_script.specs.declared.script.keyword.Keyword.TheVariants as word
 use Rattle.irig_script.proofs.KnownWords.{refused}
-use Rattle.irig_script.proofs.Lines.{given}
 use Rattle.irig_script.proofs.script.parsing.asked.Goals as goal
 
 pub returns-in-Shift-clause-err : goal.returns-in-Shift-clause-err
@@ -52,8 +49,22 @@ returns-in-Invert-clause-err c =
     let e : c.args.word ≡ word.Invert = search rules in
     refused word.Invert c.args.word c.args.front.now (words_of c.args.arguments.now) _ e c.invert.ensures.err
 
-pub returns-in_err-address-in-Missing-clause-err : goal.returns-in_err-address-in-Missing-clause-err
-returns-in_err-address-in-Missing-clause-err c =
+pub returns-in-Missing-clause-err : goal.returns-in-Missing-clause-err
+returns-in-Missing-clause-err c =
     let e : c.args.word ≡ word.Missing = search rules in
-    let no : (asked : Command) → Asks word.Missing c.args.front.now (words_of c.args.arguments.now) asked → ⊥ = λ asked a. c.in_err-address-in-Missing.ensures.err a.0 a.2 in
-    refused word.Missing c.args.word c.args.front.now (words_of c.args.arguments.now) _ e (given _ no)
+    refused word.Missing c.args.word c.args.front.now (words_of c.args.arguments.now) _ e c.show.ensures.err
+
+pub returns-in-List-clause-err : goal.returns-in-List-clause-err
+returns-in-List-clause-err c =
+    let e : c.args.word ≡ word.List = search rules in
+    refused word.List c.args.word c.args.front.now (words_of c.args.arguments.now) _ e c.list.ensures.err
+
+pub returns-in-Delete-clause-err : goal.returns-in-Delete-clause-err
+returns-in-Delete-clause-err c =
+    let e : c.args.word ≡ word.Delete = search rules in
+    refused word.Delete c.args.word c.args.front.now (words_of c.args.arguments.now) _ e c.delete.ensures.err
+
+pub returns-in-Join-clause-err : goal.returns-in-Join-clause-err
+returns-in-Join-clause-err c =
+    let e : c.args.word ≡ word.Join = search rules in
+    refused word.Join c.args.word c.args.front.now (words_of c.args.arguments.now) _ e c.join.ensures.err

@@ -1,0 +1,17 @@
+-- A run on a dump, by the run of its script.
+use Rattle.std.proofs.Common.{◌≡◌, ℕ, List, Option, Result, Ok, Err, MatchResult, subst, sym}
+use Rattle.irig_codes.specs.Format.{FormatView}
+use Rattle.irig_script.specs.Obey.Desk.{Desk}
+use Rattle.irig_script.specs.Obey.DumpRun.{RanOnDump, RunsOnDump}
+use Rattle.irig_script.specs.declared.obey.status.Status.{Status}
+use Rattle.irig_script.specs.declared.obey.status.RunFault.{RunFault}
+use Rattle.irig_script.specs.declared.obey.dump_run.DumpRunFault.{DumpRunFault}
+use Rattle.irig_script.specs.declared.obey.dump_run.DumpRunFault.TheVariants.{Run}
+
+-- a script that ran on a dump that was opened
+pub ran_on_dump : (wire : Option (List ℕ)) (chosen : FormatView) (source : List ℕ) (script left : Option (List ℕ)) (from to : Desk)
+    (ended : Result Status RunFault) (result : Result Status DumpRunFault)
+    → MatchResult ended (λ status. result ≡ Ok status) (λ fault. result ≡ Err (Run fault))
+    → RanOnDump wire chosen source script left from to ended → RunsOnDump wire chosen source script left from to result
+ran_on_dump wire chosen source script left from to (Ok status) result e h = subst (λ (r : Result Status DumpRunFault). RunsOnDump wire chosen source script left from to r) (sym e) h
+ran_on_dump wire chosen source script left from to (Err fault) result e h = subst (λ (r : Result Status DumpRunFault). RunsOnDump wire chosen source script left from to r) (sym e) h
