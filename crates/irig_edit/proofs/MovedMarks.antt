@@ -7,7 +7,7 @@ use Rattle.irig_edit.specs.State.{IsMark}
 use Rattle.irig_edit.specs.Marks.{AllMayMove, MayMove, marks_moved, moved_if, moved_mark, moved_time, stands}
 
 module _ {A B : Type 0} where
-  -- the second list with its first items made again from those of both
+  -- the second list with its first items rebuilt from those of both
   abbrev pub made_first : (A → B → B) → ℕ → List A → List B → List B
   made_first make zero xs ys = ys
   made_first make (suc n) [] ys = ys

@@ -9,7 +9,7 @@ use Rattle.irig_index.specs.Frames.{frame_at}
 use Rattle.irig_index.specs.Marker.{class_at}
 use Rattle.irig_index.specs.Verdict.{verdict_of}
 
--- the record is of a pulse of the track that a frame may begin with, and tells the verdict on that
+-- the record is of a pulse of the track that a frame may begin with, and has the verdict on that
 -- frame unless its marker is after `settled`
 pub record MayBeStale (f : FormatView) (pulses : List Pulse) (settled : ℕ) (r : Record)
     : Type 0 where
