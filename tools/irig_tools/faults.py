@@ -39,7 +39,7 @@ class Faults:
 
     def _look_at(self, number: int, text: str, expected: str) -> None:
         """Compares a frame with what follows for it."""
-        if self._contradicts(number, text, expected):
+        if number not in self.times.spliced and self._contradicts(number, text, expected):
             return
         if self.times.moment(number) is None and READABLE.fullmatch(text) and number not in self.times.own:
             at = self.track.rise_at(100 * number)
@@ -159,6 +159,8 @@ class Faults:
             return "a %s by its shape or the frames next to it" % target
         if element in POSITIONS or element in self.layout.unused:
             return "a %s has to be there" % target
+        if place // 100 in self.times.spliced:
+            return "a %s follows from the frames before; this one begins with their time, and ends with another" % target
         return "a %s follows from the frames around it" % target
 
     def seen(self, place: int) -> str:

@@ -11,6 +11,7 @@ from .layout import READABLE, Fields
 from .leap import find_leap
 from .moments import DAY, Calendar
 from .spans import fit
+from .splices import spliced
 from .track import Track
 
 LONGEST_CUT = 3000  # elements; after more than that the places are not counted on
@@ -39,6 +40,8 @@ class Times:
         self.own = {number: self._base(number, told) for number, told in self.read}
         self.bases = self._find_bases()
         self.spans = self._find_spans()
+        self.spliced = spliced(self)
+        self.bases.update(self.spliced)
         self._find_sound()
 
     def _find_sound(self) -> None:

@@ -4,6 +4,7 @@ from __future__ import annotations
 
 from typing import List
 
+from .chance import misread
 from .edits import Item, items
 from .faults import Faults
 from .script import Repair
@@ -15,7 +16,7 @@ def repairs(faults: Faults) -> List[Repair]:
     moved = shifts(faults)
     whole = lost_frames(faults)
     groups: List[List[Item]] = []
-    for item in sorted(moved + whole + items(faults), key=lambda item: -item.low):
+    for item in sorted(moved + whole + misread(faults) + items(faults), key=lambda item: -item.low):
         if groups and groups[-1][-1].low - item.high <= 1:
             groups[-1].append(item)
         else:
