@@ -2,8 +2,8 @@
 from __future__ import annotations
 
 import re
-from dataclasses import dataclass
-from typing import List, Optional, Sequence, Tuple
+from dataclasses import dataclass, field
+from typing import Dict, List, Optional, Sequence, Tuple
 
 from .faults import Faults
 from .layout import NAMES
@@ -22,6 +22,7 @@ class Item:
     why: str
     lost: bool = False  # a pulse that is missing and that follows
     single: bool = False  # it gives each of its places the pulse that is wanted
+    targets: Dict[int, str] = field(default_factory=dict)  # the classes of a frame that is generated again
 
 
 def items(faults: Faults) -> List[Item]:
