@@ -62,7 +62,9 @@ def _divide(faults: Faults, place: int, many: int, pulses: Sequence[int]) -> Opt
     for k in range(many):
         fall = track.rise_at(place + k) + faults.width(faults.wanted[place + k])
         edits.append("%d split %d %d" % (first + k, fall, track.rise_at(place + k + 1)))
-    if faults.layout.class_of(track.falls[pulses[-1]] - track.rise_at(last)) != faults.wanted[last]:
+    if abs(track.falls[pulses[-1]] - track.rise_at(last) - faults.width(faults.wanted[last])) > (
+        UNLIKE * faults.layout.interval
+    ):
         edits.append("%d force %s" % (first + many, NAMES[faults.wanted[last]]))
     reasons = ", then ".join(faults.reason(place + k) for k in range(many + 1))
     why = "%s: %s; %s" % (faults.where(place), faults.seen(place), reasons)
