@@ -9,7 +9,9 @@ from .layout import NAMES, POSITIONS, READABLE, SHARE
 from .track import Track
 
 LIKE = 0.08  # intervals: a level that differs from a class for less than that is this class
+LIKE_IN_BURST = 0.03  # the same in a burst of damage, which can look like a class by chance
 NOMINAL = 0.03  # intervals: a width that is no more off is the one of its class
+BURST = 2  # of the two places before and the two after one, so many are damaged in a burst
 
 
 @dataclass
@@ -87,12 +89,12 @@ class Faults:
         nearest."""
         pulses, (number, element) = self.track.pulses_at(place), divmod(place, 100)
         near = self.times.neighbours(number, element) if control else None
-        own = self._shape_of(place)
-        if own and (not near or self._is_nominal(pulses[0], own)):
+        own, burst = self._shape_of(place), near is not None and self._in_burst(place)
+        if own and (not near or (self._is_nominal(pulses[0], own) and not burst)):
             return own
         cost = {target: self.difference(place, target) for target in "01"}
         best = min("01", key=lambda target: cost[target])
-        if cost[best] < LIKE * self.layout.interval:
+        if cost[best] < (LIKE_IN_BURST if burst else LIKE) * self.layout.interval:
             return best
         if near or not control:
             return near
@@ -105,6 +107,12 @@ class Faults:
         own = self.layout.class_of(self.falls[pulses[0]] - self.rises[pulses[0]]) if len(pulses) == 1 else ""
         return own if own in ("0", "1") else None
 
+    def _in_burst(self, place: int) -> bool:
+        """Whether places on both sides, or two on one side, are damaged."""
+        at = place - self.track.first
+        near = self.track.told[max(0, at - 2):max(0, at)] + self.track.told[at + 1:at + 3]
+        return sum(letter not in "01P~" for letter in near) >= BURST
+
     def _is_nominal(self, pulse: int, name: str) -> bool:
         return abs(self.falls[pulse] - self.rises[pulse] - self.width(name)) <= NOMINAL * self.layout.interval
 
@@ -116,8 +124,14 @@ class Faults:
             beside = place - 1 in self.wanted or place + 1 in self.wanted
             if told in "01" and beside and place in self.track.zone_of:
                 near = self.times.neighbours(number, element)
-                if near and near != told and not self._is_nominal(self.track.pulses_at(place)[0], told):
+                if near and near != told and not self._is_sound(place, told):
                     self.wanted[place] = near
+
+    def _is_sound(self, place: int, told: str) -> bool:
+        """Whether a pulse next to damage has the width of its class, and in a burst its place, too."""
+        if self._in_burst(place):
+            return self.difference(place, told) < LIKE_IN_BURST * self.layout.interval
+        return self._is_nominal(self.track.pulses_at(place)[0], told)
 
     def difference(self, place: int, target: str) -> float:
         """For how many microseconds the level is not that of the target, within its interval."""
