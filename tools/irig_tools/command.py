@@ -32,8 +32,9 @@ class Usage(Exception):
     """Arguments that cannot be."""
 
 
-def parse(words: Sequence[str], own: Sequence[str]) -> Arguments:
-    """Parts the arguments; `own` are the options, each with a value, that are not the editor's."""
+def parse(words: Sequence[str], own: Sequence[str], flags: Sequence[str] = ()) -> Arguments:
+    """Parts the arguments; `own` are the options, each with a value, that are not the editor's, and `flags`
+    those without one."""
     found, rest = Arguments([]), list(words)
     while rest:
         word = rest.pop(0)
@@ -42,6 +43,8 @@ def parse(words: Sequence[str], own: Sequence[str]) -> Arguments:
             if not equals and not rest:
                 raise Usage("%s needs a file" % name)
             found.own[name] = value if equals else rest.pop(0)
+        elif word in flags:
+            found.own[word] = ""
         else:
             found.editor.append(word)
     if not found.editor or (len(found.editor) % 2 == 0 and found.editor[-2].startswith("--")):
@@ -69,7 +72,9 @@ def kept(options: Sequence[str]) -> Iterator[List[str]]:
         yield [*options[:-1], copy.name]
 
 
-def run(program: str, usage: str, own: Sequence[str], work: Callable[[Arguments], int]) -> int:
+def run(
+    program: str, usage: str, own: Sequence[str], work: Callable[[Arguments], int], flags: Sequence[str] = ()
+) -> int:
     """Runs a program: its help, its complaints, and its end if nobody reads what it prints."""
     if hasattr(signal, "SIGPIPE"):
         signal.signal(signal.SIGPIPE, signal.SIG_DFL)
@@ -79,7 +84,7 @@ def run(program: str, usage: str, own: Sequence[str], work: Callable[[Arguments]
         print(usage, end="")
         return 0
     try:
-        return work(parse(words, own))
+        return work(parse(words, own, flags))
     except Usage as error:
         complain("%s (%s --help says more)" % (error, program), program)
     except Problem as error:

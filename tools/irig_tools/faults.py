@@ -35,7 +35,9 @@ class Faults:
         self.wanted: Dict[int, str] = {}
         self.guesses: Dict[int, str] = {}  # places of control functions that nothing says
         self.remarks: List[Remark] = []
+        self.usual = times.usual() if self.layout.steady else {}
         for number, text in times.texts.items():
+            self._compare_control(number, text)
             if number not in times.sound:
                 self._look_at(number, text, times.expected(number))
 
@@ -74,7 +76,9 @@ class Faults:
             for element in self.layout.carried
             if text[element] in "01" and expected[element] in "01" and text[element] != expected[element]
         ]
-        if len(against) <= (0 if self.times.turns_at(number) else 3):
+        binary = {element for element, _ in self.layout.fields.get("binary", ())}
+        twice_told = number in self.times.own and not binary.isdisjoint(against)
+        if len(against) <= (0 if twice_told or self.times.turns_at(number) else 3):
             return False
         at = self.track.rise_at(max(self.track.first, 100 * number))
         seen = "%s: %d elements show another time than the one its neighbours lead to" % (
@@ -88,6 +92,8 @@ class Faults:
         """Zero or one if nothing follows for a place: by its shape, else by its neighbours, else the
         nearest."""
         pulses, (number, element) = self.track.pulses_at(place), divmod(place, 100)
+        if element in self.usual:
+            return self.usual[element]
         near = self.times.neighbours(number, element) if control else None
         own, burst = self._shape_of(place), near is not None and self._in_burst(place)
         if own and (not near or (self._is_nominal(pulses[0], own) and not burst)):
@@ -100,6 +106,12 @@ class Faults:
             return near
         self.guesses[place] = best if pulses else "0"
         return self.guesses[place]
+
+    def _compare_control(self, number: int, text: str) -> None:
+        """If control functions never change, one that most frames do not have is damage."""
+        for element, usual in self.usual.items():
+            if text[element] in "01" and text[element] != usual:
+                self.wanted[100 * number + element] = usual
 
     def _shape_of(self, place: int) -> Optional[str]:
         """Zero or one if there is a single pulse of such a width."""
@@ -169,6 +181,8 @@ class Faults:
         target, element = NAMES[self.wanted[place]], place % 100
         if place in self.guesses:
             return "undecided whether zero or one: nothing says it, and a %s is written" % target
+        if element in self.usual:
+            return "a %s as in most frames" % target
         if element in self.times.kept:
             return "a %s by its shape or the frames next to it" % target
         if element in POSITIONS or element in self.layout.unused:

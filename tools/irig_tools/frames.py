@@ -197,6 +197,16 @@ class Times:
         total = sum(near.values())
         return told if near and many >= max(1, total - (total > 2)) else None
 
+    def usual(self) -> Dict[int, str]:
+        """The classes of control functions that all frames have but one in ten."""
+        found = {}
+        for element in self.layout.control:
+            often = Counter(text[element] for text in self.texts.values() if text[element] in "01")
+            for told, many in often.most_common(1):
+                if many >= 0.9 * sum(often.values()) - 1:
+                    found[element] = told
+        return found
+
     def name(self, number: int) -> str:
         moment = self.moment(number)
         return "a frame of unknown time" if moment is None else "frame " + self.calendar.name(moment)
