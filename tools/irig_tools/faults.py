@@ -6,6 +6,7 @@ from typing import Dict, List, Optional
 
 from .frames import Times
 from .layout import NAMES, POSITIONS, READABLE, SHARE
+from .texts import counted
 from .track import Track
 
 LIKE = 0.08  # intervals: a level that differs from a class for less than that is this class
@@ -81,9 +82,10 @@ class Faults:
         if len(against) <= (0 if twice_told or self.times.turns_at(number) else 3):
             return False
         at = self.track.rise_at(max(self.track.first, 100 * number))
-        seen = "%s: %d elements show another time than the one its neighbours lead to" % (
+        seen = "%s: %s show%s another time than the one its neighbours lead to" % (
             self.times.name(number),
-            len(against),
+            counted(len(against), "element"),
+            "" if against[1:] else "s",
         )
         self.remarks.append(Remark(at, seen, "it is left; regen gives it the time of its neighbours"))
         return True
