@@ -323,6 +323,8 @@ def processes(top):
             )
             status, said, complaint = run(top, "%s --expression 4 %s" % (tool, broken))
             yield same(tool + " on a broken track", (status, bool(said), complaint), (1, True, ""))
+            for words in ("--expression=4", "--expression 4 --"):
+                yield same("%s %s" % (tool, words), run(top, "%s %s %s" % (tool, words, broken)), (1, said, ""))
             yield same(
                 tool + " in a pipe",
                 run(top, "cat %s | %s --expression 4 /dev/stdin" % (broken, tool)),
@@ -338,6 +340,8 @@ def processes(top):
                 (folder, "%s: %s: is a folder" % (tool, folder)),
                 ("", "%s: no TRACK is given (%s --help says more)" % (tool, tool)),
                 ("--expression 4", "%s: no TRACK is given (%s --help says more)" % (tool, tool)),
+                ("--page= " + sound, "%s: --page needs a file (%s --help says more)" % (tool, tool)),
+                ("--stedy " + sound, "%s: '--stedy' is no option (%s --help says more)" % (tool, tool)),
             ):
                 yield same("%s %s" % (tool, words), run(top, "%s %s" % (tool, words)), (2, "", complaint))
             yield same(tool + " on junk", run(top, "%s %s" % (tool, junk))[0], 2)
