@@ -26,6 +26,7 @@ class Case:
         self.length = self.damaged_length = self.recording.length
         self.exact = True  # whether the undamaged edges are to come back
         self.late = []  # by how much a rest was late, each time
+        self.steady = False  # whether irig_mend is told that control functions never change
         self.gone = 0  # elements that are cut out; what follows comes at once
 
     def damage(self, kinds, many):
@@ -134,5 +135,5 @@ def mended(case):
         ):
             with open(path, "w") as file:
                 file.write(damages.dump(pulses, length))
-        script = mend.text(mend.propose(editor.Editor([*options, damaged_path]), lambda text: None))
+        script = mend.text(mend.propose(editor.Editor([*options, damaged_path]), lambda text: None, case.steady))
         return judge(case, options, true_path, damaged_path, script), script

@@ -192,11 +192,11 @@ def starts(name, got, wanted):
     return good or same(name, got, wanted)
 
 
-def mended(pulses, length):
+def mended(pulses, length, steady=False):
     """The script that is proposed, and the pulses after it."""
     with tempfile.TemporaryDirectory() as folder:
         opened = editor.Editor(["--expression", "4", written(folder, pulses, length)])
-        script = mend.propose(opened, lambda text: None)
+        script = mend.propose(opened, lambda text: None, steady)
         after = opened.ask([repair.lines() for repair in script])
     return mend.text(script), [list(each) for each in zip(after.rises, after.falls)]
 
@@ -215,6 +215,14 @@ def in_every_frame(pulses):
     for frame, element in enumerate((2, 12, 22, 33) * 2):
         rise = pulses[100 * frame + element][0]
         pulses[100 * frame + element][1] = rise + 9700
+
+
+def without_second(first):
+    """Frames from which one second is cut out, from this pulse on."""
+    pulses = recording(12)
+    del pulses[first:first + 100]
+    moved(pulses, first, -1000000)
+    return pulses
 
 
 def left_alone(pulses):
@@ -257,6 +265,9 @@ def larger_rows():
         ["0 the whole recording: rises tremble: half of all"],
     )
     yield gives_back("the time from parts of several frames", in_every_frame, 8000000)
+    script, after = mended(without_second(502), 11000000)  # a one of 5 and a one of 6 would be 7 seconds
+    yield same("a frame that is put together of two", after, without_second(600))
+    yield same("what is said of it", "times are 1.00 seconds later" in script, True)
     unsure = recording()
     left_alone(unsure)
     seen = "pulses 226 to 231 may begin with element "
@@ -264,6 +275,13 @@ def larger_rows():
     script, after = mended(unsure, 8000000)
     yield starts("a run that is left, the script", script.splitlines(), ["# undecided: at 2604300: " + seen])
     yield same("a run that is left, the pulses", after, unsure)
+    lone = recording()
+    lone[364][1] = 3645000  # a control function
+    seen = "# undecided: at 3640000: %s3, element 64: control functions that no other frame has" % FRAME
+    script, after = mended(lone, 8000000)
+    yield starts("a control function of one frame", script.splitlines(), [seen])
+    yield same("a control function of one frame, the pulses", after, lone)
+    yield same("the same, --steady", mended(lone, 8000000, True)[1], recording())
     late = [[rise + 3000000000, fall + 3000000000] for rise, fall in recording()]
     del late[243]
     yield same(
@@ -305,6 +323,8 @@ def processes(top):
             )
             status, said, complaint = run(top, "%s --expression 4 %s" % (tool, broken))
             yield same(tool + " on a broken track", (status, bool(said), complaint), (1, True, ""))
+            for words in ("--expression=4", "--expression 4 --"):
+                yield same("%s %s" % (tool, words), run(top, "%s %s %s" % (tool, words, broken)), (1, said, ""))
             yield same(
                 tool + " in a pipe",
                 run(top, "cat %s | %s --expression 4 /dev/stdin" % (broken, tool)),
@@ -320,6 +340,8 @@ def processes(top):
                 (folder, "%s: %s: is a folder" % (tool, folder)),
                 ("", "%s: no TRACK is given (%s --help says more)" % (tool, tool)),
                 ("--expression 4", "%s: no TRACK is given (%s --help says more)" % (tool, tool)),
+                ("--page= " + sound, "%s: --page needs a file (%s --help says more)" % (tool, tool)),
+                ("--stedy " + sound, "%s: '--stedy' is no option (%s --help says more)" % (tool, tool)),
             ):
                 yield same("%s %s" % (tool, words), run(top, "%s %s" % (tool, words)), (2, "", complaint))
             yield same(tool + " on junk", run(top, "%s %s" % (tool, junk))[0], 2)

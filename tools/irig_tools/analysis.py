@@ -43,8 +43,9 @@ class Findings:
     remarks: List[Remark] = field(default_factory=list)
 
 
-def examine(listing: Listing) -> Findings:
+def examine(listing: Listing, steady: bool = False) -> Findings:
     layout = Layout(listing.kind, listing.expression)
+    layout.steady = steady
     findings = Findings(layout)
     if len(listing.rises) < FEW:
         findings.remarks.append(

@@ -15,6 +15,8 @@ from typing import Callable, Dict, Iterator, List, Optional, Sequence
 from .editor import Problem, complain
 
 SOUND, FOUND, NOT_READ = 0, 1, 2  # statuses
+VALUED = ("--wire", "--format", "--expression", "--out")  # the options of the editor
+LAST = [[option] for option in VALUED]  # what a value follows
 
 
 @dataclass
@@ -32,21 +34,33 @@ class Usage(Exception):
     """Arguments that cannot be."""
 
 
-def parse(words: Sequence[str], own: Sequence[str]) -> Arguments:
-    """Parts the arguments; `own` are the options, each with a value, that are not the editor's."""
+def parse(words: Sequence[str], own: Sequence[str], flags: Sequence[str] = ()) -> Arguments:
+    """Parts the arguments; `own` are the options, each with a value, that are not the editor's, and `flags`
+    those without one."""
     found, rest = Arguments([]), list(words)
     while rest:
         word = rest.pop(0)
         name, equals, value = word.partition("=")
         if name in own:
-            if not equals and not rest:
+            if not (value if equals else rest):
                 raise Usage("%s needs a file" % name)
             found.own[name] = value if equals else rest.pop(0)
+        elif word in flags:
+            found.own[word] = ""
+        elif _is_unknown(word, found.editor):
+            raise Usage("'%s' is no option" % name)
         else:
             found.editor.append(word)
-    if not found.editor or (len(found.editor) % 2 == 0 and found.editor[-2].startswith("--")):
+    before = found.editor[:-1]
+    if not found.editor or before[-1:] in LAST or (found.editor[-1].startswith("--") and "--" not in before):
         raise Usage("no TRACK is given")
     return found
+
+
+def _is_unknown(word: str, before: Sequence[str]) -> bool:
+    """Whether a word is an option that the editor does not have either, and no value of one."""
+    is_option = word.startswith("--") and word != "--" and "--" not in before
+    return is_option and word.partition("=")[0] not in VALUED and before[-1:] not in LAST
 
 
 @contextmanager
@@ -69,7 +83,9 @@ def kept(options: Sequence[str]) -> Iterator[List[str]]:
         yield [*options[:-1], copy.name]
 
 
-def run(program: str, usage: str, own: Sequence[str], work: Callable[[Arguments], int]) -> int:
+def run(
+    program: str, usage: str, own: Sequence[str], work: Callable[[Arguments], int], flags: Sequence[str] = ()
+) -> int:
     """Runs a program: its help, its complaints, and its end if nobody reads what it prints."""
     if hasattr(signal, "SIGPIPE"):
         signal.signal(signal.SIGPIPE, signal.SIG_DFL)
@@ -79,7 +95,7 @@ def run(program: str, usage: str, own: Sequence[str], work: Callable[[Arguments]
         print(usage, end="")
         return 0
     try:
-        return work(parse(words, own))
+        return work(parse(words, own, flags))
     except Usage as error:
         complain("%s (%s --help says more)" % (error, program), program)
     except Problem as error:

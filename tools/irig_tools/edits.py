@@ -2,8 +2,8 @@
 from __future__ import annotations
 
 import re
-from dataclasses import dataclass
-from typing import List, Optional, Sequence, Tuple
+from dataclasses import dataclass, field
+from typing import Dict, List, Optional, Sequence, Tuple
 
 from .faults import Faults
 from .layout import NAMES
@@ -22,6 +22,7 @@ class Item:
     why: str
     lost: bool = False  # a pulse that is missing and that follows
     single: bool = False  # it gives each of its places the pulse that is wanted
+    targets: Dict[int, str] = field(default_factory=dict)  # the classes of a frame that is generated again
 
 
 def items(faults: Faults) -> List[Item]:
@@ -61,7 +62,9 @@ def _divide(faults: Faults, place: int, many: int, pulses: Sequence[int]) -> Opt
     for k in range(many):
         fall = track.rise_at(place + k) + faults.width(faults.wanted[place + k])
         edits.append("%d split %d %d" % (first + k, fall, track.rise_at(place + k + 1)))
-    if faults.layout.class_of(track.falls[pulses[-1]] - track.rise_at(last)) != faults.wanted[last]:
+    if abs(track.falls[pulses[-1]] - track.rise_at(last) - faults.width(faults.wanted[last])) > (
+        UNLIKE * faults.layout.interval
+    ):
         edits.append("%d force %s" % (first + many, NAMES[faults.wanted[last]]))
     reasons = ", then ".join(faults.reason(place + k) for k in range(many + 1))
     why = "%s: %s; %s" % (faults.where(place), faults.seen(place), reasons)

@@ -6,10 +6,13 @@ from typing import Dict, List, Optional
 
 from .frames import Times
 from .layout import NAMES, POSITIONS, READABLE, SHARE
+from .texts import counted
 from .track import Track
 
 LIKE = 0.08  # intervals: a level that differs from a class for less than that is this class
+LIKE_IN_BURST = 0.03  # the same in a burst of damage, which can look like a class by chance
 NOMINAL = 0.03  # intervals: a width that is no more off is the one of its class
+BURST = 2  # of the two places before and the two after one, so many are damaged in a burst
 
 
 @dataclass
@@ -33,13 +36,15 @@ class Faults:
         self.wanted: Dict[int, str] = {}
         self.guesses: Dict[int, str] = {}  # places of control functions that nothing says
         self.remarks: List[Remark] = []
+        self.usual = times.usual() if self.layout.steady else {}
         for number, text in times.texts.items():
+            self._compare_control(number, text)
             if number not in times.sound:
                 self._look_at(number, text, times.expected(number))
 
     def _look_at(self, number: int, text: str, expected: str) -> None:
         """Compares a frame with what follows for it."""
-        if self._contradicts(number, text, expected):
+        if number not in self.times.spliced and self._contradicts(number, text, expected):
             return
         if self.times.moment(number) is None and READABLE.fullmatch(text) and number not in self.times.own:
             at = self.track.rise_at(100 * number)
@@ -72,12 +77,15 @@ class Faults:
             for element in self.layout.carried
             if text[element] in "01" and expected[element] in "01" and text[element] != expected[element]
         ]
-        if len(against) <= (0 if self.times.turns_at(number) else 3):
+        binary = {element for element, _ in self.layout.fields.get("binary", ())}
+        twice_told = number in self.times.own and not binary.isdisjoint(against)
+        if len(against) <= (0 if twice_told or self.times.turns_at(number) else 3):
             return False
         at = self.track.rise_at(max(self.track.first, 100 * number))
-        seen = "%s: %d elements show another time than the one its neighbours lead to" % (
+        seen = "%s: %s show%s another time than the one its neighbours lead to" % (
             self.times.name(number),
-            len(against),
+            counted(len(against), "element"),
+            "" if against[1:] else "s",
         )
         self.remarks.append(Remark(at, seen, "it is left; regen gives it the time of its neighbours"))
         return True
@@ -86,24 +94,38 @@ class Faults:
         """Zero or one if nothing follows for a place: by its shape, else by its neighbours, else the
         nearest."""
         pulses, (number, element) = self.track.pulses_at(place), divmod(place, 100)
+        if element in self.usual:
+            return self.usual[element]
         near = self.times.neighbours(number, element) if control else None
-        own = self._shape_of(place)
-        if own and (not near or self._is_nominal(pulses[0], own)):
+        own, burst = self._shape_of(place), near is not None and self._in_burst(place)
+        if own and (not near or (self._is_nominal(pulses[0], own) and not burst)):
             return own
         cost = {target: self.difference(place, target) for target in "01"}
         best = min("01", key=lambda target: cost[target])
-        if cost[best] < LIKE * self.layout.interval:
+        if cost[best] < (LIKE_IN_BURST if burst else LIKE) * self.layout.interval:
             return best
         if near or not control:
             return near
         self.guesses[place] = best if pulses else "0"
         return self.guesses[place]
 
+    def _compare_control(self, number: int, text: str) -> None:
+        """If control functions never change, one that most frames do not have is damage."""
+        for element, usual in self.usual.items():
+            if text[element] in "01" and text[element] != usual:
+                self.wanted[100 * number + element] = usual
+
     def _shape_of(self, place: int) -> Optional[str]:
         """Zero or one if there is a single pulse of such a width."""
         pulses = self.track.pulses_at(place)
         own = self.layout.class_of(self.falls[pulses[0]] - self.rises[pulses[0]]) if len(pulses) == 1 else ""
         return own if own in ("0", "1") else None
+
+    def _in_burst(self, place: int) -> bool:
+        """Whether places on both sides, or two on one side, are damaged."""
+        at = place - self.track.first
+        near = self.track.told[max(0, at - 2):max(0, at)] + self.track.told[at + 1:at + 3]
+        return sum(letter not in "01P~" for letter in near) >= BURST
 
     def _is_nominal(self, pulse: int, name: str) -> bool:
         return abs(self.falls[pulse] - self.rises[pulse] - self.width(name)) <= NOMINAL * self.layout.interval
@@ -116,8 +138,14 @@ class Faults:
             beside = place - 1 in self.wanted or place + 1 in self.wanted
             if told in "01" and beside and place in self.track.zone_of:
                 near = self.times.neighbours(number, element)
-                if near and near != told and not self._is_nominal(self.track.pulses_at(place)[0], told):
+                if near and near != told and not self._is_sound(place, told):
                     self.wanted[place] = near
+
+    def _is_sound(self, place: int, told: str) -> bool:
+        """Whether a pulse next to damage has the width of its class, and in a burst its place, too."""
+        if self._in_burst(place):
+            return self.difference(place, told) < LIKE_IN_BURST * self.layout.interval
+        return self._is_nominal(self.track.pulses_at(place)[0], told)
 
     def difference(self, place: int, target: str) -> float:
         """For how many microseconds the level is not that of the target, within its interval."""
@@ -155,10 +183,14 @@ class Faults:
         target, element = NAMES[self.wanted[place]], place % 100
         if place in self.guesses:
             return "undecided whether zero or one: nothing says it, and a %s is written" % target
+        if element in self.usual:
+            return "a %s as in most frames" % target
         if element in self.times.kept:
             return "a %s by its shape or the frames next to it" % target
         if element in POSITIONS or element in self.layout.unused:
             return "a %s has to be there" % target
+        if place // 100 in self.times.spliced:
+            return "a %s follows from the frames before; this one begins with their time, and ends with another" % target
         return "a %s follows from the frames around it" % target
 
     def seen(self, place: int) -> str:

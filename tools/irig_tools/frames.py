@@ -11,6 +11,7 @@ from .layout import READABLE, Fields
 from .leap import find_leap
 from .moments import DAY, Calendar
 from .spans import fit
+from .splices import spliced
 from .track import Track
 
 LONGEST_CUT = 3000  # elements; after more than that the places are not counted on
@@ -39,6 +40,8 @@ class Times:
         self.own = {number: self._base(number, told) for number, told in self.read}
         self.bases = self._find_bases()
         self.spans = self._find_spans()
+        self.spliced = spliced(self)
+        self.bases.update(self.spliced)
         self._find_sound()
 
     def _find_sound(self) -> None:
@@ -193,6 +196,16 @@ class Times:
         told, many = near.most_common(1)[0] if near else ("", 0)
         total = sum(near.values())
         return told if near and many >= max(1, total - (total > 2)) else None
+
+    def usual(self) -> Dict[int, str]:
+        """The classes of control functions that all frames have but one in ten."""
+        found = {}
+        for element in self.layout.control:
+            often = Counter(text[element] for text in self.texts.values() if text[element] in "01")
+            for told, many in often.most_common(1):
+                if many >= 0.9 * sum(often.values()) - 1:
+                    found[element] = told
+        return found
 
     def name(self, number: int) -> str:
         moment = self.moment(number)

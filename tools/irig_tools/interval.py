@@ -13,6 +13,8 @@ from .phases import turns
 
 NEAR = 15  # pulses at the end of a run that say where it should rise
 FAR = 300  # pulses at the end of a run that say the interval there
+NEAR_RUNS = 300  # elements: runs that are no farther apart can be on one clock
+FAR_RUNS = 1000  # the same if the clock is exact
 
 
 @dataclass
@@ -119,10 +121,13 @@ class Clock:
         return min(0.4 * self.nominal, self.margin + self.doubt * steps)
 
     def on_one_clock(self, left: Run, right: Run) -> bool:
-        """Whether two runs, at most three frames apart, are a whole number of intervals apart."""
+        """Whether two runs, not far apart, are a whole number of intervals apart."""
         distance, interval = right.begin - left.end, self.interval_between(left, right)
         steps = round(distance / interval)
-        return 0 < steps <= 300 and abs(distance - steps * interval) <= self.slack(steps)
+        off = abs(distance - steps * interval)
+        if self.exact and off <= 1:
+            return 0 < steps <= FAR_RUNS
+        return 0 < steps <= NEAR_RUNS and off <= self.slack(steps)
 
     def least_late(self, steps: int) -> float:
         """A rest that is less late than this is left as it is."""

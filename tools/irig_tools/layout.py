@@ -32,6 +32,7 @@ class Layout:
         self._add_rest()
         with_control = expression in (0, 1, 4, 5)
         tens = CONTROL[kind][expression >= 4:] if with_control else ()
+        self.steady = False  # whether control functions never change in this recording
         self.control = [ten + unit for ten in tens for unit in range(9)]
         self.carried = sorted(element for rows in self.fields.values() for element, _ in rows)
         used = {*self.carried, *self.control, *POSITIONS}

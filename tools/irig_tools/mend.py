@@ -37,8 +37,9 @@ def obeyed(editor: Editor, script: List[Repair], refused: Set[str]) -> Listing:
     return listing
 
 
-def propose(editor: Editor, progress: Progress) -> List[Repair]:
-    """The script that repairs what the editor's track has; no line of it is refused.
+def propose(editor: Editor, progress: Progress, steady: bool = False) -> List[Repair]:
+    """The script that repairs what the editor's track has; no line of it is refused. If control functions
+    are `steady`, no frame has others than most.
 
     First are remarks: what is undecided when all repairs are made."""
     script: List[Repair] = []
@@ -50,7 +51,7 @@ def propose(editor: Editor, progress: Progress) -> List[Repair]:
         if turn == ROUNDS:
             break
         progress("looking at %d pulses" % len(listing.rises))
-        found = called_for(examine(listing))
+        found = called_for(examine(listing, steady))
         remarks = [each for each in found if not each.edits]
         new = [each for each in found if each.edits and "\n".join(each.edits) not in refused]
         script += new

@@ -24,6 +24,7 @@ decides is a comment with the choices. The track itself is not changed:
   --wire NAME, --format A|B|E|G, --expression 0..7    as irig_ed has them
   --page FILE   also writes a page (HTML) to look at: the whole recording, each place
                 before and after its repair, and the script
+  --steady      the control functions never change: what one frame alone has is damage
   -h, --help    prints this text
 
 The editor is the program that IRIG_ED names, or irig_ed on the path.
@@ -35,7 +36,7 @@ and 2 if the track was not read.
 def work(arguments: Arguments) -> int:
     with kept(arguments.editor) as options:
         editor, progress = Editor(options), progress_to(sys.stderr)
-        script = propose(editor, progress)
+        script = propose(editor, progress, arguments.get("--steady") is not None)
         path = arguments.get("--page")
         if path is not None:
             after = editor.ask([repair.lines() for repair in script])
@@ -49,4 +50,4 @@ def work(arguments: Arguments) -> int:
 
 
 def main() -> int:
-    return run("irig_mend", USAGE, ("--page",), work)
+    return run("irig_mend", USAGE, ("--page",), work, ("--steady",))

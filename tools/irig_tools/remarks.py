@@ -10,6 +10,8 @@ from .faults import Remark
 from .frames import Span, Times
 from .track import Track
 
+LEFT_CONTROL = "they are left; irig_mend --steady takes them for damage"
+
 
 def remarks(track: Track, times: Times) -> List[Remark]:
     found = _of_format(track, times) + _of_ends(track) + _of_cuts(track)
@@ -111,5 +113,5 @@ def _of_control(track: Track, times: Times) -> List[Remark]:
                 times.name(number),
                 ", ".join(unlike),
             )
-            found.append(Remark(track.rise_at(100 * number + int(unlike[0])), seen, "they are left"))
+            found.append(Remark(track.rise_at(100 * number + int(unlike[0])), seen, LEFT_CONTROL))
     return found

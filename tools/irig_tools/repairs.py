@@ -2,12 +2,16 @@
 true."""
 from __future__ import annotations
 
-from typing import List
+from typing import Dict, List
 
+from .chance import misread
 from .edits import Item, items
 from .faults import Faults
+from .layout import SHARE
 from .script import Repair
 from .wholes import lost_frames, shifts
+
+MOST_AGAIN = 2000  # places that are written again one by one
 
 
 def repairs(faults: Faults) -> List[Repair]:
@@ -15,7 +19,7 @@ def repairs(faults: Faults) -> List[Repair]:
     moved = shifts(faults)
     whole = lost_frames(faults)
     groups: List[List[Item]] = []
-    for item in sorted(moved + whole + items(faults), key=lambda item: -item.low):
+    for item in sorted(moved + whole + misread(faults) + items(faults), key=lambda item: -item.low):
         if groups and groups[-1][-1].low - item.high <= 1:
             groups[-1].append(item)
         else:
@@ -36,15 +40,25 @@ def _repair(faults: Faults, group: List[Item]) -> Repair:
     at = faults.track.rise_at(max(faults.track.first, int(group[-1].low + 0.5)))
     until = faults.track.rise_at(min(faults.track.last, int(group[0].high + 0.5)))
     repair = Repair(at, comments, [edit for item in group for edit in item.edits], until=until)
-    if all(item.single for item in group):
-        repair.instead = _written_again(faults, range(int(group[-1].low), int(group[0].high) + 1))
-        if len(repair.instead) < len(repair.edits):
-            return Repair(at, comments, repair.instead, until=until)
+    repair.instead = _written_again(faults, group)
+    if all(item.single for item in group) and 0 < len(repair.instead) < len(repair.edits):
+        return Repair(at, comments, repair.instead, until=until)
     return repair
 
 
-def _written_again(faults: Faults, places: range) -> List[str]:
-    """Deletes all pulses of these places and inserts those that are wanted."""
+def _written_again(faults: Faults, group: List[Item]) -> List[str]:
+    """Deletes all pulses from the first to the last faulty place and inserts those that are wanted; nothing
+    if more than that is to be done, or if a class is not known there."""
+    if not all(item.targets or item.single or item.low in faults.wanted for item in group):
+        return []
+    targets: Dict[int, str] = {}
+    for item in group:
+        targets.update(item.targets or _wanted(faults, item))
+    places = range(min(targets), max(targets) + 1)
+    for place in places[:MOST_AGAIN]:
+        targets.setdefault(place, faults.track.told[place - faults.track.first])
+    if len(places) > MOST_AGAIN or not set(targets.values()) <= set(SHARE):
+        return []
     pulses = sorted({pulse for place in places for pulse in faults.track.pulses_at(place)})
     edits = []
     if pulses:
@@ -53,8 +67,13 @@ def _written_again(faults: Faults, places: range) -> List[str]:
         )
     for place in reversed(places):
         rise = faults.track.rise_at(place)
-        edits.append("insert %d %d" % (rise, rise + faults.width(faults.wanted[place])))
+        edits.append("insert %d %d" % (rise, rise + faults.width(targets[place])))
     return edits
+
+
+def _wanted(faults: Faults, item: Item) -> Dict[int, str]:
+    places = range(int(item.low), int(item.high) + 1)
+    return {place: faults.wanted[place] for place in places if place in faults.wanted}
 
 
 def _of_lost(faults: Faults, lost: List[Item]) -> List[str]:

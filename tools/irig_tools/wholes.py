@@ -163,7 +163,7 @@ def lost_frames(faults: Faults) -> List[Item]:
 
 def _generate(faults: Faults, frames: _Frames) -> Item:
     first, beyond = 100 * frames.number, 100 * (frames.number + frames.many)
-    lost = [faults.wanted.pop(place) for place in range(first, beyond) if place in faults.wanted]
+    lost = {place: faults.wanted.pop(place) for place in range(first, beyond) if place in faults.wanted}
     moment = faults.times.moment(frames.number)
     assert moment is not None
     edit = "regen %d %d %s" % (frames.rise, frames.many, faults.times.calendar.text(moment))
@@ -178,4 +178,4 @@ def _generate(faults: Faults, frames: _Frames) -> Item:
     guessed = sorted({place % 100 for place in faults.guesses if first <= place < beyond})
     if guessed:
         why += "; undecided are the control elements %s" % ", ".join(map(str, guessed))
-    return Item(first, beyond - 1, [edit], why)
+    return Item(first, beyond - 1, [edit], why, targets=lost)

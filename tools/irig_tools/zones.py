@@ -8,6 +8,7 @@ from .interval import Clock, Run
 from .phases import ONLY_P, faults_along
 
 EARLY = 0.2  # a pulse belongs to a place from this share of an interval before its rise on
+EXACT = 0.005  # intervals: on an exact clock a pulse that is no more off keeps its time
 FAR_BELOW = 1000000  # keeps a quotient positive while it is rounded down
 
 
@@ -101,7 +102,7 @@ class Zone:
 
     def _find_border(self, left: Run, right: Run) -> int:
         """Goes back from the right run while pulses keep its time and not that of the left run."""
-        border, margin = right.first, self.clock.margin / self.interval
+        border, margin = right.first, (EXACT if self.clock.exact else self.clock.margin / self.interval)
         for pulse in range(right.first - 1, left.last, -1):
             back = (right.begin - self.rises[pulse]) / self.interval
             onward = (self.rises[pulse] - left.end) / self.interval

@@ -1,0 +1,61 @@
+"""Elements of two frames, between which others were cut out, that read as one frame of another time."""
+from __future__ import annotations
+
+from typing import List, Optional
+
+from .edits import Item
+from .faults import Faults
+from .layout import READABLE
+from .zones import Zone
+
+
+def misread(faults: Faults) -> List[Item]:
+    """Takes out the first pulse of each such frame that is not of the time of its marker, so that no time is
+    read there."""
+    found = []
+    for zone in faults.track.zones:
+        for marker in _markers(faults, zone):
+            other = _other(faults, zone, marker)
+            if other is not None:
+                found.append(_broken(faults, _place(zone, other), marker, other))
+    return found
+
+
+def _markers(faults: Faults, zone: Zone) -> List[int]:
+    """The pulses of a run with which a frame begins that can be read, and that ends after the run."""
+    left, right, classes = zone.left, zone.right, faults.track.classes
+    if not (left and right and right.glued and right.first - left.last == zone.straight()):
+        return []
+    return [
+        pulse
+        for pulse in range(max(left.first + 1, left.last - 98), left.last + 1)
+        if classes[pulse - 1] == "P" and READABLE.fullmatch(classes, pulse, pulse + 100)
+    ]
+
+
+def _place(zone: Zone, pulse: int) -> int:
+    """Its place if nothing were missing."""
+    assert zone.left
+    return zone.left.place + pulse - zone.left.first
+
+
+def _other(faults: Faults, zone: Zone, marker: int) -> Optional[int]:
+    """The first pulse of a frame that tells a time that is not of the one that its neighbours lead to."""
+    text, number = faults.track.classes[marker:marker + 100], _place(zone, marker) // 100
+    moment = faults.times.moment(number)
+    if faults.layout.decode(text) is None or moment is None:
+        return None
+    due = faults.layout.encode(faults.times.calendar.fields(moment))
+    unlike = [each for each in faults.layout.carried if text[each] != due[each]]
+    if not unlike or any(100 * number + each in faults.wanted for each in unlike):  # is repaired first
+        return None
+    return marker + unlike[0]
+
+
+def _broken(faults: Faults, place: int, marker: int, other: int) -> Item:
+    why = (
+        "%s, pulse %d: elements are missing before it, and from pulse %d on all reads as a frame of another "
+        "time; pulse %d is deleted, so that no time is read there"
+        % (faults.name(place), other + 1, marker + 1, other + 1)
+    )
+    return Item(place, place, ["%d delete" % (other + 1)], why)
