@@ -17,4 +17,5 @@ pub mod Dump
 pub mod Journals
 pub mod Parts
 pub mod FileText
+pub mod TextSoFar
 pub mod Code
