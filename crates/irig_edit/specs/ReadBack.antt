@@ -1,5 +1,5 @@
 -- What is read from frames that were generated. The frames are those of IRIG Standard 200-04; that
--- they are read back as what was asked for is this project's own promise.
+-- the fields that were asked for are read from them is this project's own promise.
 use Rattle.std.specs.Prelude.{◌≡◌, ◌↔◌, ◌+◌, ◌-◌, ◌*◌, ◌<◌, ◌≤◌, ℕ, true, List, [], ◌∷◌, ◌++◌, length, slice_get, Ok, Some, Contains}
 use Rattle.irig_codes.specs.declared.note.Note.TheVariants.{Fine}
 use Rattle.irig_codes.specs.declared.width.Element.TheVariants.{Position}
@@ -21,7 +21,7 @@ use Rattle.irig_edit.specs.Regenerated.{CanMake, frames_pulses, rising_before}
 use Rattle.irig_edit.specs.State.{frames_of}
 use Rattle.irig_edit.specs.Kept.{Kept}
 
--- frame k from a moment on, from 0, as it is read: its fields, with nothing to note. The frames
+-- frame k from a moment on, from 0, as it is read: its fields, and the note is `Fine`. The frames
 -- begin with the pulse at a place, from 0
 abbrev pub frame_read : FormatView → MomentView → ℕ → ℕ → ℕ → Record
 frame_read f moment control place k =

@@ -52,7 +52,7 @@ suits_other k class suit ne = elim (either (k % 10 == 9)) [
   | inr other ↦ digit_other class (sym (ap (λ b. cond b (is_position class) (is_digit class)) other) ∙ suit)
 ]
 
--- of two pulses next to each other, the second of which suits, one is no position identifier
+-- two pulses are next to each other, and the second suits: one of them is no position identifier
 pub beside_other : (k : ℕ) (before class : Option Element) → suits k class ≡ true → (k % 10 ≡ 9 → is_position before ≡ false)
     → (is_position before ≡ false) ⊎ (is_position class ≡ false)
 beside_other k before class suit h = elim (either (k % 10 == 9)) [

@@ -152,7 +152,7 @@ fn step_right(records: &mut Gap<Record>, pulses: usize)
     records.step_right();
 }
 
-/// Puts a record that was found left of the gap. If it has room it does not grow.
+/// Inserts a record that was found left of the gap. If it has room it does not grow.
 pub fn put(records: &mut Gap<Record>, found: Record) -> Result<(), AllocError>
     ensures left { OnOk result (left_of records.new ≡ left_of records.old ++ (found ∷ [])) }
     ensures right { OnOk result (kept_right records.new ≡ kept_right records.old) }

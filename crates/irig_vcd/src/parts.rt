@@ -85,7 +85,7 @@ impl<S: Sink> Parts<S> {
 
 /// A text in memory.
 impl Parts<Vec<u8>> {
-    /// A text that begins, with room for so many bytes until it asks for memory again.
+    /// A text that begins. It asks for memory again when it has more than `room` bytes.
     pub fn in_memory(alloc: Global, room: usize) -> Result<Parts<Vec<u8>>, AllocError>
         ensures { IfOk result (λ text. text ≡ no_text) }
     {
@@ -103,7 +103,7 @@ impl Parts<Vec<u8>> {
     }
 }
 
-/// Hands a sink the bytes that wait, if there is no room for so many more.
+/// Hands a sink the bytes that wait, if there is no room for the next ones.
 #[inline(always)]
 fn make_room<S: Sink>(
     counted: &mut Counted<S>,

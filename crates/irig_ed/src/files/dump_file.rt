@@ -22,7 +22,7 @@ const PART: usize = 8192;
 /// Why the bytes of a dump were not read.
 #[derive(Clone, Copy)]
 pub enum DumpFileFault {
-    /// The file is missing, or is none, or may not be read.
+    /// The file is missing, or is none, or there is no permission to read it.
     CannotBeRead,
     /// The file has more than 2^28 bytes.
     TooLong,

@@ -29,7 +29,7 @@ pub record Ran (from to : Desk) (before after : Status) (old new : Machine) (scr
   pub told : Tells from to (printed answers) answers texts
   pub runs : Runs old (script_lines script) answers texts new
 
--- some lines of the script were obeyed; of the last answer only a front was printed, and not all
+-- some lines of the script were obeyed; the last answer was printed only in part
 pub record Broke (from to : Desk) (old new : Machine) (script : List ℕ) : Type 0 where
   pub lines : List (List ℕ)
   pub others : List (List ℕ)
@@ -64,7 +64,7 @@ pub record Goes (bytes : List ℕ) (old : Machine) (answers : List Answer) (text
   pub cut : bytes ≡ unlines lines ++ rest
   pub runs : Runs old lines answers texts new
 
--- just the whole lines that were read were obeyed, and all that they print was printed
+-- just the whole lines that were read were obeyed, and all their output was printed
 pub record Stopped (from to : Desk) (script script_left : Option (List ℕ)) (old new : Machine)
     (least : ℕ) : Type 0 where
   pub bytes : List ℕ
