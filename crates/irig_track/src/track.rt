@@ -4,14 +4,13 @@ ghost use Rattle.std.specs.Prelude.{◌≡◌, ◌+◌, ◌-◌, ◌^◌, ◌/�
 ghost use Rattle.std.specs.Prelude.{true, max, IfOk, OnOk, OnErr};
 ghost use Rattle.irig_vcd.specs.FileText.{file_text, begins_high};
 ghost use Rattle.irig_vcd.specs.Recording.{recording_view, is_even_long};
-ghost use Rattle.irig_vcd.specs.TextSoFar.{grown};
 ghost use Rattle.irig_track.specs.Edges.{edges_of, is_edge};
 ghost use Rattle.irig_track.specs.Splices.{risen_by, ended_before};
 ghost use Rattle.irig_track.specs.Track.{IsTrack};
 
 use crate::pulse::Pulse;
 use irig_gap::Gap;
-use irig_vcd::{Parts, Recording, Sink, TextWriter};
+use irig_vcd::{Recording, TextWriter};
 use std::alloc::{AllocError, Global};
 use std::marker::Model;
 
@@ -82,22 +81,13 @@ impl Track {
         ensures { IfOk result (λ text. text.items
             ≡ file_text (recording_view self.now.micros (edges_of self.now.pulses))) }
     {
-        let mut text = Parts::in_memory(alloc, 36 * self.pulses.len() + 140)?;
-        self.write_text(&mut text)?;
-        text.into_text()
-    }
-
-    /// Writes that text. No memory is taken.
-    pub fn write_text<S: Sink>(&self, text: &mut Parts<S>) -> Result<(), S::Fault>
-        ensures { OnOk result (text.new ≡ grown text.old
-            (file_text (recording_view self.now.micros (edges_of self.now.pulses)))) }
-    {
-        let mut writer = TextWriter::begin(text, self.begins_high())?;
-        for index in 0..self.pulses.len() {
+        let count = self.pulses.len();
+        let mut writer = TextWriter::begin(alloc, 2 * count, self.begins_high())?;
+        for index in 0..count {
             let pulse = self.pulses.get(index);
-            writer.put_pulse(text, pulse.rise, pulse.fall)?;
+            writer.put_pulse(pulse.rise, pulse.fall)?;
         }
-        writer.finish(text, self.micros)
+        writer.finish(self.micros)
     }
 
     /// Whether the first pulse rises at 0.

@@ -28,7 +28,6 @@ pub mod RecordingLemmas
 -- The whole of a dump.
 pub mod WholeDump
 -- The text of a recording, its words and its changes: what is written is read back.
-pub mod GrownTexts
 pub mod TextParts
 pub mod WrittenWords
 pub mod WrittenEdges

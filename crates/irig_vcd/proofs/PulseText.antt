@@ -83,10 +83,9 @@ pub one_in_front : (rise fall pad : List ℕ) → pulse_parts 1 rise fall pad �
 one_in_front rise fall pad = ap (λ (d : List ℕ). 35 ∷ (d ++ (rise ++ (10 ∷ 49 ∷ 33 ∷ 10 ∷ (35 ∷ (d ++ (fall ++ (10 ∷ 48 ∷ 33 ∷ 10 ∷ pad)))))))) (decimal_digit 1 (omega arith))
 
 -- the lines are written and what is after them is cut off
-pub parts_put : (bytes rise fall pad : List ℕ) (k long : ℕ) → bytes ≡ pulse_parts k rise fall pad
-    → length rise ≡ 4 → length fall ≡ 4 → length (front k) + 8 ≡ long → long ≤ 24
-    → take (2 * long) (take 48 bytes) ≡ (front k ++ (rise ++ (10 ∷ 49 ∷ 33 ∷ 10 ∷ []))) ++ (front k ++ (fall ++ (10 ∷ 48 ∷ 33 ∷ 10 ∷ [])))
-parts_put bytes rise fall pad k long is four more fits short =
+pub parts_put : (text bytes rise fall pad : List ℕ) (k long : ℕ) → bytes ≡ pulse_parts k rise fall pad → length rise ≡ 4 → length fall ≡ 4 → length (front k) + 8 ≡ long → long ≤ 24
+    → take (length text + 2 * long) (text ++ take 48 bytes) ≡ (text ++ (front k ++ (rise ++ (10 ∷ 49 ∷ 33 ∷ 10 ∷ [])))) ++ (front k ++ (fall ++ (10 ∷ 48 ∷ 33 ∷ 10 ∷ [])))
+parts_put text bytes rise fall pad k long is four more fits short =
     let one = front k ++ (rise ++ (10 ∷ 49 ∷ 33 ∷ 10 ∷ [])) in
     let two = front k ++ (fall ++ (10 ∷ 48 ∷ 33 ∷ 10 ∷ [])) in
     let whole : bytes ≡ (one ++ two) ++ pad = is ∙ parts_apart k rise fall pad in
@@ -95,8 +94,8 @@ parts_put bytes rise fall pad k long is four more fits short =
     let both : length (one ++ two) ≡ 2 * long = length-append one two ∙ omega (arith, a, b) in
     let all : 48 ≡ length (one ++ two) + (48 - 2 * long) = omega (arith, both) in
     let first : take 48 bytes ≡ (one ++ two) ++ take (48 - 2 * long) pad = ap (λ n. take n bytes) all ∙ (ap (take (length (one ++ two) + (48 - 2 * long))) whole ∙ take-append-add (one ++ two) pad (48 - 2 * long)) in
-    ap (take (2 * long)) first
-    ∙ (ap (λ n. take n ((one ++ two) ++ take (48 - 2 * long) pad)) (sym both) ∙ take-append_seam (one ++ two) (take (48 - 2 * long) pad))
+    take-append-add text (take 48 bytes) (2 * long)
+    ∙ (ap (λ (l : List ℕ). text ++ l) (ap (take (2 * long)) first ∙ (ap (λ n. take n ((one ++ two) ++ take (48 - 2 * long) pad)) (sym both) ∙ take-append_seam (one ++ two) (take (48 - 2 * long) pad))) ∙ sym (append_assoc text one two))
 
 -- other digits of both
 pub digits_put : (p : KeptPulse) (one two x y : List ℕ) (h : HoldsPulse p) → length x ≡ 4

@@ -1,16 +1,29 @@
 -- How long the text of a recording is: it can be read again.
-use Rattle.std.proofs.Common.{◌≡◌, ◌≤◌, ◌*◌, ◌^◌, ◌==◌, ◌++◌, ◌∷◌, [], ℕ, Bool, true, false, not, List, length, decimal, refl, arith}
-use Rattle.std.proofs.Common.{length-append, if◌then◌else◌, nat_lt, ◌&&◌}
+use Rattle.std.proofs.Common.{◌≡◌, ◌≤◌, ◌*◌, ◌^◌, ◌==◌, ◌++◌, ◌∷◌, [], ℕ, Bool, true, false, not, List, length, decimal, refl, arith, length-append, if◌then◌else◌, nat_lt, ◌&&◌, Result, Ok, Err, IsOk, OnOk}
 use Rattle.std.specs.List.{list_any}
+use Rattle.std.proofs.lemmas.Bool.{false≢true}
 use Rattle.std.proofs.lemmas.Fmt.{length-decimal-le}
-use Rattle.irig_vcd.specs.FileText.{time_line, level_line, edge_lines, head_text, header_text, later_edges, begins_high, end_line, file_text}
+use Rattle.irig_vcd.specs.FileText.{time_line, level_line, edge_lines, head_text, header_text, later_edges, begins_high, end_line, lines_at, file_text}
 use Rattle.irig_vcd.specs.Recording.{UpTo, RecordingView, IsRecording}
+
+-- what a function ensures of an Ok, if it answers Ok
+pub at_ok : {T E P : Type 0} (r : Result T E) → IsOk r → OnOk r P → P
+at_ok (Ok x) ok p = p
+at_ok (Err e) ok p = absurd (false≢true ok)
 
 -- 2^40 has 13 digits
 pub length-time_line : (time : ℕ) → time ≤ 2 ^ 40 → length (time_line time) ≤ 15
 length-time_line time early =
     let digits : length (decimal time) ≤ 13 = length-decimal-le 13 time (omega arith) (omega (arith, early)) (omega arith) in
     omega (arith, digits, length-append (decimal time) (10 ∷ []))
+
+lines_or_none : (none : Bool) (lines : List ℕ) → length lines ≤ 18 → length (if none then [] else lines) ≤ 18
+lines_or_none true lines few = omega arith
+lines_or_none false lines few = few
+
+-- the two lines of an edge
+pub length-lines_at : (high : Bool) (edge : ℕ) → edge ≤ 2 ^ 40 → length (lines_at high edge) ≤ 18
+length-lines_at high edge early = lines_or_none (edge == 0) (time_line edge ++ level_line high) (omega (arith, length-time_line edge early, length-append (time_line edge) (level_line high)))
 
 length-edge_lines : (high : Bool) (top : ℕ) (edges : List ℕ) → top ≤ 2 ^ 40 → UpTo top edges → length (edge_lines high edges) ≤ 18 * length edges
 length-edge_lines high top [] short within = omega arith

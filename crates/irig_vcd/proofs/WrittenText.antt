@@ -5,8 +5,6 @@ use Rattle.std.proofs.lemmas.List.{drop_all, append-nil}
 use Rattle.std.proofs.lemmas.Bool.{ne_eqb, eq-eqb, lt-ltb, cases_eq}
 use Rattle.irig_vcd.specs.FileText.{file_text, header_text, time_line, level_line, edge_lines, begins_high, later_edges, end_line, lines_at, length_line}
 use Rattle.irig_vcd.specs.Recording.{recording_view, RisesFrom, UpTo}
-use Rattle.irig_vcd.specs.TextSoFar.{TextSoFar, grown}
-use Rattle.irig_vcd.proofs.GrownTexts.{grown_none, grown_twice}
 use Rattle.irig_vcd.proofs.WrittenChanges.{last_or, last_up}
 
 -- the lines of edges, the first of them high or low
@@ -82,23 +80,3 @@ all_put high n micros text last edges done put end r u =
     sym (append-nil text) ∙ ap (λ es. text ++ all_lines high es) (sym none) ∙ put in
     let at : last ≡ last_or 0 edges = ap (last_or last) (sym none) ∙ end in
     rw (before, at) (whole_text micros edges r u)
-
--- one more edge
-pub edge_grown : (t next whole : TextSoFar) (high : Bool) (i edge : ℕ) (edges : List ℕ)
-    → drop i edges ≡ edge ∷ drop (i + 1) edges → next ≡ grown t (lines_at high edge)
-    → grown t (all_lines high (drop i edges)) ≡ whole → grown next (all_lines (not high) (drop (i + 1) edges)) ≡ whole
-edge_grown t next whole high i edge edges cut put all =
-    let rest = all_lines (not high) (drop (i + 1) edges) in
-    ap (λ (n : TextSoFar). grown n rest) put ∙ (grown_twice t (lines_at high edge) rest ∙ (sym (ap (λ es. grown t (all_lines high es)) cut) ∙ all))
-
--- all that was written when no edge is left
-pub all_grown : (high : Bool) (n micros last : ℕ) (edges : List ℕ) (start t end : TextSoFar) → length edges ≤ n
-    → grown t (all_lines high (drop n edges)) ≡ grown start (header_text (begins_high edges) ++ all_lines true edges)
-    → last_or last (drop n edges) ≡ last_or 0 edges
-    → RisesFrom 0 edges → UpTo micros edges → end ≡ grown t (length_line last micros) → end ≡ grown start (file_text (recording_view micros edges))
-all_grown high n micros last edges start t end done put is r u ends =
-    let none : drop n edges ≡ [] = drop_all n edges done in
-    let front = header_text (begins_high edges) ++ all_lines true edges in
-    let before : t ≡ grown start front = sym (grown_none t) ∙ (ap (λ es. grown t (all_lines high es)) (sym none) ∙ put) in
-    ends ∙ (ap (λ (s : TextSoFar). grown s (length_line last micros)) before ∙ (grown_twice start front (length_line last micros)
-    ∙ ap (grown start) (all_put high n micros front last edges done (ap (λ es. front ++ all_lines high es) none ∙ append-nil front) is r u)))

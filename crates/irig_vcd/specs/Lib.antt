@@ -17,5 +17,4 @@ pub mod Dump
 pub mod Journals
 pub mod Parts
 pub mod FileText
-pub mod TextSoFar
 pub mod Code

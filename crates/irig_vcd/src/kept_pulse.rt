@@ -1,14 +1,12 @@
 //! The lines of a pulse, kept for the next one.
 
 ghost use Rattle.std.specs.Prelude.{◌≡◌, ◌↔◌, ◌≤◌, ◌<◌, ◌+◌, ◌-◌, ◌/◌, ◌%◌, ◌^◌, ◌++◌, ◌∷◌, true, false};
-ghost use Rattle.std.specs.Prelude.{OnOk, length, take, drop};
+ghost use Rattle.std.specs.Prelude.{OnOk, length, take, drop, vec_capacity, vec_len, IsOk};
 ghost use Rattle.irig_vcd.specs.Code.KeptPulse.{HoldsPulse, IsNear, last_four};
 ghost use Rattle.irig_vcd.specs.FileText.{EndsLines, lines_at};
-ghost use Rattle.irig_vcd.specs.TextSoFar.{grown};
 
-use crate::parts::Parts;
-use crate::sink::Sink;
 use crate::writer::put_digits;
+use std::alloc::AllocError;
 
 /// The two digits of each number below 100.
 static PAIRS: [u8; 200] = *b"\
@@ -72,23 +70,23 @@ impl KeptPulse {
 
     /// Writes the lines of a pulse whose times, in microseconds, have the digits that are kept.
     #[inline(always)]
-    pub fn put<S: Sink>(
-        &mut self,
-        text: &mut Parts<S>,
-        rise: u64,
-        fall: u64,
-    ) -> Result<(), S::Fault>
+    pub fn put(&mut self, text: &mut Vec<u8>, rise: u64, fall: u64) -> Result<(), AllocError>
         requires holds { HoldsPulse self.old }
         requires rise { IsNear self.old rise }
         requires fall { IsNear self.old fall }
         ensures text { OnOk result
-            (text.new ≡ grown text.old (lines_at true rise ++ lines_at false fall)) }
+            (text.new.items ≡ text.old.items ++ lines_at true rise ++ lines_at false fall) }
+        ensures enough { vec_len text.old + 48 ≤ vec_capacity text.old → IsOk result }
+        ensures keeps { vec_capacity text.old ≤ vec_capacity text.new }
         ensures holds { HoldsPulse self.new }
     {
         let (up, down) = (rise - self.base, fall - self.base);
         put_four(&mut self.bytes, self.long - 8, up);
         put_four(&mut self.bytes, 2 * self.long - 8, down);
-        text.put(&self.bytes[..48], 2 * self.long)
+        let len = text.len();
+        text.extend_from_slice(&self.bytes[..48])?;
+        text.truncate(len + 2 * self.long);
+        Ok(())
     }
 
     /// Whether a time, in microseconds, has the digits that are kept.
