@@ -1,8 +1,9 @@
 //! What a session shows of its present state.
 
-ghost use Rattle.std.specs.Prelude.{◌≡◌, ◌≤◌, ◌+◌, ◌-◌, length, Some, IfSome, IfOk, slice_get, ◌∷◌};
+ghost use Rattle.std.specs.Prelude.{◌≡◌, ◌≤◌, ◌+◌, ◌-◌, length, Some, IfSome, IfOk, OnOk, slice_get, ◌∷◌};
 ghost use Rattle.std.specs.List.{sum_by};
 ghost use Rattle.irig_vcd.specs.FileText.{file_text};
+ghost use Rattle.irig_vcd.specs.TextSoFar.{grown};
 ghost use Rattle.irig_edit.specs.Kept.{put_for, taken_for};
 ghost use Rattle.irig_edit.specs.State.{frames_of, recording_of};
 ghost use Rattle.irig_track.specs.Splices.{risen_by};
@@ -11,6 +12,7 @@ use crate::session::Session;
 use irig_codes::Format;
 use irig_index::Record;
 use irig_track::Pulse;
+use irig_vcd::{Parts, Sink};
 use std::alloc::AllocError;
 
 /// The present state.
@@ -123,5 +125,13 @@ impl Session {
             text.items ≡ file_text (recording_of self.now.present.state)) }
     {
         self.present.text(self.alloc)
+    }
+
+    /// Writes the text of the track's dump. No memory is taken.
+    pub fn write_text<S: Sink>(&self, text: &mut Parts<S>) -> Result<(), S::Fault>
+        ensures { OnOk result (text.new
+            ≡ grown text.old (file_text (recording_of self.now.present.state))) }
+    {
+        self.present.write_text(text)
     }
 }

@@ -1,8 +1,9 @@
 //! The present state, with its frames.
 
-ghost use Rattle.std.specs.Prelude.{◌≡◌, ◌<◌, ◌≤◌, ◌+◌, ◌-◌, ◌^◌, length, map, ◌↔◌, IsTrue, IfOk, Some, slice_get};
+ghost use Rattle.std.specs.Prelude.{◌≡◌, ◌<◌, ◌≤◌, ◌+◌, ◌-◌, ◌^◌, length, map, ◌↔◌, IsTrue, IfOk, OnOk, Some, slice_get};
 ghost use Rattle.irig_track.specs.Splices.{risen_by};
 ghost use Rattle.irig_vcd.specs.FileText.{file_text};
+ghost use Rattle.irig_vcd.specs.TextSoFar.{grown};
 ghost use Rattle.irig_edit.specs.Conditions.{is_touched};
 ghost use Rattle.irig_edit.specs.Marks.{stands};
 ghost use Rattle.irig_edit.specs.Edits.{pulse_of};
@@ -13,7 +14,7 @@ use crate::marks::{Letters, Marks, letters_from};
 use irig_codes::Format;
 use irig_index::{Index, Record};
 use irig_track::{Pulse, Track};
-use irig_vcd::Recording;
+use irig_vcd::{Parts, Recording, Sink};
 use std::alloc::{AllocError, Global};
 use std::marker::Model;
 
@@ -65,6 +66,13 @@ impl Present {
         ensures { IfOk result (λ text. text.items ≡ file_text (recording_of self.now.state)) }
     {
         self.track.text(alloc)
+    }
+
+    /// Writes the text of the track's dump. No memory is taken.
+    pub(crate) fn write_text<S: Sink>(&self, text: &mut Parts<S>) -> Result<(), S::Fault>
+        ensures { OnOk result (text.new ≡ grown text.old (file_text (recording_of self.now.state))) }
+    {
+        self.track.write_text(text)
     }
 }
 

@@ -1,5 +1,7 @@
 -- Texts of lines.
 use Rattle.std.proofs.Common.{◌≡◌, ◌+◌, ◌++◌, ◌∷◌, [], ℕ, suc, List, length, refl, sym, ap, ◌∙◌, append_assoc}
+use Rattle.irig_vcd.specs.TextSoFar.{TextSoFar, grown}
+use Rattle.irig_vcd.proofs.GrownTexts.{rest_grown}
 use Rattle.irig_saved.specs.Lines.{text_of}
 use Rattle.irig_saved.specs.SavedText.{pulse_lines}
 use Rattle.irig_track.specs.declared.pulse.Pulse.{Pulse}
@@ -14,6 +16,12 @@ pub further : (old new whole : List ℕ) (ls ms : List (List ℕ)) → new ≡ o
     → old ++ text_of (ls ++ ms) ≡ whole → new ++ text_of ms ≡ whole
 further old new whole ls ms put all =
     ap (λ t. t ++ text_of ms) put ∙ append_assoc old (text_of ls) (text_of ms) ∙ ap (λ t. old ++ t) (sym (text_of_append ls ms)) ∙ all
+
+-- the same, in a text that grows
+pub further_grown : (now next start : TextSoFar) (whole : List ℕ) (ls ms : List (List ℕ)) → next ≡ grown now (text_of ls)
+    → grown now (text_of (ls ++ ms)) ≡ grown start whole → grown next (text_of ms) ≡ grown start whole
+further_grown now next start whole ls ms put all =
+    rest_grown (text_of ls) (text_of ms) whole start now next put (ap (grown now) (sym (text_of_append ls ms)) ∙ all)
 
 pub whole : (t1 t2 t3 t4 t5 t6 t7 t8 a b c p f : List ℕ) (ms ss fs : List (List ℕ))
     → t1 ≡ a ++ 10 ∷ [] → t2 ≡ t1 ++ (b ++ 10 ∷ []) → t3 ≡ t2 ++ (c ++ 10 ∷ []) → t4 ≡ t3 ++ text_of ms

@@ -1,6 +1,7 @@
 //! Writes lines of changes.
 
 ghost use Rattle.std.specs.Prelude.{◌≡◌, ◌++◌, ◌<◌, ◌∷◌, [], OnOk, codes};
+ghost use Rattle.irig_vcd.specs.TextSoFar.{grown};
 ghost use Rattle.irig_saved.specs.Lines.{numbered};
 ghost use Rattle.irig_saved.specs.ChangeWords.{moved_word, single_line};
 ghost use Rattle.irig_saved.specs.SavedText.{pulse_line};
@@ -9,20 +10,21 @@ ghost use Rattle.irig_saved.specs.declared.single.Single.TheVariants.{Toggle, Sh
 use crate::word_writer::{put_formatted, put_number, put_numbered, put_numbers, put_word};
 use irig_codes::Kind;
 use irig_track::Pulse;
+use irig_vcd::{Parts, Sink};
 use itoa::Buffer;
-use std::alloc::AllocError;
 
 /// The first line of a splice: the first pulse that goes, from 1, how many go, and how many come.
-pub fn put_splice(text: &mut Vec<u8>, at: u64, count: u64, put: u64) -> Result<(), AllocError>
-    ensures { OnOk result (text.new.items
-        ≡ text.old.items ++ (numbered (codes "splice") (at ∷ count ∷ put ∷ []) ++ 10 ∷ [])) }
+pub fn put_splice<S: Sink>(text: &mut Parts<S>, at: u64, count: u64, put: u64) -> Result<(), S::Fault>
+    ensures { OnOk result (text.new ≡ grown text.old
+            (numbered (codes "splice") (at ∷ count ∷ put ∷ []) ++ 10 ∷ [])) }
 {
     put_numbered(text, b"splice", &[at, count, put])
 }
 
 /// The line of a pulse that a splice inserts.
-pub fn put_pulse(text: &mut Vec<u8>, pulse: Pulse) -> Result<(), AllocError>
-    ensures { OnOk result (text.new.items ≡ text.old.items ++ (pulse_line pulse ++ 10 ∷ [])) }
+pub fn put_pulse<S: Sink>(text: &mut Parts<S>, pulse: Pulse) -> Result<(), S::Fault>
+    ensures { OnOk result (text.new ≡ grown text.old
+            (pulse_line pulse ++ 10 ∷ [])) }
 {
     let mut buffer = Buffer::new();
     let rise = buffer.format(pulse.rise).as_bytes();
@@ -30,37 +32,37 @@ pub fn put_pulse(text: &mut Vec<u8>, pulse: Pulse) -> Result<(), AllocError>
 }
 
 /// The line of a toggle from `a` to `b`, in microseconds.
-pub fn put_toggle(text: &mut Vec<u8>, a: u64, b: u64) -> Result<(), AllocError>
-    ensures { OnOk result (text.new.items
-        ≡ text.old.items ++ (single_line (Toggle a b) ++ 10 ∷ [])) }
+pub fn put_toggle<S: Sink>(text: &mut Parts<S>, a: u64, b: u64) -> Result<(), S::Fault>
+    ensures { OnOk result (text.new ≡ grown text.old
+            (single_line (Toggle a b) ++ 10 ∷ [])) }
 {
     put_numbered(text, b"toggle", &[a, b])
 }
 
 /// The line of a shift of the pulses `i` to `j`, from 1, by this many microseconds, with the marks
 /// of the given letters.
-pub fn put_shift(
-    text: &mut Vec<u8>,
+pub fn put_shift<S: Sink>(
+    text: &mut Parts<S>,
     i: u64,
     j: u64,
     by: i64,
     marks: &[bool; 26],
-) -> Result<(), AllocError>
-    ensures { OnOk result (text.new.items
-        ≡ text.old.items ++ (single_line (Shift i j by marks.now) ++ 10 ∷ [])) }
+) -> Result<(), S::Fault>
+    ensures { OnOk result (text.new ≡ grown text.old
+            (single_line (Shift i j by marks.now) ++ 10 ∷ [])) }
 {
     text.extend_from_slice(b"shift")?;
     put_numbers(text, &[i, j])?;
     let mut buffer = Buffer::new();
     put_word(text, buffer.format(by).as_bytes())?;
     put_moved(text, marks)?;
-    text.push(b'\n')?;
-    Ok(())
+    text.push(b'\n')
 }
 
 /// A space and the letters of the marks that move, or `-` if none does.
-fn put_moved(text: &mut Vec<u8>, marks: &[bool; 26]) -> Result<(), AllocError>
-    ensures { OnOk result (text.new.items ≡ text.old.items ++ 32 ∷ moved_word marks.now) }
+fn put_moved<S: Sink>(text: &mut Parts<S>, marks: &[bool; 26]) -> Result<(), S::Fault>
+    ensures { OnOk result (text.new ≡ grown text.old
+            (32 ∷ moved_word marks.now)) }
 {
     let mut letters = [0; 26];
     let mut count = 0;
@@ -77,18 +79,18 @@ fn put_moved(text: &mut Vec<u8>, marks: &[bool; 26]) -> Result<(), AllocError>
 }
 
 /// The line that sets a format.
-pub fn put_set_format(text: &mut Vec<u8>, kind: Kind, expression: u8) -> Result<(), AllocError>
-    ensures { OnOk result (text.new.items
-        ≡ text.old.items ++ (single_line (SetFormat kind expression) ++ 10 ∷ [])) }
+pub fn put_set_format<S: Sink>(text: &mut Parts<S>, kind: Kind, expression: u8) -> Result<(), S::Fault>
+    ensures { OnOk result (text.new ≡ grown text.old
+            (single_line (SetFormat kind expression) ++ 10 ∷ [])) }
 {
     put_formatted(text, b"setformat", kind, expression)
 }
 
 /// The line that sets the mark of a letter, from 0, to a time in microseconds, or clears it.
-pub fn put_set_mark(text: &mut Vec<u8>, letter: u8, time: Option<u64>) -> Result<(), AllocError>
+pub fn put_set_mark<S: Sink>(text: &mut Parts<S>, letter: u8, time: Option<u64>) -> Result<(), S::Fault>
     requires { letter < 26 }
-    ensures { OnOk result (text.new.items
-        ≡ text.old.items ++ (single_line (SetMark letter time) ++ 10 ∷ [])) }
+    ensures { OnOk result (text.new ≡ grown text.old
+            (single_line (SetMark letter time) ++ 10 ∷ [])) }
 {
     text.extend_from_slice(b"setmark")?;
     put_word(text, &[b'a' + letter])?;
@@ -96,6 +98,5 @@ pub fn put_set_mark(text: &mut Vec<u8>, letter: u8, time: Option<u64>) -> Result
         Some(time) => put_number(text, time)?,
         None => put_word(text, b"-")?,
     }
-    text.push(b'\n')?;
-    Ok(())
+    text.push(b'\n')
 }

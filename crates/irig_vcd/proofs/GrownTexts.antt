@@ -73,3 +73,17 @@ two_grown a b start one two h k = k ∙ (ap (λ (t : TextSoFar). grown t b) h �
 pub three_grown : (a b c : List ℕ) (start one two three : TextSoFar)
     → one ≡ grown start a → two ≡ grown one b → three ≡ grown two c → three ≡ grown start (a ++ b ++ c)
 three_grown a b c start one two three h k l = two_grown (a ++ b) c start two three (two_grown a b start one two h k) l ∙ ap (grown start) (simp append_assoc)
+
+-- four parts, one after the other
+pub four_grown : (a b c d : List ℕ) (start one two three four : TextSoFar)
+    → one ≡ grown start a → two ≡ grown one b → three ≡ grown two c → four ≡ grown three d → four ≡ grown start (a ++ b ++ c ++ d)
+four_grown a b c d start one two three four h k l m =
+    two_grown (a ++ b ++ c) d start three four (three_grown a b c start one two three h k l) m ∙ ap (grown start) (simp append_assoc)
+
+-- more written, of what has to be
+pub rest_grown : (a b whole : List ℕ) (start now next : TextSoFar) → next ≡ grown now a → grown now (a ++ b) ≡ grown start whole → grown next b ≡ grown start whole
+rest_grown a b whole start now next put all = ap (λ (t : TextSoFar). grown t b) put ∙ (grown_twice now a b ∙ all)
+
+-- nothing is left to be written
+pub all_grown : (rest whole : List ℕ) (start now : TextSoFar) → rest ≡ [] → grown now rest ≡ grown start whole → now ≡ grown start whole
+all_grown rest whole start now none all = sym (grown_none now) ∙ (ap (grown now) (sym none) ∙ all)

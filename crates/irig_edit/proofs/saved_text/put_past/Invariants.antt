@@ -1,5 +1,6 @@
-use Rattle.std.proofs.Common.{◌≡◌, ◌++◌, drop, map, reverse}
+use Rattle.std.proofs.Common.{◌≡◌, drop, map, reverse}
 use Rattle.irig_journal.specs.Journal.{past_of}
+use Rattle.irig_vcd.specs.TextSoFar.{grown}
 use Rattle.irig_saved.specs.Lines.{text_of}
 use Rattle.irig_saved.specs.SavedText.{steps_lines}
 use Rattle.irig_edit.specs.Held.{delta_of}
@@ -8,4 +9,4 @@ use Rattle.irig_edit.proofs.saved_text.put_past.Given as goal
 
 -- the text so far, with the lines of the steps that are left
 abbrev pub invariant-loop-number : goal.invariant-loop-number
-invariant-loop-number l = l.text.items ++ text_of (steps_lines (map saved_step (drop l.number (reverse (past_of delta_of l.journal))))) ≡ l.fn.text.items ++ text_of (steps_lines (map saved_step (reverse (past_of delta_of l.journal))))
+invariant-loop-number g l = grown l.text (text_of (steps_lines (map saved_step (drop l.number (reverse (past_of delta_of l.journal)))))) ≡ grown l.fn.text (text_of (steps_lines (map saved_step (reverse (past_of delta_of l.journal)))))
