@@ -166,7 +166,3 @@ is_open-none m (Some o) is = absurd (cc)
 pub is_open-some : (m : Machine Kept) (opening : Option Opening) → IsSome opening → is_open (option_map (floor_of m) opening) ≡ true
 is_open-some m None is = absurd (cc)
 is_open-some m (Some o) is = refl
-
-pub is_open-not_none : (m : Machine Kept) (opening : Option Opening) → (IsNone opening → ⊥) → is_open (option_map (floor_of m) opening) ≡ true
-is_open-not_none m None some = absurd (some refl)
-is_open-not_none m (Some o) some = refl

@@ -2,7 +2,7 @@
 use Rattle.std.proofs.Common.{◌≡◌, ◌≤◌, ◌<◌, ◌+◌, ◌^◌, ◌++◌, ℕ, suc, zero, false, List, [], ◌∷◌, Option, Some, None, Result, Ok, length, map, take, reverse, nat_lt, codes, inl, inr, refl, ap, ap₂, sym, ◌∙◌, subst, arith}
 use Rattle.std.specs.List.{AllByRecursion}
 use Rattle.std.proofs.lemmas.Bool.Decides.{nat_tests}
-use Rattle.std.proofs.lemmas.List.{length-append, reverse-append, reverse-reverse, take-map}
+use Rattle.std.proofs.lemmas.List.{length-append, reverse-reverse, take-map}
 use Rattle.irig_codes.specs.Format.{FormatView}
 use Rattle.irig_journal.specs.declared.step.Step.{Step}
 use Rattle.irig_journal.specs.Groups.{over}
@@ -36,7 +36,7 @@ use Rattle.irig_edit.specs.Session.{SessionView, grouped_in}
 use Rattle.irig_edit.specs.State.{IsMark, IsState, State, recording_of, state}
 use Rattle.irig_edit.specs.Taken.{AreTaken, CanTakeAll, StopsAfter}
 use Rattle.irig_edit.specs.Walk.{walk}
-use Rattle.irig_edit.proofs.GroupTurns.{all-append}
+use Rattle.irig_edit.proofs.GroupTurns.{all-reverse}
 use Rattle.irig_edit.proofs.Heads.{head_marks}
 use Rattle.irig_edit.proofs.Names.{same_step}
 use Rattle.irig_edit.proofs.Numbers.{digit_permitted, steps_small, times_small}
@@ -51,12 +51,6 @@ same_steps (d ∷ ds) (e ∷ es) same =
     let first : saved_step d ≡ saved_step e = cc in
     let rest : map saved_step ds ≡ map saved_step es = cc in
     ap₂ (λ (x : Step Delta) (xs : List (Step Delta)). x ∷ xs) (same_step d e first) (same_steps ds es rest)
-
--- what holds of each of a list holds of each in the opposite order
-all-reverse : {X : Type 0} (P : X → Type 0) (xs : List X) → AllByRecursion P xs → AllByRecursion P (reverse xs)
-all-reverse P [] all = tt
-all-reverse P (x ∷ xs) all =
-    subst (AllByRecursion P) (sym (reverse-append (x ∷ []) xs)) (all-append P (reverse xs) (x ∷ []) (all-reverse P xs all.1) (all.0, tt))
 
 -- the steps of a machine within its limits can be taken, back and on
 pub can_go_back : (s : State) (ds : List (Step Delta)) → FitInTurn Fits turned s ds → AllByRecursion IsKept (kept_back s ds)

@@ -1,12 +1,10 @@
 -- Single changes of groups, and what turns them one after another.
-use Rattle.std.proofs.Common.{◌≡◌, ◌≤◌, ◌+◌, ◌++◌, ℕ, List, [], ◌∷◌, Option, Some, None, length, map, take, drop, reverse, refl, ap, ap₂, sym, subst, ◌∙◌, arith, append_assoc}
-use Rattle.std.specs.Prelude.{flat_map}
+use Rattle.std.proofs.Common.{◌≡◌, ◌+◌, ◌++◌, ℕ, List, [], ◌∷◌, Option, Some, None, map, reverse, refl, ap, ap₂, sym, subst, ◌∙◌, arith, append_assoc}
 use Rattle.std.specs.List.{AllByRecursion, sum_by}
 use Rattle.std.specs.Prelude.{Result, Ok, Err, OnErr, OnOk}
-use Rattle.std.proofs.lemmas.List.{append-nil, map-append, reverse-append, take_all}
-use Rattle.std.proofs.Math.ListN.{drop_of_length-le}
+use Rattle.std.proofs.lemmas.List.{append-nil, map-append, reverse-append, reverse-reverse}
 use Rattle.std.proofs.lemmas.List.Sums.{sum_by-cons}
-use Rattle.irig_journal.specs.Turns.{FitAll, RoomForAll, backs, left_by, ways_back}
+use Rattle.irig_journal.specs.Turns.{FitAll, backs, left_by, ways_back}
 use Rattle.irig_edit.proofs.Reversed.{map-reverse}
 use Rattle.irig_edit.specs.Delta.{gathered, singles_of, turned}
 use Rattle.irig_edit.specs.Delta.Delta.{Together}
@@ -30,23 +28,24 @@ pub all-append : {X : Type 0} (P : X → Type 0) (xs ys : List X) → AllByRecur
 all-append P [] ys one other = other
 all-append P (x ∷ xs) ys one other = (one.0, all-append P xs ys one.1 other)
 
+-- what holds of each of a list holds of each in the opposite order
+pub all-reverse : {X : Type 0} (P : X → Type 0) (xs : List X) → AllByRecursion P xs → AllByRecursion P (reverse xs)
+all-reverse P [] all = tt
+all-reverse P (x ∷ xs) all =
+    subst (AllByRecursion P) (sym (reverse-append (x ∷ []) xs)) (all-append P (reverse xs) (x ∷ []) (all-reverse P xs all.1) (all.0, tt))
+
 -- the parts of a change are its singles
 pub parts-singles : (c : Change) → map single_of (parts_of c) ≡ singles_of (delta_of c)
 parts-singles (One single) = refl
 parts-singles (Group singles) = refl
 
--- and so of several
-pub parts-all : (cs : List Change) → map single_of (flat_map parts_of cs) ≡ flat_map singles_of (map delta_of cs)
-parts-all [] = refl
-parts-all (c ∷ cs) =
-    map-append single_of (parts_of c) (flat_map parts_of cs)
-    ∙ ap₂ (λ (xs ys : List SingleDelta). xs ++ ys) (parts-singles c) (parts-all cs)
+-- the group of the parts of two changes is that of both
+pub parts-joined : (c d : Change) → Together (map single_of (parts_of c ++ parts_of d)) ≡ gathered (delta_of c ∷ delta_of d ∷ [])
+parts-joined c d =
+    ap Together (map-append single_of (parts_of c) (parts_of d)
+    ∙ ap₂ (λ (xs ys : List SingleDelta). xs ++ ys) (parts-singles c) (parts-singles d ∙ sym (append-nil (singles_of (delta_of d)))))
 
--- and the group of the parts of changes is that of the changes
-pub parts-gathered : (cs : List Change) → Together (map single_of (flat_map parts_of cs)) ≡ gathered (map delta_of cs)
-parts-gathered cs = ap Together (parts-all cs)
-
--- the parts of changes have room in turn if the changes have
+-- the parts of two changes have room in turn if the changes have
 room_parts : (p : Places) (s : State) (c : Change) → HasRoom p s c → HaveRoom p s (parts_of c)
 room_parts p s (One single) room = (room, tt)
 room_parts p s (Group singles) room = room
@@ -55,12 +54,11 @@ state_parts : (s : State) (c : Change) → (turned s (delta_of c)).0 ≡ left_by
 state_parts s (One single) = refl
 state_parts s (Group singles) = refl
 
-pub room_gathered : (p : Places) (s : State) (cs : List Change) → RoomForAll turned delta_of (HasRoom p) s cs
-    → HaveRoom p s (flat_map parts_of cs)
-room_gathered p s [] room = tt
-room_gathered p s (c ∷ cs) room =
-    room-append p s (parts_of c) (flat_map parts_of cs) (room_parts p s c room.0)
-    (subst (λ (t : State). HaveRoom p t (flat_map parts_of cs)) (state_parts s c) (room_gathered p (turned s (delta_of c)).0 cs room.1))
+pub room_joined : (p : Places) (s : State) (c d : Change) → HasRoom p s c → HasRoom p (turned s (delta_of c)).0 d
+    → HaveRoom p s (parts_of c ++ parts_of d)
+room_joined p s c d one other =
+    room-append p s (parts_of c) (parts_of d) (room_parts p s c one)
+    (subst (λ (t : State). HaveRoom p t (parts_of d)) (state_parts s c) (room_parts p (turned s (delta_of c)).0 d other))
 
 -- what is brought rests on the content alone
 brought-map : (xs : List Single) → brought xs ≡ sum_by brought_by (map single_of xs)
@@ -147,20 +145,23 @@ turned_more first now next all done left x y so_far is turn looks keeps back =
     }
 
 -- after the last turn all that lead back are ready
-pub ready_last : (now : PresentView) (xs ys : List Single) (i : ℕ) → length xs ≤ i → HaveRoom (places_in now) now.state (reverse (take i xs))
-    → ys ≡ reverse xs → HaveRoom (places_in now) now.state ys
-ready_last now xs ys i over ready turned_over =
-    subst (λ (l : List Single). HaveRoom (places_in now) now.state l) (ap reverse (take_all i xs over) ∙ sym turned_over) ready
+pub ready_last : (now : PresentView) (over : List Single) → HaveRoom (places_in now) now.state (reverse (reverse over))
+    → HaveRoom (places_in now) now.state over
+ready_last now over ready = subst (λ (l : List Single). HaveRoom (places_in now) now.state l) (reverse-reverse over) ready
 
 -- after the last turn what leads back is left, in the opposite order
-pub turned_all : (first now : PresentView) (all xs ys : List Single) (i : ℕ) → length xs ≤ i
-    → TurnedSoFar first all now (take i xs) (drop i xs) → ys ≡ reverse xs
-    → map single_of ys ≡ ways_back turned_single first.state (map single_of all)
-turned_all first now all xs ys i over so_far turned_over =
-    let none : drop i xs ≡ [] = drop_of_length-le xs over in
-    let whole : take i xs ≡ xs = take_all i xs over in
-    let backs_are : backs turned_single first.state (map single_of all) ≡ map single_of xs =
-    so_far.backs
-    ∙ (ap₂ (λ (done left : List Single). map single_of done ++ backs turned_single now.state (map single_of left)) whole none
-    ∙ append-nil (map single_of xs)) in
-    ap (map single_of) turned_over ∙ (map-reverse single_of xs ∙ ap reverse (sym backs_are))
+pub turned_over : (first : State) (ds : List SingleDelta) (over : List Single) → backs turned_single first ds ≡ map single_of (reverse over)
+    → map single_of over ≡ ways_back turned_single first ds
+turned_over first ds over ways =
+    sym (ap reverse (ways ∙ map-reverse single_of over) ∙ reverse-reverse (map single_of over))
+
+pub turned_all : (first now : PresentView) (all over left : List Single) → left ≡ []
+    → TurnedSoFar first all now (reverse over) left
+    → (now.state ≡ left_by turned_single first.state (map single_of all))
+    × (map single_of over ≡ ways_back turned_single first.state (map single_of all))
+turned_all first now all over left none so_far = (
+  sym (so_far.state ∙ ap (λ (l : List Single). left_by turned_single now.state (map single_of l)) none),
+  turned_over first.state (map single_of all) over
+      (so_far.backs ∙ (ap (λ (l : List Single). map single_of (reverse over) ++ backs turned_single now.state (map single_of l)) none
+      ∙ append-nil (map single_of (reverse over)))),
+)

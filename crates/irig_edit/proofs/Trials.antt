@@ -1,6 +1,7 @@
 -- Single changes made one after another as far as they can be made.
-use Rattle.std.proofs.Common.{◌≡◌, ◌++◌, ◌∷◌, List, [], map, ap, ap₂, append_assoc, sym, subst, ◌∙◌}
-use Rattle.std.proofs.lemmas.List.{map-append}
+use Rattle.std.proofs.Common.{◌≡◌, ◌++◌, ◌∷◌, List, [], map, reverse, ap, ap₂, append_assoc, sym, subst, ◌∙◌}
+use Rattle.std.proofs.lemmas.List.{append-nil, map-append}
+use Rattle.irig_edit.proofs.GroupTurns.{turned_over}
 use Rattle.irig_journal.specs.Turns.{FitAll, backs, left_by, ways_back}
 use Rattle.irig_edit.specs.Delta.{Delta}
 use Rattle.irig_edit.specs.Delta.Delta.{Together}
@@ -37,6 +38,18 @@ made_more first all done left x y now next so_far can turn =
       state = so_far.state ∙ ap (λ (s : State). left_by turned_single s rest) (sym there);
       backs = so_far.backs ∙ sym ways;
     }
+
+-- after the last one what leads back is left, in the opposite order
+pub made_all : (first : State) (all : List Single) (now : State) (over left : List Single) → left ≡ []
+    → MadeSoFar first all now (reverse over) left
+    → (now ≡ left_by turned_single first (map single_of all))
+    × (map single_of over ≡ ways_back turned_single first (map single_of all))
+made_all first all now over left none so_far = (
+  sym (so_far.state ∙ ap (λ (l : List Single). left_by turned_single now (map single_of l)) none),
+  turned_over first (map single_of all) over
+      (so_far.backs ∙ (ap (λ (l : List Single). map single_of (reverse over) ++ backs turned_single now (map single_of l)) none
+      ∙ append-nil (map single_of (reverse over)))),
+)
 
 -- the ways back can be made
 pub ways_fit : (s : State) (ds : List SingleDelta) → IsState s → FitAll FitsSingle turned_single s ds

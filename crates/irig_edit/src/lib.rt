@@ -1,6 +1,7 @@
 //! A session: a track under edit, in which every edit can be undone.
 #![tactic(auto)]
 
+mod alone;
 mod change;
 mod edits;
 mod frames;

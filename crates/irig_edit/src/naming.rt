@@ -8,11 +8,13 @@ ghost use Rattle.irig_edit.specs.Saved.{saved_change, saved_single};
 ghost use Rattle.irig_edit.specs.Single.{FitsSingle, SingleDelta, turned_single};
 ghost use Rattle.irig_edit.specs.State.{State};
 
+use crate::alone::Alone;
 use crate::change::Change;
 use crate::single::{Shift, Single};
 use crate::singles::Singles;
 use crate::splice::Splice;
 use irig_codes::Format;
+use irig_journal::chain::Chain;
 use std::alloc::{AllocError, Global};
 
 /// The change that is named; `None` if there is none that any state allows.
@@ -27,7 +29,7 @@ pub(crate) fn change_named(
     match name {
         irig_saved::Change::One(single) => match single_named(alloc, single) {
             None => Ok(None),
-            Some(single) => Ok(Some(Change::One(single))),
+            Some(single) => Ok(Some(Change::One(Alone::new(alloc, single)?))),
         },
         irig_saved::Change::Group(singles) => match singles_named(alloc, singles)? {
             None => Ok(None),
@@ -43,14 +45,14 @@ fn singles_named(alloc: Global, names: irig_saved::Singles) -> Result<Option<Sin
         → names ≡ map saved_single ds → ⊥)
         (λ singles. names ≡ map saved_single (map single_of singles))) }
 {
-    let mut items = Vec::new(alloc);
+    let mut items = Chain::End;
     let mut left = names.into_vec();
-    left.reverse();
     while let Some(name) = left.pop() {
         let Some(single) = single_named(alloc, name) else {
             return Ok(None);
         };
-        items.push(single)?;
+        let block = Box::new(alloc, items)?;
+        items = Chain::Link(single, block);
     }
     Ok(Some(Singles { items }))
 }

@@ -1,5 +1,6 @@
 //! What a session keeps, taken apart by patterns: a type that keeps more does not compile here.
 
+use crate::alone::Alone;
 use crate::change::Change;
 use crate::marks::{Letters, Marks};
 use crate::present::Present;
@@ -11,6 +12,7 @@ use irig_codes::Format;
 use irig_gap::Gap;
 use irig_index::Index;
 use irig_journal::Journal;
+use irig_journal::chain::Chain;
 use irig_track::{Pulse, Track};
 use std::alloc::Global;
 
@@ -48,12 +50,16 @@ fn state_parts(present: &Present) {
     let _index: &Index = index;
 }
 
-/// A change is a single one or a group, which keeps a list of single ones.
+/// A change is a single one, with a block that holds no change, or a group, which keeps a list of
+/// single ones.
 fn change_parts(change: &Change) {
     match change {
-        Change::One(single) => single_parts(single),
+        Change::One(Alone { single, block }) => {
+            let _block: &Box<Chain<Single>> = block;
+            single_parts(single);
+        }
         Change::Group(Singles { items }) => {
-            let _items: &Vec<Single> = items;
+            let _items: &Chain<Single> = items;
         }
     }
 }

@@ -17,6 +17,7 @@ use crate::single::Single;
 use crate::singles::Singles;
 use crate::splice::Splice;
 use irig_gap::Gap;
+use irig_journal::chain::Chain;
 use irig_journal::{Journal, Step};
 use irig_saved::{
     put_at, put_group, put_pulse, put_set_format, put_set_mark, put_shift, put_splice, put_toggle,
@@ -65,9 +66,12 @@ fn put_change(text: &mut Vec<u8>, change: &Change) -> Result<(), AllocError>
         (saved_change (delta_of change.now)))) }
 {
     match change {
-        Change::One(single) => put_single(text, single),
+        Change::One(alone) => put_single(text, &alone.single),
         Change::Group(singles) => {
-            put_group(text, singles.items.len() as u64)?;
+            let Some(count) = singles.len() else {
+                return Err(AllocError);
+            };
+            put_group(text, count)?;
             put_singles(text, singles)
         }
     }
@@ -79,8 +83,10 @@ fn put_singles(text: &mut Vec<u8>, singles: &Singles) -> Result<(), AllocError>
     ensures { OnOk result (text.new.items ≡ text.old.items ++ text_of (singles_lines
         (map saved_single (map single_of singles.now)))) }
 {
-    for single in &singles.items {
+    let mut left = &singles.items;
+    while let Chain::Link(single, block) = left {
         put_single(text, single)?;
+        left = block;
     }
     Ok(())
 }

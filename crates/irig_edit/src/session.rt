@@ -12,12 +12,13 @@ ghost use Rattle.irig_edit.specs.Becoming.{Becomes, judgement_of};
 ghost use Rattle.irig_edit.specs.Calls.{Edit};
 ghost use Rattle.irig_edit.specs.Delta.{Fits, turned};
 ghost use Rattle.irig_edit.specs.Delta.Delta.{Alone};
-ghost use Rattle.irig_edit.specs.Held.{delta_of};
+ghost use Rattle.irig_edit.specs.Held.{delta_of, single_of};
 ghost use Rattle.irig_edit.specs.Calls.Call.{Make, Undo, Redo, Go};
 ghost use Rattle.irig_edit.specs.Calls.Edit.{SetFormat, SetMark};
 ghost use Rattle.irig_edit.specs.Single.SingleDelta.{Spliced};
 ghost use Rattle.irig_track.specs.Splices.{spliced, CanSplice};
 
+use crate::alone;
 use crate::change::Change;
 use crate::present::Present;
 use crate::refusal::Refusal;
@@ -85,7 +86,7 @@ impl Session {
         ensures looks { LooksAfter (Make (SetFormat format)) self.old result self.new }
     {
         let cursor = self.cursor;
-        self.change(Change::One(Single::SetFormat(format)), cursor)
+        self.make(Single::SetFormat(format), cursor)
     }
 
     /// Sets the mark of a letter a to z to a time in microseconds, or clears it.
@@ -99,7 +100,7 @@ impl Session {
         }
         let letter = (letter - b'a') as usize;
         let cursor = self.cursor;
-        self.change(Change::One(Single::SetMark { letter, time }), cursor)
+        self.make(Single::SetMark { letter, time }, cursor)
     }
 
     /// Undoes the newest step. This takes no memory.
@@ -174,12 +175,36 @@ impl Session {
         ensures looks { LooksWithin self.new.present.made.forth self.old result self.new }
     {
         let splice = Splice::new(self.alloc, at, count, put);
-        self.change(Change::One(Single::Splice(splice)), cursor)
+        self.make(Single::Splice(splice), cursor)
+    }
+
+    /// Makes a single change, as a step that leaves the cursor at a place. Its block, with which it
+    /// can become one of a group, is asked for here.
+    pub(crate) fn make(&mut self, single: Single, cursor: usize) -> Result<(), Refusal>
+        requires fits { Fits self.old.present.state (Alone (single_of single)) }
+        requires cursor { cursor ≤
+            length (turned self.old.present.state (Alone (single_of single))).0.pulses }
+        ensures step { (edit : Edit) → judgement_of edit self.old.present.state ≡ None
+            → Becomes edit self.old.present.state
+            (turned self.old.present.state (Alone (single_of single))).0 cursor
+            → exchange_of self.old.present.state (Alone (single_of single))
+            ≡ exchange_by edit self.old.present.state
+            → Steps (Make edit) self.old result self.new }
+        ensures looks { LooksWithin self.new.present.made.forth self.old result self.new }
+        ensures ok { OnOk result (grouped_in self.new ≡ recorded_over (grouped_in self.old)
+            (kept (turned self.old.present.state (Alone (single_of single))).0 cursor
+            (exchange_of self.old.present.state (Alone (single_of single))))) }
+        ensures err { OnErr result ((self.new ≡ self.old) × IsErrOf result Refusal.OutOfMemory) }
+    {
+        match alone::Alone::new(self.alloc, single) {
+            Ok(alone) => self.change(Change::One(alone), cursor),
+            Err(_) => Err(Refusal::OutOfMemory),
+        }
     }
 
     /// Makes a change, as a step that leaves the cursor at a place. The memory that its undo and
     /// its redo take is asked for here.
-    pub(crate) fn change(&mut self, change: Change, cursor: usize) -> Result<(), Refusal>
+    fn change(&mut self, change: Change, cursor: usize) -> Result<(), Refusal>
         requires fits { Fits self.old.present.state (delta_of change) }
         requires cursor { cursor ≤
             length (turned self.old.present.state (delta_of change)).0.pulses }

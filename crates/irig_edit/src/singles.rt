@@ -1,6 +1,6 @@
 //! Single changes, to be made one after another.
 
-ghost use Rattle.std.specs.Prelude.{◌≡◌, ◌-◌, ◌≤◌, ◌^◌, OnOk, OnErr, length, map, min};
+ghost use Rattle.std.specs.Prelude.{◌≡◌, ◌-◌, ◌^◌, IfSome, OnOk, OnErr, length, map, min};
 ghost use Rattle.std.specs.List.{AllByRecursion, sum_by};
 ghost use Rattle.irig_journal.specs.Turns.{FitAll, left_by, ways_back};
 ghost use Rattle.irig_edit.specs.Held.{single_of};
@@ -13,32 +13,50 @@ ghost use Rattle.irig_edit.specs.State.{IsState};
 
 use crate::present::Present;
 use crate::single::Single;
+use irig_journal::chain::Chain;
 use std::alloc::AllocError;
 use std::marker::Model;
+use std::mem;
 
 /// Single changes, to be made one after another.
 #[derive(Drop)]
 pub struct Singles {
-    pub(crate) items: Vec<Single>,
+    pub(crate) items: Chain<Single>,
 }
 
 impl Model for Singles {
     ghost use Rattle.std.specs.Prelude.{List};
+    ghost use Rattle.irig_journal.specs.Chain.{items_of};
     ghost use Rattle.irig_edit.specs.declared.single.Single.{Single};
 
     ghost Value = { List Single };
 
-    ghost view = { λ s. s.items.items };
+    ghost view = { λ s. items_of s.items };
 }
 
 impl Singles {
+    /// How many there are, if this is a number of 64 bits.
+    pub(crate) fn len(&self) -> Option<u64>
+        ensures { IfSome result (λ n. n ≡ length self.now) }
+    {
+        let mut count: u64 = 0;
+        let mut left = &self.items;
+        while let Chain::Link(_, block) = left {
+            count = count.checked_add(1)?;
+            left = block;
+        }
+        Some(count)
+    }
+
     /// How many pulses they hold, counted up to 2^64 - 1.
     pub(crate) fn held(&self) -> usize
         ensures { result ≡ min (sum_by (λ s. held_in (single_of s)) self.now) (2 ^ 64 - 1) }
     {
         let mut held: usize = 0;
-        for single in &self.items {
+        let mut left = &self.items;
+        while let Chain::Link(single, block) = left {
             held = held.saturating_add(single.held());
+            left = block;
         }
         held
     }
@@ -48,8 +66,10 @@ impl Singles {
         ensures { result ≡ min (brought self.now) (2 ^ 64 - 1) }
     {
         let mut brought: usize = 0;
-        for single in &self.items {
+        let mut left = &self.items;
+        while let Chain::Link(single, block) = left {
             brought = brought.saturating_add(single.brought());
+            left = block;
         }
         brought
     }
@@ -60,10 +80,18 @@ impl Singles {
         ensures takes { OnOk result (AllByRecursion TakesIn self.new) }
         ensures refused { OnErr result (AllByRecursion TakesIn self.old → ⊥) }
     {
-        for i in 0..self.items.len() {
-            self.items[i].reserve_taken()?;
+        let mut left = mem::replace(&mut self.items, Chain::End);
+        let mut done = Chain::End;
+        let mut answer = Ok(());
+        while let Some((mut single, mut block)) = left.first() {
+            if answer.is_ok() {
+                answer = single.reserve_taken();
+            }
+            left = mem::replace(&mut *block, done);
+            done = Chain::Link(single, block);
         }
-        Ok(())
+        self.items = done.onto(Chain::End);
+        answer
     }
 
     /// Makes each in turn, and leaves what leads back, in the opposite order, with its room.
@@ -83,9 +111,13 @@ impl Singles {
         ensures known { IsState present.old.state }
     {
         let _len = present.len();
-        for i in 0..self.items.len() {
-            present.turn_single(&mut self.items[i]);
+        let mut left = mem::replace(&mut self.items, Chain::End);
+        let mut back = Chain::End;
+        while let Some((mut single, mut block)) = left.first() {
+            present.turn_single(&mut single);
+            left = mem::replace(&mut *block, back);
+            back = Chain::Link(single, block);
         }
-        self.items.reverse();
+        self.items = back;
     }
 }

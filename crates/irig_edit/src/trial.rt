@@ -1,7 +1,7 @@
 //! Whether a change can be made, whatever it is: a group is made and undone.
 
-ghost use Rattle.std.specs.Prelude.{◌≡◌, ◌↔◌, IfOk, IsTrue, map, reverse};
-ghost use Rattle.irig_journal.specs.Turns.{FitAll, backs, left_by};
+ghost use Rattle.std.specs.Prelude.{◌≡◌, ◌↔◌, IfOk, IsTrue, map};
+ghost use Rattle.irig_journal.specs.Turns.{FitAll, left_by, ways_back};
 ghost use Rattle.irig_edit.specs.Delta.{Fits};
 ghost use Rattle.irig_edit.specs.Held.{delta_of, single_of};
 ghost use Rattle.irig_edit.specs.Places.{IsWithin, places_in};
@@ -13,7 +13,9 @@ use crate::change::Change;
 use crate::present::Present;
 use crate::single::Single;
 use crate::singles::Singles;
+use irig_journal::chain::Chain;
 use std::alloc::AllocError;
+use std::mem;
 
 /// Trials. After a change that can be made all is as it was; after another, or out of memory,
 /// nothing is said of state and change.
@@ -27,7 +29,7 @@ impl Present {
             → IsWithin (places_in self.old) (places_in self.new)) }
     {
         match change {
-            Change::One(single) => Ok(self.allows(single)),
+            Change::One(alone) => Ok(self.allows(&alone.single)),
             Change::Group(singles) => self.can_make_all(singles),
         }
     }
@@ -45,30 +47,34 @@ impl Present {
         if !self.make_all(singles)? {
             return Ok(false);
         }
-        singles.items.reverse();
         singles.turn(self);
         Ok(true)
     }
 
-    /// Makes single changes one after another, up to one that can't be made, and leaves the one
-    /// that leads back instead of each. Returns whether all were made.
+    /// Makes single changes one after another, up to one that can't be made. Returns whether all
+    /// were made; then those are left that lead back, in the opposite order.
     fn make_all(&mut self, singles: &mut Singles) -> Result<bool, AllocError>
         ensures can { IfOk result (λ can. IsTrue can
             ↔ FitAll FitsSingle turned_single self.old.state (map single_of singles.old)) }
         ensures made { IfOk result (λ can. IsTrue can → (self.new.state
             ≡ left_by turned_single self.old.state (map single_of singles.old))
             × (map single_of singles.new
-            ≡ backs turned_single self.old.state (map single_of singles.old))) }
+            ≡ ways_back turned_single self.old.state (map single_of singles.old))) }
         ensures grows { IfOk result (λ can. IsTrue can
             → IsWithin (places_in self.old) (places_in self.new)) }
         ensures ready { IfOk result (λ can. IsTrue can
-            → HaveRoom (places_in self.new) self.new.state (reverse singles.new)) }
+            → HaveRoom (places_in self.new) self.new.state singles.new) }
     {
-        for i in 0..singles.items.len() {
-            if !self.make(&mut singles.items[i])? {
+        let mut left = mem::replace(&mut singles.items, Chain::End);
+        let mut back = Chain::End;
+        while let Some((mut single, mut block)) = left.first() {
+            if !self.make(&mut single)? {
                 return Ok(false);
             }
+            left = mem::replace(&mut *block, back);
+            back = Chain::Link(single, block);
         }
+        singles.items = back;
         Ok(true)
     }
 

@@ -1,12 +1,11 @@
 //! Changes of the present state, turned in place.
 
-ghost use Rattle.std.specs.Prelude.{◌≡◌, ℕ, IfErr, IfOk, map};
-ghost use Rattle.irig_journal.specs.Turns.{RoomForAll};
+ghost use Rattle.std.specs.Prelude.{◌≡◌, ◌∷◌, [], ℕ};
 ghost use Rattle.irig_edit.specs.Ample.{IsAmple};
 ghost use Rattle.irig_edit.specs.Delta.{Delta, Fits, IsAlone, gathered, turned, weight_of};
 ghost use Rattle.irig_edit.specs.Held.{delta_of};
 ghost use Rattle.irig_edit.specs.Laws.Delta.{Fits-turned, IsState-turned, turned-turned};
-ghost use Rattle.irig_edit.specs.Laws.Groups.{Fits-gathered, turned-gathered, weight_of-gathered};
+ghost use Rattle.irig_edit.specs.Laws.Groups.{Fits-gathered, gathered-more, turned-gathered, weight_of-gathered};
 ghost use Rattle.irig_edit.specs.Laws.Room.{HasRoom-wider};
 ghost use Rattle.irig_edit.specs.Looks.{RoseWithin, looks_of};
 ghost use Rattle.irig_edit.specs.Present.{looks_in, state_in};
@@ -14,8 +13,9 @@ ghost use Rattle.irig_edit.specs.Places.{IsWithin, Places, places_in};
 ghost use Rattle.irig_edit.specs.Room.{HasRoom};
 ghost use Rattle.irig_edit.specs.State.{State, IsState};
 
-use crate::change::{Change, count_in, joined};
+use crate::change::Change;
 use crate::present::Present;
+use crate::singles::Singles;
 use irig_journal::Reversible;
 use std::alloc::AllocError;
 
@@ -60,39 +60,32 @@ impl Reversible for Present {
 
     fn applies(&self, change: &Change) -> bool {
         match change {
-            Change::One(single) => self.allows(single),
+            Change::One(alone) => self.allows(&alone.single),
             Change::Group(_) => false,
         }
     }
 
     fn prepare(&mut self, change: &mut Change) -> Result<(), AllocError> {
         match change {
-            Change::One(single) => self.room_for(single),
+            Change::One(alone) => self.room_for(&mut alone.single),
             Change::Group(singles) => self.room_for_all(singles),
         }
     }
 
-    fn gather(&self, changes: Vec<Change>) -> Result<Change, Vec<Change>>
+    fn join(&self, first: Change, later: Change) -> Change
         ensures known { IsState self.now.state }
-        ensures one { IfOk result (λ one. delta_of one ≡ gathered (map delta_of changes.items)) }
-        ensures room { IfOk result (λ one. (p : Places)
-            → RoomForAll turned delta_of (HasRoom p) self.now.state changes.items
-            → HasRoom p self.now.state one) }
-        ensures refused { IfErr result (λ list. list.items ≡ changes.items) }
+        ensures one { delta_of result ≡ gathered (delta_of first ∷ delta_of later ∷ []) }
+        ensures room { (p : Places) (s : State) → HasRoom p s first
+            → HasRoom p (turned s (delta_of first)).0 later → HasRoom p s result }
     {
         let _len = self.len();
-        let Some(count) = count_in(&changes) else {
-            return Err(changes);
-        };
-        match Vec::with_capacity(*changes.allocator(), count) {
-            Ok(places) => Ok(Change::Group(joined(changes, places))),
-            Err(_) => Err(changes),
-        }
+        let items = first.before(later.into_chain());
+        Change::Group(Singles { items })
     }
 
     fn turn(&mut self, change: &mut Change) {
         match change {
-            Change::One(single) => self.turn_single(single),
+            Change::One(alone) => self.turn_single(&mut alone.single),
             Change::Group(singles) => singles.turn(self),
         }
     }
@@ -110,6 +103,8 @@ impl Reversible for Present {
     ghost gathered_fits = { λ s ds _ h. Fits-gathered s ds h };
 
     ghost gathered_turns = { λ s ds _ h. turned-gathered s ds };
+
+    ghost gathered_more = { λ d ds. gathered-more d ds };
 
     ghost gathered_holds = { λ ds. weight_of-gathered ds };
 

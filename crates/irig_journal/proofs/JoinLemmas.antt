@@ -1,9 +1,9 @@
 -- Steps removed from a list and added again, and what several steps do in turn.
-use Rattle.std.proofs.Common.{◌≡◌, ◌∷◌, ◌+◌, ◌-◌, ◌≤◌, ◌++◌, [], ℕ, List, length, get_or, map, reverse, refl, ap, ap₂, sym, subst, ◌∙◌, arith, add-one, append_assoc, length-append}
+use Rattle.std.proofs.Common.{◌≡◌, ◌∷◌, ◌-◌, ◌≤◌, ◌++◌, [], ℕ, List, length, take, drop, map, reverse, refl, ap, ap₂, sym, subst, ◌∙◌, arith, length-append}
 use Rattle.std.proofs.lemmas.List.{map-append, reverse-append, take-append-drop, take_at, drop_at, length-drop}
 use Rattle.irig_journal.specs.declared.step.Step.{Step}
 use Rattle.irig_journal.specs.History.{FitInTurn, step, steps_of}
-use Rattle.irig_journal.specs.Joining.{beyond, changes_of, cursor_of_farthest, farthest, joined, paired}
+use Rattle.irig_journal.specs.Joining.{beyond, changes_of, farthest, joined, told}
 use Rattle.irig_journal.specs.Journal.{nearest_first}
 use Rattle.irig_journal.specs.Turns.{FitAll, RoomForAll, left_by}
 
@@ -11,35 +11,6 @@ sub_none : (m n : ℕ) → m ≤ n → m - n ≡ 0
 sub_none m n short = omega arith
 
 module _ {D : Type 0} where
-  pub changes-paired : (ds : List D) (ns : List ℕ) → length ds ≡ length ns
-      → changes_of (paired ds ns) ≡ ds
-  changes-paired [] [] same = refl
-  changes-paired [] (n ∷ ns) same = refl
-  changes-paired (d ∷ ds) [] same = absurd (omega arith)
-  changes-paired (d ∷ ds) (n ∷ ns) same = ap (λ l. d ∷ l) (changes-paired ds ns (omega arith))
-
-  -- a change and a cursor more
-  pub paired-push : (ds : List D) (ns : List ℕ) (d : D) (n : ℕ) → length ds ≡ length ns
-      → paired (ds ++ d ∷ []) (ns ++ n ∷ []) ≡ paired ds ns ++ step d n ∷ []
-  paired-push [] [] d n same = refl
-  paired-push [] (m ∷ ns) d n same = absurd (omega arith)
-  paired-push (e ∷ ds) [] d n same = absurd (omega arith)
-  paired-push (e ∷ ds) (m ∷ ns) d n same = ap (λ l. step e m ∷ l) (paired-push ds ns d n (omega arith))
-
-  -- the farthest of steps has the last cursor
-  farthest-paired : (a e : ℕ) (ds : List D) (ns : List ℕ) → length ds ≡ length ns
-      → cursor_of_farthest a (paired ds ns) ≡ get_or (a ∷ ns) (length ns) e
-  farthest-paired a e [] [] same = refl
-  farthest-paired a e [] (n ∷ ns) same = absurd (omega arith)
-  farthest-paired a e (d ∷ ds) [] same = absurd (omega arith)
-  farthest-paired a e (d ∷ ds) (n ∷ ns) same = farthest-paired n e ds ns (omega arith)
-
-  pub last_cursor : (a e k : ℕ) (ds : List D) (ns : List ℕ) → length ds ≡ length ns
-      → k + 1 ≡ length ns → cursor_of_farthest a (paired ds ns) ≡ get_or ns k e
-  last_cursor a e k ds ns same last =
-      farthest-paired a e ds ns same
-      ∙ ap (λ (n : ℕ). get_or (a ∷ ns) n e) (sym last ∙ add-one k)
-
   -- a list whose farthest steps are given
   pub beyond_at : (steps near rest : List (Step D)) (n : ℕ) → steps ≡ near ++ rest
       → length rest ≡ n → beyond n steps ≡ near
@@ -65,17 +36,6 @@ module _ {D : Type 0} where
   pub farthest_all : (n : ℕ) (steps : List (Step D)) → length steps ≤ n → farthest n steps ≡ steps
   farthest_all n steps short = rw (sub_none (length steps) n short) refl
 
-module _ {C : Type 0} where
-  -- a step is last on the one side, or farthest on the other
-  pub paired-reverse : (cs : List C) (ns : List ℕ) (x : Step C) (xs : List (Step C))
-      → length cs ≡ length ns
-      → paired (cs ++ x.change ∷ []) (ns ++ x.cursor ∷ []) ++ reverse xs
-      ≡ paired cs ns ++ reverse (xs ++ x ∷ [])
-  paired-reverse cs ns x xs same =
-      ap (λ l. l ++ reverse xs) (paired-push cs ns x.change x.cursor same)
-      ∙ (append_assoc (paired cs ns) (x ∷ []) (reverse xs)
-      ∙ ap (λ l. paired cs ns ++ l) (sym (reverse-append xs (x ∷ []))))
-
 -- the same of each item, the last first
 map_of-reverse : {A B : Type 0} (f : A → B) (xs : List A) → map f (reverse xs) ≡ reverse (map f xs)
 map_of-reverse f [] = refl
@@ -85,34 +45,40 @@ map_of-reverse f (x ∷ xs) =
     ∙ (ap (λ l. l ++ f x ∷ []) (map_of-reverse f xs) ∙ sym (reverse-append (f x ∷ []) (map f xs))))
 
 module _ {C D : Type 0} where
-  map-paired : (delta : C → D) (cs : List C) (ns : List ℕ)
-      → map (λ (s : Step C). step (delta s.change) s.cursor) (paired cs ns) ≡ paired (map delta cs) ns
-  map-paired delta [] ns = refl
-  map-paired delta (c ∷ cs) [] = refl
-  map-paired delta (c ∷ cs) (n ∷ ns) = ap (λ l. step (delta c) n ∷ l) (map-paired delta cs ns)
-
   -- what the steps of a list are, if the nearest are taken out of it
-  pub taken_steps : (delta : C → D) (cs : List C) (ns : List ℕ) (xs left : List (Step C))
-      → reverse xs ≡ paired cs ns ++ reverse left
-      → steps_of delta xs ≡ paired (map delta cs) ns ++ steps_of delta left
-  taken_steps delta cs ns xs left taken =
-      let told : Step C → Step D = λ s. step (delta s.change) s.cursor in
-      sym (map_of-reverse told xs)
-      ∙ (ap (map told) taken
-      ∙ (map-append told (paired cs ns) (reverse left)
-      ∙ ap₂ (λ (l m : List (Step D)). l ++ m) (map-paired delta cs ns) (map_of-reverse told left)))
+  pub taken_steps : (delta : C → D) (near xs left : List (Step C)) → reverse xs ≡ near ++ reverse left
+      → steps_of delta xs ≡ told delta near ++ steps_of delta left
+  taken_steps delta near xs left taken =
+      let tell : Step C → Step D = λ s. step (delta s.change) s.cursor in
+      sym (map_of-reverse tell xs)
+      ∙ (ap (map tell) taken
+      ∙ (map-append tell near (reverse left)
+      ∙ ap (λ (l : List (Step D)). told delta near ++ l) (map_of-reverse tell left)))
+
+  -- the changes of steps by what they are
+  pub changes-told : (delta : C → D) (steps : List (Step C))
+      → map delta (map (λ s. s.change) steps) ≡ changes_of (told delta steps)
+  changes-told delta [] = refl
+  changes-told delta (x ∷ steps) = ap (λ l. delta x.change ∷ l) (changes-told delta steps)
 
 module _ {C : Type 0} where
   -- what their changes are
-  pub taken_changes : (cs : List C) (ns : List ℕ) (xs left : List (Step C)) → length cs ≡ length ns
-      → reverse xs ≡ paired cs ns ++ reverse left
-      → nearest_first xs ≡ cs ++ nearest_first left
-  taken_changes cs ns xs left same taken =
-      let told : Step C → C = λ s. s.change in
-      sym (map_of-reverse told xs)
-      ∙ (ap (map told) taken
-      ∙ (map-append told (paired cs ns) (reverse left)
-      ∙ ap₂ (λ (l m : List C). l ++ m) (changes-paired cs ns same) (map_of-reverse told left)))
+  pub taken_changes : (near xs left : List (Step C)) → reverse xs ≡ near ++ reverse left
+      → nearest_first xs ≡ map (λ s. s.change) near ++ nearest_first left
+  taken_changes near xs left taken =
+      let change : Step C → C = λ s. s.change in
+      sym (map_of-reverse change xs)
+      ∙ (ap (map change) taken
+      ∙ (map-append change near (reverse left)
+      ∙ ap (λ (l : List C). map change near ++ l) (map_of-reverse change left)))
+
+  -- two lists that are one, apart at the same place
+  pub same_parts : (xs ys zs ws : List C) → length xs ≡ length zs → xs ++ ys ≡ zs ++ ws
+      → (xs ≡ zs) × (ys ≡ ws)
+  same_parts xs ys zs ws long same = (
+    sym (take_at xs ys (length xs) refl) ∙ (ap₂ (λ (n : ℕ) (l : List C). take n l) long same ∙ take_at zs ws (length zs) refl),
+    sym (drop_at xs ys (length xs) refl) ∙ (ap₂ (λ (n : ℕ) (l : List C). drop n l) long same ∙ drop_at zs ws (length zs) refl),
+  )
 
 module _ {S D : Type 0} where
   pub FitInTurn-parts : (fits : S → D → Type 0) (turned : S → D → S × D) (s : S) (near rest : List (Step D))

@@ -1,18 +1,17 @@
 -- Places for the pushes of edits of a stack.
-use Rattle.std.proofs.Common.{◌≡◌, ◌<◌, ◌≤◌, ◌+◌, ◌-◌, ◌++◌, ◌∷◌, [], ℕ, List, length, take, drop, reverse, refl, ap, sym, subst, ◌∙◌, arith, length-append}
-use Rattle.std.specs.Prelude.{flat_map}
+use Rattle.std.proofs.Common.{◌≡◌, ◌<◌, ◌≤◌, ◌+◌, ◌-◌, ◌++◌, ◌∷◌, [], ℕ, List, length, refl, sym, subst, arith, length-append}
 use Rattle.irig_journal.specs.declared.stack.Edit.{Edit}
 use Rattle.irig_journal.specs.declared.stack.Edit.TheVariants.{One, Group}
 use Rattle.irig_journal.specs.declared.stack.Single.{Single}
 use Rattle.irig_journal.specs.declared.stack.Single.TheVariants.{Push, Pop}
-use Rattle.std.proofs.lemmas.List.{append-nil, take-append-drop}
+use Rattle.std.specs.List.{sum_by}
+use Rattle.std.proofs.lemmas.List.Sums.{sum_by-cons}
 use Rattle.std.proofs.lemmas.List.Edits.{length-remove}
-use Rattle.std.proofs.Math.ListN.{drop_of_length-le}
 use Rattle.irig_journal.specs.Laws.Backs.{LeadsBack, lead_all_back}
 use Rattle.irig_journal.specs.Laws.Stack.{CanMake-made, made-made}
 use Rattle.irig_journal.specs.Laws.Turns.{ways_back-cons}
-use Rattle.irig_journal.specs.Stack.{CanEdit, CanMake, HasPlace, HasPlaceFor, edited, grouped, made, rise, singles_of}
-use Rattle.irig_journal.specs.Turns.{FitAll, RoomForAll, backs, left_by, ways_back}
+use Rattle.irig_journal.specs.Stack.{CanEdit, CanMake, HasPlace, HasPlaceFor, bytes_in, edited, made, singles_of}
+use Rattle.irig_journal.specs.Turns.{FitAll, RoomForAll, left_by, ways_back}
 
 -- pushes and pops, each with a place when its turn comes
 abbrev pub HavePlacesInTurn : ℕ → List ℕ → List Single → Type 0
@@ -29,14 +28,12 @@ edit_left : (xs : List ℕ) (d : Edit) → (edited xs d).0 ≡ left_by made xs (
 edit_left xs (One single) = refl
 edit_left xs (Group singles) = refl
 
--- a group has its places if its edits have theirs, one after another
-pub HasPlace-grouped : (p : ℕ) (xs : List ℕ) (ds : List Edit)
-    → RoomForAll edited (λ d. d) (HasPlace p) xs ds → HasPlace p xs (grouped ds)
-HasPlace-grouped p xs [] room = tt
-HasPlace-grouped p xs (d ∷ ds) room =
-    places-append p xs (singles_of d) (flat_map singles_of ds) room.0
-    (subst (λ ys. HavePlacesInTurn p ys (flat_map singles_of ds)) (edit_left xs d)
-    (HasPlace-grouped p (edited xs d).0 ds room.1))
+-- two edits joined have their places if they have them, one after another
+pub HasPlace-joined : (p : ℕ) (xs : List ℕ) (d e : Edit) → HasPlace p xs d → HasPlace p (edited xs d).0 e
+    → HavePlacesInTurn p xs (singles_of d ++ singles_of e)
+HasPlace-joined p xs d e one other =
+    places-append p xs (singles_of d) (singles_of e) one
+    (subst (λ ys. HavePlacesInTurn p ys (singles_of e)) (edit_left xs d) other)
 
 -- the height after a pop
 length_popped : (xs : List ℕ) → 0 < length xs → length (made xs Pop).0 + 1 ≡ length xs
@@ -79,44 +76,18 @@ places_back p xs (s ∷ ss) can low room =
     subst (HavePlacesInTurn p t) (sym (ways_back-cons made xs s ss))
     (places-append p t (ways_back made after ss) ((made xs s).1 ∷ []) rest last)
 
--- a stack that may rise so high has the places
-pub places_of_rise : (p : ℕ) (xs : List ℕ) (ss : List Single) → FitAll CanMake made xs ss
-    → length xs + rise ss ≤ p → HavePlacesInTurn p xs ss
-places_of_rise p xs [] can high = tt
-places_of_rise p xs (Push x ∷ ss) can high =
-    (omega (arith, high), places_of_rise p (xs ++ x ∷ []) ss can.1 (omega (arith, high, length-append xs (x ∷ []))))
-places_of_rise p xs (Pop ∷ ss) can high =
-    (omega (arith, high), places_of_rise p (made xs Pop).0 ss can.1 (omega (arith, high, can.0, length_popped xs can.0)))
-
--- and one that has the places may rise so high
-pub rise_of_places : (p : ℕ) (xs : List ℕ) (ss : List Single) → FitAll CanMake made xs ss → length xs ≤ p
-    → HavePlacesInTurn p xs ss → length xs + rise ss ≤ p
-rise_of_places p xs [] can low room = omega (arith, low)
-rise_of_places p xs (Push x ∷ ss) can low room =
-    omega (arith, rise_of_places p (xs ++ x ∷ []) ss can.1 (omega (arith, room.0, length-append xs (x ∷ []))) room.1, length-append xs (x ∷ []))
-rise_of_places p xs (Pop ∷ ss) can low room =
-    omega (
-      arith,
-      low,
-      can.0,
-      length_popped xs can.0,
-      rise_of_places p (made xs Pop).0 ss can.1 (omega (arith, low, length_popped xs can.0)) room.1,
-    )
+-- a stack with a place for each push has the places
+pub places_of_pushes : (p : ℕ) (xs : List ℕ) (ss : List Single) → FitAll CanMake made xs ss
+    → length xs + sum_by bytes_in ss ≤ p → HavePlacesInTurn p xs ss
+places_of_pushes p xs [] can high = tt
+places_of_pushes p xs (Push x ∷ ss) can high =
+    let sum = sum_by-cons bytes_in (Push x) ss in
+    (omega (arith, high, sum), places_of_pushes p (xs ++ x ∷ []) ss can.1 (omega (arith, high, sum, length-append xs (x ∷ []))))
+places_of_pushes p xs (Pop ∷ ss) can high =
+    let sum = sum_by-cons bytes_in Pop ss in
+    (omega (arith, high, sum), places_of_pushes p (made xs Pop).0 ss can.1 (omega (arith, high, sum, can.0, length_popped xs can.0)))
 
 -- the same of an edit
 pub edit_can : (xs : List ℕ) (d : Edit) → CanEdit xs d → FitAll CanMake made xs (singles_of d)
 edit_can xs (One single) can = (can, tt)
 edit_can xs (Group singles) can = can
-
--- all of several were turned
-pub turned_all : (xs bytes : List ℕ) (singles items : List Single) (i : ℕ) → length items ≤ i
-    → left_by made xs singles ≡ left_by made bytes (drop i items)
-    → backs made xs singles ≡ take i items ++ backs made bytes (drop i items)
-    → (bytes ≡ left_by made xs singles) × (reverse items ≡ ways_back made xs singles)
-turned_all xs bytes singles items i all left back =
-    let none = drop_of_length-le items all in
-    let whole : take i items ≡ items =
-    sym (append-nil (take i items)) ∙ (ap (λ (l : List Single). take i items ++ l) (sym none) ∙ take-append-drop i items) in (
-      sym (left ∙ ap (left_by made bytes) none),
-      sym (ap reverse (back ∙ (ap (λ (l : List Single). take i items ++ backs made bytes l) none ∙ (append-nil (take i items) ∙ whole)))),
-    )

@@ -1,18 +1,13 @@
 -- Several steps made one. This project's own.
-use Rattle.std.specs.Prelude.{◌≡◌, ℕ, ◌+◌, ◌-◌, List, [], ◌∷◌, drop, if◌then◌else◌, length, map, nat_le, take}
+use Rattle.std.specs.Prelude.{◌≡◌, ℕ, ◌+◌, ◌-◌, ◌<◌, ◌++◌, List, [], ◌∷◌, drop, if◌then◌else◌, length, map, nat_le, take}
 use Rattle.irig_journal.specs.declared.step.Step.{Step}
 use Rattle.irig_journal.specs.History.{step}
+use Rattle.irig_journal.specs.Turns.{RoomForAll}
 
 module _ {D : Type 0} where
   -- the changes of steps
   abbrev pub changes_of : List (Step D) → List D
   changes_of steps = map (λ s. s.change) steps
-
-  -- steps with these changes and cursors
-  abbrev pub paired : List D → List ℕ → List (Step D)
-  paired (d ∷ ds) (n ∷ ns) = step d n ∷ paired ds ns
-  paired (d ∷ ds) [] = []
-  paired [] ns = []
 
   -- of a list with the nearest first, the steps before its n farthest
   abbrev pub beyond : ℕ → List (Step D) → List (Step D)
@@ -45,3 +40,28 @@ module _ {S D T : Type 0} where
   CountsAlong counted turned s (near ∷ steps) old new = (between : T)
       × counted s near.change old between
       × CountsAlong counted turned (turned s near.change).0 steps between new
+
+module _ {C D : Type 0} where
+  -- steps by what their changes are
+  abbrev pub told : (C → D) → List (Step C) → List (Step D)
+  told delta steps = map (λ s. step (delta s.change) s.cursor) steps
+
+module _ {S C D P : Type 0} where
+  -- the one step does what steps do, the nearest of them first; it has room if they have, and
+  -- another can be joined to it as to them
+  pub record IsOneFor (turned : S → D → S × D) (delta : C → D) (gathered : List D → D)
+      (has_room : P → S → C → Type 0) (steps : List (Step C)) (one : Step C) : Type 0 where
+    pub change : 1 < length steps → delta one.change ≡ gathered (changes_of (told delta steps))
+    pub more : (d : D) → gathered (d ∷ delta one.change ∷ [])
+        ≡ gathered (d ∷ changes_of (told delta steps))
+    pub cursor : (n : ℕ) → cursor_of_farthest n (told delta steps) ≡ one.cursor
+    pub room : (p : P) (s : S) → RoomForAll turned delta (has_room p) s (map (λ s. s.change) steps)
+        → has_room p s one.change
+
+  -- the last steps of a list were taken out of it, and with one that is beyond them became one
+  pub record AreJoined (turned : S → D → S × D) (delta : C → D) (gathered : List D → D)
+      (has_room : P → S → C → Type 0) (all : List (Step C)) (farthest : Step C)
+      (left : List (Step C)) (one : Step C) : Type 0 where
+    pub near : List (Step C)
+    pub parts : all ≡ left ++ near
+    pub is_one : IsOneFor turned delta gathered has_room (near ++ farthest ∷ []) one

@@ -1,5 +1,6 @@
 -- Lemmas that the laws of a state rest on. What a contract means needs none of them.
 pub mod Backs
+pub mod Chain
 pub mod Edits
 pub mod Groups
 pub mod Parts

@@ -1,6 +1,6 @@
 //! Groups: several edits that one undo reverses.
 
-ghost use Rattle.std.specs.Prelude.{◌≡◌, ◌⊎◌, ◌+◌, ◌<◌, ◌≤◌, ◌↔◌, [], ℕ, IsErr, IsErrOf, IsNone, IsSome, IfSome, OnErr, OnOk, None, Some, length, vec_capacity, vec_len};
+ghost use Rattle.std.specs.Prelude.{◌≡◌, ◌+◌, ◌<◌, ◌≤◌, ◌↔◌, [], ℕ, IsErr, IsErrOf, IsNone, IsSome, IfSome, OnErr, OnOk, None, Some, vec_capacity, vec_len};
 ghost use Rattle.irig_journal.specs.Groups.{aborted, begun, ended};
 ghost use Rattle.irig_journal.specs.History.{steps_of};
 ghost use Rattle.irig_journal.specs.Joining.{CountsAlong, beyond, changes_of, farthest, joined_beyond};
@@ -12,7 +12,6 @@ use crate::journal::Journal;
 use crate::opening::Opening;
 use crate::step::Step;
 use crate::{JournalFault, Reversible};
-use std::alloc::AllocError;
 
 impl<R: Reversible> Journal<R> {
     /// Opens a group at the present, whose cursor this is. It takes no memory, and the only error
@@ -35,6 +34,7 @@ impl<R: Reversible> Journal<R> {
     }
 
     /// Closes the open group: the steps made since its begin become one. One alone stays as it is.
+    /// It takes no memory, and the only error is `NoGroup`.
     pub fn end(&mut self, state: &R) -> Result<(), JournalFault>
         requires ready { AreReady R.fits R.turned R.delta (R.has_room (R.places state.now))
             (R.content state.now) self.old }
@@ -46,12 +46,8 @@ impl<R: Reversible> Journal<R> {
             ≡ joined_beyond R.gathered opening.steps (past_of R.delta self.old))) }
         ensures stays { self.new.future ≡ self.old.future }
 
-        ensures none { IsErrOf result JournalFault.NoGroup ↔ IsNone self.old.floor }
-        ensures memory { OnErr result (IsErrOf result JournalFault.NoGroup
-            ⊎ (IsErrOf result JournalFault.OutOfMemory × IfSome self.old.floor (λ opening.
-            opening.steps + 1 < length (past_of R.delta self.old)))) }
-        ensures err { OnErr result ((self.new.past ≡ self.old.past)
-            × (self.new.floor ≡ self.old.floor)) }
+        ensures none { IsErr result ↔ IsNone self.old.floor }
+        ensures err { OnErr result (IsErrOf result JournalFault.NoGroup × (self.new ≡ self.old)) }
         ensures ready { AreReady R.fits R.turned R.delta (R.has_room (R.places state.now))
             (R.content state.now) self.new }
     {
@@ -59,9 +55,7 @@ impl<R: Reversible> Journal<R> {
             None => return Err(JournalFault::NoGroup),
             Some(opening) => opening,
         };
-        if join_beyond(&mut self.past, opening.steps, state).is_err() {
-            return Err(JournalFault::OutOfMemory);
-        }
+        join_beyond(&mut self.past, opening.steps, &mut self.future, state);
         self.floor = None;
         Ok(())
     }
@@ -102,30 +96,32 @@ impl<R: Reversible> Journal<R> {
     }
 }
 
-/// Joins the steps beyond the `at` farthest to one. One alone stays as it is.
+/// Joins the steps beyond the `at` farthest to one, by way of the free places of another list. One
+/// alone stays as it is. It takes no memory.
 fn join_beyond<R: Reversible>(
     past: &mut Vec<Step<R::Change>>,
     at: usize,
+    spare: &mut Vec<Step<R::Change>>,
     state: &R,
-) -> Result<(), AllocError>
+)
+    requires places { vec_len past.old + vec_len spare.old ≤ vec_capacity spare.old }
     requires ready { ReadyInTurn R.fits R.turned R.delta (R.has_room (R.places state.now))
         (R.content state.now) past.old.items }
-    ensures joined { OnOk result (steps_of R.delta past.new.items
-        ≡ joined_beyond R.gathered at (steps_of R.delta past.old.items)) }
+    ensures joined { steps_of R.delta past.new.items
+        ≡ joined_beyond R.gathered at (steps_of R.delta past.old.items) }
     ensures ready { ReadyInTurn R.fits R.turned R.delta (R.has_room (R.places state.now))
         (R.content state.now) past.new.items }
-    ensures known { OnOk result (at + 1 < vec_len past.old → R.is_state (R.content state.now)) }
+    ensures known { at + 1 < vec_len past.old → R.is_state (R.content state.now) }
     ensures places { (vec_len past.new ≤ vec_len past.old)
         × (vec_capacity past.old ≤ vec_capacity past.new) }
-    ensures err { OnErr result ((past.new.items ≡ past.old.items)
-        × (at + 1 < vec_len past.old)) }
+    ensures spare { (spare.new.items ≡ spare.old.items) × (vec_len spare.new ≡ vec_len spare.old)
+        × (vec_capacity spare.old ≤ vec_capacity spare.new) }
 {
     if past.len() <= at || past.len() - at == 1 {
-        return Ok(());
+        return;
     }
-    let one = gather_beyond(past, at, state)?;
+    let one = gather_beyond(past, at, spare, state);
     past.push(one).unwrap();
-    Ok(())
 }
 
 /// Turns the steps beyond the `at` farthest back, one after another, and drops them. It takes no

@@ -110,6 +110,25 @@ fn reply_to(answer: Result<(), JournalFault>) -> Reply {
     }
 }
 
+/// Makes a push or a pop.
+fn edit(
+    journal: &mut Journal<Stack>,
+    stack: &mut Stack,
+    cursor: &mut usize,
+    single: Single,
+    after: usize,
+) -> Reply
+    requires { AreReady CanEdit edited (λ d. d) (HasPlace (vec_capacity stack.old.items))
+        stack.old.items.items journal.old }
+    ensures { AreReady CanEdit edited (λ d. d) (HasPlace (vec_capacity stack.new.items))
+        stack.new.items.items journal.new }
+{
+    match Edit::one(*stack.items.allocator(), single) {
+        Ok(change) => make(journal, stack, cursor, change, after),
+        Err(_) => Reply::Refused(JournalFault::OutOfMemory),
+    }
+}
+
 /// Obeys a call.
 fn obey(journal: &mut Journal<Stack>, stack: &mut Stack, cursor: &mut usize, call: Call) -> Reply
     requires { AreReady CanEdit edited (λ d. d) (HasPlace (vec_capacity stack.old.items))
@@ -118,8 +137,8 @@ fn obey(journal: &mut Journal<Stack>, stack: &mut Stack, cursor: &mut usize, cal
         stack.new.items.items journal.new }
 {
     match call {
-        Call::Push(x, after) => make(journal, stack, cursor, Edit::One(Single::Push(x)), after),
-        Call::Pop(after) => make(journal, stack, cursor, Edit::One(Single::Pop), after),
+        Call::Push(x, after) => edit(journal, stack, cursor, Single::Push(x), after),
+        Call::Pop(after) => edit(journal, stack, cursor, Single::Pop, after),
         Call::Go(place) => {
             *cursor = place;
             Reply::Done

@@ -1,7 +1,8 @@
 -- A group does what its changes do, one after another. This project's own.
-use Rattle.std.proofs.Common.{◌≡◌, ◌-◌, ◌^◌, ◌∷◌, [], List, min, refl, ap₂, sym, arith}
+use Rattle.std.proofs.Common.{◌≡◌, ◌-◌, ◌^◌, ◌++◌, ◌∷◌, [], List, min, refl, ap, ap₂, sym, arith}
 use Rattle.std.specs.Prelude.{flat_map}
 use Rattle.std.specs.List.{sum_by}
+use Rattle.std.proofs.lemmas.List.{append-nil}
 use Rattle.std.proofs.lemmas.List.Sums.{sum_by-append, sum_by-cons}
 use Rattle.irig_journal.specs.Turns.{FitAll, left_by, ways_back}
 use Rattle.irig_journal.specs.Laws.Parts.{IsOfParts, fit_of_parts, state_of_parts, ways_of_parts}
@@ -58,3 +59,9 @@ weight_of-gathered (d ∷ ds) =
     let rest = weight_of-gathered ds in
     let parts = sum_by-append held_in (singles_of d) (flat_map singles_of ds) in
     omega (arith, rest, held_in_all d, sum_by-cons weight_of d ds, parts)
+
+-- changes are gathered one by one
+pub gathered-more : (d : Delta) (ds : List Delta)
+    → gathered (d ∷ gathered ds ∷ []) ≡ gathered (d ∷ ds)
+gathered-more d ds =
+    ap (λ singles. Together (singles_of d ++ singles)) (append-nil (flat_map singles_of ds))

@@ -7,7 +7,6 @@ ghost use Rattle.irig_edit.specs.Calls.Call.{Make};
 ghost use Rattle.irig_edit.specs.Calls.Edit.{Invert};
 ghost use Rattle.irig_edit.specs.Session.{LooksAfter, Steps};
 
-use crate::change::Change;
 use crate::present::Present;
 use crate::refusal::Refusal;
 use crate::session::Session;
@@ -41,7 +40,7 @@ impl Session {
         ensures looks { LooksAfter (Make (Invert a b)) self.old result self.new }
     {
         plan(&self.present, a, b)?;
-        self.change(Change::One(Single::Toggle { a, b }), 0)?;
+        self.make(Single::Toggle { a, b }, 0)?;
         self.cursor = self.present.find(b);
         Ok(())
     }

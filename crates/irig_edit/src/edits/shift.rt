@@ -13,7 +13,6 @@ ghost use Rattle.irig_edit.specs.Keeping.{exchange_of};
 ghost use Rattle.irig_edit.specs.Session.{LooksAfter, Steps};
 ghost use Rattle.irig_edit.specs.Single.SingleDelta.{Shifted};
 
-use crate::change::Change;
 use crate::present::Present;
 use crate::refusal::Refusal;
 use crate::session::Session;
@@ -93,6 +92,6 @@ impl Session {
         ensures looks { LooksAfter (Make (Shift i j by)) self.old result self.new }
     {
         let shift = plan(&self.present, i, j, by)?;
-        self.change(Change::One(Single::Shift(shift)), j)
+        self.make(Single::Shift(shift), j)
     }
 }

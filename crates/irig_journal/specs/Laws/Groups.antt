@@ -1,7 +1,8 @@
 -- A group of edits of a stack does what the edits do, one after another. This project's own.
-use Rattle.std.proofs.Common.{◌≡◌, ◌-◌, ◌^◌, ◌∷◌, [], ℕ, List, min, refl, ap₂, sym, arith}
+use Rattle.std.proofs.Common.{◌≡◌, ◌-◌, ◌^◌, ◌++◌, ◌∷◌, [], ℕ, List, min, refl, ap, ap₂, sym, arith}
 use Rattle.std.specs.Prelude.{flat_map}
 use Rattle.std.specs.List.{sum_by}
+use Rattle.std.proofs.lemmas.List.{append-nil}
 use Rattle.std.proofs.lemmas.List.Sums.{sum_by-append, sum_by-cons}
 use Rattle.irig_journal.specs.declared.stack.Edit.{Edit}
 use Rattle.irig_journal.specs.declared.stack.Edit.TheVariants.{One, Group}
@@ -55,3 +56,8 @@ bytes_held-grouped (d ∷ ds) =
     let rest = bytes_held-grouped ds in
     let parts = sum_by-append bytes_in (singles_of d) (flat_map singles_of ds) in
     omega (arith, rest, held_in d, sum_by-cons bytes_held d ds, parts)
+
+-- edits are grouped one by one
+pub grouped-more : (d : Edit) (ds : List Edit) → grouped (d ∷ grouped ds ∷ []) ≡ grouped (d ∷ ds)
+grouped-more d ds =
+    ap (λ singles. Group (singles_of d ++ singles)) (append-nil (flat_map singles_of ds))

@@ -17,7 +17,9 @@ fn push(journal: &mut Journal<Stack>, stack: &mut Stack, byte: u8, cursor: usize
         stack.new.items.items journal.new }
     ensures floor { journal.new.floor ≡ journal.old.floor }
 {
-    let _done = journal.record(stack, Edit::One(Single::Push(byte)), cursor);
+    if let Ok(edit) = Edit::one(*stack.items.allocator(), Single::Push(byte)) {
+        let _done = journal.record(stack, edit, cursor);
+    }
 }
 
 /// The cursor of the step back of a number, from 0, if it is there.

@@ -1,5 +1,5 @@
-use Rattle.std.proofs.Common.{◌≡◌, ◌++◌, ◌∷◌, [], List, map, reverse, ap, ◌∙◌}
-use Rattle.std.proofs.lemmas.List.{reverse-append}
+use Rattle.std.proofs.Common.{◌++◌, ◌∷◌, [], List, map, ap, ◌∙◌, append_assoc}
+use Rattle.irig_journal.specs.Chain.{items_of}
 use Rattle.irig_saved.specs.declared.single.Single as saved
 use Rattle.irig_edit.specs.Held.{single_of}
 use Rattle.irig_edit.specs.Saved.{saved_single}
@@ -8,9 +8,9 @@ use Rattle.irig_edit.proofs.naming.singles_named.Goals as goal
 
 pub returns-in_default-single_named : goal.returns-in_default-single_named
 returns-in_default-single_named c =
-    let done = map saved_single (map single_of c.loop-name.items.items) in
+    let done = map saved_single (map single_of (items_of c.loop-name.items)) in
     let left = c.pop.new.self.items in
     let x = c.in-Some.name in
-    let turned_over : reverse c.loop-name.left.items ≡ x ∷ reverse left = ap reverse c.in-Some.ensures.items ∙ reverse-append left (x ∷ []) in
-    no_singles done (reverse left) c.args.names x
-    (c.loop-name.invariant ∙ ap (λ (l : List saved.Single). done ++ l) turned_over) c.in_default-single_named.ensures
+    no_singles left done c.args.names x
+    (c.loop-name.invariant ∙ (ap (λ (l : List saved.Single). l ++ done) c.in-Some.ensures.items ∙ append_assoc left (x ∷ []) done))
+    c.in_default-single_named.ensures

@@ -1,18 +1,18 @@
-use Rattle.std.proofs.Common.{rules, ◌≡◌, ◌+◌, ◌++◌, ◌∷◌, [], IsTrue, List, reverse, take, drop, ap, sym, subst, ◌∙◌, arith}
-use Rattle.std.proofs.Math.ListN.{set}
-use Rattle.std.proofs.lemmas.List.{drop_more, drop-set-lt, length-set, take_more_set}
+use Rattle.std.proofs.Common.{rules, ◌≡◌, ◌++◌, ◌∷◌, [], IsTrue, List, reverse, ap, sym, subst, ◌∙◌, arith}
+use Rattle.std.proofs.lemmas.List.{reverse-append}
+use Rattle.irig_journal.specs.declared.chain.Chain.{Chain}
+use Rattle.irig_journal.specs.Chain.{items_of}
 use Rattle.irig_edit.specs.Places.{places_in}
 use Rattle.irig_edit.specs.Room.{HaveRoom}
 use Rattle.irig_edit.specs.declared.single.Single.{Single}
-use Rattle.irig_edit.proofs.GroupTurns.{ready_more}
-use Rattle.irig_edit.proofs.Trials.{MadeSoFar, made_more}
+use Rattle.irig_edit.proofs.GroupTurns.{ready_last, ready_more}
+use Rattle.irig_edit.proofs.Trials.{MadeSoFar, made_all, made_more}
 use Rattle.irig_edit.proofs.present.Present.make_all.Goals as goal
 
-pub loop-i-preserved : goal.loop-i-preserved
-loop-i-preserved c =
-    let at = c.loop-i in
-    let xs = at.singles-inside.items.items in
-    let x = c.index_mut.result.now in
+pub loop-single-preserved : goal.loop-single-preserved
+loop-single-preserved c =
+    let at = c.loop-single in
+    let x = c.in-Some.single in
     let y = c.make.new.single in
     let first = c.args.self.now in
     let all = c.args.singles.now in
@@ -21,18 +21,28 @@ loop-i-preserved c =
     let made = c.in_ok-make.ensures.made yes in
     let fits = c.in_ok-make.ensures.can.0 yes in
     let grows = c.in_ok-make.ensures.grows yes in
-    let split : drop at.i xs ≡ x ∷ drop (at.i + 1) xs =
-    drop_more xs at.i x (omega arith) ∙ ap (λ (z : Single). z ∷ drop (at.i + 1) xs) (sym c.index_mut.ensures.value) in
-    let so_far = subst (λ (l : List Single). MadeSoFar first.state all at.self.state (take at.i xs) l) split at.invariant.1 in
-    let more = made_more first.state all (take at.i xs) (drop (at.i + 1) xs) x y at.self.state next.state so_far fits made in
-    let ready = ready_more at.self next x y (take at.i xs) (c.in_ok-make.ensures.known yes) fits made grows (c.in_ok-make.ensures.ready yes) at.invariant.3 in
-    let taken : take (at.i + 1) (set xs at.i y) ≡ take at.i xs ++ y ∷ [] = take_more_set xs at.i y (omega arith) in (
-      length-set xs at.i y ∙ at.invariant.0,
-      subst (λ (l : List Single). MadeSoFar first.state all next.state l (drop (at.i + 1) (set xs at.i y))) (sym taken)
-          (subst (λ (l : List Single). MadeSoFar first.state all next.state (take at.i xs ++ y ∷ []) l) (sym (drop-set-lt (at.i + 1) xs at.i y (omega arith))) more),
+    let rest = items_of c.in-Some.block.value in
+    let back = items_of at.back in
+    let so_far = subst (λ (l : List Single). MadeSoFar first.state all at.self.state (reverse back) l) c.in-Some.ensures at.invariant.0 in
+    let more = made_more first.state all (reverse back) rest x y at.self.state next.state so_far fits made in
+    let ready = ready_more at.self next x y (reverse back) (c.in_ok-make.ensures.known yes) fits made grows (c.in_ok-make.ensures.ready yes) at.invariant.2 in
+    let swapped = c.replace-left-in-Some.ensures in
+    let after : c.deref_mut.result.now ≡ c.in-Some.block.value = search rules in
+    let longer = sym (reverse-append (y ∷ []) (items_of c.replace-left-in-Some.new.dest)
+    ∙ ap (λ (l : Chain Single). reverse (items_of l) ++ y ∷ []) swapped.after) in (
+      subst (λ (l : List Single). MadeSoFar first.state all next.state l (items_of c.replace-left-in-Some.result)) longer
+          (subst (λ (l : Chain Single). MadeSoFar first.state all next.state (reverse back ++ y ∷ []) (items_of l)) (sym (swapped.value ∙ after)) more),
       record {
-        pulses = omega (arith, at.invariant.2.pulses, grows.pulses);
-        records = omega (arith, at.invariant.2.records, grows.records);
+        pulses = omega (arith, at.invariant.1.pulses, grows.pulses);
+        records = omega (arith, at.invariant.1.records, grows.records);
       },
-      subst (λ (l : List Single). HaveRoom (places_in next) next.state (reverse l)) (sym taken) ready,
+      subst (λ (l : List Single). HaveRoom (places_in next) next.state (reverse l)) longer ready,
     )
+
+pub returns-clause-made : goal.returns-clause-made
+returns-clause-made c = λ is.
+    let at = c.loop-single in
+    made_all c.args.self.now.state c.args.singles.now at.self.state (items_of at.back) (items_of at.left) c.in_default.ensures at.invariant.0
+
+pub returns-clause-ready : goal.returns-clause-ready
+returns-clause-ready c = λ is. ready_last c.loop-single.self (items_of c.loop-single.back) c.loop-single.invariant.2

@@ -37,7 +37,7 @@ returns-clause-step c =
     let is = subst (λ (x : State). IsState x) same c.self.invariant.0.machine.present.state in
     let can = subst (λ (x : State). CanToggle x.micros a b x.pulses) judged c.in_ok-plan.ensures.can in
     let none = subst (λ (x : State). judgement_of (Invert a b) x ≡ None) judged c.in_ok-plan.ensures.allowed in
-    let made = ap grouped_in c.self-2.view_is ∙ c.in_ok-change.ensures.ok in
+    let made = ap grouped_in c.self-2.view_is ∙ c.in_ok-make.ensures.ok in
     let changed = c.self-2.inside in
     let m = machine_at changed.present.state changed.cursor changed.journal in
     let new = grouped-moved m place changed.journal.floor ∙ ap (λ (g : Grouped Kept). over g.floor (with_cursor place g.machine)) made in
@@ -53,4 +53,4 @@ returns-clause-step c =
 pub returns-clause-looks : goal.returns-clause-looks
 returns-clause-looks c =
     let before = c.args.self.now.looks in
-    subst (λ (v : SessionView). (before ≤ v.looks) × (v.last_looks ≡ v.looks - before) × Within v.present.made.forth v.last_looks) (sym c.self-2.view_is) c.in_ok-change.ensures.looks
+    subst (λ (v : SessionView). (before ≤ v.looks) × (v.last_looks ≡ v.looks - before) × Within v.present.made.forth v.last_looks) (sym c.self-2.view_is) c.in_ok-make.ensures.looks

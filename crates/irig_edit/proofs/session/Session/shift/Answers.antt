@@ -26,4 +26,4 @@ returns-clause-step c =
     (subst (λ (e : ℤ). Becomes (Shift i j e) c.self.inside.present.state (turned c.self.inside.present.state (Alone (Shifted m.i m.j m.by m.letters))).0 j) passed r.becomes) in
     let exchanged = subst (λ (x : State). exchange_of x (Alone (Shifted m.i m.j m.by m.letters)) ≡ exchange_by (Shift i j d) x) same
     (subst (λ (e : ℤ). exchange_of c.self.inside.present.state (Alone (Shifted m.i m.j m.by m.letters)) ≡ exchange_by (Shift i j e) c.self.inside.present.state) passed r.exchange) in
-    c.change.ensures.step (Shift i j d) none becomes exchanged
+    c.make.ensures.step (Shift i j d) none becomes exchanged

@@ -1,56 +1,48 @@
-use Rattle.std.proofs.Common.{◌≡◌, ◌+◌, ◌++◌, ◌∷◌, [], List, map, take, drop, ap, sym, subst, ◌∙◌, arith}
-use Rattle.std.proofs.Math.ListN.{drop_of_length-le, set}
-use Rattle.std.proofs.lemmas.List.{drop_more, drop-set-lt, length-set, take_more_set}
-use Rattle.irig_journal.specs.Turns.{left_by}
-use Rattle.irig_edit.specs.Held.{single_of}
-use Rattle.irig_edit.specs.Single.{turned_single}
+use Rattle.std.proofs.Common.{rules, ◌≡◌, ◌++◌, ◌∷◌, [], List, reverse, ap, sym, subst, ◌∙◌}
+use Rattle.std.proofs.lemmas.List.{reverse-append}
+use Rattle.irig_journal.specs.declared.chain.Chain.{Chain}
+use Rattle.irig_journal.specs.Chain.{items_of}
 use Rattle.irig_edit.specs.declared.single.Single.{Single}
 use Rattle.irig_edit.proofs.GroupTurns.{TurnedSoFar, ready_last, turned_all, turned_more}
 use Rattle.irig_edit.proofs.singles.Singles.turn.Goals as goal
 
--- what is left begins with the next
-next_first : (g : goal.After-index_mut) → TurnedSoFar g.args.present.now g.args.self.now g.loop-i.present (take g.loop-i.i g.loop-i.self-inside.items.items)
-    (g.index_mut.result.now ∷ drop (g.loop-i.i + 1) g.loop-i.self-inside.items.items)
-next_first c =
-    let at = c.loop-i in
-    let xs = at.self-inside.items.items in
-    let x = c.index_mut.result.now in
-    let split : drop at.i xs ≡ x ∷ drop (at.i + 1) xs =
-    drop_more xs at.i x (omega arith) ∙ ap (λ (y : Single). y ∷ drop (at.i + 1) xs) (sym c.index_mut.ensures.value) in
-    subst (λ (l : List Single). TurnedSoFar c.args.present.now c.args.self.now at.present (take at.i xs) l) split at.invariant.1
-
 pub turn_single-requires-clause-room : goal.turn_single-requires-clause-room
-turn_single-requires-clause-room c = let so_far = next_first c in so_far.room.0
+turn_single-requires-clause-room c =
+    let at = c.loop-single in
+    let so_far = subst (λ (l : List Single). TurnedSoFar c.args.present.now c.args.self.now at.present (reverse (items_of at.back)) l)
+    c.in-Some.ensures at.invariant in
+    so_far.room.0
 
-pub loop-i-preserved : goal.loop-i-preserved
-loop-i-preserved c =
-    let at = c.loop-i in
-    let xs = at.self-inside.items.items in
-    let x = c.index_mut.result.now in
+pub turn_single-requires-clause-fits : goal.turn_single-requires-clause-fits
+turn_single-requires-clause-fits c =
+    let at = c.loop-single in
+    let so_far = subst (λ (l : List Single). TurnedSoFar c.args.present.now c.args.self.now at.present (reverse (items_of at.back)) l)
+    c.in-Some.ensures at.invariant in
+    so_far.fit.0
+
+pub loop-single-preserved : goal.loop-single-preserved
+loop-single-preserved c =
+    let at = c.loop-single in
+    let x = c.in-Some.single in
     let y = c.turn_single.new.single in
     let first = c.args.present.now in
     let all = c.args.self.now in
     let now = c.turn_single.new.self in
-    let split : drop at.i xs ≡ x ∷ drop (at.i + 1) xs =
-    drop_more xs at.i x (omega arith) ∙ ap (λ (z : Single). z ∷ drop (at.i + 1) xs) (sym c.index_mut.ensures.value) in
-    let so_far = subst (λ (l : List Single). TurnedSoFar first all at.present (take at.i xs) l) split at.invariant.1 in
-    let more = turned_more first at.present now all (take at.i xs) (drop (at.i + 1) xs) x y so_far c.turn_single.ensures.known
-    c.turn_single.ensures.turned c.turn_single.ensures.looks c.turn_single.ensures.places c.turn_single.ensures.back in (
-      length-set xs at.i y ∙ at.invariant.0,
-      subst (λ (l : List Single). TurnedSoFar first all now l (drop (at.i + 1) (set xs at.i y))) (sym (take_more_set xs at.i y (omega arith)))
-          (subst (λ (l : List Single). TurnedSoFar first all now (take at.i xs ++ y ∷ []) l) (sym (drop-set-lt (at.i + 1) xs at.i y (omega arith))) more),
-    )
+    let rest = items_of c.in-Some.block.value in
+    let back = items_of at.back in
+    let so_far = subst (λ (l : List Single). TurnedSoFar first all at.present (reverse back) l) c.in-Some.ensures at.invariant in
+    let more = turned_more first at.present now all (reverse back) rest x y so_far c.turn_single.ensures.known
+    c.turn_single.ensures.turned c.turn_single.ensures.looks c.turn_single.ensures.places c.turn_single.ensures.back in
+    let swapped = c.replace-left-in-Some.ensures in
+    let after : c.deref_mut.result.now ≡ c.in-Some.block.value = search rules in
+    subst (λ (l : List Single). TurnedSoFar first all now l (items_of c.replace-left-in-Some.result))
+    (sym (reverse-append (y ∷ []) (items_of c.replace-left-in-Some.new.dest) ∙ ap (λ (l : Chain Single). reverse (items_of l) ++ y ∷ []) swapped.after))
+    (subst (λ (l : Chain Single). TurnedSoFar first all now (reverse back ++ y ∷ []) (items_of l)) (sym (swapped.value ∙ after)) more)
 
 pub returns-clause-turned : goal.returns-clause-turned
 returns-clause-turned c =
-    let at = c.loop-i in
-    let xs = at.self-inside.items.items in
-    let none : drop at.i xs ≡ [] = drop_of_length-le xs (omega arith) in (
-      sym (at.invariant.1.state ∙ ap (λ (l : List Single). left_by turned_single at.present.state (map single_of l)) none),
-      turned_all c.args.present.now at.present c.args.self.now xs c.reverse.new.self.items at.i (omega arith) at.invariant.1 c.reverse.ensures.items,
-    )
+    let at = c.loop-single in
+    turned_all c.args.present.now at.present c.args.self.now (items_of at.back) (items_of at.left) c.in_default.ensures at.invariant
 
 pub returns-clause-ready : goal.returns-clause-ready
-returns-clause-ready c =
-    let at = c.loop-i in
-    ready_last at.present at.self-inside.items.items c.reverse.new.self.items at.i (omega arith) at.invariant.1.ready c.reverse.ensures.items
+returns-clause-ready c = ready_last c.loop-single.present (items_of c.loop-single.back) c.loop-single.invariant.ready

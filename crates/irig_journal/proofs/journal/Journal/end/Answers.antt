@@ -1,4 +1,4 @@
-use Rattle.std.proofs.Common.{rules, ◌≡◌, ◌+◌, ◌<◌, length, vec_len, ap, sym, subst, ◌∙◌, arith}
+use Rattle.std.proofs.Common.{rules, ◌≡◌, ◌+◌, ◌<◌, None, Some, length, vec_len, ap, sym, subst, ◌∙◌, arith}
 use Rattle.irig_journal.specs.Groups.{ended}
 use Rattle.irig_journal.specs.History.{FitInTurn, steps_of}
 use Rattle.irig_journal.specs.Joining.{beyond, changes_of, joined_beyond}
@@ -24,4 +24,5 @@ returns-clause-grouped g c cursor =
     λ long. ap (λ p. p.0) (g.met.R.Reversible.gathered_turns s (changes_of (beyond o.steps steps)) (known (omega (arith, length-steps r.delta past))) (fit_parts r.fits r.turned s o.steps steps fit).0) in
     ap (λ j. ended (grouped_of r.turned r.delta s cursor j)) (sym c.self.view_is)
     ∙ ap (λ f. ended (grouped_of r.turned r.delta s cursor (floored_at past future f))) c.in-Some.is
-    ∙ (ended_by r.turned r.delta r.gathered s cursor past c.join_beyond.new.past.items future o joins same)
+    ∙ ended_by r.turned r.delta r.gathered s cursor past c.join_beyond.new.past.items future o joins same
+    ∙ ap (λ l. Some (grouped_of r.turned r.delta s cursor (floored_at c.join_beyond.new.past.items l None))) (sym c.join_beyond.ensures.spare.0)
