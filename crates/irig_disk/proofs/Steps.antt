@@ -260,7 +260,7 @@ module _ (start a b : Disk) (beside target : List ℕ) (file : ℕ) (s : IsBesid
       let ne = there_apart start beside target s.apart s.was_free n there in
       s.left n c ne (may_follow a b n (λ x. may.names.left n x ne ne) (λ i h leads. may.files.left i h) c l))
 
--- what a put in which nothing has begun leaves
+-- what a write leaves that has not begun
 pub unchanged_seen : (start a : Disk) → IsUnchanged start a → SeenSame start a
 unchanged_seen start a same = stay_seen start a same.stays
 
@@ -284,7 +284,7 @@ pub old_moments_of_removal : {T X : Type 0} (start a b : Disk) (beside target : 
 old_moments_of_removal start a b beside target file (Ok _) s removed not_removed time = given_up_moments start a b beside target file s removed.may time
 old_moments_of_removal start a b beside target file (Err other) s removed not_removed time = given_up_moments start a b beside target file s not_removed.may time
 
--- what a put leaves that has not begun, or has not succeeded
+-- what a write leaves that has not begun, or has not succeeded
 pub not_begun : {X : Type 0} (start now : Disk) (target : List ℕ) (text : Held) (fault : PutFault X) → NotBegun start now fault → AfterFault start now target text fault
 not_begun start now target text Memory same = unchanged_seen start now same
 not_begun start now target text NamesTaken same = unchanged_seen start now same
@@ -309,7 +309,7 @@ not_finished start now target text (NotKept _) left = left
 pub not_taken : {T X : Type 0} (start now : Disk) (target : List ℕ) (text : Held) (r : Result T (PutFault X)) → IfErr r (NotFinished start now target text) → IsErrOf r NamesTaken → ⊥
 not_taken start now target text r left is = IfErr-at_err (NotFinished start now target text) is left
 
--- what a put that is given up leaves
+-- what a write leaves that is given up
 pub after_giving_up : {T X : Type 0} (start now : Disk) (target : List ℕ) (text : Held) (removal : Result T X) (fault : X) (result : PutFault X) → OnOk removal (SeenSame start now) → OnErr removal (SeenSameIfThere start now target)
     → MatchResult removal (λ _. result ≡ Failed fault) (λ other. result ≡ LeftBehind fault other) → AfterFault start now target text result
 after_giving_up start now target text (Ok _) fault result same but is = subst (λ r. AfterFault start now target text r) (sym is) same

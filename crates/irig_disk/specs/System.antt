@@ -1,4 +1,4 @@
--- A folder of which nothing is known.
+-- A folder. Nothing is known of it.
 use Rattle.std.specs.Prelude.{ℕ, List, [], Option, Some, None, ◌≤◌}
 use Rattle.irig_disk.specs.Disk.{Disk, Held, MayLeave}
 

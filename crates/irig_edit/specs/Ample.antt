@@ -41,7 +41,7 @@ abbrev pub brought : List Single → ℕ
 brought singles = sum_by (λ single. brought_by (single_of single)) singles
 
 -- there are places for this many more pulses, up to the most of a state, and one that a toggle
--- needs; and as many for records, of which there are fewer than pulses
+-- needs. There are that many for records, too: a track has fewer frames than pulses
 pub record HasPlacesFor (more : ℕ) (p : Places) (s : State) : Type 0 where
   pub pulses : min (length s.pulses + more) (2 ^ 22) + 1 ≤ p.pulses
   pub records : min (length s.pulses + more) (2 ^ 22) ≤ p.records

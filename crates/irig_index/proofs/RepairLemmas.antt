@@ -79,7 +79,7 @@ none_cut last (l ∷ left) gone right (r ∷ rest) e up after =
     let others : left ++ (gone ++ right) ≡ rest = cc in
     λ i. same i ∷ none_cut last left gone right rest others up after.1 i
 
--- records in three parts, of which some of the middle one have gone
+-- records in three parts. Some of the middle one have gone
 record Thinned (first last : ℕ) (all start rest : List Record) : Type 0 where
   left : List Record
   whole : all ≡ start ++ (left ++ rest)
@@ -156,7 +156,7 @@ module _ (f : FormatView) (a x y b : List Pulse) (m count : ℕ) (order : m ≤ 
       (AllAfter-append m touched rest touched_after (AllAfter-less (length a + length x) m rest (omega (arith, order)) rest_after))
       ends begins
 
-  -- and told again they are those of the edited track
+  -- and read again they are those of the edited track
   pub told_parts : (last_retold f (a ++ (y ++ b)) (take count all) ≡ records_in f (a ++ (y ++ b)) 0 m)
       × LastMayBeStale f (a ++ (y ++ b)) (length a - 100) (take count all)
   unfolding start

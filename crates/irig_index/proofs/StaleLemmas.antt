@@ -89,7 +89,7 @@ module _ (f : FormatView) (a : List Pulse) where
       told = λ le. verdict-within f a x y (n + 1) (omega (arith, le));
     }
 
-  -- the records of the markers before an edit, told again
+  -- the records of the markers before an edit, read again
   pub start_retold : (x y : List Pulse) (n : ℕ) → n ≤ length a - 1
       → (last_retold f (a ++ y) (records_in f (a ++ x) 0 n) ≡ records_in f (a ++ y) 0 n)
       × LastMayBeStale f (a ++ y) (length a - 100) (records_in f (a ++ x) 0 n)

@@ -29,7 +29,7 @@ abbrev pub retold : FormatView → List Pulse → Record → Record
 retold f pulses r =
     record { marker = r.marker; verdict = verdict_of f (frame_at pulses r.marker) }
 
--- the records, the last one told again
+-- the records, the last one read again
 abbrev pub last_retold : FormatView → List Pulse → List Record → List Record
 last_retold f pulses [] = []
 last_retold f pulses (r ∷ []) = retold f pulses r ∷ []

@@ -8,7 +8,7 @@ use Rattle.irig_journal.specs.Laws.Rooms.{RoomForAll-wider}
 use Rattle.irig_journal.specs.Turns.{RoomForAll}
 
 module _ {S C : Type 0} where
-  -- where there is room with the one places there is with the others
+  -- places that are wider have room for each change that the narrow ones have room for
   abbrev pub IsWider : (S → C → Type 0) → (S → C → Type 0) → Type 0
   IsWider small large = (s : S) (c : C) → small s c → large s c
 

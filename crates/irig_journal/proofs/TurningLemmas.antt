@@ -61,7 +61,7 @@ module _ {S C D T : Type 0} where
             (later, counts, subst (λ (t : S). CountsAlong counted turned t (beyond at (steps_of delta left)) later last) there h));
       }
 
-  -- where only the farthest are left, all was turned
+  -- if only the farthest are left, all was turned
   pub led_all : (turned : S → D → S × D) (delta : C → D) (counted : S → D → T → T → Type 0) (at : ℕ)
       (s now : S) (before tally : T) (all left : List (Step C)) → length left ≤ at
       → LedDown turned delta counted at s now before tally all left

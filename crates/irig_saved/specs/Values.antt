@@ -14,7 +14,7 @@ AreTwo t = IsNumber t.0 × IsNumber t.1
 abbrev pub words_of_two : ℕ × ℕ → List (List ℕ)
 words_of_two t = decimal t.0 ∷ decimal t.1 ∷ []
 
--- a format that may not be permitted
+-- a format, permitted or not
 abbrev pub IsFormat : Kind × ℕ → Type 0
 IsFormat f = f.1 ≤ 7
 

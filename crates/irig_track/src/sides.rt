@@ -36,7 +36,7 @@ pub(crate) fn take_next(pulses: &mut Gap<Pulse>)
     pulses.take_right();
 }
 
-/// Puts a pulse left of the gap.
+/// Adds a pulse left of the gap.
 pub(crate) fn put_last(pulses: &mut Gap<Pulse>, rise: u64, fall: u64)
     requires { length pulses.old.items < pulses.old.capacity }
     ensures wrote { Wrote (pulse rise fall) pulses.old pulses.new }

@@ -189,7 +189,7 @@ impl Track {
     }
 }
 
-/// Puts a pulse for each two edges, all in order.
+/// Adds a pulse for each two edges, all in order.
 fn put_pairs(pulses: &mut Gap<Pulse>, edges: &[u64])
     requires empty { pulses.old.items ≡ [] }
     requires even { is_even_long edges.now ≡ true }

@@ -126,7 +126,7 @@ fn follow_link<R: Files + AllocGlobal>(rt: &R, target: &mut PathBuf) -> Result<b
     Ok(true)
 }
 
-/// What describes a regular file that may be written: one that may not is not replaced either.
+/// What describes a regular file that may be written. A file that must not be written is not replaced either.
 fn writable<R: Files>(rt: &R, target: &str) -> Result<Metadata, ShelfFault> {
     let there = open_to_write(rt, target)?;
     match there.metadata() {

@@ -6,7 +6,7 @@ use Rattle.irig_journal.specs.Stack.{HasPlace, HasPlaceFor, made, singles_of}
 use Rattle.irig_journal.specs.Turns.{RoomForAll}
 
 module _ {S C D : Type 0} where
-  -- where the one has room, the other has
+  -- if the one has room, the other has
   pub RoomForAll-wider : (turned : S → D → S × D) (delta : C → D) (small large : S → C → Type 0)
       → ((s : S) (c : C) → small s c → large s c) → (s : S) (cs : List C)
       → RoomForAll turned delta small s cs → RoomForAll turned delta large s cs

@@ -20,7 +20,7 @@ last_stale : (f : FormatView) (ps : List Pulse) (settled : ℕ) (xs : List Recor
 last_stale f ps settled xs k count r at there stale =
     LastMayBeStale-there f ps settled (take k xs) r (subst (LastMayBeStale f ps settled) (first-last xs k count r at there) stale)
 
--- the first records with the last one told again
+-- the first records, the last of them read again
 told_last : (f : FormatView) (ps : List Pulse) (xs : List Record) (k count : ℕ) (r : Record) → k + 1 ≡ count → slice_get xs k ≡ Some r
     → take k xs ++ retold f ps r ∷ [] ≡ last_retold f ps (take count xs)
 told_last f ps xs k count r at there =
