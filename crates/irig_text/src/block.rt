@@ -1,0 +1,18 @@
+//! The block that the parts of a text wait in.
+
+ghost use Rattle.std.specs.Prelude.{◌≡◌, [], IfOk};
+
+use std::alloc::{AllocError, Global};
+
+/// How many bytes of a text go on at a time, at least, but for the last: 64 KiB.
+pub const ENOUGH: usize = 65_536;
+
+/// How many bytes more a block has room for: no part that is added last has more.
+const LAST: usize = 2048;
+
+/// A block with no bytes. It has room for all parts that are added until it has `ENOUGH` bytes.
+pub fn new_block(alloc: Global) -> Result<Vec<u8>, AllocError>
+    ensures { IfOk result (λ block. block.items ≡ []) }
+{
+    Vec::with_capacity(alloc, ENOUGH + LAST)
+}

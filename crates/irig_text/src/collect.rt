@@ -1,0 +1,20 @@
+//! A text, whole in memory.
+
+ghost use Rattle.std.specs.Prelude.{◌≡◌, IfOk};
+
+use crate::text::Text;
+use std::alloc::{AllocError, Global};
+
+/// All bytes of a text. `room` is how many are asked for at first.
+pub fn whole<T: Text>(alloc: Global, room: usize, text: &mut T) -> Result<Vec<u8>, AllocError>
+    ensures { IfOk result (λ all. all.items ≡ T.rest text.old) }
+{
+    let mut all = Vec::with_capacity(alloc, room)?;
+    for _ in 0..u64::MAX {
+        if text.fill(&mut all, usize::MAX)? {
+            return Ok(all);
+        }
+    }
+    // no text has that many parts
+    Err(AllocError)
+}
