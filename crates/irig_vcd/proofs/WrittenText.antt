@@ -1,5 +1,5 @@
 -- The text that is written edge by edge is the text of the recording.
-use Rattle.std.proofs.Common.{◌≡◌, ◌≤◌, ◌+◌, ◌==◌, ◌++◌, ◌∷◌, ◌&&◌, ◌||◌, [], ℕ, Bool, true, false, not, List, length, drop, nat_lt, inl, inr, subst, refl, ap, sym, ◌∙◌, arith, if◌then◌else◌}
+use Rattle.std.proofs.Common.{◌≡◌, ◌≤◌, ◌+◌, ◌==◌, ◌++◌, ◌∷◌, ◌&&◌, ◌||◌, [], ℕ, Bool, true, false, not, List, length, drop, nat_lt, inl, inr, subst, refl, ap, sym, ◌∙◌, arith, append_assoc, if◌then◌else◌}
 use Rattle.std.specs.List.{list_any}
 use Rattle.std.proofs.lemmas.List.{drop_all, append-nil}
 use Rattle.std.proofs.lemmas.Bool.{ne_eqb, eq-eqb, lt-ltb, cases_eq}
@@ -70,13 +70,14 @@ pub whole_text : (micros : ℕ) (edges : List ℕ) → RisesFrom 0 edges → UpT
 unfolding file_text
 whole_text micros edges r u = rw (lines edges r, ends micros edges r u) refl
 
--- what was written when no edge is left
-pub all_put : (high : Bool) (n micros : ℕ) (text : List ℕ) (last : ℕ) (edges : List ℕ) → length edges ≤ n
-    → text ++ all_lines high (drop n edges) ≡ header_text (begins_high edges) ++ all_lines true edges → last_or last (drop n edges) ≡ last_or 0 edges
-    → RisesFrom 0 edges → UpTo micros edges → text ++ length_line last micros ≡ file_text (recording_view micros edges)
-all_put high n micros text last edges done put end r u =
+-- what was written after a start when no edge is left
+pub all_put : (high : Bool) (n micros : ℕ) (start text : List ℕ) (last : ℕ) (edges : List ℕ) → length edges ≤ n
+    → text ++ all_lines high (drop n edges) ≡ start ++ (header_text (begins_high edges) ++ all_lines true edges) → last_or last (drop n edges) ≡ last_or 0 edges
+    → RisesFrom 0 edges → UpTo micros edges → text ++ length_line last micros ≡ start ++ file_text (recording_view micros edges)
+all_put high n micros start text last edges done put end r u =
     let none : drop n edges ≡ [] = drop_all n edges done in
-    let before : text ≡ header_text (begins_high edges) ++ all_lines true edges =
+    let before : text ≡ start ++ (header_text (begins_high edges) ++ all_lines true edges) =
     sym (append-nil text) ∙ ap (λ es. text ++ all_lines high es) (sym none) ∙ put in
     let at : last ≡ last_or 0 edges = ap (last_or last) (sym none) ∙ end in
-    rw (before, at) (whole_text micros edges r u)
+    rw (before, at) (append_assoc start (header_text (begins_high edges) ++ all_lines true edges) (length_line (last_or 0 edges) micros)
+    ∙ ap (λ (whole : List ℕ). start ++ whole) (whole_text micros edges r u))
