@@ -4,5 +4,6 @@ pub mod Looks
 pub mod Shifts
 pub mod Sides
 pub mod Splices
+pub mod Texts
 pub mod Toggles
 pub mod Track

@@ -11,8 +11,10 @@ mod splice;
 mod stands;
 mod toggle;
 mod track;
+mod track_text;
 
 pub use lens::Lens;
 pub use pulse::Pulse;
 pub use span::Span;
 pub use track::Track;
+pub use track_text::TrackText;

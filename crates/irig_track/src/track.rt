@@ -10,7 +10,8 @@ ghost use Rattle.irig_track.specs.Track.{IsTrack};
 
 use crate::pulse::Pulse;
 use irig_gap::Gap;
-use irig_vcd::{Recording, TextWriter};
+use irig_text::whole;
+use irig_vcd::Recording;
 use std::alloc::{AllocError, Global};
 use std::marker::Model;
 
@@ -81,18 +82,13 @@ impl Track {
         ensures { IfOk result (λ text. text.items
             ≡ file_text (recording_view self.now.micros (edges_of self.now.pulses))) }
     {
-        let count = self.pulses.len();
-        let mut writer = TextWriter::begin(alloc, 2 * count, self.begins_high())?;
-        for index in 0..count {
-            let pulse = self.pulses.get(index);
-            writer.put_pulse(pulse.rise, pulse.fall)?;
-        }
-        writer.finish(self.micros)
+        whole(alloc, 36 * self.pulses.len() + 140, &mut self.text_parts())
     }
 
     /// Whether the first pulse rises at 0.
-    fn begins_high(&self) -> bool
-        ensures { result ≡ begins_high (edges_of self.now.pulses) }
+    pub(crate) fn begins_high(&self) -> bool
+        ensures high { result ≡ begins_high (edges_of self.now.pulses) }
+        ensures track { IsTrack self.now.micros self.now.pulses }
     {
         0 < self.pulses.len() && self.pulses.get(0).rise == 0
     }
