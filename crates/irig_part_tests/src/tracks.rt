@@ -1,5 +1,6 @@
 //! Worked rows, and the definitions, computed slowly, against the edits.
 
 mod helpers;
+mod parts;
 mod rows;
 mod small;
