@@ -1,5 +1,6 @@
 -- The steps of a session as a saved journal names them.
-use Rattle.std.proofs.Common.{◌≡◌, ℕ, List, [], ◌∷◌, map, refl, ap, arith}
+use Rattle.std.proofs.Common.{◌≡◌, ◌++◌, ℕ, List, [], ◌∷◌, map, refl, reverse, ap, arith, subst, sym}
+use Rattle.std.proofs.lemmas.List.{reverse-append}
 use Rattle.std.specs.List.{AllByRecursion}
 use Rattle.irig_journal.specs.declared.step.Step.{Step}
 use Rattle.irig_journal.specs.History.{FitInTurn}
@@ -52,3 +53,13 @@ pub steps_named : (s : State) (steps : List (Step Delta)) → IsState s → FitI
 steps_named s [] is can = tt
 steps_named s (near ∷ steps) is can =
     (change_named s near.change is can.0, steps_named (turned s near.change).0 steps (IsState-turned s near.change is can.0) can.1)
+
+-- what holds of each step holds of each in the opposite order
+named_append : (xs ys : List (Step Delta)) → StepsCanBeNamed xs → StepsCanBeNamed ys → StepsCanBeNamed (xs ++ ys)
+named_append [] ys first second = second
+named_append (x ∷ xs) ys first second = (first.0, named_append xs ys first.1 second)
+
+pub named_reversed : (xs : List (Step Delta)) → StepsCanBeNamed xs → StepsCanBeNamed (reverse xs)
+named_reversed [] named = tt
+named_reversed (x ∷ xs) named =
+    subst StepsCanBeNamed (sym (reverse-append (x ∷ []) xs)) (named_append (reverse xs) (x ∷ []) (named_reversed xs named.1) (named.0, tt))

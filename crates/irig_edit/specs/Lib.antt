@@ -27,6 +27,7 @@ pub mod Regenerated
 pub mod Room
 pub mod Runs
 pub mod Saved
+pub mod SavedParts
 pub mod SavedSession
 pub mod Session
 pub mod Single

@@ -10,7 +10,8 @@ ghost use Rattle.irig_track.specs.Splices.{risen_by};
 use crate::session::Session;
 use irig_codes::Format;
 use irig_index::Record;
-use irig_track::Pulse;
+use irig_text::whole;
+use irig_track::{Pulse, TrackText};
 use std::alloc::AllocError;
 
 /// The present state.
@@ -122,6 +123,13 @@ impl Session {
         ensures { IfOk result (λ text.
             text.items ≡ file_text (recording_of self.now.present.state)) }
     {
-        self.present.text(self.alloc)
+        whole(self.alloc, self.present.text_room(), &mut self.text_parts())
+    }
+
+    /// That text in parts. It takes no memory.
+    pub fn text_parts(&self) -> TrackText<'_>
+        ensures { result ≡ file_text (recording_of self.now.present.state) }
+    {
+        self.present.text_parts()
     }
 }

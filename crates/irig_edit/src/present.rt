@@ -1,6 +1,6 @@
 //! The present state, with its frames.
 
-ghost use Rattle.std.specs.Prelude.{◌≡◌, ◌<◌, ◌≤◌, ◌+◌, ◌-◌, ◌^◌, length, map, ◌↔◌, IsTrue, IfOk, Some, slice_get};
+ghost use Rattle.std.specs.Prelude.{◌≡◌, ◌<◌, ◌≤◌, ◌+◌, ◌-◌, ◌*◌, ◌^◌, length, map, ◌↔◌, IsTrue, IfOk, Some, slice_get};
 ghost use Rattle.irig_track.specs.Splices.{risen_by};
 ghost use Rattle.irig_vcd.specs.FileText.{file_text};
 ghost use Rattle.irig_edit.specs.Conditions.{is_touched};
@@ -12,7 +12,7 @@ ghost use Rattle.irig_edit.specs.State.{IsMark, IsState, frames_of, recording_of
 use crate::marks::{Letters, Marks, letters_from};
 use irig_codes::Format;
 use irig_index::{Index, Record};
-use irig_track::{Pulse, Track};
+use irig_track::{Pulse, Track, TrackText};
 use irig_vcd::Recording;
 use std::alloc::{AllocError, Global};
 use std::marker::Model;
@@ -60,11 +60,18 @@ impl Present {
         })
     }
 
-    /// The text of the track's dump.
-    pub(crate) fn text(&self, alloc: Global) -> Result<Vec<u8>, AllocError>
-        ensures { IfOk result (λ text. text.items ≡ file_text (recording_of self.now.state)) }
+    /// The text of the track's dump, in parts. It takes no memory.
+    pub(crate) fn text_parts(&self) -> TrackText<'_>
+        ensures { result ≡ file_text (recording_of self.now.state) }
     {
-        self.track.text(alloc)
+        self.track.text_parts()
+    }
+
+    /// How many bytes to ask for at first, for all of that text.
+    pub(crate) fn text_room(&self) -> usize
+        ensures { result ≡ 36 * length self.now.state.pulses + 4096 }
+    {
+        36 * self.len() + 4096
     }
 }
 

@@ -1,21 +1,20 @@
-//! Saves a session with its journal.
+//! The text of a session with its journal.
 
-ghost use Rattle.std.specs.Prelude.{◌≡◌, ◌++◌, ◌∷◌, [], IfOk, OnOk, codes, decimal, map, reverse};
-ghost use Rattle.irig_codes.specs.Words.{kind_word};
-ghost use Rattle.irig_journal.specs.Journal.{future_of, past_of};
-ghost use Rattle.irig_saved.specs.Lines.{line, numbered, text_of};
-ghost use Rattle.irig_saved.specs.SavedText.{counted_lines, mark_lines};
-ghost use Rattle.irig_edit.specs.Held.{delta_of};
-ghost use Rattle.irig_edit.specs.Saved.{StepsCanBeNamed, saved_step};
+ghost use Rattle.std.specs.Prelude.{◌≡◌, IfOk};
 ghost use Rattle.irig_edit.specs.SavedSession.{saved_text};
 ghost use Rattle.irig_edit.specs.Session.{machine_in};
 
-use crate::present::Present;
-use crate::saved_text;
+mod change_lines;
+mod pulse_lines;
+mod side;
+mod stage;
+mod step_lines;
+mod text;
+
 use crate::session::Session;
-use irig_journal::Journal;
-use irig_saved::{put_cursor, put_format, put_future, put_marks, put_name, put_past};
+use irig_text::whole;
 use std::alloc::AllocError;
+pub use text::SavedText;
 
 impl Session {
     /// The text of the track's dump with the journal after it, as `docs/FORMATS.md` says under
@@ -23,41 +22,17 @@ impl Session {
     pub fn saved(&self) -> Result<Vec<u8>, AllocError>
         ensures { IfOk result (λ text. text.items ≡ saved_text (machine_in self.now)) }
     {
-        let mut text = self.present.text(self.alloc)?;
-        text.extend_from_slice(b"$comment\n")?;
-        put_present(&mut text, &self.present, self.cursor)?;
-        put_steps(&mut text, &self.journal)?;
-        text.extend_from_slice(b"$end\n")?;
-        Ok(text)
+        whole(
+            self.alloc,
+            self.present.text_room(),
+            &mut self.saved_parts(),
+        )
     }
-}
 
-/// The lines of the present, without its pulses: format, cursor and marks, after the journal's
-/// name.
-fn put_present(text: &mut Vec<u8>, present: &Present, cursor: usize) -> Result<(), AllocError>
-    ensures { OnOk result (text.new.items ≡ text.old.items ++ text_of (
-        codes "irig-journal-1"
-        ∷ line (codes "format") (kind_word present.now.state.format.kind
-        ∷ decimal present.now.state.format.expression ∷ [])
-        ∷ numbered (codes "cursor") (cursor ∷ []) ∷ mark_lines 97 present.now.state.marks)) }
-{
-    let format = present.format();
-    put_name(text)?;
-    put_format(text, format.kind(), format.expression())?;
-    put_cursor(text, cursor as u64)?;
-    put_marks(text, &present.marks)
-}
-
-/// The lines of the steps to both sides of the present, each side after the line that counts it.
-fn put_steps(text: &mut Vec<u8>, journal: &Journal<Present>) -> Result<(), AllocError>
-    requires back { StepsCanBeNamed (past_of delta_of journal.now) }
-    requires on { StepsCanBeNamed (future_of delta_of journal.now) }
-    ensures { OnOk result (text.new.items ≡ text.old.items ++ text_of (
-        counted_lines (codes "past") (map saved_step (reverse (past_of delta_of journal.now)))
-        ++ counted_lines (codes "future") (map saved_step (future_of delta_of journal.now)))) }
-{
-    put_past(text, journal.steps_back() as u64)?;
-    saved_text::put_past(text, journal)?;
-    put_future(text, journal.steps_forward() as u64)?;
-    saved_text::put_future(text, journal)
+    /// That text in parts. It takes no memory.
+    pub fn saved_parts(&self) -> SavedText<'_>
+        ensures { result ≡ saved_text (machine_in self.now) }
+    {
+        SavedText::new(&self.present, self.cursor, &self.journal)
+    }
 }

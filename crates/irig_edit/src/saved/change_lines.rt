@@ -1,0 +1,122 @@
+//! The lines of a step's changes, in parts.
+
+ghost use Rattle.std.specs.Prelude.{◌≡◌, ◌++◌, ◌∷◌, [], IfOk, OnOk, map, true};
+ghost use Rattle.std.specs.List.{AllByRecursion};
+ghost use Rattle.irig_saved.specs.Lines.{text_of};
+ghost use Rattle.irig_saved.specs.ChangeWords.{single_line};
+ghost use Rattle.irig_saved.specs.SavedText.{change_lines};
+ghost use Rattle.irig_edit.specs.Delta.{singles_of};
+ghost use Rattle.irig_edit.specs.Held.{delta_of, single_of};
+ghost use Rattle.irig_edit.specs.Single.SingleDelta.{Spliced};
+ghost use Rattle.irig_edit.specs.Saved.{CanBeNamed, saved_change, saved_single};
+ghost use Rattle.irig_edit.specs.SavedParts.{changes_text};
+
+use crate::change::Change;
+use crate::saved::pulse_lines::PulseLines;
+use crate::single::Single;
+use crate::splice::Splice;
+use irig_saved::{put_group, put_set_format, put_set_mark, put_shift, put_splice, put_toggle};
+use std::alloc::AllocError;
+use std::marker::Model;
+use std::slice;
+
+/// The lines of single changes: those of the one that has begun, and of all from a number on.
+#[derive(Drop)]
+pub(crate) struct ChangeLines<'s> {
+    pulses: PulseLines<'s>,
+    singles: &'s [Single],
+    next: usize,
+}
+
+impl<'s> Model for ChangeLines<'s> {
+    ghost use Rattle.std.specs.Prelude.{◌++◌, List, ℕ, drop, map};
+    ghost use Rattle.std.specs.List.{AllByRecursion};
+    ghost use Rattle.irig_edit.specs.Held.{single_of};
+    ghost use Rattle.irig_edit.specs.Saved.{CanBeNamed};
+    ghost use Rattle.irig_edit.specs.SavedParts.{changes_text};
+
+    ghost Value = { List ℕ };
+
+    ghost view = { λ c. c.pulses ++ changes_text (drop c.next c.singles.now) };
+
+    ghost invariant = { λ c. AllByRecursion CanBeNamed (map single_of c.singles.now) };
+}
+
+impl<'s> ChangeLines<'s> {
+    /// The lines of all of them.
+    pub(crate) fn new(singles: &'s [Single]) -> ChangeLines<'s>
+        requires { AllByRecursion CanBeNamed (map single_of singles.now) }
+        ensures { result ≡ changes_text singles.now }
+    {
+        ChangeLines {
+            pulses: PulseLines::none(),
+            singles,
+            next: 0,
+        }
+    }
+
+    /// Adds lines to a block until it has `enough` bytes. Returns whether no line is left.
+    pub(crate) fn fill(&mut self, block: &mut Vec<u8>, enough: usize) -> Result<bool, AllocError>
+        ensures bytes { OnOk result (block.new.items ++ self.new ≡ block.old.items ++ self.old) }
+        ensures end { IfOk result (λ ended. ended ≡ true → self.new ≡ []) }
+    {
+        let singles = self.singles;
+        for number in self.next..singles.len() {
+            if !self.pulses.fill(block, enough)? || block.len() >= enough {
+                self.next = number;
+                return Ok(false);
+            }
+            let single = &singles[number];
+            put_first(block, single)?;
+            self.pulses = PulseLines::of(single);
+        }
+        self.next = singles.len();
+        self.pulses.fill(block, enough)
+    }
+}
+
+/// Writes the line before the changes of a group. Returns their lines, or those of a change alone.
+pub(crate) fn begin_change<'s>(
+    text: &mut Vec<u8>,
+    change: &'s Change,
+) -> Result<ChangeLines<'s>, AllocError>
+    requires named { AllByRecursion CanBeNamed (singles_of (delta_of change.now)) }
+    ensures { IfOk result (λ left. text.new.items ++ left ≡ text.old.items ++ text_of
+        (change_lines (saved_change (delta_of change.now)))) }
+{
+    match change {
+        Change::One(single) => Ok(ChangeLines::new(slice::from_ref(single))),
+        Change::Group(singles) => {
+            put_group(text, singles.items.len() as u64)?;
+            Ok(ChangeLines::new(&singles.items))
+        }
+    }
+}
+
+/// Writes the first line of a change.
+fn put_first(text: &mut Vec<u8>, single: &Single) -> Result<(), AllocError>
+    requires named { CanBeNamed (single_of single.now) }
+    ensures { OnOk result (text.new.items ≡ text.old.items
+        ++ (single_line (saved_single (single_of single.now)) ++ 10 ∷ [])) }
+{
+    match single {
+        Single::Splice(splice) => put_first_of_splice(text, splice),
+        Single::Toggle { a, b } => put_toggle(text, *a, *b),
+        Single::Shift(shift) => {
+            let (i, j) = (shift.i as u64 + 1, shift.j as u64 + 1);
+            put_shift(text, i, j, shift.by, &shift.letters)
+        }
+        Single::SetFormat(format) => put_set_format(text, format.kind(), format.expression()),
+        Single::SetMark { letter, time } => put_set_mark(text, *letter as u8, *time),
+    }
+}
+
+/// Writes the first line of a splice.
+fn put_first_of_splice(text: &mut Vec<u8>, splice: &Splice) -> Result<(), AllocError>
+    requires named { CanBeNamed (Spliced splice.now.at splice.now.count splice.now.put.items) }
+    ensures { OnOk result (text.new.items ≡ text.old.items ++ (single_line
+        (saved_single (Spliced splice.now.at splice.now.count splice.now.put.items)) ++ 10 ∷ [])) }
+{
+    let put = splice.put.len() as u64;
+    put_splice(text, splice.at as u64 + 1, splice.count as u64, put)
+}

@@ -1,0 +1,76 @@
+//! The lines of a splice's pulses, in parts.
+
+ghost use Rattle.std.specs.Prelude.{◌≡◌, ◌++◌, [], IfOk, OnOk, true};
+ghost use Rattle.irig_saved.specs.Lines.{text_of};
+ghost use Rattle.irig_saved.specs.SavedText.{pulse_lines, put_of};
+ghost use Rattle.irig_edit.specs.Held.{single_of};
+ghost use Rattle.irig_edit.specs.Saved.{saved_single};
+
+use crate::single::Single;
+use irig_gap::Gap;
+use irig_saved::put_pulse;
+use irig_track::Pulse;
+use std::alloc::AllocError;
+use std::marker::Model;
+
+/// The lines of the pulses that a splice inserts, from one of them on. None if there is no splice.
+#[derive(Drop)]
+pub(crate) struct PulseLines<'s> {
+    pulses: Option<&'s Gap<Pulse>>,
+    next: usize,
+}
+
+impl<'s> Model for PulseLines<'s> {
+    ghost use Rattle.std.specs.Prelude.{List, ℕ};
+    ghost use Rattle.irig_edit.specs.SavedParts.{pulses_left};
+
+    ghost Value = { List ℕ };
+
+    ghost view = { λ p. pulses_left p.pulses p.next };
+}
+
+impl<'s> PulseLines<'s> {
+    /// No lines.
+    pub(crate) fn none() -> PulseLines<'s>
+        ensures { result ≡ [] }
+    {
+        PulseLines {
+            pulses: None,
+            next: 0,
+        }
+    }
+
+    /// A line for each pulse that a change inserts.
+    pub(crate) fn of(single: &'s Single) -> PulseLines<'s>
+        ensures { result ≡ text_of (pulse_lines (put_of (saved_single
+            (single_of single.now)))) }
+    {
+        match single {
+            Single::Splice(splice) => PulseLines {
+                pulses: Some(&splice.put),
+                next: 0,
+            },
+            _ => PulseLines::none(),
+        }
+    }
+
+    /// Adds lines to a block until it has `enough` bytes. Returns whether no line is left.
+    pub(crate) fn fill(&mut self, block: &mut Vec<u8>, enough: usize) -> Result<bool, AllocError>
+        ensures bytes { OnOk result (block.new.items ++ self.new ≡ block.old.items ++ self.old) }
+        ensures end { IfOk result (λ ended. ended ≡ true → self.new ≡ []) }
+    {
+        let Some(pulses) = self.pulses else {
+            return Ok(true);
+        };
+        let len = pulses.len();
+        for place in self.next..len {
+            if block.len() >= enough {
+                self.next = place;
+                return Ok(false);
+            }
+            put_pulse(block, pulses.get(place))?;
+        }
+        self.next = len;
+        Ok(true)
+    }
+}
