@@ -1,10 +1,15 @@
--- A text in parts.
-use Rattle.std.proofs.Common.{◌≡◌, ◌<◌, ◌≤◌, ◌+◌, ◌++◌, ℕ, List, [], length, take, get_or, Bor, ap, sym, ◌∙◌}
-use Rattle.std.proofs.lemmas.List.{take_more, take_all, flat_map_more}
-use Rattle.irig_disk.specs.Put.{joined}
+-- A text of which a part goes on.
+use Rattle.std.proofs.Common.{◌≡◌, ◌+◌, ◌++◌, ℕ, List, [], length, ap, sym, ◌∙◌, arith, append_assoc, append-nil, length-append}
 
-pub joined_more : (parts : List (Bor (List ℕ))) (i : ℕ) (d : Bor (List ℕ)) → i < length parts → joined (take (i + 1) parts) ≡ joined (take i parts) ++ (get_or parts i d).now
-joined_more parts i d below = ap joined (take_more parts i d below) ∙ sym (flat_map_more (λ (part : Bor (List ℕ)). part.now) [] (take i parts) (get_or parts i d))
+module _ (so_far part left rest all : List ℕ) (whole : so_far ++ left ≡ all) (taken : left ≡ part ++ rest) where
+  -- one part more
+  pub more_text : (so_far ++ part) ++ rest ≡ all
+  more_text = append_assoc so_far part rest ∙ ap (λ l. so_far ++ l) (sym taken) ∙ whole
 
-pub joined_all : (parts : List (Bor (List ℕ))) (i : ℕ) → length parts ≤ i → joined (take i parts) ≡ joined parts
-joined_all parts i all = ap joined (take_all i parts all)
+  -- the last one
+  pub whole_text : rest ≡ [] → so_far ++ part ≡ all
+  whole_text ended = sym (append-nil (so_far ++ part)) ∙ ap (λ l. (so_far ++ part) ++ l) (sym ended) ∙ more_text
+
+-- its bytes are counted
+pub more_count : (so_far part : List ℕ) (old new : ℕ) → old ≡ length so_far → new ≡ old + length part → new ≡ length (so_far ++ part)
+more_count so_far part old new counted more = omega (arith, counted, more, length-append so_far part)

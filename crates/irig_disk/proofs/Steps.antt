@@ -1,13 +1,13 @@
 -- What each call makes of a new file next to its target.
-use Rattle.std.proofs.Common.{◌≡◌, ◌≢◌, ◌⊎◌, inl, inr, ⊎_elim, refl, sym, ◌∙◌, ap, subst, ℕ, List, [], ◌++◌, Option, Some, None, Result, Ok, Err, OnOk, OnErr, IfErr, IsErrOf, MatchResult}
+use Rattle.std.proofs.Common.{◌≡◌, ◌≢◌, ◌⊎◌, inl, inr, ⊎_elim, refl, sym, ◌∙◌, ap, subst, ℕ, List, [], ◌++◌, Option, Some, None, Result, Ok, Err, OnOk, OnErr, IfErr, IsErrOf}
 use Rattle.irig_disk.specs.declared.fault.PutFault.{PutFault}
-use Rattle.irig_disk.specs.declared.fault.PutFault.TheVariants.{Memory, NamesTaken, Failed, LeftBehind, NotKept}
+use Rattle.irig_disk.specs.declared.fault.PutFault.TheVariants.{Memory, NamesTaken, Failed, LeftBehind, Remains, NotKept}
 use Rattle.std.proofs.lemmas.Result.{IfErr-at_err}
 use Rattle.irig_disk.specs.Disk.{Disk, Held, seen_under, MayLeave, Elapses, LeavesOnly}
 use Rattle.irig_disk.specs.Stays.{NamesStay, OtherFilesStay, Stays}
 use Rattle.irig_disk.specs.Calls.{Made, Wrote, TookMode, MaySpoil, SyncedFile, SyncedNames}
 use Rattle.irig_disk.specs.Moves.{MayMove, Moved, NotMoved, MayRemove, Removed, NotRemoved}
-use Rattle.irig_disk.specs.Put.{OldOrNew, OldOrNewIfThere, OldIfThere, SeenSame, SeenSameIfThere, AfterFault, IsPut, IsKept}
+use Rattle.irig_disk.specs.Put.{OldOrNew, OldOrNewIfThere, OldIfThere, SeenSame, SeenSameIfThere, AfterFault, left_by, IsPut, IsKept}
 use Rattle.irig_disk.specs.Writing.{IsUnchanged, NotBegun, NotFinished, IsBeside, IsWriting, IsPlaced, IsStuck}
 use Rattle.irig_disk.proofs.Moments.{started, goes_on, weaker}
 use Rattle.irig_disk.proofs.Names.{same_or_not}
@@ -272,7 +272,7 @@ old_moments start a target text moments = weaker start a (OldIfThere start targe
 
 -- what is left after a call has failed and the new file's name was to be freed
 pub after_removal : {T X : Type 0} (start a b : Disk) (beside target : List ℕ) (text : Held) (removal : Result T X) (fault : X) (result : PutFault X) → IsStuck start a beside target text → OnOk removal (Removed a b beside) → OnErr removal (NotRemoved a b beside)
-    → MatchResult removal (λ _. result ≡ Failed fault) (λ other. result ≡ LeftBehind fault other) → NotFinished start b target text result
+    → result ≡ left_by (Some fault) removal → NotFinished start b target text result
 after_removal start a b beside target text (Ok _) fault result s removed not_removed is = subst (λ r. NotFinished start b target text r) (sym is) (freed start a b beside target text s removed.may removed)
 after_removal start a b beside target text (Err other) fault result s removed not_removed is = subst (λ r. NotFinished start b target text r) (sym is) (not_freed start a b beside target text s not_removed.may)
 
@@ -290,6 +290,7 @@ not_begun start now target text Memory same = unchanged_seen start now same
 not_begun start now target text NamesTaken same = unchanged_seen start now same
 not_begun start now target text (Failed _) same = unchanged_seen start now same
 not_begun start now target text (LeftBehind _ _) none = absurd none
+not_begun start now target text (Remains _) none = absurd none
 not_begun start now target text (NotKept _) none = absurd none
 
 pub not_begun_moments : {X : Type 0} (start now : Disk) (target : List ℕ) (text : Held) (fault : PutFault X) → NotBegun start now fault → LeavesOnly start now (OldOrNewIfThere start target text)
@@ -297,6 +298,7 @@ not_begun_moments start now target text Memory same = unchanged_moments start no
 not_begun_moments start now target text NamesTaken same = unchanged_moments start now target text same
 not_begun_moments start now target text (Failed _) same = unchanged_moments start now target text same
 not_begun_moments start now target text (LeftBehind _ _) none = absurd none
+not_begun_moments start now target text (Remains _) none = absurd none
 not_begun_moments start now target text (NotKept _) none = absurd none
 
 pub not_finished : {X : Type 0} (start now : Disk) (target : List ℕ) (text : Held) (fault : PutFault X) → NotFinished start now target text fault → AfterFault start now target text fault
@@ -304,16 +306,19 @@ not_finished start now target text Memory none = absurd none
 not_finished start now target text NamesTaken none = absurd none
 not_finished start now target text (Failed _) left = left
 not_finished start now target text (LeftBehind _ _) left = left
+not_finished start now target text (Remains _) none = absurd none
 not_finished start now target text (NotKept _) left = left
 
 pub not_taken : {T X : Type 0} (start now : Disk) (target : List ℕ) (text : Held) (r : Result T (PutFault X)) → IfErr r (NotFinished start now target text) → IsErrOf r NamesTaken → ⊥
 not_taken start now target text r left is = IfErr-at_err (NotFinished start now target text) is left
 
 -- what a write leaves that is given up
-pub after_giving_up : {T X : Type 0} (start now : Disk) (target : List ℕ) (text : Held) (removal : Result T X) (fault : X) (result : PutFault X) → OnOk removal (SeenSame start now) → OnErr removal (SeenSameIfThere start now target)
-    → MatchResult removal (λ _. result ≡ Failed fault) (λ other. result ≡ LeftBehind fault other) → AfterFault start now target text result
-after_giving_up start now target text (Ok _) fault result same but is = subst (λ r. AfterFault start now target text r) (sym is) same
-after_giving_up start now target text (Err other) fault result same but is = subst (λ r. AfterFault start now target text r) (sym is) but
+pub after_giving_up : {T X : Type 0} (start now : Disk) (target : List ℕ) (text : Held) (removal : Result T X) (fault : Option X) (result : PutFault X) → OnOk removal (SeenSame start now)
+    → OnErr removal (SeenSameIfThere start now target) → result ≡ left_by fault removal → AfterFault start now target text result
+after_giving_up start now target text (Ok _) None result same but is = subst (λ r. AfterFault start now target text r) (sym is) same
+after_giving_up start now target text (Ok _) (Some fault) result same but is = subst (λ r. AfterFault start now target text r) (sym is) same
+after_giving_up start now target text (Err other) None result same but is = subst (λ r. AfterFault start now target text r) (sym is) but
+after_giving_up start now target text (Err other) (Some fault) result same but is = subst (λ r. AfterFault start now target text r) (sym is) but
 
 -- the same under equal names
 pub called : (start a : Disk) (b b' t t' : List ℕ) (f f' : ℕ) (text : List ℕ) (mode mode' : ℕ) → b' ≡ b → t' ≡ t → f' ≡ f → mode' ≡ mode

@@ -1,11 +1,10 @@
 -- What writing a text whole makes of a folder. This project's own.
-use Rattle.std.specs.Prelude.{◌≡◌, ◌≢◌, ◌⊎◌, ◌<◌, ◌++◌, ℕ, List, Option, Some, None, flat_map}
+use Rattle.std.specs.Prelude.{◌≡◌, ◌≢◌, ◌⊎◌, ◌<◌, ◌++◌, ℕ, List, Option, Some, None, Result, Ok, Err}
 use Rattle.std.specs.Fmt.{decimal}
-use denote.Ref.{Bor}
 use Rattle.irig_disk.specs.Disk.{Disk, Held, seen_under, MayLeave}
 use Rattle.irig_disk.specs.Calls.{owner_only}
 use Rattle.irig_disk.specs.declared.fault.PutFault.{PutFault}
-use Rattle.irig_disk.specs.declared.fault.PutFault.TheVariants.{Memory, NamesTaken, Failed, LeftBehind, NotKept}
+use Rattle.irig_disk.specs.declared.fault.PutFault.TheVariants.{Memory, NamesTaken, Failed, LeftBehind, Remains, NotKept}
 
 -- the mode of a file that takes one or keeps the usual one: at first, and in the end
 abbrev pub first_mode : ℕ → Option ℕ → ℕ
@@ -58,6 +57,7 @@ AfterFault old new target text Memory = SeenSame old new
 AfterFault old new target text NamesTaken = SeenSame old new
 AfterFault old new target text (Failed _) = SeenSame old new
 AfterFault old new target text (LeftBehind _ _) = SeenSameIfThere old new target
+AfterFault old new target text (Remains _) = SeenSameIfThere old new target
 AfterFault old new target text (NotKept _) = IsPut old new target text
 
 -- the name of a new file, if this many others were tried before it
@@ -69,6 +69,9 @@ abbrev pub AllTaken : Disk → List ℕ → List ℕ → ℕ → Type 0
 AllTaken disk stem target count =
     (k : ℕ) → k < count → name_after stem k ≢ target → disk.leads (name_after stem k) ≢ None
 
--- the parts, one after another
-abbrev pub joined : List (Bor (List ℕ)) → List ℕ
-joined parts = flat_map (λ part. part.now) parts
+-- what a fault leaves (None: memory ran out), after the new file was to be removed
+abbrev pub left_by : {T X : Type 0} → Option X → Result T X → PutFault X
+left_by (Some fault) (Ok _) = Failed fault
+left_by (Some fault) (Err other) = LeftBehind fault other
+left_by None (Ok _) = Memory
+left_by None (Err other) = Remains other

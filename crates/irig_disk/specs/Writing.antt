@@ -4,7 +4,7 @@ use Rattle.irig_disk.specs.Disk.{Disk, Held, seen_under, MayLeave, LeavesOnly}
 use Rattle.irig_disk.specs.Stays.{Stays}
 use Rattle.irig_disk.specs.Put.{OldOrNewIfThere, SeenSame, SeenSameIfThere, IsPut}
 use Rattle.irig_disk.specs.declared.fault.PutFault.{PutFault}
-use Rattle.irig_disk.specs.declared.fault.PutFault.TheVariants.{Memory, NamesTaken, Failed, LeftBehind, NotKept}
+use Rattle.irig_disk.specs.declared.fault.PutFault.TheVariants.{Memory, NamesTaken, Failed, LeftBehind, Remains, NotKept}
 
 -- nothing is changed since the start, at no moment
 pub record IsUnchanged (start now : Disk) : Type 0 where
@@ -54,6 +54,7 @@ NotBegun old new Memory = IsUnchanged old new
 NotBegun old new NamesTaken = IsUnchanged old new
 NotBegun old new (Failed _) = IsUnchanged old new
 NotBegun old new (LeftBehind _ _) = ⊥
+NotBegun old new (Remains _) = ⊥
 NotBegun old new (NotKept _) = ⊥
 
 -- what a write that has begun and has not succeeded leaves
@@ -62,6 +63,7 @@ NotFinished old new target text Memory = ⊥
 NotFinished old new target text NamesTaken = ⊥
 NotFinished old new target text (Failed _) = SeenSame old new
 NotFinished old new target text (LeftBehind _ _) = SeenSameIfThere old new target
+NotFinished old new target text (Remains _) = ⊥
 NotFinished old new target text (NotKept _) = IsPut old new target text
 
 -- whatever the start was since which this text is being written

@@ -1,14 +1,15 @@
 //! Why a text was not written.
 
-ghost use Rattle.std.specs.Prelude.{◌≡◌, MatchResult};
-ghost use Rattle.irig_disk.specs.declared.fault.PutFault.TheVariants.{Memory, Failed, LeftBehind};
+ghost use Rattle.std.specs.Prelude.{◌≡◌};
+ghost use Rattle.irig_disk.specs.Put.{left_by};
+ghost use Rattle.irig_disk.specs.declared.fault.PutFault.TheVariants.{Memory};
 
 use std::alloc::AllocError;
 
 /// What a write that did not succeed leaves. `X` is the fault of a call, which only a call gives.
 #[derive(Drop)]
 pub enum PutFault<X> {
-    /// Memory ran out before a file was made: nothing has changed.
+    /// Memory ran out: nothing has changed.
     Memory,
     /// Each name for the new file is taken: nothing has changed.
     NamesTaken,
@@ -17,6 +18,9 @@ pub enum PutFault<X> {
     /// A call failed, and so did the removal of the new file, which is still there: nothing else
     /// has changed.
     LeftBehind(X, X),
+    /// Memory ran out, and the removal of the new file failed, which is still there: nothing else
+    /// has changed.
+    Remains(X),
     /// The new text is there, but the names could not be kept: a crash can bring the old one back.
     NotKept(X),
 }
@@ -29,13 +33,14 @@ impl<X> From<AllocError> for PutFault<X> {
     }
 }
 
-/// What a fault leaves, after the new file was to be removed.
-pub(crate) fn fault_after<T: Drop, X>(fault: X, removal: Result<T, X>) -> PutFault<X>
-    ensures { MatchResult removal (λ _. result ≡ Failed fault)
-        (λ other. result ≡ LeftBehind fault other) }
+/// What a fault leaves, after the new file was to be removed. `None`: memory ran out.
+pub(crate) fn fault_after<T: Drop, X>(fault: Option<X>, removal: Result<T, X>) -> PutFault<X>
+    ensures { result ≡ left_by fault removal }
 {
-    match removal {
-        Ok(_) => PutFault::Failed(fault),
-        Err(other) => PutFault::LeftBehind(fault, other),
+    match (fault, removal) {
+        (Some(fault), Ok(_)) => PutFault::Failed(fault),
+        (Some(fault), Err(other)) => PutFault::LeftBehind(fault, other),
+        (None, Ok(_)) => PutFault::Memory,
+        (None, Err(other)) => PutFault::Remains(other),
     }
 }

@@ -1,5 +1,18 @@
 //! That a text is kept.
 
+ghost use Rattle.std.specs.Prelude.{◌≡◌};
+
 /// A text was written whole, and each crash from now on leaves it. Only `NewText::finish` makes one.
 #[derive(Drop)]
-pub struct Kept(pub(crate) ());
+pub struct Kept {
+    pub(crate) count: u64,
+}
+
+impl Kept {
+    /// How many bytes the text has.
+    pub fn count(&self) -> u64
+        ensures { result ≡ self.now.count }
+    {
+        self.count
+    }
+}

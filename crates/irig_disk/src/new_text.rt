@@ -1,6 +1,6 @@
 //! A text of a target, in parts, written whole.
 
-ghost use Rattle.std.specs.Prelude.{◌≡◌, ◌≢◌, ◌++◌, ℕ, List, [], take, string_bytes, IfOk, IfErr, OnOk, OnErr, IsErrOf};
+ghost use Rattle.std.specs.Prelude.{◌≡◌, ◌≢◌, ◌++◌, ◌+◌, ◌-◌, ◌^◌, ℕ, List, [], length, min, take, string_bytes, IfOk, IfErr, OnOk, OnErr, IsErrOf};
 ghost use Rattle.irig_disk.specs.Disk.{LeavesOnly};
 ghost use Rattle.irig_disk.specs.declared.fault.PutFault.TheVariants.{NamesTaken};
 ghost use Rattle.irig_disk.specs.Put.{OldIfThere, OldOrNewIfThere, SeenSame, SeenSameIfThere, IsKept, AllTaken, name_after, held, first_mode, last_mode};
@@ -22,6 +22,7 @@ pub struct NewText<F: Folder> {
     beside: String,
     target: String,
     mode: Option<u32>,
+    pub(crate) count: u64,
 }
 
 impl<F: Folder> NewText<F> {
@@ -36,6 +37,7 @@ impl<F: Folder> NewText<F> {
     ) -> Result<Self, PutFault<F::Fault>>
         ensures target { IfOk result (λ new. string_bytes new.target ≡ target.now) }
         ensures mode { IfOk result (λ new. new.mode ≡ mode) }
+        ensures count { IfOk result (λ new. new.count ≡ 0) }
         ensures ok { F.is_told → IfOk result (λ new. IsWriting (F.disk folder.old)
             (F.disk folder.new) (string_bytes new.beside) target.now (F.number new.file) []
             (first_mode F.usual_mode mode)) }
@@ -51,15 +53,18 @@ impl<F: Folder> NewText<F> {
             beside,
             target: owned,
             mode,
+            count: 0,
         })
     }
 
-    /// Writes a part. After a fault, give the text up.
+    /// Writes a part, and counts its bytes, up to 2^64 - 1 in all. After a fault, give the text up.
     pub fn append(&mut self, folder: &mut F, part: &[u8]) -> Result<F::Appended, F::Fault>
         ensures beside { string_bytes self.new.beside ≡ string_bytes self.old.beside }
         ensures target { string_bytes self.new.target ≡ string_bytes self.old.target }
         ensures mode { self.new.mode ≡ self.old.mode }
         ensures file { F.number self.new.file ≡ F.number self.old.file }
+        ensures count { OnOk result
+            (self.new.count ≡ min (self.old.count + length part.now) (2 ^ 64 - 1)) }
         ensures ok { F.is_told → (target : List ℕ) (mode : ℕ) → WhileWriting F.disk folder.old
             (string_bytes self.old.beside) target (F.number self.old.file) mode (λ start text.
             OnOk result (IsWriting start (F.disk folder.new) (string_bytes self.old.beside) target
@@ -70,7 +75,9 @@ impl<F: Folder> NewText<F> {
             (string_bytes self.old.beside) target (F.number self.old.file)
             (text ++ take n part.now) mode)) }
     {
-        folder.append(&mut self.file, part)
+        let appended = folder.append(&mut self.file, part)?;
+        self.count = self.count.saturating_add(part.len() as u64);
+        Ok(appended)
     }
 
     /// Gives the text its mode and its name, and keeps both.
@@ -87,6 +94,7 @@ impl<F: Folder> NewText<F> {
             (string_bytes self.target) (F.number self.file) (first_mode F.usual_mode self.mode)
             (λ start text. LeavesOnly start (F.disk folder.new) (OldOrNewIfThere start
             (string_bytes self.target) (held F.usual_mode self.mode text))) }
+        ensures count { IfOk result (λ kept. kept.count ≡ self.count) }
     {
         match place(
             folder,
@@ -96,10 +104,10 @@ impl<F: Folder> NewText<F> {
             self.mode,
         ) {
             Ok(_) => match folder.sync_names() {
-                Ok(_) => Ok(Kept(())),
+                Ok(_) => Ok(Kept { count: self.count }),
                 Err(fault) => Err(PutFault::NotKept(fault)),
             },
-            Err(fault) => Err(fault_after(fault, folder.remove(self.beside.as_str()))),
+            Err(fault) => Err(fault_after(Some(fault), folder.remove(self.beside.as_str()))),
         }
     }
 
