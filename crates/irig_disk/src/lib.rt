@@ -11,6 +11,8 @@ mod memory;
 mod new_text;
 mod put;
 mod system;
+#[cfg(test)]
+mod tests;
 
 pub use call::Call;
 pub use fault::PutFault;

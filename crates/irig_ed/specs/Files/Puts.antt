@@ -1,6 +1,8 @@
 -- Texts written to files. This project's own.
 use Rattle.std.specs.Prelude.{ℕ, List, [], ◌∷◌, Bool, true, false, Option, Some, None, option_map, if◌then◌else◌}
 use Rattle.std.specs.Str.{bytes_eq}
+use Rattle.irig_ed.specs.declared.files.written.Written.{Written}
+use Rattle.irig_ed.specs.declared.files.written.Written.TheVariants.{Whole, InPlace}
 
 -- a write that was tried: its path, its text, and whether it succeeded
 pub record Put : Type 0 where
@@ -30,3 +32,8 @@ texts_of path (put ∷ puts) =
 abbrev pub texts_at : List ℕ → Option (List Put) → Option (List (List ℕ))
 texts_at path None = None
 texts_at path (Some puts) = texts_of path puts
+
+-- how many bytes a text has that was written
+abbrev pub count_of : Written → ℕ
+count_of (Whole kept) = kept.count
+count_of (InPlace all) = all.count

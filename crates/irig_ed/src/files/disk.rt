@@ -3,11 +3,12 @@
 ghost use Rattle.std.specs.Prelude.{◌≡◌, ◌≤◌, ◌<◌, ◌^◌, ◌∷◌, [], ℕ, List, Option, IfOk, IfSome, IsErrOf, OnOk, OnErr, length, vec_len};
 ghost use Rattle.irig_script.specs.Shelf.Shelved.{GrowsBy};
 ghost use Rattle.irig_ed.specs.Files.Keeps.{Keeps};
-ghost use Rattle.irig_ed.specs.Files.Puts.{Put, kept, not_kept};
+ghost use Rattle.irig_ed.specs.Files.Puts.{Put, count_of, kept, not_kept};
 
 use crate::files::dump_file::DumpFileFault;
 use crate::files::written::Written;
 use irig_script::ShelfFault;
+use irig_text::Text;
 
 /// Files by their paths. What a real file holds no contract can say; what is asked of one can.
 pub trait Disk {
@@ -33,11 +34,18 @@ pub trait Disk {
 
     /// Writes a text to the file at a path. A fault leaves the file as it was; only if the names of
     /// its folder could not be kept does it hold the text, and a crash can bring the old one back.
-    fn put(&mut self, path: &str, text: &[u8]) -> Result<Written, ShelfFault>
+    /// The parts of the text wait in the block, and what it holds before is lost.
+    fn put<T: Text>(
+        &mut self,
+        path: &str,
+        text: &mut T,
+        block: &mut Vec<u8>,
+    ) -> Result<Written, ShelfFault>
+        ensures count { IfOk result (λ written. count_of written ≡ length (T.rest text.old)) }
         ensures ok { OnOk result
-            (GrowsBy (puts self.old) (puts self.new) (kept path.now text.now ∷ [])) }
+            (GrowsBy (puts self.old) (puts self.new) (kept path.now (T.rest text.old) ∷ [])) }
         ensures err { OnErr result
-            (GrowsBy (puts self.old) (puts self.new) (not_kept path.now text.now ∷ [])) };
+            (GrowsBy (puts self.old) (puts self.new) (not_kept path.now (T.rest text.old) ∷ [])) };
 
     /// A crash leaves a text that was written, or a later one, whole.
     ghost keeps: { (disk : Self)

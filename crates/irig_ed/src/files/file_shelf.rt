@@ -6,18 +6,21 @@ ghost use Rattle.irig_ed.specs.Files.Puts.{texts_at};
 
 use crate::files::disk::Disk;
 use irig_script::{Shelf, ShelfFault};
+use irig_text::Text;
 
 /// A shelf that is a file: each write replaces the file at a path whole.
 #[derive(Drop)]
 pub struct FileShelf<'d, 'p, D: Disk> {
     disk: &'d mut D,
     path: &'p str,
+    block: Vec<u8>,
     failures: u64,
 }
 
 impl<'d, 'p, D: Disk> FileShelf<'d, 'p, D> {
-    /// The shelf of the file at a path, which does not have to be there.
-    pub fn new(disk: &'d mut D, path: &'p str) -> FileShelf<'d, 'p, D>
+    /// The shelf of the file at a path, which does not have to be there. The parts of a text wait in
+    /// the block.
+    pub fn new(disk: &'d mut D, path: &'p str, block: Vec<u8>) -> FileShelf<'d, 'p, D>
         ensures same_disk { result.disk.ghost_name ≡ disk.entry.ghost_name }
         ensures disk { result.disk.now ≡ disk.old }
         ensures path { result.path.now ≡ path.now }
@@ -26,6 +29,7 @@ impl<'d, 'p, D: Disk> FileShelf<'d, 'p, D> {
         FileShelf {
             disk,
             path,
+            block,
             failures: 0,
         }
     }
@@ -35,9 +39,9 @@ impl<'d, 'p, D: Disk> Shelf for FileShelf<'d, 'p, D> {
     ghost known = { λ s. shelved (texts_at s.path.now (D.puts s.disk.now)) s.failures
         (s.disk.ghost_name ∷ s.path.now) };
 
-    fn put(&mut self, text: &[u8]) -> Result<(), ShelfFault> {
-        match self.disk.put(self.path, text) {
-            Ok(_) => Ok(()),
+    fn put<T: Text>(&mut self, text: &mut T) -> Result<u64, ShelfFault> {
+        match self.disk.put(self.path, text, &mut self.block) {
+            Ok(written) => Ok(written.count()),
             Err(fault) => {
                 self.failures = self.failures.saturating_add(1);
                 Err(fault)

@@ -1,12 +1,14 @@
 //! Finds the file that a path leads to, and how it is written: replaced whole, or in place.
 
-ghost use Rattle.std.specs.Prelude.{◌≡◌, Ok, IfOk, OnErr, IsErr};
+ghost use Rattle.std.specs.Prelude.{◌≡◌, length, Ok, IfOk, OnErr, IsErr};
+ghost use Rattle.irig_ed.specs.Files.Puts.{count_of};
 
 use crate::files::in_place::write_in_place;
 use crate::files::whole::write_whole;
 use crate::files::written::Written;
 use irig_disk::SystemFolder;
 use irig_script::ShelfFault;
+use irig_text::Text;
 use std::fs::{Metadata, OpenFile, OpenOptions};
 use std::io::{ErrorKind, Write};
 use std::os::unix::fs::{MetadataExt, PermissionsExt};
@@ -28,39 +30,52 @@ fn or_shelf_fault<T: Drop, E: Drop>(outcome: Result<T, E>) -> Result<T, ShelfFau
     }
 }
 
-/// Writes the bytes to a file: a regular one, or none yet, is replaced; any other is written.
-pub fn put_file<R: Files + Print + AllocGlobal>(
+/// Writes a text to a file: a regular one, or none yet, is replaced; any other is written. The
+/// parts of the text wait in the block.
+pub fn put_file<R: Files + Print + AllocGlobal, T: Text>(
     rt: &R,
     path: &str,
-    bytes: &[u8],
-) -> Result<Written, ShelfFault> {
+    text: &mut T,
+    block: &mut Vec<u8>,
+) -> Result<Written, ShelfFault>
+    ensures { IfOk result (λ written. count_of written ≡ length (T.rest text.old)) }
+{
     match fs::metadata(rt, path) {
-        Ok(old) => put_over(rt, path, &old, bytes),
-        Err(e) if e.kind() == ErrorKind::NotFound => replace(rt, path, false, bytes),
+        Ok(old) => put_over(rt, path, &old, text, block),
+        Err(e) if e.kind() == ErrorKind::NotFound => replace(rt, path, false, text, block),
         Err(_) => Err(ShelfFault),
     }
 }
 
-/// Writes the bytes to a file that is there.
-fn put_over<R: Files + Print + AllocGlobal>(
+/// Writes a text to a file that is there.
+fn put_over<R: Files + Print + AllocGlobal, T: Text>(
     rt: &R,
     path: &str,
     old: &Metadata,
-    bytes: &[u8],
-) -> Result<Written, ShelfFault> {
+    text: &mut T,
+    block: &mut Vec<u8>,
+) -> Result<Written, ShelfFault>
+    ensures { IfOk result (λ written. count_of written ≡ length (T.rest text.old)) }
+{
     if is_standard_output(rt, old) {
-        in_place(&mut io::writer(rt), bytes)
+        in_place(&mut io::writer(rt), text, block)
     } else if old.is_file() {
-        replace(rt, path, true, bytes)
+        replace(rt, path, true, text, block)
     } else {
         let mut file = open_to_write(rt, path)?;
-        in_place(&mut file, bytes)
+        in_place(&mut file, text, block)
     }
 }
 
-/// Writes the bytes to what is no regular file.
-fn in_place<F: Write>(file: &mut F, bytes: &[u8]) -> Result<Written, ShelfFault> {
-    match write_in_place(file, bytes) {
+/// Writes a text to what is no regular file.
+fn in_place<F: Write, T: Text>(
+    file: &mut F,
+    text: &mut T,
+    block: &mut Vec<u8>,
+) -> Result<Written, ShelfFault>
+    ensures { IfOk result (λ written. count_of written ≡ length (T.rest text.old)) }
+{
+    match write_in_place(file, text, block) {
         Ok(all) => Ok(Written::InPlace(all)),
         Err(fault) => Err(fault),
     }
@@ -85,19 +100,22 @@ fn is_standard_output<R: Files>(rt: &R, file: &Metadata) -> bool {
 }
 
 /// Replaces the regular file that a path leads to, if one is there, or makes it.
-fn replace<R: Files + AllocGlobal>(
+fn replace<R: Files + AllocGlobal, T: Text>(
     rt: &R,
     path: &str,
     is_there: bool,
-    bytes: &[u8],
-) -> Result<Written, ShelfFault> {
+    text: &mut T,
+    block: &mut Vec<u8>,
+) -> Result<Written, ShelfFault>
+    ensures { IfOk result (λ written. count_of written ≡ length (T.rest text.old)) }
+{
     let target = follow_links(rt, path)?;
     let target = target.as_str();
     if is_there {
         let old = writable(rt, target)?;
-        replace_target(rt, target, Some(old.permissions().mode()), bytes)
+        replace_target(rt, target, Some(old.permissions().mode()), text, block)
     } else {
-        replace_target(rt, target, None, bytes)
+        replace_target(rt, target, None, text, block)
     }
 }
 
@@ -137,16 +155,20 @@ fn writable<R: Files>(rt: &R, target: &str) -> Result<Metadata, ShelfFault> {
 
 /// Replaces the regular file at the target, or none, by a new one that takes the mode, if one is
 /// given. The folder is opened first: without a sync of it nothing can be kept.
-fn replace_target<R: Files + AllocGlobal>(
+fn replace_target<R: Files + AllocGlobal, T: Text>(
     rt: &R,
     target: &str,
     mode: Option<u32>,
-    bytes: &[u8],
-) -> Result<Written, ShelfFault> {
+    text: &mut T,
+    block: &mut Vec<u8>,
+) -> Result<Written, ShelfFault>
+    ensures { IfOk result (λ written. count_of written ≡ length (T.rest text.old)) }
+{
     let stem = stem_beside(rt, target)?;
     let folder = or_shelf_fault(fs::open(rt, folder_of(target)))?;
     let mut names = SystemFolder::new(rt, folder);
-    match write_whole(&mut names, rt.alloc(), target, stem.as_str(), mode, bytes) {
+    let stem = stem.as_str();
+    match write_whole(&mut names, rt.alloc(), target, stem, mode, text, block) {
         Ok(kept) => Ok(Written::Whole(kept)),
         Err(fault) => Err(fault),
     }

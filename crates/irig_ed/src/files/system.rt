@@ -7,6 +7,7 @@ use crate::files::dump_file::{DumpFileFault, read_dump};
 use crate::files::put_file::put_file;
 use crate::files::written::Written;
 use irig_script::ShelfFault;
+use irig_text::Text;
 use std::rt::Files;
 
 /// The files of the system. Nothing is known of them. `docs/FORMATS.md` says how one is written.
@@ -37,7 +38,12 @@ impl<R: Files + Print + AllocGlobal> Disk for System<'_, R> {
         read_dump(self.runtime, path)
     }
 
-    fn put(&mut self, path: &str, text: &[u8]) -> Result<Written, ShelfFault> {
-        put_file(self.runtime, path, text)
+    fn put<T: Text>(
+        &mut self,
+        path: &str,
+        text: &mut T,
+        block: &mut Vec<u8>,
+    ) -> Result<Written, ShelfFault> {
+        put_file(self.runtime, path, text, block)
     }
 }

@@ -1,5 +1,8 @@
 //! That a text was written.
 
+ghost use Rattle.std.specs.Prelude.{◌≡◌};
+ghost use Rattle.irig_ed.specs.Files.Puts.{count_of};
+
 use crate::files::in_place::InPlace;
 use irig_disk::Kept;
 
@@ -10,4 +13,16 @@ pub enum Written {
     Whole(Kept),
     /// What is no regular file took all of the text.
     InPlace(InPlace),
+}
+
+impl Written {
+    /// How many bytes the text has.
+    pub fn count(&self) -> u64
+        ensures { result ≡ count_of self.now }
+    {
+        match self {
+            Written::Whole(kept) => kept.count(),
+            Written::InPlace(all) => all.count(),
+        }
+    }
 }

@@ -8,6 +8,7 @@ ghost use Rattle.irig_script.specs.Shelf.Shelved.{Puts};
 use crate::print::reply::Reply;
 use crate::shelf::shelf::Shelf;
 use irig_edit::{Refusal, Session};
+use irig_text::Bytes;
 
 /// Writes the text of the track.
 pub fn write<S: Shelf>(session: &Session, shelf: &mut S) -> Reply
@@ -18,8 +19,8 @@ pub fn write<S: Shelf>(session: &Session, shelf: &mut S) -> Reply
     let Ok(text) = session.text() else {
         return Reply::Refused(Refusal::OutOfMemory);
     };
-    match shelf.put(text.as_slice()) {
-        Ok(()) => Reply::Written(text.len() as u64),
+    match shelf.put(&mut Bytes::new(text.as_slice())) {
+        Ok(count) => Reply::Written(count),
         Err(_) => Reply::WriteFailed,
     }
 }

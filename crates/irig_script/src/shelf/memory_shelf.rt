@@ -1,10 +1,11 @@
 //! A shelf in memory.
 
-ghost use Rattle.std.specs.Prelude.{◌≡◌, ◌∷◌, IsErr, OnErr, OnOk, Some, map, []};
+ghost use Rattle.std.specs.Prelude.{◌≡◌, ◌∷◌, [], length, map, Some, IfOk, IsErr, OnErr, OnOk};
 ghost use Rattle.irig_script.specs.Shelf.ShelfView.{known_of, next_put, shelf_view};
 ghost use Rattle.irig_script.specs.Shelf.Shelved.{Puts};
 
 use crate::shelf::shelf::{Shelf, ShelfFault};
+use irig_text::{Text, whole};
 use std::alloc::Global;
 use std::marker::Model;
 
@@ -53,8 +54,10 @@ impl MemoryShelf {
 impl Shelf for MemoryShelf {
     ghost known = { λ s. known_of s };
 
-    fn put(&mut self, text: &[u8]) -> Result<(), ShelfFault>
-        ensures ok { OnOk result (Puts (known_of self.old) (known_of self.new) (text.now ∷ []) 0) }
+    fn put<T: Text>(&mut self, text: &mut T) -> Result<u64, ShelfFault>
+        ensures count { IfOk result (λ count. count ≡ length (T.rest text.old)) }
+        ensures ok { OnOk result
+            (Puts (known_of self.old) (known_of self.new) (T.rest text.old ∷ []) 0) }
         ensures err { OnErr result (Puts (known_of self.old) (known_of self.new) [] 1) }
         ensures told { self.old.fail ≡ Some (next_put self.old) → IsErr result }
         ensures puts { self.new.puts ≡ next_put self.old }
@@ -62,10 +65,12 @@ impl Shelf for MemoryShelf {
     {
         self.puts = self.puts.saturating_add(1);
         if self.fail != Some(self.puts)
-            && let Ok(text) = Vec::from_slice(self.alloc, text)
-            && let Ok(()) = self.texts.push(text)
+            && let Ok(text) = whole(self.alloc, 0, text)
         {
-            return Ok(());
+            let count = text.len() as u64;
+            if let Ok(()) = self.texts.push(text) {
+                return Ok(count);
+            }
         }
         self.failures = self.failures.saturating_add(1);
         Err(ShelfFault)

@@ -1,7 +1,9 @@
 //! Where texts are written.
 
-ghost use Rattle.std.specs.Prelude.{OnOk, OnErr, ◌∷◌, []};
+ghost use Rattle.std.specs.Prelude.{◌≡◌, ◌∷◌, [], length, IfOk, OnOk, OnErr};
 ghost use Rattle.irig_script.specs.Shelf.Shelved.{Shelved, Puts};
+
+use irig_text::Text;
 
 /// A text could not be written.
 #[derive(Clone, Copy)]
@@ -13,8 +15,9 @@ pub trait Shelf {
     /// 2^64 - 1, and its label.
     ghost known: { Self → Shelved };
 
-    /// Writes a text. A fault leaves the texts as they were.
-    fn put(&mut self, text: &[u8]) -> Result<(), ShelfFault>
-        ensures ok { OnOk result (Puts (known self.old) (known self.new) (text.now ∷ []) 0) }
+    /// Writes a text, and returns how many bytes it has. A fault leaves the texts as they were.
+    fn put<T: Text>(&mut self, text: &mut T) -> Result<u64, ShelfFault>
+        ensures count { IfOk result (λ count. count ≡ length (T.rest text.old)) }
+        ensures ok { OnOk result (Puts (known self.old) (known self.new) (T.rest text.old ∷ []) 0) }
         ensures err { OnErr result (Puts (known self.old) (known self.new) [] 1) };
 }

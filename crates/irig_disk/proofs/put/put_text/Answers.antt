@@ -8,9 +8,16 @@ use Rattle.irig_disk.proofs.put.put_text.Goals as goal
 pub loop-preserved : goal.loop-preserved
 loop-preserved g c =
     let inv = c.loop.invariant in
-    let done = c.in-Ok-false.ensures.ok in
-    (c.append_next.ensures.target ∙ inv.0, c.append_next.ensures.mode ∙ inv.1, (inv.2.0 ++ done.0, more_text inv.2.0 done.0 _ _ _ inv.2.1 done.1, more_count inv.2.0 done.0 _ _ inv.2.2 done.2,
-    λ told. called _ _ _ _ _ _ _ _ _ _ _ c.append_next.ensures.beside refl c.append_next.ensures.file refl (done.3 told c.args.target.now _ c.args.folder.now inv.2.0 (inv.2.3 told))))
+    let done = c.in-Ok-false.ensures.ok in (
+      c.append_next.ensures.target ∙ inv.0,
+      c.append_next.ensures.mode ∙ inv.1,
+      (
+        inv.2.0 ++ done.0,
+        more_text inv.2.0 done.0 _ _ _ inv.2.1 done.1,
+        more_count inv.2.0 done.0 _ _ inv.2.2 done.2,
+        λ told. called _ _ _ _ _ _ _ _ _ _ _ c.append_next.ensures.beside refl c.append_next.ensures.file refl (done.3 told c.args.target.now _ c.args.folder.now inv.2.0 (inv.2.3 told)),
+      ),
+    )
 
 pub returns-in-Ok-true-clause-any_moment : goal.returns-in-Ok-true-clause-any_moment
 returns-in-Ok-true-clause-any_moment g c told =
@@ -20,7 +27,7 @@ returns-in-Ok-true-clause-any_moment g c told =
     let target : string_bytes c.append_next.new.new.target ≡ c.args.target.now = c.append_next.ensures.target ∙ inv.0 in
     let mode : c.append_next.new.new.mode ≡ c.args.mode = c.append_next.ensures.mode ∙ inv.1 in
     let w = called _ _ _ _ _ _ _ _ _ _ _ c.append_next.ensures.beside target c.append_next.ensures.file (ap (first_mode g.F.Folder.usual_mode) mode)
-        (done.3 told c.args.target.now _ c.args.folder.now inv.2.0 (inv.2.3 told)) in
+    (done.3 told c.args.target.now _ c.args.folder.now inv.2.0 (inv.2.3 told)) in
     rw (target, mode, whole) at (c.finish.ensures.any_moment told c.args.folder.now _ w)
 
 pub returns-in-Ok-true-clause-ok : goal.returns-in-Ok-true-clause-ok
@@ -31,7 +38,7 @@ returns-in-Ok-true-clause-ok g c told =
     let target : string_bytes c.append_next.new.new.target ≡ c.args.target.now = c.append_next.ensures.target ∙ inv.0 in
     let mode : c.append_next.new.new.mode ≡ c.args.mode = c.append_next.ensures.mode ∙ inv.1 in
     let w = called _ _ _ _ _ _ _ _ _ _ _ c.append_next.ensures.beside target c.append_next.ensures.file (ap (first_mode g.F.Folder.usual_mode) mode)
-        (done.3 told c.args.target.now _ c.args.folder.now inv.2.0 (inv.2.3 told)) in
+    (done.3 told c.args.target.now _ c.args.folder.now inv.2.0 (inv.2.3 told)) in
     rw (target, mode, whole) at (c.finish.ensures.ok told c.args.folder.now _ w)
 
 pub returns-in-Ok-true-clause-err : goal.returns-in-Ok-true-clause-err
@@ -42,7 +49,7 @@ returns-in-Ok-true-clause-err g c told =
     let target : string_bytes c.append_next.new.new.target ≡ c.args.target.now = c.append_next.ensures.target ∙ inv.0 in
     let mode : c.append_next.new.new.mode ≡ c.args.mode = c.append_next.ensures.mode ∙ inv.1 in
     let w = called _ _ _ _ _ _ _ _ _ _ _ c.append_next.ensures.beside target c.append_next.ensures.file (ap (first_mode g.F.Folder.usual_mode) mode)
-        (done.3 told c.args.target.now _ c.args.folder.now inv.2.0 (inv.2.3 told)) in
+    (done.3 told c.args.target.now _ c.args.folder.now inv.2.0 (inv.2.3 told)) in
     IfErr-weaker c.finish.result _ _ (not_finished _ _ _ _) (rw (target, mode, whole) at (c.finish.ensures.err told c.args.folder.now _ w))
 
 pub returns-in-Ok-true-clause-taken : goal.returns-in-Ok-true-clause-taken
@@ -52,7 +59,7 @@ returns-in-Ok-true-clause-taken g c told is =
     let target : string_bytes c.append_next.new.new.target ≡ c.args.target.now = c.append_next.ensures.target ∙ inv.0 in
     let mode : c.append_next.new.new.mode ≡ c.args.mode = c.append_next.ensures.mode ∙ inv.1 in
     let w = called _ _ _ _ _ _ _ _ _ _ _ c.append_next.ensures.beside target c.append_next.ensures.file (ap (first_mode g.F.Folder.usual_mode) mode)
-        (done.3 told c.args.target.now _ c.args.folder.now inv.2.0 (inv.2.3 told)) in
+    (done.3 told c.args.target.now _ c.args.folder.now inv.2.0 (inv.2.3 told)) in
     absurd (not_taken _ _ _ _ c.finish.result (c.finish.ensures.err told c.args.folder.now _ w) is)
 
 pub returns-in-Ok-true-clause-count : goal.returns-in-Ok-true-clause-count

@@ -9,4 +9,4 @@ invariant-loop g l = (string_bytes l.new.target ≡ l.target) × (l.new.mode ≡
     × (so_far ++ g.T.Text.rest l.text ≡ g.T.Text.rest l.fn.text)
     × (l.new.count ≡ length so_far)
     × (g.F.Folder.is_told → IsWriting (g.F.Folder.disk l.fn.folder) (g.F.Folder.disk l.folder) (string_bytes l.new.beside) l.target
-      (g.F.Folder.number l.new.file) so_far (first_mode g.F.Folder.usual_mode l.fn.mode)))
+    (g.F.Folder.number l.new.file) so_far (first_mode g.F.Folder.usual_mode l.fn.mode)))
