@@ -3,3 +3,4 @@ pub mod PutsAt
 pub mod RunsBy
 pub mod Moves
 pub mod Commands
+pub mod Blocks
