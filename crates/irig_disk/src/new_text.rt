@@ -10,48 +10,48 @@ ghost use Rattle.irig_disk.specs.Calls.{mode_made};
 use crate::fault::{PutFault, fault_after};
 use crate::folder::Folder;
 use crate::kept::Kept;
-use std::alloc::{AllocError, Global};
+use std::alloc::AllocError;
+use std::fmt::Write;
 
 /// How many names are tried for a new file. Other runs may hold that many, or have left them.
 const NAMES: u32 = 10_000;
 
 /// A new file next to its target, whose name it takes in the end.
 #[derive(Drop)]
-pub struct NewText<F: Folder> {
+pub struct NewText<'n, F: Folder> {
     file: F::File,
-    beside: String,
-    target: String,
+    beside: &'n str,
+    target: &'n str,
     mode: Option<u32>,
     pub(crate) count: u64,
 }
 
-impl<F: Folder> NewText<F> {
-    /// Makes the new file, under the first name that is free: the stem and a number from 0. If it is
-    /// to take a mode it is its owner's alone until then.
+impl<'n, F: Folder> NewText<'n, F> {
+    /// Makes the new file, under the first name that is free: the stem and a number from 0, which is
+    /// written to `name`. If it is to take a mode it is its owner's alone until then.
     pub fn begin(
         folder: &mut F,
-        alloc: Global,
-        target: &str,
+        name: &'n mut String,
+        target: &'n str,
         stem: &str,
         mode: Option<u32>,
     ) -> Result<Self, PutFault<F::Fault>>
-        ensures target { IfOk result (λ new. string_bytes new.target ≡ target.now) }
+        ensures target { IfOk result (λ new. new.target.now ≡ target.now) }
         ensures mode { IfOk result (λ new. new.mode ≡ mode) }
         ensures count { IfOk result (λ new. new.count ≡ 0) }
         ensures ok { F.is_told → IfOk result (λ new. IsWriting (F.disk folder.old)
-            (F.disk folder.new) (string_bytes new.beside) target.now (F.number new.file) []
+            (F.disk folder.new) new.beside.now target.now (F.number new.file) []
             (first_mode F.usual_mode mode)) }
         ensures err { F.is_told → IfErr result
             (NotBegun (F.disk folder.old) (F.disk folder.new)) }
         ensures taken { F.is_told → IsErrOf result NamesTaken
             → AllTaken (F.disk folder.old) stem.now target.now NAMES }
     {
-        let owned = String::from_str(alloc, target)?;
-        let (file, beside) = make_beside(folder, alloc, target, stem, mode.is_some())?;
+        let file = make_beside(folder, name, target, stem, mode.is_some())?;
         Ok(NewText {
             file,
-            beside,
-            target: owned,
+            beside: name.as_str(),
+            target,
             mode,
             count: 0,
         })
@@ -59,20 +59,20 @@ impl<F: Folder> NewText<F> {
 
     /// Writes a part, and counts its bytes, up to 2^64 - 1 in all. After a fault, give the text up.
     pub fn append(&mut self, folder: &mut F, part: &[u8]) -> Result<F::Appended, F::Fault>
-        ensures beside { string_bytes self.new.beside ≡ string_bytes self.old.beside }
-        ensures target { string_bytes self.new.target ≡ string_bytes self.old.target }
+        ensures beside { self.new.beside.now ≡ self.old.beside.now }
+        ensures target { self.new.target.now ≡ self.old.target.now }
         ensures mode { self.new.mode ≡ self.old.mode }
         ensures file { F.number self.new.file ≡ F.number self.old.file }
         ensures count { OnOk result
             (self.new.count ≡ min (self.old.count + length part.now) (2 ^ 64 - 1)) }
         ensures ok { F.is_told → (target : List ℕ) (mode : ℕ) → WhileWriting F.disk folder.old
-            (string_bytes self.old.beside) target (F.number self.old.file) mode (λ start text.
-            OnOk result (IsWriting start (F.disk folder.new) (string_bytes self.old.beside) target
+            self.old.beside.now target (F.number self.old.file) mode (λ start text.
+            OnOk result (IsWriting start (F.disk folder.new) self.old.beside.now target
             (F.number self.old.file) (text ++ part.now) mode)) }
         ensures err { F.is_told → (target : List ℕ) (mode : ℕ) → WhileWriting F.disk folder.old
-            (string_bytes self.old.beside) target (F.number self.old.file) mode (λ start text.
+            self.old.beside.now target (F.number self.old.file) mode (λ start text.
             OnErr result ((n : ℕ) × IsWriting start (F.disk folder.new)
-            (string_bytes self.old.beside) target (F.number self.old.file)
+            self.old.beside.now target (F.number self.old.file)
             (text ++ take n part.now) mode)) }
     {
         let appended = folder.append(&mut self.file, part)?;
@@ -82,80 +82,75 @@ impl<F: Folder> NewText<F> {
 
     /// Gives the text its mode and its name, and keeps both.
     pub fn finish(self, folder: &mut F) -> Result<Kept, PutFault<F::Fault>>
-        ensures ok { F.is_told → WhileWriting F.disk folder.old (string_bytes self.beside)
-            (string_bytes self.target) (F.number self.file) (first_mode F.usual_mode self.mode)
+        ensures ok { F.is_told → WhileWriting F.disk folder.old self.entry.beside.now
+            self.entry.target.now (F.number self.entry.file) (first_mode F.usual_mode self.entry.mode)
             (λ start text. OnOk result (IsKept start (F.disk folder.new)
-            (string_bytes self.target) (held F.usual_mode self.mode text))) }
-        ensures err { F.is_told → WhileWriting F.disk folder.old (string_bytes self.beside)
-            (string_bytes self.target) (F.number self.file) (first_mode F.usual_mode self.mode)
+            self.entry.target.now (held F.usual_mode self.entry.mode text))) }
+        ensures err { F.is_told → WhileWriting F.disk folder.old self.entry.beside.now
+            self.entry.target.now (F.number self.entry.file) (first_mode F.usual_mode self.entry.mode)
             (λ start text. IfErr result (NotFinished start (F.disk folder.new)
-            (string_bytes self.target) (held F.usual_mode self.mode text))) }
-        ensures any_moment { F.is_told → WhileWriting F.disk folder.old (string_bytes self.beside)
-            (string_bytes self.target) (F.number self.file) (first_mode F.usual_mode self.mode)
+            self.entry.target.now (held F.usual_mode self.entry.mode text))) }
+        ensures any_moment { F.is_told → WhileWriting F.disk folder.old self.entry.beside.now
+            self.entry.target.now (F.number self.entry.file) (first_mode F.usual_mode self.entry.mode)
             (λ start text. LeavesOnly start (F.disk folder.new) (OldOrNewIfThere start
-            (string_bytes self.target) (held F.usual_mode self.mode text))) }
-        ensures count { IfOk result (λ kept. kept.count ≡ self.count) }
+            self.entry.target.now (held F.usual_mode self.entry.mode text))) }
+        ensures count { IfOk result (λ kept. kept.count ≡ self.entry.count) }
     {
-        match place(
-            folder,
-            &self.file,
-            self.beside.as_str(),
-            self.target.as_str(),
-            self.mode,
-        ) {
+        match place(folder, &self.file, self.beside, self.target, self.mode) {
             Ok(_) => match folder.sync_names() {
                 Ok(_) => Ok(Kept { count: self.count }),
                 Err(fault) => Err(PutFault::NotKept(fault)),
             },
-            Err(fault) => Err(fault_after(Some(fault), folder.remove(self.beside.as_str()))),
+            Err(fault) => Err(fault_after(Some(fault), folder.remove(self.beside))),
         }
     }
 
     /// Removes the new file.
     pub fn give_up(self, folder: &mut F) -> Result<F::NameRemoved, F::Fault>
         ensures ok { F.is_told → (mode : ℕ) → WhileWriting F.disk folder.old
-            (string_bytes self.beside) (string_bytes self.target) (F.number self.file) mode
+            self.entry.beside.now self.entry.target.now (F.number self.entry.file) mode
             (λ start text. OnOk result (SeenSame start (F.disk folder.new))) }
         ensures err { F.is_told → (mode : ℕ) → WhileWriting F.disk folder.old
-            (string_bytes self.beside) (string_bytes self.target) (F.number self.file) mode
+            self.entry.beside.now self.entry.target.now (F.number self.entry.file) mode
             (λ start text. OnErr result
-            (SeenSameIfThere start (F.disk folder.new) (string_bytes self.target))) }
+            (SeenSameIfThere start (F.disk folder.new) self.entry.target.now)) }
         ensures any_moment { F.is_told → (mode : ℕ) → WhileWriting F.disk folder.old
-            (string_bytes self.beside) (string_bytes self.target) (F.number self.file) mode
+            self.entry.beside.now self.entry.target.now (F.number self.entry.file) mode
             (λ start text. LeavesOnly start (F.disk folder.new)
-            (OldIfThere start (string_bytes self.target))) }
+            (OldIfThere start self.entry.target.now)) }
     {
-        folder.remove(self.beside.as_str())
+        folder.remove(self.beside)
     }
 }
 
 /// The name of a new file: the stem, and how many others were tried before it.
-fn numbered(alloc: Global, stem: &str, number: u32) -> Result<String, AllocError>
-    ensures { IfOk result (λ name. string_bytes name ≡ name_after stem.now number) }
+fn put_name(name: &mut String, stem: &str, number: u32) -> Result<(), AllocError>
+    ensures { OnOk result (string_bytes name.new ≡ name_after stem.now number) }
 {
-    format!(in alloc; "{stem}{number}")
+    name.clear();
+    write!(name, "{stem}{number}")
 }
 
 /// Makes a new file, under the first name that is free and is not the target's.
 fn make_beside<F: Folder>(
     folder: &mut F,
-    alloc: Global,
+    name: &mut String,
     target: &str,
     stem: &str,
     hidden: bool,
-) -> Result<(F::File, String), PutFault<F::Fault>>
-    ensures ok { F.is_told → IfOk result (λ new. IsWriting (F.disk folder.old)
-        (F.disk folder.new) (string_bytes new.1) target.now (F.number new.0) []
+) -> Result<F::File, PutFault<F::Fault>>
+    ensures ok { F.is_told → IfOk result (λ file. IsWriting (F.disk folder.old)
+        (F.disk folder.new) (string_bytes name.new) target.now (F.number file) []
         (mode_made F.usual_mode hidden)) }
     ensures err { F.is_told → IfErr result (NotBegun (F.disk folder.old) (F.disk folder.new)) }
     ensures taken { F.is_told → IsErrOf result NamesTaken
         → AllTaken (F.disk folder.old) stem.now target.now NAMES }
 {
     for number in 0..NAMES {
-        let beside = numbered(alloc, stem, number)?;
-        if beside.as_str() != target {
-            match folder.make(beside.as_str(), hidden) {
-                Ok(Some(file)) => return Ok((file, beside)),
+        put_name(name, stem, number)?;
+        if name.as_str() != target {
+            match folder.make(name.as_str(), hidden) {
+                Ok(Some(file)) => return Ok(file),
                 Ok(None) => {}
                 Err(fault) => return Err(PutFault::Failed(fault)),
             }

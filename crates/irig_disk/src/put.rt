@@ -1,6 +1,6 @@
 //! A text written whole, in one call.
 
-ghost use Rattle.std.specs.Prelude.{◌≡◌, ◌++◌, ◌+◌, ℕ, List, [], true, length, string_bytes, IfOk, IfErr, OnOk, OnErr, IsErrOf};
+ghost use Rattle.std.specs.Prelude.{◌≡◌, ◌++◌, ◌+◌, ℕ, List, [], true, length, IfOk, IfErr, OnOk, OnErr, IsErrOf};
 ghost use Rattle.irig_disk.specs.Disk.{LeavesOnly};
 ghost use Rattle.irig_disk.specs.declared.fault.PutFault.TheVariants.{NamesTaken};
 ghost use Rattle.irig_disk.specs.declared.new_text.TheConstants.{NAMES};
@@ -12,14 +12,13 @@ use crate::folder::Folder;
 use crate::kept::Kept;
 use crate::new_text::NewText;
 use irig_text::{ENOUGH, Text};
-use std::alloc::Global;
 
 /// Writes a text at the target, with a mode (`None`: the usual one). The new file has the stem and
-/// a number as its name until it takes the target's. The parts of the text wait in the block, and
-/// what it holds before is lost.
+/// a number as its name until it takes the target's. That name is written to `name`, and the parts
+/// of the text wait in the block; what both hold before is lost.
 pub fn put_text<F: Folder, T: Text>(
     folder: &mut F,
-    alloc: Global,
+    name: &mut String,
     target: &str,
     stem: &str,
     mode: Option<u32>,
@@ -40,7 +39,7 @@ pub fn put_text<F: Folder, T: Text>(
         → AllTaken (F.disk folder.old) stem.now target.now NAMES }
     ensures count { IfOk result (λ kept. kept.count ≡ length (T.rest text.old)) }
 {
-    let mut new = NewText::begin(folder, alloc, target, stem, mode)?;
+    let mut new = NewText::begin(folder, name, target, stem, mode)?;
     for _ in 0..u64::MAX {
         match append_next(folder, &mut new, text, block) {
             Ok(false) => {}
@@ -56,26 +55,26 @@ pub fn put_text<F: Folder, T: Text>(
 /// no call.
 fn append_next<F: Folder, T: Text>(
     folder: &mut F,
-    new: &mut NewText<F>,
+    new: &mut NewText<'_, F>,
     text: &mut T,
     block: &mut Vec<u8>,
 ) -> Result<bool, Option<F::Fault>>
-    ensures beside { string_bytes new.new.beside ≡ string_bytes new.old.beside }
-    ensures target { string_bytes new.new.target ≡ string_bytes new.old.target }
+    ensures beside { new.new.beside.now ≡ new.old.beside.now }
+    ensures target { new.new.target.now ≡ new.old.target.now }
     ensures mode { new.new.mode ≡ new.old.mode }
     ensures file { F.number new.new.file ≡ F.number new.old.file }
     ensures ok { IfOk result (λ ended. (part : List ℕ)
         × (T.rest text.old ≡ part ++ T.rest text.new)
         × (new.new.count ≡ new.old.count + length part)
         × (F.is_told → (target : List ℕ) (mode : ℕ) → WhileWriting F.disk folder.old
-        (string_bytes new.old.beside) target (F.number new.old.file) mode (λ start so_far.
-        IsWriting start (F.disk folder.new) (string_bytes new.old.beside) target
+        new.old.beside.now target (F.number new.old.file) mode (λ start so_far.
+        IsWriting start (F.disk folder.new) new.old.beside.now target
         (F.number new.old.file) (so_far ++ part) mode))) }
     ensures end { IfOk result (λ ended. ended ≡ true → T.rest text.new ≡ []) }
     ensures err { F.is_told → (target : List ℕ) (mode : ℕ) → WhileWriting F.disk folder.old
-        (string_bytes new.old.beside) target (F.number new.old.file) mode (λ start so_far.
+        new.old.beside.now target (F.number new.old.file) mode (λ start so_far.
         OnErr result ((some : List ℕ) × IsWriting start (F.disk folder.new)
-        (string_bytes new.old.beside) target (F.number new.old.file) some mode)) }
+        new.old.beside.now target (F.number new.old.file) some mode)) }
 {
     block.clear();
     let Ok(ended) = text.fill(block, ENOUGH) else {

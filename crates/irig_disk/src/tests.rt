@@ -45,8 +45,9 @@ fn write(
         left: bytes,
         fails_at,
     };
+    let mut name = String::new(alloc);
     let mut block = Vec::new(alloc);
-    put_text(folder, alloc, "t", "next", None, &mut text, &mut block)
+    put_text(folder, &mut name, "t", "next", None, &mut text, &mut block)
 }
 
 /// A folder with the text `old` at the name `t`.

@@ -1,9 +1,12 @@
-use Rattle.std.proofs.Common.{◌≡◌, ◌++◌, ◌∙◌, None, length, refl, ap, string_bytes}
+use Rattle.std.proofs.Common.{◌≡◌, ◌++◌, ◌∙◌, [], None, length, refl, ap}
 use Rattle.std.proofs.lemmas.Result.{IfOk-weaker, IfErr-weaker}
 use Rattle.irig_disk.specs.Put.{first_mode}
 use Rattle.irig_disk.proofs.Parts.{more_text, whole_text, more_count}
 use Rattle.irig_disk.proofs.Steps.{called, old_moments, after_giving_up, not_finished, not_taken}
 use Rattle.irig_disk.proofs.put.put_text.Goals as goal
+
+pub loop-init : goal.loop-init
+loop-init g c = (c.in_ok-new.ensures.target, c.in_ok-new.ensures.mode, ([], refl, c.in_ok-new.ensures.count, λ told. c.in_ok-new.ensures.ok told))
 
 pub loop-preserved : goal.loop-preserved
 loop-preserved g c =
@@ -24,7 +27,7 @@ returns-in-Ok-true-clause-any_moment g c told =
     let inv = c.loop.invariant in
     let done = c.in-Ok-true.ensures.ok in
     let whole = whole_text inv.2.0 done.0 _ _ _ inv.2.1 done.1 (c.in-Ok-true.ensures.end c.in-Ok-true.field-0-test) in
-    let target : string_bytes c.append_next.new.new.target ≡ c.args.target.now = c.append_next.ensures.target ∙ inv.0 in
+    let target : c.append_next.new.new.target.now ≡ c.args.target.now = c.append_next.ensures.target ∙ inv.0 in
     let mode : c.append_next.new.new.mode ≡ c.args.mode = c.append_next.ensures.mode ∙ inv.1 in
     let w = called _ _ _ _ _ _ _ _ _ _ _ c.append_next.ensures.beside target c.append_next.ensures.file (ap (first_mode g.F.Folder.usual_mode) mode)
     (done.3 told c.args.target.now _ c.args.folder.now inv.2.0 (inv.2.3 told)) in
@@ -35,7 +38,7 @@ returns-in-Ok-true-clause-ok g c told =
     let inv = c.loop.invariant in
     let done = c.in-Ok-true.ensures.ok in
     let whole = whole_text inv.2.0 done.0 _ _ _ inv.2.1 done.1 (c.in-Ok-true.ensures.end c.in-Ok-true.field-0-test) in
-    let target : string_bytes c.append_next.new.new.target ≡ c.args.target.now = c.append_next.ensures.target ∙ inv.0 in
+    let target : c.append_next.new.new.target.now ≡ c.args.target.now = c.append_next.ensures.target ∙ inv.0 in
     let mode : c.append_next.new.new.mode ≡ c.args.mode = c.append_next.ensures.mode ∙ inv.1 in
     let w = called _ _ _ _ _ _ _ _ _ _ _ c.append_next.ensures.beside target c.append_next.ensures.file (ap (first_mode g.F.Folder.usual_mode) mode)
     (done.3 told c.args.target.now _ c.args.folder.now inv.2.0 (inv.2.3 told)) in
@@ -46,7 +49,7 @@ returns-in-Ok-true-clause-err g c told =
     let inv = c.loop.invariant in
     let done = c.in-Ok-true.ensures.ok in
     let whole = whole_text inv.2.0 done.0 _ _ _ inv.2.1 done.1 (c.in-Ok-true.ensures.end c.in-Ok-true.field-0-test) in
-    let target : string_bytes c.append_next.new.new.target ≡ c.args.target.now = c.append_next.ensures.target ∙ inv.0 in
+    let target : c.append_next.new.new.target.now ≡ c.args.target.now = c.append_next.ensures.target ∙ inv.0 in
     let mode : c.append_next.new.new.mode ≡ c.args.mode = c.append_next.ensures.mode ∙ inv.1 in
     let w = called _ _ _ _ _ _ _ _ _ _ _ c.append_next.ensures.beside target c.append_next.ensures.file (ap (first_mode g.F.Folder.usual_mode) mode)
     (done.3 told c.args.target.now _ c.args.folder.now inv.2.0 (inv.2.3 told)) in
@@ -56,7 +59,7 @@ pub returns-in-Ok-true-clause-taken : goal.returns-in-Ok-true-clause-taken
 returns-in-Ok-true-clause-taken g c told is =
     let inv = c.loop.invariant in
     let done = c.in-Ok-true.ensures.ok in
-    let target : string_bytes c.append_next.new.new.target ≡ c.args.target.now = c.append_next.ensures.target ∙ inv.0 in
+    let target : c.append_next.new.new.target.now ≡ c.args.target.now = c.append_next.ensures.target ∙ inv.0 in
     let mode : c.append_next.new.new.mode ≡ c.args.mode = c.append_next.ensures.mode ∙ inv.1 in
     let w = called _ _ _ _ _ _ _ _ _ _ _ c.append_next.ensures.beside target c.append_next.ensures.file (ap (first_mode g.F.Folder.usual_mode) mode)
     (done.3 told c.args.target.now _ c.args.folder.now inv.2.0 (inv.2.3 told)) in
@@ -73,7 +76,7 @@ pub returns-in-Err-clause-any_moment : goal.returns-in-Err-clause-any_moment
 returns-in-Err-clause-any_moment g c told =
     let inv = c.loop.invariant in
     let some = c.in-Err.ensures.err told c.args.target.now _ c.args.folder.now inv.2.0 (inv.2.3 told) in
-    let target : string_bytes c.append_next.new.new.target ≡ c.args.target.now = c.append_next.ensures.target ∙ inv.0 in
+    let target : c.append_next.new.new.target.now ≡ c.args.target.now = c.append_next.ensures.target ∙ inv.0 in
     let w = called _ _ _ _ _ _ _ _ _ _ _ c.append_next.ensures.beside target c.append_next.ensures.file refl some.1 in
     old_moments _ _ c.args.target.now _ (rw target at (c.give_up.ensures.any_moment told _ c.args.folder.now _ w))
 
@@ -81,7 +84,7 @@ pub returns-in-Err-clause-err : goal.returns-in-Err-clause-err
 returns-in-Err-clause-err g c told =
     let inv = c.loop.invariant in
     let some = c.in-Err.ensures.err told c.args.target.now _ c.args.folder.now inv.2.0 (inv.2.3 told) in
-    let target : string_bytes c.append_next.new.new.target ≡ c.args.target.now = c.append_next.ensures.target ∙ inv.0 in
+    let target : c.append_next.new.new.target.now ≡ c.args.target.now = c.append_next.ensures.target ∙ inv.0 in
     let w = called _ _ _ _ _ _ _ _ _ _ _ c.append_next.ensures.beside target c.append_next.ensures.file refl some.1 in
     let same = c.give_up.ensures.ok told _ c.args.folder.now _ w in
     let but = c.give_up.ensures.err told _ c.args.folder.now _ w in

@@ -4,16 +4,12 @@ use Rattle.irig_disk.proofs.new_text.NewText.give_up.Goals as goal
 
 pub returns-clause-ok : goal.returns-clause-ok
 returns-clause-ok g c told mode start text w =
-    let removed = rw c.as_str.ensures.value at (c.remove.ensures.ok told) in
-    on_ok_weaker c.remove.result (λ did. freed _ _ _ _ _ _ (stuck _ _ _ _ _ (record { bytes = text; mode = 0 }) w.stands) did.may did) removed
+    on_ok_weaker c.remove.result (λ did. freed _ _ _ _ _ _ (stuck _ _ _ _ _ (record { bytes = text; mode = 0 }) w.stands) did.may did) (c.remove.ensures.ok told)
 
 pub returns-clause-err : goal.returns-clause-err
 returns-clause-err g c told mode start text w =
-    let not_removed = rw c.as_str.ensures.value at (c.remove.ensures.err told) in
-    on_err_weaker c.remove.result (λ did. not_freed _ _ _ _ _ _ (stuck _ _ _ _ _ (record { bytes = text; mode = 0 }) w.stands) did.may) not_removed
+    on_err_weaker c.remove.result (λ did. not_freed _ _ _ _ _ _ (stuck _ _ _ _ _ (record { bytes = text; mode = 0 }) w.stands) did.may) (c.remove.ensures.err told)
 
 pub returns-clause-any_moment : goal.returns-clause-any_moment
 returns-clause-any_moment g c told mode start text w =
-    let removed = rw c.as_str.ensures.value at (c.remove.ensures.ok told) in
-    let not_removed = rw c.as_str.ensures.value at (c.remove.ensures.err told) in
-    old_moments_of_removal _ _ _ _ _ _ c.remove.result w.stands removed not_removed (c.remove.ensures.time told)
+    old_moments_of_removal _ _ _ _ _ _ c.remove.result w.stands (c.remove.ensures.ok told) (c.remove.ensures.err told) (c.remove.ensures.time told)
