@@ -188,48 +188,38 @@ module _ (outcome : OneOutcome) where
       ∙ sym (lists k l p s n)
 
   -- a write, as it is reported
-  abbrev written : Machine → Bool → Bool → Reply
-  written m true f = told.Refused refusal.OutOfMemory
-  written m false true = told.WriteFailed
-  written m false false = told.Written (length (file_text (recording_of m.present.state)))
+  abbrev written : Machine → Bool → Reply
+  written m true = told.WriteFailed
+  written m false = told.Written (length (file_text (recording_of m.present.state)))
 
-  writes : (m : Machine) (r : Reply) → Writes m r → r ≡ written m (wants_memory r) (tells_failed_put r)
+  writes : (m : Machine) (r : Reply) → Writes m r → r ≡ written m (tells_failed_put r)
   writes m (told.Written count) h = ap told.Written h
-  writes m (told.Refused why) h = ap told.Refused h ∙ sym (ap (λ w. written m (wants_memory (told.Refused w)) false) h)
   writes m told.WriteFailed h = refl
   writes m _ h = absurd h
 
-  written_same : (v f : Bool) (o p : Machine) → grouped_in o ≡ grouped_in p → written o v f ≡ written p v f
-  written_same true f o p e = refl
-  written_same false true o p e = refl
-  written_same false false o p e = ap (λ k. written (bare k) false false) e
+  written_same : (f : Bool) (o p : Machine) → grouped_in o ≡ grouped_in p → written o f ≡ written p f
+  written_same true o p e = refl
+  written_same false o p e = ap (λ k. written (bare k) false) e
 
-  writes_one : (o p : Machine) → grouped_in o ≡ grouped_in p → (r s : Reply) → Writes o r → Writes p s
-      → wants_memory r ≡ wants_memory s → tells_failed_put r ≡ tells_failed_put s → r ≡ s
-  writes_one o p e r s h k w f =
-      writes o r h ∙ ap₂ (written o) w f ∙ written_same (wants_memory s) (tells_failed_put s) o p e ∙ sym (writes p s k)
+  writes_one : (o p : Machine) → grouped_in o ≡ grouped_in p → (r s : Reply) → Writes o r → Writes p s → tells_failed_put r ≡ tells_failed_put s → r ≡ s
+  writes_one o p e r s h k f = writes o r h ∙ ap (written o) f ∙ written_same (tells_failed_put s) o p e ∙ sym (writes p s k)
 
   -- the same of a write with the journal
-  abbrev saved : Machine → Bool → Bool → Reply
-  saved m true f = told.Refused refusal.OutOfMemory
-  saved m false true = told.WriteFailed
-  saved m false false = told.Saved (length (saved_text (machine_in m)))
+  abbrev saved : Machine → Bool → Reply
+  saved m true = told.WriteFailed
+  saved m false = told.Saved (length (saved_text (machine_in m)))
 
-  saves : (m : Machine) (r : Reply) → Saves m r → r ≡ saved m (wants_memory r) (tells_failed_put r)
+  saves : (m : Machine) (r : Reply) → Saves m r → r ≡ saved m (tells_failed_put r)
   saves m (told.Saved count) h = ap told.Saved h
-  saves m (told.Refused why) h = ap told.Refused h ∙ sym (ap (λ w. saved m (wants_memory (told.Refused w)) false) h)
   saves m told.WriteFailed h = refl
   saves m _ h = absurd h
 
-  saved_same : (v f : Bool) (o p : Machine) → grouped_in o ≡ grouped_in p → saved o v f ≡ saved p v f
-  saved_same true f o p e = refl
-  saved_same false true o p e = refl
-  saved_same false false o p e = ap (λ k. saved (bare k) false false) e
+  saved_same : (f : Bool) (o p : Machine) → grouped_in o ≡ grouped_in p → saved o f ≡ saved p f
+  saved_same true o p e = refl
+  saved_same false o p e = ap (λ k. saved (bare k) false) e
 
-  saves_one : (o p : Machine) → grouped_in o ≡ grouped_in p → (r s : Reply) → Saves o r → Saves p s
-      → wants_memory r ≡ wants_memory s → tells_failed_put r ≡ tells_failed_put s → r ≡ s
-  saves_one o p e r s h k w f =
-      saves o r h ∙ ap₂ (saved o) w f ∙ saved_same (wants_memory s) (tells_failed_put s) o p e ∙ sym (saves p s k)
+  saves_one : (o p : Machine) → grouped_in o ≡ grouped_in p → (r s : Reply) → Saves o r → Saves p s → tells_failed_put r ≡ tells_failed_put s → r ≡ s
+  saves_one o p e r s h k f = saves o r h ∙ ap (saved o) f ∙ saved_same (tells_failed_put s) o p e ∙ sym (saves p s k)
 
   stays : (o p a b : Machine) → grouped_in o ≡ grouped_in p → a ≡ o → b ≡ p → grouped_in a ≡ grouped_in b
   stays o p a b e h k = ap grouped_in h ∙ e ∙ sym (ap grouped_in k)
@@ -274,6 +264,6 @@ module _ (outcome : OneOutcome) where
   obeys_one command.Frames o p e r s a b h k w f = (h.0 ∙ sym k.0, stays o p a b e h.1 k.1)
   obeys_one command.Marks o p e r s a b h k w f = (h.0 ∙ sym k.0, stays o p a b e h.1 k.1)
   obeys_one command.Info o p e r s a b h k w f = (h.0 ∙ sym k.0, stays o p a b e h.1 k.1)
-  obeys_one command.Write o p e r s a b h k w f = (writes_one o p e r s h.0 k.0 w f, stays o p a b e h.1 k.1)
-  obeys_one command.Save o p e r s a b h k w f = (saves_one o p e r s h.0 k.0 w f, stays o p a b e h.1 k.1)
+  obeys_one command.Write o p e r s a b h k w f = (writes_one o p e r s h.0 k.0 f, stays o p a b e h.1 k.1)
+  obeys_one command.Save o p e r s a b h k w f = (saves_one o p e r s h.0 k.0 f, stays o p a b e h.1 k.1)
   obeys_one command.Quit o p e r s a b h k w f = absurd h

@@ -25,17 +25,15 @@ Calls call old _ new = ⊥
 abbrev pub Makes : Edit → Machine → Reply → Machine → Type 0
 Makes edit old reply new = Calls (Call.Make edit) old reply new
 
--- the text was written and its bytes are reported, or memory ran out, or the shelf failed
+-- the text was written and its bytes are reported, or the shelf failed
 abbrev pub Writes : Machine → Reply → Type 0
 Writes m (Written count) = count ≡ length (file_text (recording_of m.present.state))
-Writes m (Refused why) = why ≡ refusal.OutOfMemory
 Writes m WriteFailed = Unit {0}
 Writes m _ = ⊥
 
 -- the same of the text with the journal
 abbrev pub Saves : Machine → Reply → Type 0
 Saves m (Saved count) = count ≡ length (saved_text (machine_in m))
-Saves m (Refused why) = why ≡ refusal.OutOfMemory
 Saves m WriteFailed = Unit {0}
 Saves m _ = ⊥
 

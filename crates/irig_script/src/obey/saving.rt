@@ -7,19 +7,15 @@ ghost use Rattle.irig_script.specs.Shelf.Shelved.{Puts};
 
 use crate::print::reply::Reply;
 use crate::shelf::shelf::Shelf;
-use irig_edit::{Refusal, Session};
-use irig_text::Bytes;
+use irig_edit::Session;
 
-/// Writes the text of the track with its journal.
+/// Writes the text of the track with its journal. It takes no memory.
 pub fn save<S: Shelf>(session: &Session, shelf: &mut S) -> Reply
     ensures answer { Saves session.now result }
     ensures put { Puts (S.known shelf.old) (S.known shelf.new)
         (texts_put session.now result) (failures_of result) }
 {
-    let Ok(text) = session.saved() else {
-        return Reply::Refused(Refusal::OutOfMemory);
-    };
-    match shelf.put(&mut Bytes::new(text.as_slice())) {
+    match shelf.put(&mut session.saved_parts()) {
         Ok(count) => Reply::Saved(count),
         Err(_) => Reply::WriteFailed,
     }

@@ -7,19 +7,15 @@ ghost use Rattle.irig_script.specs.Shelf.Shelved.{Puts};
 
 use crate::print::reply::Reply;
 use crate::shelf::shelf::Shelf;
-use irig_edit::{Refusal, Session};
-use irig_text::Bytes;
+use irig_edit::Session;
 
-/// Writes the text of the track.
+/// Writes the text of the track. It takes no memory.
 pub fn write<S: Shelf>(session: &Session, shelf: &mut S) -> Reply
     ensures answer { Writes session.now result }
     ensures put { Puts (S.known shelf.old) (S.known shelf.new)
         (texts_put session.now result) (failures_of result) }
 {
-    let Ok(text) = session.text() else {
-        return Reply::Refused(Refusal::OutOfMemory);
-    };
-    match shelf.put(&mut Bytes::new(text.as_slice())) {
+    match shelf.put(&mut session.text_parts()) {
         Ok(count) => Reply::Written(count),
         Err(_) => Reply::WriteFailed,
     }
