@@ -11,7 +11,7 @@ use Rattle.irig_edit.specs.State.{recording_of}
 
 -- a section after a body: lines, of which two count those after them, between the words that open it and those that shut it
 pub section : (body opens shuts p f : List ℕ) (hs ps fs : List (List ℕ))
-    → body ++ ((opens ++ (text_of hs ++ (p ++ 10 ∷ []))) ++ (text_of ps ++ ((f ++ 10 ∷ []) ++ (text_of fs ++ shuts))))
+    → ((((body ++ ((opens ++ text_of hs) ++ (p ++ 10 ∷ []))) ++ text_of ps) ++ (f ++ 10 ∷ [])) ++ text_of fs) ++ shuts
     ≡ body ++ (opens ++ (text_of (hs ++ ((p ∷ ps) ++ (f ∷ fs))) ++ shuts))
 section body opens shuts p f hs ps fs = simp (append_assoc, text_of_append) refl
 
