@@ -3,7 +3,7 @@
 use super::helpers::track_of;
 use irig_text::Text;
 use irig_track::TrackText;
-use std::alloc::AllocError;
+use std::alloc::{AllocError, Global};
 use std::process::Abort;
 use std::test::Fail;
 
@@ -31,40 +31,37 @@ static PARTS: [(usize, &[usize]); 8] = [
 
 /// Takes a part of a text, and returns whether it is these lines.
 fn is_part(
+    alloc: Global,
     text: &mut TrackText<'_>,
-    block: &mut Vec<u8>,
     enough: usize,
     lines: &[&[u8]],
 ) -> Result<bool, AllocError> {
-    let mut from = 0;
-    block.clear();
-    text.fill(block, enough)?;
+    let mut want = Vec::new(alloc);
     for line in lines {
-        if !block.as_slice()[from..].starts_with(line) {
-            return Ok(false);
-        }
-        from += line.len();
+        want.extend_from_slice(line)?;
     }
-    Ok(from == block.len())
+    let mut block = Vec::new(alloc);
+    text.fill(&mut block, enough)?;
+    Ok(block.as_slice() == want.as_slice())
 }
 
 /// Takes each part of a text, and compares it with its lines. After the last the text has ended.
 fn check(
     rt: &impl Abort,
+    alloc: Global,
     text: &mut TrackText<'_>,
-    block: &mut Vec<u8>,
     enough: usize,
     parts: &[usize],
 ) -> Result<(), AllocError> {
-    let mut lines = &LINES[..];
+    let mut from = 0;
     for count in parts {
-        let (part, left) = lines.split_at((*count).min(lines.len()));
-        assert!(rt; is_part(text, block, enough, part)?);
-        lines = left;
+        let to = usize::saturating_add(from, *count);
+        let lines = LINES.get(from..to).expect(rt, "lines");
+        assert!(rt; is_part(alloc, text, enough, lines)?);
+        from = to;
     }
-    assert!(rt; lines.is_empty());
-    assert!(rt; text.fill(block, enough)?);
-    assert!(rt; is_part(text, block, enough, lines)?);
+    assert_eq!(rt; from, LINES.len());
+    assert!(rt; is_part(alloc, text, enough, &[])?);
     Ok(())
 }
 
@@ -72,9 +69,8 @@ fn check(
 fn a_text_comes_in_parts(rt: HostRuntime) -> Result<(), Fail> {
     let edges = [0, 120, 200, 280].to_vec(rt.alloc())?;
     let track = track_of(rt.alloc(), 1000, edges)?.expect(&rt, "a track");
-    let mut block = Vec::new(rt.alloc());
     for (enough, parts) in PARTS.iter() {
-        check(&rt, &mut track.text_parts(), &mut block, *enough, parts)?;
+        check(&rt, rt.alloc(), &mut track.text_parts(), *enough, parts)?;
     }
     Ok(())
 }
