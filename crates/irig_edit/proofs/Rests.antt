@@ -1,6 +1,5 @@
 -- Texts in a row, given part by part: what was given, with what is left.
-use Rattle.std.proofs.Common.{◌≡◌, ◌≤◌, ◌++◌, ◌+◌, ℕ, suc, zero, List, [], ◌∷◌, Result, Ok, Err, OnOk, Some, ap, drop, length, map, refl, slice_get, subst, sym, ◌∙◌, append_assoc}
-use Rattle.std.specs.Prelude.{IfOk}
+use Rattle.std.proofs.Common.{◌≡◌, ◌≤◌, ◌++◌, ◌+◌, ℕ, suc, zero, List, [], ◌∷◌, Some, ap, drop, length, map, refl, slice_get, subst, sym, ◌∙◌, append_assoc}
 use Rattle.std.specs.List.{AllByRecursion}
 use Rattle.std.proofs.lemmas.List.{at_drop_all}
 use Rattle.irig_index.proofs.PulseLemmas.{drop-item}
@@ -42,14 +41,6 @@ line_first old new l ls put = rw put (simp append_assoc refl)
 pub pulses-end : (ps : List Pulse) (n : ℕ) → length ps ≤ n → text_of (pulse_lines (drop n ps)) ≡ []
 pulses-end ps n h = at_drop_all (λ xs. text_of (pulse_lines xs)) ps n h
 
--- nor after the last change
-pub changes-end : (xs : List Single) (n : ℕ) → length xs ≤ n → changes_text (drop n xs) ≡ []
-changes-end xs n h = at_drop_all (λ ys. changes_text ys) xs n h
-
--- nor after the last step
-pub steps-end : (xs : List (Step Delta)) (n : ℕ) → length xs ≤ n → steps_text (drop n xs) ≡ []
-steps-end xs n h = at_drop_all (λ ys. steps_text ys) xs n h
-
 -- the lines of a pulse, and those after it
 pub pulses-next : (ps : List Pulse) (i : ℕ) (p : Pulse) → slice_get ps i ≡ Some p
     → text_of (pulse_lines (drop i ps)) ≡ text_of (pulse_line p ∷ pulse_lines (drop (i + 1) ps))
@@ -77,13 +68,3 @@ module _ {X : Type 0} where
   all_at P [] (suc i) x all there = absurd (cc)
   all_at P (y ∷ xs) zero x all there = let same : y ≡ x = cc in subst P same all.0
   all_at P (y ∷ xs) (suc i) x all there = all_at P xs i x all.1 there
-
--- what holds on success, said otherwise
-pub on_ok : {A E P Q : Type 0} (r : Result A E) → (P → Q) → OnOk r P → OnOk r Q
-on_ok (Ok x) f h = f h
-on_ok (Err e) f h = tt
-
--- what holds of a value, said otherwise
-pub if_ok : {A E : Type 0} (P Q : A → Type 0) (r : Result A E) → ((x : A) → P x → Q x) → IfOk r P → IfOk r Q
-if_ok P Q (Ok x) f h = f x h
-if_ok P Q (Err e) f h = tt

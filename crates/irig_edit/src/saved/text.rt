@@ -62,8 +62,8 @@ impl<'s> SavedText<'s> {
         }
     }
 
-    /// Adds what is next at the present stage, if the block has fewer than `enough` bytes. Goes to
-    /// the next stage if that has ended.
+    /// Adds what is next at the present stage until the block has `enough` bytes. If the stage ends
+    /// before that, goes to the next one.
     fn go_on(&mut self, block: &mut Vec<u8>, enough: usize) -> Result<(), AllocError>
         ensures { OnOk result (block.new.items ++ self.new ≡ block.old.items ++ self.old) }
     {

@@ -1,16 +1,15 @@
-use Rattle.std.proofs.Common.{◌≡◌, ◌++◌, ℕ, List, [], ◌∷◌, codes, decimal, length, map, reverse, ap, ap₂, sym, ◌∙◌, append_assoc}
+use Rattle.std.proofs.Common.{◌≡◌, ◌++◌, ℕ, List, [], ◌∷◌, codes, length, map, reverse, ap, ap₂, sym, ◌∙◌, append_assoc}
 use Rattle.std.proofs.lemmas.List.{length-map, length-reverse}
-use Rattle.irig_codes.specs.Words.{kind_word}
 use Rattle.irig_journal.specs.Journal.{future_of, past_of}
-use Rattle.irig_saved.specs.Lines.{line, numbered, text_of}
-use Rattle.irig_saved.specs.SavedText.{counted_lines, mark_lines, saved_lines, steps_lines}
+use Rattle.irig_saved.specs.Lines.{numbered, text_of}
+use Rattle.irig_saved.specs.SavedText.{counted_lines, steps_lines}
 use Rattle.irig_saved.specs.declared.step.Step.{Step}
 use Rattle.irig_vcd.specs.FileText.{file_text}
 use Rattle.irig_edit.specs.Held.{delta_of}
 use Rattle.irig_edit.specs.Keeping.{machine_at}
 use Rattle.irig_edit.specs.Saved.{saved_step}
 use Rattle.irig_edit.specs.SavedParts.{present_lines}
-use Rattle.irig_edit.specs.SavedSession.{saved_of, saved_text, steps_back, steps_on}
+use Rattle.irig_edit.specs.SavedSession.{saved_text, steps_back, steps_on}
 use Rattle.irig_edit.specs.Session.{SessionView, machine_in}
 use Rattle.irig_edit.specs.State.{recording_of}
 use Rattle.irig_edit.proofs.SavedSteps.{named_reversed, steps_back-kept, steps_named, steps_on-kept}

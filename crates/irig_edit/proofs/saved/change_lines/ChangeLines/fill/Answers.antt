@@ -7,7 +7,6 @@ use Rattle.irig_saved.specs.SavedText.{pulse_lines, put_of, single_lines}
 use Rattle.irig_edit.specs.Held.{single_of}
 use Rattle.irig_edit.specs.Saved.{CanBeNamed, saved_single}
 use Rattle.irig_edit.specs.SavedParts.{changes_text}
-use Rattle.irig_edit.specs.declared.single.Single.{Single}
 use Rattle.irig_edit.proofs.Rests.{all_at, begun, changes-next, line_first}
 use Rattle.irig_edit.proofs.saved.change_lines.ChangeLines.fill.Goals as goal
 

@@ -1,4 +1,4 @@
-use Rattle.std.proofs.Common.{◌≡◌, ◌++◌, ◌+◌, ◌≤◌, ◌∷◌, [], ℕ, List, Option, length, ap, drop, refl, subst, sym, ◌∙◌, arith}
+use Rattle.std.proofs.Common.{◌++◌, ◌+◌, ℕ, List, Option, ap, drop, sym, ◌∙◌, arith}
 use Rattle.std.specs.Borrow.{Bor}
 use Rattle.irig_gap.specs.Items.{GapView}
 use Rattle.irig_saved.specs.SavedText.{pulse_line, pulse_lines}
@@ -23,7 +23,8 @@ loop-place-preserved c =
     let known = c.loop-place.invariant.known in
     record {
       given = ap (λ (t : List ℕ). c.put_pulse.new.text.items ++ t) (known (place + 1))
-          ∙ (line_first c.loop-place.block.items c.put_pulse.new.text.items (pulse_line c.get.result) (pulse_lines (drop (place + 1) pulses)) c.in_ok-put_pulse.ensures
+          ∙ (line_first c.loop-place.block.items c.put_pulse.new.text.items (pulse_line c.get.result) (pulse_lines (drop (place + 1) pulses))
+          c.in_ok-put_pulse.ensures
           ∙ (ap (λ (t : List ℕ). c.loop-place.block.items ++ t) (sym (known place ∙ pulses-next pulses place c.get.result c.get.ensures))
           ∙ c.loop-place.invariant.given));
       known = known;

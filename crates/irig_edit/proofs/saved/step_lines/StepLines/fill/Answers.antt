@@ -1,4 +1,4 @@
-use Rattle.std.proofs.Common.{◌++◌, ◌+◌, drop, ◌∙◌}
+use Rattle.std.proofs.Common.{◌+◌, drop, ◌∙◌}
 use Rattle.irig_journal.specs.History.{step}
 use Rattle.irig_saved.specs.Lines.{text_of}
 use Rattle.irig_saved.specs.SavedText.{step_lines}
