@@ -9,6 +9,7 @@ mod leaving;
 mod looks;
 mod machine;
 mod opening;
+mod parts;
 mod plain;
 mod refusing;
 mod saving;
