@@ -11,7 +11,6 @@ use crate::fault::{PutFault, fault_after};
 use crate::folder::Folder;
 use crate::kept::Kept;
 use std::alloc::AllocError;
-use std::fmt::Write;
 
 /// How many names are tried for a new file. Other runs may hold that many, or have left them.
 const NAMES: u32 = 10_000;

@@ -10,8 +10,8 @@ use crate::ending::Ending;
 use crate::files::disk::Disk;
 use crate::files::dump_file::DumpFileFault;
 use crate::files::file_shelf::FileShelf;
+use crate::files::room::Room;
 use irig_script::{DumpRunFault, Status, run_on_dump};
-use irig_text::new_block;
 use std::alloc::Global;
 use std::io::{Read, Write};
 
@@ -36,8 +36,8 @@ pub fn obey_words<'a, D: Disk, R: Read, W: Write>(
     }
 }
 
-/// Runs a script on the dump of the settings. The block for its writes is made before the dump is
-/// read, so no write has to ask for one.
+/// Runs a script on the dump of the settings. The memory of its writes is taken before the dump is
+/// read.
 fn run_on_track<'a, D: Disk, R: Read, W: Write>(
     alloc: Global,
     chosen: &Settings<'a>,
@@ -50,25 +50,25 @@ fn run_on_track<'a, D: Disk, R: Read, W: Write>(
         (ends (W.contents out.new) (D.puts disk.new) (R.remaining script.new))
         chosen.now result }
 {
-    let Ok(block) = new_block(alloc) else {
+    let Ok(room) = Room::new(alloc) else {
         return Ending::Unread(chosen.track, DumpFileFault::OutOfMemory);
     };
     match disk.read(chosen.track) {
         Ok(source) => {
-            let result = run_on_bytes(alloc, chosen, source, block, disk, script, out);
+            let result = run_on_bytes(alloc, chosen, source, room, disk, script, out);
             Ending::Ran(chosen.track, result)
         }
         Err(fault) => Ending::Unread(chosen.track, fault),
     }
 }
 
-/// Runs a script on the bytes of a dump, by the wire, the format and the path of the settings. The
-/// parts of a text that is written wait in the block.
+/// Runs a script on the bytes of a dump, by the wire, the format and the path of the settings. Each
+/// write uses the room.
 fn run_on_bytes<D: Disk, R: Read, W: Write>(
     alloc: Global,
     chosen: &Settings<'_>,
     source: Vec<u8>,
-    block: Vec<u8>,
+    room: Room,
     disk: &mut D,
     script: &mut R,
     out: &mut W,
@@ -79,7 +79,7 @@ fn run_on_bytes<D: Disk, R: Read, W: Write>(
         (ends (W.contents out.new) (D.puts disk.new) (R.remaining script.new)) result }
 {
     let wire = wire_of(chosen);
-    let mut shelf = FileShelf::new(disk, chosen.out, block);
+    let mut shelf = FileShelf::new(disk, chosen.out, room);
     run_on_dump(alloc, source, wire, chosen.format, script, out, &mut shelf)
 }
 

@@ -6,6 +6,7 @@ ghost use Rattle.irig_ed.specs.Files.Keeps.{Keeps};
 ghost use Rattle.irig_ed.specs.Files.Puts.{Put, count_of, kept, not_kept};
 
 use crate::files::dump_file::DumpFileFault;
+use crate::files::room::Room;
 use crate::files::written::Written;
 use irig_script::ShelfFault;
 use irig_text::Text;
@@ -34,12 +35,12 @@ pub trait Disk {
 
     /// Writes a text to the file at a path. A fault leaves the file as it was; only if the names of
     /// its folder could not be kept does it hold the text, and a crash can bring the old one back.
-    /// The parts of the text wait in the block, and what it holds before is lost.
+    /// What the room holds before is lost.
     fn put<T: Text>(
         &mut self,
         path: &str,
         text: &mut T,
-        block: &mut Vec<u8>,
+        room: &mut Room,
     ) -> Result<Written, ShelfFault>
         ensures count { IfOk result (λ written. count_of written ≡ length (T.rest text.old)) }
         ensures ok { OnOk result

@@ -5,6 +5,7 @@ ghost use Rattle.irig_script.specs.Shelf.Shelved.{shelved};
 ghost use Rattle.irig_ed.specs.Files.Puts.{texts_at};
 
 use crate::files::disk::Disk;
+use crate::files::room::Room;
 use irig_script::{Shelf, ShelfFault};
 use irig_text::Text;
 
@@ -13,14 +14,14 @@ use irig_text::Text;
 pub struct FileShelf<'d, 'p, D: Disk> {
     disk: &'d mut D,
     path: &'p str,
-    block: Vec<u8>,
+    room: Room,
     failures: u64,
 }
 
 impl<'d, 'p, D: Disk> FileShelf<'d, 'p, D> {
-    /// The shelf of the file at a path, which does not have to be there. The parts of a text wait in
-    /// the block.
-    pub fn new(disk: &'d mut D, path: &'p str, block: Vec<u8>) -> FileShelf<'d, 'p, D>
+    /// The shelf of the file at a path, which does not have to be there. Each write uses the
+    /// room.
+    pub fn new(disk: &'d mut D, path: &'p str, room: Room) -> FileShelf<'d, 'p, D>
         ensures same_disk { result.disk.ghost_name ≡ disk.entry.ghost_name }
         ensures disk { result.disk.now ≡ disk.old }
         ensures path { result.path.now ≡ path.now }
@@ -29,7 +30,7 @@ impl<'d, 'p, D: Disk> FileShelf<'d, 'p, D> {
         FileShelf {
             disk,
             path,
-            block,
+            room,
             failures: 0,
         }
     }
@@ -40,7 +41,7 @@ impl<'d, 'p, D: Disk> Shelf for FileShelf<'d, 'p, D> {
         (s.disk.ghost_name ∷ s.path.now) };
 
     fn put<T: Text>(&mut self, text: &mut T) -> Result<u64, ShelfFault> {
-        match self.disk.put(self.path, text, &mut self.block) {
+        match self.disk.put(self.path, text, &mut self.room) {
             Ok(written) => Ok(written.count()),
             Err(fault) => {
                 self.failures = self.failures.saturating_add(1);

@@ -4,6 +4,7 @@ ghost use Rattle.std.specs.Prelude.{◌≡◌, length, Ok, IfOk, OnErr, IsErr};
 ghost use Rattle.irig_ed.specs.Files.Puts.{count_of};
 
 use crate::files::in_place::write_in_place;
+use crate::files::room::Room;
 use crate::files::whole::write_whole;
 use crate::files::written::Written;
 use irig_disk::SystemFolder;
@@ -30,19 +31,18 @@ fn or_shelf_fault<T: Drop, E: Drop>(outcome: Result<T, E>) -> Result<T, ShelfFau
     }
 }
 
-/// Writes a text to a file: a regular one, or none yet, is replaced; any other is written. The
-/// parts of the text wait in the block.
+/// Writes a text to a file: a regular one, or none yet, is replaced; any other is written.
 pub fn put_file<R: Files + Print + AllocGlobal, T: Text>(
     rt: &R,
     path: &str,
     text: &mut T,
-    block: &mut Vec<u8>,
+    room: &mut Room,
 ) -> Result<Written, ShelfFault>
     ensures { IfOk result (λ written. count_of written ≡ length (T.rest text.old)) }
 {
     match fs::metadata(rt, path) {
-        Ok(old) => put_over(rt, path, &old, text, block),
-        Err(e) if e.kind() == ErrorKind::NotFound => replace(rt, path, false, text, block),
+        Ok(old) => put_over(rt, path, &old, text, room),
+        Err(e) if e.kind() == ErrorKind::NotFound => replace(rt, path, false, text, room),
         Err(_) => Err(ShelfFault),
     }
 }
@@ -53,17 +53,17 @@ fn put_over<R: Files + Print + AllocGlobal, T: Text>(
     path: &str,
     old: &Metadata,
     text: &mut T,
-    block: &mut Vec<u8>,
+    room: &mut Room,
 ) -> Result<Written, ShelfFault>
     ensures { IfOk result (λ written. count_of written ≡ length (T.rest text.old)) }
 {
     if is_standard_output(rt, old) {
-        in_place(&mut io::writer(rt), text, block)
+        in_place(&mut io::writer(rt), text, &mut room.block)
     } else if old.is_file() {
-        replace(rt, path, true, text, block)
+        replace(rt, path, true, text, room)
     } else {
         let mut file = open_to_write(rt, path)?;
-        in_place(&mut file, text, block)
+        in_place(&mut file, text, &mut room.block)
     }
 }
 
@@ -105,34 +105,38 @@ fn replace<R: Files + AllocGlobal, T: Text>(
     path: &str,
     is_there: bool,
     text: &mut T,
-    block: &mut Vec<u8>,
+    room: &mut Room,
 ) -> Result<Written, ShelfFault>
     ensures { IfOk result (λ written. count_of written ≡ length (T.rest text.old)) }
 {
-    let target = follow_links(rt, path)?;
-    let target = target.as_str();
+    follow_links(rt, path, &mut room.target)?;
     if is_there {
-        let old = writable(rt, target)?;
-        replace_target(rt, target, Some(old.permissions().mode()), text, block)
+        let old = writable(rt, room.target.as_str())?;
+        replace_target(rt, Some(old.permissions().mode()), text, room)
     } else {
-        replace_target(rt, target, None, text, block)
+        replace_target(rt, None, text, room)
     }
 }
 
-/// The path that a chain of symbolic links leads to.
-fn follow_links<R: Files + AllocGlobal>(rt: &R, path: &str) -> Result<PathBuf, ShelfFault> {
-    let mut target = or_shelf_fault(PathBuf::from_str(rt.alloc(), path))?;
+/// Follows the chain of symbolic links from a path, and leaves in `target` where it leads.
+fn follow_links<R: Files + AllocGlobal>(
+    rt: &R,
+    path: &str,
+    target: &mut PathBuf,
+) -> Result<(), ShelfFault> {
+    target.clear();
+    or_shelf_fault(target.push(path))?;
     for _ in 0..LINKS {
-        match follow_link(rt, &mut target) {
+        match follow_link(rt, target) {
             Ok(true) => {}
-            Ok(false) => return Ok(target),
+            Ok(false) => return Ok(()),
             Err(fault) => return Err(fault),
         }
     }
     Err(ShelfFault)
 }
 
-/// Follows a symbolic link, and returns whether there was one.
+/// Follows a symbolic link, and returns whether there was one. Only the text of a link takes memory.
 fn follow_link<R: Files + AllocGlobal>(rt: &R, target: &mut PathBuf) -> Result<bool, ShelfFault> {
     let next = match fs::read_link(rt, target.as_str()) {
         Ok(next) => next,
@@ -155,20 +159,20 @@ fn writable<R: Files>(rt: &R, target: &str) -> Result<Metadata, ShelfFault> {
 
 /// Replaces the regular file at the target, or none, by a new one that takes the mode, if one is
 /// given. The folder is opened first: without a sync of it nothing can be kept.
-fn replace_target<R: Files + AllocGlobal, T: Text>(
+fn replace_target<R: Files, T: Text>(
     rt: &R,
-    target: &str,
     mode: Option<u32>,
     text: &mut T,
-    block: &mut Vec<u8>,
+    room: &mut Room,
 ) -> Result<Written, ShelfFault>
     ensures { IfOk result (λ written. count_of written ≡ length (T.rest text.old)) }
 {
-    let stem = stem_beside(rt, target)?;
+    let target = room.target.as_str();
+    put_stem(target, &mut room.name, &mut room.stem)?;
     let folder = or_shelf_fault(fs::open(rt, folder_of(target)))?;
     let mut names = SystemFolder::new(rt, folder);
-    let stem = stem.as_str();
-    match write_whole(&mut names, rt.alloc(), target, stem, mode, text, block) {
+    let (stem, name) = (room.stem.as_str(), &mut room.name);
+    match write_whole(&mut names, name, target, stem, mode, text, &mut room.block) {
         Ok(kept) => Ok(Written::Whole(kept)),
         Err(fault) => Err(fault),
     }
@@ -176,15 +180,17 @@ fn replace_target<R: Files + AllocGlobal, T: Text>(
 
 /// The names of new files but for their numbers: that of the target, hidden and marked, in its
 /// folder.
-fn stem_beside<R: AllocGlobal>(rt: &R, target: &str) -> Result<PathBuf, ShelfFault> {
-    let target = Path::new(target);
-    let Some(name) = target.file_name() else {
+fn put_stem(target: &str, marked: &mut String, stem: &mut PathBuf) -> Result<(), ShelfFault> {
+    let Some(name) = Path::new(target).file_name() else {
         return Err(ShelfFault);
     };
     // a folder takes no name of more than 255 bytes
     let kept = if name.len() <= 200 { name } else { "" };
-    let marked = or_shelf_fault(format!(in rt.alloc(); ".{kept}.irig_ed-new-"))?;
-    or_shelf_fault(target.with_file_name(rt.alloc(), marked.as_str()))
+    marked.clear();
+    or_shelf_fault(write!(marked, ".{kept}.irig_ed-new-"))?;
+    stem.clear();
+    or_shelf_fault(stem.push(target))?;
+    or_shelf_fault(stem.set_file_name(marked.as_str()))
 }
 
 /// The folder of a path.

@@ -5,6 +5,7 @@ ghost use Rattle.std.specs.Prelude.{None};
 use crate::files::disk::Disk;
 use crate::files::dump_file::{DumpFileFault, read_dump};
 use crate::files::put_file::put_file;
+use crate::files::room::Room;
 use crate::files::written::Written;
 use irig_script::ShelfFault;
 use irig_text::Text;
@@ -42,8 +43,8 @@ impl<R: Files + Print + AllocGlobal> Disk for System<'_, R> {
         &mut self,
         path: &str,
         text: &mut T,
-        block: &mut Vec<u8>,
+        room: &mut Room,
     ) -> Result<Written, ShelfFault> {
-        put_file(self.runtime, path, text, block)
+        put_file(self.runtime, path, text, room)
     }
 }

@@ -7,14 +7,13 @@ ghost use Rattle.irig_disk.specs.Put.{OldOrNewIfThere, IsKept, IsPut, SeenSameIf
 use irig_disk::{Folder, Kept, put_text};
 use irig_script::ShelfFault;
 use irig_text::Text;
-use std::alloc::Global;
 
 /// Writes a text to the target in a folder, by a new file that has the stem and a number as its
-/// name until it takes the target's. It takes the mode, if one is given. The parts of the text wait
-/// in the block.
+/// name until it takes the target's. It takes the mode, if one is given. That name is written to
+/// `name`, and the parts of the text wait in the block.
 pub fn write_whole<F: Folder, T: Text>(
     folder: &mut F,
-    alloc: Global,
+    name: &mut String,
     target: &str,
     stem: &str,
     mode: Option<u32>,
@@ -35,7 +34,7 @@ pub fn write_whole<F: Folder, T: Text>(
         (held F.usual_mode mode (T.rest text.old))) }
     ensures count { IfOk result (λ kept. kept.count ≡ length (T.rest text.old)) }
 {
-    match put_text(folder, alloc, target, stem, mode, text, block) {
+    match put_text(folder, name, target, stem, mode, text, block) {
         Ok(kept) => Ok(kept),
         Err(_) => Err(ShelfFault),
     }
