@@ -50,12 +50,12 @@ fn run_on_track<'a, D: Disk, R: Read, W: Write>(
         (ends (W.contents out.new) (D.puts disk.new) (R.remaining script.new))
         chosen.now result }
 {
-    let Ok(room) = Room::new(alloc) else {
+    let Ok(mut room) = Room::new(alloc) else {
         return Ending::Unread(chosen.track, DumpFileFault::OutOfMemory);
     };
     match disk.read(chosen.track) {
         Ok(source) => {
-            let result = run_on_bytes(alloc, chosen, source, room, disk, script, out);
+            let result = run_on_bytes(alloc, chosen, source, &mut room, disk, script, out);
             Ending::Ran(chosen.track, result)
         }
         Err(fault) => Ending::Unread(chosen.track, fault),
@@ -68,7 +68,7 @@ fn run_on_bytes<D: Disk, R: Read, W: Write>(
     alloc: Global,
     chosen: &Settings<'_>,
     source: Vec<u8>,
-    room: Room,
+    room: &mut Room,
     disk: &mut D,
     script: &mut R,
     out: &mut W,

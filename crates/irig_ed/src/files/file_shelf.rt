@@ -14,14 +14,18 @@ use irig_text::Text;
 pub struct FileShelf<'d, 'p, D: Disk> {
     disk: &'d mut D,
     path: &'p str,
-    room: Room,
+    room: &'d mut Room,
     failures: u64,
 }
 
 impl<'d, 'p, D: Disk> FileShelf<'d, 'p, D> {
     /// The shelf of the file at a path, which does not have to be there. Each write uses the
     /// room.
-    pub fn new(disk: &'d mut D, path: &'p str, room: Room) -> FileShelf<'d, 'p, D>
+    pub fn new(
+        disk: &'d mut D,
+        path: &'p str,
+        room: &'d mut Room,
+    ) -> FileShelf<'d, 'p, D>
         ensures same_disk { result.disk.ghost_name ≡ disk.entry.ghost_name }
         ensures disk { result.disk.now ≡ disk.old }
         ensures path { result.path.now ≡ path.now }
@@ -41,7 +45,7 @@ impl<'d, 'p, D: Disk> Shelf for FileShelf<'d, 'p, D> {
         (s.disk.ghost_name ∷ s.path.now) };
 
     fn put<T: Text>(&mut self, text: &mut T) -> Result<u64, ShelfFault> {
-        match self.disk.put(self.path, text, &mut self.room) {
+        match self.disk.put(self.path, text, self.room) {
             Ok(written) => Ok(written.count()),
             Err(fault) => {
                 self.failures = self.failures.saturating_add(1);

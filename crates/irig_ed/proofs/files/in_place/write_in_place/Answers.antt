@@ -1,12 +1,11 @@
-use Rattle.std.proofs.Common.{[], ◌++◌, ◌∙◌, ap, length, refl, subst, List, ℕ}
-use Rattle.std.specs.Io.KnownBytes.{Appends}
+use Rattle.std.proofs.Common.{[], ◌++◌, ◌∙◌, ap, length, refl}
 use Rattle.irig_disk.proofs.Parts.{more_text, whole_text, more_count}
 use Rattle.irig_script.proofs.Known.{appends-appends}
 use Rattle.irig_ed.proofs.Blocks.{appends_none}
 use Rattle.irig_ed.proofs.files.in_place.write_in_place.Goals as goal
 
-pub loop-starts : goal.loop-starts
-loop-starts g c = ([], refl, refl, appends_none _)
+pub loop-init : goal.loop-init
+loop-init g c = ([], refl, refl, appends_none _)
 
 pub loop-preserved : goal.loop-preserved
 loop-preserved g c =
@@ -19,7 +18,7 @@ returns-then-branch-clause-appended g c =
     let inv = c.loop.invariant in
     let done = c.in_ok-write_next.ensures.ok in
     let whole = whole_text inv.0 done.0 _ _ _ inv.1 done.1 (c.in_ok-write_next.ensures.end c.if-branch.true) in
-    subst (λ (l : List ℕ). Appends _ _ l) whole (appends-appends _ _ _ inv.0 done.0 inv.3 done.3)
+    rw whole at (appends-appends _ _ _ inv.0 done.0 inv.3 done.3)
 
 pub returns-then-branch-clause-count : goal.returns-then-branch-clause-count
 returns-then-branch-clause-count g c =
