@@ -1,6 +1,6 @@
 //! The lines of a step's changes, in parts.
 
-ghost use Rattle.std.specs.Prelude.{◌≡◌, ◌++◌, ◌∷◌, [], IfOk, OnOk, map, true};
+ghost use Rattle.std.specs.Prelude.{◌≡◌, ◌≤◌, ◌++◌, ◌∷◌, [], IfOk, OnOk, false, map, true, vec_len};
 ghost use Rattle.std.specs.List.{AllByRecursion};
 ghost use Rattle.irig_saved.specs.Lines.{text_of};
 ghost use Rattle.irig_saved.specs.ChangeWords.{single_line};
@@ -59,6 +59,7 @@ impl<'s> ChangeLines<'s> {
     pub(crate) fn fill(&mut self, block: &mut Vec<u8>, enough: usize) -> Result<bool, AllocError>
         ensures bytes { OnOk result (block.new.items ++ self.new ≡ block.old.items ++ self.old) }
         ensures end { IfOk result (λ ended. ended ≡ true → self.new ≡ []) }
+        ensures full { IfOk result (λ ended. ended ≡ false → enough ≤ vec_len block.new) }
     {
         let singles = self.singles;
         for number in self.next..singles.len() {

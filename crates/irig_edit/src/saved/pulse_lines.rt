@@ -1,6 +1,6 @@
 //! The lines of a splice's pulses, in parts.
 
-ghost use Rattle.std.specs.Prelude.{◌≡◌, ◌++◌, [], IfOk, OnOk, true};
+ghost use Rattle.std.specs.Prelude.{◌≡◌, ◌≤◌, ◌++◌, [], IfOk, OnOk, false, true, vec_len};
 ghost use Rattle.irig_saved.specs.Lines.{text_of};
 ghost use Rattle.irig_saved.specs.SavedText.{pulse_lines, put_of};
 ghost use Rattle.irig_edit.specs.Held.{single_of};
@@ -58,6 +58,7 @@ impl<'s> PulseLines<'s> {
     pub(crate) fn fill(&mut self, block: &mut Vec<u8>, enough: usize) -> Result<bool, AllocError>
         ensures bytes { OnOk result (block.new.items ++ self.new ≡ block.old.items ++ self.old) }
         ensures end { IfOk result (λ ended. ended ≡ true → self.new ≡ []) }
+        ensures full { IfOk result (λ ended. ended ≡ false → enough ≤ vec_len block.new) }
     {
         let Some(pulses) = self.pulses else {
             return Ok(true);

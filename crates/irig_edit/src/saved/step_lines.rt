@@ -1,6 +1,6 @@
 //! The lines of the steps on one side of the present, in parts.
 
-ghost use Rattle.std.specs.Prelude.{◌≡◌, ◌++◌, [], IfOk, OnOk, true};
+ghost use Rattle.std.specs.Prelude.{◌≡◌, ◌≤◌, ◌++◌, [], IfOk, OnOk, false, true, vec_len};
 ghost use Rattle.std.specs.List.{AllByRecursion};
 ghost use Rattle.irig_journal.specs.History.{step};
 ghost use Rattle.irig_saved.specs.Lines.{text_of};
@@ -58,6 +58,7 @@ impl<'s> StepLines<'s> {
     pub(crate) fn fill(&mut self, block: &mut Vec<u8>, enough: usize) -> Result<bool, AllocError>
         ensures bytes { OnOk result (block.new.items ++ self.new ≡ block.old.items ++ self.old) }
         ensures end { IfOk result (λ ended. ended ≡ true → self.new ≡ []) }
+        ensures full { IfOk result (λ ended. ended ≡ false → enough ≤ vec_len block.new) }
     {
         let (side, journal) = (self.side, self.journal);
         let count = count_at(side, journal);
