@@ -1,5 +1,5 @@
 -- A text that is written block after block to what shows its bytes.
-use Rattle.std.proofs.Common.{[], ◌≡◌, ◌++◌, ℕ, List, Option, Some, None, sym, append-nil}
+use Rattle.std.proofs.Common.{[], ℕ, List, Option, Some, None, sym, append-nil}
 use Rattle.std.specs.Io.KnownBytes.{Appends}
 
 -- before the first block nothing is appended

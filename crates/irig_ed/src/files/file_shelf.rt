@@ -21,11 +21,7 @@ pub struct FileShelf<'d, 'p, D: Disk> {
 impl<'d, 'p, D: Disk> FileShelf<'d, 'p, D> {
     /// The shelf of the file at a path, which does not have to be there. Each write uses the
     /// room.
-    pub fn new(
-        disk: &'d mut D,
-        path: &'p str,
-        room: &'d mut Room,
-    ) -> FileShelf<'d, 'p, D>
+    pub fn new(disk: &'d mut D, path: &'p str, room: &'d mut Room) -> FileShelf<'d, 'p, D>
         ensures same_disk { result.disk.ghost_name ≡ disk.entry.ghost_name }
         ensures disk { result.disk.now ≡ disk.old }
         ensures path { result.path.now ≡ path.now }
