@@ -1,7 +1,7 @@
 //! The changes of a wire.
 
-ghost use Rattle.std.specs.Prelude.{◌≡◌, ◌≤◌, ◌<◌, true, ◌^◌, ◌∷◌, ℕ, List, Result, length, []};
-ghost use Rattle.std.specs.Prelude.{Err, IfOk, IfErr, OnOk, OnErr};
+ghost use Rattle.std.specs.Prelude.{◌≡◌, ◌↔◌, ◌≤◌, ◌<◌, ◌^◌, ◌∷◌, [], ℕ, List, Result, Err};
+ghost use Rattle.std.specs.Prelude.{true, length, slice_index, IfOk, IfErr, OnOk, OnErr};
 ghost use Rattle.irig_vcd.specs.Code.Token.{kind_view, word_of};
 ghost use Rattle.irig_vcd.specs.Answer.{IsFaultOf};
 ghost use Rattle.irig_vcd.specs.Words.{rest_of, is_code};
@@ -56,13 +56,21 @@ fn digits_of(word: &[u8]) -> &[u8]
     }
 }
 
-/// Whether pulses are taken in one step: in microseconds, on a code of one byte.
+/// Whether pulses are taken in one step: in units of a microsecond or less, on a code of one byte.
 fn is_quick(is_plain: bool, unit: Unit, code: &[u8]) -> bool
     ensures plain { result ≡ true → is_plain ≡ true }
-    ensures unit { result ≡ true → unit ≡ 9 }
+    ensures unit { result ≡ true → unit ≤ 9 }
     ensures one { result ≡ true → length code.now ≡ 1 }
 {
-    is_plain && unit.is_microsecond() && code.len() == 1
+    is_plain && unit.divides_microsecond() && code.len() == 1
+}
+
+/// Whether a number sign is at a place.
+#[inline(always)]
+fn has_sign(source: &[u8], at: usize) -> bool
+    ensures { result ≡ true ↔ (at < length source.now) × (slice_index source.now at ≡ 35) }
+{
+    at < source.len() && source[at] == b'#'
 }
 
 /// Takes the pulses here, if they are taken in one step, and returns the time then.
@@ -75,7 +83,7 @@ fn ahead(
     clock: Clock,
     trace: &mut Trace,
 ) -> Result<Clock, AllocError>
-    requires unit { is_quick ≡ true → unit ≡ 9 }
+    requires unit { is_quick ≡ true → unit ≤ 9 }
     requires one { is_quick ≡ true → length code.now ≡ 1 }
     requires dark { is_quick ≡ true → is_code code.now ≡ true }
     requires time { IsTime unit clock }
@@ -87,9 +95,9 @@ fn ahead(
     ensures journals { journals_among tokens.old ≡ journals_among tokens.new }
     ensures memory { OnErr result (Follows [] trace.old → ⊥) }
 {
-    if is_quick && trace.has_fallen() {
-        let whole = pulses(tokens, code[0], clock.whole, trace)?;
-        return Ok(Clock { whole, rest: 0 });
+    if is_quick && trace.has_fallen() && has_sign(tokens.source, tokens.at) {
+        let now = pulses(tokens, code[0], unit, clock, trace)?;
+        return Ok(now);
     }
     Ok(clock)
 }

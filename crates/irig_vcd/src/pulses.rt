@@ -3,14 +3,17 @@
 ghost use Rattle.std.specs.Prelude.{◌≡◌, ◌≤◌, ◌+◌, ◌∷◌, [], ℕ, List, true, Result, length};
 ghost use Rattle.std.specs.Prelude.{slice_index, IfSome, IfOk};
 ghost use Rattle.irig_vcd.specs.Code.Along.{Along, HasFallen, TakesEdge, at_micros};
+ghost use Rattle.irig_vcd.specs.Code.Time.{IsTime};
 ghost use Rattle.irig_vcd.specs.Journals.{journals_among};
 ghost use Rattle.irig_vcd.specs.Level.{Change};
 ghost use Rattle.irig_vcd.specs.Words.{is_code};
 ghost use Rattle.irig_vcd.specs.declared.fault.VcdFault.{VcdFault};
 
 use crate::lanes::lanes_end;
+use crate::time::{Clock, cut};
 use crate::token::Tokens;
 use crate::trace::Trace;
+use crate::unit::Unit;
 use std::alloc::AllocError;
 
 /// The most bytes that two edges have.
@@ -19,10 +22,10 @@ const LONGEST_PULSE: usize = 64;
 /// The largest time in microseconds.
 const LAST_TIME: u64 = 1 << 40;
 
-/// A time in microseconds with a value at it, and the place after both lines, in bytes from 0.
+/// A time with a value at it, and the place after both lines, in bytes from 0.
 #[derive(Clone, Copy)]
 pub struct Edge {
-    pub time: u64,
+    pub time: Clock,
     pub end: usize,
 }
 
@@ -43,16 +46,16 @@ fn is_line(source: &[u8], at: usize, value: u8, code: u8) -> bool
 
 /// The edge at a place, to this level and of this code.
 #[inline(always)]
-fn edge_at(source: &[u8], at: usize, high: bool, code: u8) -> Option<Edge>
+fn edge_at(source: &[u8], at: usize, high: bool, code: u8, unit: Unit) -> Option<Edge>
     requires back { 16 ≤ at }
     requires room { at + 32 ≤ length source.now }
     requires dark { is_code (code ∷ []) ≡ true }
-    ensures { IfSome result (λ e. TakesEdge source.now at high code e) }
+    ensures { IfSome result (λ e. TakesEdge source.now at high code unit e) }
 {
     if source[at] != b'#' {
         return None;
     }
-    let (end, time) = lanes_end(source, at + 1);
+    let (end, number) = lanes_end(source, at + 1);
     if end == at + 1 {
         return None;
     }
@@ -60,14 +63,65 @@ fn edge_at(source: &[u8], at: usize, high: bool, code: u8) -> Option<Edge>
     if !is_line(source, end, value, code) {
         return None;
     }
-    Some(Edge { time, end: end + 4 })
+    let (whole, rest) = cut(unit.digits_below(), number);
+    Some(Edge {
+        time: Clock { whole, rest },
+        end: end + 4,
+    })
 }
 
-/// Takes the pulses here, after a time in microseconds, and returns the time of the last
-/// fall. It stops at what is no pulse. A function of its own for the machine: its state stays in
-/// registers.
+/// Takes the pulses here, after a time, and returns the time of the last fall. It stops at what is
+/// no pulse, and at an edge in the microsecond of the one before it.
+#[inline(always)]
+fn pulses_in(
+    tokens: &mut Tokens,
+    code: u8,
+    unit: Unit,
+    from: Clock,
+    trace: &mut Trace,
+) -> Result<Clock, AllocError>
+    requires unit { unit ≤ 9 }
+    requires dark { is_code (code ∷ []) ≡ true }
+    requires fallen { HasFallen trace.old }
+    requires late { trace.old.time ≤ from.whole }
+    ensures along { IfOk result (λ now. (total : Result (List Change × ℕ) VcdFault)
+        → Along (code ∷ []) unit total trace.old from tokens.old
+        → Along (code ∷ []) unit total trace.new now tokens.new) }
+    ensures fewer { length tokens.new ≤ length tokens.old }
+    ensures journals { journals_among tokens.old ≡ journals_among tokens.new }
+{
+    let source = tokens.source;
+    let mut at = tokens.at;
+    if at < 16 {
+        return Ok(from);
+    }
+    let mut clock = from;
+    while source.len() - at >= LONGEST_PULSE {
+        let Some(rise) = edge_at(source, at, true, code, unit) else {
+            break;
+        };
+        let Some(fall) = edge_at(source, rise.end, false, code, unit) else {
+            break;
+        };
+        let (up, down) = (rise.time.whole, fall.time.whole);
+        if up <= clock.whole || down <= up || down > LAST_TIME {
+            break;
+        }
+        if !trace.has_room() {
+            break;
+        }
+        trace.put_pulse(up, down)?;
+        clock = fall.time;
+        at = fall.end;
+    }
+    tokens.at = at;
+    Ok(clock)
+}
+
+/// Takes the pulses here, after a time in microseconds, and returns the time of the last fall. A
+/// function of its own for the machine: its state stays in registers.
 #[inline(never)]
-pub fn pulses(
+fn pulses_in_micros(
     tokens: &mut Tokens,
     code: u8,
     from: u64,
@@ -82,29 +136,41 @@ pub fn pulses(
     ensures fewer { length tokens.new ≤ length tokens.old }
     ensures journals { journals_among tokens.old ≡ journals_among tokens.new }
 {
-    let source = tokens.source;
-    let mut at = tokens.at;
-    if at < 16 {
-        return Ok(from);
+    let from = Clock {
+        whole: from,
+        rest: 0,
+    };
+    let clock = pulses_in(tokens, code, Unit::new(9), from, trace)?;
+    Ok(clock.whole)
+}
+
+/// Takes the pulses here, after a time, and returns the time of the last fall. In microseconds and
+/// in nanoseconds the machine knows beforehand by which number it cuts the times.
+#[inline(never)]
+pub fn pulses(
+    tokens: &mut Tokens,
+    code: u8,
+    unit: Unit,
+    from: Clock,
+    trace: &mut Trace,
+) -> Result<Clock, AllocError>
+    requires unit { unit ≤ 9 }
+    requires dark { is_code (code ∷ []) ≡ true }
+    requires fallen { HasFallen trace.old }
+    requires late { trace.old.time ≤ from.whole }
+    requires time { IsTime unit from }
+    ensures along { IfOk result (λ now. (total : Result (List Change × ℕ) VcdFault)
+        → Along (code ∷ []) unit total trace.old from tokens.old
+        → Along (code ∷ []) unit total trace.new now tokens.new) }
+    ensures fewer { length tokens.new ≤ length tokens.old }
+    ensures journals { journals_among tokens.old ≡ journals_among tokens.new }
+{
+    if unit.is_microsecond() {
+        let whole = pulses_in_micros(tokens, code, from.whole, trace)?;
+        return Ok(Clock { whole, rest: 0 });
     }
-    let mut time = from;
-    while source.len() - at >= LONGEST_PULSE {
-        let Some(rise) = edge_at(source, at, true, code) else {
-            break;
-        };
-        let Some(fall) = edge_at(source, rise.end, false, code) else {
-            break;
-        };
-        if rise.time <= time || fall.time <= rise.time || fall.time > LAST_TIME {
-            break;
-        }
-        if !trace.has_room() {
-            break;
-        }
-        trace.put_pulse(rise.time, fall.time)?;
-        time = fall.time;
-        at = fall.end;
+    if unit.is_nanosecond() {
+        return pulses_in(tokens, code, Unit::new(6), from, trace);
     }
-    tokens.at = at;
-    Ok(time)
+    pulses_in(tokens, code, unit, from, trace)
 }

@@ -1,6 +1,6 @@
 //! The unit of time of a dump.
 
-ghost use Rattle.std.specs.Prelude.{◌≡◌, ◌≤◌, ◌-◌, ◌==◌};
+ghost use Rattle.std.specs.Prelude.{◌≡◌, ◌≤◌, ◌-◌, ◌==◌, nat_le};
 ghost use Rattle.irig_vcd.specs.Code.Time.{factor_of, limit_of};
 
 use std::marker::Model;
@@ -38,6 +38,21 @@ impl Unit {
         ensures { result ≡ (self == 9) }
     {
         self.exponent == 9
+    }
+
+    /// Whether it is a nanosecond.
+    #[inline(always)]
+    pub fn is_nanosecond(self) -> bool
+        ensures { result ≡ (self == 6) }
+    {
+        self.exponent == 6
+    }
+
+    /// Whether a microsecond is a whole number of units.
+    pub fn divides_microsecond(self) -> bool
+        ensures { result ≡ nat_le self 9 }
+    {
+        self.exponent <= 9
     }
 
     /// How many digits of a number of units are below one microsecond.

@@ -1,6 +1,6 @@
 -- The state of reading between two tokens.
-use Rattle.std.specs.Prelude.{◌≡◌, ◌≤◌, ◌<◌, ◌+◌, ◌++◌, ◌∷◌, [], ℕ, List, Bool, true, false, Result}
-use Rattle.std.specs.Prelude.{drop, if◌then◌else◌}
+use Rattle.std.specs.Prelude.{◌≡◌, ◌≤◌, ◌<◌, ◌+◌, ◌-◌, ◌^◌, ◌++◌, ◌∷◌, [], ℕ, List, Bool}
+use Rattle.std.specs.Prelude.{true, false, Result, drop, if◌then◌else◌}
 use Rattle.irig_vcd.specs.Answer.{◌>>=◌, pair_of}
 use Rattle.irig_vcd.specs.Changes.{changes_from}
 use Rattle.irig_vcd.specs.Code.Time.{IsTime, units_of}
@@ -41,13 +41,14 @@ pub record HasFallen (t : Trace) : Type 0 where
   pub now : t.now ≡ false
 
 -- the next words are a time and a value on a code of one byte
-pub record TakesEdge (s : List ℕ) (at : ℕ) (high : Bool) (code : ℕ) (e : Edge) : Type 0 where
+pub record TakesEdge (s : List ℕ) (at : ℕ) (high : Bool) (code unit : ℕ) (e : Edge) : Type 0 where
   pub sign : Word
   pub level : Word
   pub left : words_from at false (drop at s) ≡ sign ∷ level ∷ words_from e.end false (drop e.end s)
   pub is_hash : sign.kind ≡ hash
   pub digits : is_number (rest_of sign.bytes) ≡ true
-  pub value : number_from 0 (rest_of sign.bytes) ≡ e.time
+  pub value : number_from 0 (rest_of sign.bytes) ≡ units_of unit e.time
+  pub rest : e.time.rest < 10 ^ (9 - unit)
   pub is_scalar : level.kind ≡ scalar
   pub bytes : level.bytes ≡ (if high then 49 else 48) ∷ code ∷ []
   pub after : at < e.end

@@ -1,9 +1,16 @@
-use Rattle.irig_vcd.proofs.PulseSteps.{late_9, ahead_9}
+use Rattle.std.proofs.Common.{ℕ, List, Result, subst}
+use Rattle.irig_vcd.specs.Code.Along.{Along}
+use Rattle.irig_vcd.specs.Level.{Change}
+use Rattle.irig_vcd.specs.declared.fault.VcdFault.{VcdFault}
+use Rattle.irig_vcd.proofs.PulseSteps.{late_fine, one_byte}
 use Rattle.irig_vcd.proofs.changes.ahead.Goals as goal
 
 pub pulses-requires-clause-late : goal.pulses-requires-clause-late
-pulses-requires-clause-late c = late_9 c.args.unit c.args.clock c.args.trace.now.time (c.requires.unit c.if-is_quick.true) c.requires.time c.requires.late
+pulses-requires-clause-late c = late_fine c.args.unit c.args.clock c.args.trace.now.time (c.requires.unit c.if-is_quick.true) c.requires.time c.requires.late
 
-pub returns-then-has_fallen-clause-along : goal.returns-then-has_fallen-clause-along
-returns-then-has_fallen-clause-along c = λ total along. ahead_9 c.args.code.now c.args.unit c.args.clock c.in_ok-whole.whole total c.args.trace.now c.pulses.new.trace c.args.tokens.now c.pulses.new.tokens
-    (c.requires.unit c.if-is_quick.true) (c.requires.one c.if-is_quick.true) c.requires.time (c.in_ok-whole.ensures.along total) along
+pub returns-then-has_sign-clause-along : goal.returns-then-has_sign-clause-along
+returns-then-has_sign-clause-along c =
+    subst
+    (λ (code : List ℕ). (total : Result (List Change × ℕ) VcdFault) → Along code c.args.unit total c.args.trace.now c.args.clock c.args.tokens.now
+    → Along code c.args.unit total c.pulses.new.trace c.in_ok-now.now c.pulses.new.tokens)
+    (one_byte c.args.code.now (c.requires.one c.if-is_quick.true)) c.in_ok-now.ensures.along

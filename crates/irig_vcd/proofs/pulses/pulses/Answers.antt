@@ -1,24 +1,23 @@
-use Rattle.std.proofs.Common.{◌<◌, ◌≤◌, ◌∙◌, arith}
-use Rattle.irig_vcd.proofs.PulseSteps.{along_pulse, fewer_left, past_edge}
+use Rattle.std.proofs.Common.{◌≡◌, ◌∷◌, ◌∙◌, [], ℕ, List, Result, IfOk, subst, sym}
+use Rattle.std.proofs.lemmas.Bool.{eqb-true}
+use Rattle.irig_vcd.specs.Code.Along.{Along}
+use Rattle.irig_vcd.specs.Level.{Change}
+use Rattle.irig_vcd.specs.declared.fault.VcdFault.{VcdFault}
+use Rattle.irig_vcd.specs.declared.time.Clock.{Clock}
+use Rattle.irig_vcd.proofs.PulseSteps.{step_micros}
 use Rattle.irig_vcd.proofs.pulses.pulses.Goals as goal
 
-pub loop-at-preserved : goal.loop-at-preserved
-loop-at-preserved c =
-    let i = c.loop-at.invariant in
-    let rise = c.in-Some.rise in
-    let fall = c.in-Some-edge_at.fall in
-    let up = c.in-Some.ensures in
-    let down = c.in-Some-edge_at.ensures in
-    let put = c.in_ok-put_pulse.ensures in
-    let first : c.loop-at.time < rise.time = omega (arith, c.if-rise-time.false) in
-    let second : rise.time < fall.time = omega (arith, c.if-fall-rise.false) in
-    let top : fall.time ≤ 1099511627776 = omega (arith, c.if-fall-gt-LAST_TIME.false) in
-    record {
-      back = omega (arith, up.after, down.after, i.back);
-      within = omega (arith, up.near, down.near, c.loop-at-test.true);
-      fallen = put.fallen;
-      late = omega (arith, put.time);
-      fewer = omega (arith, fewer_left _ c.loop-at.at _ _ rise up, fewer_left _ rise.end _ _ fall down, i.fewer);
-      journals = i.journals ∙ (past_edge _ c.loop-at.at _ _ rise up ∙ past_edge _ rise.end _ _ fall down);
-      along = λ total h. along_pulse c.args.code c.loop-at.time total c.loop-at.trace c.put_pulse.new.self _ c.loop-at.at rise fall up down first second top put.ok put.time (i.along total h);
-    }
+pub returns-then-is_microsecond-clause-along : goal.returns-then-is_microsecond-clause-along
+returns-then-is_microsecond-clause-along c = λ total along.
+    step_micros (c.args.code ∷ []) c.args.unit c.args.from c.in_ok-whole.whole total c.args.trace.now c.pulses_in_micros.new.trace
+    c.args.tokens.now c.pulses_in_micros.new.tokens
+    (eqb-true c.args.unit 9 (sym c.is_microsecond.ensures ∙ c.if-is_microsecond.true)) (c.in_ok-whole.ensures.along total) along
+
+pub returns-then-is_nanosecond-clause-along : goal.returns-then-is_nanosecond-clause-along
+returns-then-is_nanosecond-clause-along c =
+    let six = eqb-true c.args.unit 6 (sym c.is_nanosecond.ensures ∙ c.if-is_nanosecond.true) in
+    let is : c.new.result ≡ c.args.unit = c.new.ensures ∙ sym six in
+    subst
+    (λ (u : ℕ). IfOk c.pulses_in.result
+    (λ (now : Clock). (total : Result (List Change × ℕ) VcdFault) → Along (c.args.code ∷ []) u total c.args.trace.now c.args.from c.args.tokens.now
+    → Along (c.args.code ∷ []) u total c.pulses_in.new.trace now c.pulses_in.new.tokens)) is c.pulses_in.ensures.along

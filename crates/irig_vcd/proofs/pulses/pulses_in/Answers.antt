@@ -1,0 +1,26 @@
+use Rattle.std.proofs.Common.{◌<◌, ◌≤◌, ◌∙◌, arith}
+use Rattle.irig_vcd.proofs.PulseSteps.{along_pulse, fewer_left, past_edge}
+use Rattle.irig_vcd.proofs.pulses.pulses_in.Goals as goal
+
+pub loop-at-preserved : goal.loop-at-preserved
+loop-at-preserved c =
+    let i = c.loop-at.invariant in
+    let rise = c.in-Some.rise in
+    let fall = c.in-Some-edge_at.fall in
+    let up = c.in-Some.ensures in
+    let down = c.in-Some-edge_at.ensures in
+    let put = c.in_ok-put_pulse.ensures in
+    let first : c.loop-at.clock.whole < rise.time.whole = omega (arith, c.if-up-clock.false) in
+    let second : rise.time.whole < fall.time.whole = omega (arith, c.if-down-up.false) in
+    let top : fall.time.whole ≤ 1099511627776 = omega (arith, c.if-down-gt-LAST_TIME.false) in
+    record {
+      back = omega (arith, up.after, down.after, i.back);
+      within = omega (arith, up.near, down.near, c.loop-at-test.true);
+      fallen = put.fallen;
+      late = omega (arith, put.time);
+      fewer = omega (arith, fewer_left _ c.loop-at.at _ _ _ rise up, fewer_left _ rise.end _ _ _ fall down, i.fewer);
+      journals = i.journals ∙ (past_edge _ c.loop-at.at _ _ _ rise up ∙ past_edge _ rise.end _ _ _ fall down);
+      along = λ total h.
+          along_pulse c.args.code c.args.unit c.loop-at.clock total c.loop-at.trace c.put_pulse.new.self _ c.loop-at.at
+          rise fall c.requires.unit up down first second top put.ok put.time (i.along total h);
+    }
