@@ -7,6 +7,7 @@ mod pieces;
 mod plain;
 mod small_dumps;
 mod texts;
+mod units;
 mod whole;
 
 use irig_vcd::{Recording, VcdFault, read, read_parts};
