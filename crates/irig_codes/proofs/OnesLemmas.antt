@@ -1,5 +1,6 @@
 -- The elements that are One as the bits of a number.
-use Rattle.std.proofs.Common.{◌≡◌, ℕ, zero, suc, ◌+◌, ◌*◌, ◌/◌, ◌%◌, ◌^◌, ◌<◌, ◌++◌, Bool, true, false, cond, List, [], ◌∷◌, get_or, length, refl, sym, ap, ap₂, ◌∙◌, arith, lit<}
+use Rattle.std.proofs.Common.{◌≡◌, ℕ, zero, suc, ◌+◌, ◌*◌, ◌/◌, ◌%◌, ◌^◌, ◌<◌, ◌++◌, Bool, true, false, cond, List, [], ◌∷◌, get_or, length, refl, sym, ap, ap₂}
+use Rattle.std.proofs.Common.{◌∙◌, arith, lit<}
 use Rattle.std.specs.Int.{bit_at}
 use Rattle.std.proofs.Math.Arith.{mod-mul}
 use Rattle.std.proofs.Math.Nat.{mod-one, mul-zero, one-mul, div-div-eq-div-mul, pow-suc}
@@ -8,7 +9,8 @@ use Rattle.std.proofs.lemmas.Nat.Bits.{bit_at-suc, bit_at-zero}
 use Rattle.irig_codes.specs.Format.{FormatView, has_control, has_sbs, has_year, carries_sbs}
 use Rattle.irig_codes.specs.Layout.{decimal, sbs, control, Row, table, doubling, control_rows, control_starts}
 use Rattle.irig_codes.specs.Ones.{ones_of, bits_in}
-use Rattle.irig_codes.specs.OnesDigits.{control_number, hundredths_units_in, hundredths_tens_in, seconds_units_in, year_units_in, year_tens_in, sbs_in, control_in, digits_in}
+use Rattle.irig_codes.specs.OnesDigits.{control_number, hundredths_units_in, hundredths_tens_in, seconds_units_in, year_units_in, year_tens_in, sbs_in}
+use Rattle.irig_codes.specs.OnesDigits.{control_in, digits_in}
 use Rattle.irig_codes.specs.Reading.{counts, is_one, sum_of}
 use Rattle.irig_codes.specs.Slots.{slots_at}
 use Rattle.irig_codes.specs.Digits.{digits_read, value_at}
@@ -76,13 +78,15 @@ by-10 x y h = omega (arith, h)
 by-100 : (x y : ℕ) → 100 * x ≡ 100 * y → x ≡ y
 by-100 x y h = omega (arith, h)
 
-hundredths-units : (k : Kind) (c s y : Bool) (es : List Element) → sum_of es (of_unit 1 (table k c s y (decimal Hundredths))) ≡ 1 * hundredths_units_in k (ones_of es)
+hundredths-units : (k : Kind) (c s y : Bool) (es : List Element) → sum_of es (of_unit 1 (table k c s y (decimal Hundredths)))
+    ≡ 1 * hundredths_units_in k (ones_of es)
 hundredths-units A c s y es = refl
 hundredths-units B c s y es = refl
 hundredths-units E c s y es = refl
 hundredths-units G c s y es = sum-doubling es 50 1 4
 
-hundredths-tens : (k : Kind) (c s y : Bool) (es : List Element) → sum_of es (of_unit 10 (table k c s y (decimal Hundredths))) ≡ 10 * hundredths_tens_in k (ones_of es)
+hundredths-tens : (k : Kind) (c s y : Bool) (es : List Element) → sum_of es (of_unit 10 (table k c s y (decimal Hundredths)))
+    ≡ 10 * hundredths_tens_in k (ones_of es)
 hundredths-tens A c s y es = sum-doubling es 45 10 4
 hundredths-tens B c s y es = refl
 hundredths-tens E c s y es = refl

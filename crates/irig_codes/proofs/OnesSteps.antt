@@ -1,5 +1,6 @@
 -- The bits of a frame grow by one element at either end.
-use Rattle.std.proofs.Common.{◌≡◌, ℕ, suc, ◌+◌, ◌-◌, ◌*◌, ◌/◌, ◌^◌, ◌<◌, ◌++◌, Bool, true, false, cond, List, [], ◌∷◌, get_or, drop, length, sym, ap, ap₂, ◌∙◌, arith, lit<}
+use Rattle.std.proofs.Common.{◌≡◌, ℕ, suc, ◌+◌, ◌-◌, ◌*◌, ◌/◌, ◌^◌, ◌<◌, ◌++◌, Bool, true, false, cond, List, [], ◌∷◌, get_or, drop, length, sym, ap, ap₂, ◌∙◌}
+use Rattle.std.proofs.Common.{arith, lit<}
 use mir.Val.{bool_byte}
 use Rattle.std.proofs.Math.Nat.{pow-suc}
 use Rattle.std.proofs.lemmas.Nat.{pow-add}
@@ -17,7 +18,8 @@ ones-drop es i h = ap ones_of (drop_more es i Zero h)
 pub ones-append : (xs : List Element) (e : Element) → ones_of (xs ++ (e ∷ [])) ≡ ones_of xs + cond (counts e) (2 ^ length xs) 0
 ones-append [] e = elim (counts e) as (λ b. cond b 1 0 + 2 * 0 ≡ 0 + cond b 1 0) [ true ↦ omega arith | false ↦ omega arith ]
 ones-append (x ∷ xs) e =
-    ap (λ n. cond (counts x) 1 0 + 2 * n) (ones-append xs e) ∙ spread (cond (counts x) 1 0) (ones_of xs) (counts e) (2 ^ length xs) ∙ ap (λ w. cond (counts x) 1 0 + 2 * ones_of xs + cond (counts e) w 0) (pow-two (length xs)) where
+    ap (λ n. cond (counts x) 1 0 + 2 * n) (ones-append xs e) ∙ spread (cond (counts x) 1 0) (ones_of xs) (counts e) (2 ^ length xs)
+    ∙ ap (λ w. cond (counts x) 1 0 + 2 * ones_of xs + cond (counts e) w 0) (pow-two (length xs)) where
       spread : (a n : ℕ) (b : Bool) (w : ℕ) → a + 2 * (n + cond b w 0) ≡ a + 2 * n + cond b (2 * w) 0
       spread a n true w = omega arith
       spread a n false w = omega arith
@@ -33,7 +35,8 @@ ones-below (e ∷ es) = below (counts e) (ones_of es) (2 ^ length es) (2 ^ suc (
   below false n w v h q = omega (arith, h, q)
 
 -- one more element before those of a frame's end
-pub of-more : (es : List Element) (i n : ℕ) (b : Bool) → length es ≡ 100 → i < 100 → b ≡ counts (get_or es (99 - i) Zero) → n ≡ ones_of (drop (100 - i) es) → 2 * n + bool_byte b ≡ ones_of (drop (100 - (i + 1)) es)
+pub of-more : (es : List Element) (i n : ℕ) (b : Bool) → length es ≡ 100 → i < 100 → b ≡ counts (get_or es (99 - i) Zero) → n ≡ ones_of (drop (100 - i) es)
+    → 2 * n + bool_byte b ≡ ones_of (drop (100 - (i + 1)) es)
 of-more es i n b l h e p =
     let here : 100 - (i + 1) ≡ 99 - i = omega arith in
     let next : 99 - i + 1 ≡ 100 - i = omega arith in

@@ -1,5 +1,6 @@
 -- The elements that carry a bit, as a mask, and the first that is One outside it.
-use Rattle.std.proofs.Common.{◌≡◌, ℕ, zero, suc, ◌+◌, ◌-◌, ◌*◌, ◌/◌, ◌^◌, ◌<◌, Bool, true, false, cond, List, [], ◌∷◌, get_or, length, Option, Some, None, refl, sym, ap, ◌∙◌, arith, bit_and}
+use Rattle.std.proofs.Common.{◌≡◌, ℕ, zero, suc, ◌+◌, ◌-◌, ◌*◌, ◌/◌, ◌^◌, ◌<◌, Bool, true, false, cond, List, [], ◌∷◌, get_or, length, Option, Some, None, refl}
+use Rattle.std.proofs.Common.{sym, ap, ◌∙◌, arith, bit_and}
 use Rattle.std.specs.Int.{bit_at, bit_not, trailing_zeros, w128}
 use Rattle.std.specs.Prelude.{min}
 use Rattle.std.proofs.lemmas.Nat.{and_le_r}
@@ -65,7 +66,8 @@ stray-first (s ∷ ss) (x ∷ xs) e (suc t) l h g =
     ap (λ b. cond b (Some e) (stray_from (e + 1) ss xs)) (g 0 (omega arith))
     ∙ stray-first ss xs (e + 1) t (omega (arith, l)) h (λ i b. g (suc i) (omega arith)) ∙ ap Some (omega arith)
 
-stray-none : (ss : List Slot) (es : List Element) (e : ℕ) → ((i : ℕ) → i < length es → is_stray_at (get_or ss i Unused) (get_or es i Zero) ≡ false) → stray_from e ss es ≡ None
+stray-none : (ss : List Slot) (es : List Element) (e : ℕ) → ((i : ℕ) → i < length es → is_stray_at (get_or ss i Unused) (get_or es i Zero) ≡ false)
+    → stray_from e ss es ≡ None
 stray-none [] es e g = refl
 stray-none (s ∷ ss) [] e g = refl
 stray-none (s ∷ ss) (x ∷ xs) e g =
@@ -79,13 +81,15 @@ is-false : (b : Bool) → ◌≡◌ {A = ℕ} (cond b 1 0) 0 → b ≡ false
 is-false true h = absurd (omega (arith, h))
 is-false false h = refl
 
-kept : (ss : List Slot) (es : List Element) (i : ℕ) → (bit_at (ones_of es) i ≡ 1 → bit_at (used_of ss) i ≡ 1) → is_stray_at (get_or ss i Unused) (get_or es i Zero) ≡ false
+kept : (ss : List Slot) (es : List Element) (i : ℕ) → (bit_at (ones_of es) i ≡ 1 → bit_at (used_of ss) i ≡ 1)
+    → is_stray_at (get_or ss i Unused) (get_or es i Zero) ≡ false
 kept ss es i h =
     stray-not-here (get_or ss i Unused) (get_or es i Zero)
     (λ e. is-true (is_bit (get_or ss i Unused)) (sym (bit-used ss i) ∙ h (bit-ones es i ∙ ap (λ b. cond b 1 0) e)))
 
 -- the first stray element is the lowest bit outside the mask
-pub stray-gathered : (f : FormatView) (es : List Element) (o : Option ℕ) → length es ≡ 100 → IsLowestOutside (ones_of es) (used_of (slots_at f)) o → o ≡ stray_from 0 (slots_at f) es
+pub stray-gathered : (f : FormatView) (es : List Element) (o : Option ℕ) → length es ≡ 100 → IsLowestOutside (ones_of es) (used_of (slots_at f)) o
+    → o ≡ stray_from 0 (slots_at f) es
 stray-gathered f es None h g = sym (stray-none (slots_at f) es 0 (λ i b. kept (slots_at f) es i (g i (omega (arith, h)))))
 stray-gathered f es (Some t) h g =
     let ss = slots_at f in

@@ -1,5 +1,6 @@
 -- The elements of a frame that are One as the bits of a number. This project's own.
-use Rattle.std.specs.Prelude.{◌≡◌, ℕ, ◌+◌, ◌-◌, ◌*◌, ◌/◌, ◌%◌, ◌^◌, ◌<◌, if◌then◌else◌, List, [], ◌∷◌, length, Option, Some, None}
+use Rattle.std.specs.Prelude.{◌≡◌, ℕ, ◌+◌, ◌-◌, ◌*◌, ◌/◌, ◌%◌, ◌^◌, ◌<◌, if◌then◌else◌, List, []}
+use Rattle.std.specs.Prelude.{◌∷◌, length, Option, Some, None}
 use Rattle.std.specs.Int.{bit_at}
 use Rattle.irig_codes.specs.declared.width.Element.{Element}
 use Rattle.irig_codes.specs.Reading.{counts}

@@ -2,7 +2,9 @@
 
 ghost use Rattle.std.specs.Prelude.{◌≡◌, ◌<◌, ◌+◌, ◌*◌, ◌^◌, [], ◌∷◌};
 ghost use Rattle.irig_codes.specs.Ones.{bits_in};
-ghost use Rattle.irig_codes.specs.OnesDigits.{control_number, hundredths_units_in, hundredths_tens_in, seconds_units_in, year_units_in, year_tens_in, sbs_in, control_in, digits_in};
+ghost use Rattle.irig_codes.specs.OnesDigits.{control_number, hundredths_units_in};
+ghost use Rattle.irig_codes.specs.OnesDigits.{hundredths_tens_in, seconds_units_in, year_units_in};
+ghost use Rattle.irig_codes.specs.OnesDigits.{year_tens_in, sbs_in, control_in, digits_in};
 
 use crate::format::{Format, Kind};
 use crate::ones::Ones;

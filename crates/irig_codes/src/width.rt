@@ -2,7 +2,8 @@
 
 ghost use Rattle.std.specs.Prelude.{◌≡◌, ◌<◌};
 ghost use Rattle.irig_codes.specs.Format.{interval_of};
-ghost use Rattle.irig_codes.specs.Width.{HasTwentieths, class_in, class_of, is_in_step, nominal_of, step_in};
+ghost use Rattle.irig_codes.specs.Width.{HasTwentieths, class_in, class_of, is_in_step, nominal_of};
+ghost use Rattle.irig_codes.specs.Width.{step_in};
 
 use crate::format::Format;
 

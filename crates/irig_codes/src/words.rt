@@ -2,7 +2,8 @@
 
 ghost use Rattle.std.specs.Prelude.{◌≡◌, ◌≤◌, MatchOption, Some, length, drop};
 ghost use Rattle.std.specs.Str.{bytes_eq};
-ghost use Rattle.irig_codes.specs.Words.{class_word, element_named, element_word, kind_named, kind_word};
+ghost use Rattle.irig_codes.specs.Words.{class_word, element_named, element_word, kind_named};
+ghost use Rattle.irig_codes.specs.Words.{kind_word};
 ghost use Rattle.irig_codes.specs.declared.format.Kind.{Kind};
 ghost use Rattle.irig_codes.specs.declared.width.Element.{Element};
 

@@ -1,5 +1,6 @@
 -- What each call adds to a log.
-use Rattle.std.proofs.Common.{◌≡◌, ◌≢◌, ◌⊎◌, ◌<◌, inl, inr, ⊎_elim, refl, sym, ap, ◌∙◌, subst, arith, Bool, true, false, cond, nat_eq, ℕ, List, [], ◌∷◌, ◌++◌, length, Some, None, Vec}
+use Rattle.std.proofs.Common.{◌≡◌, ◌≢◌, ◌⊎◌, ◌<◌, inl, inr, ⊎_elim, refl, sym, ap, ◌∙◌, subst, arith, Bool, true, false, cond, nat_eq, ℕ, List, [], ◌∷◌, ◌++◌}
+use Rattle.std.proofs.Common.{length, Some, None, Vec}
 use Rattle.std.specs.Bool.{Decides}
 use Rattle.std.specs.Str.{bytes_eq}
 use Rattle.std.specs.declared.alloc.Global.{Global}
@@ -57,11 +58,15 @@ log_stays calls = record {
 -- a file's number is below the length of the log
 pub leads_below : (calls : List Call) (n : List ℕ) (i : ℕ) → leads_in calls n ≡ Some i → i < length calls
 leads_below [] n i is = absurd (cc is)
-leads_below (Make name mode ∷ calls) n i is = of_cond (bytes_eq name.items n) (Some (length calls)) (leads_in calls n) (Some i) is (λ here. let at : length calls ≡ i = cc here in omega arith) (λ there. let below = leads_below calls n i there in omega arith)
-leads_below (Rename «from» to ∷ calls) n i is = of_cond (bytes_eq to.items n) (leads_in calls «from».items) (cond (bytes_eq «from».items n) None (leads_in calls n)) (Some i) is
+leads_below (Make name mode ∷ calls) n i is = of_cond (bytes_eq name.items n) (Some (length calls)) (leads_in calls n) (Some i) is
+    (λ here. let at : length calls ≡ i = cc here in omega arith) (λ there. let below = leads_below calls n i there in omega arith)
+leads_below (Rename «from» to ∷ calls) n i is = of_cond (bytes_eq to.items n) (leads_in calls «from».items)
+    (cond (bytes_eq «from».items n) None (leads_in calls n)) (Some i) is
     (λ here. let below = leads_below calls «from».items i here in omega arith)
-    (λ there. of_cond (bytes_eq «from».items n) None (leads_in calls n) (Some i) there (λ none. absurd (cc none)) (λ older. let below = leads_below calls n i older in omega arith))
-leads_below (Remove name ∷ calls) n i is = of_cond (bytes_eq name.items n) None (leads_in calls n) (Some i) is (λ none. absurd (cc none)) (λ older. let below = leads_below calls n i older in omega arith)
+    (λ there. of_cond (bytes_eq «from».items n) None (leads_in calls n) (Some i) there (λ none. absurd (cc none))
+    (λ older. let below = leads_below calls n i older in omega arith))
+leads_below (Remove name ∷ calls) n i is = of_cond (bytes_eq name.items n) None (leads_in calls n) (Some i) is (λ none. absurd (cc none))
+    (λ older. let below = leads_below calls n i older in omega arith)
 leads_below (Append file bytes ∷ calls) n i is = let below = leads_below calls n i is in omega arith
 leads_below (TakeMode file mode ∷ calls) n i is = let below = leads_below calls n i is in omega arith
 leads_below (SyncFile file ∷ calls) n i is = let below = leads_below calls n i is in omega arith
@@ -110,7 +115,8 @@ leads_may (TakeMode file mode ∷ calls) n = leads_may calls n
 leads_may (SyncFile file ∷ calls) n = leads_may calls n
 leads_may (SyncNames ∷ calls) n = refl
 
-changed_may : (calls : List Call) (k i : ℕ) (h : Held) → may_hold_in calls i (holds_in calls i) → (i ≡ k) ⊎ may_hold_in calls i (cond (nat_eq k i) h (holds_in calls i))
+changed_may : (calls : List Call) (k i : ℕ) (h : Held) → may_hold_in calls i (holds_in calls i)
+    → (i ≡ k) ⊎ may_hold_in calls i (cond (nat_eq k i) h (holds_in calls i))
 changed_may calls k i h was = ⊎_elim
     (λ is. inl is)
     (λ ne. inr (subst (may_hold_in calls i) (sym (ap (λ b. cond b h (holds_in calls i)) (other_file k i ne))) was))
@@ -119,7 +125,8 @@ changed_may calls k i h was = ⊎_elim
 pub holds_may : (calls : List Call) (i : ℕ) → may_hold_in calls i (holds_in calls i)
 holds_may [] i = refl
 holds_may (Make name mode ∷ calls) i = changed_may calls (length calls) i (record { bytes = []; mode = mode }) (holds_may calls i)
-holds_may (Append file bytes ∷ calls) i = changed_may calls file i (record { bytes = (holds_in calls i).bytes ++ bytes.items; mode = (holds_in calls i).mode }) (holds_may calls i)
+holds_may (Append file bytes ∷ calls) i = changed_may calls file i (record { bytes = (holds_in calls i).bytes ++ bytes.items; mode = (holds_in calls i).mode })
+    (holds_may calls i)
 holds_may (TakeMode file mode ∷ calls) i = changed_may calls file i (record { bytes = (holds_in calls i).bytes; mode = mode }) (holds_may calls i)
 holds_may (SyncFile file ∷ calls) i = (λ at. refl, λ ne. holds_may calls i)
 holds_may (Rename «from» to ∷ calls) i = holds_may calls i
@@ -127,7 +134,8 @@ holds_may (Remove name ∷ calls) i = holds_may calls i
 holds_may (SyncNames ∷ calls) i = holds_may calls i
 
 -- a new file
-log_made : (calls : List Call) (v : Vec ℕ Global) (mode : ℕ) → leads_in calls v.items ≡ None → Made (disk_of calls) (disk_of (Make v mode ∷ calls)) v.items (length calls) mode
+log_made : (calls : List Call) (v : Vec ℕ Global) (mode : ℕ) → leads_in calls v.items ≡ None
+    → Made (disk_of calls) (disk_of (Make v mode ∷ calls)) v.items (length calls) mode
 log_made calls v mode free = record {
   was_free = free;
   is_new = λ n is. let below = leads_below calls n (length calls) is in absurd (omega arith);
@@ -145,11 +153,14 @@ log_made calls v mode free = record {
   };
 }
 
-pub log_makes : (calls later : List Call) (v : Vec ℕ Global) (name : List ℕ) (mode : ℕ) → v.items ≡ name → later ≡ Make v mode ∷ calls → leads_in calls name ≡ None → Made (disk_of calls) (disk_of later) name (length calls) mode
+pub log_makes : (calls later : List Call) (v : Vec ℕ Global) (name : List ℕ) (mode : ℕ) → v.items ≡ name → later ≡ Make v mode ∷ calls
+    → leads_in calls name ≡ None → Made (disk_of calls) (disk_of later) name (length calls) mode
 log_makes calls later v name mode is grown free = rw (grown, ← is) (log_made calls v mode (rw is free))
 
 -- a change of a file
-log_changed : (call : Call) (calls : List Call) (k : ℕ) (held : Held) → NamesStay (disk_of calls) (disk_of (call ∷ calls)) → ((i : ℕ) → holds_in (call ∷ calls) i ≡ cond (nat_eq k i) held (holds_in calls i)) → ((i : ℕ) (h : Held) → may_hold_in (call ∷ calls) i h → (i ≡ k) ⊎ may_hold_in calls i h) → Changed (disk_of calls) (disk_of (call ∷ calls)) k held
+log_changed : (call : Call) (calls : List Call) (k : ℕ) (held : Held) → NamesStay (disk_of calls) (disk_of (call ∷ calls))
+    → ((i : ℕ) → holds_in (call ∷ calls) i ≡ cond (nat_eq k i) held (holds_in calls i))
+    → ((i : ℕ) (h : Held) → may_hold_in (call ∷ calls) i h → (i ≡ k) ⊎ may_hold_in calls i h) → Changed (disk_of calls) (disk_of (call ∷ calls)) k held
 log_changed call calls k held names holds left = record {
   holds = holds k ∙ ap (λ b. cond b held (holds_in calls k)) (same_file k);
   names = names;
@@ -187,7 +198,8 @@ log_moved calls u v = record {
       ∙ ap (λ b. cond b None (leads_in calls u.items)) (same_name u.items);
   may = record {
     left_to = λ x l. ⊎_elim (λ was. inl was) (λ rest. ⊎_elim (λ now. inr now.1) (λ gone. absurd (gone.1 refl)) rest) l;
-    left_from = λ x l. ⊎_elim (λ was. inl was) (λ rest. ⊎_elim (λ now. inl (subst (may_lead_in calls u.items) (sym now.1) (leads_may calls u.items))) (λ gone. inr gone.2) rest) l;
+    left_from = λ x l. ⊎_elim (λ was. inl was) (λ rest. ⊎_elim (λ now. inl (subst (may_lead_in calls u.items) (sym now.1) (leads_may calls u.items)))
+        (λ gone. inr gone.2) rest) l;
     names = record {
       seen = λ n ne_from ne_to. ap (λ b. cond b (leads_in calls u.items) (cond (bytes_eq u.items n) None (leads_in calls n))) (other_name v.items n ne_to)
           ∙ ap (λ b. cond b None (leads_in calls n)) (other_name u.items n ne_from);
@@ -197,7 +209,8 @@ log_moved calls u v = record {
   };
 }
 
-pub log_moves : (calls later : List Call) (u v : Vec ℕ Global) («from» to : List ℕ) → u.items ≡ «from» → v.items ≡ to → later ≡ Rename u v ∷ calls → Moved (disk_of calls) (disk_of later) «from» to
+pub log_moves : (calls later : List Call) (u v : Vec ℕ Global) («from» to : List ℕ) → u.items ≡ «from» → v.items ≡ to → later ≡ Rename u v ∷ calls
+    → Moved (disk_of calls) (disk_of later) «from» to
 log_moves calls later u v «from» to is_from is_to grown = rw (grown, ← is_from, ← is_to) (log_moved calls u v)
 
 log_removed : (calls : List Call) (v : Vec ℕ Global) → Removed (disk_of calls) (disk_of (Remove v ∷ calls)) v.items
@@ -213,7 +226,8 @@ log_removed calls v = record {
   };
 }
 
-pub log_removes : (calls later : List Call) (v : Vec ℕ Global) (name : List ℕ) → v.items ≡ name → later ≡ Remove v ∷ calls → Removed (disk_of calls) (disk_of later) name
+pub log_removes : (calls later : List Call) (v : Vec ℕ Global) (name : List ℕ) → v.items ≡ name → later ≡ Remove v ∷ calls
+    → Removed (disk_of calls) (disk_of later) name
 log_removes calls later v name is grown = rw (grown, ← is) (log_removed calls v)
 
 pub log_syncs : (calls later : List Call) (k : ℕ) → later ≡ SyncFile k ∷ calls → SyncedFile (disk_of calls) (disk_of later) k

@@ -7,7 +7,8 @@ pub started : (old : Disk) → ((n : List ℕ) (c : Option Held) → old.left_si
 started old only_now = record { later = omega arith; each = only_now; before = λ t n c le left. inl left }
 
 -- one call more, after which a crash leaves what has P
-pub goes_on : (old mid new : Disk) (P : List ℕ → Option Held → Type 0) → LeavesOnly old mid P → Elapses mid new → ((n : List ℕ) (c : Option Held) → MayLeave new n c → P n c) → LeavesOnly old new P
+pub goes_on : (old mid new : Disk) (P : List ℕ → Option Held → Type 0) → LeavesOnly old mid P → Elapses mid new
+    → ((n : List ℕ) (c : Option Held) → MayLeave new n c → P n c) → LeavesOnly old new P
 goes_on old mid new P so_far time here = record {
   later = omega (arith, so_far.later, time.later);
   each = λ n c left. ⊎_elim (so_far.each n c) (here n c) (time.nothing_else old.moment n c so_far.later left);
@@ -15,7 +16,8 @@ goes_on old mid new P so_far time here = record {
 }
 
 -- what has P has Q
-pub weaker : (old new : Disk) (P Q : List ℕ → Option Held → Type 0) → ((n : List ℕ) (c : Option Held) → P n c → Q n c) → LeavesOnly old new P → LeavesOnly old new Q
+pub weaker : (old new : Disk) (P Q : List ℕ → Option Held → Type 0) → ((n : List ℕ) (c : Option Held) → P n c → Q n c) → LeavesOnly old new P
+    → LeavesOnly old new Q
 weaker old new P Q implies so_far = record {
   later = so_far.later;
   each = λ n c left. implies n c (so_far.each n c left);

@@ -1,5 +1,6 @@
 -- What each call makes of a new file next to its target.
-use Rattle.std.proofs.Common.{◌≡◌, ◌≢◌, ◌⊎◌, inl, inr, ⊎_elim, refl, sym, ◌∙◌, ap, subst, ℕ, List, [], ◌++◌, Option, Some, None, Result, Ok, Err, OnOk, OnErr, IfErr, IsErrOf}
+use Rattle.std.proofs.Common.{◌≡◌, ◌≢◌, ◌⊎◌, inl, inr, ⊎_elim, refl, sym, ◌∙◌, ap, subst, ℕ, List, [], ◌++◌, Option, Some, None, Result, Ok, Err, OnOk, OnErr}
+use Rattle.std.proofs.Common.{IfErr, IsErrOf}
 use Rattle.irig_disk.specs.declared.fault.PutFault.{PutFault}
 use Rattle.irig_disk.specs.declared.fault.PutFault.TheVariants.{Memory, NamesTaken, Failed, LeftBehind, Remains, NotKept}
 use Rattle.std.proofs.lemmas.Result.{IfErr-at_err}
@@ -17,14 +18,16 @@ shows : (a b : Disk) (n : List ℕ) → b.leads n ≡ a.leads n → ((i : ℕ) �
 shows a b n same holds = go (a.leads n) (b.leads n) same holds
   where
     go : (x y : Option ℕ) → y ≡ x → ((i : ℕ) → x ≡ Some i → b.holds i ≡ a.holds i)
-        → elim y as (λ _. Option Held) [ None ↦ None | Some file ↦ Some (b.holds file) ] ≡ elim x as (λ _. Option Held) [ None ↦ None | Some file ↦ Some (a.holds file) ]
+        → elim y as (λ _. Option Held) [ None ↦ None | Some file ↦ Some (b.holds file) ]
+        ≡ elim x as (λ _. Option Held) [ None ↦ None | Some file ↦ Some (a.holds file) ]
     go None None same holds = refl
     go None (Some j) same holds = absurd (cc same)
     go (Some i) None same holds = absurd (cc same)
     go (Some i) (Some j) same holds = let ij : j ≡ i = cc same in ap (λ k. Some (b.holds k)) ij ∙ ap Some (holds i refl)
 
 -- nothing that a name may be left with is new, if neither it nor the files that it led to change
-may_follow : (a b : Disk) (n : List ℕ) → ((x : Option ℕ) → b.may_lead n x → a.may_lead n x) → ((i : ℕ) (h : Held) → a.may_lead n (Some i) → b.may_hold i h → a.may_hold i h) → (c : Option Held) → MayLeave b n c → MayLeave a n c
+may_follow : (a b : Disk) (n : List ℕ) → ((x : Option ℕ) → b.may_lead n x → a.may_lead n x)
+    → ((i : ℕ) (h : Held) → a.may_lead n (Some i) → b.may_hold i h → a.may_hold i h) → (c : Option Held) → MayLeave b n c → MayLeave a n c
 may_follow a b n leads holds None left = leads None left
 may_follow a b n leads holds (Some h) left = (left.0, leads (Some left.0) left.1, holds left.0 h (leads (Some left.0) left.1) left.2)
 
@@ -41,7 +44,8 @@ shows_some : (a : Disk) (n : List ℕ) (i : ℕ) (h : Held) → a.leads n ≡ So
 shows_some a n i h leads holds = ap (λ x. elim x as (λ _. Option Held) [ None ↦ None | Some file ↦ Some (a.holds file) ]) leads ∙ ap Some holds
 
 -- the target, and a name that was there, is not the new file's name
-there_apart : (start : Disk) (beside target : List ℕ) → beside ≢ target → start.leads beside ≡ None → (n : List ℕ) → (n ≡ target) ⊎ (start.leads n ≢ None) → n ≢ beside
+there_apart : (start : Disk) (beside target : List ℕ) → beside ≢ target → start.leads beside ≡ None → (n : List ℕ) → (n ≡ target) ⊎ (start.leads n ≢ None)
+    → n ≢ beside
 there_apart start beside target apart was_free n (inl at) is = apart (sym is ∙ at)
 there_apart start beside target apart was_free n (inr some) is = some (ap (λ m. start.leads m) is ∙ was_free)
 
@@ -64,7 +68,8 @@ pub begins : (start a b : Disk) (beside target : List ℕ) (file mode : ℕ) →
     → IsWriting start b beside target file [] mode
 begins start a b beside target file mode apart same made time =
     let left : (n : List ℕ) (c : Option Held) → n ≢ beside → MayLeave b n c → MayLeave start n c = λ n c ne l.
-    stay_left start a same.stays n c (may_follow a b n (λ x. made.names.left n x ne ne) (λ i h leads. made.files.left i h (λ e. made.is_new_left n (subst (λ k. a.may_lead n (Some k)) e leads))) c l) in
+    stay_left start a same.stays n c (may_follow a b n (λ x. made.names.left n x ne ne)
+    (λ i h leads. made.files.left i h (λ e. made.is_new_left n (subst (λ k. a.may_lead n (Some k)) e leads))) c l) in
     record {
       holds = made.holds;
       stands = record {
@@ -75,12 +80,14 @@ begins start a b beside target file mode apart same made time =
         alone_left = λ n ne l. made.is_new_left n (made.names.left n (Some file) ne ne l);
         seen = λ n ne. shows a b n (made.names.seen n ne ne) (λ i is. made.files.seen i (λ e. made.is_new n (is ∙ ap Some e))) ∙ stay_seen start a same.stays n;
         left = left;
-        moments = goes_on start a b (λ n c. n ≢ beside → MayLeave start n c) (weaker start a (MayLeave start) (λ n c. n ≢ beside → MayLeave start n c) (λ n c l ne. l) same.moments) time (λ n c l ne. left n c ne l);
+        moments = goes_on start a b (λ n c. n ≢ beside → MayLeave start n c)
+            (weaker start a (MayLeave start) (λ n c. n ≢ beside → MayLeave start n c) (λ n c l ne. l) same.moments) time (λ n c l ne. left n c ne l);
       };
     }
 
 -- a call that changes the new file alone
-pub touched : (start a b : Disk) (beside target : List ℕ) (file : ℕ) → IsBeside start a beside target file → NamesStay a b → OtherFilesStay a b file → Elapses a b → IsBeside start b beside target file
+pub touched : (start a b : Disk) (beside target : List ℕ) (file : ℕ) → IsBeside start a beside target file → NamesStay a b → OtherFilesStay a b file
+    → Elapses a b → IsBeside start b beside target file
 touched start a b beside target file s names files time =
     let left : (n : List ℕ) (c : Option Held) → n ≢ beside → MayLeave b n c → MayLeave start n c = λ n c ne l.
     s.left n c ne (may_follow a b n (names.left n) (λ i h leads. files.left i h (λ e. s.alone_left n ne (subst (λ k. a.may_lead n (Some k)) e leads))) c l) in
@@ -95,7 +102,8 @@ touched start a b beside target file s names files time =
       moments = goes_on start a b (λ n c. n ≢ beside → MayLeave start n c) s.moments time (λ n c l ne. left n c ne l);
     }
 
-pub wrote : (start a b : Disk) (beside target : List ℕ) (file mode : ℕ) (text bytes : List ℕ) → IsWriting start a beside target file text mode → Wrote a b file bytes
+pub wrote : (start a b : Disk) (beside target : List ℕ) (file mode : ℕ) (text bytes : List ℕ) → IsWriting start a beside target file text mode
+    → Wrote a b file bytes
     → Elapses a b → IsWriting start b beside target file (text ++ bytes) mode
 wrote start a b beside target file mode text bytes w did time =
     let more : Held → Held = λ h. record { bytes = h.bytes ++ bytes; mode = h.mode } in
@@ -136,51 +144,56 @@ pub took_none : (start a b : Disk) (beside target : List ℕ) (file first : ℕ)
 took_none start a b beside target file first text w may time = touched start a b beside target file w.stands may.names may.files time
 
 -- what a rename may leave, whether it succeeds or not
-module _ (start c d : Disk) (beside target : List ℕ) (file : ℕ) (text : Held) (s : IsSealed start c beside target file text) (may : MayMove c d beside target) where
-  at_target : (k : Option Held) → MayLeave d target k → OldOrNew start target text target k
-  at_target None l = ⊎_elim (λ was. inl (s.stands.left target None (λ e. s.stands.apart (sym e)) was)) (λ is. let clash : None ≡ Some file = is ∙ s.stands.leads in absurd (cc clash)) (may.left_to None l)
-  at_target (Some h) l =
-      ⊎_elim
-      (λ was. inl (s.stands.left target (Some h) (λ e. s.stands.apart (sym e)) (l.0, was, may.files.left l.0 h l.2)))
-      (λ is. let same : Some l.0 ≡ Some file = is ∙ s.stands.leads in let same_file : l.0 ≡ file = cc same in inr (refl, ap Some (s.kept h (may.files.left file h (subst (λ k. d.may_hold k h) same_file l.2)))))
-      (may.left_to (Some l.0) l.1)
+module _ (start c d : Disk) (beside target : List ℕ) (file : ℕ) (text : Held) (s : IsSealed start c beside target file text) (may : MayMove c d beside target)
+  where
+    at_target : (k : Option Held) → MayLeave d target k → OldOrNew start target text target k
+    at_target None l = ⊎_elim (λ was. inl (s.stands.left target None (λ e. s.stands.apart (sym e)) was))
+        (λ is. let clash : None ≡ Some file = is ∙ s.stands.leads in absurd (cc clash)) (may.left_to None l)
+    at_target (Some h) l =
+        ⊎_elim
+        (λ was. inl (s.stands.left target (Some h) (λ e. s.stands.apart (sym e)) (l.0, was, may.files.left l.0 h l.2)))
+        (λ is. let same : Some l.0 ≡ Some file = is ∙ s.stands.leads in let same_file : l.0 ≡ file = cc same in
+        inr (refl, ap Some (s.kept h (may.files.left file h (subst (λ k. d.may_hold k h) same_file l.2)))))
+        (may.left_to (Some l.0) l.1)
 
-  move_left : (n : List ℕ) (k : Option Held) → MayLeave d n k → OldOrNewIfThere start target text n k
-  move_left n k l there =
-      let ne = there_apart start beside target s.stands.apart s.stands.was_free n there in
-      ⊎_elim
-      (λ at. subst (λ m. OldOrNew start target text m k) (sym at) (at_target k (subst (λ m. MayLeave d m k) at l)))
-      (λ nt. inl (s.stands.left n k ne (may_follow c d n (λ x. may.names.left n x ne nt) (λ i h leads. may.files.left i h) k l)))
-      (same_or_not n target)
+    move_left : (n : List ℕ) (k : Option Held) → MayLeave d n k → OldOrNewIfThere start target text n k
+    move_left n k l there =
+        let ne = there_apart start beside target s.stands.apart s.stands.was_free n there in
+        ⊎_elim
+        (λ at. subst (λ m. OldOrNew start target text m k) (sym at) (at_target k (subst (λ m. MayLeave d m k) at l)))
+        (λ nt. inl (s.stands.left n k ne (may_follow c d n (λ x. may.names.left n x ne nt) (λ i h leads. may.files.left i h) k l)))
+        (same_or_not n target)
 
-  but_beside : LeavesOnly start c (OldOrNewIfThere start target text)
-  but_beside = weaker start c (λ n k. n ≢ beside → MayLeave start n k) (OldOrNewIfThere start target text) (λ n k l there. inl (l (there_apart start beside target s.stands.apart s.stands.was_free n there))) s.stands.moments
+    but_beside : LeavesOnly start c (OldOrNewIfThere start target text)
+    but_beside = weaker start c (λ n k. n ≢ beside → MayLeave start n k) (OldOrNewIfThere start target text)
+        (λ n k l there. inl (l (there_apart start beside target s.stands.apart s.stands.was_free n there))) s.stands.moments
 
-  moved_moments : Elapses c d → LeavesOnly start d (OldOrNewIfThere start target text)
-  moved_moments time = goes_on start c d (OldOrNewIfThere start target text) but_beside time move_left
+    moved_moments : Elapses c d → LeavesOnly start d (OldOrNewIfThere start target text)
+    moved_moments time = goes_on start c d (OldOrNewIfThere start target text) but_beside time move_left
 
-  placed : Moved c d beside target → Elapses c d → IsPlaced start d beside target text
-  placed moved time = record {
-    file = file;
-    leads = moved.seen_to ∙ s.stands.leads;
-    holds = may.files.seen file ∙ s.holds;
-    kept = λ h l. s.kept h (may.files.left file h l);
-    seen = λ n nt. ⊎_elim
-        (λ e. shows_none d n (ap (λ m. d.leads m) e ∙ moved.seen_from s.stands.apart) ∙ sym (shows_none start n (ap (λ m. start.leads m) e ∙ s.stands.was_free)))
-        (λ ne. shows c d n (may.names.seen n ne nt) (λ i is. may.files.seen i) ∙ s.stands.seen n ne)
-        (same_or_not n beside);
-    moments = moved_moments time;
-    left = move_left;
-  }
+    placed : Moved c d beside target → Elapses c d → IsPlaced start d beside target text
+    placed moved time = record {
+      file = file;
+      leads = moved.seen_to ∙ s.stands.leads;
+      holds = may.files.seen file ∙ s.holds;
+      kept = λ h l. s.kept h (may.files.left file h l);
+      seen = λ n nt. ⊎_elim
+          (λ e. shows_none d n (ap (λ m. d.leads m) e ∙ moved.seen_from s.stands.apart)
+          ∙ sym (shows_none start n (ap (λ m. start.leads m) e ∙ s.stands.was_free)))
+          (λ ne. shows c d n (may.names.seen n ne nt) (λ i is. may.files.seen i) ∙ s.stands.seen n ne)
+          (same_or_not n beside);
+      moments = moved_moments time;
+      left = move_left;
+    }
 
-  not_placed : NotMoved c d beside target → Elapses c d → IsStuck start d beside target text
-  not_placed not_moved time = record {
-    apart = s.stands.apart;
-    was_free = s.stands.was_free;
-    seen = λ n ne. shows c d n (not_moved.seen n) (λ i is. may.files.seen i) ∙ s.stands.seen n ne;
-    moments = moved_moments time;
-    left = move_left;
-  }
+    not_placed : NotMoved c d beside target → Elapses c d → IsStuck start d beside target text
+    not_placed not_moved time = record {
+      apart = s.stands.apart;
+      was_free = s.stands.was_free;
+      seen = λ n ne. shows c d n (not_moved.seen n) (λ i is. may.files.seen i) ∙ s.stands.seen n ne;
+      moments = moved_moments time;
+      left = move_left;
+    }
 
 -- a new file that is given up
 pub stuck : (start a : Disk) (beside target : List ℕ) (file : ℕ) (text : Held) → IsBeside start a beside target file → IsStuck start a beside target text
@@ -188,12 +201,14 @@ stuck start a beside target file text s = record {
   apart = s.apart;
   was_free = s.was_free;
   seen = s.seen;
-  moments = weaker start a (λ n k. n ≢ beside → MayLeave start n k) (OldOrNewIfThere start target text) (λ n k l there. inl (l (there_apart start beside target s.apart s.was_free n there))) s.moments;
+  moments = weaker start a (λ n k. n ≢ beside → MayLeave start n k) (OldOrNewIfThere start target text)
+      (λ n k l there. inl (l (there_apart start beside target s.apart s.was_free n there))) s.moments;
   left = λ n c l there. inl (s.left n c (there_apart start beside target s.apart s.was_free n there) l);
 }
 
 -- the two further ways in which it does not come to its place
-pub stuck_at_sync : (start b c : Disk) (beside target : List ℕ) (file : ℕ) (text : List ℕ) (mode : ℕ) (held : Held) → IsWriting start b beside target file text mode
+pub stuck_at_sync : (start b c : Disk) (beside target : List ℕ) (file : ℕ) (text : List ℕ) (mode : ℕ) (held : Held)
+    → IsWriting start b beside target file text mode
     → MaySpoil b c file → Elapses b c → IsStuck start c beside target held
 stuck_at_sync start b c beside target file text mode held w may time =
     stuck start c beside target file held (touched start b c beside target file w.stands may.names may.files time)
@@ -255,7 +270,8 @@ module _ (start a b : Disk) (beside target : List ℕ) (text : Held) (s : IsPlac
 module _ (start a b : Disk) (beside target : List ℕ) (file : ℕ) (s : IsBeside start a beside target file) (may : MayRemove a b beside) where
   pub given_up_moments : Elapses a b → LeavesOnly start b (OldIfThere start target)
   given_up_moments time = goes_on start a b (OldIfThere start target)
-      (weaker start a (λ n k. n ≢ beside → MayLeave start n k) (OldIfThere start target) (λ n k l there. l (there_apart start beside target s.apart s.was_free n there)) s.moments)
+      (weaker start a (λ n k. n ≢ beside → MayLeave start n k) (OldIfThere start target)
+      (λ n k l there. l (there_apart start beside target s.apart s.was_free n there)) s.moments)
       time (λ n c l there.
       let ne = there_apart start beside target s.apart s.was_free n there in
       s.left n c ne (may_follow a b n (λ x. may.names.left n x ne ne) (λ i h leads. may.files.left i h) c l))
@@ -267,25 +283,33 @@ unchanged_seen start a same = stay_seen start a same.stays
 pub unchanged_moments : (start a : Disk) (target : List ℕ) (text : Held) → IsUnchanged start a → LeavesOnly start a (OldOrNewIfThere start target text)
 unchanged_moments start a target text same = weaker start a (MayLeave start) (OldOrNewIfThere start target text) (λ n c l there. inl l) same.moments
 
-pub old_moments : (start a : Disk) (target : List ℕ) (text : Held) → LeavesOnly start a (OldIfThere start target) → LeavesOnly start a (OldOrNewIfThere start target text)
+pub old_moments : (start a : Disk) (target : List ℕ) (text : Held) → LeavesOnly start a (OldIfThere start target)
+    → LeavesOnly start a (OldOrNewIfThere start target text)
 old_moments start a target text moments = weaker start a (OldIfThere start target) (OldOrNewIfThere start target text) (λ n c l there. inl (l there)) moments
 
 -- what is left after a call has failed and the new file's name was to be freed
-pub after_removal : {T X : Type 0} (start a b : Disk) (beside target : List ℕ) (text : Held) (removal : Result T X) (fault : X) (result : PutFault X) → IsStuck start a beside target text → OnOk removal (Removed a b beside) → OnErr removal (NotRemoved a b beside)
+pub after_removal : {T X : Type 0} (start a b : Disk) (beside target : List ℕ) (text : Held) (removal : Result T X) (fault : X) (result : PutFault X)
+    → IsStuck start a beside target text → OnOk removal (Removed a b beside) → OnErr removal (NotRemoved a b beside)
     → result ≡ left_by (Some fault) removal → NotFinished start b target text result
-after_removal start a b beside target text (Ok _) fault result s removed not_removed is = subst (λ r. NotFinished start b target text r) (sym is) (freed start a b beside target text s removed.may removed)
-after_removal start a b beside target text (Err other) fault result s removed not_removed is = subst (λ r. NotFinished start b target text r) (sym is) (not_freed start a b beside target text s not_removed.may)
+after_removal start a b beside target text (Ok _) fault result s removed not_removed is =
+    subst (λ r. NotFinished start b target text r) (sym is) (freed start a b beside target text s removed.may removed)
+after_removal start a b beside target text (Err other) fault result s removed not_removed is =
+    subst (λ r. NotFinished start b target text r) (sym is) (not_freed start a b beside target text s not_removed.may)
 
-pub moments_of_removal : {T X : Type 0} (start a b : Disk) (beside target : List ℕ) (text : Held) (removal : Result T X) → IsStuck start a beside target text → OnOk removal (Removed a b beside) → OnErr removal (NotRemoved a b beside) → Elapses a b → LeavesOnly start b (OldOrNewIfThere start target text)
+pub moments_of_removal : {T X : Type 0} (start a b : Disk) (beside target : List ℕ) (text : Held) (removal : Result T X) → IsStuck start a beside target text
+    → OnOk removal (Removed a b beside) → OnErr removal (NotRemoved a b beside) → Elapses a b → LeavesOnly start b (OldOrNewIfThere start target text)
 moments_of_removal start a b beside target text (Ok _) s removed not_removed time = freed_moments start a b beside target text s removed.may time
 moments_of_removal start a b beside target text (Err other) s removed not_removed time = freed_moments start a b beside target text s not_removed.may time
 
-pub old_moments_of_removal : {T X : Type 0} (start a b : Disk) (beside target : List ℕ) (file : ℕ) (removal : Result T X) → IsBeside start a beside target file → OnOk removal (Removed a b beside) → OnErr removal (NotRemoved a b beside) → Elapses a b → LeavesOnly start b (OldIfThere start target)
+pub old_moments_of_removal : {T X : Type 0} (start a b : Disk) (beside target : List ℕ) (file : ℕ) (removal : Result T X) → IsBeside start a beside target file
+    → OnOk removal (Removed a b beside) → OnErr removal (NotRemoved a b beside) → Elapses a b → LeavesOnly start b (OldIfThere start target)
 old_moments_of_removal start a b beside target file (Ok _) s removed not_removed time = given_up_moments start a b beside target file s removed.may time
-old_moments_of_removal start a b beside target file (Err other) s removed not_removed time = given_up_moments start a b beside target file s not_removed.may time
+old_moments_of_removal start a b beside target file (Err other) s removed not_removed time =
+    given_up_moments start a b beside target file s not_removed.may time
 
 -- what a write leaves that has not begun, or has not succeeded
-pub not_begun : {X : Type 0} (start now : Disk) (target : List ℕ) (text : Held) (fault : PutFault X) → NotBegun start now fault → AfterFault start now target text fault
+pub not_begun : {X : Type 0} (start now : Disk) (target : List ℕ) (text : Held) (fault : PutFault X) → NotBegun start now fault
+    → AfterFault start now target text fault
 not_begun start now target text Memory same = unchanged_seen start now same
 not_begun start now target text NamesTaken same = unchanged_seen start now same
 not_begun start now target text (Failed _) same = unchanged_seen start now same
@@ -293,7 +317,8 @@ not_begun start now target text (LeftBehind _ _) none = absurd none
 not_begun start now target text (Remains _) none = absurd none
 not_begun start now target text (NotKept _) none = absurd none
 
-pub not_begun_moments : {X : Type 0} (start now : Disk) (target : List ℕ) (text : Held) (fault : PutFault X) → NotBegun start now fault → LeavesOnly start now (OldOrNewIfThere start target text)
+pub not_begun_moments : {X : Type 0} (start now : Disk) (target : List ℕ) (text : Held) (fault : PutFault X) → NotBegun start now fault
+    → LeavesOnly start now (OldOrNewIfThere start target text)
 not_begun_moments start now target text Memory same = unchanged_moments start now target text same
 not_begun_moments start now target text NamesTaken same = unchanged_moments start now target text same
 not_begun_moments start now target text (Failed _) same = unchanged_moments start now target text same
@@ -301,7 +326,8 @@ not_begun_moments start now target text (LeftBehind _ _) none = absurd none
 not_begun_moments start now target text (Remains _) none = absurd none
 not_begun_moments start now target text (NotKept _) none = absurd none
 
-pub not_finished : {X : Type 0} (start now : Disk) (target : List ℕ) (text : Held) (fault : PutFault X) → NotFinished start now target text fault → AfterFault start now target text fault
+pub not_finished : {X : Type 0} (start now : Disk) (target : List ℕ) (text : Held) (fault : PutFault X) → NotFinished start now target text fault
+    → AfterFault start now target text fault
 not_finished start now target text Memory none = absurd none
 not_finished start now target text NamesTaken none = absurd none
 not_finished start now target text (Failed _) left = left
@@ -309,11 +335,13 @@ not_finished start now target text (LeftBehind _ _) left = left
 not_finished start now target text (Remains _) none = absurd none
 not_finished start now target text (NotKept _) left = left
 
-pub not_taken : {T X : Type 0} (start now : Disk) (target : List ℕ) (text : Held) (r : Result T (PutFault X)) → IfErr r (NotFinished start now target text) → IsErrOf r NamesTaken → ⊥
+pub not_taken : {T X : Type 0} (start now : Disk) (target : List ℕ) (text : Held) (r : Result T (PutFault X)) → IfErr r (NotFinished start now target text)
+    → IsErrOf r NamesTaken → ⊥
 not_taken start now target text r left is = IfErr-at_err (NotFinished start now target text) is left
 
 -- what a write leaves that is given up
-pub after_giving_up : {T X : Type 0} (start now : Disk) (target : List ℕ) (text : Held) (removal : Result T X) (fault : Option X) (result : PutFault X) → OnOk removal (SeenSame start now)
+pub after_giving_up : {T X : Type 0} (start now : Disk) (target : List ℕ) (text : Held) (removal : Result T X) (fault : Option X) (result : PutFault X)
+    → OnOk removal (SeenSame start now)
     → OnErr removal (SeenSameIfThere start now target) → result ≡ left_by fault removal → AfterFault start now target text result
 after_giving_up start now target text (Ok _) None result same but is = subst (λ r. AfterFault start now target text r) (sym is) same
 after_giving_up start now target text (Ok _) (Some fault) result same but is = subst (λ r. AfterFault start now target text r) (sym is) same

@@ -1,5 +1,6 @@
 -- What each single call on a file, or on all names, makes of a folder. This project's own.
-use Rattle.std.specs.Prelude.{◌≡◌, ◌≢◌, ◌⊎◌, ℕ, List, [], ◌++◌, take, Option, Some, None, Bool, if◌then◌else◌}
+use Rattle.std.specs.Prelude.{◌≡◌, ◌≢◌, ◌⊎◌, ℕ, List, [], ◌++◌, take, Option, Some, None, Bool}
+use Rattle.std.specs.Prelude.{if◌then◌else◌}
 use Rattle.irig_disk.specs.Disk.{Disk, Held}
 use Rattle.irig_disk.specs.Stays.{OtherNamesStay, NamesStay, OtherFilesStay, Stays}
 

@@ -14,7 +14,8 @@ pub record Disk : Type 1 where
   -- what a crash at this moment may leave of either
   pub may_lead : List ℕ → Option ℕ → Type 0
   pub may_hold : ℕ → Held → Type 0
-  -- the moment, as a number that doesn't fall, and what a crash since a moment might have left under a name
+  -- the moment, as a number that doesn't fall, and what a crash since a moment might have left
+  -- under a name
   pub moment : ℕ
   pub left_since : ℕ → List ℕ → Option Held → Type 0
 
@@ -25,21 +26,26 @@ seen_under disk name = elim (disk.leads name) [ None ↦ None | Some file ↦ So
 -- left under a name, by what names may lead to and files may hold
 abbrev pub Left : (List ℕ → Option ℕ → Type 0) → (ℕ → Held → Type 0) → List ℕ → Option Held → Type 0
 Left may_lead may_hold name None = may_lead name None
-Left may_lead may_hold name (Some held) = (file : ℕ) × may_lead name (Some file) × may_hold file held
+Left may_lead may_hold name (Some held) =
+    (file : ℕ) × may_lead name (Some file) × may_hold file held
 
 -- a crash at this moment may leave this under a name
 abbrev pub MayLeave : Disk → List ℕ → Option Held → Type 0
 MayLeave disk name c = Left disk.may_lead disk.may_hold name c
 
--- Time goes on: a crash since a moment might have left what it might have left before, or what it may leave now.
+-- Time goes on: a crash since a moment might have left what it might have left before, or what it
+-- may leave now.
 pub record Elapses (old new : Disk) : Type 0 where
   pub later : old.moment ≤ new.moment
-  pub nothing_else : (t : ℕ) (name : List ℕ) (c : Option Held) → t ≤ old.moment → new.left_since t name c → old.left_since t name c ⊎ MayLeave new name c
-  pub keeps : (t : ℕ) (name : List ℕ) (c : Option Held) → t ≤ old.moment → old.left_since t name c → new.left_since t name c
+  pub nothing_else : (t : ℕ) (name : List ℕ) (c : Option Held) → t ≤ old.moment
+      → new.left_since t name c → old.left_since t name c ⊎ MayLeave new name c
+  pub keeps : (t : ℕ) (name : List ℕ) (c : Option Held) → t ≤ old.moment → old.left_since t name c
+      → new.left_since t name c
 
 -- A crash at any moment since old leaves under each name what has P.
 pub record LeavesOnly (old new : Disk) (P : List ℕ → Option Held → Type 0) : Type 0 where
   pub later : old.moment ≤ new.moment
   pub each : (name : List ℕ) (c : Option Held) → new.left_since old.moment name c → P name c
   -- for a run that began earlier
-  pub before : (t : ℕ) (name : List ℕ) (c : Option Held) → t ≤ old.moment → new.left_since t name c → old.left_since t name c ⊎ P name c
+  pub before : (t : ℕ) (name : List ℕ) (c : Option Held) → t ≤ old.moment → new.left_since t name c
+      → old.left_since t name c ⊎ P name c

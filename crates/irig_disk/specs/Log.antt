@@ -1,15 +1,20 @@
 -- What a log of calls makes of an empty folder, the newest call first. This project's own.
-use Rattle.std.specs.Prelude.{◌≡◌, ◌≢◌, ◌⊎◌, ◌≤◌, ℕ, nat_eq, List, [], ◌∷◌, ◌++◌, length, Option, Some, None, cond}
+use Rattle.std.specs.Prelude.{◌≡◌, ◌≢◌, ◌⊎◌, ◌≤◌, ℕ, nat_eq, List, [], ◌∷◌, ◌++◌, length, Option}
+use Rattle.std.specs.Prelude.{Some, None, cond}
 use Rattle.std.specs.Str.{bytes_eq}
 use Rattle.irig_disk.specs.Disk.{Disk, Held, Left}
 use Rattle.irig_disk.specs.declared.call.Call.{Call}
-use Rattle.irig_disk.specs.declared.call.Call.TheVariants.{Make, Append, TakeMode, SyncFile, Rename, Remove, SyncNames}
+use Rattle.irig_disk.specs.declared.call.Call.TheVariants.{Make, Append, TakeMode, SyncFile, Rename}
+use Rattle.irig_disk.specs.declared.call.Call.TheVariants.{Remove, SyncNames}
 
 -- the file that a name leads to
 abbrev pub leads_in : List Call → List ℕ → Option ℕ
 leads_in [] n = None
-leads_in (Make name mode ∷ calls) n = cond (bytes_eq name.items n) (Some (length calls)) (leads_in calls n)
-leads_in (Rename «from» to ∷ calls) n = cond (bytes_eq to.items n) (leads_in calls «from».items) (cond (bytes_eq «from».items n) None (leads_in calls n))
+leads_in (Make name mode ∷ calls) n =
+    cond (bytes_eq name.items n) (Some (length calls)) (leads_in calls n)
+leads_in (Rename «from» to ∷ calls) n =
+    cond (bytes_eq to.items n) (leads_in calls «from».items)
+    (cond (bytes_eq «from».items n) None (leads_in calls n))
 leads_in (Remove name ∷ calls) n = cond (bytes_eq name.items n) None (leads_in calls n)
 leads_in (Append file bytes ∷ calls) n = leads_in calls n
 leads_in (TakeMode file mode ∷ calls) n = leads_in calls n
@@ -19,9 +24,17 @@ leads_in (SyncNames ∷ calls) n = leads_in calls n
 -- what a file holds
 abbrev pub holds_in : List Call → ℕ → Held
 holds_in [] i = record { bytes = []; mode = 0 }
-holds_in (Make name mode ∷ calls) i = cond (nat_eq (length calls) i) (record { bytes = []; mode = mode }) (holds_in calls i)
-holds_in (Append file bytes ∷ calls) i = cond (nat_eq file i) (record { bytes = (holds_in calls i).bytes ++ bytes.items; mode = (holds_in calls i).mode }) (holds_in calls i)
-holds_in (TakeMode file mode ∷ calls) i = cond (nat_eq file i) (record { bytes = (holds_in calls i).bytes; mode = mode }) (holds_in calls i)
+holds_in (Make name mode ∷ calls) i =
+    cond (nat_eq (length calls) i) (record { bytes = []; mode = mode }) (holds_in calls i)
+holds_in (Append file bytes ∷ calls) i =
+    cond (nat_eq file i) (record {
+      bytes = (holds_in calls i).bytes ++ bytes.items;
+      mode =
+          (holds_in calls i).mode;
+    }) (holds_in calls i)
+holds_in (TakeMode file mode ∷ calls) i =
+    cond (nat_eq file i) (record { bytes = (holds_in calls i).bytes; mode = mode })
+    (holds_in calls i)
 holds_in (Rename «from» to ∷ calls) i = holds_in calls i
 holds_in (Remove name ∷ calls) i = holds_in calls i
 holds_in (SyncFile file ∷ calls) i = holds_in calls i
@@ -30,8 +43,11 @@ holds_in (SyncNames ∷ calls) i = holds_in calls i
 -- what a crash may leave a name to lead to: all that it led to since the last sync of the names
 abbrev pub may_lead_in : List Call → List ℕ → Option ℕ → Type 0
 may_lead_in [] n x = x ≡ None
-may_lead_in (Make name mode ∷ calls) n x = may_lead_in calls n x ⊎ ((name.items ≡ n) × (x ≡ Some (length calls)))
-may_lead_in (Rename «from» to ∷ calls) n x = may_lead_in calls n x ⊎ ((to.items ≡ n) × (x ≡ leads_in calls «from».items)) ⊎ ((«from».items ≡ n) × (n ≢ to.items) × (x ≡ None))
+may_lead_in (Make name mode ∷ calls) n x =
+    may_lead_in calls n x ⊎ ((name.items ≡ n) × (x ≡ Some (length calls)))
+may_lead_in (Rename «from» to ∷ calls) n x =
+    may_lead_in calls n x ⊎ ((to.items ≡ n) × (x ≡ leads_in calls «from».items))
+    ⊎ ((«from».items ≡ n) × (n ≢ to.items) × (x ≡ None))
 may_lead_in (Remove name ∷ calls) n x = may_lead_in calls n x ⊎ ((name.items ≡ n) × (x ≡ None))
 may_lead_in (SyncNames ∷ calls) n x = x ≡ leads_in calls n
 may_lead_in (Append file bytes ∷ calls) n x = may_lead_in calls n x
@@ -44,7 +60,8 @@ may_hold_in [] i h = h ≡ record { bytes = []; mode = 0 }
 may_hold_in (Make name mode ∷ calls) i h = (i ≡ length calls) ⊎ may_hold_in calls i h
 may_hold_in (Append file bytes ∷ calls) i h = (i ≡ file) ⊎ may_hold_in calls i h
 may_hold_in (TakeMode file mode ∷ calls) i h = (i ≡ file) ⊎ may_hold_in calls i h
-may_hold_in (SyncFile file ∷ calls) i h = (i ≡ file → h ≡ holds_in calls i) × (i ≢ file → may_hold_in calls i h)
+may_hold_in (SyncFile file ∷ calls) i h =
+    (i ≡ file → h ≡ holds_in calls i) × (i ≢ file → may_hold_in calls i h)
 may_hold_in (Rename «from» to ∷ calls) i h = may_hold_in calls i h
 may_hold_in (Remove name ∷ calls) i h = may_hold_in calls i h
 may_hold_in (SyncNames ∷ calls) i h = may_hold_in calls i h
@@ -52,7 +69,8 @@ may_hold_in (SyncNames ∷ calls) i h = may_hold_in calls i h
 -- what a crash since the first t calls might have left
 abbrev pub left_in : List Call → ℕ → List ℕ → Option Held → Type 0
 left_in [] t n c = Left (may_lead_in []) (may_hold_in []) n c
-left_in (call ∷ calls) t n c = Left (may_lead_in (call ∷ calls)) (may_hold_in (call ∷ calls)) n c ⊎ ((t ≤ length calls) × left_in calls t n c)
+left_in (call ∷ calls) t n c = Left (may_lead_in (call ∷ calls)) (may_hold_in (call ∷ calls)) n c
+    ⊎ ((t ≤ length calls) × left_in calls t n c)
 
 -- the folder that a log makes
 abbrev pub disk_of : List Call → Disk

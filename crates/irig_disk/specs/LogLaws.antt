@@ -5,11 +5,13 @@ use Rattle.irig_disk.specs.Disk.{Held, MayLeave}
 use Rattle.irig_disk.specs.Log.{disk_of, left_in}
 use Rattle.irig_disk.specs.declared.call.Call.{Call}
 
-pub log_counts_now : (calls : List Call) (t : ℕ) (n : List ℕ) (c : Option Held) → t ≤ length calls → MayLeave (disk_of calls) n c → left_in calls t n c
+pub log_counts_now : (calls : List Call) (t : ℕ) (n : List ℕ) (c : Option Held) → t ≤ length calls
+    → MayLeave (disk_of calls) n c → left_in calls t n c
 log_counts_now [] t n c le now = now
 log_counts_now (call ∷ calls) t n c le now = inl now
 
-pub log_only_now : (calls : List Call) (n : List ℕ) (c : Option Held) → left_in calls (length calls) n c → MayLeave (disk_of calls) n c
+pub log_only_now : (calls : List Call) (n : List ℕ) (c : Option Held)
+    → left_in calls (length calls) n c → MayLeave (disk_of calls) n c
 log_only_now [] n c now = now
 log_only_now (call ∷ calls) n c (inl now) = now
 log_only_now (call ∷ calls) n c (inr past) = let le = past.0 in absurd (omega arith)

@@ -4,14 +4,16 @@ use Rattle.irig_disk.specs.Disk.{Disk, Held, seen_under, MayLeave, LeavesOnly}
 use Rattle.irig_disk.specs.Stays.{Stays}
 use Rattle.irig_disk.specs.Put.{OldOrNewIfThere, SeenSame, SeenSameIfThere, IsPut}
 use Rattle.irig_disk.specs.declared.fault.PutFault.{PutFault}
-use Rattle.irig_disk.specs.declared.fault.PutFault.TheVariants.{Memory, NamesTaken, Failed, LeftBehind, Remains, NotKept}
+use Rattle.irig_disk.specs.declared.fault.PutFault.TheVariants.{Memory, NamesTaken, Failed}
+use Rattle.irig_disk.specs.declared.fault.PutFault.TheVariants.{LeftBehind, Remains, NotKept}
 
 -- nothing is changed since the start, at no moment
 pub record IsUnchanged (start now : Disk) : Type 0 where
   pub stays : Stays start now
   pub moments : LeavesOnly start now (MayLeave start)
 
--- Since the start there is a new file next to the target, and nothing else is changed, at no moment.
+-- Since the start there is a new file next to the target, and nothing else is changed, at no
+-- moment.
 pub record IsBeside (start now : Disk) (beside target : List ℕ) (file : ℕ) : Type 0 where
   pub apart : beside ≢ target
   pub was_free : start.leads beside ≡ None

@@ -1,15 +1,17 @@
 //! Single system calls on the names of one folder.
 
-ghost use Rattle.std.specs.Prelude.{◌≡◌, ◌≤◌, ℕ, List, Option, OnOk, OnErr, MatchResult, MatchOption};
+ghost use Rattle.std.specs.Prelude.{◌≡◌, ◌≤◌, ℕ, List, Option, OnOk, OnErr, MatchResult};
+ghost use Rattle.std.specs.Prelude.{MatchOption};
 ghost use Rattle.irig_disk.specs.Disk.{Disk, Held, Elapses, MayLeave};
 ghost use Rattle.irig_disk.specs.Stays.{Stays};
-ghost use Rattle.irig_disk.specs.Calls.{Made, IsTaken, Wrote, WroteSome, TookMode, SyncedFile, MaySpoil, SyncedNames, mode_made};
+ghost use Rattle.irig_disk.specs.Calls.{Made, IsTaken, Wrote, WroteSome, TookMode, SyncedFile};
+ghost use Rattle.irig_disk.specs.Calls.{MaySpoil, SyncedNames, mode_made};
 ghost use Rattle.irig_disk.specs.Moves.{Moved, NotMoved, Removed, NotRemoved};
 
 /// The names of one folder. Each method is one call, and says what a crash may leave of it.
 ///
-/// A call that succeeds gives a value of a type that only that call makes, so that nobody can say of
-/// a call that was never made that it succeeded.
+/// A call that succeeds gives a value of a type that only that call makes, so that nobody can say
+/// of a call that was never made that it succeeded.
 pub trait Folder {
     /// A new file that is open. Only `make` gives one.
     type File: Drop;

@@ -41,7 +41,8 @@ pub fn mode_of(calls: &[Call], number: usize) -> u32
 
 /// Whether a crash leaves a file as it is seen.
 pub fn is_kept(calls: &[Call], number: usize) -> bool
-    ensures { IsTrue result → (h : Held) → may_hold_in calls.now number h → h ≡ holds_in calls.now number }
+    ensures { IsTrue result → (h : Held) → may_hold_in calls.now number h
+        → h ≡ holds_in calls.now number }
 {
     let Some((call, older)) = calls.split_first() else {
         return true;

@@ -1,4 +1,5 @@
-//! A folder in memory, for tests. It is the log of the calls that were done on it, the newest first.
+//! A folder in memory, for tests. It is the log of the calls that were done on it, the newest
+//! first.
 
 ghost use Rattle.std.specs.Prelude.{◌≡◌, ◌∷◌, [], OnOk, OnErr};
 ghost use Rattle.irig_disk.specs.Log.{leads_in, disk_of};

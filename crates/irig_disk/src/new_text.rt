@@ -1,10 +1,13 @@
 //! A text of a target, in parts, written whole.
 
-ghost use Rattle.std.specs.Prelude.{◌≡◌, ◌≢◌, ◌++◌, ◌+◌, ◌-◌, ◌^◌, ℕ, List, [], length, min, take, string_bytes, IfOk, IfErr, OnOk, OnErr, IsErrOf};
+ghost use Rattle.std.specs.Prelude.{◌≡◌, ◌≢◌, ◌++◌, ◌+◌, ◌-◌, ◌^◌, ℕ, List, [], length, min, take};
+ghost use Rattle.std.specs.Prelude.{string_bytes, IfOk, IfErr, OnOk, OnErr, IsErrOf};
 ghost use Rattle.irig_disk.specs.Disk.{LeavesOnly};
 ghost use Rattle.irig_disk.specs.declared.fault.PutFault.TheVariants.{NamesTaken};
-ghost use Rattle.irig_disk.specs.Put.{OldIfThere, OldOrNewIfThere, SeenSame, SeenSameIfThere, IsKept, AllTaken, name_after, held, first_mode, last_mode};
-ghost use Rattle.irig_disk.specs.Writing.{NotFinished, IsBeside, IsWriting, IsPlaced, IsStuck, NotBegun, WhileWriting};
+ghost use Rattle.irig_disk.specs.Put.{OldIfThere, OldOrNewIfThere, SeenSame, SeenSameIfThere};
+ghost use Rattle.irig_disk.specs.Put.{IsKept, AllTaken, name_after, held, first_mode, last_mode};
+ghost use Rattle.irig_disk.specs.Writing.{NotFinished, IsBeside, IsWriting, IsPlaced, IsStuck};
+ghost use Rattle.irig_disk.specs.Writing.{NotBegun, WhileWriting};
 ghost use Rattle.irig_disk.specs.Calls.{mode_made};
 
 use crate::fault::{PutFault, fault_after};
@@ -26,8 +29,8 @@ pub struct NewText<'n, F: Folder> {
 }
 
 impl<'n, F: Folder> NewText<'n, F> {
-    /// Makes the new file, under the first name that is free: the stem and a number from 0, which is
-    /// written to `name`. If it is to take a mode it is its owner's alone until then.
+    /// Makes the new file, under the first name that is free: the stem and a number from 0, which
+    /// is written to `name`. If it is to take a mode it is its owner's alone until then.
     pub fn begin(
         folder: &mut F,
         name: &'n mut String,
@@ -82,15 +85,18 @@ impl<'n, F: Folder> NewText<'n, F> {
     /// Gives the text its mode and its name, and keeps both.
     pub fn finish(self, folder: &mut F) -> Result<Kept, PutFault<F::Fault>>
         ensures ok { F.is_told → WhileWriting F.disk folder.old self.entry.beside.now
-            self.entry.target.now (F.number self.entry.file) (first_mode F.usual_mode self.entry.mode)
+            self.entry.target.now (F.number self.entry.file)
+            (first_mode F.usual_mode self.entry.mode)
             (λ start text. OnOk result (IsKept start (F.disk folder.new)
             self.entry.target.now (held F.usual_mode self.entry.mode text))) }
         ensures err { F.is_told → WhileWriting F.disk folder.old self.entry.beside.now
-            self.entry.target.now (F.number self.entry.file) (first_mode F.usual_mode self.entry.mode)
+            self.entry.target.now (F.number self.entry.file)
+            (first_mode F.usual_mode self.entry.mode)
             (λ start text. IfErr result (NotFinished start (F.disk folder.new)
             self.entry.target.now (held F.usual_mode self.entry.mode text))) }
         ensures any_moment { F.is_told → WhileWriting F.disk folder.old self.entry.beside.now
-            self.entry.target.now (F.number self.entry.file) (first_mode F.usual_mode self.entry.mode)
+            self.entry.target.now (F.number self.entry.file)
+            (first_mode F.usual_mode self.entry.mode)
             (λ start text. LeavesOnly start (F.disk folder.new) (OldOrNewIfThere start
             self.entry.target.now (held F.usual_mode self.entry.mode text))) }
         ensures count { IfOk result (λ kept. kept.count ≡ self.entry.count) }

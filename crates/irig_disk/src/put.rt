@@ -1,6 +1,7 @@
 //! A text written whole, in one call.
 
-ghost use Rattle.std.specs.Prelude.{◌≡◌, ◌++◌, ◌+◌, ℕ, List, [], true, length, IfOk, IfErr, OnOk, OnErr, IsErrOf};
+ghost use Rattle.std.specs.Prelude.{◌≡◌, ◌++◌, ◌+◌, ℕ, List, [], true, length, IfOk, IfErr, OnOk};
+ghost use Rattle.std.specs.Prelude.{OnErr, IsErrOf};
 ghost use Rattle.irig_disk.specs.Disk.{LeavesOnly};
 ghost use Rattle.irig_disk.specs.declared.fault.PutFault.TheVariants.{NamesTaken};
 ghost use Rattle.irig_disk.specs.declared.new_text.TheConstants.{NAMES};
@@ -25,8 +26,8 @@ pub fn put_text<F: Folder, T: Text>(
     text: &mut T,
     block: &mut Vec<u8>,
 ) -> Result<Kept, PutFault<F::Fault>>
-    // A crash at any moment of the call leaves the old text at the target or the new one, whole, and
-    // each other name that was there as it was.
+    // A crash at any moment of the call leaves the old text at the target or the new one, whole,
+    // and each other name that was there as it was.
     ensures any_moment { F.is_told → LeavesOnly (F.disk folder.old) (F.disk folder.new)
         (OldOrNewIfThere (F.disk folder.old) target.now
         (held F.usual_mode mode (T.rest text.old))) }

@@ -15,14 +15,19 @@ pub same_path : (x y : ℕ) (xs ys : List ℕ) → x ∷ xs ≡ y ∷ ys → xs 
 same_path x y xs ys e = cc
 
 -- the shelf was at the path of the settings, from the start to the end
-pub runs_by : (chosen : Settings) (source : List ℕ) (wire out out_new script left : Option (List ℕ)) (path path_new label label_new : List ℕ) (puts mid new : Option (List Put)) (failures failures_new : ℕ) (result : Result Status DumpRunFault)
+pub runs_by : (chosen : Settings) (source : List ℕ) (wire out out_new script left : Option (List ℕ)) (path path_new label label_new : List ℕ)
+    (puts mid new : Option (List Put)) (failures failures_new : ℕ) (result : Result Status DumpRunFault)
     → wire ≡ option_map (λ w. w.now) chosen.wire → label_new ≡ label → path ≡ chosen.out.now → path_new ≡ chosen.out.now → mid ≡ puts → failures ≡ 0
-    → RunsOnDump wire chosen.format source script left (desk out (shelved (texts_at path mid) failures label)) (desk out_new (shelved (texts_at path_new new) failures_new label_new)) result
+    → RunsOnDump wire chosen.format source script left (desk out (shelved (texts_at path mid) failures label))
+    (desk out_new (shelved (texts_at path_new new) failures_new label_new)) result
     → RunsBy chosen source (ends out puts script) (ends out_new new left) result
 runs_by chosen source wire out out_new script left path path_new label label_new puts mid new failures failures_new result w e p q m z h = record {
   label = label;
   failures = failures_new;
-  ran = subst (λ (v : Option (List ℕ)). RunsOnDump v chosen.format source script left (desk out (shelved (texts_at chosen.out.now puts) 0 label)) (desk out_new (shelved (texts_at chosen.out.now new) failures_new label)) result) w
-      (subst (λ (d : Desk). RunsOnDump wire chosen.format source script left d (desk out_new (shelved (texts_at chosen.out.now new) failures_new label)) result) (λ j. desk out (shelved (texts_at (p j) (m j)) (z j) label))
-      (subst (λ (d : Desk). RunsOnDump wire chosen.format source script left (desk out (shelved (texts_at path mid) failures label)) d result) (λ j. desk out_new (shelved (texts_at (q j) new) failures_new (e j))) h));
+  ran = subst (λ (v : Option (List ℕ)). RunsOnDump v chosen.format source script left (desk out (shelved (texts_at chosen.out.now puts) 0 label))
+      (desk out_new (shelved (texts_at chosen.out.now new) failures_new label)) result) w
+      (subst (λ (d : Desk). RunsOnDump wire chosen.format source script left d (desk out_new (shelved (texts_at chosen.out.now new) failures_new label)) result)
+      (λ j. desk out (shelved (texts_at (p j) (m j)) (z j) label))
+      (subst (λ (d : Desk). RunsOnDump wire chosen.format source script left (desk out (shelved (texts_at path mid) failures label)) d result)
+      (λ j. desk out_new (shelved (texts_at (q j) new) failures_new (e j))) h));
 }

@@ -1,5 +1,6 @@
 -- What an abort of a group leaves of the steps, and what these mean.
-use Rattle.std.proofs.Common.{◌≡◌, ◌≤◌, ◌+◌, ◌-◌, ℕ, suc, zero, false, List, [], ◌∷◌, length, nat_le, drop, take, Option, Some, None, option_map, refl, ap, sym, ◌∙◌, subst, arith}
+use Rattle.std.proofs.Common.{◌≡◌, ◌≤◌, ◌+◌, ◌-◌, ℕ, suc, zero, false, List, [], ◌∷◌, length, nat_le, drop, take, Option, Some, None, option_map, refl, ap, sym}
+use Rattle.std.proofs.Common.{◌∙◌, subst, arith}
 use Rattle.std.specs.Prelude.{IfSome, flat_map}
 use Rattle.std.specs.List.{AllByRecursion}
 use Rattle.irig_journal.specs.declared.opening.Opening.{Opening}
@@ -141,11 +142,13 @@ rose_along s (near ∷ steps) old new counts =
 pub aborted_rose : (s : State) (cursor : ℕ) (past future : List (Step Delta)) (opening : Option Opening) (old new : ℕ)
     → IfSome opening (λ o. CountsAlong counted turned s (beyond o.steps past) old new)
     → (opening ≡ None → ⊥)
-    → RoseWithin (looks_back (made_since (option_map (floor_of (machine (history s cursor past future))) opening) (machine (history s cursor past future)))) old new
+    → RoseWithin (looks_back (made_since (option_map (floor_of (machine (history s cursor past future))) opening) (machine (history s cursor past future)))) old
+    new
 aborted_rose s cursor past future None old new counts some = absurd (some refl)
 aborted_rose s cursor past future (Some o) old new counts some =
     let long = length-kept_back s past in
-    let bound : looks_back (take (length (kept_back s past) - o.steps) (kept s cursor (exchange_back s past) ∷ kept_back s past)) ≡ looks_of s (gathered (changes_of (beyond o.steps past))) =
+    let bound : looks_back (take (length (kept_back s past) - o.steps) (kept s cursor (exchange_back s past) ∷ kept_back s past))
+    ≡ looks_of s (gathered (changes_of (beyond o.steps past))) =
     (λ i. looks_back (take (long i - o.steps) (kept s cursor (exchange_back s past) ∷ kept_back s past)))
     ∙ looks_back-along (length past - o.steps) s cursor past in
     subst (λ (most : Option ℕ). RoseWithin most old new) (sym bound) (rose_along s (beyond o.steps past) old new counts)

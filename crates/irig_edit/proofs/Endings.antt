@@ -1,5 +1,6 @@
 -- What an end of a group leaves of the steps, and what these mean.
-use Rattle.std.proofs.Common.{◌≡◌, ◌≤◌, ◌<◌, ◌+◌, ◌-◌, ℕ, suc, zero, Bool, true, false, List, [], ◌∷◌, length, nat_le, drop, take, Option, Some, None, option_map, if◌then◌else◌, refl, ap, sym, ◌∙◌, subst, arith}
+use Rattle.std.proofs.Common.{◌≡◌, ◌≤◌, ◌<◌, ◌+◌, ◌-◌, ℕ, suc, zero, Bool, true, false, List, [], ◌∷◌, length, nat_le, drop, take, Option, Some, None}
+use Rattle.std.proofs.Common.{option_map, if◌then◌else◌, refl, ap, sym, ◌∙◌, subst, arith}
 use Rattle.std.specs.Prelude.{IfSome, IsNone, IsSome}
 use Rattle.std.proofs.lemmas.Bool.{leb-false}
 use Rattle.std.proofs.lemmas.Bool.Decides.{nat_tests}
@@ -43,11 +44,12 @@ machine-joined : (s : State) (cursor height : ℕ) (past future : List (Step Del
       future = kept_forward s future;
     }
 machine-joined s cursor height past future is fit = by_test (nat_le (length past) (height + 1)) refl where
-  by_count : (k : ℕ) → length past - height - 1 ≡ suc k → machine (history s cursor (joined gathered (beyond height past) ∷ farthest height past) future) ≡ record {
-    past = drop (length past - height - 1) (kept_back s past);
-    present = kept s cursor (together (exchange_back s past) (take (length past - height - 1) (kept_back s past)));
-    future = kept_forward s future;
-  }
+  by_count : (k : ℕ) → length past - height - 1 ≡ suc k → machine (history s cursor (joined gathered (beyond height past) ∷ farthest height past) future)
+      ≡ record {
+        past = drop (length past - height - 1) (kept_back s past);
+        present = kept s cursor (together (exchange_back s past) (take (length past - height - 1) (kept_back s past)));
+        future = kept_forward s future;
+      }
   by_count k count =
       let there : suc k < length past = omega (arith, count) in
       let all : length past - height ≡ suc (suc k) = omega (arith, count) in
@@ -72,11 +74,12 @@ machine-joined s cursor height past future is fit = by_test (nat_le (length past
         future = kept_forward s future;
       })
 
-  by_many : (n : ℕ) → length past - height - 1 ≡ n → height + 1 < length past → machine (history s cursor (joined gathered (beyond height past) ∷ farthest height past) future) ≡ record {
-    past = drop (length past - height - 1) (kept_back s past);
-    present = kept s cursor (together (exchange_back s past) (take (length past - height - 1) (kept_back s past)));
-    future = kept_forward s future;
-  }
+  by_many : (n : ℕ) → length past - height - 1 ≡ n → height + 1 < length past
+      → machine (history s cursor (joined gathered (beyond height past) ∷ farthest height past) future) ≡ record {
+        past = drop (length past - height - 1) (kept_back s past);
+        present = kept s cursor (together (exchange_back s past) (take (length past - height - 1) (kept_back s past)));
+        future = kept_forward s future;
+      }
   by_many zero count many = absurd (omega (arith, count, many))
   by_many (suc k) count many = by_count k count
 
@@ -144,10 +147,12 @@ pub grouped-began : (s : State) (cursor : ℕ) (past future all more : List (Ste
     → begun (over_opening old (machine (history s cursor past future))) ≡ Some (over_opening new (machine (history s cursor all more)))
 grouped-began s cursor past future all more (Some o) new opens same later = absurd (cc)
 grouped-began s cursor past future all more None new opens same later =
-    let there : over (Some (record { height = length (journal.states_along turned s past); present = states.kept s cursor })) (journal.machine turned (history s cursor past future))
+    let there : over (Some (record { height = length (journal.states_along turned s past); present = states.kept s cursor }))
+    (journal.machine turned (history s cursor past future))
     ≡ grouped_states s cursor all more new = cc in
     by_new new (ap (λ (g : Grouped (states.Kept State)). g.floor) there) where
-      by_new : (new : Option Opening) → Some (record { height = length (journal.states_along turned s past); present = states.kept s cursor }) ≡ option_map (openings.floor_at turned s all) new
+      by_new : (new : Option Opening) → Some (record { height = length (journal.states_along turned s past); present = states.kept s cursor })
+          ≡ option_map (openings.floor_at turned s all) new
           → begun (over_opening None (machine (history s cursor past future))) ≡ Some (over_opening new (machine (history s cursor all more)))
       by_new None is = absurd (cc)
       by_new (Some o) is =

@@ -1,5 +1,6 @@
 -- The floor of an open group stays where it is while the machine above it moves.
-use Rattle.std.proofs.Common.{◌≡◌, ◌≤◌, ◌-◌, ℕ, suc, zero, Bool, true, false, List, [], ◌∷◌, length, nat_le, Option, Some, None, option_map, if◌then◌else◌, refl, ap, sym, ◌∙◌, subst, arith}
+use Rattle.std.proofs.Common.{◌≡◌, ◌≤◌, ◌-◌, ℕ, suc, zero, Bool, true, false, List, [], ◌∷◌, length, nat_le, Option, Some, None, option_map, if◌then◌else◌}
+use Rattle.std.proofs.Common.{refl, ap, sym, ◌∙◌, subst, arith}
 use Rattle.std.proofs.lemmas.Bool.{leb-false}
 use Rattle.std.proofs.lemmas.Bool.Decides.{nat_tests}
 use Rattle.irig_journal.specs.declared.opening.Opening.{Opening}
@@ -98,7 +99,8 @@ IsGrouped-undone g h is step = record {
   alone : (undone g.machine ≡ Some h.machine) × (h.floor ≡ g.floor)
   alone = over_some g.floor (undone g.machine) h allowed.1
 
-  by_past : (height : ℕ) (past : List Kept) → taken_back past g.machine.present g.machine.future ≡ Some h.machine → nat_le (length past) height ≡ false → height ≤ length h.machine.past
+  by_past : (height : ℕ) (past : List Kept) → taken_back past g.machine.present g.machine.future ≡ Some h.machine → nat_le (length past) height ≡ false
+      → height ≤ length h.machine.past
   by_past height [] back above = absurd (cc)
   by_past height (before ∷ past) back above =
       let there : record { past = past; present = before; future = g.machine.present ∷ g.machine.future } ≡ h.machine = cc in
@@ -106,7 +108,8 @@ IsGrouped-undone g h is step = record {
       let stands : height ≤ length past = omega (arith, long) in
       subst (λ (x : Machine Kept). height ≤ length x.past) there stands
 
-  by_floor : (floor : Option (Floor Kept)) → IsFloor (length g.machine.past) floor → is_at_floor floor g.machine.past ≡ false → IsFloor (length h.machine.past) floor
+  by_floor : (floor : Option (Floor Kept)) → IsFloor (length g.machine.past) floor → is_at_floor floor g.machine.past ≡ false
+      → IsFloor (length h.machine.past) floor
   by_floor None is above = tt
   by_floor (Some f) is above = (by_past f.height g.machine.past alone.0 above, is.1)
 
@@ -136,7 +139,8 @@ IsGrouped-redone g h is step = record {
   alone : (redone g.machine ≡ Some h.machine) × (h.floor ≡ g.floor)
   alone = over_some g.floor (redone g.machine) h step
 
-  by_future : (height : ℕ) (future : List Kept) → option_map mirrored (taken_back future g.machine.present g.machine.past) ≡ Some h.machine → height ≤ length g.machine.past → height ≤ length h.machine.past
+  by_future : (height : ℕ) (future : List Kept) → option_map mirrored (taken_back future g.machine.present g.machine.past) ≡ Some h.machine
+      → height ≤ length g.machine.past → height ≤ length h.machine.past
   by_future height [] again stands = absurd (cc)
   by_future height (after ∷ future) again stands =
       let there : record { past = g.machine.present ∷ g.machine.past; present = after; future = future } ≡ h.machine = cc in

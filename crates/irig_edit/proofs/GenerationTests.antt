@@ -1,5 +1,6 @@
 -- What the tests of a generation of frames say.
-use Rattle.std.proofs.Common.{◌≡◌, ◌≤◌, ◌<◌, ◌+◌, ◌-◌, ◌*◌, ◌^◌, ℕ, Bool, true, false, ◌&&◌, ◌⊎◌, inl, inr, nat_le, length, Some, None, ◌/◌, if◌then◌else◌, refl, subst, arith}
+use Rattle.std.proofs.Common.{◌≡◌, ◌≤◌, ◌<◌, ◌+◌, ◌-◌, ◌*◌, ◌^◌, ℕ, Bool, true, false, ◌&&◌, ◌⊎◌, inl, inr, nat_le, length, Some, None, ◌/◌, if◌then◌else◌}
+use Rattle.std.proofs.Common.{refl, subst, arith}
 use Rattle.std.proofs.lemmas.Bool.Decides.{nat_tests}
 use Rattle.std.proofs.lemmas.Nat.{pow_pos}
 use Rattle.std.proofs.Math.Nat.{div-eq_of_lt, div-lt_iff_lt-mul}
@@ -35,7 +36,8 @@ pub too_many_yes : (start frames at end : ℕ) (s : State) → at ≡ length (ri
     → 2 ^ 22 + (end - at) < length s.pulses + 100 * frames → are_too_many start frames s ≡ true
 too_many_yes start frames at end s is_at is_end many =
     let sum = before_end start (frames_end s.format start frames) s.pulses (omega arith) in
-    let more : 2 ^ 22 + length (rising_in start (frames_end s.format start frames) s.pulses) < length s.pulses + 100 * frames = omega (arith, sum, is_at, is_end, many) in
+    let more : 2 ^ 22 + length (rising_in start (frames_end s.format start frames) s.pulses) < length s.pulses + 100 * frames =
+    omega (arith, sum, is_at, is_end, many) in
     grind (arith, nat_tests)
 
 pub too_many_no : (start frames at end : ℕ) (s : State) → at ≡ length (rising_before start s.pulses)
@@ -43,7 +45,8 @@ pub too_many_no : (start frames at end : ℕ) (s : State) → at ≡ length (ris
     → length s.pulses + 100 * frames ≤ 2 ^ 22 + (end - at) → are_too_many start frames s ≡ false
 too_many_no start frames at end s is_at is_end few =
     let sum = before_end start (frames_end s.format start frames) s.pulses (omega arith) in
-    let less : length s.pulses + 100 * frames ≤ 2 ^ 22 + length (rising_in start (frames_end s.format start frames) s.pulses) = omega (arith, sum, is_at, is_end, few) in
+    let less : length s.pulses + 100 * frames ≤ 2 ^ 22 + length (rising_in start (frames_end s.format start frames) s.pulses) =
+    omega (arith, sum, is_at, is_end, few) in
     grind (arith, nat_tests)
 
 test_true : (a b : ℕ) → a ≤ b → nat_le a b ≡ true

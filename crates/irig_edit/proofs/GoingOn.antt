@@ -1,5 +1,6 @@
 -- What a session is saved as, opened again.
-use Rattle.std.proofs.Common.{◌≡◌, ◌≤◌, ◌<◌, ◌+◌, ◌^◌, ◌++◌, ℕ, suc, zero, false, List, [], ◌∷◌, Option, Some, None, Result, Ok, length, map, take, reverse, nat_lt, codes, inl, inr, refl, ap, ap₂, sym, ◌∙◌, subst, arith}
+use Rattle.std.proofs.Common.{◌≡◌, ◌≤◌, ◌<◌, ◌+◌, ◌^◌, ◌++◌, ℕ, suc, zero, false, List, [], ◌∷◌, Option, Some, None, Result, Ok, length, map, take, reverse}
+use Rattle.std.proofs.Common.{nat_lt, codes, inl, inr, refl, ap, ap₂, sym, ◌∙◌, subst, arith}
 use Rattle.std.specs.List.{AllByRecursion}
 use Rattle.std.proofs.lemmas.Bool.Decides.{nat_tests}
 use Rattle.std.proofs.lemmas.List.{length-append, reverse-append, reverse-reverse, take-map}

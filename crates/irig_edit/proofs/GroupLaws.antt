@@ -1,5 +1,6 @@
 -- What a group leaves, whatever is done in it.
-use Rattle.std.proofs.Common.{◌≡◌, ◌-◌, inl, inr, ℕ, suc, zero, false, List, [], ◌∷◌, ◌++◌, length, drop, nat_le, Option, Some, None, option_map, Result, Ok, Err, refl, ap, sym, ◌∙◌, subst, if◌then◌else◌, arith, length-append}
+use Rattle.std.proofs.Common.{◌≡◌, ◌-◌, inl, inr, ℕ, suc, zero, false, List, [], ◌∷◌, ◌++◌, length, drop, nat_le, Option, Some, None, option_map, Result, Ok}
+use Rattle.std.proofs.Common.{Err, refl, ap, sym, ◌∙◌, subst, if◌then◌else◌, arith, length-append}
 use Rattle.std.specs.List.{AllByRecursion}
 use Rattle.std.specs.Prelude.{is_ok}
 use Rattle.std.proofs.lemmas.Bool.{leb-false}
@@ -55,7 +56,8 @@ redone_in old g h inside is = by_future g.machine.future alone.0 where
   by_future (after ∷ future) is =
       let same : record { past = g.machine.present ∷ g.machine.past; present = after; future = future } ≡ h.machine = cc in
       let floor = alone.1 in
-      let there : over g.floor (record { past = g.machine.present ∷ g.machine.past; present = after; future = future }) ≡ h = (λ i. over (sym floor i) (same i)) in
+      let there : over g.floor (record { past = g.machine.present ∷ g.machine.past; present = after; future = future }) ≡ h =
+      (λ i. over (sym floor i) (same i)) in
       subst (λ (x : Grouped Kept). InGroup old x) there
       (one_more_in old g (over g.floor (record { past = g.machine.present ∷ g.machine.past; present = after; future = future })) future inside refl)
 
@@ -70,9 +72,11 @@ undone_in old g h inside is = by_beyond inside.beyond inside.past inside.oldest 
   long : nat_le (length g.machine.past) (length old.machine.past) ≡ false
   long = sym (ap (λ (f : Option (Floor Kept)). is_at_floor f g.machine.past) inside.floor) ∙ allowed.0
 
-  by_beyond : (beyond : List Kept) → g.machine.past ≡ beyond ++ old.machine.past → (oldest_of g.machine.present beyond).state ≡ old.machine.present.state → InGroup old h
+  by_beyond : (beyond : List Kept) → g.machine.past ≡ beyond ++ old.machine.past → (oldest_of g.machine.present beyond).state ≡ old.machine.present.state
+      → InGroup old h
   by_beyond [] past oldest =
-      let low : nat_le (length old.machine.past) (length old.machine.past) ≡ false = sym (ap (λ (ks : List Kept). nat_le (length ks) (length old.machine.past)) past) ∙ long in
+      let low : nat_le (length old.machine.past) (length old.machine.past) ≡ false =
+      sym (ap (λ (ks : List Kept). nat_le (length ks) (length old.machine.past)) past) ∙ long in
       absurd (omega (arith, leb-false (length old.machine.past) (length old.machine.past) low))
   by_beyond (before ∷ ks) past oldest =
       let back : taken_back (before ∷ (ks ++ old.machine.past)) g.machine.present g.machine.future ≡ Some h.machine =
@@ -115,7 +119,8 @@ accepted_in Begin old g h stays inside is = begun_never old g h inside is
 accepted_in End old g h stays inside is = absurd stays
 accepted_in Abort old g h stays inside is = absurd stays
 
-runs_in : (calls : List Answered) (old g last : Grouped Kept) → AllByRecursion StaysOpen (accepted_of calls) → InGroup old g → Runs calls g last → InGroup old last
+runs_in : (calls : List Answered) (old g last : Grouped Kept) → AllByRecursion StaysOpen (accepted_of calls) → InGroup old g → Runs calls g last
+    → InGroup old last
 runs_in [] old g last stays inside runs = subst (λ (x : Grouped Kept). InGroup old x) (sym runs) inside
 runs_in (one ∷ rest) old g last stays inside runs =
     by_result one.call g runs.0 one.result (accepted_of rest) stays runs.1.0 inside (λ others there. runs_in rest old runs.0 last others there runs.1.1) where
@@ -151,7 +156,8 @@ abort_back calls old last new is step =
     ∙ drop_front inside.beyond below (length (inside.beyond ++ below) - length below) (omega (arith, long)) in
     let fell : dropped_over (Some (record { height = length below; present = old.machine.present })) last.machine ≡ Some new =
     sym (ap (λ (f : Option (Floor Kept)). dropped_over f last.machine) inside.floor) ∙ step.1 in
-    let left : over None (record { past = drop (length last.machine.past - length below) last.machine.past; present = old.machine.present; future = [] }) ≡ new = cc in
+    let left : over None (record { past = drop (length last.machine.past - length below) last.machine.past; present = old.machine.present; future = [] })
+    ≡ new = cc in
     sym left ∙ (λ i. over None (record { past = past i; present = old.machine.present; future = [] }))
 
 pub end_once : EndLeavesOneStep

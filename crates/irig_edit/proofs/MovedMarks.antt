@@ -1,5 +1,6 @@
 -- Marks moved one after the other.
-use Rattle.std.proofs.Common.{◌≡◌, ◌≤◌, ◌<◌, ◌+◌, ℕ, ℤ, suc, zero, Bool, true, false, ◌&&◌, nat_le, if◌then◌else◌, List, [], ◌∷◌, length, map, slice_set, get_or, Option, Some, None, refl, ap, ap₂, subst, ◌∙◌, arith}
+use Rattle.std.proofs.Common.{◌≡◌, ◌≤◌, ◌<◌, ◌+◌, ℕ, ℤ, suc, zero, Bool, true, false, ◌&&◌, nat_le, if◌then◌else◌, List, [], ◌∷◌, length, map, slice_set}
+use Rattle.std.proofs.Common.{get_or, Option, Some, None, refl, ap, ap₂, subst, ◌∙◌, arith}
 use Rattle.std.proofs.lemmas.Bool.Decides.{nat_tests}
 use Rattle.std.specs.List.{AllByRecursion}
 use Rattle.irig_track.specs.Shifts.{ahead, back}
@@ -61,7 +62,8 @@ told_all low high (suc n) [] [] all same = refl
 told_all low high (suc n) [] (l ∷ letters) all same = absurd (omega (arith, same))
 told_all low high zero (m ∷ marks) letters all same = absurd (omega (arith, all))
 told_all low high (suc n) (m ∷ marks) [] all same = absurd (omega (arith, same))
-told_all low high (suc n) (m ∷ marks) (l ∷ letters) all same = ap (λ ls. stands low high m ∷ ls) (told_all low high n marks letters (omega (arith, all)) (omega (arith, same)))
+told_all low high (suc n) (m ∷ marks) (l ∷ letters) all same =
+    ap (λ ls. stands low high m ∷ ls) (told_all low high n marks letters (omega (arith, all)) (omega (arith, same)))
 
 -- the first of the marks named may be moved
 abbrev pub FirstMayMove : ℕ → ℤ → ℕ → List Bool → List (Option ℕ) → Type 0
@@ -77,15 +79,18 @@ may_more micros d n named marks less there first next =
     let up : suc n ≡ n + 1 = omega arith in
     subst (λ k. FirstMayMove micros d k named marks) up (at_suc n named marks less there first next) where
       at_suc : (n : ℕ) (named : List Bool) (marks : List (Option ℕ)) → n < length named → n < length marks
-          → FirstMayMove micros d n named marks → (get_or named n false ≡ true → MayMove micros d (get_or marks n None)) → FirstMayMove micros d (suc n) named marks
+          → FirstMayMove micros d n named marks → (get_or named n false ≡ true → MayMove micros d (get_or marks n None))
+          → FirstMayMove micros d (suc n) named marks
       at_suc n [] marks less there first next = tt
       at_suc n (b ∷ named) [] less there first next = tt
       at_suc zero (true ∷ named) (m ∷ marks) less there first next = (next refl, tt)
       at_suc zero (false ∷ named) (m ∷ marks) less there first next = tt
-      at_suc (suc n) (true ∷ named) (m ∷ marks) less there first next = (first.0, at_suc n named marks (omega (arith, less)) (omega (arith, there)) first.1 next)
+      at_suc (suc n) (true ∷ named) (m ∷ marks) less there first next =
+          (first.0, at_suc n named marks (omega (arith, less)) (omega (arith, there)) first.1 next)
       at_suc (suc n) (false ∷ named) (m ∷ marks) less there first next = at_suc n named marks (omega (arith, less)) (omega (arith, there)) first next
 
-pub may_all : (micros : ℕ) (d : ℤ) (n : ℕ) (named : List Bool) (marks : List (Option ℕ)) → length named ≤ n → FirstMayMove micros d n named marks → AllMayMove micros d named marks
+pub may_all : (micros : ℕ) (d : ℤ) (n : ℕ) (named : List Bool) (marks : List (Option ℕ)) → length named ≤ n → FirstMayMove micros d n named marks
+    → AllMayMove micros d named marks
 may_all micros d n [] marks all first = tt
 may_all micros d n (b ∷ named) [] all first = tt
 may_all micros d zero (b ∷ named) (m ∷ marks) all first = absurd (omega (arith, all))

@@ -1,5 +1,6 @@
 -- The numbers of the changes of a session, as a saved journal holds them.
-use Rattle.std.proofs.Common.{◌≡◌, ◌≤◌, ◌+◌, ◌-◌, ◌^◌, ◌++◌, ℕ, ℤ, pos, negsuc, List, [], ◌∷◌, Option, Some, None, IsTrue, length, map, take, drop, subst, arith}
+use Rattle.std.proofs.Common.{◌≡◌, ◌≤◌, ◌+◌, ◌-◌, ◌^◌, ◌++◌, ℕ, ℤ, pos, negsuc, List, [], ◌∷◌, Option, Some, None, IsTrue, length, map, take, drop, subst}
+use Rattle.std.proofs.Common.{arith}
 use Rattle.std.specs.List.{AllByRecursion}
 use Rattle.std.proofs.lemmas.Bool.Decides.{nat_tests}
 use Rattle.irig_codes.specs.Format.{is_permitted}

@@ -1,5 +1,6 @@
 -- Whether a pulse meets a time, and what lies before the time and after it.
-use Rattle.std.proofs.Common.{◌≡◌, ◌≤◌, ◌<◌, ◌+◌, ◌-◌, ℕ, suc, zero, Bool, true, false, ◌&&◌, ◌||◌, ◌⊎◌, inl, inr, nat_lt, nat_le, List, [], ◌∷◌, length, take, drop, slice_get, Some, refl, ap, sym, ◌∙◌, subst, arith}
+use Rattle.std.proofs.Common.{◌≡◌, ◌≤◌, ◌<◌, ◌+◌, ◌-◌, ℕ, suc, zero, Bool, true, false, ◌&&◌, ◌||◌, ◌⊎◌, inl, inr, nat_lt, nat_le, List, [], ◌∷◌, length, take}
+use Rattle.std.proofs.Common.{drop, slice_get, Some, refl, ap, sym, ◌∙◌, subst, arith}
 use Rattle.std.proofs.Math.Bool.{or-false}
 use Rattle.std.proofs.lemmas.Bool.Decides.{nat_tests}
 use Rattle.std.specs.List.{list_any}
@@ -55,31 +56,33 @@ met_last t low zero q (p ∷ ps) h count is = by_case (below_or_not p.rise t) wh
       let P : List Pulse → Type 0 = λ qs. length qs ≡ suc zero in
       let none = none_before t p.rise (p ∷ ps) late (omega arith, h.1) in
       absurd (let zero_long = subst P none count in omega (arith, zero_long))
-met_last t low (suc n) q (p ∷ ps) h count is = by_case (below_or_not p.rise t) (below_or_not p.fall t) (λ more. met_last t (p.fall + 1) n q ps h.1.1 more is) where
-  P : List Pulse → Type 0
-  P qs = length qs ≡ suc (suc n)
+met_last t low (suc n) q (p ∷ ps) h count is = by_case (below_or_not p.rise t) (below_or_not p.fall t) (λ more. met_last t (p.fall + 1) n q ps h.1.1 more is)
+  where
+    P : List Pulse → Type 0
+    P qs = length qs ≡ suc (suc n)
 
-  by_case : (p.rise < t) ⊎ (t ≤ p.rise) → (p.fall < t) ⊎ (t ≤ p.fall)
-      → (length (rising_before t ps) ≡ suc n → list_any (meets_time t) ps ≡ nat_le t q.fall)
-      → list_any (meets_time t) (p ∷ ps) ≡ nat_le t q.fall
-  by_case (inl early) (inl ended) rest =
-      let more = subst P (before_yes t p ps early) count in
-      rw (met_ended t p ended) (rest (omega (arith, more)))
-  by_case (inl early) (inr reaches) rest =
-      let more = subst P (before_yes t p ps early) count in
-      let none = none_before t (p.fall + 1) ps (omega (arith, reaches)) h.1.1 in
-      let Q : List Pulse → Type 0 = λ qs. length qs + 1 ≡ suc (suc n) in
-      absurd (let zero_long = subst Q none (omega (arith, more)) in omega (arith, zero_long))
-  by_case (inr late) _ rest =
-      let none = none_before t p.rise (p ∷ ps) late (omega arith, h.1) in
-      absurd (let zero_long = subst P none count in omega (arith, zero_long))
+    by_case : (p.rise < t) ⊎ (t ≤ p.rise) → (p.fall < t) ⊎ (t ≤ p.fall)
+        → (length (rising_before t ps) ≡ suc n → list_any (meets_time t) ps ≡ nat_le t q.fall)
+        → list_any (meets_time t) (p ∷ ps) ≡ nat_le t q.fall
+    by_case (inl early) (inl ended) rest =
+        let more = subst P (before_yes t p ps early) count in
+        rw (met_ended t p ended) (rest (omega (arith, more)))
+    by_case (inl early) (inr reaches) rest =
+        let more = subst P (before_yes t p ps early) count in
+        let none = none_before t (p.fall + 1) ps (omega (arith, reaches)) h.1.1 in
+        let Q : List Pulse → Type 0 = λ qs. length qs + 1 ≡ suc (suc n) in
+        absurd (let zero_long = subst Q none (omega (arith, more)) in omega (arith, zero_long))
+    by_case (inr late) _ rest =
+        let none = none_before t p.rise (p ∷ ps) late (omega arith, h.1) in
+        absurd (let zero_long = subst P none count in omega (arith, zero_long))
 
 -- if no pulse meets a time, those that rise before it fall before it
 pub before_under : (t low : ℕ) (ps : List Pulse) → RisesFrom low (edges_of ps) → list_any (meets_time t) ps ≡ false
     → Under t (edges_of (take (length (rising_before t ps)) ps))
 before_under t low [] h free = tt
 before_under t low (p ∷ ps) h free =
-    by_case (below_or_not p.rise t) (below_or_not p.fall t) (before_under t (p.fall + 1) ps h.1.1 (or-both (meets_time t p) (list_any (meets_time t) ps) free).1) where
+    by_case (below_or_not p.rise t) (below_or_not p.fall t)
+    (before_under t (p.fall + 1) ps h.1.1 (or-both (meets_time t p) (list_any (meets_time t) ps) free).1) where
       Falls : List Pulse → Type 0
       Falls qs = Under t (edges_of (take (length (rising_before t qs)) qs))
 

@@ -1,5 +1,6 @@
 -- The pulses that rise before a time, and those that rise in a stretch of time.
-use Rattle.std.proofs.Common.{◌≡◌, ◌≤◌, ◌<◌, ◌+◌, ◌-◌, ℕ, Bool, true, false, ◌&&◌, ◌⊎◌, inl, inr, nat_lt, nat_le, List, [], ◌∷◌, length, refl, ap, ◌∙◌, subst, arith}
+use Rattle.std.proofs.Common.{◌≡◌, ◌≤◌, ◌<◌, ◌+◌, ◌-◌, ℕ, Bool, true, false, ◌&&◌, ◌⊎◌, inl, inr, nat_lt, nat_le, List, [], ◌∷◌, length, refl, ap, ◌∙◌, subst}
+use Rattle.std.proofs.Common.{arith}
 use Rattle.std.proofs.lemmas.Bool.Decides.{nat_tests}
 use Rattle.irig_vcd.specs.Recording.{RisesFrom}
 use Rattle.irig_track.specs.declared.pulse.Pulse.{Pulse}
@@ -53,7 +54,8 @@ before_end s e (p ∷ ps) le = by_case (below_or_not p.rise s) (below_or_not p.r
   Same qs = length (rising_before s qs) + length (rising_in s e qs) ≡ length (rising_before e qs)
 
   by_case : (p.rise < s) ⊎ (s ≤ p.rise) → (p.rise < e) ⊎ (e ≤ p.rise) → Same ps → Same (p ∷ ps)
-  by_case (inl early) _ rest = rw (before_yes s p ps early) (rw (in_early s e p ps early) (rw (before_yes e p ps (omega (arith, early, le))) (omega (arith, rest))))
+  by_case (inl early) _ rest = rw (before_yes s p ps early)
+      (rw (in_early s e p ps early) (rw (before_yes e p ps (omega (arith, early, le))) (omega (arith, rest))))
   by_case (inr from) (inl to) rest = rw (before_no s p ps from) (rw (in_yes s e p ps from to) (rw (before_yes e p ps to) (omega (arith, rest))))
   by_case (inr from) (inr late) rest = rw (before_no s p ps from) (rw (in_late s e p ps late) (rw (before_no e p ps late) rest))
 

@@ -41,7 +41,8 @@ shifted_after i j d s ps marks lawful first order last can is moves =
       track = can.track;
       edges = λ t. is_edge-spliced t (i - 1) (count_to (i - 1) (j - 1)) (moved d part) s.pulses lawful.track.rises
           ∙ ap (λ es. replaced (edges_of part) es t (is_edge t s.pulses)) (edges_of-moved d part)
-          ∙ ap (λ n. replaced (edges_of (piece (i - 1) n s.pulses)) (map (moved_time d) (edges_of (piece (i - 1) n s.pulses))) t (is_edge t s.pulses)) (count_from i j first order);
+          ∙ ap (λ n. replaced (edges_of (piece (i - 1) n s.pulses)) (map (moved_time d) (edges_of (piece (i - 1) n s.pulses))) t (is_edge t s.pulses))
+          (count_from i j first order);
       format = refl;
       marks = moves;
     })
@@ -49,7 +50,12 @@ shifted_after i j d s ps marks lawful first order last can is moves =
 pub length-shifted : (i j : ℕ) (d : ℤ) (ps : List Pulse) → i ≤ j → j < length ps → length (shifted i j d ps) ≡ length ps
 length-shifted i j d ps order there =
     let part = piece i (count_to i j) ps in
-    omega (arith, length-spliced ps (moved d part) i (count_to i j) (omega arith), length-map part (moved_pulse (ahead d) (back d)), length-piece ps i (count_to i j) (omega arith))
+    omega (
+      arith,
+      length-spliced ps (moved d part) i (count_to i j) (omega arith),
+      length-map part (moved_pulse (ahead d) (back d)),
+      length-piece ps i (count_to i j) (omega arith),
+    )
 
 upto_dropped : (top j : ℕ) (ps : List Pulse) → UpTo top (edges_of ps) → UpTo top (edges_of (drop j ps))
 upto_dropped top zero [] within = tt
@@ -65,8 +71,10 @@ first_or-top top (x ∷ xs) within = omega (arith, within.0)
 pub moved_within : (i j : ℕ) (d : ℤ) (s : State) → IsState s → 1 ≤ i → i ≤ j → j ≤ length s.pulses
     → CanShift s.micros (i - 1) (j - 1) d s.pulses → (pulse_of j s).fall + ahead d ≤ s.micros + back d
 moved_within i j d s lawful first order last can =
-    let fits = shift_stands (i - 1) (j - 1) (pulse_of i s) (pulse_of j s) s.pulses (omega arith) (pulse_there i s first (omega arith)) (pulse_there j s (omega arith) last)
-    s.micros (following 0 (edges_of (take (i - 1) s.pulses))) (first_or (s.micros + 1) (edges_of (drop (j - 1 + 1) s.pulses))) d (omega arith) lawful.track refl refl can in
+    let fits = shift_stands (i - 1) (j - 1) (pulse_of i s) (pulse_of j s) s.pulses (omega arith) (pulse_there i s first (omega arith))
+    (pulse_there j s (omega arith) last)
+    s.micros (following 0 (edges_of (take (i - 1) s.pulses))) (first_or (s.micros + 1) (edges_of (drop (j - 1 + 1) s.pulses))) d (omega arith) lawful.track refl
+    refl can in
     let top = first_or-top s.micros (edges_of (drop (j - 1 + 1) s.pulses)) (upto_dropped s.micros (j - 1 + 1) s.pulses lawful.track.within) in
     omega (arith, fits.1, top)
 
@@ -74,15 +82,18 @@ moved_within i j d s lawful first order last can =
 pub moved_from_zero : (i j : ℕ) (d : ℤ) (s : State) → IsState s → 1 ≤ i → i ≤ j → j ≤ length s.pulses
     → CanShift s.micros (i - 1) (j - 1) d s.pulses → back d ≤ (pulse_of i s).rise + ahead d
 moved_from_zero i j d s lawful first order last can =
-    let fits = shift_stands (i - 1) (j - 1) (pulse_of i s) (pulse_of j s) s.pulses (omega arith) (pulse_there i s first (omega arith)) (pulse_there j s (omega arith) last)
-    s.micros (following 0 (edges_of (take (i - 1) s.pulses))) (first_or (s.micros + 1) (edges_of (drop (j - 1 + 1) s.pulses))) d (omega arith) lawful.track refl refl can in
+    let fits = shift_stands (i - 1) (j - 1) (pulse_of i s) (pulse_of j s) s.pulses (omega arith) (pulse_there i s first (omega arith))
+    (pulse_there j s (omega arith) last)
+    s.micros (following 0 (edges_of (take (i - 1) s.pulses))) (first_or (s.micros + 1) (edges_of (drop (j - 1 + 1) s.pulses))) d (omega arith) lawful.track refl
+    refl can in
     omega (arith, fits.0)
 
 -- the marks that are on the pulses may move with them
 pub marks_may : (i j : ℕ) (d : ℤ) (s : State) → IsState s → 1 ≤ i → i ≤ j → j ≤ length s.pulses → CanShift s.micros (i - 1) (j - 1) d s.pulses
     → AllMayMove s.micros d (map (stands (pulse_of i s).rise (pulse_of j s).fall) s.marks) s.marks
 marks_may i j d s lawful first order last can =
-    may_between s.micros (pulse_of i s).rise (pulse_of j s).fall d s.marks (moved_from_zero i j d s lawful first order last can) (moved_within i j d s lawful first order last can)
+    may_between s.micros (pulse_of i s).rise (pulse_of j s).fall d s.marks (moved_from_zero i j d s lawful first order last can)
+    (moved_within i j d s lawful first order last can)
 
 -- the state after a shift of pulses, and of the marks that are on them, is that after the call
 pub shifted_becomes : (i j : ℕ) (d : ℤ) (s : State) → IsState s → 1 ≤ i → i ≤ j → j ≤ length s.pulses → CanShift s.micros (i - 1) (j - 1) d s.pulses

@@ -1,5 +1,6 @@
 -- What several steps exchange together is what the group of their changes exchanges.
-use Rattle.std.proofs.Common.{◌≡◌, ◌<◌, ◌+◌, ◌-◌, ◌^◌, ◌++◌, ℕ, suc, zero, List, [], ◌∷◌, length, reverse, take, Option, Some, None, min, refl, ap, ap₂, sym, ◌∙◌, arith}
+use Rattle.std.proofs.Common.{◌≡◌, ◌<◌, ◌+◌, ◌-◌, ◌^◌, ◌++◌, ℕ, suc, zero, List, [], ◌∷◌, length, reverse, take, Option, Some, None, min, refl, ap, ap₂, sym}
+use Rattle.std.proofs.Common.{◌∙◌, arith}
 use Rattle.std.specs.Prelude.{flat_map}
 use Rattle.std.specs.List.{sum_by}
 use Rattle.std.proofs.lemmas.List.{append-nil, reverse-append}
@@ -140,7 +141,8 @@ sum_back (suc k) s (near ∷ steps) there =
     ∙ looks_first s near.change (all_singles (changes_of (take (suc k) steps)))
 
 sum_forth : (k : ℕ) (s : State) (steps : List (Step Delta)) → k < length steps → IsState s → FitInTurn Fits turned s steps
-    → (sum_of k s steps).forth ≡ looks_along (left_by turned s (changes_of (take (suc k) steps))) (all_singles (ways_back turned s (changes_of (take (suc k) steps))))
+    → (sum_of k s steps).forth ≡ looks_along (left_by turned s (changes_of (take (suc k) steps)))
+    (all_singles (ways_back turned s (changes_of (take (suc k) steps))))
 sum_forth k s [] there is fit = absurd (omega (arith, there))
 sum_forth zero s (near ∷ steps) there is fit =
     sym (both-zero (looks_of (turned s near.change).0 (turned s near.change).1)) ∙ forth_along s near.change [] is fit.0 tt
@@ -177,7 +179,8 @@ sum_by-reverse f (d ∷ ds) =
 
 -- several together, as one group
 pub together-gathered : (k : ℕ) (s : State) (steps : List (Step Delta)) → suc k < length steps → IsState s → FitInTurn Fits turned s steps
-    → sum_of (suc k) s steps ≡ exchange_across (gathered (changes_of (take (suc (suc k)) steps))) (turned s (gathered (changes_of (take (suc (suc k)) steps)))).1
+    → sum_of (suc k) s steps ≡ exchange_across (gathered (changes_of (take (suc (suc k)) steps)))
+    (turned s (gathered (changes_of (take (suc (suc k)) steps)))).1
     (turned s (gathered (changes_of (take (suc (suc k)) steps)))).0 s
 together-gathered k s [] there is fit = absurd (omega (arith, there))
 together-gathered k s (near ∷ steps) there is fit =

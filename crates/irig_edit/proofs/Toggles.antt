@@ -19,7 +19,8 @@ use Rattle.irig_edit.specs.Conditions.{is_overfull, is_full}
 -- what can be inverted is not overfull
 pub overfull_not : (a b : ℕ) (s : State) → IsState s → CanToggle s.micros a b s.pulses → is_overfull a b s ≡ false
 overfull_not a b s lawful can = by_case (is_full s) refl (is_edge a s.pulses) refl (is_edge b s.pulses) refl where
-  by_case : (full : Bool) → is_full s ≡ full → (first : Bool) → is_edge a s.pulses ≡ first → (second : Bool) → is_edge b s.pulses ≡ second → is_overfull a b s ≡ false
+  by_case : (full : Bool) → is_full s ≡ full → (first : Bool) → is_edge a s.pulses ≡ first → (second : Bool) → is_edge b s.pulses ≡ second
+      → is_overfull a b s ≡ false
   by_case false is first f second g = rw is refl
   by_case true is true f second g = rw is (rw f refl)
   by_case true is false f true g = rw is (rw f (rw g refl))
@@ -30,7 +31,8 @@ overfull_not a b s lawful can = by_case (is_full s) refl (is_edge a s.pulses) re
 -- what can't be is
 pub overfull : (a b : ℕ) (s : State) → IsState s → a < b → b ≤ s.micros → (CanToggle s.micros a b s.pulses → ⊥) → is_overfull a b s ≡ true
 overfull a b s lawful order within cannot = by_case (is_full s) refl (is_edge a s.pulses) refl (is_edge b s.pulses) refl where
-  by_case : (full : Bool) → is_full s ≡ full → (first : Bool) → is_edge a s.pulses ≡ first → (second : Bool) → is_edge b s.pulses ≡ second → is_overfull a b s ≡ true
+  by_case : (full : Bool) → is_full s ≡ full → (first : Bool) → is_edge a s.pulses ≡ first → (second : Bool) → is_edge b s.pulses ≡ second
+      → is_overfull a b s ≡ true
   by_case false is first f second g =
       let some : length s.pulses < 2 ^ 22 = grind (arith, nat_tests) in
       absurd (cannot (can_toggle_room a b s.micros (2 ^ 22 - length s.pulses) s.pulses order within lawful.track (omega arith) (omega arith)))

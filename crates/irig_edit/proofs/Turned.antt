@@ -18,8 +18,11 @@ pub toggle_turned : (s t : State) (a b micros : ℕ) (ps : List Pulse) → s ≡
 toggle_turned s t a b micros ps view is fits long edges =
     let there : FitsSingle s (Toggled a b) = subst (λ (x : State). FitsSingle x (Toggled a b)) (sym view) fits in
     let pulses : ps ≡ pulses_of (toggled a b (edges_of s.pulses)) = sym (pulses_of-edges_of ps) ∙ ap pulses_of edges in
-    let made : state micros ps s.format s.marks ≡ (turned_single s (Toggled a b)).0 = (λ k. state (long k) (pulses k) s.format s.marks) in
-    (subst (λ (x : State). IsState x) (sym made) (IsState-turned_single s (Toggled a b) is there), made ∙ ap (λ (x : State). (turned_single x (Toggled a b)).0) view)
+    let made : state micros ps s.format s.marks ≡ (turned_single s (Toggled a b)).0 = (λ k. state (long k) (pulses k) s.format s.marks) in (
+      subst (λ (x : State). IsState x) (sym made) (IsState-turned_single s (Toggled a b) is there),
+      made
+          ∙ ap (λ (x : State). (turned_single x (Toggled a b)).0) view,
+    )
 
 -- a shift of track and marks
 pub shift_turned : (s t : State) (i j : ℕ) (by : ℤ) (letters : List Bool) (micros : ℕ) (ps : List Pulse) (marks : List (Option ℕ))

@@ -1,5 +1,6 @@
 -- A state that continues along steps, and back again.
-use Rattle.std.proofs.Common.{◌≡◌, ◌≢◌, ◌⊎◌, inl, inr, Ok, Err, Result, OnOk, OnErr, IsErrOf, None, ℕ, suc, zero, ◌++◌, ◌≤◌, List, [], ◌∷◌, Some, length, take, drop, refl, ap, ap₂, sym, ◌∙◌, subst, arith}
+use Rattle.std.proofs.Common.{◌≡◌, ◌≢◌, ◌⊎◌, inl, inr, Ok, Err, Result, OnOk, OnErr, IsErrOf, None, ℕ, suc, zero, ◌++◌, ◌≤◌, List, [], ◌∷◌, Some, length, take}
+use Rattle.std.proofs.Common.{drop, refl, ap, ap₂, sym, ◌∙◌, subst, arith}
 use Rattle.std.proofs.lemmas.List.{take-append-drop, take_all}
 use Rattle.std.proofs.Math.ListN.{drop_of_length-le}
 use Rattle.irig_journal.specs.declared.step.Step.{Step}

@@ -4,7 +4,8 @@ use Rattle.irig_codes.specs.Width.{nominal_of}
 use Rattle.irig_track.specs.Edges.{pulse}
 use Rattle.irig_track.specs.Splices.{risen_by}
 use Rattle.irig_edit.specs.Calls.{Edit}
-use Rattle.irig_edit.specs.Calls.Edit.{Insert, Delete, Split, Join, Shift, Invert, Force, Regen, SetFormat, SetMark}
+use Rattle.irig_edit.specs.Calls.Edit.{Insert, Delete, Split, Join, Shift, Invert, Force, Regen}
+use Rattle.irig_edit.specs.Calls.Edit.{SetFormat, SetMark}
 use Rattle.irig_edit.specs.Conditions.{fall_at}
 use Rattle.irig_edit.specs.Delta.{Delta}
 use Rattle.irig_edit.specs.Delta.Delta.{Alone}

@@ -7,7 +7,8 @@ use Rattle.irig_edit.specs.Single.SingleDelta.{Spliced, Toggled, Shifted, Format
 use Rattle.irig_edit.specs.declared.change.Change.{Change}
 use Rattle.irig_edit.specs.declared.change.Change.TheVariants.{One, Group}
 use Rattle.irig_edit.specs.declared.single.Single.{Single}
-use Rattle.irig_edit.specs.declared.single.Single.TheVariants.{Splice, Toggle, Shift, SetFormat, SetMark}
+use Rattle.irig_edit.specs.declared.single.Single.TheVariants.{Splice, Toggle, Shift, SetFormat}
+use Rattle.irig_edit.specs.declared.single.Single.TheVariants.{SetMark}
 
 -- what a single change is, without its spare room
 abbrev pub single_of : Single → SingleDelta

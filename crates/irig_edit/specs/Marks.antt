@@ -1,5 +1,6 @@
 -- Times and marks that are moved. This project's own.
-use Rattle.std.specs.Prelude.{ℕ, ℤ, ◌≤◌, ◌+◌, ◌-◌, Bool, true, false, List, [], ◌∷◌, Option, Some, None, nat_le, ◌&&◌, option_map, if◌then◌else◌}
+use Rattle.std.specs.Prelude.{ℕ, ℤ, ◌≤◌, ◌+◌, ◌-◌, Bool, true, false, List, [], ◌∷◌, Option, Some}
+use Rattle.std.specs.Prelude.{None, nat_le, ◌&&◌, option_map, if◌then◌else◌}
 use Rattle.irig_track.specs.Shifts.{ahead, back}
 
 -- the time d microseconds later, if that is not before 0

@@ -1,5 +1,6 @@
 -- The session that is opened from a dump, with the journal that it carries. This project's own.
-use Rattle.std.specs.Prelude.{◌≡◌, ◌⊎◌, ◌+◌, ◌-◌, ℕ, List, [], ◌∷◌, Option, Some, None, length, nat_lt, not, if◌then◌else◌, reverse, take}
+use Rattle.std.specs.Prelude.{◌≡◌, ◌⊎◌, ◌+◌, ◌-◌, ℕ, List, [], ◌∷◌, Option, Some, None, length}
+use Rattle.std.specs.Prelude.{nat_lt, not, if◌then◌else◌, reverse, take}
 use Rattle.irig_codes.specs.Format.{is_permitted}
 use Rattle.irig_journal.specs.declared.step.Step.{Step}
 use Rattle.irig_journal.specs.Groups.{over}

@@ -1,6 +1,7 @@
 -- What is read from frames that were generated. The frames are those of IRIG Standard 200-04; that
 -- the fields that were asked for are read from them is this project's own promise.
-use Rattle.std.specs.Prelude.{◌≡◌, ◌↔◌, ◌+◌, ◌-◌, ◌*◌, ◌<◌, ◌≤◌, ℕ, true, List, [], ◌∷◌, ◌++◌, length, slice_get, Ok, Some, Contains}
+use Rattle.std.specs.Prelude.{◌≡◌, ◌↔◌, ◌+◌, ◌-◌, ◌*◌, ◌<◌, ◌≤◌, ℕ, true, List, [], ◌∷◌, ◌++◌}
+use Rattle.std.specs.Prelude.{length, slice_get, Ok, Some, Contains}
 use Rattle.irig_codes.specs.declared.note.Note.TheVariants.{Fine}
 use Rattle.irig_codes.specs.declared.width.Element.TheVariants.{Position}
 use Rattle.irig_codes.specs.Format.{FormatView}

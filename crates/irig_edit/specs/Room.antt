@@ -1,4 +1,5 @@
--- The room that a turn of a change needs, and the turn of the change that leads back. This project's
+-- The room that a turn of a change needs, and the turn of the change that leads back. This
+-- project's
 -- own.
 use Rattle.std.specs.Prelude.{ℕ, ◌≤◌, List, [], ◌∷◌}
 use Rattle.irig_edit.specs.Held.{single_of}

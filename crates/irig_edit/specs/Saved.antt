@@ -6,7 +6,8 @@ use Rattle.irig_journal.specs.declared.step.Step as journal
 use Rattle.irig_saved.specs.declared.change.Change.{Change}
 use Rattle.irig_saved.specs.declared.change.Change.TheVariants.{One, Group}
 use Rattle.irig_saved.specs.declared.single.Single.{Single}
-use Rattle.irig_saved.specs.declared.single.Single.TheVariants.{Splice, Toggle, Shift, SetFormat, SetMark}
+use Rattle.irig_saved.specs.declared.single.Single.TheVariants.{Splice, Toggle, Shift, SetFormat}
+use Rattle.irig_saved.specs.declared.single.Single.TheVariants.{SetMark}
 use Rattle.irig_saved.specs.declared.step.Step.{Step}
 use Rattle.irig_edit.specs.Delta.{Delta, singles_of}
 use Rattle.irig_edit.specs.Delta.Delta.{Alone, Together}

@@ -1,6 +1,7 @@
 -- What is left of the text of a saved session while it is given in parts: docs/FORMATS.md, "The
 -- saved journal". This project's own.
-use Rattle.std.specs.Prelude.{ℕ, List, [], ◌∷◌, ◌++◌, Option, Some, None, codes, decimal, drop, length, map, reverse}
+use Rattle.std.specs.Prelude.{ℕ, List, [], ◌∷◌, ◌++◌, Option, Some, None, codes, decimal, drop}
+use Rattle.std.specs.Prelude.{length, map, reverse}
 use Rattle.std.specs.Borrow.{Bor}
 use Rattle.irig_codes.specs.Words.{kind_word}
 use Rattle.irig_gap.specs.Items.{GapView}

@@ -1,6 +1,7 @@
 -- What a single change of a state is, when it can be made, what it leaves, and how many pulses it
 -- holds and brings. This project's own.
-use Rattle.std.specs.Prelude.{◌≡◌, ℕ, ℤ, ◌<◌, Bool, IsTrue, List, [], ◌∷◌, Option, None, length, get_or, slice_set, neg_ℤ}
+use Rattle.std.specs.Prelude.{◌≡◌, ℕ, ℤ, ◌<◌, Bool, IsTrue, List, [], ◌∷◌, Option, None, length}
+use Rattle.std.specs.Prelude.{get_or, slice_set, neg_ℤ}
 use Rattle.irig_codes.specs.Format.{FormatView, is_permitted}
 use Rattle.irig_track.specs.declared.pulse.Pulse.{Pulse}
 use Rattle.irig_track.specs.Edges.{pulse, edges_of}

@@ -90,8 +90,8 @@ impl Session {
         self.journal.weights()
     }
 
-    /// How many looks at pulses the last accepted edit, undo, redo or abort took to keep the frames;
-    /// 0 before any.
+    /// How many looks at pulses the last accepted edit, undo, redo or abort took to keep the
+    /// frames; 0 before any.
     pub fn last_looks(&self) -> u64
         ensures { result ≡ self.now.last_looks }
     {

@@ -1,6 +1,7 @@
 //! What a saved journal says above its steps: format, cursor and marks.
 
-ghost use Rattle.std.specs.Prelude.{◌≡◌, ◌+◌, ◌≤◌, Err, IfOk, IfErr, IsTrue, MatchResult, None, Some, [], length};
+ghost use Rattle.std.specs.Prelude.{◌≡◌, ◌+◌, ◌≤◌, Err, IfOk, IfErr, IsTrue, MatchResult, None};
+ghost use Rattle.std.specs.Prelude.{Some, [], length};
 ghost use Rattle.irig_codes.specs.Format.{is_permitted};
 ghost use Rattle.irig_saved.specs.SavedText.{mark_lines};
 ghost use Rattle.irig_vcd.specs.declared.fault.VcdFault.TheVariants.{OutOfMemory};

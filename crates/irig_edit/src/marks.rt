@@ -2,7 +2,8 @@
 
 ghost use Rattle.std.specs.Prelude.{◌≡◌, ◌≤◌, ◌^◌, ◌↔◌, IsTrue, map};
 ghost use Rattle.std.specs.List.{AllByRecursion};
-ghost use Rattle.irig_edit.specs.Marks.{AllMayMove, MayMove, marks_moved, moved_if, moved_time, stands};
+ghost use Rattle.irig_edit.specs.Marks.{AllMayMove, MayMove, marks_moved, moved_if, moved_time};
+ghost use Rattle.irig_edit.specs.Marks.{stands};
 ghost use Rattle.irig_edit.specs.State.{IsMark};
 
 /// The marks a to z: each unset, or a time in microseconds.

@@ -13,7 +13,8 @@ ghost use Rattle.irig_vcd.specs.Words.{words_of};
 ghost use Rattle.irig_vcd.specs.declared.fault.VcdFault.{VcdFault};
 ghost use Rattle.irig_vcd.specs.declared.fault.VcdFault.TheVariants.{OutOfMemory};
 ghost use Rattle.irig_edit.specs.Opened.{IsAccepted, IsLineAtFault, state_of};
-ghost use Rattle.irig_edit.specs.Openings.{ArePartsOf, IsBad, IsOpened, IsTextOf, IsUnopened, MayBeShort};
+ghost use Rattle.irig_edit.specs.Openings.{ArePartsOf, IsBad, IsOpened, IsTextOf, IsUnopened};
+ghost use Rattle.irig_edit.specs.Openings.{MayBeShort};
 
 use crate::head::start;
 use crate::session::Session;

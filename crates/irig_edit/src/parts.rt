@@ -14,8 +14,8 @@ use irig_journal::Journal;
 use irig_track::{Pulse, Track};
 use std::alloc::Global;
 
-/// Takes a session apart: it keeps one state, a cursor, a journal of changes and a number, and no former
-/// state.
+/// Takes a session apart: it keeps one state, a cursor, a journal of changes and a number, and no
+/// former state.
 pub fn take_apart(session: &Session) {
     let Session {
         alloc,

@@ -1,6 +1,7 @@
 //! The present state, with its frames.
 
-ghost use Rattle.std.specs.Prelude.{◌≡◌, ◌<◌, ◌≤◌, ◌+◌, ◌-◌, ◌*◌, ◌^◌, length, map, ◌↔◌, IsTrue, IfOk, Some, slice_get};
+ghost use Rattle.std.specs.Prelude.{◌≡◌, ◌<◌, ◌≤◌, ◌+◌, ◌-◌, ◌*◌, ◌^◌, length, map, ◌↔◌, IsTrue};
+ghost use Rattle.std.specs.Prelude.{IfOk, Some, slice_get};
 ghost use Rattle.irig_track.specs.Splices.{risen_by};
 ghost use Rattle.irig_vcd.specs.FileText.{file_text};
 ghost use Rattle.irig_edit.specs.Conditions.{is_touched};

@@ -4,7 +4,8 @@ ghost use Rattle.std.specs.Prelude.{◌≡◌, ◌≤◌, ◌↔◌, IsTrue, OnE
 ghost use Rattle.irig_journal.specs.Turns.{FitAll};
 ghost use Rattle.irig_track.specs.Shifts.{CanShift};
 ghost use Rattle.irig_track.specs.Toggles.{CanToggle};
-ghost use Rattle.irig_edit.specs.Ample.{HasPlacesFor, IsAmpleFor, IsAmpleForAll, PutsIn, records_for};
+ghost use Rattle.irig_edit.specs.Ample.{HasPlacesFor, IsAmpleFor, IsAmpleForAll, PutsIn};
+ghost use Rattle.irig_edit.specs.Ample.{records_for};
 ghost use Rattle.irig_edit.specs.Held.{single_of};
 ghost use Rattle.irig_edit.specs.Places.{IsWithin, places_in};
 ghost use Rattle.irig_edit.specs.Room.{HasRoomFor, HaveRoom};

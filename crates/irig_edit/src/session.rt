@@ -1,6 +1,7 @@
 //! A track under edit.
 
-ghost use Rattle.std.specs.Prelude.{◌≡◌, ◌≤◌, ◌<◌, ◌-◌, length, IfOk, OnOk, OnErr, IsErrOf, None, Ok};
+ghost use Rattle.std.specs.Prelude.{◌≡◌, ◌≤◌, ◌<◌, ◌-◌, length, IfOk, OnOk, OnErr, IsErrOf, None};
+ghost use Rattle.std.specs.Prelude.{Ok};
 ghost use Rattle.irig_journal.specs.Groups.{recorded_over};
 ghost use Rattle.irig_edit.specs.State.{recording_of, with_pulses};
 ghost use Rattle.irig_edit.specs.Machine.{NoMarks};

@@ -1,7 +1,8 @@
 //! A single change of the present state, and how each kind of it turns: the change is made, and
 //! what leads back is left instead.
 
-ghost use Rattle.std.specs.Prelude.{◌≡◌, ◌≤◌, ◌<◌, ◌+◌, ◌-◌, neg_ℤ, length, OnOk, OnErr, get_or, slice_set, None};
+ghost use Rattle.std.specs.Prelude.{◌≡◌, ◌≤◌, ◌<◌, ◌+◌, ◌-◌, neg_ℤ, length, OnOk, OnErr, get_or};
+ghost use Rattle.std.specs.Prelude.{slice_set, None};
 ghost use Rattle.std.specs.List.{AllByRecursion};
 ghost use Rattle.irig_track.specs.Shifts.{CanShift, count_to, shifted};
 ghost use Rattle.irig_track.specs.Splices.{IsSpan, risen_by};

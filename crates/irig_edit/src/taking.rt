@@ -1,6 +1,7 @@
 //! The steps of a saved journal, taken one after another.
 
-ghost use Rattle.std.specs.Prelude.{◌≡◌, ◌≤◌, ◌<◌, ◌^◌, ℕ, List, [], IfErr, IfOk, MatchResult, OnOk, length, reverse};
+ghost use Rattle.std.specs.Prelude.{◌≡◌, ◌≤◌, ◌<◌, ◌^◌, ℕ, List, [], IfErr, IfOk, MatchResult};
+ghost use Rattle.std.specs.Prelude.{OnOk, length, reverse};
 ghost use Rattle.irig_journal.specs.declared.step.Step.{Step};
 ghost use Rattle.irig_journal.specs.History.{History, step};
 ghost use Rattle.irig_saved.specs.SavedText.{steps_lines};

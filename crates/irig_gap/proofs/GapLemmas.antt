@@ -1,10 +1,13 @@
 -- The steps of a gap buffer, on the places of its block.
-use Rattle.std.proofs.Common.{◌≡◌, ℕ, suc, zero, ◌+◌, ◌-◌, ◌<◌, ◌≤◌, List, ◌++◌, map, length, take, drop, set, get_or, insert, remove, Option, Some, None, slice_get, refl, sym, ap, ◌∙◌, subst, ◌⊎◌, inl, inr, arith}
+use Rattle.std.proofs.Common.{◌≡◌, ℕ, suc, zero, ◌+◌, ◌-◌, ◌<◌, ◌≤◌, List, ◌++◌, map, length, take, drop, set, get_or, insert, remove, Option, Some, None}
+use Rattle.std.proofs.Common.{slice_get, refl, sym, ap, ◌∙◌, subst, ◌⊎◌, inl, inr, arith}
 use Rattle.std.proofs.lemmas.List.{map-set, take-map, drop-map, length-map, length-set, drop-take}
 use Rattle.irig_gap.specs.Cells.{IsFull, IsRun, moved}
 use Rattle.irig_gap.specs.Items.{GapView, gap_view}
 use Rattle.irig_gap.specs.Slots.{somes, live, IsGap, view_of}
-use Rattle.irig_gap.proofs.Live.{somes-map, read_map, map-insert, map-remove, cut_at, length-live, live-put, live-left, live-right, live-set_left, live-set_right, read_left, read_right, live-of, live-none, live-up, live-down, length-moved, live-left_side, live-right_side, live-taken, live-taken_right}
+use Rattle.irig_gap.proofs.Live.{somes-map, read_map, map-insert, map-remove, cut_at, length-live, live-put, live-left, live-right, live-set_left}
+use Rattle.irig_gap.proofs.Live.{live-set_right, read_left, read_right, live-of, live-none, live-up, live-down, length-moved, live-left_side, live-right_side}
+use Rattle.irig_gap.proofs.Live.{live-taken, live-taken_right}
 use Rattle.irig_gap.proofs.Copies.{copied}
 
 below_or_not : (i n : ℕ) → (i < n) ⊎ (n ≤ i)
@@ -36,57 +39,75 @@ module _ {X : Type 0} where
   abbrev pub Holds : List (Option X) → ℕ → ℕ → GapView X → Type 0
   Holds ds k b w = IsGap ds k b × (view_of ds k b ≡ w)
 
-  pub holds : (ds : List (Option X)) (k b : ℕ) (w : GapView X) → k ≤ b → b ≤ length ds → live ds k b ≡ map Some w.items → k ≡ w.place → length ds ≡ w.capacity → Holds ds k b w
+  pub holds : (ds : List (Option X)) (k b : ℕ) (w : GapView X) → k ≤ b → b ≤ length ds → live ds k b ≡ map Some w.items → k ≡ w.place → length ds ≡ w.capacity
+      → Holds ds k b w
   holds ds k b w p q e i j =
       let same : somes (live ds k b) ≡ w.items = ap somes e ∙ somes-map w.items in
       (record { within = (p, q); full = e ∙ ap (map Some) (sym same) }, λ t. gap_view (same t) (i t) (j t))
 
   module _ (cs : List (Option X)) (g a : ℕ) (v : GapView X) (e : view_of cs g a ≡ v) (h : IsGap cs g a) where
-    pub put_step : (x : X) → length v.items < v.capacity → (g < length cs) × Holds (set cs g (Some x)) (g + 1) a (gap_view (insert v.items v.place x) (v.place + 1) v.capacity)
+    pub put_step : (x : X) → length v.items < v.capacity → (g < length cs)
+        × Holds (set cs g (Some x)) (g + 1) a (gap_view (insert v.items v.place x) (v.place + 1) v.capacity)
     put_step x room =
         let s = shows cs g a v e h in let long = length-set cs g (Some x) in let lt : g < a = omega arith in (
           omega arith,
           holds _ _ _ _ (omega arith) (omega arith)
-              (live-put cs g a (Some x) lt (omega arith) ∙ ap (λ ys. insert ys g (Some x)) s.items ∙ ap (λ k. insert (map Some v.items) k (Some x)) (sym s.place) ∙ sym (map-insert v.items v.place x))
+              (live-put cs g a (Some x) lt (omega arith) ∙ ap (λ ys. insert ys g (Some x)) s.items
+              ∙ ap (λ k. insert (map Some v.items) k (Some x)) (sym s.place) ∙ sym (map-insert v.items v.place x))
               (omega arith) (omega arith),
         )
 
     pub left_full : 0 < v.place → IsFull cs (g - 1)
     left_full some =
-        let s = shows cs g a v e h in let t = cut_at v.items (g - 1) (omega arith) in
-        (t.0, sym (read_left cs g a (g - 1) (omega arith) (omega arith) (omega arith)) ∙ ap (λ ys. get_or ys (g - 1) None) s.items ∙ read_map v.items (g - 1) ∙ t.1)
+        let s = shows cs g a v e h in let t = cut_at v.items (g - 1) (omega arith) in (
+          t.0,
+          sym (read_left cs g a (g - 1) (omega arith) (omega arith) (omega arith)) ∙ ap (λ ys. get_or ys (g - 1) None) s.items ∙ read_map v.items (g - 1)
+              ∙ t.1,
+        )
 
-    pub left_step : (y : X) → get_or cs (g - 1) None ≡ Some y → 0 < v.place → Holds (set cs (a - 1) (Some y)) (g - 1) (a - 1) (gap_view v.items (v.place - 1) v.capacity)
+    pub left_step : (y : X) → get_or cs (g - 1) None ≡ Some y → 0 < v.place
+        → Holds (set cs (a - 1) (Some y)) (g - 1) (a - 1) (gap_view v.items (v.place - 1) v.capacity)
     left_step y is some =
         let s = shows cs g a v e h in let long = length-set cs (a - 1) (Some y) in
         let up : g - 1 + 1 ≡ g = omega arith in let up2 : a - 1 + 1 ≡ a = omega arith in
         holds _ _ _ _ (omega arith) (omega arith)
-        (ap (λ z. live (set cs (a - 1) z) (g - 1) (a - 1)) (sym is) ∙ live-left cs (g - 1) (a - 1) (omega arith) (omega arith) ∙ (λ t. live cs (up t) (up2 t)) ∙ s.items)
+        (ap (λ z. live (set cs (a - 1) z) (g - 1) (a - 1)) (sym is) ∙ live-left cs (g - 1) (a - 1) (omega arith) (omega arith) ∙ (λ t. live cs (up t) (up2 t))
+        ∙ s.items)
         (omega arith) (omega arith)
 
     pub right_full : v.place < length v.items → IsFull cs a
     right_full some =
-        let s = shows cs g a v e h in let t = cut_at v.items g (omega arith) in let none : a + (g - g) ≡ a = omega arith in
-        (t.0, sym (read_right cs g a g (omega arith) (omega arith) (omega arith) ∙ ap (λ k. get_or cs k None) none) ∙ ap (λ ys. get_or ys g None) s.items ∙ read_map v.items g ∙ t.1)
+        let s = shows cs g a v e h in let t = cut_at v.items g (omega arith) in let none : a + (g - g) ≡ a = omega arith in (
+          t.0,
+          sym (read_right cs g a g (omega arith) (omega arith) (omega arith) ∙ ap (λ k. get_or cs k None) none) ∙ ap (λ ys. get_or ys g None) s.items
+              ∙ read_map v.items g ∙ t.1,
+        )
 
-    pub right_step : (y : X) → get_or cs a None ≡ Some y → v.place < length v.items → Holds (set cs g (Some y)) (g + 1) (a + 1) (gap_view v.items (v.place + 1) v.capacity)
+    pub right_step : (y : X) → get_or cs a None ≡ Some y → v.place < length v.items
+        → Holds (set cs g (Some y)) (g + 1) (a + 1) (gap_view v.items (v.place + 1) v.capacity)
     right_step y is some =
         let s = shows cs g a v e h in let long = length-set cs g (Some y) in
-        holds _ _ _ _ (omega arith) (omega arith) (ap (λ z. live (set cs g z) (g + 1) (a + 1)) (sym is) ∙ live-right cs g a (omega arith) (omega arith) ∙ s.items) (omega arith) (omega arith)
+        holds _ _ _ _ (omega arith) (omega arith) (ap (λ z. live (set cs g z) (g + 1) (a + 1)) (sym is) ∙ live-right cs g a (omega arith) (omega arith)
+        ∙ s.items) (omega arith) (omega arith)
 
-    pub taken_step : (y : X) → get_or cs (g - 1) None ≡ Some y → 0 < v.place → (Some y ≡ slice_get v.items (v.place - 1)) × Holds cs (g - 1) a (gap_view (remove v.items (v.place - 1)) (v.place - 1) v.capacity)
+    pub taken_step : (y : X) → get_or cs (g - 1) None ≡ Some y → 0 < v.place
+        → (Some y ≡ slice_get v.items (v.place - 1)) × Holds cs (g - 1) a (gap_view (remove v.items (v.place - 1)) (v.place - 1) v.capacity)
     taken_step y is some =
         let s = shows cs g a v e h in let up : g - 1 + 1 ≡ g = omega arith in let down : g - 1 ≡ v.place - 1 = omega arith in (
-          sym is ∙ sym (read_left cs g a (g - 1) (omega arith) (omega arith) (omega arith)) ∙ ap (λ ys. get_or ys (g - 1) None) s.items ∙ read_map v.items (g - 1) ∙ ap (slice_get v.items) down,
+          sym is ∙ sym (read_left cs g a (g - 1) (omega arith) (omega arith) (omega arith)) ∙ ap (λ ys. get_or ys (g - 1) None) s.items
+              ∙ read_map v.items (g - 1) ∙ ap (slice_get v.items) down,
           holds _ _ _ _ (omega arith) (omega arith)
-              (live-taken cs (g - 1) a (omega arith) (omega arith) ∙ ap (λ k. remove (live cs k a) (g - 1)) up ∙ (λ t. remove (s.items t) (down t)) ∙ sym (map-remove v.items (v.place - 1)))
+              (live-taken cs (g - 1) a (omega arith) (omega arith) ∙ ap (λ k. remove (live cs k a) (g - 1)) up ∙ (λ t. remove (s.items t) (down t))
+              ∙ sym (map-remove v.items (v.place - 1)))
               (omega arith) (omega arith),
         )
 
-    pub taken_right_step : (y : X) → get_or cs a None ≡ Some y → v.place < length v.items → (Some y ≡ slice_get v.items v.place) × Holds cs g (a + 1) (gap_view (remove v.items v.place) v.place v.capacity)
+    pub taken_right_step : (y : X) → get_or cs a None ≡ Some y → v.place < length v.items
+        → (Some y ≡ slice_get v.items v.place) × Holds cs g (a + 1) (gap_view (remove v.items v.place) v.place v.capacity)
     taken_right_step y is some =
         let s = shows cs g a v e h in let none : a + (g - g) ≡ a = omega arith in (
-          sym is ∙ sym (read_right cs g a g (omega arith) (omega arith) (omega arith) ∙ ap (λ k. get_or cs k None) none) ∙ ap (λ ys. get_or ys g None) s.items ∙ read_map v.items g ∙ ap (slice_get v.items) (sym s.place),
+          sym is ∙ sym (read_right cs g a g (omega arith) (omega arith) (omega arith) ∙ ap (λ k. get_or cs k None) none) ∙ ap (λ ys. get_or ys g None) s.items
+              ∙ read_map v.items g ∙ ap (slice_get v.items) (sym s.place),
           holds _ _ _ _ (omega arith) (omega arith)
               (live-taken_right cs g a (omega arith) (omega arith) ∙ (λ t. remove (s.items t) (sym s.place t)) ∙ sym (map-remove v.items v.place))
               (omega arith) (omega arith),
@@ -94,17 +115,20 @@ module _ {X : Type 0} where
 
     -- the slot of an item
     pub slot_left : (i : ℕ) → i < length v.items → i < g → get_or cs i None ≡ slice_get v.items i
-    slot_left i p q = let s = shows cs g a v e h in sym (read_left cs g a i q (omega arith) (omega arith)) ∙ ap (λ ys. get_or ys i None) s.items ∙ read_map v.items i
+    slot_left i p q = let s = shows cs g a v e h in sym (read_left cs g a i q (omega arith) (omega arith)) ∙ ap (λ ys. get_or ys i None) s.items
+        ∙ read_map v.items i
 
     pub slot_right : (i : ℕ) → i < length v.items → g ≤ i → get_or cs (a + (i - g)) None ≡ slice_get v.items i
-    slot_right i p q = let s = shows cs g a v e h in sym (read_right cs g a i q (omega arith) (omega arith)) ∙ ap (λ ys. get_or ys i None) s.items ∙ read_map v.items i
+    slot_right i p q = let s = shows cs g a v e h in sym (read_right cs g a i q (omega arith) (omega arith)) ∙ ap (λ ys. get_or ys i None) s.items
+        ∙ read_map v.items i
 
     -- j is the slot of the item i
     abbrev pub IsSlot : ℕ → ℕ → Type 0
     IsSlot i j = (i < g → j ≡ i) × (g ≤ i → j ≡ a + (i - g))
 
     pub slot_inside : (i j : ℕ) → IsSlot i j → i < length v.items → j < length cs
-    slot_inside i j k p = let s = shows cs g a v e h in elim (below_or_not i g) [ inl lt ↦ (let q = k.0 lt in omega arith) | inr le ↦ (let q = k.1 le in omega arith) ]
+    slot_inside i j k p = let s = shows cs g a v e h in elim (below_or_not i g)
+        [ inl lt ↦ (let q = k.0 lt in omega arith) | inr le ↦ (let q = k.1 le in omega arith) ]
 
     pub slot_holds : (i j : ℕ) → IsSlot i j → i < length v.items → get_or cs j None ≡ slice_get v.items i
     slot_holds i j k p = elim (below_or_not i g) [
@@ -134,7 +158,8 @@ module _ {X : Type 0} where
         (t.0, ap (λ j. get_or cs j None) same ∙ slot_right (g + k) (omega arith) (omega arith) ∙ t.1)
 
     -- the places left of the gap and those right of it, copied to the front and to the end of ds
-    pub grown_step : (ds : List (Option X)) (b : ℕ) → g ≤ b → b ≤ length ds → take g ds ≡ take g cs → drop b ds ≡ drop a cs → Holds ds g b (gap_view v.items v.place (length ds))
+    pub grown_step : (ds : List (Option X)) (b : ℕ) → g ≤ b → b ≤ length ds → take g ds ≡ take g cs → drop b ds ≡ drop a cs
+        → Holds ds g b (gap_view v.items v.place (length ds))
     grown_step ds b p q front back = let s = shows cs g a v e h in
         holds _ _ _ _ p q (live-of ds b cs g a front back ∙ s.items) (sym s.place) refl
 
@@ -167,7 +192,8 @@ module _ {X : Type 0} where
     up_step low high n lg ha apart =
         let s = shows cs g a v e h in let long = length-moved cs low high n (omega arith) (omega arith) in (
           long,
-          holds _ _ _ _ (omega arith) (omega arith) (live-up cs low high n (omega arith) (omega arith) ∙ (λ t. live cs (lg t) (ha t)) ∙ s.items) refl (long ∙ sym s.capacity),
+          holds _ _ _ _ (omega arith) (omega arith) (live-up cs low high n (omega arith) (omega arith) ∙ (λ t. live cs (lg t) (ha t)) ∙ s.items) refl
+              (long ∙ sym s.capacity),
         )
 
     pub down_step : (n : ℕ) → g + n ≤ a → a + n ≤ length cs

@@ -28,12 +28,15 @@ module _ {X : Type 0} (cs : List (Option X)) (at : ℕ) (ps : List (Option X)) w
 
   pub take-laid_past : at ≤ length cs → take (at + length ps) (laid cs at ps) ≡ take at cs ++ ps
   take-laid_past inside =
-      ap (take (at + length ps)) (sym (append_assoc (take at cs) ps rest)) ∙ ap (λ k. take k ((take at cs ++ ps) ++ rest)) (sym (front inside)) ∙ take-append_seam (take at cs ++ ps) rest
+      ap (take (at + length ps)) (sym (append_assoc (take at cs) ps rest)) ∙ ap (λ k. take k ((take at cs ++ ps) ++ rest)) (sym (front inside))
+      ∙ take-append_seam (take at cs ++ ps) rest
 
   pub drop-laid : (k : ℕ) → at + length ps ≤ k → at ≤ length cs → drop k (laid cs at ps) ≡ drop k cs
   drop-laid k after inside =
-      let m = k - (at + length ps) in let past : k ≡ length (take at cs ++ ps) + m = omega (arith, front inside) in let up : at + length ps + m ≡ k = omega arith in
-      (λ t. drop (past t) (sym (append_assoc (take at cs) ps rest) t)) ∙ drop-append-add (take at cs ++ ps) rest m ∙ drop-drop m (at + length ps) cs ∙ ap (λ j. drop j cs) up
+      let m = k - (at + length ps) in let past : k ≡ length (take at cs ++ ps) + m = omega (arith, front inside) in let up : at + length ps + m ≡ k =
+      omega arith in
+      (λ t. drop (past t) (sym (append_assoc (take at cs) ps rest) t)) ∙ drop-append-add (take at cs ++ ps) rest m ∙ drop-drop m (at + length ps) cs
+      ∙ ap (λ j. drop j cs) up
 
 module _ {X : Type 0} (cs : List X) (low high n : ℕ) (apart : low + n ≤ high) (inside : high + n ≤ length cs) where
   -- what lies between the two
@@ -44,11 +47,14 @@ module _ {X : Type 0} (cs : List X) (low high n : ℕ) (apart : low + n ≤ high
   pub in_parts : cs ≡ take low cs ++ (take n (drop low cs) ++ (between ++ (take n (drop high cs) ++ drop (high + n) cs)))
   in_parts =
       let up : low + n + (high - (low + n)) ≡ high = omega arith in
-      sym (take-append-drop low cs) ∙ ap (λ l. take low cs ++ l) (sym (take-append-drop n (drop low cs)) ∙ ap (λ l. take n (drop low cs) ++ l) (drop-drop n low cs
-      ∙ sym (take-append-drop (high - (low + n)) (drop (low + n) cs)) ∙ ap (λ l. between ++ l) (drop-drop (high - (low + n)) (low + n) cs ∙ ap (λ k. drop k cs) up
+      sym (take-append-drop low cs) ∙ ap (λ l. take low cs ++ l)
+      (sym (take-append-drop n (drop low cs)) ∙ ap (λ l. take n (drop low cs) ++ l) (drop-drop n low cs
+      ∙ sym (take-append-drop (high - (low + n)) (drop (low + n) cs))
+      ∙ ap (λ l. between ++ l) (drop-drop (high - (low + n)) (low + n) cs ∙ ap (λ k. drop k cs) up
       ∙ sym (take-append-drop n (drop high cs)) ∙ ap (λ l. take n (drop high cs) ++ l) (drop-drop n high cs))))
 
-  pub longs : (length (take low cs) ≡ low) × (length between ≡ high - (low + n)) × (length (take n (drop low cs)) ≡ n) × (length (take n (drop high cs)) ≡ n) × (length (drop (high + n) cs) ≡ length cs - (high + n))
+  pub longs : (length (take low cs) ≡ low) × (length between ≡ high - (low + n)) × (length (take n (drop low cs)) ≡ n) × (length (take n (drop high cs)) ≡ n)
+      × (length (drop (high + n) cs) ≡ length cs - (high + n))
   longs = (
     omega (arith, length-take low cs),
     omega (arith, length-take (high - (low + n)) (drop (low + n) cs), length-drop (low + n) cs),
@@ -61,7 +67,8 @@ module _ {X : Type 0} (cs : List X) (low high n : ℕ) (apart : low + n ≤ high
   abbrev pub exchanged : List X → List X → List X
   exchanged ps qs = take low cs ++ (ps ++ (between ++ (qs ++ drop (high + n) cs)))
 
-module _ {X : Type 0} (cs : List (Option X)) (low high n : ℕ) (apart : low + n ≤ high) (inside : high + n ≤ length cs) (ps qs : List (Option X)) (lp : length ps ≡ n) (lq : length qs ≡ n) where
+module _ {X : Type 0} (cs : List (Option X)) (low high n : ℕ) (apart : low + n ≤ high) (inside : high + n ≤ length cs) (ps qs : List (Option X))
+    (lp : length ps ≡ n) (lq : length qs ≡ n) where
   -- the row with both laid
   abbrev two : List (Option X)
   two = exchanged cs low high n apart inside ps qs
@@ -75,15 +82,19 @@ module _ {X : Type 0} (cs : List (Option X)) (low high n : ℕ) (apart : low + n
       let upto : high ≡ length (A ++ ps) + m = omega (arith, front) in let past : high + length qs ≡ length (A ++ ps) + k = omega (arith, front, lq) in
       let end : low + n + k ≡ high + n = omega arith in
       let left : take high (laid cs low ps) ≡ (A ++ ps) ++ take m D = (λ t. take (upto t) (once t)) ∙ take-append-add (A ++ ps) D m in
-      let right : drop (high + length qs) (laid cs low ps) ≡ drop (high + n) cs = (λ t. drop (past t) (once t)) ∙ drop-append-add (A ++ ps) D k ∙ drop-drop k (low + n) cs ∙ ap (λ j. drop j cs) end in
-      (λ t. left t ++ (qs ++ right t)) ∙ append_assoc (A ++ ps) (take m D) (qs ++ drop (high + n) cs) ∙ append_assoc A ps (take m D ++ (qs ++ drop (high + n) cs))
+      let right : drop (high + length qs) (laid cs low ps) ≡ drop (high + n) cs = (λ t. drop (past t) (once t)) ∙ drop-append-add (A ++ ps) D k
+      ∙ drop-drop k (low + n) cs ∙ ap (λ j. drop j cs) end in
+      (λ t. left t ++ (qs ++ right t)) ∙ append_assoc (A ++ ps) (take m D) (qs ++ drop (high + n) cs)
+      ∙ append_assoc A ps (take m D ++ (qs ++ drop (high + n) cs))
 
   pub laid_high_first : laid (laid cs high qs) low ps ≡ two
   laid_high_first =
       let W = qs ++ drop (high + n) cs in let m = high - (low + n) in
       let long : length (take high cs) ≡ high = omega (arith, length-take high cs) in let mid : high ≡ low + n + m = omega arith in
       let once : laid cs high qs ≡ take high cs ++ W = ap (λ j. take high cs ++ (qs ++ drop (high + j) cs)) lq in
-      let left : take low (laid cs high qs) ≡ take low cs = ap (take low) once ∙ take-append-le low (take high cs) W (omega (arith, long)) ∙ take-take low high cs (omega arith) in
+      let left : take low (laid cs high qs) ≡ take low cs = ap (take low) once ∙ take-append-le low (take high cs) W (omega (arith, long))
+      ∙ take-take low high cs (omega arith) in
       let right : drop (low + length ps) (laid cs high qs) ≡ take m (drop (low + n) cs) ++ W =
-      (λ t. drop (low + lp t) (once t)) ∙ drop-append-le (low + n) (take high cs) W (omega (arith, long)) ∙ ap (λ l. l ++ W) (ap (λ j. drop (low + n) (take j cs)) mid ∙ drop-take (low + n) m cs) in
+      (λ t. drop (low + lp t) (once t)) ∙ drop-append-le (low + n) (take high cs) W (omega (arith, long))
+      ∙ ap (λ l. l ++ W) (ap (λ j. drop (low + n) (take j cs)) mid ∙ drop-take (low + n) m cs) in
       λ t. left t ++ (ps ++ right t)

@@ -48,7 +48,8 @@ module _ (E : El) {M : Type 1} {𝓤 : Ura M} (𝓛 : Logic 𝓤) (b : ℕ) wher
   module _ (o : ℕ) (cs : List (Place E)) (low high n : ℕ) (apart : low + n ≤ high) (inside : high + n ≤ length cs) where
     -- all but the two runs
     abbrev Rest : Fml
-    Rest = fsep (Row o (take low cs)) (fsep (Row (n * s + (low * s + o)) (between cs low high n apart inside)) (Row (n * s + (high * s + o)) (drop (high + n) cs)))
+    Rest = fsep (Row o (take low cs)) (fsep (Row (n * s + (low * s + o)) (between cs low high n apart inside))
+        (Row (n * s + (high * s + o)) (drop (high + n) cs)))
 
     first : low * s + o ≡ length (take low cs) * s + o
     first = ap (λ k. k * s + o) (sym (longs cs low high n apart inside).0)
@@ -61,16 +62,19 @@ module _ (E : El) {M : Type 1} {𝓤 : Ura M} (𝓛 : Logic 𝓤) (b : ℕ) wher
 
     two_out : ⟦ Row o cs ⟧ ⊢ ⟦ Row (low * s + o) (take n (drop low cs)) ⟧ ∗ ⟦ Row (high * s + o) (take n (drop high cs)) ⟧ ∗ ⟦ Rest ⟧
     two_out =
-        let l = longs cs low high n apart inside in let A = take low cs in let P = take n (drop low cs) in let B = between cs low high n apart inside in let Q = take n (drop high cs) in let Z = drop (high + n) cs in
+        let l = longs cs low high n apart inside in let A = take low cs in let P = take n (drop low cs) in let B = between cs low high n apart inside in let Q =
+        take n (drop high cs) in let Z = drop (high + n) cs in
         let low' = low * s + o in let high' = high * s + o in
         qed 𝓛 (‵ (Row o cs) ∷ []) ∵ rewrite ! 0 (λ (l : List (Place E)). ‵ (Row o l)) (in_parts cs low high n apart inside) refl $
         use1 𝓛 (‵ (Row o A) ⊛ ‵ (Row low' (P ++ (B ++ (Q ++ Z))))) (cut E 𝓛 b A (P ++ (B ++ (Q ++ Z))) o low' first) $ split ! $ move ! (1 ∷ []) $
-        use1 𝓛 (‵ (Row low' P) ⊛ ‵ (Row (n * s + low') (B ++ (Q ++ Z)))) (cut E 𝓛 b P (B ++ (Q ++ Z)) low' (n * s + low') (ap (λ k. k * s + low') (sym l.2))) $ split ! $ frame ! $
+        use1 𝓛 (‵ (Row low' P) ⊛ ‵ (Row (n * s + low') (B ++ (Q ++ Z)))) (cut E 𝓛 b P (B ++ (Q ++ Z)) low' (n * s + low') (ap (λ k. k * s + low') (sym l.2))) $
+        split ! $ frame ! $
         use1 𝓛 (‵ (Row (n * s + low') B) ⊛ ‵ (Row high' (Q ++ Z))) (cut E 𝓛 b B (Q ++ Z) (n * s + low') high' second) $ split ! $ move ! (1 ∷ []) $
         use1 𝓛 (‵ (Row high' Q) ⊛ ‵ (Row (n * s + high') Z)) (cut E 𝓛 b Q Z high' (n * s + high') (ap (λ k. k * s + high') (sym l.3))) $ split ! $ frame ! $
         move ! (1 ∷ 0 ∷ []) $ fjoin ! $ move ! (1 ∷ 0 ∷ []) $ fjoin ! $ done !
 
-    two_in : (ps qs : List (Place E)) → length ps ≡ n → length qs ≡ n → ⟦ Row (low * s + o) ps ⟧ ∗ ⟦ Row (high * s + o) qs ⟧ ∗ ⟦ Rest ⟧ ⊢ ⟦ Row o (exchanged cs low high n apart inside ps qs) ⟧
+    two_in : (ps qs : List (Place E)) → length ps ≡ n → length qs ≡ n
+        → ⟦ Row (low * s + o) ps ⟧ ∗ ⟦ Row (high * s + o) qs ⟧ ∗ ⟦ Rest ⟧ ⊢ ⟦ Row o (exchanged cs low high n apart inside ps qs) ⟧
     two_in ps qs lp lq =
         let A = take low cs in let B = between cs low high n apart inside in let Z = drop (high + n) cs in
         let low' = low * s + o in let high' = high * s + o in
@@ -78,7 +82,8 @@ module _ (E : El) {M : Type 1} {𝓤 : Ura M} (𝓛 : Logic 𝓤) (b : ℕ) wher
         -- [between; the end; the front; the two runs]
         move ! (4 ∷ 1 ∷ []) $ use2 𝓛 (‵ (Row high' (qs ++ Z))) (glue E 𝓛 b qs Z high' (n * s + high') (ap (λ k. k * s + high') (sym lq))) $
         move ! (1 ∷ 0 ∷ []) $ use2 𝓛 (‵ (Row (n * s + low') (B ++ (qs ++ Z)))) (glue E 𝓛 b B (qs ++ Z) (n * s + low') high' second) $
-        move ! (2 ∷ 0 ∷ []) $ use2 𝓛 (‵ (Row low' (ps ++ (B ++ (qs ++ Z))))) (glue E 𝓛 b ps (B ++ (qs ++ Z)) low' (n * s + low') (ap (λ k. k * s + low') (sym lp))) $
+        move ! (2 ∷ 0 ∷ []) $ use2 𝓛 (‵ (Row low' (ps ++ (B ++ (qs ++ Z)))))
+        (glue E 𝓛 b ps (B ++ (qs ++ Z)) low' (n * s + low') (ap (λ k. k * s + low') (sym lp))) $
         move ! (1 ∷ []) $ by ! (glue E 𝓛 b A (ps ++ (B ++ (qs ++ Z))) o low' first)
 
   -- the run at from and the run at to come out with the rest, and go back as others, whichever lies first
@@ -87,7 +92,8 @@ module _ (E : El) {M : Type 1} {𝓤 : Ura M} (𝓛 : Logic 𝓤) (b : ℕ) wher
     Others (inl below) = Rest o cs from to n below target
     Others (inr above) = Rest o cs to from n above source
 
-    pub runs_out : (apart : AreApart from to n) → ⟦ Row o cs ⟧ ⊢ ⟦ Row (from * s + o) (take n (drop from cs)) ⟧ ∗ ⟦ Row (to * s + o) (take n (drop to cs)) ⟧ ∗ ⟦ Others apart ⟧
+    pub runs_out : (apart : AreApart from to n) → ⟦ Row o cs ⟧ ⊢ ⟦ Row (from * s + o) (take n (drop from cs)) ⟧ ∗ ⟦ Row (to * s + o) (take n (drop to cs)) ⟧ ∗ ⟦
+        Others apart ⟧
     unfolding Others
     runs_out (inl below) = two_out o cs from to n below target
     runs_out (inr above) =
@@ -117,7 +123,8 @@ module _ (E : El) {M : Type 1} {𝓤 : Ura M} (𝓛 : Logic 𝓤) (b : ℕ) wher
 
   module _ (o n : ℕ) (xs : List (el_x E)) (long : length xs ≡ n) where
     pub to_array : ⟦ Row o (map Some xs) ⟧ ⊢ ⟦ part_at (Array (R E) n) full_share xs b o ⟧
-    to_array = qed 𝓛 (‵ (Row o (map Some xs)) ∷ []) ∵ use1 𝓛 (‵ (items (R E) full_share xs b o)) (to_items xs o) $ by ! (arrays.whole E' 𝓛 full_share n xs b o long)
+    to_array = qed 𝓛 (‵ (Row o (map Some xs)) ∷ []) ∵ use1 𝓛 (‵ (items (R E) full_share xs b o)) (to_items xs o) $
+        by ! (arrays.whole E' 𝓛 full_share n xs b o long)
 
     pub of_array : ⟦ part_at (Array (R E) n) full_share xs b o ⟧ ⊢ ⟦ Row o (map Some xs) ⟧
     of_array = qed 𝓛 (‵ (part_at (Array (R E) n) full_share xs b o) ∷ []) ∵
@@ -125,4 +132,5 @@ module _ (E : El) {M : Type 1} {𝓤 : Ura M} (𝓛 : Logic 𝓤) (b : ℕ) wher
 
   pub to_space : (cs : List (Place E)) (o n : ℕ) → length cs ≡ n → ⟦ Row o cs ⟧ ⊢ H.room (ty_array (elτ E) n) b o
   to_space cs o n long = qed 𝓛 (‵ (Row o cs) ∷ []) ∵
-      use1 𝓛 (‵ (froom (ty_array (elτ E) (length cs)) b o)) (to_room E 𝓛 b cs o) $ rewrite ! 0 (λ (k : ℕ). ‵ (froom (ty_array (elτ E) k) b o)) long refl $ done !
+      use1 𝓛 (‵ (froom (ty_array (elτ E) (length cs)) b o)) (to_room E 𝓛 b cs o) $ rewrite ! 0 (λ (k : ℕ). ‵ (froom (ty_array (elτ E) k) b o)) long refl $
+      done !

@@ -16,9 +16,11 @@ pub use prog.Wp.{Env, WpFn}
 pub use contract.BorrowLft.{◌⊑◌}
 pub use contract.Monad.{fact, fact_i}
 pub use contract.Running.{tables}
-pub use types.Kit.{‵, raw, ◌⊛◌, later, at_ret, ◌$◌, ◌∵◌, !, qed, by, done, move, keep, drop, use0, use1, use2, use3, split, join, await, fsplit, fsplit3, fjoin, fjoin3, feq_i, feq_l, flt_l, rewrite, suffices, regoal, prop, frame, learn, pick, some, given}
+pub use types.Kit.{‵, raw, ◌⊛◌, later, at_ret, ◌$◌, ◌∵◌, !, qed, by, done, move, keep, drop, use0, use1, use2, use3, split, join, await, fsplit, fsplit3, fjoin}
+pub use types.Kit.{fjoin3, feq_i, feq_l, flt_l, rewrite, suffices, regoal, prop, frame, learn, pick, some, given}
 pub use types.Part.{whole, sub, look_in, agg}
-pub use types.Run.{init, stop, fld, load, addr, size_lit, size_word, align_word, unit_lit, lit, of_opd, bin, and_then, no_more, assigns_last, first, blocks, switches_on, exec, returns, enter}
+pub use types.Run.{init, stop, fld, load, addr, size_lit, size_word, align_word, unit_lit, lit, of_opd, bin, and_then, no_more, assigns_last, first, blocks}
+pub use types.Run.{switches_on, exec, returns, enter}
 pub use types.ByLocal.{alloc_all, pass_all, free_all, look_at, get as local, get_in, get_tag, is, through, sets, sets_last, lands_as, lands_last, env}
 pub use denote.Builtin.{u8, usize, unit, RefOf}
 pub use denote.Exit.{yes, no}

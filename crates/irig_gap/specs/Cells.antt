@@ -1,5 +1,6 @@
 -- What the row of places of a block owns and lends, at items of the row R. This project's own.
-use Rattle.std.specs.Prelude.{◌≡◌, ℕ, ◌+◌, ◌*◌, ◌^◌, ◌≤◌, ◌⊎◌, List, [], ◌∷◌, ◌++◌, length, take, drop, replicate, map, get_or, Option, Some, None}
+use Rattle.std.specs.Prelude.{◌≡◌, ℕ, ◌+◌, ◌*◌, ◌^◌, ◌≤◌, ◌⊎◌, List, [], ◌∷◌, ◌++◌, length, take}
+use Rattle.std.specs.Prelude.{drop, replicate, map, get_or, Option, Some, None}
 use Rattle.std.specs.Mem.{type_size}
 use base.Fraction.{full_share}
 use base.Fml.{Lft, Fml, ftrue, ffalse, fsep, flt, froom}

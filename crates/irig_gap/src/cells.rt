@@ -5,7 +5,8 @@ ghost use Rattle.std.specs.Prelude.{◌≡◌, ℕ, ◌+◌, ◌*◌, ◌^◌, �
 ghost use Rattle.std.specs.Prelude.{length, replicate, get_or, slice_set, IfOk};
 ghost use Rattle.std.specs.Mem.{type_size};
 ghost use denote.RawPtr.{Ptr};
-ghost use Rattle.irig_gap.specs.Cells.{IsFull, IsRun, AreApart, moved, cells_own, cells_lent, deed_owns};
+ghost use Rattle.irig_gap.specs.Cells.{IsFull, IsRun, AreApart, moved, cells_own, cells_lent};
+ghost use Rattle.irig_gap.specs.Cells.{deed_owns};
 
 use std::alloc::{AllocError, Allocator};
 use std::marker::{Model, PhantomData};

@@ -55,7 +55,8 @@ spent_on f ps first place next a b l m more s = record {
   from = s.from;
   to = omega (arith, s.to, more);
   few = omega (arith, s.few, s.order, more);
-  looked = looked_up a b l m (2 * (place - first) + (s.reach - (first + 1))) (2 * (next - first) + (s.reach - (first + 1))) s.looked (omega (arith, s.order, more));
+  looked = looked_up a b l m (2 * (place - first) + (s.reach - (first + 1))) (2 * (next - first) + (s.reach - (first + 1))) s.looked
+      (omega (arith, s.order, more));
   alone = λ k from to. s.alone k (omega (arith, more, from)) to;
 }
 
@@ -71,7 +72,8 @@ spent_checked f ps first place before a b c d l m n o s passed check some = elim
     from = omega (arith, s.order, passed.order, check.from);
     to = check.to;
     few = omega (arith, check.to, s.order, passed.order);
-    looked = looked_more a c d l n o (2 * (before - first) + 2 + (s.reach - (first + 1))) (check.reach - (before + 1)) (2 * (before + 1 - first) + (check.reach - (first + 1)))
+    looked = looked_more a c d l n o (2 * (before - first) + 2 + (s.reach - (first + 1))) (check.reach - (before + 1))
+        (2 * (before + 1 - first) + (check.reach - (first + 1)))
         (looked_more a b c l m n (2 * (place - first) + (s.reach - (first + 1))) (2 * (before - place) + 2) (2 * (before - first) + 2 + (s.reach - (first + 1)))
         s.looked passed.looked (omega (arith, s.order, passed.order)))
         check.looked (omega (arith, past, s.order, s.from, passed.order, check.from));
@@ -83,4 +85,5 @@ spent_checked f ps first place before a b c d l m n o s passed check some = elim
 pub spent_all : (f : FormatView) (ps : List Pulse) (first last : ℕ) (a b : LensView) (l m : ℕ) → Spent f ps first last a b l m
     → Looked a b l m (min (101 * (last - first)) (3 * (last - first) + 98))
 spent_all f ps first last a b l m s =
-    looked_up a b l m (2 * (last - first) + (s.reach - (first + 1))) (min (101 * (last - first)) (3 * (last - first) + 98)) s.looked (omega (arith, s.few, s.to, s.order, s.from))
+    looked_up a b l m (2 * (last - first) + (s.reach - (first + 1))) (min (101 * (last - first)) (3 * (last - first) + 98)) s.looked
+    (omega (arith, s.few, s.to, s.order, s.from))

@@ -1,5 +1,6 @@
 -- Records of markers up to a number, and of later ones.
-use Rattle.std.proofs.Common.{◌≡◌, ℕ, suc, zero, ◌+◌, ◌<◌, ◌≤◌, Bool, true, false, cond, List, [], ◌∷◌, ◌++◌, length, take, drop, map, refl, ap, arith, length-append}
+use Rattle.std.proofs.Common.{◌≡◌, ℕ, suc, zero, ◌+◌, ◌<◌, ◌≤◌, Bool, true, false, cond, List, [], ◌∷◌, ◌++◌, length, take, drop, map, refl, ap, arith}
+use Rattle.std.proofs.Common.{length-append}
 use Rattle.irig_codes.specs.Format.{FormatView}
 use Rattle.irig_track.specs.declared.pulse.Pulse.{Pulse}
 use Rattle.irig_index.specs.declared.record.Record.{Record}
@@ -108,4 +109,9 @@ module _ (f : FormatView) where
   unfolding records_in
   length-records_in ps i zero = omega arith
   length-records_in ps i (suc n) =
-      omega (arith, length-append (records_in f ps i n) (record_after f ps (i + n)), length-records_in ps i n, length-record_of (i + n + 1) (take 101 (drop (i + n) ps)))
+      omega (
+        arith,
+        length-append (records_in f ps i n) (record_after f ps (i + n)),
+        length-records_in ps i n,
+        length-record_of (i + n + 1) (take 101 (drop (i + n) ps)),
+      )

@@ -12,7 +12,8 @@ pub record EndsWithin (first last : ℕ) (items : List Record) (place : ℕ) : T
   pub after : first < one.marker
   pub up_to : one.marker ≤ last
 
--- of all records those on both sides are left: what was between them is of markers after `first`, up
+-- of all records those on both sides are left: what was between them is of markers after `first`,
+-- up
 -- to `last`
 pub record Cut (first last : ℕ) (all left right : List Record) : Type 0 where
   pub gone : List Record

@@ -1,6 +1,7 @@
 //! What is made of the markers of a part of a track: their records, or their number.
 
-ghost use Rattle.std.specs.Prelude.{◌≡◌, ℕ, ◌+◌, ◌-◌, ◌*◌, ◌<◌, ◌≤◌, ◌++◌, length, take, drop, max, min, OnOk, IsOk};
+ghost use Rattle.std.specs.Prelude.{◌≡◌, ℕ, ◌+◌, ◌-◌, ◌*◌, ◌<◌, ◌≤◌, ◌++◌, length, take, drop, max};
+ghost use Rattle.std.specs.Prelude.{min, OnOk, IsOk};
 ghost use Rattle.irig_index.specs.Checked.{looks_of};
 ghost use Rattle.irig_index.specs.Frames.{frames, records_in};
 ghost use Rattle.irig_index.specs.Looked.{Looked};

@@ -1,6 +1,7 @@
 //! The verdict on a frame.
 
-ghost use Rattle.std.specs.Prelude.{◌≡◌, ℕ, ◌+◌, ◌-◌, ◌==◌, ◌<◌, ◌≤◌, [], true, false, if◌then◌else◌, slice_get, unwrap_or, Some, MatchOption};
+ghost use Rattle.std.specs.Prelude.{◌≡◌, ℕ, ◌+◌, ◌-◌, ◌==◌, ◌<◌, ◌≤◌, [], true, false};
+ghost use Rattle.std.specs.Prelude.{if◌then◌else◌, slice_get, unwrap_or, Some, MatchOption};
 ghost use Rattle.irig_codes.specs.declared.width.Element.TheVariants.{Position, Zero};
 ghost use Rattle.irig_codes.specs.Reading.{counts};
 ghost use Rattle.irig_codes.specs.Width.{HasTwentieths, class_in};

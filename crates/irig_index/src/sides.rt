@@ -1,6 +1,7 @@
 //! The records on both sides of a gap.
 
-ghost use Rattle.std.specs.Prelude.{◌≡◌, ℕ, ◌+◌, ◌*◌, ◌^◌, ◌<◌, ◌≤◌, ◌∷◌, ◌++◌, [], true, false, length, max};
+ghost use Rattle.std.specs.Prelude.{◌≡◌, ℕ, ◌+◌, ◌*◌, ◌^◌, ◌<◌, ◌≤◌, ◌∷◌, ◌++◌, [], true, false};
+ghost use Rattle.std.specs.Prelude.{length, max};
 ghost use Rattle.std.specs.Prelude.{slice_get, Some, IsOk, OnOk};
 ghost use Rattle.irig_index.specs.Cuts.{Cut, EndsWithin};
 ghost use Rattle.irig_index.specs.Sides.{turned, left_of, kept_right, right_of, shown};

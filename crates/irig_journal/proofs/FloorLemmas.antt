@@ -1,5 +1,6 @@
 -- What the calls of a journal make of the machine with a floor.
-use Rattle.std.proofs.Common.{◌≡◌, ◌∷◌, ◌+◌, ◌-◌, ◌<◌, ◌≤◌, ◌++◌, [], ℕ, suc, Bool, true, false, List, Option, Some, None, length, take, drop, refl, ap, ap₂, sym, ◌∙◌, arith}
+use Rattle.std.proofs.Common.{◌≡◌, ◌∷◌, ◌+◌, ◌-◌, ◌<◌, ◌≤◌, ◌++◌, [], ℕ, suc, Bool, true, false, List, Option, Some, None, length, take, drop, refl, ap, ap₂}
+use Rattle.std.proofs.Common.{sym, ◌∙◌, arith}
 use Rattle.std.specs.Prelude.{nat_le, option_map, if◌then◌else◌}
 use Rattle.std.proofs.lemmas.Bool.{lt-leb, leb-true, leb-false}
 use Rattle.std.proofs.lemmas.List.{drop_at, length-take-le}
@@ -247,5 +248,6 @@ module _ {S C D : Type 0} where
       ≡ Some (grouped_of turned delta after place (floored_at left none None))
   aborted_by turned delta s after cursor place past left future none o there rest at empty =
       rw (there, rest, at, empty)
-      (ap (λ (l : List (Kept S)). Some (over None (machine_of_states l (kept (left_by turned s (changes_of (beyond o.steps (steps_of delta past)))) o.cursor) [])))
+      (ap (λ (l : List (Kept S)). Some (over None (machine_of_states l (kept (left_by turned s (changes_of (beyond o.steps (steps_of delta past)))) o.cursor)
+      [])))
       (past_aborted turned s o.steps (steps_of delta past)))

@@ -1,5 +1,6 @@
 -- What a group leaves.
-use Rattle.std.proofs.Common.{◌≡◌, ◌∷◌, ◌-◌, ◌++◌, [], ℕ, List, Option, Some, None, length, drop, refl, ap, ap₂, sym, subst, inl, inr, ◌∙◌, arith, length-append}
+use Rattle.std.proofs.Common.{◌≡◌, ◌∷◌, ◌-◌, ◌++◌, [], ℕ, List, Option, Some, None, length, drop, refl, ap, ap₂, sym, subst, inl, inr, ◌∙◌, arith}
+use Rattle.std.proofs.Common.{length-append}
 use Rattle.std.specs.Option.{option_and_then}
 use Rattle.std.proofs.lemmas.Bool.{le-leb, lt-leb}
 use Rattle.std.proofs.lemmas.List.{drop_at}
@@ -62,7 +63,13 @@ module _ {S : Type 0} where
       → floor.height ≡ length below → InGroup floor below g → after_deed deed g ≡ Some h → InGroup floor below h
   deed_kept floor below (Make after) g h high here went =
       subst (λ (x : Grouped (Kept S)). InGroup floor below x) (same_inside _ h went)
-      (record { open_at = here.open_at; news = g.machine.present ∷ here.news; past = ap (λ (l : List (Kept S)). g.machine.present ∷ l) here.past; oldest = here.oldest })
+      (record {
+        open_at = here.open_at;
+        news = g.machine.present ∷ here.news;
+        past = ap (λ (l : List (Kept S)). g.machine.present ∷ l) here.past;
+        oldest =
+            here.oldest;
+      })
   deed_kept floor below Back g h high here went =
       back_kept floor here.news below g.machine.present g.machine.future h high here.oldest
       (sym (ap (λ (x : Grouped (Kept S)). undone_over x) (told floor below g here)) ∙ went)

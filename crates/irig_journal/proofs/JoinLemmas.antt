@@ -1,5 +1,6 @@
 -- Steps removed from a list and added again, and what several steps do in turn.
-use Rattle.std.proofs.Common.{◌≡◌, ◌∷◌, ◌+◌, ◌-◌, ◌≤◌, ◌++◌, [], ℕ, List, length, get_or, map, reverse, refl, ap, ap₂, sym, subst, ◌∙◌, arith, add-one, append_assoc, length-append}
+use Rattle.std.proofs.Common.{◌≡◌, ◌∷◌, ◌+◌, ◌-◌, ◌≤◌, ◌++◌, [], ℕ, List, length, get_or, map, reverse, refl, ap, ap₂, sym, subst, ◌∙◌, arith, add-one}
+use Rattle.std.proofs.Common.{append_assoc, length-append}
 use Rattle.std.proofs.lemmas.List.{map-append, reverse-append, take-append-drop, take_at, drop_at, length-drop}
 use Rattle.irig_journal.specs.declared.step.Step.{Step}
 use Rattle.irig_journal.specs.History.{FitInTurn, step, steps_of}

@@ -1,7 +1,8 @@
 -- What a group leaves, whatever is done in it. This project's own.
 use Rattle.std.specs.Prelude.{◌≡◌, ◌⊎◌, ℕ, List, [], ◌∷◌, Option, Some, None}
 use Rattle.std.specs.Option.{option_and_then}
-use Rattle.irig_journal.specs.Groups.{Grouped, aborted, begun, ended, over, recorded_over, redone_over, undone_over}
+use Rattle.irig_journal.specs.Groups.{Grouped, aborted, begun, ended, over, recorded_over}
+use Rattle.irig_journal.specs.Groups.{redone_over, undone_over}
 use Rattle.irig_journal.specs.Machine.{Kept, Machine, kept}
 
 -- an edit with the state that it leaves, an undo or a redo, each of them accepted, a move of the

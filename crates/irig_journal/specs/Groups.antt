@@ -1,5 +1,6 @@
 -- The machine of whole states with a floor, the begin of the open group. This project's own.
-use Rattle.std.specs.Prelude.{ℕ, ◌-◌, Bool, false, List, [], drop, length, nat_le, Option, Some, None, option_map, if◌then◌else◌}
+use Rattle.std.specs.Prelude.{ℕ, ◌-◌, Bool, false, List, [], drop, length, nat_le, Option, Some}
+use Rattle.std.specs.Prelude.{None, option_map, if◌then◌else◌}
 use Rattle.irig_journal.specs.Machine.{Machine, recorded, undone, redone}
 
 -- the length of the past and the present when a group was begun

@@ -1,5 +1,6 @@
 -- Several steps made one. This project's own.
-use Rattle.std.specs.Prelude.{◌≡◌, ℕ, ◌+◌, ◌-◌, List, [], ◌∷◌, drop, if◌then◌else◌, length, map, nat_le, take}
+use Rattle.std.specs.Prelude.{◌≡◌, ℕ, ◌+◌, ◌-◌, List, [], ◌∷◌, drop, if◌then◌else◌, length, map}
+use Rattle.std.specs.Prelude.{nat_le, take}
 use Rattle.irig_journal.specs.declared.step.Step.{Step}
 use Rattle.irig_journal.specs.History.{step}
 

@@ -1,9 +1,12 @@
 //! Groups: several edits that one undo reverses.
 
-ghost use Rattle.std.specs.Prelude.{◌≡◌, ◌⊎◌, ◌+◌, ◌<◌, ◌≤◌, ◌↔◌, [], ℕ, IsErr, IsErrOf, IsNone, IsSome, IfSome, OnErr, OnOk, None, Some, length, vec_capacity, vec_len};
+ghost use Rattle.std.specs.Prelude.{◌≡◌, ◌⊎◌, ◌+◌, ◌<◌, ◌≤◌, ◌↔◌, [], ℕ, IsErr, IsErrOf, IsNone};
+ghost use Rattle.std.specs.Prelude.{IsSome, IfSome, OnErr, OnOk, None, Some, length, vec_capacity};
+ghost use Rattle.std.specs.Prelude.{vec_len};
 ghost use Rattle.irig_journal.specs.Groups.{aborted, begun, ended};
 ghost use Rattle.irig_journal.specs.History.{steps_of};
-ghost use Rattle.irig_journal.specs.Joining.{CountsAlong, beyond, changes_of, farthest, joined_beyond};
+ghost use Rattle.irig_journal.specs.Joining.{CountsAlong, beyond, changes_of, farthest};
+ghost use Rattle.irig_journal.specs.Joining.{joined_beyond};
 ghost use Rattle.irig_journal.specs.Journal.{AreReady, ReadyInTurn, future_of, grouped_of, past_of};
 ghost use Rattle.irig_journal.specs.Turns.{left_by};
 

@@ -1,5 +1,6 @@
 -- Years and days by their numbers.
-use Rattle.std.proofs.Common.{◌≡◌, ℕ, zero, suc, ◌+◌, ◌-◌, ◌<◌, ◌≤◌, ◌⊎◌, inl, inr, nat_le, Bool, true, false, cond, pos, ◌+ℤ◌, ◌≤ℤ◌, neg_ℤ, unsigned_abs, Some, refl, sym, ap, subst, ◌∙◌, arith}
+use Rattle.std.proofs.Common.{◌≡◌, ℕ, zero, suc, ◌+◌, ◌-◌, ◌<◌, ◌≤◌, ◌⊎◌, inl, inr, nat_le, Bool, true, false, cond, pos, ◌+ℤ◌, ◌≤ℤ◌, neg_ℤ, unsigned_abs, Some}
+use Rattle.std.proofs.Common.{refl, sym, ap, subst, ◌∙◌, arith}
 use Rattle.std.proofs.lemmas.Bool.{leb-true}
 use Rattle.std.proofs.lemmas.Bool.Decides.{nat_tests}
 use Rattle.std.proofs.Math.Nat.{eq-or-lt_of_le}
@@ -11,7 +12,8 @@ use Rattle.jiff_core.specs.Date.{epoch_day}
 use Rattle.jiff_core.proofs.DateLemmas.{civil}
 use Rattle.jiff_core.specs.Calendar.{day_count, days_in_year, days_in_month, day_of_year, IsCivilDate}
 use Rattle.jiff_core.proofs.SignedLemmas.{signed_arith}
-use Rattle.jiff_core.proofs.CalendarLemmas.{days_in_year_bounds, day_count-next_year, day_count-later_year, day_count-year_bounds, day_count-day_of_year, day_of_year_bound, day_count_bounds, days_from_civil-day_count}
+use Rattle.jiff_core.proofs.CalendarLemmas.{days_in_year_bounds, day_count-next_year, day_count-later_year, day_count-year_bounds, day_count-day_of_year}
+use Rattle.jiff_core.proofs.CalendarLemmas.{day_of_year_bound, day_count_bounds, days_from_civil-day_count}
 use Rattle.irig_moment.specs.Calendar.{day_number, new_year_of, last_year, year_of, place_of, civil_day_of, IsDay}
 
 -- 1 January of the years that are spoken of
@@ -63,12 +65,14 @@ year-is day y one h low high = last-year 9999 day y one h (omega arith) low high
 pub number-is : (d : Date) (n : ℕ) → epoch_day d +ℤ pos 4371587 ≡ pos n → n + 366 ≡ day_count d.year d.month d.day
 number-is d n e = omega (arith, signed_arith, days_from_civil-day_count d.year d.month d.day, day_count_bounds _ _ _ (civil d))
 
-pub made-day : (d e : Date) (n y m k : ℕ) → d ≡ e → e.year ≡ pos y → pos e.month ≡ pos m → pos e.day ≡ pos k → epoch_day d +ℤ pos 4371587 ≡ pos n → n ≡ day_number y m k
+pub made-day : (d e : Date) (n y m k : ℕ) → d ≡ e → e.year ≡ pos y → pos e.month ≡ pos m → pos e.day ≡ pos k → epoch_day d +ℤ pos 4371587 ≡ pos n
+    → n ≡ day_number y m k
 made-day d e n y m k same year month day h =
     let month_is : d.month ≡ m = ap (λ (x : Date). x.month) same ∙ ap unsigned_abs month in
     let day_is : d.day ≡ k = ap (λ (x : Date). x.day) same ∙ ap unsigned_abs day in
     let year_is : d.year ≡ pos y = ap (λ (x : Date). x.year) same ∙ year in
-    let count : n + 366 ≡ day_count (pos y) m k = number-is d n h ∙ ap (λ v. day_count v d.month d.day) year_is ∙ ap (λ v. day_count (pos y) v d.day) month_is ∙ ap (λ v. day_count (pos y) m v) day_is in
+    let count : n + 366 ≡ day_count (pos y) m k = number-is d n h ∙ ap (λ v. day_count v d.month d.day) year_is ∙ ap (λ v. day_count (pos y) v d.day) month_is
+    ∙ ap (λ v. day_count (pos y) m v) day_is in
     omega (arith, count)
 
 year-low : (d : Date) → neg_ℤ (pos 10000) ≤ℤ d.year
@@ -78,11 +82,19 @@ year-low d = let h = d.year_in in omega (arith, signed_arith)
 pub year-positive : (d : Date) (day : ℕ) → day + 366 ≡ day_count d.year d.month d.day → new_year_of 1 ≤ day → pos 1 ≤ℤ d.year
 year-positive d day e low =
     by_lt_z d.year (pos 1)
-    (λ lt. absurd (omega (arith, signed_arith, day_count-later_year d.year (pos 1) (year-low d) lt, day_count-day_of_year d.year d.month d.day d.day_in.0, day_of_year_bound _ _ _ (civil d), january 1 (omega arith))))
+    (λ lt. absurd (omega (
+      arith,
+      signed_arith,
+      day_count-later_year d.year (pos 1) (year-low d) lt,
+      day_count-day_of_year d.year d.month d.day d.day_in.0,
+      day_of_year_bound _ _ _ (civil d),
+      january 1 (omega arith),
+    )))
     (λ le. le)
 
 -- the year of a date that jiff made, as a natural number
-pub year-number : (d : Date) (day : ℕ) → day + 366 ≡ day_count d.year d.month d.day → new_year_of 1 ≤ day → (d.year ≡ pos (unsigned_abs d.year)) × (1 ≤ unsigned_abs d.year) × (unsigned_abs d.year ≤ 9999)
+pub year-number : (d : Date) (day : ℕ) → day + 366 ≡ day_count d.year d.month d.day → new_year_of 1 ≤ day
+    → (d.year ≡ pos (unsigned_abs d.year)) × (1 ≤ unsigned_abs d.year) × (unsigned_abs d.year ≤ 9999)
 year-number d day e low = parts d.year (year-positive d day e low) (d.year_in.1) where
   parts : (z : ℤ) → pos 1 ≤ℤ z → z ≤ℤ pos 9999 → (z ≡ pos (unsigned_abs z)) × (1 ≤ unsigned_abs z) × (unsigned_abs z ≤ 9999)
   parts (pos y) h k = (refl, omega (arith, signed_arith), omega (arith, signed_arith))
@@ -97,7 +109,8 @@ year-told d day e low =
     let bound = day_of_year_bound _ _ _ (civil d) in
     let first : 1 ≤ day_of_year d.year d.month d.day = let h = d.day_in.0 in omega (arith, h) in
     let years = january (unsigned_abs d.year) number.2 in
-    sym (year-is day (unsigned_abs d.year) number.1 number.2 (omega (arith, e, january_is, place, first, years)) (omega (arith, e, january_is, length_is, place, bound, years)))
+    sym (year-is day (unsigned_abs d.year) number.1 number.2 (omega (arith, e, january_is, place, first, years))
+    (omega (arith, e, january_is, length_is, place, bound, years)))
 
 pub place-told : (d : Date) (day n : ℕ) → day + 366 ≡ day_count d.year d.month d.day → new_year_of 1 ≤ day → n ≡ ordinal d → n ≡ place_of day
 place-told d day n e low h =
@@ -130,7 +143,8 @@ civil-in-years y m k n y1 y2 m1 m2 k1 k2 h =
 
 pub civil-there : (y m k n : ℕ) → 1 ≤ y → y ≤ 9998 → 1 ≤ m → m ≤ 12 → 1 ≤ k → k ≤ days_in_month (pos y) m → n ≡ day_number y m k → Some n ≡ civil_day_of y m k
 civil-there y m k n y1 y2 m1 m2 k1 k2 h =
-    rw (is-at-most 1 y y1, is-at-most y 9998 y2, is-at-most 1 m m1, is-at-most m 12 m2, is-at-most 1 k k1, is-at-most k (days_in_month (pos y) m) k2) (ap Some h)
+    rw (is-at-most 1 y y1, is-at-most y 9998 y2, is-at-most 1 m m1, is-at-most m 12 m2, is-at-most 1 k k1, is-at-most k (days_in_month (pos y) m) k2)
+    (ap Some h)
 
 -- the year of a day is the greatest whose 1 January is at or before the day
 pub record IsLastYear (n day y : ℕ) : Type 0 where
@@ -138,7 +152,8 @@ pub record IsLastYear (n day y : ℕ) : Type 0 where
   pub begun : new_year_of y ≤ day
   pub no_later : (z : ℕ) → y < z → z ≤ n → day < new_year_of z
 
-last-year-step : (n day : ℕ) (b : Bool) → nat_le (new_year_of (suc n)) day ≡ b → new_year_of 1 ≤ day → (1 ≤ n → IsLastYear n day (last_year n day)) → (n ≡ 0 → b ≡ true) →
+last-year-step : (n day : ℕ) (b : Bool) → nat_le (new_year_of (suc n)) day ≡ b → new_year_of 1 ≤ day → (1 ≤ n → IsLastYear n day (last_year n day))
+    → (n ≡ 0 → b ≡ true) →
     IsLastYear (suc n) day (cond b (suc n) (last_year n day))
 last-year-step n day true t low rest first = record {
   there = omega arith;
@@ -165,7 +180,8 @@ last-year-law : (n day : ℕ) → 1 ≤ n → new_year_of 1 ≤ day → IsLastYe
 unfolding last_year
 last-year-law zero day h low = absurd (omega arith)
 last-year-law (suc n) day h low =
-    last-year-step n day (nat_le (new_year_of (suc n)) day) refl low (λ k. last-year-law n day k low) (λ e. ap (λ v. nat_le (new_year_of (suc v)) day) e ∙ is-at-most (new_year_of 1) day low)
+    last-year-step n day (nat_le (new_year_of (suc n)) day) refl low (λ k. last-year-law n day k low)
+    (λ e. ap (λ v. nat_le (new_year_of (suc v)) day) e ∙ is-at-most (new_year_of 1) day low)
 
 pub year-law : (day : ℕ) → new_year_of 1 ≤ day → IsLastYear 9999 day (year_of day)
 unfolding year_of

@@ -22,7 +22,8 @@ is-zero v h = ap (λ n. n == 0) h
 pub both-true : (a b : Bool) → a ≡ true → b ≡ true → (a && b) ≡ true
 both-true a b p q = rw (p, q) refl
 
-hundredths-fit : (k : Kind) (t : ℕ) → t % 6000 % (frame_period_of k / 10000) ≡ 0 → fits_part (has_hundredths k) (is_in_range k Hundredths) (part (has_hundredths k) (t % 100)) ≡ true
+hundredths-fit : (k : Kind) (t : ℕ) → t % 6000 % (frame_period_of k / 10000) ≡ 0
+    → fits_part (has_hundredths k) (is_in_range k Hundredths) (part (has_hundredths k) (t % 100)) ≡ true
 hundredths-fit A t h = both-true _ _ (at-most (t % 100) 99 (omega arith)) (is-zero (t % 100 % 10) (omega arith))
 hundredths-fit B t h = refl
 hundredths-fit E t h = refl
@@ -34,8 +35,20 @@ seconds-fit B t h = both-true _ _ (at-most (t / 100 % 60) 60 (omega arith)) (is-
 seconds-fit E t h = both-true _ _ (at-most (t / 100 % 60) 60 (omega arith)) (is-zero (t / 100 % 60 % 10) (omega arith))
 seconds-fit G t h = both-true _ _ (at-most (t / 100 % 60) 60 (omega arith)) (is-zero (t / 100 % 60 % 1) (omega arith))
 
-pub fields-fit : (f : FormatView) (t place year control : ℕ) → t < 8640000 → t % 6000 % period_of f ≡ 0 → 1 ≤ place → place ≤ 366 → control < 2 ^ control_count_of f →
-    (let g : Fields = record { hundredths = part (has_hundredths f.kind) (t % 100); seconds = t / 100 % 60; minutes = t / 6000 % 60; hours = t / 360000; days = place; year = part (has_year f.expression) (year % 100); sbs = part (carries_sbs f.kind f.expression) (t / 100); control = part (has_control f.expression) control } in fits_in f g ≡ true)
+pub fields-fit : (f : FormatView) (t place year control : ℕ) → t < 8640000 → t % 6000 % period_of f ≡ 0 → 1 ≤ place → place ≤ 366
+    → control < 2 ^ control_count_of f →
+    (let g : Fields = record {
+      hundredths = part (has_hundredths f.kind) (t % 100);
+      seconds = t / 100 % 60;
+      minutes = t / 6000 % 60;
+      hours = t / 360000;
+      days =
+          place;
+      year = part (has_year f.expression) (year % 100);
+      sbs = part (carries_sbs f.kind f.expression) (t / 100);
+      control =
+          part (has_control f.expression) control;
+    } in fits_in f g ≡ true)
 fields-fit f t place year control h s p q c =
     both-true _ _ (hundredths-fit f.kind t s)
     (both-true _ _ (seconds-fit f.kind t s)
@@ -46,9 +59,21 @@ fields-fit f t place year control h s p q c =
     (both-true _ _ (fits_part-part (carries_sbs f.kind f.expression) (λ v. nat_le v 86400) (t / 100) (at-most (t / 100) 86400 (omega arith)))
     (fits_part-part (has_control f.expression) (λ v. nat_lt v (2 ^ control_count_of f)) control (under control (2 ^ control_count_of f) c))))))))
 
-pub parts-fit : (f : FormatView) (t place year control : ℕ) (h y b o : Option ℕ) → t < 8640000 → t % 6000 % period_of f ≡ 0 → 1 ≤ place → place ≤ 366 → control < 2 ^ control_count_of f →
-    h ≡ part (has_hundredths f.kind) (t % 100) → y ≡ part (has_year f.expression) (year % 100) → b ≡ part (carries_sbs f.kind f.expression) (t / 100) → o ≡ part (has_control f.expression) control →
-    (let g : Fields = record { hundredths = h; seconds = t / 100 % 60; minutes = t / 6000 % 60; hours = t / 360000; days = place; year = y; sbs = b; control = o } in fits_in f g ≡ true)
+pub parts-fit : (f : FormatView) (t place year control : ℕ) (h y b o : Option ℕ) → t < 8640000 → t % 6000 % period_of f ≡ 0 → 1 ≤ place → place ≤ 366
+    → control < 2 ^ control_count_of f →
+    h ≡ part (has_hundredths f.kind) (t % 100) → y ≡ part (has_year f.expression) (year % 100) → b ≡ part (carries_sbs f.kind f.expression) (t / 100)
+    → o ≡ part (has_control f.expression) control →
+    (let g : Fields = record {
+      hundredths = h;
+      seconds = t / 100 % 60;
+      minutes = t / 6000 % 60;
+      hours = t / 360000;
+      days = place;
+      year = y;
+      sbs = b;
+      control =
+          o;
+    } in fits_in f g ≡ true)
 parts-fit f t place year control h y b o s p q r c eh ey eb eo = rw (eh, ey, eb, eo) (fields-fit f t place year control s p q r c)
 
 -- how far a frame can lie from midnight

@@ -9,7 +9,8 @@ use Rattle.irig_codes.specs.declared.format.Kind.{Kind}
 use Rattle.irig_codes.specs.declared.format.Kind.TheVariants.{A, B, E, G}
 
 -- leap years go by 4, 100 and 400
-pub leap-years : map (λ y. days_in_year (pos y)) (1 ∷ 4 ∷ 1900 ∷ 2000 ∷ 2023 ∷ 2024 ∷ 2100 ∷ 9996 ∷ 9998 ∷ []) ≡ 365 ∷ 366 ∷ 365 ∷ 366 ∷ 365 ∷ 366 ∷ 365 ∷ 366 ∷ 365 ∷ []
+pub leap-years : map (λ y. days_in_year (pos y)) (1 ∷ 4 ∷ 1900 ∷ 2000 ∷ 2023 ∷ 2024 ∷ 2100 ∷ 9996 ∷ 9998 ∷ []) ≡ 365 ∷ 366 ∷ 365 ∷ 366 ∷ 365 ∷ 366 ∷ 365 ∷ 366
+    ∷ 365 ∷ []
 leap-years = refl
 
 -- texts that are no moment

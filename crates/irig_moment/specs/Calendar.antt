@@ -1,6 +1,7 @@
 -- Days and years, by the day numbers of jiff, whose calendar is the proleptic Gregorian one. Which
 -- years a moment may have is this project's own choice.
-use Rattle.std.specs.Prelude.{ℕ, zero, suc, ◌+◌, ◌-◌, ◌<◌, ◌≤◌, ◌&&◌, nat_le, Bool, if◌then◌else◌, pos, Option, Some, None}
+use Rattle.std.specs.Prelude.{ℕ, zero, suc, ◌+◌, ◌-◌, ◌<◌, ◌≤◌, ◌&&◌, nat_le, Bool, if◌then◌else◌}
+use Rattle.std.specs.Prelude.{pos, Option, Some, None}
 use Rattle.jiff_core.specs.Calendar.{day_count, days_in_year, days_in_month}
 
 -- the day number of a date, as jiff counts days from 1 January of the year -9999

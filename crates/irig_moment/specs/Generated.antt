@@ -1,7 +1,8 @@
 -- The fields of the frames that are generated from a moment on: this project's own, for the frames
 -- of IRIG Standard 200-04. No second is inserted or left out.
 use Rattle.std.specs.Prelude.{ℕ, ◌+◌, ◌*◌, ◌/◌, ◌%◌, ◌==◌, Bool}
-use Rattle.irig_codes.specs.Format.{FormatView, frame_period_of, has_hundredths, has_control, has_year, carries_sbs}
+use Rattle.irig_codes.specs.Format.{FormatView, frame_period_of, has_hundredths, has_control}
+use Rattle.irig_codes.specs.Format.{has_year, carries_sbs}
 use Rattle.irig_codes.specs.Fields.{part}
 use Rattle.irig_codes.specs.declared.fields.Fields.{Fields}
 use Rattle.irig_moment.specs.Calendar.{year_of, place_of}

@@ -1,7 +1,8 @@
 //! Days and years, by the day numbers of jiff.
 
 ghost use Rattle.std.specs.Prelude.{◌≡◌, ◌+◌, ◌≤◌, ◌<◌, IfSome};
-ghost use Rattle.irig_moment.specs.Calendar.{new_year_of, year_of, place_of, ordinal_day_of, civil_day_of, IsDay};
+ghost use Rattle.irig_moment.specs.Calendar.{new_year_of, year_of, place_of, ordinal_day_of};
+ghost use Rattle.irig_moment.specs.Calendar.{civil_day_of, IsDay};
 
 use jiff::civil::date;
 use jiff_core::civil::{Date, days_in_month, days_in_year};

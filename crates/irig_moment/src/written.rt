@@ -2,7 +2,8 @@
 
 ghost use Rattle.std.specs.Prelude.{◌≡◌, ◌+◌, ◌≤◌, ◌<◌, length, IsTrue, IfSome};
 ghost use Rattle.irig_moment.specs.Calendar.{IsDay};
-ghost use Rattle.irig_moment.specs.Written.{has_form_of, fits_form_of, number_at, hundredths_of, time_at, fine_time_at, ordinal_date, civil_date};
+ghost use Rattle.irig_moment.specs.Written.{has_form_of, fits_form_of, number_at, hundredths_of};
+ghost use Rattle.irig_moment.specs.Written.{time_at, fine_time_at, ordinal_date, civil_date};
 
 use crate::calendar::{civil_day, ordinal_day};
 

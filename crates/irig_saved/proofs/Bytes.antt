@@ -1,5 +1,6 @@
 -- Places of a byte.
-use Rattle.std.proofs.Common.{◌≡◌, ◌==◌, ◌<◌, ◌≤◌, ◌+◌, ◌++◌, ◌∷◌, [], ℕ, zero, suc, Bool, true, false, not, List, length, take, drop, get_or, refl, sym, ap, ◌∙◌, arith, ap₂, nat_lt}
+use Rattle.std.proofs.Common.{◌≡◌, ◌==◌, ◌<◌, ◌≤◌, ◌+◌, ◌++◌, ◌∷◌, [], ℕ, zero, suc, Bool, true, false, not, List, length, take, drop, get_or, refl, sym, ap}
+use Rattle.std.proofs.Common.{◌∙◌, arith, ap₂, nat_lt}
 use Rattle.std.specs.List.{list_all}
 use Rattle.std.proofs.lemmas.Bool.{and_from, not_from_false, ne_eqb, true≢false, eq-eqb, and_parts, ltb-true}
 use Rattle.std.proofs.lemmas.List.{take-append-drop, drop_more}

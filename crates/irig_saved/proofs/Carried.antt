@@ -1,5 +1,6 @@
 -- What stops one part stops another of the same lines.
-use Rattle.std.proofs.Common.{◌≡◌, ◌≤◌, ◌+◌, ◌++◌, ◌∷◌, ℕ, suc, List, length, take, refl, sym, ap, ◌∙◌, append_assoc, arith, inl, inr, ◌⊎◌, subst, Result, Ok, Err}
+use Rattle.std.proofs.Common.{◌≡◌, ◌≤◌, ◌+◌, ◌++◌, ◌∷◌, ℕ, suc, List, length, take, refl, sym, ap, ◌∙◌, append_assoc, arith, inl, inr, ◌⊎◌, subst, Result, Ok}
+use Rattle.std.proofs.Common.{Err}
 use Rattle.std.specs.Borrow.{Bor}
 use Rattle.irig_saved.specs.Lines.{text_of}
 use Rattle.irig_saved.specs.Reading.{Reads, Stops, Lacks, IsStop, Parses}
@@ -24,7 +25,8 @@ pub not_some : (text : List ℕ) (ls : List (List ℕ)) (n : ℕ) (more : List �
 not_some text ls n more d e =
     let next : n + 1 ≡ suc n = omega arith in
     d.apart (text_of (take n d.others) ++ more)
-    (e ∙ ap (λ k. text_of (take k ls) ++ more) next ∙ ap (λ (l : List (List ℕ)). text_of (take (suc n) l) ++ more) d.lines ∙ append_assoc d.first (10 ∷ text_of (take n d.others)) more)
+    (e ∙ ap (λ k. text_of (take k ls) ++ more) next ∙ ap (λ (l : List (List ℕ)). text_of (take (suc n) l) ++ more) d.lines
+    ∙ append_assoc d.first (10 ∷ text_of (take n d.others)) more)
 
 -- if the first line is at fault
 pub first_line_stops : {X : Type 0} (Is : X → Type 0) (lines : X → List (List ℕ)) (text : List ℕ) (some : X) → Is some
@@ -88,7 +90,8 @@ stopped (At rest) f out h = f rest.now h
 stopped Memory f out h = out h
 
 -- what is read of one part is read of another
-pub reparsed : {X : Type 0} (IsX IsY : X → Type 0) (xs ys : X → List (List ℕ)) (OutX OutY : List ℕ → Type 0) (text mid : List ℕ) (r : Result (X × Bor (List ℕ)) Stop)
+pub reparsed : {X : Type 0} (IsX IsY : X → Type 0) (xs ys : X → List (List ℕ)) (OutX OutY : List ℕ → Type 0) (text mid : List ℕ)
+    (r : Result (X × Bor (List ℕ)) Stop)
     → ((x : X) (rest : List ℕ) → Reads IsX xs mid x rest → Reads IsY ys text x rest)
     → ((rest : List ℕ) → Stops IsX xs mid rest → Stops IsY ys text rest)
     → (OutX mid → OutY text) → Parses IsX xs OutX mid r → Parses IsY ys OutY text r

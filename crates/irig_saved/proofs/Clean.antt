@@ -5,7 +5,8 @@ use Rattle.std.proofs.lemmas.Bool.{and_from, and_parts, not_from_false, ne_eqb, 
 use Rattle.std.proofs.lemmas.List.Folds.{list_all-append}
 use Rattle.irig_saved.specs.Lines.{behind, line, numbered}
 use Rattle.irig_saved.specs.ChangeWords.{head_of, words_of, single_line}
-use Rattle.irig_saved.specs.SavedText.{put_of, pulse_line, pulse_lines, single_lines, singles_lines, change_lines, step_lines, steps_lines, mark_lines, counted_lines, saved_lines}
+use Rattle.irig_saved.specs.SavedText.{put_of, pulse_line, pulse_lines, single_lines, singles_lines, change_lines, step_lines, steps_lines, mark_lines}
+use Rattle.irig_saved.specs.SavedText.{counted_lines, saved_lines}
 use Rattle.irig_codes.specs.Words.{kind_word}
 use Rattle.irig_saved.specs.Ranges.{IsNumber, IsTime, IsPulse, IsSingle, IsChange, IsStep, AreSteps, IsSaved}
 use Rattle.irig_saved.specs.Reading.{Lacks}
@@ -128,7 +129,10 @@ counted_clean a head ss hh h = (counted_lacks a head (length ss) hh h.0, steps_c
 marks_clean : {b : ℕ} → IsAside b → (x : ℕ) (ms : List (Option ℕ)) → 36 < x → AllByRecursion IsTime ms → AllLack b (mark_lines x ms)
 marks_clean a x [] high h = tt
 marks_clean a x (None ∷ ms) high h = marks_clean a (x + 1) ms (omega (arith, high)) h.1
-marks_clean a x (Some t ∷ ms) high h = (mark_lacks a x t (plain_lacks a (x ∷ []) (byte_is_plain x high)) h.0, marks_clean a (x + 1) ms (omega (arith, high)) h.1)
+marks_clean a x (Some t ∷ ms) high h = (
+  mark_lacks a x t (plain_lacks a (x ∷ []) (byte_is_plain x high)) h.0,
+  marks_clean a (x + 1) ms (omega (arith, high)) h.1,
+)
 
 pub saved_clean : {b : ℕ} → IsAside b → (s : Saved) → IsSaved s → AllLack b (saved_lines s)
 saved_clean {b} a s h = (
@@ -138,7 +142,8 @@ saved_clean {b} a s h = (
     (
       counted_lacks a (codes "cursor") s.cursor (plain_lacks a (codes "cursor") refl) h.cursor,
       all_append b (mark_lines 97 s.marks ++ counted_lines (codes "past") s.past) (counted_lines (codes "future") s.future)
-          (all_append b (mark_lines 97 s.marks) (counted_lines (codes "past") s.past) (marks_clean a 97 s.marks (omega arith) h.marks) (counted_clean a (codes "past") s.past (plain_lacks a (codes "past") refl) h.past))
+          (all_append b (mark_lines 97 s.marks) (counted_lines (codes "past") s.past) (marks_clean a 97 s.marks (omega arith) h.marks)
+          (counted_clean a (codes "past") s.past (plain_lacks a (codes "past") refl) h.past))
           (counted_clean a (codes "future") s.future (plain_lacks a (codes "future") refl) h.future),
     ),
   ),

@@ -64,7 +64,8 @@ same_line h g (w ∷ ws) [] r s hh hg hw hv e =
     let t = cut h g ((w ++ behind ws) ++ 10 ∷ r) s 32 10 hh hg (omega arith) (omega arith) e' in
     absurd (omega (arith, t.1))
 same_line h g (w ∷ ws) (v ∷ vs) r s hh hg hw hv e =
-    let e' : h ++ 32 ∷ ((w ++ behind ws) ++ 10 ∷ r) ≡ g ++ 32 ∷ ((v ++ behind vs) ++ 10 ∷ s) = sym (append_assoc h (32 ∷ w ++ behind ws) (10 ∷ r)) ∙ e ∙ append_assoc g (32 ∷ v ++ behind vs) (10 ∷ s) in
+    let e' : h ++ 32 ∷ ((w ++ behind ws) ++ 10 ∷ r) ≡ g ++ 32 ∷ ((v ++ behind vs) ++ 10 ∷ s) = sym (append_assoc h (32 ∷ w ++ behind ws) (10 ∷ r)) ∙ e
+    ∙ append_assoc g (32 ∷ v ++ behind vs) (10 ∷ s) in
     let t = cut h g ((w ++ behind ws) ++ 10 ∷ r) ((v ++ behind vs) ++ 10 ∷ s) 32 32 hh hg (omega arith) (omega arith) e' in
     let more = same_line w v ws vs r s hw.0 hv.0 hw.1 hv.1 t.2 in
     record { head = t.0; words = ap₂ (λ a (l : List (List ℕ)). a ∷ l) more.head more.words; rest = more.rest }

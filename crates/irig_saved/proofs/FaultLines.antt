@@ -1,5 +1,6 @@
 -- The number of the line at fault.
-use Rattle.std.proofs.Common.{◌≡◌, ◌==◌, ◌<◌, ◌≤◌, ◌+◌, ◌-◌, ◌++◌, ◌∷◌, [], ℕ, suc, Bool, true, false, not, List, length, take, cond, refl, sym, ap, ap₂, subst, ◌∙◌, arith, length-append}
+use Rattle.std.proofs.Common.{◌≡◌, ◌==◌, ◌<◌, ◌≤◌, ◌+◌, ◌-◌, ◌++◌, ◌∷◌, [], ℕ, suc, Bool, true, false, not, List, length, take, cond, refl, sym, ap, ap₂, subst}
+use Rattle.std.proofs.Common.{◌∙◌, arith, length-append}
 use Rattle.std.specs.List.{list_all, count_by}
 use Rattle.std.proofs.lemmas.Bool.{and_parts, false≢true}
 use Rattle.std.proofs.lemmas.List.Sums.{sum_by-append}
@@ -73,7 +74,8 @@ stop_fault text rest n s at = record {
       s.wrong t c.rest h c.there c.same;
 }
 
-pub rest_fault : (s : Saved) (text rest : List ℕ) (n : ℕ) → Reads IsSaved saved_lines text s rest → 0 < length rest → n ≡ 1 + length (saved_lines s) → IsFault n text
+pub rest_fault : (s : Saved) (text rest : List ℕ) (n : ℕ) → Reads IsSaved saved_lines text s rest → 0 < length rest → n ≡ 1 + length (saved_lines s)
+    → IsFault n text
 rest_fault s text rest n r left at = record {
   refused = λ t h e. nothing (same_saved s t rest [] r.lawful h (sym r.same ∙ e ∙ journal_is t)).rest;
   first = omega (arith, at);
@@ -81,7 +83,12 @@ rest_fault s text rest n r left at = record {
     s,
     r.lawful,
     same_begins s (length (saved_lines s)) (n - 1) text (omega (arith, at))
-        (record { there = omega arith; rest = rest; same = r.same ∙ ap (λ (l : List (List ℕ)). text_of l ++ rest) (sym (take_all (length (saved_lines s)) (saved_lines s) (omega arith))) }),
+        (record {
+          there = omega arith;
+          rest = rest;
+          same = r.same
+              ∙ ap (λ (l : List (List ℕ)). text_of l ++ rest) (sym (take_all (length (saved_lines s)) (saved_lines s) (omega arith)));
+        }),
   );
   wrong = λ t h b.
       let same = determined IsSaved saved_lines (saved_clean newline) same_saved s t text rest b.rest n r.lawful h (omega (arith, at)) r.same b.same in
@@ -94,7 +101,8 @@ rest_fault s text rest n r left at = record {
 
 -- the line at which a part stops, or at which the text goes on after a journal
 
-pub line_of_stop : (text rest : List ℕ) (n : ℕ) (s : Stops IsSaved saved_lines text rest) → n ≡ 1 + count_by is_newline (take (length text - length rest) text) → IsFault n text
+pub line_of_stop : (text rest : List ℕ) (n : ℕ) (s : Stops IsSaved saved_lines text rest) → n ≡ 1 + count_by is_newline (take (length text - length rest) text)
+    → IsFault n text
 line_of_stop text rest n s at =
     let lines = lines_before (take s.n (saved_lines s.part)) text rest (lines_take s.n (saved_lines s.part) (saved_clean newline s.part s.lawful)) s.same in
     let size : length (take s.n (saved_lines s.part)) ≡ s.n = length-take-le s.n (saved_lines s.part) s.there in

@@ -1,5 +1,6 @@
 -- The first lines of a journal that has a step.
-use Rattle.std.proofs.Common.{◌≡◌, ◌≤◌, ◌<◌, ◌+◌, ◌++◌, ◌∷◌, [], ℕ, suc, zero, List, Option, length, take, drop, codes, refl, sym, ap, subst, ◌∙◌, append_assoc, arith, length-append}
+use Rattle.std.proofs.Common.{◌≡◌, ◌≤◌, ◌<◌, ◌+◌, ◌++◌, ◌∷◌, [], ℕ, suc, zero, List, Option, length, take, drop, codes, refl, sym, ap, subst, ◌∙◌, append_assoc}
+use Rattle.std.proofs.Common.{arith, length-append}
 use Rattle.std.specs.List.{AllByRecursion}
 use Rattle.std.proofs.lemmas.List.{take-append-le, take-append-drop}
 use Rattle.irig_codes.specs.declared.format.Kind.{Kind}
@@ -82,7 +83,8 @@ begins_by n ls others bytes rest few e = record {
 
 -- the head, and what is after it
 reached : (text named formatted placed rest : List ℕ) (s : Saved) (ls others : List (List ℕ)) → IsSaved s → 0 < length s.past + length s.future
-    → text ≡ codes "irig-journal-1" ++ 10 ∷ named → named ≡ format_line (s.kind, s.expression) ++ 10 ∷ formatted → formatted ≡ cursor_line s.cursor ++ 10 ∷ placed
+    → text ≡ codes "irig-journal-1" ++ 10 ∷ named → named ≡ format_line (s.kind, s.expression) ++ 10 ∷ formatted
+    → formatted ≡ cursor_line s.cursor ++ 10 ∷ placed
     → mark_lines 97 s.marks ++ counted_lines (codes "past") s.past ++ counted_lines (codes "future") s.future ≡ ls ++ others
     → placed ≡ text_of ls ++ rest → 2 + length (mark_lines 97 s.marks) ≤ length ls → ReachesSteps text
 reached text named formatted placed rest s ls others lawful some name format cursor lines same long =
@@ -102,7 +104,8 @@ reached text named formatted placed rest s ls others lawful some name format cur
 counted_same : (head text : List ℕ) (b : BeginsSteps head text) (ss : List Step) → length ss ≡ b.count
     → text ≡ text_of (numbered head (length ss ∷ []) ∷ at_line b.some.1.cursor ∷ []) ++ b.some.1.more
 counted_same head text b ss long =
-    onward text (numbered head (b.count ∷ [])) b.mid (numbered head (length ss ∷ [])) b.some.1.more (at_line b.some.1.cursor ∷ []) b.same (ap (λ n. numbered head (n ∷ [])) (sym long))
+    onward text (numbered head (b.count ∷ [])) b.mid (numbered head (length ss ∷ [])) b.some.1.more (at_line b.some.1.cursor ∷ []) b.same
+    (ap (λ n. numbered head (n ∷ [])) (sym long))
     (b.some.1.same ∙ sym (append_assoc (at_line b.some.1.cursor) (10 ∷ []) b.some.1.more))
 
 -- the steps back are reached
@@ -128,12 +131,15 @@ past_reached text named formatted placed marked kind expression cursor ms name f
     ap (λ (l : List (List ℕ)). marks ++ (numbered (codes "past") (length steps.steps ∷ []) ∷ l) ++ future) steps.lines
     ∙ (append_assoc marks (first ++ steps.others) future
     ∙ (sym (append_assoc marks first (steps.others ++ future)))) in
-    reached text named formatted placed b.some.1.more s (marks ++ first) (steps.others ++ future) lawful (omega (arith, steps.long, b.some.0)) name format place lines
-    (lead_same 97 ms placed marked leads ∙ (ap (λ (l : List ℕ). text_of marks ++ l) (counted_same (codes "past") marked b steps.steps steps.long) ∙ sym (regroup marks first b.some.1.more)))
+    reached text named formatted placed b.some.1.more s (marks ++ first) (steps.others ++ future) lawful (omega (arith, steps.long, b.some.0)) name format place
+    lines
+    (lead_same 97 ms placed marked leads ∙ (ap (λ (l : List ℕ). text_of marks ++ l) (counted_same (codes "past") marked b steps.steps steps.long)
+    ∙ sym (regroup marks first b.some.1.more)))
     (omega (arith, length-append marks first))
 
 -- the steps forward are reached
-pub future_reached : (text named formatted placed marked : List ℕ) (kind : Kind) (expression cursor : ℕ) (ms : List (Option ℕ)) (undone : List ℕ) (past : List Step)
+pub future_reached : (text named formatted placed marked : List ℕ) (kind : Kind) (expression cursor : ℕ) (ms : List (Option ℕ)) (undone : List ℕ)
+    (past : List Step)
     → text ≡ codes "irig-journal-1" ++ 10 ∷ named → named ≡ format_line (kind, expression) ++ 10 ∷ formatted → IsFormat (kind, expression)
     → formatted ≡ cursor_line cursor ++ 10 ∷ placed → IsNumber cursor → length ms ≡ 26 → Leads 97 ms placed marked
     → Reads AreSteps (counted_lines (codes "past")) marked past undone
@@ -155,8 +161,10 @@ future_reached text named formatted placed marked kind expression cursor ms undo
     let lines : marks ++ before ++ counted_lines (codes "future") steps.steps ≡ (marks ++ before ++ first) ++ steps.others =
     ap (λ (l : List (List ℕ)). marks ++ before ++ (numbered (codes "future") (length steps.steps ∷ []) ∷ l)) steps.lines
     ∙ sym (append_assoc (marks ++ before) first steps.others) in
-    reached text named formatted placed b.some.1.more s (marks ++ before ++ first) steps.others lawful (omega (arith, steps.long, b.some.0)) name format place lines
+    reached text named formatted placed b.some.1.more s (marks ++ before ++ first) steps.others lawful (omega (arith, steps.long, b.some.0)) name format place
+    lines
     (lead_same 97 ms placed marked leads
-    ∙ (ap (λ (l : List ℕ). text_of marks ++ l) (r.same ∙ ap (λ (l : List ℕ). text_of before ++ l) (counted_same (codes "future") undone b steps.steps steps.long))
+    ∙ (ap (λ (l : List ℕ). text_of marks ++ l) (r.same ∙ ap (λ (l : List ℕ). text_of before ++ l)
+    (counted_same (codes "future") undone b steps.steps steps.long))
     ∙ (sym (regroup marks before (text_of first ++ b.some.1.more)) ∙ sym (regroup (marks ++ before) first b.some.1.more))))
     (omega (arith, length-append (marks ++ before) first, length-append marks before))

@@ -1,5 +1,6 @@
 -- The lines of marks.
-use Rattle.std.proofs.Common.{◌≡◌, ◌<◌, ◌+◌, ◌++◌, ◌∷◌, [], ℕ, suc, zero, List, Option, Some, None, length, take, get_or, decimal, codes, refl, sym, ap, ap₂, subst, ◌∙◌, append_assoc, arith}
+use Rattle.std.proofs.Common.{◌≡◌, ◌<◌, ◌+◌, ◌++◌, ◌∷◌, [], ℕ, suc, zero, List, Option, Some, None, length, take, get_or, decimal, codes, refl, sym, ap, ap₂}
+use Rattle.std.proofs.Common.{subst, ◌∙◌, append_assoc, arith}
 use Rattle.std.specs.List.{AllByRecursion}
 use Rattle.irig_saved.specs.Lines.{text_of}
 use Rattle.irig_saved.specs.SavedText.{mark_lines, counted_lines}
@@ -25,11 +26,13 @@ pub lead_same : (x : ℕ) (ms : List (Option ℕ)) (text rest : List ℕ) → Le
 lead_same x [] text rest h = h
 lead_same x (None ∷ ms) text rest h = lead_same (x + 1) ms text rest h.1
 lead_same x (Some t ∷ ms) text rest h =
-    h.1.1 ∙ ap (λ (l : List ℕ). mark_line x t ++ 10 ∷ l) (lead_same (x + 1) ms h.1.0 rest h.1.2) ∙ sym (append_assoc (mark_line x t) (10 ∷ text_of (mark_lines (x + 1) ms)) rest)
+    h.1.1 ∙ ap (λ (l : List ℕ). mark_line x t ++ 10 ∷ l) (lead_same (x + 1) ms h.1.0 rest h.1.2)
+    ∙ sym (append_assoc (mark_line x t) (10 ∷ text_of (mark_lines (x + 1) ms)) rest)
 
 -- one more
 
-moved_on : (x : ℕ) (ms : List (Option ℕ)) (m : Option ℕ) (mid rest : List ℕ) → Leads (x + suc (length ms)) (m ∷ []) mid rest → Leads (x + 1 + length ms) (m ∷ []) mid rest
+moved_on : (x : ℕ) (ms : List (Option ℕ)) (m : Option ℕ) (mid rest : List ℕ) → Leads (x + suc (length ms)) (m ∷ []) mid rest
+    → Leads (x + 1 + length ms) (m ∷ []) mid rest
 moved_on x ms m mid rest more =
     let same : x + suc (length ms) ≡ x + 1 + length ms = omega arith in
     let P : ℕ → Type 0 = λ y. Leads y (m ∷ []) mid rest in
@@ -50,9 +53,11 @@ lead_more x (Some t ∷ ms) m text mid rest h more = (h.0, (h.1.0, h.1.1, lead_m
 pub lineless_lacks : (x : ℕ) (text : List ℕ) → Lacks 10 text → LacksMark x text
 lineless_lacks x text lacks = λ t more small e. let P : List ℕ → Type 0 = λ l. Lacks 10 l in not_lacking 10 (mark_line x t) more (subst P e lacks)
 
-pub other_lacks : (x : ℕ) (text l rest : List ℕ) → 32 < x → text ≡ l ++ 10 ∷ rest → Lacks 10 l → ((t : ℕ) → IsNumber t → l ≡ mark_line x t → ⊥) → LacksMark x text
+pub other_lacks : (x : ℕ) (text l rest : List ℕ) → 32 < x → text ≡ l ++ 10 ∷ rest → Lacks 10 l → ((t : ℕ) → IsNumber t → l ≡ mark_line x t → ⊥)
+    → LacksMark x text
 other_lacks x text l rest high cut whole none = λ t more small e.
-    none t small (cut_at 10 l (mark_line x t) rest more whole (mark_lacks newline x t (dark_lacks 10 (x ∷ []) (omega arith) (byte_is_word x high)) small) (sym cut ∙ e)).0
+    none t small (cut_at 10 l (mark_line x t) rest more whole (mark_lacks newline x t (dark_lacks 10 (x ∷ []) (omega arith) (byte_is_word x high)) small)
+    (sym cut ∙ e)).0
 
 -- the lines up to the one after them determine them
 
@@ -73,19 +78,22 @@ not_later x y t n [] past future text mid more high less small hn one e =
 not_later x y t n (None ∷ ns) past future text mid more high less small hn one e =
     not_later x (y + 1) t n ns past future text mid more high (omega (arith, less)) small hn.1 one e
 not_later x y t n (Some u ∷ ns) past future text mid more high less small hn one e =
-    let l = lined (codes "mark") (codes "mark") ((x ∷ []) ∷ decimal t ∷ []) ((y ∷ []) ∷ decimal u ∷ []) [] (take n (mark_lines (y + 1) ns ++ step_sections past future)) mid more
+    let l = lined (codes "mark") (codes "mark") ((x ∷ []) ∷ decimal t ∷ []) ((y ∷ []) ∷ decimal u ∷ []) []
+    (take n (mark_lines (y + 1) ns ++ step_sections past future)) mid more
     refl refl (mark_words x t high small) (mark_words y u (omega (arith, high, less)) hn.0) (one_line (mark_line x t) [] mid ∙ sym one ∙ e) in
     let same : x ≡ y = ap (λ (ws : List (List ℕ)). get_or (get_or ws 0 []) 0 0) l.words in
     omega (arith, same, less)
 
-pub lead_tells : (x : ℕ) (ms ns : List (Option ℕ)) (past future : List Step) (text rest more : List ℕ) (n : ℕ) → 32 < x → length ms ≡ length ns → AllByRecursion IsTime ns
+pub lead_tells : (x : ℕ) (ms ns : List (Option ℕ)) (past future : List Step) (text rest more : List ℕ) (n : ℕ) → 32 < x → length ms ≡ length ns
+    → AllByRecursion IsTime ns
     → Leads x ms text rest → length (mark_lines x ms) < n → text ≡ text_of (take n (mark_lines x ns ++ step_sections past future)) ++ more → ms ≡ ns
 lead_tells x ms ns past future text rest more zero high same hn h few e = absurd (omega (arith, few))
 lead_tells x [] [] past future text rest more (suc n) high same hn h few e = refl
 lead_tells x [] (b ∷ ns) past future text rest more (suc n) high same hn h few e = absurd (omega (arith, same))
 lead_tells x (a ∷ ms) [] past future text rest more (suc n) high same hn h few e = absurd (omega (arith, same))
 lead_tells x (None ∷ ms) (None ∷ ns) past future text rest more (suc n) high same hn h few e =
-    ap (λ (l : List (Option ℕ)). None ∷ l) (lead_tells (x + 1) ms ns past future text rest more (suc n) (omega (arith, high)) (omega (arith, same)) hn.1 h.1 few e)
+    ap (λ (l : List (Option ℕ)). None ∷ l) (lead_tells (x + 1) ms ns past future text rest more (suc n) (omega (arith, high)) (omega (arith, same)) hn.1 h.1 few
+    e)
 lead_tells x (None ∷ ms) (Some u ∷ ns) past future text rest more (suc n) high same hn h few e =
     let ls = take n (mark_lines (x + 1) ns ++ step_sections past future) in
     absurd (h.0 u (text_of ls ++ more) hn.0 (e ∙ one_line (mark_line x u) ls more))

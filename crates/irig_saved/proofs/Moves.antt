@@ -1,5 +1,6 @@
 -- The letters of the marks that move, read one by one.
-use Rattle.std.proofs.Common.{◌≡◌, ◌<◌, ◌≤◌, ◌+◌, ◌++◌, ◌∷◌, [], ℕ, zero, suc, Bool, true, false, not, ◌&&◌, List, length, drop, set, get_or, refl, sym, ap, ◌∙◌, arith}
+use Rattle.std.proofs.Common.{◌≡◌, ◌<◌, ◌≤◌, ◌+◌, ◌++◌, ◌∷◌, [], ℕ, zero, suc, Bool, true, false, not, ◌&&◌, List, length, drop, set, get_or, refl, sym, ap}
+use Rattle.std.proofs.Common.{◌∙◌, arith}
 use Rattle.std.specs.List.{list_all}
 use Rattle.std.proofs.lemmas.Bool.{and_parts, true≢false}
 use Rattle.std.proofs.lemmas.List.{drop_more}
@@ -17,7 +18,8 @@ one : (x : ℕ) (m : Bool) (ms : List Bool) (others : List ℕ) → x ∷ others
 one x true ms others e = ap (λ (l : List ℕ). drop 1 l) e
 one x false ms others e = let bad : x + 1 ≤ x = later_letters (x + 1) x ms others (sym e) in absurd (omega (arith, bad))
 
-opened : (k : ℕ) (ms : List Bool) (rest : List ℕ) → k < length ms → rest ≡ letters_from (97 + k) (drop k ms) → rest ≡ letters_from (97 + k) (get_or ms k false ∷ drop (k + 1) ms)
+opened : (k : ℕ) (ms : List Bool) (rest : List ℕ) → k < length ms → rest ≡ letters_from (97 + k) (drop k ms)
+    → rest ≡ letters_from (97 + k) (get_or ms k false ∷ drop (k + 1) ms)
 opened k ms rest within e = e ∙ ap (letters_from (97 + k)) (drop_more ms k false within)
 
 closed : (k : ℕ) (ms : List Bool) (rest : List ℕ) → rest ≡ letters_from (97 + k + 1) (drop (k + 1) ms) → rest ≡ letters_from (97 + (k + 1)) (drop (k + 1) ms)

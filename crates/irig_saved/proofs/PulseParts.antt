@@ -37,7 +37,8 @@ pulse_family = record {
 }
 
 -- a line that is not a pulse's
-pub pulse_stops : (text l rest : List ℕ) → text ≡ l ++ 10 ∷ rest → Lacks 10 l → ((p : Pulse) → IsPulse p → l ≡ pulse_line p → ⊥) → Stops IsPulse one_line text text
+pub pulse_stops : (text l rest : List ℕ) → text ≡ l ++ 10 ∷ rest → Lacks 10 l → ((p : Pulse) → IsPulse p → l ≡ pulse_line p → ⊥)
+    → Stops IsPulse one_line text text
 pulse_stops text l rest cut whole none = line_stops IsPulse pulse_line text l rest no_pulse cut whole no_pulse_lawful (pulse_lacks newline) none
 
 pub no_pulse_stops : (text : List ℕ) → Lacks 10 text → Stops IsPulse one_line text text

@@ -30,8 +30,10 @@ module _ {X : Type 0} (Is : X → Type 0) (lines : X → List (List ℕ)) (all :
       (family.some ∷ more.0, (ap suc more.1.0, (family.lawful, more.1.1)))
 
   all_push : (done : List X) (x : X) → all (done ++ x ∷ []) ≡ all done ++ lines x
-  all_push [] x = family.next x [] ∙ ap (λ (l : List (List ℕ)). lines x ++ l) family.none ∙ append-nil (lines x) ∙ ap (λ (l : List (List ℕ)). l ++ lines x) (sym family.none)
-  all_push (d ∷ ds) x = family.next d (ds ++ x ∷ []) ∙ ap (λ (l : List (List ℕ)). lines d ++ l) (all_push ds x) ∙ sym (append_assoc (lines d) (all ds) (lines x)) ∙ ap (λ (l : List (List ℕ)). l ++ lines x) (sym (family.next d ds))
+  all_push [] x = family.next x [] ∙ ap (λ (l : List (List ℕ)). lines x ++ l) family.none ∙ append-nil (lines x)
+      ∙ ap (λ (l : List (List ℕ)). l ++ lines x) (sym family.none)
+  all_push (d ∷ ds) x = family.next d (ds ++ x ∷ []) ∙ ap (λ (l : List (List ℕ)). lines d ++ l) (all_push ds x)
+      ∙ sym (append_assoc (lines d) (all ds) (lines x)) ∙ ap (λ (l : List (List ℕ)). l ++ lines x) (sym (family.next d ds))
 
   are_push : (done : List X) (x : X) → AllByRecursion Is done → Is x → AllByRecursion Is (done ++ x ∷ [])
   are_push [] x h hx = (hx, tt)
@@ -49,20 +51,24 @@ module _ {X : Type 0} (Is : X → Type 0) (lines : X → List (List ℕ)) (all :
       → Reads (AreSo (k + 1)) all text (done ++ x ∷ []) rest
   row_next k text done mid x rest before one = record {
     lawful = (length-append done (x ∷ []) ∙ ap (λ n. n + 1) before.lawful.0, are_push done x before.lawful.1 one.lawful);
-    same = before.same ∙ ap (λ (l : List ℕ). text_of (all done) ++ l) one.same ∙ sym (regroup (all done) (lines x) rest) ∙ ap (λ (l : List (List ℕ)). text_of l ++ rest) (sym (all_push done x));
+    same = before.same ∙ ap (λ (l : List ℕ). text_of (all done) ++ l) one.same ∙ sym (regroup (all done) (lines x) rest)
+        ∙ ap (λ (l : List (List ℕ)). text_of l ++ rest) (sym (all_push done x));
   }
 
-  one_more : (count : ℕ) (text rest : List ℕ) → Stops (Both Is (λ _. AreSo count) lines all) (both Is (λ _. AreSo count) lines all) text rest → Stops (AreSo (suc count)) all text rest
+  one_more : (count : ℕ) (text rest : List ℕ) → Stops (Both Is (λ _. AreSo count) lines all) (both Is (λ _. AreSo count) lines all) text rest
+      → Stops (AreSo (suc count)) all text rest
   one_more count text rest s =
       carried (Both Is (λ _. AreSo count) lines all) (AreSo (suc count)) (both Is (λ _. AreSo count) lines all) all text rest
       (λ p h. (p.0 ∷ p.1, (ap suc h.1.0, (h.0, h.1.1)), family.next p.0 p.1))
       (λ xs h. inl (parted xs h))
       s where
-        parted : (xs : List X) → AreSo (suc count) xs → (p : X × List X) × Both Is (λ _. AreSo count) lines all p × (both Is (λ _. AreSo count) lines all p ≡ all xs)
+        parted : (xs : List X) → AreSo (suc count) xs → (p : X × List X) × Both Is (λ _. AreSo count) lines all p
+            × (both Is (λ _. AreSo count) lines all p ≡ all xs)
         parted [] h = absurd (omega (arith, h.0))
         parted (x ∷ xs) h = ((x, xs), (h.1.0, (omega (arith, h.0), h.1.1)), sym (family.next x xs))
 
-  row_stops_at : (count : ℕ) (done : List X) (text mid rest : List ℕ) → AllByRecursion Is done → length done < count → text ≡ text_of (all done) ++ mid → Stops Is lines mid rest
+  row_stops_at : (count : ℕ) (done : List X) (text mid rest : List ℕ) → AllByRecursion Is done → length done < count → text ≡ text_of (all done) ++ mid
+      → Stops Is lines mid rest
       → Stops (AreSo count) all text rest
   row_stops_at zero done text mid rest h few e s = absurd (omega (arith, few))
   row_stops_at (suc count) [] text mid rest h few e s =

@@ -1,5 +1,6 @@
 -- Words determine what they are the words of.
-use Rattle.std.proofs.Common.{◌≡◌, ◌<◌, ◌≤◌, ◌+◌, ◌∷◌, [], ℕ, suc, Bool, true, false, Option, Some, None, List, length, drop, get_or, nat_lt, refl, sym, ap, ap₂, ◌∙◌, arith}
+use Rattle.std.proofs.Common.{◌≡◌, ◌<◌, ◌≤◌, ◌+◌, ◌∷◌, [], ℕ, suc, Bool, true, false, Option, Some, None, List, length, drop, get_or, nat_lt, refl, sym, ap}
+use Rattle.std.proofs.Common.{ap₂, ◌∙◌, arith}
 use Rattle.std.proofs.lemmas.Bool.{and_from, lt-ltb}
 use Rattle.irig_saved.specs.ChangeWords.{letters_from, letters_or_dash, moved_word, time_word, head_of, words_of}
 use Rattle.irig_saved.specs.Ranges.{IsNumber, IsTime, IsSingle}
@@ -61,7 +62,8 @@ undash (u ∷ us) [] hu hv e =
 undash (u ∷ us) (v ∷ vs) hu hv e = e
 
 same_moved : (ms ns : List Bool) → length ms ≡ length ns → moved_word ms ≡ moved_word ns → ms ≡ ns
-same_moved ms ns n e = same_letters 97 ms ns n (undash (letters_from 97 ms) (letters_from 97 ns) (λ y ys h. later_letters 97 y ms ys h) (λ y ys h. later_letters 97 y ns ys h) e)
+same_moved ms ns n e = same_letters 97 ms ns n (undash (letters_from 97 ms) (letters_from 97 ns) (λ y ys h. later_letters 97 y ms ys h)
+    (λ y ys h. later_letters 97 y ns ys h) e)
 
 letters_are_plain : (x : ℕ) (ms : List Bool) → 36 < x → IsPlain (letters_from x ms)
 letters_are_plain x [] h = refl
@@ -145,7 +147,11 @@ Alike x (SetFormat kind expression) = x ≡ SetFormat kind expression
 Alike x (SetMark letter time) = x ≡ SetMark letter time
 
 pub alike : (x y : Single) → IsSingle x → IsSingle y → head_of x ≡ head_of y → words_of x ≡ words_of y → Alike x y
-alike (Splice at count put) (Splice at' count' put') hx hy h w = (put, ap₂ (λ m n. Splice m n put) (same_number at at' hx.0 hy.0 (word_at 0 _ _ w)) (same_number count count' hx.1 hy.1 (word_at 1 _ _ w)), same_number (length put) (length put') hx.2 hy.2 (word_at 2 _ _ w))
+alike (Splice at count put) (Splice at' count' put') hx hy h w = (
+  put,
+  ap₂ (λ m n. Splice m n put) (same_number at at' hx.0 hy.0 (word_at 0 _ _ w)) (same_number count count' hx.1 hy.1 (word_at 1 _ _ w)),
+  same_number (length put) (length put') hx.2 hy.2 (word_at 2 _ _ w),
+)
 alike (Splice at count put) (Toggle a' b') hx hy h w = absurd (let bad : 115 ≡ 116 = byte_at 0 _ _ h in omega (arith, bad))
 alike (Splice at count put) (Shift i' j' by' marks') hx hy h w = absurd (let bad : 112 ≡ 104 = byte_at 1 _ _ h in omega (arith, bad))
 alike (Splice at count put) (SetFormat kind' expression') hx hy h w = absurd (let bad : 112 ≡ 101 = byte_at 1 _ _ h in omega (arith, bad))
@@ -157,16 +163,22 @@ alike (Toggle a b) (SetFormat kind' expression') hx hy h w = absurd (let bad : 1
 alike (Toggle a b) (SetMark letter' time') hx hy h w = absurd (let bad : 116 ≡ 115 = byte_at 0 _ _ h in omega (arith, bad))
 alike (Shift i j by marks) (Splice at' count' put') hx hy h w = absurd (let bad : 104 ≡ 112 = byte_at 1 _ _ h in omega (arith, bad))
 alike (Shift i j by marks) (Toggle a' b') hx hy h w = absurd (let bad : 115 ≡ 116 = byte_at 0 _ _ h in omega (arith, bad))
-alike (Shift i j by marks) (Shift i' j' by' marks') hx hy h w = ap₂ (λ m n. Shift m n by marks) (same_number i i' hx.0 hy.0 (word_at 0 _ _ w)) (same_number j j' hx.1 hy.1 (word_at 1 _ _ w)) ∙ ap₂ (λ d ms. Shift i' j' d ms) (same_distance by by' hx.2 hy.2 (word_at 2 _ _ w)) (same_moved marks marks' (hx.3 ∙ sym hy.3) (word_at 3 _ _ w))
+alike (Shift i j by marks) (Shift i' j' by' marks') hx hy h w =
+    ap₂ (λ m n. Shift m n by marks) (same_number i i' hx.0 hy.0 (word_at 0 _ _ w)) (same_number j j' hx.1 hy.1 (word_at 1 _ _ w))
+    ∙ ap₂ (λ d ms. Shift i' j' d ms) (same_distance by by' hx.2 hy.2 (word_at 2 _ _ w)) (same_moved marks marks' (hx.3 ∙ sym hy.3) (word_at 3 _ _ w))
 alike (Shift i j by marks) (SetFormat kind' expression') hx hy h w = absurd (let bad : 104 ≡ 101 = byte_at 1 _ _ h in omega (arith, bad))
 alike (Shift i j by marks) (SetMark letter' time') hx hy h w = absurd (let bad : 104 ≡ 101 = byte_at 1 _ _ h in omega (arith, bad))
 alike (SetFormat kind expression) (Splice at' count' put') hx hy h w = absurd (let bad : 101 ≡ 112 = byte_at 1 _ _ h in omega (arith, bad))
 alike (SetFormat kind expression) (Toggle a' b') hx hy h w = absurd (let bad : 115 ≡ 116 = byte_at 0 _ _ h in omega (arith, bad))
 alike (SetFormat kind expression) (Shift i' j' by' marks') hx hy h w = absurd (let bad : 101 ≡ 104 = byte_at 1 _ _ h in omega (arith, bad))
-alike (SetFormat kind expression) (SetFormat kind' expression') hx hy h w = ap₂ SetFormat (same_kind kind kind' (word_at 0 _ _ w)) (same_number expression expression' (small_is_number expression hx) (small_is_number expression' hy) (word_at 1 _ _ w))
+alike (SetFormat kind expression) (SetFormat kind' expression') hx hy h w =
+    ap₂ SetFormat (same_kind kind kind' (word_at 0 _ _ w)) (same_number expression expression' (small_is_number expression hx) (small_is_number expression' hy)
+    (word_at 1 _ _ w))
 alike (SetFormat kind expression) (SetMark letter' time') hx hy h w = absurd (let bad : 102 ≡ 109 = byte_at 3 _ _ h in omega (arith, bad))
 alike (SetMark letter time) (Splice at' count' put') hx hy h w = absurd (let bad : 101 ≡ 112 = byte_at 1 _ _ h in omega (arith, bad))
 alike (SetMark letter time) (Toggle a' b') hx hy h w = absurd (let bad : 115 ≡ 116 = byte_at 0 _ _ h in omega (arith, bad))
 alike (SetMark letter time) (Shift i' j' by' marks') hx hy h w = absurd (let bad : 101 ≡ 104 = byte_at 1 _ _ h in omega (arith, bad))
 alike (SetMark letter time) (SetFormat kind' expression') hx hy h w = absurd (let bad : 109 ≡ 102 = byte_at 3 _ _ h in omega (arith, bad))
-alike (SetMark letter time) (SetMark letter' time') hx hy h w = ap₂ SetMark (let plus : 97 + letter ≡ 97 + letter' = byte_at 0 _ _ (word_at 0 _ _ w) in omega (arith, plus)) (same_time time time' hx.1 hy.1 (word_at 1 _ _ w))
+alike (SetMark letter time) (SetMark letter' time') hx hy h w =
+    ap₂ SetMark (let plus : 97 + letter ≡ 97 + letter' = byte_at 0 _ _ (word_at 0 _ _ w) in omega (arith, plus))
+    (same_time time time' hx.1 hy.1 (word_at 1 _ _ w))

@@ -1,5 +1,6 @@
 -- The lines of a saved journal.
-use Rattle.std.proofs.Common.{◌≡◌, ◌≤◌, ◌++◌, ◌∷◌, [], ℕ, suc, zero, List, Option, None, length, get_or, codes, refl, sym, ap, ap₂, ◌∙◌, append_assoc, arith, lit<, inl}
+use Rattle.std.proofs.Common.{◌≡◌, ◌≤◌, ◌++◌, ◌∷◌, [], ℕ, suc, zero, List, Option, None, length, get_or, codes, refl, sym, ap, ap₂, ◌∙◌, append_assoc, arith}
+use Rattle.std.proofs.Common.{lit<, inl}
 use Rattle.std.specs.List.{AllByRecursion}
 use Rattle.irig_codes.specs.declared.format.Kind.{Kind}
 use Rattle.irig_codes.specs.declared.format.Kind.TheVariants.{A}
@@ -57,7 +58,8 @@ IsTail t = Both AreMarks (λ _. AreEnds) (mark_lines 97) end_lines t
 abbrev pub tail_lines : Tail → List (List ℕ)
 tail_lines t = both AreMarks (λ _. AreEnds) (mark_lines 97) end_lines t
 
-pub tail_stops : (text mid rest : List ℕ) (ms : List (Option ℕ)) → length ms ≡ 26 → Leads 97 ms text mid → Stops AreEnds end_lines mid rest → Stops IsTail tail_lines text rest
+pub tail_stops : (text mid rest : List ℕ) (ms : List (Option ℕ)) → length ms ≡ 26 → Leads 97 ms text mid → Stops AreEnds end_lines mid rest
+    → Stops IsTail tail_lines text rest
 tail_stops text mid rest ms all leads s =
     behind_stops AreMarks (λ _. AreEnds) (mark_lines 97) end_lines ms text mid rest (all, lead_times 97 ms text mid leads) (lead_same 97 ms text mid leads)
     (λ p n more h many e. lead_tells 97 ms p.0 p.1.0 p.1.1 text mid more n (omega arith) (all ∙ sym h.0.0) h.0.1 leads (omega (arith, many)) e) s
@@ -95,9 +97,11 @@ IsBody b = Both IsNumber (λ _. IsTail) cursor_lines tail_lines b
 abbrev pub body_lines : Body → List (List ℕ)
 body_lines b = both IsNumber (λ _. IsTail) cursor_lines tail_lines b
 
-pub body_stops : (text mid rest : List ℕ) (n : ℕ) → text ≡ cursor_line n ++ 10 ∷ mid → IsNumber n → Stops IsTail tail_lines mid rest → Stops IsBody body_lines text rest
+pub body_stops : (text mid rest : List ℕ) (n : ℕ) → text ≡ cursor_line n ++ 10 ∷ mid → IsNumber n → Stops IsTail tail_lines mid rest
+    → Stops IsBody body_lines text rest
 body_stops text mid rest n cut h s =
-    line_behind_stops IsNumber (λ _. IsTail) cursor_line tail_lines (λ m hm. counted_lacks newline (codes "cursor") m refl hm) (same_count (codes "cursor") refl) text (cursor_line n) mid rest n cut h refl s
+    line_behind_stops IsNumber (λ _. IsTail) cursor_line tail_lines (λ m hm. counted_lacks newline (codes "cursor") m refl hm)
+    (same_count (codes "cursor") refl) text (cursor_line n) mid rest n cut h refl s
 
 no_body : Body
 no_body = (0, no_tail)
@@ -139,15 +143,18 @@ format_words f h = (kind_is_word f.0, (number_is_word f.1 (small f.1 h), tt))
 
 same_format : (f g : Kind × ℕ) → IsFormat f → IsFormat g → format_line f ≡ format_line g → f ≡ g
 same_format f g hf hg e =
-    let l = lined (codes "format") (codes "format") (words_of_format f) (words_of_format g) [] [] [] [] refl refl (format_words f hf) (format_words g hg) (ap (λ (l : List ℕ). text_of (l ∷ []) ++ []) e) in
+    let l = lined (codes "format") (codes "format") (words_of_format f) (words_of_format g) [] [] [] [] refl refl (format_words f hf) (format_words g hg)
+    (ap (λ (l : List ℕ). text_of (l ∷ []) ++ []) e) in
     let kind = same_kind f.0 g.0 (ap (λ (ws : List (List ℕ)). get_or ws 0 []) l.words) in
     let number = same_number f.1 g.1 (small f.1 hf) (small g.1 hg) (ap (λ (ws : List (List ℕ)). get_or ws 1 []) l.words) in
     pair f.0 g.0 f.1 g.1 kind number where
       pair : (k l : Kind) (m n : ℕ) → k ≡ l → m ≡ n → (let p : Kind × ℕ = (k, m) in p) ≡ (l, n)
       pair k l m n kind number = ap₂ (λ x y. (let p : Kind × ℕ = (x, y) in p)) kind number
 
-pub whole_stops : (text mid rest : List ℕ) (f : Kind × ℕ) → text ≡ format_line f ++ 10 ∷ mid → IsFormat f → Stops IsBody body_lines mid rest → Stops IsWhole whole_lines text rest
-whole_stops text mid rest f cut h s = line_behind_stops IsFormat (λ _. IsBody) format_line body_lines format_clean same_format text (format_line f) mid rest f cut h refl s
+pub whole_stops : (text mid rest : List ℕ) (f : Kind × ℕ) → text ≡ format_line f ++ 10 ∷ mid → IsFormat f → Stops IsBody body_lines mid rest
+    → Stops IsWhole whole_lines text rest
+whole_stops text mid rest f cut h s = line_behind_stops IsFormat (λ _. IsBody) format_line body_lines format_clean same_format text (format_line f) mid rest f
+    cut h refl s
 
 no_whole : Whole
 no_whole = ((A, 0), no_body)
@@ -176,12 +183,14 @@ saved : Kind → ℕ → ℕ → List (Option ℕ) → List Step → List Step �
 saved kind expression cursor marks past future =
     record { kind = kind; expression = expression; cursor = cursor; marks = marks; past = past; future = future }
 
-same_lines : (s : Saved) → saved_lines s ≡ both IsNamed (λ _. IsWhole) name_lines whole_lines (tt, ((s.kind, s.expression), (s.cursor, (s.marks, (s.past, s.future)))))
+same_lines : (s : Saved) → saved_lines s ≡ both IsNamed (λ _. IsWhole) name_lines whole_lines
+    (tt, ((s.kind, s.expression), (s.cursor, (s.marks, (s.past, s.future)))))
 same_lines s =
     ap (λ (ls : List (List ℕ)). name_line tt ∷ format_line (s.kind, s.expression) ∷ cursor_line s.cursor ∷ ls)
     (append_assoc (mark_lines 97 s.marks) (counted_lines (codes "past") s.past) (counted_lines (codes "future") s.future))
 
-pub saved_stops : (text mid rest : List ℕ) → text ≡ codes "irig-journal-1" ++ 10 ∷ mid → Stops IsWhole whole_lines mid rest → Stops IsSaved saved_lines text rest
+pub saved_stops : (text mid rest : List ℕ) → text ≡ codes "irig-journal-1" ++ 10 ∷ mid → Stops IsWhole whole_lines mid rest
+    → Stops IsSaved saved_lines text rest
 unfolding saved
 saved_stops text mid rest cut s =
     carried (Both IsNamed (λ _. IsWhole) name_lines whole_lines) IsSaved (both IsNamed (λ _. IsWhole) name_lines whole_lines) saved_lines text rest
@@ -199,7 +208,15 @@ saved_stops text mid rest cut s =
 
 no_saved_lawful : IsSaved (saved A 0 0 (nones 26) [] [])
 unfolding saved
-no_saved_lawful = record { expression = omega arith; cursor = lit< tt; letters = (no_times 26).0; marks = (no_times 26).1; past = no_steps_lawful; future = no_steps_lawful }
+no_saved_lawful = record {
+  expression = omega arith;
+  cursor = lit< tt;
+  letters = (no_times 26).0;
+  marks = (no_times 26).1;
+  past = no_steps_lawful;
+  future =
+      no_steps_lawful;
+}
 
 pub name_stops : (text : List ℕ) → ((more : List ℕ) → text ≡ codes "irig-journal-1" ++ 10 ∷ more → ⊥) → Stops IsSaved saved_lines text text
 name_stops text none =
@@ -225,7 +242,15 @@ pub record Sections (s : Saved) (text rest : List ℕ) : Type 0 where
 
 pub saved_reads : (s : Saved) (text rest : List ℕ) → Sections s text rest → Reads IsSaved saved_lines text s rest
 saved_reads s text rest h = record {
-  lawful = record { expression = h.expression; cursor = h.number; letters = h.letters; marks = lead_times 97 s.marks h.placed h.marked h.marks; past = h.past.lawful; future = h.future.lawful };
+  lawful = record {
+    expression = h.expression;
+    cursor = h.number;
+    letters = h.letters;
+    marks = lead_times 97 s.marks h.placed h.marked h.marks;
+    past =
+        h.past.lawful;
+    future = h.future.lawful;
+  };
   same = onward text (name_line tt) h.named (name_line tt) rest (format_line (s.kind, s.expression) ∷ cursor_line s.cursor ∷ tail) h.name refl
       (onward h.named (format_line (s.kind, s.expression)) h.formatted (format_line (s.kind, s.expression)) rest (cursor_line s.cursor ∷ tail) h.format refl
       (onward h.formatted (cursor_line s.cursor) h.placed (cursor_line s.cursor) rest tail h.cursor refl behind));

@@ -1,5 +1,6 @@
 -- Parts in a row: what stops the first or the second stops both.
-use Rattle.std.proofs.Common.{◌≡◌, ◌≤◌, ◌+◌, ◌-◌, ◌++◌, ◌∷◌, [], ℕ, zero, suc, List, length, take, drop, refl, sym, ap, ap₂, ◌∙◌, append_assoc, arith, inl, inr, ◌⊎◌, length-append, subst}
+use Rattle.std.proofs.Common.{◌≡◌, ◌≤◌, ◌+◌, ◌-◌, ◌++◌, ◌∷◌, [], ℕ, zero, suc, List, length, take, drop, refl, sym, ap, ap₂, ◌∙◌, append_assoc, arith, inl, inr}
+use Rattle.std.proofs.Common.{◌⊎◌, length-append, subst}
 use Rattle.std.proofs.lemmas.List.{take-append-le, take_all, take-append-drop, length-take-le, append_cancel_left}
 use Rattle.irig_saved.specs.Lines.{text_of}
 use Rattle.irig_saved.specs.Reading.{Reads, Stops, Lacks}
@@ -42,7 +43,8 @@ module _ {X Y : Type 0} (IsX : X → Type 0) (IsY : X → Y → Type 0) (xs : X 
               let k = s.n + 1 - length (xs p.0) in
               let sum : s.n + 1 ≡ length (xs p.0) + k = omega (arith, shorter) in
               s.refused p.0 (text_of (take k (ys p.1)) ++ more) h.0
-              (e ∙ ap (λ n. text_of (take n (xs p.0 ++ ys p.1)) ++ more) sum ∙ ap (λ (l : List (List ℕ)). text_of l ++ more) (take_over (xs p.0) (ys p.1) k) ∙ regroup (xs p.0) (take k (ys p.1)) more)
+              (e ∙ ap (λ n. text_of (take n (xs p.0 ++ ys p.1)) ++ more) sum ∙ ap (λ (l : List (List ℕ)). text_of l ++ more) (take_over (xs p.0) (ys p.1) k)
+              ∙ regroup (xs p.0) (take k (ys p.1)) more)
           | inr longer ↦ s.wrong p.0 more h.0 longer (e ∙ ap (λ (l : List (List ℕ)). text_of l ++ more) (take-append-le (s.n + 1) (xs p.0) (ys p.1) longer))
         ];
         refused = λ p more h e. s.refused p.0 (text_of (ys p.1) ++ more) h.0 (e ∙ regroup (xs p.0) (ys p.1) more);
@@ -79,8 +81,10 @@ module _ {X : Type 0} (IsX : X → Type 0) (xs : X → List (List ℕ))
     | inr more ↦
         let size : length (take n (xs y)) ≡ n = length-take-le n (xs y) (omega (arith, more)) in
         let f = goes_on (xs x) (take n (xs y)) r s (clean x hx) (lines_take n (xs y) (clean y hy)) (omega (arith, size, many)) (sym ex ∙ ey) in
-        let whole : xs y ≡ xs x ++ (f.more ++ drop n (xs y)) = sym (take-append-drop n (xs y)) ∙ ap (λ (l : List (List ℕ)). l ++ drop n (xs y)) f.lines ∙ append_assoc (xs x) f.more (drop n (xs y)) in
-        (law x y (text_of (f.more ++ drop n (xs y)) ++ []) [] hx hy (sym (regroup (xs x) (f.more ++ drop n (xs y)) []) ∙ ap (λ (l : List (List ℕ)). text_of l ++ []) (sym whole))).value
+        let whole : xs y ≡ xs x ++ (f.more ++ drop n (xs y)) = sym (take-append-drop n (xs y)) ∙ ap (λ (l : List (List ℕ)). l ++ drop n (xs y)) f.lines
+        ∙ append_assoc (xs x) f.more (drop n (xs y)) in
+        (law x y (text_of (f.more ++ drop n (xs y)) ++ []) [] hx hy
+        (sym (regroup (xs x) (f.more ++ drop n (xs y)) []) ∙ ap (λ (l : List (List ℕ)). text_of l ++ []) (sym whole))).value
   ]
 
 module _ {X Y : Type 0} (IsX : X → Type 0) (IsY : X → Y → Type 0) (xs : X → List (List ℕ)) (ys : Y → List (List ℕ)) where
@@ -93,21 +97,28 @@ module _ {X Y : Type 0} (IsX : X → Type 0) (IsY : X → Y → Type 0) (xs : X 
     part = (x, s.part);
     lawful = (hx, s.lawful);
     there = omega (arith, s.there, length-append (xs x) (ys s.part));
-    same = ex ∙ ap (λ (l : List ℕ). text_of (xs x) ++ l) s.same ∙ sym (regroup (xs x) (take s.n (ys s.part)) rest) ∙ ap (λ (l : List (List ℕ)). text_of l ++ rest) (sym (take_over (xs x) (ys s.part) s.n));
+    same = ex ∙ ap (λ (l : List ℕ). text_of (xs x) ++ l) s.same ∙ sym (regroup (xs x) (take s.n (ys s.part)) rest)
+        ∙ ap (λ (l : List (List ℕ)). text_of l ++ rest) (sym (take_over (xs x) (ys s.part) s.n));
     wrong = λ p more h few e. wrong_of p more h few e;
     refused = λ p more h e. refused_of p more h e;
   } where
     sum : length (xs x) + s.n + 1 ≡ length (xs x) + (s.n + 1)
     sum = omega arith
 
-    here : (y : Y) (more : List ℕ) → IsY x y → length (xs x) + s.n + 1 ≤ length (xs x ++ ys y) → text ≡ text_of (take (length (xs x) + s.n + 1) (xs x ++ ys y)) ++ more → ⊥
+    here : (y : Y) (more : List ℕ) → IsY x y → length (xs x) + s.n + 1 ≤ length (xs x ++ ys y) → text ≡ text_of (take (length (xs x) + s.n + 1) (xs x ++ ys y))
+        ++ more → ⊥
     here y more hy few e =
-        let k : text_of (xs x) ++ mid ≡ text_of (xs x) ++ (text_of (take (s.n + 1) (ys y)) ++ more) = sym ex ∙ e ∙ ap (λ n. text_of (take n (xs x ++ ys y)) ++ more) sum ∙ ap (λ (l : List (List ℕ)). text_of l ++ more) (take_over (xs x) (ys y) (s.n + 1)) ∙ regroup (xs x) (take (s.n + 1) (ys y)) more in
-        s.wrong y more hy (omega (arith, few, length-append (xs x) (ys y))) (append_cancel_left (text_of (xs x)) mid (text_of (take (s.n + 1) (ys y)) ++ more) k)
+        let k : text_of (xs x) ++ mid ≡ text_of (xs x) ++ (text_of (take (s.n + 1) (ys y)) ++ more) =
+        sym ex ∙ e ∙ ap (λ n. text_of (take n (xs x ++ ys y)) ++ more) sum
+        ∙ ap (λ (l : List (List ℕ)). text_of l ++ more) (take_over (xs x) (ys y) (s.n + 1)) ∙ regroup (xs x) (take (s.n + 1) (ys y)) more in
+        s.wrong y more hy (omega (arith, few, length-append (xs x) (ys y)))
+        (append_cancel_left (text_of (xs x)) mid (text_of (take (s.n + 1) (ys y)) ++ more) k)
 
-    wrong_of : (p : X × Y) (more : List ℕ) → IsX p.0 × IsY p.0 p.1 → length (xs x) + s.n + 1 ≤ length (xs p.0 ++ ys p.1) → text ≡ text_of (take (length (xs x) + s.n + 1) (xs p.0 ++ ys p.1)) ++ more → ⊥
+    wrong_of : (p : X × Y) (more : List ℕ) → IsX p.0 × IsY p.0 p.1 → length (xs x) + s.n + 1 ≤ length (xs p.0 ++ ys p.1)
+        → text ≡ text_of (take (length (xs x) + s.n + 1) (xs p.0 ++ ys p.1)) ++ more → ⊥
     wrong_of p more h few e =
-        let P : X → Type 0 = λ x'. IsY x' p.1 → length (xs x) + s.n + 1 ≤ length (xs x' ++ ys p.1) → text ≡ text_of (take (length (xs x) + s.n + 1) (xs x' ++ ys p.1)) ++ more → ⊥ in
+        let P : X → Type 0 = λ x'. IsY x' p.1 → length (xs x) + s.n + 1 ≤ length (xs x' ++ ys p.1)
+        → text ≡ text_of (take (length (xs x) + s.n + 1) (xs x' ++ ys p.1)) ++ more → ⊥ in
         subst P (tells p (length (xs x) + s.n + 1) more h (omega arith) e) (here p.1 more) h.1 few e
 
     refused_of : (p : X × Y) (more : List ℕ) → IsX p.0 × IsY p.0 p.1 → text ≡ text_of (xs p.0 ++ ys p.1) ++ more → ⊥
@@ -115,22 +126,26 @@ module _ {X Y : Type 0} (IsX : X → Type 0) (IsY : X → Y → Type 0) (xs : X 
         let n = length (xs x) + 1 + length (xs p.0 ++ ys p.1) in
         let same = tells p n more h (omega arith) (e ∙ ap (λ (l : List (List ℕ)). text_of l ++ more) (sym (take_all n (xs p.0 ++ ys p.1) (omega arith)))) in
         let P : X → Type 0 = λ x'. IsY x' p.1 → text ≡ text_of (xs x') ++ (text_of (ys p.1) ++ more) → ⊥ in
-        subst P same (λ hy f. s.refused p.1 more hy (append_cancel_left (text_of (xs x)) mid (text_of (ys p.1) ++ more) (sym ex ∙ f))) h.1 (e ∙ regroup (xs p.0) (ys p.1) more)
+        subst P same (λ hy f. s.refused p.1 more hy (append_cancel_left (text_of (xs x)) mid (text_of (ys p.1) ++ more) (sym ex ∙ f))) h.1
+        (e ∙ regroup (xs p.0) (ys p.1) more)
 
   -- the same if the lines of the first alone determine it
   pub second_stops : (x : X) (text mid rest : List ℕ) → IsX x → text ≡ text_of (xs x) ++ mid
       → ((x' : X) (n : ℕ) (more : List ℕ) → IsX x' → length (xs x) ≤ n → text ≡ text_of (take n (xs x')) ++ more → x ≡ x')
       → Stops (IsY x) ys mid rest → Stops (Both IsX IsY xs ys) (both IsX IsY xs ys) text rest
-  second_stops x text mid rest hx ex unique s = behind_stops x text mid rest hx ex (λ p n more h many e. same_first p n more h.0 (omega (arith, many)) e) s where
-    same_first : (p : X × Y) (n : ℕ) (more : List ℕ) → IsX p.0 → length (xs x) ≤ n → text ≡ text_of (take n (xs p.0 ++ ys p.1)) ++ more → x ≡ p.0
-    same_first p n more h many e = elim (at_most (length (xs p.0)) n) as (λ _. x ≡ p.0) [
-      | inl all ↦
-          let k = n - length (xs p.0) in
-          let split : n ≡ length (xs p.0) + k = omega (arith, all) in
-          unique p.0 n (text_of (take k (ys p.1)) ++ more) h many
-          (e ∙ ap (λ m. text_of (take m (xs p.0 ++ ys p.1)) ++ more) split ∙ ap (λ (l : List (List ℕ)). text_of l ++ more) (take_over (xs p.0) (ys p.1) k) ∙ regroup (xs p.0) (take k (ys p.1)) more ∙ ap (λ (l : List (List ℕ)). text_of l ++ (text_of (take k (ys p.1)) ++ more)) (sym (take_all n (xs p.0) all)))
-      | inr fewer ↦ unique p.0 n more h many (e ∙ ap (λ (l : List (List ℕ)). text_of l ++ more) (take-append-le n (xs p.0) (ys p.1) (omega (arith, fewer))))
-    ]
+  second_stops x text mid rest hx ex unique s = behind_stops x text mid rest hx ex (λ p n more h many e. same_first p n more h.0 (omega (arith, many)) e) s
+    where
+      same_first : (p : X × Y) (n : ℕ) (more : List ℕ) → IsX p.0 → length (xs x) ≤ n → text ≡ text_of (take n (xs p.0 ++ ys p.1)) ++ more → x ≡ p.0
+      same_first p n more h many e = elim (at_most (length (xs p.0)) n) as (λ _. x ≡ p.0) [
+        | inl all ↦
+            let k = n - length (xs p.0) in
+            let split : n ≡ length (xs p.0) + k = omega (arith, all) in
+            unique p.0 n (text_of (take k (ys p.1)) ++ more) h many
+            (e ∙ ap (λ m. text_of (take m (xs p.0 ++ ys p.1)) ++ more) split ∙ ap (λ (l : List (List ℕ)). text_of l ++ more) (take_over (xs p.0) (ys p.1) k)
+            ∙ regroup (xs p.0) (take k (ys p.1)) more ∙ ap (λ (l : List (List ℕ)). text_of l ++ (text_of (take k (ys p.1)) ++ more))
+            (sym (take_all n (xs p.0) all)))
+        | inr fewer ↦ unique p.0 n more h many (e ∙ ap (λ (l : List (List ℕ)). text_of l ++ more) (take-append-le n (xs p.0) (ys p.1) (omega (arith, fewer))))
+      ]
 
 -- one line
 
@@ -182,5 +197,6 @@ line_behind_stops {X} IsX IsY write ys clean tells text l mid rest x cut h e s =
     (λ y n more hy many ey. determined IsX (λ z. write z ∷ []) (λ z hz. (clean z hz, tt)) law x y text mid more n h hy many r.same ey) s where
       law : (x y : X) (r s : List ℕ) → IsX x → IsX y → text_of (write x ∷ []) ++ r ≡ text_of (write y ∷ []) ++ s → Same x y r s
       law x y r s hx hy e =
-          let t = cut_at 10 (write x) (write y) r s (clean x hx) (clean y hy) (sym (append_assoc (write x) (10 ∷ []) r) ∙ e ∙ append_assoc (write y) (10 ∷ []) s) in
+          let t = cut_at 10 (write x) (write y) r s (clean x hx) (clean y hy)
+          (sym (append_assoc (write x) (10 ∷ []) r) ∙ e ∙ append_assoc (write y) (10 ∷ []) s) in
           record { value = tells x y hx hy t.0; rest = t.1 }

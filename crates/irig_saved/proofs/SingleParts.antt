@@ -1,5 +1,6 @@
 -- The lines of one change.
-use Rattle.std.proofs.Common.{◌≡◌, ◌++◌, ◌∷◌, [], ℕ, List, length, get_or, decimal, codes, refl, sym, ap, ap₂, subst, ◌∙◌, append_assoc, arith, lit<, inl, inr, ◌⊎◌}
+use Rattle.std.proofs.Common.{◌≡◌, ◌++◌, ◌∷◌, [], ℕ, List, length, get_or, decimal, codes, refl, sym, ap, ap₂, subst, ◌∙◌, append_assoc, arith, lit<, inl, inr}
+use Rattle.std.proofs.Common.{◌⊎◌}
 use Rattle.irig_saved.specs.Lines.{line, text_of}
 use Rattle.irig_saved.specs.ChangeWords.{head_of, words_of, single_line}
 use Rattle.irig_saved.specs.SavedText.{put_of, pulse_lines, single_lines, singles_lines}
@@ -33,11 +34,13 @@ three_are_words : (t : ℕ × ℕ × ℕ) → AreThree t → AreWords (words_of_
 three_are_words t h = (number_is_word t.0 h.0, (number_is_word t.1 h.1, (number_is_word t.2 h.2, tt)))
 
 splice_lacks : (t : ℕ × ℕ × ℕ) → AreThree t → Lacks 10 (splice_line t)
-splice_lacks t h = line_lacks newline (codes "splice") (words_of_three t) refl (number_lacks newline t.0 h.0, (number_lacks newline t.1 h.1, (number_lacks newline t.2 h.2, tt)))
+splice_lacks t h = line_lacks newline (codes "splice") (words_of_three t) refl
+    (number_lacks newline t.0 h.0, (number_lacks newline t.1 h.1, (number_lacks newline t.2 h.2, tt)))
 
 same_three : (t u : ℕ × ℕ × ℕ) → AreThree t → AreThree u → splice_line t ≡ splice_line u → t ≡ u
 same_three t u ht hu e =
-    let l = lined (codes "splice") (codes "splice") (words_of_three t) (words_of_three u) [] [] [] [] refl refl (three_are_words t ht) (three_are_words u hu) (ap (λ (l : List ℕ). text_of (l ∷ []) ++ []) e) in
+    let l = lined (codes "splice") (codes "splice") (words_of_three t) (words_of_three u) [] [] [] [] refl refl (three_are_words t ht) (three_are_words u hu)
+    (ap (λ (l : List ℕ). text_of (l ∷ []) ++ []) e) in
     let one = same_number t.0 u.0 ht.0 hu.0 (ap (λ (l : List (List ℕ)). get_or l 0 []) l.words) in
     let two = same_number t.1 u.1 ht.1 hu.1 (ap (λ (l : List (List ℕ)). get_or l 1 []) l.words) in
     let three = same_number t.2 u.2 ht.2 hu.2 (ap (λ (l : List (List ℕ)). get_or l 2 []) l.words) in
@@ -48,7 +51,8 @@ same_three t u ht hu e =
 -- no other change has the first line of a splice
 other_head : (x : Single) (t : ℕ × ℕ × ℕ) → IsSingle x → AreThree t → (codes "splice" ≡ head_of x → ⊥) → splice_line t ≡ single_line x → ⊥
 other_head x t h ht not e =
-    not (lined (codes "splice") (head_of x) (words_of_three t) (words_of x) [] [] [] [] refl (head_is_word x) (three_are_words t ht) (words_are_words x h) (ap (λ (l : List ℕ). text_of (l ∷ []) ++ []) e)).head
+    not (lined (codes "splice") (head_of x) (words_of_three t) (words_of x) [] [] [] [] refl (head_is_word x) (three_are_words t ht) (words_are_words x h)
+    (ap (λ (l : List ℕ). text_of (l ∷ []) ++ []) e)).head
 
 byte_of : (n : ℕ) (w v : List ℕ) → w ≡ v → get_or w n 0 ≡ get_or v n 0
 byte_of n w v e = ap (λ (l : List ℕ). get_or l n 0) e
@@ -58,7 +62,8 @@ pub splice_stops : (text l mid rest : List ℕ) (t : ℕ × ℕ × ℕ) → text
 splice_stops text l mid rest t cut whole ht e s =
     carried (Both AreThree AreTheirs splice_lines pulse_lines) IsSingle (both AreThree AreTheirs splice_lines pulse_lines) single_lines text rest to from
     (line_behind_stops AreThree AreTheirs splice_line pulse_lines splice_lacks same_three text l mid rest t cut ht e s) where
-      to : (p : (ℕ × ℕ × ℕ) × List Pulse) → Both AreThree AreTheirs splice_lines pulse_lines p → (z : Single) × IsSingle z × (single_lines z ≡ both AreThree AreTheirs splice_lines pulse_lines p)
+      to : (p : (ℕ × ℕ × ℕ) × List Pulse) → Both AreThree AreTheirs splice_lines pulse_lines p
+          → (z : Single) × IsSingle z × (single_lines z ≡ both AreThree AreTheirs splice_lines pulse_lines p)
       to p h = (
         Splice p.0.0 p.0.1 p.1,
         (h.0.0, h.0.1, subst IsNumber (sym h.1.0) h.0.2, h.1.1),
@@ -66,9 +71,11 @@ splice_stops text l mid rest t cut whole ht e s =
       )
 
       apart : (x : Single) → IsSingle x → (codes "splice" ≡ head_of x → ⊥) → Differs text (single_lines x)
-      apart x h not = other_line text l mid (single_line x) (pulse_lines (put_of x)) cut whole (first_lacks newline x h) (λ k. other_head x t h ht not (sym e ∙ k))
+      apart x h not = other_line text l mid (single_line x) (pulse_lines (put_of x)) cut whole (first_lacks newline x h)
+          (λ k. other_head x t h ht not (sym e ∙ k))
 
-      from : (z : Single) → IsSingle z → ((p : (ℕ × ℕ × ℕ) × List Pulse) × Both AreThree AreTheirs splice_lines pulse_lines p × (both AreThree AreTheirs splice_lines pulse_lines p ≡ single_lines z)) ⊎ Differs text (single_lines z)
+      from : (z : Single) → IsSingle z → ((p : (ℕ × ℕ × ℕ) × List Pulse) × Both AreThree AreTheirs splice_lines pulse_lines p
+          × (both AreThree AreTheirs splice_lines pulse_lines p ≡ single_lines z)) ⊎ Differs text (single_lines z)
       from (Splice at count put) h = inl (((at, count, length put), put), ((h.0, h.1, h.2), (refl, h.3)), refl)
       from (Toggle a b) h = inr (apart (Toggle a b) h (λ k. let bad : 115 ≡ 116 = byte_of 0 _ _ k in omega (arith, bad)))
       from (Shift i j by marks) h = inr (apart (Shift i j by marks) h (λ k. let bad : 112 ≡ 104 = byte_of 1 _ _ k in omega (arith, bad)))

@@ -1,9 +1,11 @@
 -- A text of the form determines what it is the text of, and where it ends.
-use Rattle.std.proofs.Common.{◌≡◌, ◌<◌, ◌+◌, ◌++◌, ◌∷◌, [], ℕ, Option, Some, None, List, length, get_or, decimal, codes, refl, sym, ap, ap₂, subst, ◌∙◌, append_assoc, arith}
+use Rattle.std.proofs.Common.{◌≡◌, ◌<◌, ◌+◌, ◌++◌, ◌∷◌, [], ℕ, Option, Some, None, List, length, get_or, decimal, codes, refl, sym, ap, ap₂, subst, ◌∙◌}
+use Rattle.std.proofs.Common.{append_assoc, arith}
 use Rattle.std.specs.List.{AllByRecursion}
 use Rattle.irig_saved.specs.Lines.{line, numbered, text_of}
 use Rattle.irig_saved.specs.ChangeWords.{head_of, words_of}
-use Rattle.irig_saved.specs.SavedText.{put_of, pulse_lines, single_lines, singles_lines, change_lines, step_lines, steps_lines, mark_lines, counted_lines, saved_lines, journal_text}
+use Rattle.irig_saved.specs.SavedText.{put_of, pulse_lines, single_lines, singles_lines, change_lines, step_lines, steps_lines, mark_lines, counted_lines}
+use Rattle.irig_saved.specs.SavedText.{saved_lines, journal_text}
 use Rattle.irig_saved.specs.Ranges.{IsNumber, IsTime, IsPulse, IsSingle, IsChange, IsStep, AreSteps, IsSaved}
 use Rattle.irig_codes.specs.Words.{kind_word}
 use Rattle.irig_codes.specs.declared.format.Kind.{Kind}
@@ -62,7 +64,8 @@ same_put x (Splice at count put) r s hx hy a e =
     record { value = a.1 ∙ ap (λ (ps : List Pulse). Splice at count ps) t.value; rest = t.rest }
 same_put x (Toggle a b) r s hx hy same e = record { value = same; rest = ap (λ (l : Single). text_of (pulse_lines (put_of l)) ++ r) (sym same) ∙ e }
 same_put x (Shift i j by marks) r s hx hy same e = record { value = same; rest = ap (λ (l : Single). text_of (pulse_lines (put_of l)) ++ r) (sym same) ∙ e }
-same_put x (SetFormat kind expression) r s hx hy same e = record { value = same; rest = ap (λ (l : Single). text_of (pulse_lines (put_of l)) ++ r) (sym same) ∙ e }
+same_put x (SetFormat kind expression) r s hx hy same e =
+    record { value = same; rest = ap (λ (l : Single). text_of (pulse_lines (put_of l)) ++ r) (sym same) ∙ e }
 same_put x (SetMark letter time) r s hx hy same e = record { value = same; rest = ap (λ (l : Single). text_of (pulse_lines (put_of l)) ++ r) (sym same) ∙ e }
 
 pub same_single : (x y : Single) (r s : List ℕ) → IsSingle x → IsSingle y
@@ -199,7 +202,8 @@ saved : Kind → ℕ → ℕ → List (Option ℕ) → List Step → List Step �
 saved kind expression cursor marks past future =
     record { kind = kind; expression = expression; cursor = cursor; marks = marks; past = past; future = future }
 
-same_fields : (s t : Saved) → s.kind ≡ t.kind → s.expression ≡ t.expression → s.cursor ≡ t.cursor → s.marks ≡ t.marks → s.past ≡ t.past → s.future ≡ t.future → s ≡ t
+same_fields : (s t : Saved) → s.kind ≡ t.kind → s.expression ≡ t.expression → s.cursor ≡ t.cursor → s.marks ≡ t.marks → s.past ≡ t.past → s.future ≡ t.future
+    → s ≡ t
 unfolding saved
 same_fields s t kind expression cursor marks past future =
     ap₂ (λ k n. saved k n s.cursor s.marks s.past s.future) kind expression
@@ -210,7 +214,8 @@ same_fields s t kind expression cursor marks past future =
 abbrev after : Saved → List ℕ → List ℕ
 after s r = text_of (counted_lines (codes "past") s.past) ++ (text_of (counted_lines (codes "future") s.future) ++ r)
 
-three : (s : Saved) (r : List ℕ) → text_of (mark_lines 97 s.marks ++ counted_lines (codes "past") s.past ++ counted_lines (codes "future") s.future) ++ r ≡ text_of (mark_lines 97 s.marks) ++ after s r
+three : (s : Saved) (r : List ℕ) → text_of (mark_lines 97 s.marks ++ counted_lines (codes "past") s.past ++ counted_lines (codes "future") s.future) ++ r
+    ≡ text_of (mark_lines 97 s.marks) ++ after s r
 three s r =
     regroup (mark_lines 97 s.marks ++ counted_lines (codes "past") s.past) (counted_lines (codes "future") s.future) r
     ∙ regroup (mark_lines 97 s.marks) (counted_lines (codes "past") s.past) (text_of (counted_lines (codes "future") s.future) ++ r)
@@ -222,17 +227,21 @@ same_saved s t r q hs ht e =
     let third : Saved → List (List ℕ) = λ s. numbered (codes "cursor") (s.cursor ∷ []) ∷ tail s in
     let second : Saved → List (List ℕ) = λ s. line (codes "format") (kind_word s.kind ∷ decimal s.expression ∷ []) ∷ third s in
     let named = lined (codes "irig-journal-1") (codes "irig-journal-1") [] [] (second s) (second t) r q refl refl tt tt e in
-    let format = lined (codes "format") (codes "format") (kind_word s.kind ∷ decimal s.expression ∷ []) (kind_word t.kind ∷ decimal t.expression ∷ []) (third s) (third t) r q
-    refl refl (kind_is_word s.kind, (number_is_word s.expression (small_is_number s.expression hs.expression), tt)) (kind_is_word t.kind, (number_is_word t.expression (small_is_number t.expression ht.expression), tt)) named.rest in
+    let format = lined (codes "format") (codes "format") (kind_word s.kind ∷ decimal s.expression ∷ []) (kind_word t.kind ∷ decimal t.expression ∷ []) (third s)
+    (third t) r q
+    refl refl (kind_is_word s.kind, (number_is_word s.expression (small_is_number s.expression hs.expression), tt))
+    (kind_is_word t.kind, (number_is_word t.expression (small_is_number t.expression ht.expression), tt)) named.rest in
     let cursor = lined (codes "cursor") (codes "cursor") (decimal s.cursor ∷ []) (decimal t.cursor ∷ []) (tail s) (tail t) r q
     refl refl (counted_is_words s.cursor hs.cursor) (counted_is_words t.cursor ht.cursor) format.rest in
     let marks = same_marks 97 s.marks t.marks (after s r) (after t q) (omega arith) (hs.letters ∙ sym ht.letters) hs.marks ht.marks refl refl
     (sym (three s r) ∙ cursor.rest ∙ three t q) in
-    let past = same_counted (codes "past") s.past t.past (text_of (counted_lines (codes "future") s.future) ++ r) (text_of (counted_lines (codes "future") t.future) ++ q) refl hs.past ht.past marks.rest in
+    let past = same_counted (codes "past") s.past t.past (text_of (counted_lines (codes "future") s.future) ++ r)
+    (text_of (counted_lines (codes "future") t.future) ++ q) refl hs.past ht.past marks.rest in
     let future = same_counted (codes "future") s.future t.future r q refl hs.future ht.future past.rest in
     record {
       value = same_fields s t (same_kind s.kind t.kind (word_at 0 _ _ format.words))
-          (same_number s.expression t.expression (small_is_number s.expression hs.expression) (small_is_number t.expression ht.expression) (word_at 1 _ _ format.words))
+          (same_number s.expression t.expression (small_is_number s.expression hs.expression) (small_is_number t.expression ht.expression)
+          (word_at 1 _ _ format.words))
           (same_number s.cursor t.cursor hs.cursor ht.cursor (word_at 0 _ _ cursor.words))
           marks.value past.value future.value;
       rest = future.rest;

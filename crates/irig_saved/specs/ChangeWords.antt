@@ -1,11 +1,13 @@
 -- The words of a change in a saved journal: docs/FORMATS.md, "The saved journal". This project's
 -- own.
-use Rattle.std.specs.Prelude.{◌+◌, ℕ, Bool, true, false, List, [], ◌∷◌, Option, Some, None, length, decimal, codes}
+use Rattle.std.specs.Prelude.{◌+◌, ℕ, Bool, true, false, List, [], ◌∷◌, Option, Some, None, length}
+use Rattle.std.specs.Prelude.{decimal, codes}
 use Rattle.std.specs.Fmt.{signed_decimal}
 use Rattle.irig_codes.specs.Words.{kind_word}
 use Rattle.irig_saved.specs.Lines.{line}
 use Rattle.irig_saved.specs.declared.single.Single.{Single}
-use Rattle.irig_saved.specs.declared.single.Single.TheVariants.{Splice, Toggle, Shift, SetFormat, SetMark}
+use Rattle.irig_saved.specs.declared.single.Single.TheVariants.{Splice, Toggle, Shift, SetFormat}
+use Rattle.irig_saved.specs.declared.single.Single.TheVariants.{SetMark}
 
 -- the letters of the flags that are true, in order, from a letter on
 abbrev pub letters_from : ℕ → List Bool → List ℕ

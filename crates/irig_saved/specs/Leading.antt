@@ -1,5 +1,6 @@
 -- What a text begins with: docs/FORMATS.md, "The saved journal". This project's own.
-use Rattle.std.specs.Prelude.{◌≡◌, ◌+◌, ◌<◌, ℕ, List, [], ◌∷◌, ◌++◌, Option, Some, None, MatchOption, decimal, codes}
+use Rattle.std.specs.Prelude.{◌≡◌, ◌+◌, ◌<◌, ℕ, List, [], ◌∷◌, ◌++◌, Option, Some, None}
+use Rattle.std.specs.Prelude.{MatchOption, decimal, codes}
 use Rattle.std.specs.Borrow.{Bor}
 use Rattle.irig_saved.specs.Lines.{line, numbered}
 use Rattle.irig_saved.specs.Ranges.{IsNumber}

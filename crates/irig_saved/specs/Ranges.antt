@@ -1,9 +1,11 @@
 -- What a saved journal may hold: numbers of 64 bits. This project's own.
-use Rattle.std.specs.Prelude.{◌≡◌, ◌<◌, ◌≤◌, ◌^◌, ℕ, ℤ, List, Option, Some, None, length, negsuc, pos}
+use Rattle.std.specs.Prelude.{◌≡◌, ◌<◌, ◌≤◌, ◌^◌, ℕ, ℤ, List, Option, Some, None, length, negsuc}
+use Rattle.std.specs.Prelude.{pos}
 use Rattle.std.specs.List.{AllByRecursion}
 use Rattle.irig_track.specs.declared.pulse.Pulse.{Pulse}
 use Rattle.irig_saved.specs.declared.single.Single.{Single}
-use Rattle.irig_saved.specs.declared.single.Single.TheVariants.{Splice, Toggle, Shift, SetFormat, SetMark}
+use Rattle.irig_saved.specs.declared.single.Single.TheVariants.{Splice, Toggle, Shift, SetFormat}
+use Rattle.irig_saved.specs.declared.single.Single.TheVariants.{SetMark}
 use Rattle.irig_saved.specs.declared.change.Change.{Change}
 use Rattle.irig_saved.specs.declared.change.Change.TheVariants.{One, Group}
 use Rattle.irig_saved.specs.declared.step.Step.{Step}

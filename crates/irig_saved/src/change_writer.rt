@@ -4,7 +4,8 @@ ghost use Rattle.std.specs.Prelude.{◌≡◌, ◌++◌, ◌<◌, ◌∷◌, [],
 ghost use Rattle.irig_saved.specs.Lines.{numbered};
 ghost use Rattle.irig_saved.specs.ChangeWords.{moved_word, single_line};
 ghost use Rattle.irig_saved.specs.SavedText.{pulse_line};
-ghost use Rattle.irig_saved.specs.declared.single.Single.TheVariants.{Toggle, Shift, SetFormat, SetMark};
+ghost use Rattle.irig_saved.specs.declared.single.Single.TheVariants.{Toggle, Shift, SetFormat};
+ghost use Rattle.irig_saved.specs.declared.single.Single.TheVariants.{SetMark};
 
 use crate::word_writer::{put_formatted, put_number, put_numbered, put_numbers, put_word};
 use irig_codes::Kind;

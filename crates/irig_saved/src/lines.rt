@@ -1,13 +1,16 @@
 //! Lines of a saved journal.
 
-ghost use Rattle.std.specs.Prelude.{◌≡◌, ◌<◌, ◌+◌, ◌++◌, ◌∷◌, [], ℕ, List, MatchOption, decimal, codes};
+ghost use Rattle.std.specs.Prelude.{◌≡◌, ◌<◌, ◌+◌, ◌++◌, ◌∷◌, [], ℕ, List, MatchOption, decimal};
+ghost use Rattle.std.specs.Prelude.{codes};
 ghost use Rattle.std.specs.Fmt.{signed_decimal};
 ghost use Rattle.irig_saved.specs.Lines.{numbered, line};
 ghost use Rattle.irig_saved.specs.Ranges.{IsNumber, IsPulse};
 ghost use Rattle.irig_saved.specs.ChangeWords.{moved_word, single_line};
 ghost use Rattle.irig_saved.specs.SavedText.{pulse_line};
 ghost use Rattle.irig_saved.specs.Reading.{Decodes, IsWordy, IsShort};
-ghost use Rattle.irig_saved.specs.Values.{AreThree, AreTwo, IsFormat, IsMark, IsMove, IsShift, words_of_format, words_of_mark, words_of_shift, words_of_three, words_of_two};
+ghost use Rattle.irig_saved.specs.Values.{AreThree, AreTwo, IsFormat, IsMark, IsMove, IsShift};
+ghost use Rattle.irig_saved.specs.Values.{words_of_format, words_of_mark, words_of_shift};
+ghost use Rattle.irig_saved.specs.Values.{words_of_three, words_of_two};
 
 use crate::cut::word_of;
 use crate::letter::Letter;
@@ -137,7 +140,8 @@ fn shift(text: &[u8]) -> Option<(u64, u64, i64, [bool; 26])>
 
 /// A distance and the marks that move by it.
 fn move_in(text: &[u8]) -> Option<(i64, [bool; 26])>
-    ensures { Decodes IsMove (λ t. line (signed_decimal t.0) (moved_word t.1 ∷ [])) text.now result }
+    ensures { Decodes IsMove
+        (λ t. line (signed_decimal t.0) (moved_word t.1 ∷ [])) text.now result }
 {
     let (by, marks) = word_of(text)?;
     Some((distance(by)?, moved(marks)?))

@@ -2,8 +2,11 @@
 
 ghost use Rattle.std.specs.Prelude.{◌≡◌, ◌<◌, ◌+◌, ◌∷◌, [], codes, length};
 ghost use Rattle.irig_saved.specs.Lines.{numbered};
-ghost use Rattle.irig_saved.specs.Ranges.{IsNumber, IsSingle, IsChange, IsStep, AreSteps, ArePulses, AreSingles, ManySteps};
-ghost use Rattle.irig_saved.specs.SavedText.{pulse_lines, single_lines, singles_lines, change_lines, step_lines, steps_lines, counted_lines, mark_lines};
+ghost use Rattle.irig_saved.specs.Ranges.{IsNumber, IsSingle, IsChange, IsStep, AreSteps};
+ghost use Rattle.irig_saved.specs.Ranges.{ArePulses, AreSingles, ManySteps};
+ghost use Rattle.irig_saved.specs.SavedText.{pulse_lines, single_lines, singles_lines};
+ghost use Rattle.irig_saved.specs.SavedText.{change_lines, step_lines, steps_lines, counted_lines};
+ghost use Rattle.irig_saved.specs.SavedText.{mark_lines};
 ghost use Rattle.irig_saved.specs.Reading.{Any, Parses, IsWordy};
 ghost use Rattle.irig_saved.specs.Leading.{BeginsSome, BeginsStep, BeginsSteps, Leads};
 

@@ -1,14 +1,15 @@
 //! Pulses in a list that gives its block away.
 
-ghost use Rattle.std.specs.Prelude.{◌≡◌, ◌≤◌, ◌<◌, ◌+◌, ◌*◌, ◌++◌, ◌∷◌, [], OnOk, OnErr, Some, length, slice_get};
+ghost use Rattle.std.specs.Prelude.{◌≡◌, ◌≤◌, ◌<◌, ◌+◌, ◌*◌, ◌++◌, ◌∷◌, [], OnOk, OnErr, Some};
+ghost use Rattle.std.specs.Prelude.{length, slice_get};
 
 use irig_gap::Gap;
 use irig_track::Pulse;
 use std::alloc::{AllocError, Global};
 use std::marker::Model;
 
-/// Pulses that a splice inserts, in a buffer with its place after the last. The buffer grows by half,
-/// for pulses that are there: no number in a text makes it take memory.
+/// Pulses that a splice inserts, in a buffer with its place after the last. The buffer grows by
+/// half, for pulses that are there: no number in a text makes it take memory.
 #[derive(Drop)]
 pub struct Pulses {
     items: Gap<Pulse>,

@@ -1,6 +1,7 @@
 //! Reads a saved journal.
 
-ghost use Rattle.std.specs.Prelude.{◌≡◌, ◌==◌, ◌<◌, ◌≤◌, ◌+◌, ◌-◌, ◌^◌, ◌++◌, ◌∷◌, [], ℕ, List, length, take, codes, count_by, MatchOption, MatchResult, IfOk};
+ghost use Rattle.std.specs.Prelude.{◌≡◌, ◌==◌, ◌<◌, ◌≤◌, ◌+◌, ◌-◌, ◌^◌, ◌++◌, ◌∷◌, [], ℕ, List};
+ghost use Rattle.std.specs.Prelude.{length, take, codes, count_by, MatchOption, MatchResult, IfOk};
 ghost use Rattle.irig_saved.specs.Lines.{line, numbered};
 ghost use Rattle.irig_saved.specs.SavedText.{journal_text, saved_lines};
 ghost use Rattle.irig_saved.specs.Ranges.{IsNumber, IsSaved};

@@ -1,6 +1,7 @@
 //! Steps in the order of the text.
 
-ghost use Rattle.std.specs.Prelude.{◌≡◌, ◌<◌, ◌^◌, ◌++◌, ◌∷◌, [], OnOk, OnErr, MatchOption, length, reverse};
+ghost use Rattle.std.specs.Prelude.{◌≡◌, ◌<◌, ◌^◌, ◌++◌, ◌∷◌, [], OnOk, OnErr, MatchOption, length};
+ghost use Rattle.std.specs.Prelude.{reverse};
 ghost use Rattle.irig_saved.specs.SavedText.{steps_lines};
 
 use crate::step::Step;

@@ -1,5 +1,6 @@
 -- Addresses and ranges, cut at the sign and at the comma that they are put together round.
-use Rattle.std.proofs.Common.{◌≡◌, ◌==◌, ◌<◌, ◌≤◌, ℕ, ℤ, ◌++◌, Bool, true, false, not, ◌&&◌, ◌||◌, List, [], ◌∷◌, length, drop, refl, sym, ap, ap₂, ◌∙◌, subst, arith}
+use Rattle.std.proofs.Common.{◌≡◌, ◌==◌, ◌<◌, ◌≤◌, ℕ, ℤ, ◌++◌, Bool, true, false, not, ◌&&◌, ◌||◌, List, [], ◌∷◌, length, drop, refl, sym, ap, ap₂, ◌∙◌, subst}
+use Rattle.std.proofs.Common.{arith}
 use Rattle.std.proofs.lemmas.Bool.Decides.{nat_tests}
 use Rattle.std.proofs.lemmas.List.{append-nil}
 use Rattle.std.specs.List.{list_all}
@@ -181,7 +182,8 @@ comma_first : (rest : List ℕ) → 1 ≤ length rest → BeginsAt Comma rest �
 comma_first [] h k = absurd (omega (arith, h))
 comma_first (b ∷ s) h k = let same : b ≡ 44 = grind (arith, nat_tests) in ap (λ x. x ∷ s) same
 
-pub pair_range : (text first rest second : List ℕ) (a b : Address) → first ≡ before Comma text → rest ≡ onward Comma text → 1 ≤ length rest → second ≡ drop 1 rest
+pub pair_range : (text first rest second : List ℕ) (a b : Address) → first ≡ before Comma text → rest ≡ onward Comma text → 1 ≤ length rest
+    → second ≡ drop 1 rest
     → IsPair first second a b → IsRange text (Two a b)
 pair_range text first rest second a b f e some s h =
     let comma = comma_first rest some (subst (BeginsAt Comma) (sym e) (cut_begins Comma text)) in

@@ -13,7 +13,14 @@ missing_longer (b ∷ x) y h = λ e. absurd (cc)
 
 -- some of a text's front is some of a longer text's front
 pub front_longer : (a b : Option (List ℕ)) (x y : List ℕ) → AppendsFront a b x → AppendsFront a b (x ++ y)
-front_longer a b x y p = record { front = p.front; back = p.back ++ y; part = ap (λ l. l ++ y) p.part ∙ append_assoc p.front p.back y; missing = missing_longer p.back y p.missing; appends = p.appends }
+front_longer a b x y p = record {
+  front = p.front;
+  back = p.back ++ y;
+  part = ap (λ l. l ++ y) p.part ∙ append_assoc p.front p.back y;
+  missing =
+      missing_longer p.back y p.missing;
+  appends = p.appends;
+}
 
 -- some of a text's front, after a text
 pub front_behind : (a b c : Option (List ℕ)) (x y : List ℕ) → Appends a b x → AppendsFront b c y → AppendsFront a c (x ++ y)

@@ -51,23 +51,29 @@ status_after-append s (r ∷ rs) qs = status_after-append _ rs qs
 pub tells_none : (a : Desk) → Tells a a [] [] []
 tells_none a = record { printed = appends_none a.out; put = puts_none a.shelf }
 
-pub tells-tells : (a b c : Desk) (x y : List ℕ) (rs qs : List Answer) (ts us : List (List ℕ)) → Tells a b x rs ts → Tells b c y qs us → Tells a c (x ++ y) (rs ++ qs) (ts ++ us)
+pub tells-tells : (a b c : Desk) (x y : List ℕ) (rs qs : List Answer) (ts us : List (List ℕ)) → Tells a b x rs ts → Tells b c y qs us
+    → Tells a c (x ++ y) (rs ++ qs) (ts ++ us)
 tells-tells a b c x y rs qs ts us h k = record {
   printed = appends-appends a.out b.out c.out x y h.printed k.printed;
-  put = subst (λ (n : ℕ). Puts a.shelf c.shelf (ts ++ us) n) (sym (failures_in-append rs qs)) (puts-puts a.shelf b.shelf c.shelf ts us (failures_in rs) (failures_in qs) h.put k.put);
+  put = subst (λ (n : ℕ). Puts a.shelf c.shelf (ts ++ us) n) (sym (failures_in-append rs qs))
+      (puts-puts a.shelf b.shelf c.shelf ts us (failures_in rs) (failures_in qs) h.put k.put);
 }
 
 -- answers that were printed whole
-pub tells-answers : (a b c : Desk) (rs qs : List Answer) (ts us : List (List ℕ)) → Tells a b (printed rs) rs ts → Tells b c (printed qs) qs us → Tells a c (printed (rs ++ qs)) (rs ++ qs) (ts ++ us)
+pub tells-answers : (a b c : Desk) (rs qs : List Answer) (ts us : List (List ℕ)) → Tells a b (printed rs) rs ts → Tells b c (printed qs) qs us
+    → Tells a c (printed (rs ++ qs)) (rs ++ qs) (ts ++ us)
 tells-answers a b c rs qs ts us h k =
-    subst (λ (l : List ℕ). Tells a c l (rs ++ qs) (ts ++ us)) (sym (flat_map-append (λ (answer : Answer). answer.text) rs qs)) (tells-tells a b c (printed rs) (printed qs) rs qs ts us h k)
+    subst (λ (l : List ℕ). Tells a c l (rs ++ qs) (ts ++ us)) (sym (flat_map-append (λ (answer : Answer). answer.text) rs qs))
+    (tells-tells a b c (printed rs) (printed qs) rs qs ts us h k)
 
 -- one answer, printed whole or in front
-pub tells_front : (a b : Desk) (m : Machine) (r : Answer) (front : List ℕ) → Appends a.out b.out front → Puts a.shelf b.shelf (texts_put m r.reply) (failures_of r.reply) → Tells a b front (r ∷ []) (texts_put m r.reply)
+pub tells_front : (a b : Desk) (m : Machine) (r : Answer) (front : List ℕ) → Appends a.out b.out front
+    → Puts a.shelf b.shelf (texts_put m r.reply) (failures_of r.reply) → Tells a b front (r ∷ []) (texts_put m r.reply)
 tells_front a b m r front p h = record {
   printed = p;
   put = subst (λ (n : ℕ). Puts a.shelf b.shelf (texts_put m r.reply) n) (sym (failures_in-one r)) h;
 }
 
-pub tells_one : (a b : Desk) (m : Machine) (r : Answer) → Appends a.out b.out r.text → Puts a.shelf b.shelf (texts_put m r.reply) (failures_of r.reply) → Tells a b (printed (r ∷ [])) (r ∷ []) (texts_put m r.reply)
+pub tells_one : (a b : Desk) (m : Machine) (r : Answer) → Appends a.out b.out r.text → Puts a.shelf b.shelf (texts_put m r.reply) (failures_of r.reply)
+    → Tells a b (printed (r ∷ [])) (r ∷ []) (texts_put m r.reply)
 tells_one a b m r p h = tells_front a b m r (printed (r ∷ [])) (rw append-nil p) h

@@ -13,5 +13,7 @@ pub ran_on_dump : (wire : Option (List ℕ)) (chosen : FormatView) (source : Lis
     (ended : Result Status RunFault) (result : Result Status DumpRunFault)
     → MatchResult ended (λ status. result ≡ Ok status) (λ fault. result ≡ Err (Run fault))
     → RanOnDump wire chosen source script left from to ended → RunsOnDump wire chosen source script left from to result
-ran_on_dump wire chosen source script left from to (Ok status) result e h = subst (λ (r : Result Status DumpRunFault). RunsOnDump wire chosen source script left from to r) (sym e) h
-ran_on_dump wire chosen source script left from to (Err fault) result e h = subst (λ (r : Result Status DumpRunFault). RunsOnDump wire chosen source script left from to r) (sym e) h
+ran_on_dump wire chosen source script left from to (Ok status) result e h =
+    subst (λ (r : Result Status DumpRunFault). RunsOnDump wire chosen source script left from to r) (sym e) h
+ran_on_dump wire chosen source script left from to (Err fault) result e h =
+    subst (λ (r : Result Status DumpRunFault). RunsOnDump wire chosen source script left from to r) (sym e) h

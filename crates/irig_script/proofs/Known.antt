@@ -1,5 +1,6 @@
 -- Bytes that are known, over several calls.
-use Rattle.std.proofs.Common.{[], ◌≡◌, ◌≢◌, ◌++◌, ℕ, List, Option, Some, None, refl, ap, sym, ◌∙◌, append_assoc, subst, length, take, drop, ◌-◌, ◌+◌, ◌<◌, arith}
+use Rattle.std.proofs.Common.{[], ◌≡◌, ◌≢◌, ◌++◌, ℕ, List, Option, Some, None, refl, ap, sym, ◌∙◌, append_assoc, subst, length, take, drop, ◌-◌, ◌+◌, ◌<◌}
+use Rattle.std.proofs.Common.{arith}
 use Rattle.std.proofs.Math.Seq.{take-add}
 use Rattle.std.proofs.lemmas.List.{length-drop}
 use Rattle.std.specs.Io.KnownBytes.{Appends, Consumes, Keeps}
@@ -31,7 +32,8 @@ rest_some l done h = λ e. absurd (omega (arith, h, sym (length-drop done l) ∙
 pub wrote_more : (a b c : Option (List ℕ)) (bytes : List ℕ) (done n : ℕ) → Appends a b (take done bytes)
     → Appends b c (take n (take (length bytes - done) (drop done bytes))) → Appends a c (take (done + n) bytes)
 wrote_more a b c bytes done n p q =
-    rw take-add (appends-appends a b c (take done bytes) (take n (drop done bytes)) p (subst (λ (l : List ℕ). Appends b c (take n l)) (rest_whole bytes done) q))
+    rw take-add (appends-appends a b c (take done bytes) (take n (drop done bytes)) p
+    (subst (λ (l : List ℕ). Appends b c (take n l)) (rest_whole bytes done) q))
 
 pub consumes_none : (a : Option (List ℕ)) → Consumes a a []
 consumes_none None = tt

@@ -40,12 +40,14 @@ ran_end out t u st s m text plain q e p =
     subst (λ (k : Shelved). Ran (desk out t) (desk out k) st st s m text) (sym p)
     (subst (λ (k : Machine). Ran (desk out t) (desk out t) st st s k text) (sym e) (ran_quit (desk out t) st s text plain q))
 
-pub ran_line : (a b : Desk) (st su : Status) (s t : Machine) (text : List ℕ) (answer : Answer) → IsPlain text → is_quit text ≡ false → (length text == 0) ≡ false → Answered s text answer t
+pub ran_line : (a b : Desk) (st su : Status) (s t : Machine) (text : List ℕ) (answer : Answer) → IsPlain text → is_quit text ≡ false
+    → (length text == 0) ≡ false → Answered s text answer t
     → Tells a b (printed (answer ∷ [])) (answer ∷ []) (texts_put s answer.reply) → su ≡ status_after st (answer ∷ []) → Ran a b st su s t text
 ran_line a b st su s t text answer plain q some h p e =
     record { answers = answer ∷ []; texts = texts_put s answer.reply; status = e; told = p; runs = rw (at_end text plain q some) (runs_one s t text answer h) }
 
-pub broken_line : (a b : Desk) (s t : Machine) (text front back : List ℕ) (answer : Answer) → IsPlain text → is_quit text ≡ false → (length text == 0) ≡ false → Answered s text answer t
+pub broken_line : (a b : Desk) (s t : Machine) (text front back : List ℕ) (answer : Answer) → IsPlain text → is_quit text ≡ false → (length text == 0) ≡ false
+    → Answered s text answer t
     → answer.text ≡ front ++ back → back ≢ [] → Tells a b front (answer ∷ []) (texts_put s answer.reply) → Broke a b s t text
 broken_line a b s t text front back answer plain q some h e n p =
     record {

@@ -25,7 +25,8 @@ order_of text front rest c e h = go (onward Text rest) refl (cut_begins Text res
   where
     go : (t : List ℕ) → onward Text rest ≡ t → BeginsAt Text t → Asks (keyword_of (before Blank t)) front (words_of (onward Blank t)) c → Orders c text
     go [] f begins asks =
-        let blank : IsBlank rest = subst IsBlank (sym (append-nil (before Text rest)) ∙ ap (λ t. before Text rest ++ t) (sym f) ∙ cut_whole Text rest) (blank_before rest) in
+        let blank : IsBlank rest = subst IsBlank (sym (append-nil (before Text rest)) ∙ ap (λ t. before Text rest ++ t) (sym f) ∙ cut_whole Text rest)
+        (blank_before rest) in
         let order : IsOrder text front [] = record { blank = []; rest = rest; whole = e; between = refl; behind = blank } in
         (front, [], order, asks)
     go (b ∷ s) f begins asks =
@@ -63,13 +64,15 @@ no_order_of text front rest name args k known cut words bad c h = go h.1 h.2 h.3
         told : (ws : List (List ℕ)) → word_and name (words_of args) ≡ ws → AsksIn front ws c → ⊥
         told [] e a = alone name e a (subst (λ (x : Keyword). (c : Command) → Asks x front (words_of args) c → ⊥) known bad)
           where
-            alone : (n : List ℕ) → word_and n (words_of args) ≡ [] → Asks word.Missing front [] c → ((c : Command) → Asks (keyword_of n) front (words_of args) c → ⊥) → ⊥
+            alone : (n : List ℕ) → word_and n (words_of args) ≡ [] → Asks word.Missing front [] c
+                → ((c : Command) → Asks (keyword_of n) front (words_of args) c → ⊥) → ⊥
             alone [] f k b = b c k
             alone (x ∷ xs) f k b = cc
         told (w ∷ more) e a =
             let next = next_word (word_and name (words_of args)) (words_of args) name w more refl e in
             let here : Asks (keyword_of name) front (words_of args) c =
-            subst (λ (t : List ℕ). Asks (keyword_of t) front (words_of args) c) (sym next.0) (subst (λ (t : List (List ℕ)). Asks (keyword_of w) front t c) (sym next.1) a) in
+            subst (λ (t : List ℕ). Asks (keyword_of t) front (words_of args) c) (sym next.0)
+            (subst (λ (t : List (List ℕ)). Asks (keyword_of w) front t c) (sym next.1) a) in
             bad c (subst (λ (x : Keyword). Asks x front (words_of args) c) (sym known) here)
 
 -- what the parser reads of a line
@@ -87,7 +90,8 @@ line_rests line text e h = onward_means line command.Nothing (inl (subst (λ (t 
 pub line_orders : (line text : List ℕ) (c : Command) → text ≡ onward Text line → Orders c text → Means c line
 line_orders line text c e h = onward_means line c (inr (subst (Orders c) e h))
 
-pub line_refused : (line text : List ℕ) → text ≡ onward Text line → is_nothing text ≡ false → ((c : Command) → Orders c text → ⊥) → (c : Command) → Means c line → ⊥
+pub line_refused : (line text : List ℕ) → text ≡ onward Text line → is_nothing text ≡ false → ((c : Command) → Orders c text → ⊥) → (c : Command) → Means c line
+    → ⊥
 line_refused line text e n bad c h = go (subst (Does c) (sym e) (means_onward line c h))
   where
     go : Does c text → ⊥

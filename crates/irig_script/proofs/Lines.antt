@@ -1,5 +1,6 @@
 -- A script by its lines, and what they make of a desk and a machine.
-use Rattle.std.proofs.Common.{◌≡◌, ◌≢◌, ◌==◌, ◌+◌, ◌<◌, ◌++◌, ◌∷◌, [], ℕ, Option, Bool, true, false, List, length, take, drop, get_or, refl, ap, sym, ◌∙◌, subst, append_assoc, add-one, arith}
+use Rattle.std.proofs.Common.{◌≡◌, ◌≢◌, ◌==◌, ◌+◌, ◌<◌, ◌++◌, ◌∷◌, [], ℕ, Option, Bool, true, false, List, length, take, drop, get_or, refl, ap, sym, ◌∙◌}
+use Rattle.std.proofs.Common.{subst, append_assoc, add-one, arith}
 use Rattle.std.specs.Prelude.{Result, Ok, Err, OnErr, ◌≤◌}
 use Rattle.std.specs.List.{AllByRecursion}
 use Rattle.std.proofs.lemmas.List.{append-nil, take-append-drop}
@@ -48,12 +49,14 @@ until_ended line lines e = rw e refl
 pub lines_and : (lines : List (List ℕ)) (rest : List ℕ) → AllByRecursion IsObeyed lines → script_lines (unlines lines ++ rest) ≡ lines ++ script_lines rest
 lines_and [] rest h = refl
 lines_and (line ∷ lines) rest h =
-    let cut : unlines (line ∷ lines) ++ rest ≡ line ++ 10 ∷ (unlines lines ++ rest) = append_assoc (line ++ 10 ∷ []) (unlines lines) rest ∙ append_assoc line (10 ∷ []) (unlines lines ++ rest) in
+    let cut : unlines (line ∷ lines) ++ rest ≡ line ++ 10 ∷ (unlines lines ++ rest) = append_assoc (line ++ 10 ∷ []) (unlines lines) rest
+    ∙ append_assoc line (10 ∷ []) (unlines lines ++ rest) in
     ap script_lines cut ∙ ap until_quit (first_line line (unlines lines ++ rest) h.0.0) ∙ until_obeyed line (lines_of (unlines lines ++ rest)) h.0.1
     ∙ ap (λ l. line ∷ l) (lines_and lines rest h.1)
 
 -- runs in turn
-pub runs-runs : (a b c : Machine) (xs ys : List (List ℕ)) (rs qs : List Answer) (ts us : List (List ℕ)) → Runs a xs rs ts b → Runs b ys qs us c → Runs a (xs ++ ys) (rs ++ qs) (ts ++ us) c
+pub runs-runs : (a b c : Machine) (xs ys : List (List ℕ)) (rs qs : List Answer) (ts us : List (List ℕ)) → Runs a xs rs ts b → Runs b ys qs us c
+    → Runs a (xs ++ ys) (rs ++ qs) (ts ++ us) c
 runs-runs a b c [] ys [] qs ts us h k =
     let from_a : Runs a ys qs us c = subst (λ (s : Machine). Runs s ys qs us c) h.1 k in
     let e : ts ++ us ≡ us = ap (λ l. l ++ us) h.0 in
@@ -71,7 +74,8 @@ each-append [] ys h k = k
 each-append (x ∷ xs) ys h k = (h.0, each-append xs ys h.1 k)
 
 -- two parts of a script in turn: the second begins with what the first left
-pub goes-goes : (one two : List ℕ) (a b c : Machine) (left rest : List ℕ) (rs qs : List Answer) (ts us : List (List ℕ)) → Goes one a rs ts b left → Goes (left ++ two) b qs us c rest → Goes (one ++ two) a (rs ++ qs) (ts ++ us) c rest
+pub goes-goes : (one two : List ℕ) (a b c : Machine) (left rest : List ℕ) (rs qs : List Answer) (ts us : List (List ℕ)) → Goes one a rs ts b left
+    → Goes (left ++ two) b qs us c rest → Goes (one ++ two) a (rs ++ qs) (ts ++ us) c rest
 goes-goes one two a b c left rest rs qs ts us h k = record {
   lines = h.lines ++ k.lines;
   each = each-append h.lines k.lines h.each k.each;
@@ -84,7 +88,8 @@ pub goes_none : (text : List ℕ) (s : Machine) → Goes text s [] [] s text
 goes_none text s = record { lines = []; each = tt; cut = refl; runs = (refl, refl) }
 
 -- a line that is obeyed
-pub goes_line : (text : List ℕ) (a b : Machine) (answer : Answer) → IsObeyed text → Answered a text answer b → Goes (text ++ 10 ∷ []) a (answer ∷ []) (texts_put a answer.reply) b []
+pub goes_line : (text : List ℕ) (a b : Machine) (answer : Answer) → IsObeyed text → Answered a text answer b
+    → Goes (text ++ 10 ∷ []) a (answer ∷ []) (texts_put a answer.reply) b []
 goes_line text a b answer each h = record {
   lines = text ∷ [];
   each = (each, tt);
@@ -92,8 +97,14 @@ goes_line text a b answer each h = record {
   runs = runs_one a b text answer h;
 }
 
-pub goes_rest : (one more : List ℕ) (s t : Machine) (rest : List ℕ) (rs : List Answer) (ts : List (List ℕ)) → Goes one s rs ts t rest → Goes (one ++ more) s rs ts t (rest ++ more)
-goes_rest one more s t rest rs ts h = record { lines = h.lines; each = h.each; cut = ap (λ l. l ++ more) h.cut ∙ append_assoc (unlines h.lines) rest more; runs = h.runs }
+pub goes_rest : (one more : List ℕ) (s t : Machine) (rest : List ℕ) (rs : List Answer) (ts : List (List ℕ)) → Goes one s rs ts t rest
+    → Goes (one ++ more) s rs ts t (rest ++ more)
+goes_rest one more s t rest rs ts h = record {
+  lines = h.lines;
+  each = h.each;
+  cut = ap (λ l. l ++ more) h.cut ∙ append_assoc (unlines h.lines) rest more;
+  runs = h.runs;
+}
 
 -- what is kept over the bytes so far: all were obeyed from the empty line on
 pub obeyed_none : (a : Desk) (st : Status) (text : List ℕ) (s : Machine) (line : Line) → Holds text line → Obeyed false a a st st s s text line
@@ -125,7 +136,8 @@ obeyed_more true a b c st su sv s t u one two mid line h k =
     }
 
 -- what comes after the end is not obeyed
-pub obeyed_rest : (a b : Desk) (st su : Status) (s t : Machine) (one more : List ℕ) (line : Line) → Obeyed true a b st su s t one line → Obeyed true a b st su s t (one ++ more) line
+pub obeyed_rest : (a b : Desk) (st su : Status) (s t : Machine) (one more : List ℕ) (line : Line) → Obeyed true a b st su s t one line
+    → Obeyed true a b st su s t (one ++ more) line
 obeyed_rest a b st su s t one more line h =
     let q = h.ends in
     record {
@@ -138,7 +150,8 @@ obeyed_rest a b st su s t one more line h =
         q.1 ++ more,
         q.2,
         q.3,
-        subst (λ (l : List ℕ). Goes (one ++ more) s h.answers h.texts t l) (append_assoc q.0 (10 ∷ q.1) more) (goes_rest one more s t (q.0 ++ 10 ∷ q.1) h.answers h.texts q.4),
+        subst (λ (l : List ℕ). Goes (one ++ more) s h.answers h.texts t l) (append_assoc q.0 (10 ∷ q.1) more)
+            (goes_rest one more s t (q.0 ++ 10 ∷ q.1) h.answers h.texts q.4),
       );
     }
 
@@ -152,9 +165,13 @@ broke_more a b c st su s t u one two mid h k =
     let left = h.ends.0 in
     let m = k left h.ends.2 in
     let back = sym (answers_assoc h.answers m.answers (m.last ∷ [])) in
-    let text : printed h.answers ++ (printed m.answers ++ m.front) ≡ printed (h.answers ++ m.answers) ++ m.front = sym (append_assoc (printed h.answers) (printed m.answers) m.front) ∙ ap (λ l. l ++ m.front) (sym (flat_map-append (λ (answer : Answer). answer.text) h.answers m.answers)) in
-    let all : Tells a c (printed h.answers ++ (printed m.answers ++ m.front)) (h.answers ++ (m.answers ++ m.last ∷ [])) (h.texts ++ m.texts) = tells-tells a b c _ _ _ _ _ _ h.told m.told in
-    let some : Tells a c (printed (h.answers ++ m.answers) ++ m.front) (h.answers ++ (m.answers ++ m.last ∷ [])) (h.texts ++ m.texts) = subst (λ (l : List ℕ). Tells a c l (h.answers ++ (m.answers ++ m.last ∷ [])) (h.texts ++ m.texts)) text all in
+    let text : printed h.answers ++ (printed m.answers ++ m.front) ≡ printed (h.answers ++ m.answers) ++ m.front =
+    sym (append_assoc (printed h.answers) (printed m.answers) m.front)
+    ∙ ap (λ l. l ++ m.front) (sym (flat_map-append (λ (answer : Answer). answer.text) h.answers m.answers)) in
+    let all : Tells a c (printed h.answers ++ (printed m.answers ++ m.front)) (h.answers ++ (m.answers ++ m.last ∷ [])) (h.texts ++ m.texts) =
+    tells-tells a b c _ _ _ _ _ _ h.told m.told in
+    let some : Tells a c (printed (h.answers ++ m.answers) ++ m.front) (h.answers ++ (m.answers ++ m.last ∷ [])) (h.texts ++ m.texts) =
+    subst (λ (l : List ℕ). Tells a c l (h.answers ++ (m.answers ++ m.last ∷ [])) (h.texts ++ m.texts)) text all in
     record {
       answers = h.answers ++ m.answers;
       last = m.last;
@@ -165,7 +182,8 @@ broke_more a b c st su s t u one two mid h k =
       part = m.part;
       missing = m.missing;
       told = subst (λ (l : List Answer). Tells a c (printed (h.answers ++ m.answers) ++ m.front) l (h.texts ++ m.texts)) back some;
-      goes = subst (λ (l : List Answer). Goes (one ++ two) s l (h.texts ++ m.texts) u m.rest) back (goes-goes one two s t u left m.rest h.answers (m.answers ++ m.last ∷ []) h.texts m.texts h.ends.1 m.goes);
+      goes = subst (λ (l : List Answer). Goes (one ++ two) s l (h.texts ++ m.texts) u m.rest) back
+          (goes-goes one two s t u left m.rest h.answers (m.answers ++ m.last ∷ []) h.texts m.texts h.ends.1 m.goes);
     }
 
 pub broke_rest : (a b : Desk) (s t : Machine) (one more : List ℕ) → BrokeIn a b s t one → BrokeIn a b s t (one ++ more)
@@ -190,19 +208,30 @@ pub next_text : (text l : List ℕ) (i : ℕ) → i < length l → (text ++ take
 next_text text l i h = append_assoc text (take i l) (get_or l i 0 ∷ []) ∙ ap (λ t. text ++ t) (one_more l i h)
 
 pub whole_text : (text l : List ℕ) (i : ℕ) → i < length l → ((text ++ take i l) ++ get_or l i 0 ∷ []) ++ drop (i + 1) l ≡ text ++ l
-whole_text text l i h = ap (λ t. t ++ drop (i + 1) l) (next_text text l i h) ∙ (append_assoc text (take (i + 1) l) (drop (i + 1) l) ∙ ap (λ t. text ++ t) (take-append-drop (i + 1) l))
+whole_text text l i h = ap (λ t. t ++ drop (i + 1) l) (next_text text l i h)
+    ∙ (append_assoc text (take (i + 1) l) (drop (i + 1) l) ∙ ap (λ t. text ++ t) (take-append-drop (i + 1) l))
 
 pub all_taken : (l : List ℕ) (i : ℕ) → length l ≤ i → i ≤ length l → take i l ≡ l
 all_taken l i h k = let same : i ≡ length l = omega arith in ap (λ n. take n l) same ∙ take-length l
 
 -- a line that was answered whole, or in front
-pub obeyed_line : (a b : Desk) (st su : Status) (text : List ℕ) (s t : Machine) (answer : Answer) (line : Line) → IsPlain text → is_quit text ≡ false → Answered s text answer t
-    → Tells a b (printed (answer ∷ [])) (answer ∷ []) (texts_put s answer.reply) → su ≡ status_after st (answer ∷ []) → Holds [] line → Obeyed false a b st su s t (text ++ 10 ∷ []) line
+pub obeyed_line : (a b : Desk) (st su : Status) (text : List ℕ) (s t : Machine) (answer : Answer) (line : Line) → IsPlain text → is_quit text ≡ false
+    → Answered s text answer t
+    → Tells a b (printed (answer ∷ [])) (answer ∷ []) (texts_put s answer.reply) → su ≡ status_after st (answer ∷ []) → Holds [] line
+    → Obeyed false a b st su s t (text ++ 10 ∷ []) line
 obeyed_line a b st su text s t answer line plain q h p e l =
     record { answers = answer ∷ []; texts = texts_put s answer.reply; status = e; told = p; ends = ([], goes_line text s t answer (plain, q) h, l) }
 
-pub obeyed_quit : (a : Desk) (st : Status) (text : List ℕ) (s : Machine) (line : Line) → IsPlain text → is_quit text ≡ true → Obeyed true a a st st s s (text ++ 10 ∷ []) line
-obeyed_quit a st text s line plain q = record { answers = []; texts = []; status = refl; told = tells_none a; ends = (text, [], plain, q, goes_none (text ++ 10 ∷ []) s) }
+pub obeyed_quit : (a : Desk) (st : Status) (text : List ℕ) (s : Machine) (line : Line) → IsPlain text → is_quit text ≡ true
+    → Obeyed true a a st st s s (text ++ 10 ∷ []) line
+obeyed_quit a st text s line plain q = record {
+  answers = [];
+  texts = [];
+  status = refl;
+  told = tells_none a;
+  ends =
+      (text, [], plain, q, goes_none (text ++ 10 ∷ []) s);
+}
 
 -- a line that ends the script leaves all as it was
 pub obeyed_end : (out : Option (List ℕ)) (t u : Shelved) (st : Status) (text : List ℕ) (s m : Machine) (line : Line) → IsPlain text → is_quit text ≡ true
@@ -211,10 +240,23 @@ obeyed_end out t u st text s m line plain q e p =
     subst (λ (k : Shelved). Obeyed true (desk out t) (desk out k) st st s m (text ++ 10 ∷ []) line) (sym p)
     (subst (λ (k : Machine). Obeyed true (desk out t) (desk out t) st st s k (text ++ 10 ∷ []) line) (sym e) (obeyed_quit (desk out t) st text s line plain q))
 
-pub broke_line : (a b : Desk) (text : List ℕ) (s t : Machine) (front back : List ℕ) (answer : Answer) → IsPlain text → is_quit text ≡ false → Answered s text answer t
+pub broke_line : (a b : Desk) (text : List ℕ) (s t : Machine) (front back : List ℕ) (answer : Answer) → IsPlain text → is_quit text ≡ false
+    → Answered s text answer t
     → answer.text ≡ front ++ back → back ≢ [] → Tells a b front (answer ∷ []) (texts_put s answer.reply) → BrokeIn a b s t (text ++ 10 ∷ [])
 broke_line a b text s t front back answer plain q h e n p =
-    record { answers = []; last = answer; front = front; back = back; rest = []; texts = texts_put s answer.reply; part = e; missing = n; told = p; goes = goes_line text s t answer (plain, q) h }
+    record {
+      answers = [];
+      last = answer;
+      front = front;
+      back = back;
+      rest = [];
+      texts = texts_put s answer.reply;
+      part = e;
+      missing = n;
+      told = p;
+      goes =
+          goes_line text s t answer (plain, q) h;
+    }
 
 pub given : {T E P : Type 0} (r : Result T E) → P → OnErr r P
 given (Ok x) p = tt

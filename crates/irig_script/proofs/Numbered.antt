@@ -35,13 +35,16 @@ numbered_next line n xs k d h =
     ap (λ m. numbered line n (take m xs)) count ∙ numbered_push line n xs k d h
 
 -- one more line was sent
-pub listed_more : {T : Type 0} (line : ℕ → T → List ℕ) (n : ℕ) (xs : List T) (k : ℕ) (d : T) (a b c : Option (List ℕ)) (x z text : List ℕ) → k < length xs → text ≡ line (n + k) (get_or xs k d)
+pub listed_more : {T : Type 0} (line : ℕ → T → List ℕ) (n : ℕ) (xs : List T) (k : ℕ) (d : T) (a b c : Option (List ℕ)) (x z text : List ℕ) → k < length xs
+    → text ≡ line (n + k) (get_or xs k d)
     → Sends a b [] x (numbered line n (take k xs)) → Sends b c x z text → Sends a c [] z (numbered line n (take (k + 1) xs))
 listed_more line n xs k d a b c x z text h e p q =
-    subst (λ (t : List ℕ). Sends a c [] z t) (ap (λ t. numbered line n (take k xs) ++ t) e ∙ sym (numbered_next line n xs k d h)) (sends_more a b c [] x z (numbered line n (take k xs)) text p q)
+    subst (λ (t : List ℕ). Sends a c [] z t) (ap (λ t. numbered line n (take k xs) ++ t) e ∙ sym (numbered_next line n xs k d h))
+    (sends_more a b c [] x z (numbered line n (take k xs)) text p q)
 
 -- one more line was sent in front
-pub listed_front : {T : Type 0} (line : ℕ → T → List ℕ) (n : ℕ) (xs : List T) (k : ℕ) (d : T) (a b c : Option (List ℕ)) (x text : List ℕ) → k < length xs → text ≡ line (n + k) (get_or xs k d)
+pub listed_front : {T : Type 0} (line : ℕ → T → List ℕ) (n : ℕ) (xs : List T) (k : ℕ) (d : T) (a b c : Option (List ℕ)) (x text : List ℕ) → k < length xs
+    → text ≡ line (n + k) (get_or xs k d)
     → Sends a b [] x (numbered line n (take k xs)) → AppendsFront b c (x ++ text) → AppendsFront a c (numbered line n xs)
 listed_front line n xs k d a b c x text h e p q =
     let front = sends_front a b c x (numbered line n (take k xs)) text p q in

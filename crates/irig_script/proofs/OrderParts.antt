@@ -23,9 +23,11 @@ use Rattle.irig_script.proofs.WordLemmas.{both}
 row_letters : (text : List ℕ) (rows : List (List ℕ × Keyword)) (k : Keyword) → list_all (λ row. list_all is_letter row.0) rows ≡ true
     → found text rows ≡ Some k → list_all is_letter text ≡ true
 row_letters text [] k h e = absurd (cc)
-row_letters text (row ∷ rows) k h e = go (bytes_eq text row.0) refl e (row_letters text rows k (both (list_all is_letter row.0) (list_all (λ row. list_all is_letter row.0) rows) h).1)
+row_letters text (row ∷ rows) k h e = go (bytes_eq text row.0) refl e
+    (row_letters text rows k (both (list_all is_letter row.0) (list_all (λ row. list_all is_letter row.0) rows) h).1)
   where
-    go : (v : Bool) → bytes_eq text row.0 ≡ v → (if v then Some row.1 else found text rows) ≡ Some k → (found text rows ≡ Some k → list_all is_letter text ≡ true) → list_all is_letter text ≡ true
+    go : (v : Bool) → bytes_eq text row.0 ≡ v → (if v then Some row.1 else found text rows) ≡ Some k
+        → (found text rows ≡ Some k → list_all is_letter text ≡ true) → list_all is_letter text ≡ true
     go true t f more =
         let same : text ≡ row.0 = (bytes_eq-Decides text row.0).0 t in
         subst (λ (s : List ℕ). list_all is_letter s ≡ true) (sym same) (both (list_all is_letter row.0) (list_all (λ row. list_all is_letter row.0) rows) h).0
@@ -103,7 +105,8 @@ words_follow range rest [] c h k = blank_follows rest h
 words_follow range rest (w ∷ args) c h k =
     subst (λ (t : List ℕ). follows_range t ≡ true) (sym h.1) (word_follows w h.0 h.2 (known_letters w range args c k))
 
-pub follows : (text range : List ℕ) (words : List (List ℕ)) (c : Command) (o : IsOrder text range words) → AsksIn range words c → follows_range (o.blank ++ o.rest) ≡ true
+pub follows : (text range : List ℕ) (words : List (List ℕ)) (c : Command) (o : IsOrder text range words) → AsksIn range words c
+    → follows_range (o.blank ++ o.rest) ≡ true
 follows text range words c o h = space_follows o.blank o.rest o.between (words_follow range o.rest words c o.behind h)
 
 pub found_words : (text range : List ℕ) (words : List (List ℕ)) (o : IsOrder text range words) → words_of (o.blank ++ o.rest) ≡ words

@@ -1,5 +1,6 @@
 -- Listings of pulses, piece by piece.
-use Rattle.std.proofs.Common.{◌≡◌, ◌+◌, ◌-◌, ◌≤◌, ◌++◌, ℕ, suc, zero, List, ◌∷◌, Option, Some, length, drop, take, get_or, slice_get, min, ap, sym, ◌∙◌, subst, append_assoc, arith}
+use Rattle.std.proofs.Common.{◌≡◌, ◌+◌, ◌-◌, ◌≤◌, ◌++◌, ℕ, suc, zero, List, ◌∷◌, Option, Some, length, drop, take, get_or, slice_get, min, ap, sym, ◌∙◌, subst}
+use Rattle.std.proofs.Common.{append_assoc, arith}
 use Rattle.std.proofs.lemmas.List.{length-drop, take_min}
 use Rattle.std.proofs.lemmas.Option.{slice_get-get_or}
 use Rattle.std.specs.Io.KnownBytes.{Appends}
@@ -15,7 +16,8 @@ use Rattle.irig_script.proofs.Blocks.{front_behind, front_longer}
 use Rattle.irig_script.proofs.Known.{appends-appends}
 
 -- the first line of a listing, and those after it
-listing_opened : (s : State) (m k : ℕ) (p : Pulse) → slice_get s.pulses m ≡ Some p → list_text m (suc k) s ≡ pulse_line s.format (m + 1) p ++ list_text (m + 1) k s
+listing_opened : (s : State) (m k : ℕ) (p : Pulse) → slice_get s.pulses m ≡ Some p → list_text m (suc k) s ≡ pulse_line s.format (m + 1) p
+    ++ list_text (m + 1) k s
 listing_opened s m k p e =
     let up : suc (m + 1) ≡ m + 1 + 1 = omega arith in
     let pulses : piece m (suc k) s.pulses ≡ p ∷ piece (m + 1) k s.pulses = ap (take (suc k)) (drop-item s.pulses m p e) in
@@ -23,7 +25,8 @@ listing_opened s m k p e =
     ∙ ap (λ n. pulse_line s.format (m + 1) p ++ numbered (pulse_line s.format) n (piece (m + 1) k s.pulses)) up
 
 -- one more line in front of a listing
-pub listing_before : (s : State) (n m k : ℕ) (p : Pulse) → n ≡ m + 1 → slice_get s.pulses (n - 1) ≡ Some p → pulse_line s.format n p ++ list_text n k s ≡ list_text m (k + 1) s
+pub listing_before : (s : State) (n m k : ℕ) (p : Pulse) → n ≡ m + 1 → slice_get s.pulses (n - 1) ≡ Some p
+    → pulse_line s.format n p ++ list_text n k s ≡ list_text m (k + 1) s
 listing_before s n m k p h e =
     let place : n - 1 ≡ m = omega (arith, h) in
     let count : suc k ≡ k + 1 = omega arith in
@@ -52,14 +55,17 @@ listings_joined s m (suc d) k h =
     ∙ ap (λ n. list_text m n s) count
 
 -- one more piece was printed
-pub listing_more : (s : State) (m d k : ℕ) (a b c : Option (List ℕ)) → m + d ≤ length s.pulses → Appends a b (list_text m d s) → Appends b c (list_text (m + d) k s) → Appends a c (list_text m (d + k) s)
+pub listing_more : (s : State) (m d k : ℕ) (a b c : Option (List ℕ)) → m + d ≤ length s.pulses → Appends a b (list_text m d s)
+    → Appends b c (list_text (m + d) k s) → Appends a c (list_text m (d + k) s)
 listing_more s m d k a b c h p q =
     subst (λ (t : List ℕ). Appends a c t) (listings_joined s m d k h) (appends-appends a b c (list_text m d s) (list_text (m + d) k s) p q)
 
 -- the same, if the printing failed
-pub listing_front : (s : State) (m d k n : ℕ) (a b c : Option (List ℕ)) → m + (d + k) ≤ length s.pulses → d + k ≤ n → Appends a b (list_text m d s) → AppendsFront b c (list_text (m + d) k s) → AppendsFront a c (list_text m n s)
+pub listing_front : (s : State) (m d k n : ℕ) (a b c : Option (List ℕ)) → m + (d + k) ≤ length s.pulses → d + k ≤ n → Appends a b (list_text m d s)
+    → AppendsFront b c (list_text (m + d) k s) → AppendsFront a c (list_text m n s)
 listing_front s m d k n a b c h le p q =
-    let upto = subst (λ (t : List ℕ). AppendsFront a c t) (listings_joined s m d k (omega (arith, h))) (front_behind a b c (list_text m d s) (list_text (m + d) k s) p q) in
+    let upto = subst (λ (t : List ℕ). AppendsFront a c t) (listings_joined s m d k (omega (arith, h)))
+    (front_behind a b c (list_text m d s) (list_text (m + d) k s) p q) in
     let count : d + k + (n - (d + k)) ≡ n = omega (arith, le) in
     subst (λ (t : List ℕ). AppendsFront a c t) (listings_joined s m (d + k) (n - (d + k)) h ∙ ap (λ j. list_text m j s) count)
     (front_longer a c (list_text m (d + k) s) (list_text (m + (d + k)) (n - (d + k)) s) upto)

@@ -1,5 +1,6 @@
 -- Digits of printed numbers.
-use Rattle.std.proofs.Common.{◌≡◌, ◌+◌, ◌-◌, ◌*◌, ◌/◌, ◌%◌, ◌^◌, ◌<◌, ◌≤◌, ◌==◌, [], ℕ, suc, zero, List, length, false, refl, ap, sym, subst, ◌∙◌, arith, drop, slice_set}
+use Rattle.std.proofs.Common.{◌≡◌, ◌+◌, ◌-◌, ◌*◌, ◌/◌, ◌%◌, ◌^◌, ◌<◌, ◌≤◌, ◌==◌, [], ℕ, suc, zero, List, length, false, refl, ap, sym, subst, ◌∙◌, arith, drop}
+use Rattle.std.proofs.Common.{slice_set}
 use Rattle.std.proofs.lemmas.Bool.Decides.{nat_tests}
 use Rattle.std.proofs.lemmas.Grind.{drop-set_at}
 use Rattle.std.proofs.Math.ListN.{drop_of_length-le}
@@ -26,7 +27,8 @@ written-more (suc at) m d buffer some h large is =
     let fuel : suc at + 49 ≡ suc (at + 49) = omega arith in
     let less : suc at - 1 ≡ at = omega arith in
     let here : at + 1 ≡ suc at = omega arith in
-    rw fuel (rw more (rw less (rw is (ap (λ acc. digits_onto (at + 49) 16 false (m / 16) acc) (sym (drop-set_at buffer (suc at) (at + 1) (digit_glyph false (m % 16)) here h))))))
+    rw fuel (rw more (rw less (rw is (ap (λ acc. digits_onto (at + 49) 16 false (m / 16) acc)
+    (sym (drop-set_at buffer (suc at) (at + 1) (digit_glyph false (m % 16)) here h))))))
 
 -- the first digit
 pub written-last : (at m d : ℕ) (buffer : List ℕ) → at < length buffer → m < 16 → d ≡ digit_glyph false m

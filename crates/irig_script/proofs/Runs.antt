@@ -16,7 +16,8 @@ use Rattle.irig_script.proofs.Desks.{tells-tells, tells-answers, status_after-ap
 use Rattle.irig_script.proofs.Lines.{first_line, lines_and, until_ended, runs-runs, answers_assoc}
 
 -- a script that was read to its end
-pub run_ended : (from to : Option (List ℕ)) (a b c : Desk) (st su sv : Status) (s t u : Machine) (read : List ℕ) (line : Line) → Consumes from to read → IsAtEnd to → Obeyed false a b st su s t read line
+pub run_ended : (from to : Option (List ℕ)) (a b c : Desk) (st su sv : Status) (s t u : Machine) (read : List ℕ) (line : Line) → Consumes from to read
+    → IsAtEnd to → Obeyed false a b st su s t read line
     → ((text : List ℕ) → Holds text line → Ran b c su sv t u text) → IfSome from (Ran a c st sv s u)
 run_ended None to a b c st su sv s t u read line p e h f = tt
 run_ended (Some input) None a b c st su sv s t u read line p e h f = absurd p
@@ -35,19 +36,24 @@ run_ended (Some input) (Some ys) a b c st su sv s t u read line p e h f =
     }
 
 -- a script that ended itself
-pub run_quit : (from to : Option (List ℕ)) (a b : Desk) (st su : Status) (s t : Machine) (read : List ℕ) (line : Line) → Consumes from to read → Obeyed true a b st su s t read line → IfSome from (Ran a b st su s t)
+pub run_quit : (from to : Option (List ℕ)) (a b : Desk) (st su : Status) (s t : Machine) (read : List ℕ) (line : Line) → Consumes from to read
+    → Obeyed true a b st su s t read line → IfSome from (Ran a b st su s t)
 run_quit None to a b st su s t read line p h = tt
 run_quit (Some input) None a b st su s t read line p h = absurd p
 run_quit (Some input) (Some ys) a b st su s t read line p h =
     let q = h.ends in
     let goes = q.4 in
-    let whole : input ≡ unlines goes.lines ++ (q.0 ++ 10 ∷ (q.1 ++ ys)) = p ∙ (ap (λ l. l ++ ys) goes.cut ∙ (append_assoc (unlines goes.lines) (q.0 ++ 10 ∷ q.1) ys ∙ ap (λ l. unlines goes.lines ++ l) (append_assoc q.0 (10 ∷ q.1) ys))) in
+    let whole : input ≡ unlines goes.lines ++ (q.0 ++ 10 ∷ (q.1 ++ ys)) =
+    p ∙ (ap (λ l. l ++ ys) goes.cut ∙ (append_assoc (unlines goes.lines) (q.0 ++ 10 ∷ q.1) ys
+    ∙ ap (λ l. unlines goes.lines ++ l) (append_assoc q.0 (10 ∷ q.1) ys))) in
     let none : script_lines (q.0 ++ 10 ∷ (q.1 ++ ys)) ≡ [] = ap until_quit (first_line q.0 (q.1 ++ ys) q.2) ∙ until_ended q.0 (lines_of (q.1 ++ ys)) q.3 in
-    let cut : script_lines input ≡ goes.lines = ap script_lines whole ∙ lines_and goes.lines (q.0 ++ 10 ∷ (q.1 ++ ys)) goes.each ∙ ap (λ l. goes.lines ++ l) none ∙ append-nil goes.lines in
+    let cut : script_lines input ≡ goes.lines = ap script_lines whole ∙ lines_and goes.lines (q.0 ++ 10 ∷ (q.1 ++ ys)) goes.each
+    ∙ ap (λ l. goes.lines ++ l) none ∙ append-nil goes.lines in
     record { answers = h.answers; texts = h.texts; status = h.status; told = h.told; runs = rw cut goes.runs }
 
 -- a script whose printing failed
-pub run_broke : (from to : Option (List ℕ)) (a b : Desk) (s t : Machine) (read : List ℕ) → Consumes from to read → BrokeIn a b s t read → IfSome from (Broke a b s t)
+pub run_broke : (from to : Option (List ℕ)) (a b : Desk) (s t : Machine) (read : List ℕ) → Consumes from to read → BrokeIn a b s t read
+    → IfSome from (Broke a b s t)
 run_broke None to a b s t read p m = tt
 run_broke (Some input) None a b s t read p m = absurd p
 run_broke (Some input) (Some ys) a b s t read p m =
@@ -69,7 +75,8 @@ run_broke (Some input) (Some ys) a b s t read p m =
     }
 
 -- a script whose last line's printing failed
-pub run_broken : (from to : Option (List ℕ)) (a b c : Desk) (st su : Status) (s t u : Machine) (read : List ℕ) (line : Line) → Consumes from to read → IsAtEnd to → Obeyed false a b st su s t read line
+pub run_broken : (from to : Option (List ℕ)) (a b c : Desk) (st su : Status) (s t u : Machine) (read : List ℕ) (line : Line) → Consumes from to read
+    → IsAtEnd to → Obeyed false a b st su s t read line
     → ((text : List ℕ) → Holds text line → Broke b c t u text) → IfSome from (Broke a c s u)
 run_broken None to a b c st su s t u read line p e h f = tt
 run_broken (Some input) None a b c st su s t u read line p e h f = absurd p
@@ -79,9 +86,13 @@ run_broken (Some input) (Some ys) a b c st su s t u read line p e h f =
     let m = f left h.ends.2 in
     let whole : input ≡ unlines goes.lines ++ left = p ∙ (ap (λ l. read ++ l) e ∙ (append-nil read ∙ goes.cut)) in
     let back = sym (answers_assoc h.answers m.answers (m.last ∷ [])) in
-    let text : printed h.answers ++ (printed m.answers ++ m.front) ≡ printed (h.answers ++ m.answers) ++ m.front = sym (append_assoc (printed h.answers) (printed m.answers) m.front) ∙ ap (λ l. l ++ m.front) (sym (flat_map-append (λ (answer : Answer). answer.text) h.answers m.answers)) in
-    let all : Tells a c (printed h.answers ++ (printed m.answers ++ m.front)) (h.answers ++ (m.answers ++ m.last ∷ [])) (h.texts ++ m.texts) = tells-tells a b c _ _ _ _ _ _ h.told m.told in
-    let some : Tells a c (printed (h.answers ++ m.answers) ++ m.front) (h.answers ++ (m.answers ++ m.last ∷ [])) (h.texts ++ m.texts) = subst (λ (l : List ℕ). Tells a c l (h.answers ++ (m.answers ++ m.last ∷ [])) (h.texts ++ m.texts)) text all in
+    let text : printed h.answers ++ (printed m.answers ++ m.front) ≡ printed (h.answers ++ m.answers) ++ m.front =
+    sym (append_assoc (printed h.answers) (printed m.answers) m.front)
+    ∙ ap (λ l. l ++ m.front) (sym (flat_map-append (λ (answer : Answer). answer.text) h.answers m.answers)) in
+    let all : Tells a c (printed h.answers ++ (printed m.answers ++ m.front)) (h.answers ++ (m.answers ++ m.last ∷ [])) (h.texts ++ m.texts) =
+    tells-tells a b c _ _ _ _ _ _ h.told m.told in
+    let some : Tells a c (printed (h.answers ++ m.answers) ++ m.front) (h.answers ++ (m.answers ++ m.last ∷ [])) (h.texts ++ m.texts) =
+    subst (λ (l : List ℕ). Tells a c l (h.answers ++ (m.answers ++ m.last ∷ [])) (h.texts ++ m.texts)) text all in
     record {
       lines = goes.lines ++ m.lines;
       others = m.others;
@@ -94,5 +105,6 @@ run_broken (Some input) (Some ys) a b c st su s t u read line p e h f =
       part = m.part;
       missing = m.missing;
       told = subst (λ (l : List Answer). Tells a c (printed (h.answers ++ m.answers) ++ m.front) l (h.texts ++ m.texts)) back some;
-      runs = subst (λ (l : List Answer). Runs s (goes.lines ++ m.lines) l (h.texts ++ m.texts) u) back (runs-runs s t u goes.lines m.lines h.answers (m.answers ++ m.last ∷ []) h.texts m.texts goes.runs m.runs);
+      runs = subst (λ (l : List Answer). Runs s (goes.lines ++ m.lines) l (h.texts ++ m.texts) u) back
+          (runs-runs s t u goes.lines m.lines h.answers (m.answers ++ m.last ∷ []) h.texts m.texts goes.runs m.runs);
     }

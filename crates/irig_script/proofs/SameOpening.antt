@@ -115,7 +115,8 @@ start_one : (r q : RecordingView) (f : FormatView) (v w : Machine) → r ≡ q �
 start_one r q f v w e h k =
     let same : recording_of v.present.state ≡ recording_of w.present.state = h.recording ∙ e ∙ sym k.recording in
     let micros : v.present.state.micros ≡ w.present.state.micros = ap (λ (x : RecordingView). x.micros) same in
-    let pulses : v.present.state.pulses ≡ w.present.state.pulses = edges_of-inj v.present.state.pulses w.present.state.pulses (ap (λ (x : RecordingView). x.edges) same) in
+    let pulses : v.present.state.pulses ≡ w.present.state.pulses =
+    edges_of-inj v.present.state.pulses w.present.state.pulses (ap (λ (x : RecordingView). x.edges) same) in
     let format : v.present.state.format ≡ w.present.state.format = h.format ∙ sym k.format in
     let marks : v.present.state.marks ≡ w.present.state.marks = h.marks ∙ sym k.marks in
     let states : v.present.state ≡ w.present.state = λ i. state (micros i) (pulses i) (format i) (marks i) in
@@ -124,14 +125,16 @@ start_one r q f v w e h k =
 abbrev accepted : State → ℕ → List (Step Delta) → List (Step Delta) → Grouped Kept
 accepted s cursor past future = over None (machine (record { state = s; cursor = cursor; past = past; future = future }))
 
-accepted_one : (r q : RecordingView) (x y : Saved) (v w : Machine) → r ≡ q → x ≡ y → IsAccepted (state_of r x) x v → IsAccepted (state_of q y) y w → grouped_in v ≡ grouped_in w
+accepted_one : (r q : RecordingView) (x y : Saved) (v w : Machine) → r ≡ q → x ≡ y → IsAccepted (state_of r x) x v → IsAccepted (state_of q y) y w
+    → grouped_in v ≡ grouped_in w
 accepted_one r q x y v w e f h k =
     let states : state_of r x ≡ state_of q y = λ i. state_of (e i) (f i) in
     let past : h.past ≡ k.past = taken_one _ _ _ _ h.past k.past (λ i. reverse (f i).past) h.back k.back in
     let future : h.future ≡ k.future = taken_one _ _ _ _ h.future k.future (λ i. (f i).future) h.on k.on in
     ap grouped_in h.session ∙ (λ i. accepted (states i) ((f i).cursor) (past i) (future i)) ∙ sym (ap grouped_in k.session)
 
-pub opened_one : (wire : Option (List ℕ)) (source : List ℕ) (f : FormatView) (v w : Machine) → IsOpened wire source f v → IsOpened wire source f w → grouped_in v ≡ grouped_in w
+pub opened_one : (wire : Option (List ℕ)) (source : List ℕ) (f : FormatView) (v w : Machine) → IsOpened wire source f v → IsOpened wire source f w
+    → grouped_in v ≡ grouped_in w
 opened_one wire source f v w (inl h) (inl k) =
     start_one h.0 k.0 f v w (recording_one h.0 k.0 None None _ h.1 k.1) h.2 k.2
 opened_one wire source f v w (inl h) (inr k) =

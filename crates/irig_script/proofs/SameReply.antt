@@ -66,7 +66,8 @@ time_same (time.At t) o p e = refl
 time_same (time.Mark letter) o p e = ap (λ k. time_of (time.Mark letter) (bare k)) e
 
 -- a refusal other than out of memory is that of the call
-refused_for : (call : Call) (old new : Whole Kept) (why : Refusal) → Steps call old (Err why) new → wants_memory (told.Refused why) ≡ false → refusal_of call old ≡ Some why
+refused_for : (call : Call) (old new : Whole Kept) (why : Refusal) → Steps call old (Err why) new → wants_memory (told.Refused why) ≡ false
+    → refusal_of call old ≡ Some why
 refused_for call old new refusal.OutOfRange h e = h.0
 refused_for call old new refusal.NoPulse h e = h.0
 refused_for call old new refusal.Touching h e = h.0
@@ -163,7 +164,8 @@ module _ (outcome : OneOutcome) where
       let x = showed i o r a h in
       let y = showed j p s b k in
       let u : r ≡ shown j x.0 = x.1 ∙ ap (λ n. shown n x.0) f in
-      tell_one (shown j) (shown_wants j) (Call.Go i) (Call.Go j) (ap Call.Go f) (grouped_in o) (grouped_in p) (grouped_in a) (grouped_in b) e r s x.0 y.0 u y.1 x.2 y.2 w
+      tell_one (shown j) (shown_wants j) (Call.Go i) (Call.Go j) (ap Call.Go f) (grouped_in o) (grouped_in p) (grouped_in a) (grouped_in b) e r s x.0 y.0 u y.1
+      x.2 y.2 w
 
   formats_one : (v : Bool) (f : FormatView) (o p : Machine) → grouped_in o ≡ grouped_in p → (r s : Reply) (a b : Machine)
       → Formats v f o r a → Formats v f p s b → wants_memory r ≡ wants_memory s → (r ≡ s) × (grouped_in a ≡ grouped_in b)

@@ -109,7 +109,8 @@ module _ (outcome : OneOutcome) where
   one_run script one other begin met =
       let x = one.ran in
       let y = other.ran in
-      let all = lines_one (script_lines script) one.old other.old begin.machine x.answers y.answers x.texts y.texts one.new other.new x.runs y.runs met.memory met.puts in
+      let all = lines_one (script_lines script) one.old other.old begin.machine x.answers y.answers x.texts y.texts one.new other.new x.runs y.runs met.memory
+      met.puts in
       let status = begin.status in
       let answers : x.answers ≡ y.answers = all.0 in
       let out : Appends one.from.out other.to.out (printed x.answers) =

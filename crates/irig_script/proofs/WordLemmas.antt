@@ -1,5 +1,6 @@
 -- A text cut at a byte, and the words of a line.
-use Rattle.std.proofs.Common.{◌≡◌, ℕ, zero, suc, ◌+◌, ◌-◌, ◌<◌, ◌≤◌, ◌++◌, Bool, true, false, not, ◌&&◌, List, [], ◌∷◌, length, take, drop, get_or, refl, sym, ap, ap₂, ◌∙◌, subst, arith, add-one, drop-cons, append_assoc}
+use Rattle.std.proofs.Common.{◌≡◌, ℕ, zero, suc, ◌+◌, ◌-◌, ◌<◌, ◌≤◌, ◌++◌, Bool, true, false, not, ◌&&◌, List, [], ◌∷◌, length, take, drop, get_or, refl, sym}
+use Rattle.std.proofs.Common.{ap, ap₂, ◌∙◌, subst, arith, add-one, drop-cons, append_assoc}
 use Rattle.std.proofs.Math.Seq.{take-length}
 use Rattle.std.proofs.lemmas.List.{append-nil, length-drop, take_more}
 use Rattle.std.specs.List.{list_all}
@@ -62,8 +63,11 @@ words_begun b (c ∷ s) e = go (is_space c) refl (λ k. words_begun c s k)
   where
     go : (v : Bool) → is_space c ≡ v → (is_space c ≡ false → words_of (c ∷ s) ≡ (c ∷ before Blank s) ∷ words_of (onward Blank s))
         → words_of (b ∷ c ∷ s) ≡ (b ∷ before Blank (c ∷ s)) ∷ words_of (onward Blank (c ∷ s))
-    go true k h = words_alone b (c ∷ s) e (ap not k) ∙ sym (ap (λ l. (b ∷ l) ∷ words_of (onward Blank (c ∷ s))) (before_at Blank c s k) ∙ ap (λ l. (b ∷ []) ∷ words_of l) (onward_at Blank c s k))
-    go false k h = words_joined b (c ∷ s) e (ap not k) ∙ ap (onto_first b) (h k) ∙ sym (ap (λ l. (b ∷ l) ∷ words_of (onward Blank (c ∷ s))) (before_on Blank c s k) ∙ ap (λ l. (b ∷ c ∷ before Blank s) ∷ words_of l) (onward_on Blank c s k))
+    go true k h = words_alone b (c ∷ s) e (ap not k) ∙ sym (ap (λ l. (b ∷ l) ∷ words_of (onward Blank (c ∷ s))) (before_at Blank c s k)
+        ∙ ap (λ l. (b ∷ []) ∷ words_of l) (onward_at Blank c s k))
+    go false k h = words_joined b (c ∷ s) e (ap not k) ∙ ap (onto_first b) (h k)
+        ∙ sym (ap (λ l. (b ∷ l) ∷ words_of (onward Blank (c ∷ s))) (before_on Blank c s k)
+        ∙ ap (λ l. (b ∷ c ∷ before Blank s) ∷ words_of l) (onward_on Blank c s k))
 
 -- the first word of a text, and the others
 pub words_split : (s : List ℕ) → words_of s ≡ word_and (before Blank (onward Text s)) (words_of (onward Blank (onward Text s)))

@@ -1,5 +1,6 @@
 -- When a splice and a shift leave a track.
-use Rattle.std.proofs.Common.{◌≡◌, ℕ, suc, zero, ℤ, ◌+◌, ◌-◌, ◌^◌, ◌<◌, ◌≤◌, List, [], ◌∷◌, ◌++◌, map, length, take, drop, slice_get, Some, refl, sym, ap, ◌∙◌, subst, arith, append_assoc}
+use Rattle.std.proofs.Common.{◌≡◌, ℕ, suc, zero, ℤ, ◌+◌, ◌-◌, ◌^◌, ◌<◌, ◌≤◌, List, [], ◌∷◌, ◌++◌, map, length, take, drop, slice_get, Some, refl, sym, ap, ◌∙◌}
+use Rattle.std.proofs.Common.{subst, arith, append_assoc}
 use Rattle.std.proofs.lemmas.List.{take-map, length-map, drop-drop}
 use Rattle.irig_vcd.specs.Recording.{RisesFrom, UpTo}
 use Rattle.irig_track.specs.declared.pulse.Pulse.{Pulse}
@@ -36,14 +37,16 @@ regroup : (d : ℕ) (ls ms rs : List ℕ) → (ls ++ (ms ++ rs)) ++ d ∷ [] ≡
 regroup d ls ms rs = append_assoc ls (ms ++ rs) (d ∷ []) ∙ ap (λ xs. ls ++ xs) (append_assoc ms rs (d ∷ []))
 
 -- the middle of three parts is between the other two
-middle_stands : (top : ℕ) (ls ms rs : List ℕ) → RisesFrom 0 (ls ++ (ms ++ rs)) → UpTo top (ls ++ (ms ++ rs)) → RisesFrom (following 0 ls) (ms ++ first_or (top + 1) rs ∷ [])
+middle_stands : (top : ℕ) (ls ms rs : List ℕ) → RisesFrom 0 (ls ++ (ms ++ rs)) → UpTo top (ls ++ (ms ++ rs))
+    → RisesFrom (following 0 ls) (ms ++ first_or (top + 1) rs ∷ [])
 middle_stands top ls ms rs h u =
     let all : RisesFrom 0 (ls ++ (ms ++ (first_or (top + 1) rs ∷ rest_of (top + 1) rs))) =
     subst (RisesFrom 0) (regroup (top + 1) ls ms rs ∙ ap (λ xs. ls ++ (ms ++ xs)) (first_and_rest (top + 1) rs)) (bounded 0 top _ h u (omega arith)) in
     rises_cut (following 0 ls) (first_or (top + 1) rs) ms (rest_of (top + 1) rs) (rises_split 0 ls _ all).1
 
 -- another middle that fits there makes a rising list too
-stands_middle : (top : ℕ) (ls gs ms rs : List ℕ) → RisesFrom 0 (ls ++ (gs ++ rs)) → UpTo top (ls ++ (gs ++ rs)) → RisesFrom (following 0 ls) (ms ++ first_or (top + 1) rs ∷ [])
+stands_middle : (top : ℕ) (ls gs ms rs : List ℕ) → RisesFrom 0 (ls ++ (gs ++ rs)) → UpTo top (ls ++ (gs ++ rs))
+    → RisesFrom (following 0 ls) (ms ++ first_or (top + 1) rs ∷ [])
     → RisesFrom 0 (ls ++ (ms ++ rs)) × UpTo top (ls ++ (ms ++ rs))
 stands_middle top ls gs ms rs h u m =
     let old : RisesFrom 0 (ls ++ (gs ++ (first_or (top + 1) rs ∷ rest_of (top + 1) rs))) =
@@ -61,7 +64,8 @@ module _ (micros at count start high : ℕ) (put ps : List Pulse) (there : at + 
   pub splice_stands : CanSplice micros at count put ps → RisesFrom start (edges_of put ++ high ∷ [])
   splice_stands can =
       let e = edges_of-three (take at ps) put (drop (at + count) ps) in
-      rw (starts, ends) (middle_stands micros (edges_of (take at ps)) (edges_of put) (edges_of (drop (at + count) ps)) (subst (RisesFrom 0) e can.track.rises) (subst (UpTo micros) e can.track.within))
+      rw (starts, ends) (middle_stands micros (edges_of (take at ps)) (edges_of put) (edges_of (drop (at + count) ps)) (subst (RisesFrom 0) e can.track.rises)
+      (subst (UpTo micros) e can.track.within))
 
   pub splice_few : CanSplice micros at count put ps → length put + length ps ≤ 2 ^ 22 + count
   splice_few can = omega (arith, can.track.few, length-spliced ps put at count there)
@@ -70,8 +74,10 @@ module _ (micros at count start high : ℕ) (put ps : List Pulse) (there : at + 
   pub stands_splice : length put + length ps ≤ 2 ^ 22 + count → RisesFrom start (edges_of put ++ high ∷ []) → CanSplice micros at count put ps
   stands_splice few m =
       let e = edges_of-three (take at ps) put (drop (at + count) ps) in let f = edges_of-parts at count ps in
-      let m2 : RisesFrom (following 0 (edges_of (take at ps))) (edges_of put ++ first_or (micros + 1) (edges_of (drop (at + count) ps)) ∷ []) = rw (← starts, ← ends) m in
-      let both = stands_middle micros (edges_of (take at ps)) (edges_of (piece at count ps)) (edges_of put) (edges_of (drop (at + count) ps)) (subst (RisesFrom 0) f old.rises) (subst (UpTo micros) f old.within) m2 in
+      let m2 : RisesFrom (following 0 (edges_of (take at ps))) (edges_of put ++ first_or (micros + 1) (edges_of (drop (at + count) ps)) ∷ []) =
+      rw (← starts, ← ends) m in
+      let both = stands_middle micros (edges_of (take at ps)) (edges_of (piece at count ps)) (edges_of put) (edges_of (drop (at + count) ps))
+      (subst (RisesFrom 0) f old.rises) (subst (UpTo micros) f old.within) m2 in
       record {
         there = there;
         track = record {
@@ -83,10 +89,12 @@ module _ (micros at count start high : ℕ) (put ps : List Pulse) (there : at + 
       }
 
 -- moved edges keep their order
-moved_rises : (on off low : ℕ) (ps : List Pulse) → RisesFrom low (edges_of ps) → off ≤ low + on → RisesFrom (low + on - off) (edges_of (map (moved_pulse on off) ps))
+moved_rises : (on off low : ℕ) (ps : List Pulse) → RisesFrom low (edges_of ps) → off ≤ low + on
+    → RisesFrom (low + on - off) (edges_of (map (moved_pulse on off) ps))
 moved_rises on off low [] h le = tt
 moved_rises on off low (p ∷ ps) h le =
-    let rest : RisesFrom (p.fall + 1 + on - off) (edges_of (map (moved_pulse on off) ps)) = moved_rises on off (p.fall + 1) ps h.1.1 (omega (arith, h.0, h.1.0)) in
+    let rest : RisesFrom (p.fall + 1 + on - off) (edges_of (map (moved_pulse on off) ps)) =
+    moved_rises on off (p.fall + 1) ps h.1.1 (omega (arith, h.0, h.1.0)) in
     let next : p.fall + 1 + on - off ≡ p.fall + on - off + 1 = omega (arith, h.0, h.1.0) in
     (omega (arith, h.0), (omega (arith, h.0, h.1.0), subst (λ k. RisesFrom k (edges_of (map (moved_pulse on off) ps))) next rest))
 
@@ -112,7 +120,8 @@ module _ (i j : ℕ) (p q : Pulse) (ps : List Pulse) (order : i ≤ j) (first : 
   piece_last : slice_get (drop i ps) (j - i) ≡ Some q
   piece_last =
       let there : i + (j - i) ≡ j = omega arith in
-      sym (first_of_drop (drop i ps) (j - i)) ∙ ap (λ ys. slice_get ys 0) (drop-drop (j - i) i ps) ∙ first_of_drop ps (i + (j - i)) ∙ ap (slice_get ps) there ∙ last
+      sym (first_of_drop (drop i ps) (j - i)) ∙ ap (λ ys. slice_get ys 0) (drop-drop (j - i) i ps) ∙ first_of_drop ps (i + (j - i)) ∙ ap (slice_get ps) there
+      ∙ last
 
   piece_first : piece i (count_to i j) ps ≡ p ∷ take (j - i) (drop (i + 1) ps)
   piece_first = ap (λ k. take k (drop i ps)) piece_count ∙ ap (take (suc (j - i))) (here ps i p first)
@@ -146,7 +155,8 @@ module _ (i j : ℕ) (p q : Pulse) (ps : List Pulse) (order : i ≤ j) (first : 
     first_before_last =
         let rest = p.fall ∷ edges_of (take (j - i) (drop (i + 1) ps)) in
         let opened : RisesFrom p.rise (p.rise ∷ rest) = subst (λ xs. RisesFrom p.rise (edges_of xs)) piece_first (piece_rises old.rises) in
-        let ends_at : following p.rise (p.rise ∷ rest) ≡ q.fall + 1 = subst (λ xs. following p.rise (edges_of xs) ≡ q.fall + 1) piece_first (following-piece p.rise) in
+        let ends_at : following p.rise (p.rise ∷ rest) ≡ q.fall + 1 =
+        subst (λ xs. following p.rise (edges_of xs) ≡ q.fall + 1) piece_first (following-piece p.rise) in
         let above : p.rise + 1 ≤ following (p.rise + 1) rest = low-following (p.rise + 1) rest opened.1 in
         omega (arith, above, ends_at)
 
@@ -156,18 +166,23 @@ module _ (i j : ℕ) (p q : Pulse) (ps : List Pulse) (order : i ≤ j) (first : 
         let ms = moved d (piece i (count_to i j) ps) in
         let can_put : CanSplice micros i (count_to i j) ms ps = record { there = there_too; track = can.track } in
         let both = rises_split start (edges_of ms) (high ∷ []) (splice_stands micros i (count_to i j) start high ms ps there_too old starts ends_too can_put) in
-        let zero_stays : StaysFromZero d (p.rise ∷ p.fall ∷ edges_of (take (j - i) (drop (i + 1) ps))) = subst (λ xs. StaysFromZero d (edges_of xs)) piece_first can.from_zero in
-        let front : RisesFrom start (edges_of (moved d (p ∷ take (j - i) (drop (i + 1) ps)))) = subst (λ xs. RisesFrom start (edges_of (moved d xs))) piece_first both.0 in
+        let zero_stays : StaysFromZero d (p.rise ∷ p.fall ∷ edges_of (take (j - i) (drop (i + 1) ps))) =
+        subst (λ xs. StaysFromZero d (edges_of xs)) piece_first can.from_zero in
+        let front : RisesFrom start (edges_of (moved d (p ∷ take (j - i) (drop (i + 1) ps)))) =
+        subst (λ xs. RisesFrom start (edges_of (moved d xs))) piece_first both.0 in
         (omega (arith, zero_stays.0, front.0), omega (arith, both.1.0, following-moved (ahead d) (back d) start))
 
     -- what stays between its neighbours may be shifted
     pub stands_shift : start + back d ≤ p.rise + ahead d → q.fall + ahead d < high + back d → CanShift micros i j d ps
     stands_shift early late =
         let pc = piece i (count_to i j) ps in let ms = moved d pc in
-        let rises : RisesFrom start (edges_of ms) = rises_more (p.rise + ahead d - back d) start (edges_of ms) (omega arith) (moved_rises (ahead d) (back d) p.rise pc (piece_rises old.rises) (omega arith)) in
+        let rises : RisesFrom start (edges_of ms) = rises_more (p.rise + ahead d - back d) start (edges_of ms) (omega arith)
+        (moved_rises (ahead d) (back d) p.rise pc (piece_rises old.rises) (omega arith)) in
         let bound : following start (edges_of ms) ≤ high = omega (arith, following-moved (ahead d) (back d) start, first_before_last) in
-        let few : length ms + length ps ≤ 2 ^ 22 + count_to i j = omega (arith, old.few, length-map pc (moved_pulse (ahead d) (back d)), length-piece ps i (count_to i j) there_too) in
-        let can : CanSplice micros i (count_to i j) ms ps = stands_splice micros i (count_to i j) start high ms ps there_too old starts ends_too few (rises_joined start (edges_of ms) (high ∷ []) rises (bound, tt)) in
+        let few : length ms + length ps ≤ 2 ^ 22 + count_to i j =
+        omega (arith, old.few, length-map pc (moved_pulse (ahead d) (back d)), length-piece ps i (count_to i j) there_too) in
+        let can : CanSplice micros i (count_to i j) ms ps = stands_splice micros i (count_to i j) start high ms ps there_too old starts ends_too few
+        (rises_joined start (edges_of ms) (high ∷ []) rises (bound, tt)) in
         record {
           order = order;
           there = inside;

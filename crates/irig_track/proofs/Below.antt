@@ -35,7 +35,8 @@ below-flipped t u (x ∷ xs) le = elim (three u x) [
 ]
 
 -- two edges for each pulse that ends before t, and one more if a pulse is high across t
-halves : (t low : ℕ) (ps : List Pulse) → RisesFrom low (edges_of ps) → (2 * ended_before t ps ≤ below t (edges_of ps)) × (below t (edges_of ps) ≤ 2 * ended_before t ps + 1)
+halves : (t low : ℕ) (ps : List Pulse) → RisesFrom low (edges_of ps)
+    → (2 * ended_before t ps ≤ below t (edges_of ps)) × (below t (edges_of ps) ≤ 2 * ended_before t ps + 1)
 halves t low [] h = (omega arith, omega arith)
 halves t low (p ∷ ps) h = elim (below_or_not p.fall t) [
   | inl lt ↦ (
@@ -56,9 +57,11 @@ halves t low (p ∷ ps) h = elim (below_or_not p.fall t) [
 ]
 
 -- a toggle leaves how many pulses end before it
-pub same_below-ended : (a b : ℕ) (old new : List Pulse) → a < b → RisesFrom 0 (edges_of old) → edges_of new ≡ toggled a b (edges_of old) → ended_before a old ≡ ended_before a new
+pub same_below-ended : (a b : ℕ) (old new : List Pulse) → a < b → RisesFrom 0 (edges_of old) → edges_of new ≡ toggled a b (edges_of old)
+    → ended_before a old ≡ ended_before a new
 same_below-ended a b old new lt h e =
     let up : RisesFrom 0 (edges_of new) = rw e (RisesFrom-flipped 0 b _ (omega arith) (RisesFrom-flipped 0 a _ (omega arith) h)) in
     let first = halves a 0 old h in let second = halves a 0 new up in
-    let same : below a (edges_of new) ≡ below a (edges_of old) = ap (below a) e ∙ below-flipped a b (flipped a (edges_of old)) (omega arith) ∙ below-flipped a a (edges_of old) (omega arith) in
+    let same : below a (edges_of new) ≡ below a (edges_of old) = ap (below a) e ∙ below-flipped a b (flipped a (edges_of old)) (omega arith)
+    ∙ below-flipped a a (edges_of old) (omega arith) in
     omega (arith, first.0, first.1, second.0, second.1)

@@ -1,5 +1,6 @@
 -- What edits on pulses do to the set of edges.
-use Rattle.std.proofs.Common.{◌≡◌, ℕ, ◌+◌, ◌<◌, ◌≤◌, ◌==◌, nat_le, Bool, true, false, cond, not, ◌&&◌, ◌||◌, List, [], ◌∷◌, ◌++◌, take, drop, refl, sym, ap, ◌∙◌, subst, ◌⊎◌, inl, inr, arith, append_assoc}
+use Rattle.std.proofs.Common.{◌≡◌, ℕ, ◌+◌, ◌<◌, ◌≤◌, ◌==◌, nat_le, Bool, true, false, cond, not, ◌&&◌, ◌||◌, List, [], ◌∷◌, ◌++◌, take, drop, refl, sym, ap}
+use Rattle.std.proofs.Common.{◌∙◌, subst, ◌⊎◌, inl, inr, arith, append_assoc}
 use Rattle.std.proofs.lemmas.Bool.Decides.{nat_tests}
 use Rattle.std.proofs.lemmas.List.{take-append-drop, drop-drop}
 use Rattle.irig_track.specs.declared.pulse.Pulse.{Pulse}
@@ -7,7 +8,8 @@ use Rattle.irig_vcd.specs.Recording.{RisesFrom, UpTo}
 use Rattle.irig_track.specs.Edges.{Under, has, edges_of, is_edge, with_both, replaced, without, without_between, inverted, pulse}
 use Rattle.irig_track.specs.Toggles.{flipped, toggled}
 use Rattle.irig_track.specs.Splices.{spliced, piece}
-use Rattle.irig_track.proofs.RisingLists.{rises_left, rises_right, has_there, edges_of-append, has-flipped_same, has-flipped_other, RisesFrom-flipped, test_eq, test_ne, under_next}
+use Rattle.irig_track.proofs.RisingLists.{rises_left, rises_right, has_there, edges_of-append, has-flipped_same, has-flipped_other, RisesFrom-flipped, test_eq}
+use Rattle.irig_track.proofs.RisingLists.{test_ne, under_next}
 use Rattle.irig_track.proofs.Sets.{has-append, has-splice, same_or_not}
 
 pub parts : (at count : ℕ) (ps : List Pulse) → take at ps ++ (piece at count ps ++ drop (at + count) ps) ≡ ps
@@ -39,14 +41,18 @@ or_none true = refl
 or_none false = refl
 
 pub two : (a b t : ℕ) → has t (a ∷ b ∷ []) ≡ ((a == t) || (b == t))
-two a b t = elim (a == t) as (λ v. cond v true (cond (b == t) true false) ≡ (v || (b == t))) [ true ↦ refl | false ↦ elim (b == t) as (λ v. cond v true false ≡ v) [ true ↦ refl | false ↦ refl ] ]
+two a b t = elim (a == t) as (λ v. cond v true (cond (b == t) true false) ≡ (v || (b == t)))
+    [ true ↦ refl | false ↦ elim (b == t) as (λ v. cond v true false ≡ v) [ true ↦ refl | false ↦ refl ] ]
 
 -- a pulse inserted
-pub is_edge-inserted : (t at a b : ℕ) (ps : List Pulse) → RisesFrom 0 (edges_of ps) → is_edge t (spliced at 0 (pulse a b ∷ []) ps) ≡ with_both a b t (is_edge t ps)
-is_edge-inserted t at a b ps h = is_edge-spliced t at 0 (pulse a b ∷ []) ps h ∙ keep_or (is_edge t ps) (has t (a ∷ b ∷ [])) ∙ ap (λ v. is_edge t ps || v) (two a b t)
+pub is_edge-inserted : (t at a b : ℕ) (ps : List Pulse) → RisesFrom 0 (edges_of ps)
+    → is_edge t (spliced at 0 (pulse a b ∷ []) ps) ≡ with_both a b t (is_edge t ps)
+is_edge-inserted t at a b ps h = is_edge-spliced t at 0 (pulse a b ∷ []) ps h ∙ keep_or (is_edge t ps) (has t (a ∷ b ∷ []))
+    ∙ ap (λ v. is_edge t ps || v) (two a b t)
 
 -- pulses removed
-pub is_edge-deleted : (t at count : ℕ) (ps : List Pulse) → RisesFrom 0 (edges_of ps) → is_edge t (spliced at count [] ps) ≡ without (edges_of (piece at count ps)) t (is_edge t ps)
+pub is_edge-deleted : (t at count : ℕ) (ps : List Pulse) → RisesFrom 0 (edges_of ps)
+    → is_edge t (spliced at count [] ps) ≡ without (edges_of (piece at count ps)) t (is_edge t ps)
 is_edge-deleted t at count ps h = is_edge-spliced t at count [] ps h ∙ or_none _
 
 -- the bounds of a part between two others
@@ -91,11 +97,13 @@ in_window : (t low high : ℕ) (before ms after : List ℕ) (v : Bool)
 in_window t low high before ms after v h u w r e =
     let middle : RisesFrom 0 ((low ∷ ms) ++ after) = rises_right 0 before ((low ∷ ms) ++ after) h in
     elim (true_or_false (has t (low ∷ ms))) [
-      | inl m ↦ m ∙ sym (window_true low high t (has_low t low (low ∷ ms) (omega arith, rises_left (low + 1) ms after middle.1) m) (has_upto t high (low ∷ ms) w m))
+      | inl m ↦ m ∙ sym (window_true low high t (has_low t low (low ∷ ms) (omega arith, rises_left (low + 1) ms after middle.1) m)
+          (has_upto t high (low ∷ ms) w m))
       | inr m ↦ elim (true_or_false (has t before)) [
         | inl l ↦ m ∙ sym (window_below low high t (has_under t low before u l))
         | inr l ↦ (
-            let last : has t ((low ∷ ms) ++ after) ≡ true = sym (ap (λ z. z || has t ((low ∷ ms) ++ after)) l) ∙ sym (has-append t before ((low ∷ ms) ++ after)) ∙ e in
+            let last : has t ((low ∷ ms) ++ after) ≡ true = sym (ap (λ z. z || has t ((low ∷ ms) ++ after)) l) ∙ sym (has-append t before ((low ∷ ms) ++ after))
+            ∙ e in
             let last2 : has t after ≡ true = sym (ap (λ z. z || has t after) m) ∙ sym (has-append t (low ∷ ms) after) ∙ last in
             (let more : high < t = omega (arith, has_low t (high + 1) after r last2) in m ∙ sym (window_above low high t more)))
       ]
@@ -121,15 +129,19 @@ pub is_edge-joined : (t at count : ℕ) (p q : Pulse) (mid ps : List Pulse) → 
 is_edge-joined t at count p q mid ps is h =
     let b = edges_of (take at ps) in let a = edges_of (drop (at + count) ps) in let m = edges_of mid in
     let gone : List ℕ = p.fall ∷ (m ++ (q.rise ∷ [])) in let left : List ℕ = b ++ (p.rise ∷ []) in
-    let cut : edges_of (piece at count ps) ≡ p.rise ∷ p.fall ∷ (m ++ (q.rise ∷ q.fall ∷ [])) = ap edges_of is ∙ ap (λ es. p.rise ∷ p.fall ∷ es) (edges_of-append mid (q ∷ [])) in
-    let old : edges_of ps ≡ left ++ (gone ++ (q.fall ∷ a)) = edges_of-parts at count ps ∙ ap (λ es. b ++ (es ++ a)) cut ∙ regroup_gone p.rise p.fall q.rise q.fall b m a in
-    let new : edges_of (spliced at count (pulse p.rise q.fall ∷ []) ps) ≡ left ++ ([] ++ (q.fall ∷ a)) = edges_of-three (take at ps) (pulse p.rise q.fall ∷ []) (drop (at + count) ps) ∙ regroup_come p.rise q.fall b a in
+    let cut : edges_of (piece at count ps) ≡ p.rise ∷ p.fall ∷ (m ++ (q.rise ∷ q.fall ∷ [])) =
+    ap edges_of is ∙ ap (λ es. p.rise ∷ p.fall ∷ es) (edges_of-append mid (q ∷ [])) in
+    let old : edges_of ps ≡ left ++ (gone ++ (q.fall ∷ a)) = edges_of-parts at count ps ∙ ap (λ es. b ++ (es ++ a)) cut
+    ∙ regroup_gone p.rise p.fall q.rise q.fall b m a in
+    let new : edges_of (spliced at count (pulse p.rise q.fall ∷ []) ps) ≡ left ++ ([] ++ (q.fall ∷ a)) =
+    edges_of-three (take at ps) (pulse p.rise q.fall ∷ []) (drop (at + count) ps) ∙ regroup_come p.rise q.fall b a in
     let r : RisesFrom 0 (left ++ (gone ++ (q.fall ∷ a))) = subst (RisesFrom 0) old h in
     let tail : RisesFrom 0 (gone ++ (q.fall ∷ a)) = rises_right 0 left (gone ++ (q.fall ∷ a)) r in
     let again : (p.fall ∷ (m ++ (q.rise ∷ []))) ++ (q.fall ∷ a) ≡ (p.fall ∷ m) ++ (q.rise ∷ q.fall ∷ a) = simp append_assoc in
     let tail2 : RisesFrom 0 ((p.fall ∷ m) ++ (q.rise ∷ q.fall ∷ a)) = subst (RisesFrom 0) again tail in
     ap (has t) new ∙ has-splice t left gone [] (q.fall ∷ a) r
-    ∙ same_kept _ _ _ (λ e. in_window t p.fall q.rise left (m ++ (q.rise ∷ [])) (q.fall ∷ a) true r (under_next 0 p.fall left _ r) (upto_last 0 q.rise (p.fall ∷ m) _ tail2) (rises_right 0 (p.fall ∷ m) (q.rise ∷ q.fall ∷ a) tail2).1 e)
+    ∙ same_kept _ _ _ (λ e. in_window t p.fall q.rise left (m ++ (q.rise ∷ [])) (q.fall ∷ a) true r (under_next 0 p.fall left _ r)
+    (upto_last 0 q.rise (p.fall ∷ m) _ tail2) (rises_right 0 (p.fall ∷ m) (q.rise ∷ q.fall ∷ a) tail2).1 e)
     ∙ ap (λ es. without_between p.fall q.rise t (has t es)) (sym old)
 
 -- a symmetric difference
@@ -137,15 +149,18 @@ pub has-toggled : (t a b : ℕ) (xs : List ℕ) → a < b → RisesFrom 0 xs →
 has-toggled t a b xs lt h = elim (same_or_not b t) [
   | inl e ↦ (
       let none : (a == t) ≡ false = test_ne a t (omega arith) in let one : (b == t) ≡ true = test_eq b t e in
-      subst (λ k. has k (toggled a b xs) ≡ not (has k xs)) e (has-flipped_same 0 b (flipped a xs) (RisesFrom-flipped 0 a xs (omega arith) h) ∙ ap not (has-flipped_other a b xs (omega arith)))
+      subst (λ k. has k (toggled a b xs) ≡ not (has k xs)) e
+      (has-flipped_same 0 b (flipped a xs) (RisesFrom-flipped 0 a xs (omega arith) h) ∙ ap not (has-flipped_other a b xs (omega arith)))
       ∙ sym (λ j. cond (none j || one j) (not (has t xs)) (has t xs)))
   | inr n ↦ (
       let none : (b == t) ≡ false = test_ne b t n in
       has-flipped_other b t (flipped a xs) n ∙ elim (same_or_not a t) [
-        | inl e ↦ (let one : (a == t) ≡ true = test_eq a t e in subst (λ k. has k (flipped a xs) ≡ not (has k xs)) e (has-flipped_same 0 a xs h) ∙ sym (λ j. cond (one j || none j) (not (has t xs)) (has t xs)))
+        | inl e ↦ (let one : (a == t) ≡ true = test_eq a t e in subst (λ k. has k (flipped a xs) ≡ not (has k xs)) e (has-flipped_same 0 a xs h)
+            ∙ sym (λ j. cond (one j || none j) (not (has t xs)) (has t xs)))
         | inr m ↦ (let one : (a == t) ≡ false = test_ne a t m in has-flipped_other a t xs m ∙ sym (λ j. cond (one j || none j) (not (has t xs)) (has t xs)))
       ])
 ]
 
-pub is_edge-toggled : (t a b : ℕ) (old new : List Pulse) → a < b → RisesFrom 0 (edges_of old) → edges_of new ≡ toggled a b (edges_of old) → is_edge t new ≡ inverted a b t (is_edge t old)
+pub is_edge-toggled : (t a b : ℕ) (old new : List Pulse) → a < b → RisesFrom 0 (edges_of old) → edges_of new ≡ toggled a b (edges_of old)
+    → is_edge t new ≡ inverted a b t (is_edge t old)
 is_edge-toggled t a b old new lt h e = ap (has t) e ∙ has-toggled t a b (edges_of old) lt h

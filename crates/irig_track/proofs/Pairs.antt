@@ -1,5 +1,6 @@
 -- Edges put together to pulses, and pulses taken apart to edges.
-use Rattle.std.proofs.Common.{◌≡◌, ℕ, ◌+◌, ◌-◌, ◌*◌, ◌<◌, ◌≤◌, true, List, [], ◌∷◌, ◌++◌, length, take, drop, insert, get_or, slice_get, Some, refl, sym, ap, ◌∙◌, arith, append_assoc, length-append, length-drop}
+use Rattle.std.proofs.Common.{◌≡◌, ℕ, ◌+◌, ◌-◌, ◌*◌, ◌<◌, ◌≤◌, true, List, [], ◌∷◌, ◌++◌, length, take, drop, insert, get_or, slice_get, Some, refl, sym, ap}
+use Rattle.std.proofs.Common.{◌∙◌, arith, append_assoc, length-append, length-drop}
 use Rattle.std.proofs.lemmas.List.{take_more, drop_more, append-nil, take_all}
 use Rattle.std.proofs.lemmas.List.Edits.{insert_end}
 use Rattle.std.proofs.lemmas.Option.{slice_get_within, get_or_from_slice_get}
@@ -11,7 +12,8 @@ use Rattle.irig_track.proofs.Recordings.{not-not}
 use Rattle.irig_track.proofs.RisingLists.{edges_of-append}
 
 -- one more pulse taken apart
-pub edges_more : (i : ℕ) (p : Pulse) (ps : List Pulse) → slice_get ps i ≡ Some p → (edges_of (take i ps) ++ p.rise ∷ []) ++ p.fall ∷ [] ≡ edges_of (take (i + 1) ps)
+pub edges_more : (i : ℕ) (p : Pulse) (ps : List Pulse) → slice_get ps i ≡ Some p → (edges_of (take i ps) ++ p.rise ∷ []) ++ p.fall ∷ []
+    ≡ edges_of (take (i + 1) ps)
 edges_more i p ps is =
     append_assoc (edges_of (take i ps)) (p.rise ∷ []) (p.fall ∷ []) ∙ sym (edges_of-append (take i ps) (p ∷ []))
     ∙ ap edges_of (ap (λ y. take i ps ++ y ∷ []) (sym (get_or_from_slice_get ps i p p is)) ∙ sym (take_more ps i p (slice_get_within ps i p is)))
@@ -28,7 +30,8 @@ pub record Paired (i room : ℕ) (edges : List ℕ) (v : GapView Pulse) : Type 0
   pub capacity : v.capacity ≡ room
   pub last : v.place ≡ length v.items
 
-pub none_paired : (at : ℕ) (edges : List ℕ) (u v : GapView Pulse) → u.items ≡ [] → is_even_long edges ≡ true → at ≡ length u.items → v ≡ gap_view u.items at u.capacity → Paired 0 v.capacity edges v
+pub none_paired : (at : ℕ) (edges : List ℕ) (u v : GapView Pulse) → u.items ≡ [] → is_even_long edges ≡ true → at ≡ length u.items
+    → v ≡ gap_view u.items at u.capacity → Paired 0 v.capacity edges v
 none_paired at edges u v none even ae ve =
     let empty : v.items ≡ [] = ap (λ (x : GapView Pulse). x.items) ve ∙ none in
     record {
@@ -71,4 +74,5 @@ even_short (x ∷ y ∷ xs) le h = absurd (omega arith)
 
 pub all_paired : (i capacity : ℕ) (edges : List ℕ) (v : GapView Pulse) → Paired i capacity edges v → length edges - i ≤ 1 → edges_of v.items ≡ edges
 all_paired i capacity edges v h le =
-    sym (append-nil (edges_of v.items)) ∙ ap (λ xs. edges_of v.items ++ xs) (sym (even_short (drop i edges) (omega (arith, length-drop i edges)) h.even)) ∙ h.made
+    sym (append-nil (edges_of v.items)) ∙ ap (λ xs. edges_of v.items ++ xs) (sym (even_short (drop i edges) (omega (arith, length-drop i edges)) h.even))
+    ∙ h.made

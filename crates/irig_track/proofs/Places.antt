@@ -46,7 +46,8 @@ is_edge_none t low (p ∷ ps) h none = elim (below_or_not t p.rise) [
 ]
 
 -- of the pulses that have risen by a time only the last may have an edge there
-pub is_edge_last : (t low n : ℕ) (p : Pulse) (ps : List Pulse) → RisesFrom low (edges_of ps) → risen_by t ps ≡ n + 1 → slice_get ps n ≡ Some p → is_edge t ps ≡ ((p.rise == t) || (p.fall == t))
+pub is_edge_last : (t low n : ℕ) (p : Pulse) (ps : List Pulse) → RisesFrom low (edges_of ps) → risen_by t ps ≡ n + 1 → slice_get ps n ≡ Some p
+    → is_edge t ps ≡ ((p.rise == t) || (p.fall == t))
 is_edge_last t low zero p [] h count is = absurd (cc)
 is_edge_last t low (suc n) p [] h count is = absurd (cc)
 is_edge_last t low zero p (q ∷ ps) h count is = elim (below_or_not t q.rise) [

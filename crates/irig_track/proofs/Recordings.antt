@@ -5,7 +5,8 @@ use Rattle.irig_track.specs.declared.pulse.Pulse.{Pulse}
 use Rattle.irig_track.specs.Edges.{edges_of, has, is_edge}
 use Rattle.irig_track.specs.Toggles.{flipped, toggled, CanToggle}
 use Rattle.irig_track.specs.Track.{IsTrack}
-use Rattle.irig_track.proofs.RisingLists.{three, flip_low, flip_same, flip_high, has_here, has_there, has_none, has-flipped_other, length-edges_of, RisesFrom-flipped, UpTo-flipped}
+use Rattle.irig_track.proofs.RisingLists.{three, flip_low, flip_same, flip_high, has_here, has_there, has_none, has-flipped_other, length-edges_of}
+use Rattle.irig_track.proofs.RisingLists.{RisesFrom-flipped, UpTo-flipped}
 
 pub not-not : (b : Bool) → not (not b) ≡ b
 not-not true = refl
@@ -79,7 +80,8 @@ length-flipped_in t low (x ∷ xs) r h = elim (three t x) [
 ]
 
 -- a toggle within the length that leaves few edges can be made
-pub can_toggle_few : (a b micros : ℕ) (ps : List Pulse) → a < b → b ≤ micros → IsTrack micros ps → length (toggled a b (edges_of ps)) ≤ 2 ^ 23 → CanToggle micros a b ps
+pub can_toggle_few : (a b micros : ℕ) (ps : List Pulse) → a < b → b ≤ micros → IsTrack micros ps → length (toggled a b (edges_of ps)) ≤ 2 ^ 23
+    → CanToggle micros a b ps
 can_toggle_few a b micros ps lt le h few = record {
   order = lt;
   within = le;
@@ -93,24 +95,43 @@ can_toggle_few a b micros ps lt le h few = record {
 }
 
 -- if there is room for one more pulse
-pub can_toggle_room : (a b micros room : ℕ) (ps : List Pulse) → a < b → b ≤ micros → IsTrack micros ps → room + length ps ≡ 2 ^ 22 → 0 < room → CanToggle micros a b ps
+pub can_toggle_room : (a b micros room : ℕ) (ps : List Pulse) → a < b → b ≤ micros → IsTrack micros ps → room + length ps ≡ 2 ^ 22 → 0 < room
+    → CanToggle micros a b ps
 can_toggle_room a b micros room ps lt le h sum some =
-    can_toggle_few a b micros ps lt le h (omega (arith, length-edges_of ps, length-flipped_most a (edges_of ps), length-flipped_most b (flipped a (edges_of ps))))
+    can_toggle_few a b micros ps lt le h (omega (
+      arith,
+      length-edges_of ps,
+      length-flipped_most a (edges_of ps),
+      length-flipped_most b (flipped a (edges_of ps)),
+    ))
 
 -- if an edge goes at a
 pub can_toggle_first : (a b micros : ℕ) (ps : List Pulse) → a < b → b ≤ micros → IsTrack micros ps → is_edge a ps ≡ true → CanToggle micros a b ps
 can_toggle_first a b micros ps lt le h e =
-    can_toggle_few a b micros ps lt le h (omega (arith, h.few, length-edges_of ps, length-flipped_in a 0 (edges_of ps) h.rises e, length-flipped_most b (flipped a (edges_of ps))))
+    can_toggle_few a b micros ps lt le h (omega (
+      arith,
+      h.few,
+      length-edges_of ps,
+      length-flipped_in a 0 (edges_of ps) h.rises e,
+      length-flipped_most b (flipped a (edges_of ps)),
+    ))
 
 -- if an edge goes at b
 pub can_toggle_second : (a b micros : ℕ) (ps : List Pulse) → a < b → b ≤ micros → IsTrack micros ps → is_edge b ps ≡ true → CanToggle micros a b ps
 can_toggle_second a b micros ps lt le h e =
     let same : has b (flipped a (edges_of ps)) ≡ true = has-flipped_other a b (edges_of ps) (omega arith) ∙ e in
     let up : RisesFrom 0 (flipped a (edges_of ps)) = RisesFrom-flipped 0 a _ (omega arith) h.rises in
-    can_toggle_few a b micros ps lt le h (omega (arith, h.few, length-edges_of ps, length-flipped_in b 0 (flipped a (edges_of ps)) up same, length-flipped_most a (edges_of ps)))
+    can_toggle_few a b micros ps lt le h (omega (
+      arith,
+      h.few,
+      length-edges_of ps,
+      length-flipped_in b 0 (flipped a (edges_of ps)) up same,
+      length-flipped_most a (edges_of ps),
+    ))
 
 -- if two edges come to a full track
-pub cannot_toggle : (a b micros room : ℕ) (ps : List Pulse) → room + length ps ≡ 2 ^ 22 → room ≡ 0 → is_edge a ps ≡ false → is_edge b ps ≡ false → CanToggle micros a b ps → ⊥
+pub cannot_toggle : (a b micros room : ℕ) (ps : List Pulse) → room + length ps ≡ 2 ^ 22 → room ≡ 0 → is_edge a ps ≡ false → is_edge b ps ≡ false
+    → CanToggle micros a b ps → ⊥
 cannot_toggle a b micros room ps sum none first second can =
     let lt : a < b = can.order in
     let same : has b (flipped a (edges_of ps)) ≡ false = has-flipped_other a b (edges_of ps) (omega arith) ∙ second in

@@ -1,5 +1,6 @@
 -- How many pulses rise at or before a time.
-use Rattle.std.proofs.Common.{◌≡◌, ℕ, suc, zero, ◌+◌, ◌-◌, ◌<◌, ◌≤◌, nat_le, nat_lt, Bool, true, false, cond, List, [], ◌∷◌, length, slice_get, Some, refl, ap, subst, arith, ◌⊎◌, inl, inr}
+use Rattle.std.proofs.Common.{◌≡◌, ℕ, suc, zero, ◌+◌, ◌-◌, ◌<◌, ◌≤◌, nat_le, nat_lt, Bool, true, false, cond, List, [], ◌∷◌, length, slice_get, Some, refl, ap}
+use Rattle.std.proofs.Common.{subst, arith, ◌⊎◌, inl, inr}
 use Rattle.std.proofs.lemmas.Bool.Decides.{nat_tests}
 use Rattle.irig_track.specs.declared.pulse.Pulse.{Pulse}
 use Rattle.irig_vcd.specs.Recording.{RisesFrom}
@@ -50,7 +51,8 @@ rise_low low (suc i) p (q ∷ ps) h is = omega (arith, h.0, h.1.0, rise_low (q.f
 pub risen_above : (t low i : ℕ) (p : Pulse) (ps : List Pulse) → RisesFrom low (edges_of ps) → slice_get ps i ≡ Some p → p.rise ≤ t → i + 1 ≤ risen_by t ps
 risen_above t low zero p [] h is le = absurd (cc)
 risen_above t low (suc i) p [] h is le = absurd (cc)
-risen_above t low zero p (q ∷ ps) h is le = (let e : q ≡ p = cc in let r : q.rise ≡ p.rise = ap (λ (z : Pulse). z.rise) e in omega (arith, risen_yes t q ps (omega arith)))
+risen_above t low zero p (q ∷ ps) h is le = (let e : q ≡ p = cc in let r : q.rise ≡ p.rise = ap (λ (z : Pulse). z.rise) e in
+    omega (arith, risen_yes t q ps (omega arith)))
 risen_above t low (suc i) p (q ∷ ps) h is le =
     let up = rise_low (q.fall + 1) i p ps h.1.1 is in
     omega (arith, risen_yes t q ps (omega (arith, h.1.0)), risen_above t (q.fall + 1) i p ps h.1.1 is le)
@@ -58,7 +60,8 @@ risen_above t low (suc i) p (q ∷ ps) h is le =
 pub risen_below : (t low i : ℕ) (p : Pulse) (ps : List Pulse) → RisesFrom low (edges_of ps) → slice_get ps i ≡ Some p → t < p.rise → risen_by t ps ≤ i
 risen_below t low zero p [] h is lt = absurd (cc)
 risen_below t low (suc i) p [] h is lt = absurd (cc)
-risen_below t low zero p (q ∷ ps) h is lt = (let e : q ≡ p = cc in let r : q.rise ≡ p.rise = ap (λ (z : Pulse). z.rise) e in omega (arith, risen_none t q.rise (q ∷ ps) (omega arith) (omega arith, h.1)))
+risen_below t low zero p (q ∷ ps) h is lt = (let e : q ≡ p = cc in let r : q.rise ≡ p.rise = ap (λ (z : Pulse). z.rise) e in
+    omega (arith, risen_none t q.rise (q ∷ ps) (omega arith) (omega arith, h.1)))
 risen_below t low (suc i) p (q ∷ ps) h is lt = omega (arith, risen_most t q ps, risen_below t (q.fall + 1) i p ps h.1.1 is lt)
 
 pub risen_by-le : (t : ℕ) (ps : List Pulse) → risen_by t ps ≤ length ps
@@ -84,7 +87,8 @@ risen_ends t q ps n h e = elim (below_or_not q.fall t) [
 ]
 
 -- the last pulse that rises at or before a time reaches it
-pub ended_at_last : (t low n : ℕ) (p : Pulse) (ps : List Pulse) → RisesFrom low (edges_of ps) → risen_by t ps ≡ n + 1 → slice_get ps n ≡ Some p → t ≤ p.fall → ended_before t ps ≡ n
+pub ended_at_last : (t low n : ℕ) (p : Pulse) (ps : List Pulse) → RisesFrom low (edges_of ps) → risen_by t ps ≡ n + 1 → slice_get ps n ≡ Some p → t ≤ p.fall
+    → ended_before t ps ≡ n
 ended_at_last t low zero p [] h e is le = absurd (cc)
 ended_at_last t low (suc n) p [] h e is le = absurd (cc)
 ended_at_last t low zero p (q ∷ ps) h e is le =
@@ -96,7 +100,8 @@ ended_at_last t low (suc n) p (q ∷ ps) h e is le =
     omega (arith, ended_yes t q ps below, ended_at_last t (q.fall + 1) n p ps h.1.1 (omega (arith, risen_yes t q ps (omega (arith, h.1.0)))) is le)
 
 -- the last pulse that rises at or before a time ends before it, or none rises
-pub ended_all : (t low : ℕ) (ps : List Pulse) → RisesFrom low (edges_of ps) → ((n : ℕ) (p : Pulse) → risen_by t ps ≡ n + 1 → slice_get ps n ≡ Some p → p.fall < t) → ended_before t ps ≡ risen_by t ps
+pub ended_all : (t low : ℕ) (ps : List Pulse) → RisesFrom low (edges_of ps)
+    → ((n : ℕ) (p : Pulse) → risen_by t ps ≡ n + 1 → slice_get ps n ≡ Some p → p.fall < t) → ended_before t ps ≡ risen_by t ps
 ended_all t low [] h last = refl
 ended_all t low (q ∷ ps) h last = elim (below_or_not t q.rise) [
   | inl lt ↦ omega (arith, risen_none t q.rise (q ∷ ps) lt (omega arith, h.1), ended_none t q.rise (q ∷ ps) (omega arith) (omega arith, h.1))

@@ -1,5 +1,6 @@
 -- Rising lists as sets.
-use Rattle.std.proofs.Common.{◌≡◌, ℕ, ◌+◌, ◌≢◌, ◌==◌, Bool, true, false, cond, not, ◌&&◌, ◌||◌, List, [], ◌∷◌, ◌++◌, refl, sym, ap, ◌∙◌, subst, ◌⊎◌, inl, inr, arith}
+use Rattle.std.proofs.Common.{◌≡◌, ℕ, ◌+◌, ◌≢◌, ◌==◌, Bool, true, false, cond, not, ◌&&◌, ◌||◌, List, [], ◌∷◌, ◌++◌, refl, sym, ap, ◌∙◌, subst, ◌⊎◌, inl, inr}
+use Rattle.std.proofs.Common.{arith}
 use Rattle.irig_track.specs.declared.pulse.Pulse.{Pulse}
 use Rattle.irig_vcd.specs.Recording.{RisesFrom}
 use Rattle.irig_track.specs.Edges.{has, edges_of, is_edge, pulse}
@@ -7,7 +8,8 @@ use Rattle.irig_track.proofs.RisingLists.{three, rises_right, has_here, has_ther
 
 pub has-append : (t : ℕ) (xs ys : List ℕ) → has t (xs ++ ys) ≡ (has t xs || has t ys)
 has-append t [] ys = refl
-has-append t (x ∷ xs) ys = elim (x == t) as (λ v. cond v true (has t (xs ++ ys)) ≡ (cond v true (has t xs) || has t ys)) [ true ↦ refl | false ↦ has-append t xs ys ]
+has-append t (x ∷ xs) ys = elim (x == t) as (λ v. cond v true (has t (xs ++ ys)) ≡ (cond v true (has t xs) || has t ys))
+    [ true ↦ refl | false ↦ has-append t xs ys ]
 
 pub same_or_not : (x t : ℕ) → (x ≡ t) ⊎ (x ≢ t)
 same_or_not x t = elim (three x t) [ inl lt ↦ inr (omega arith) | inr r ↦ elim r [ inl e ↦ inl e | inr gt ↦ inr (omega arith) ] ]
@@ -40,9 +42,11 @@ or_false true a e = absurd (cc)
 or_false false a e = (refl, e)
 
 -- a splice removes the one part and inserts the other
-pub has-splice : (t : ℕ) (before gone come after : List ℕ) → RisesFrom 0 (before ++ (gone ++ after)) → has t (before ++ (come ++ after)) ≡ ((has t (before ++ (gone ++ after)) && not (has t gone)) || has t come)
+pub has-splice : (t : ℕ) (before gone come after : List ℕ) → RisesFrom 0 (before ++ (gone ++ after))
+    → has t (before ++ (come ++ after)) ≡ ((has t (before ++ (gone ++ after)) && not (has t gone)) || has t come)
 has-splice t before gone come after h =
-    let all : has t (before ++ (gone ++ after)) ≡ (has t before || (has t gone || has t after)) = has-append t before (gone ++ after) ∙ ap (λ v. has t before || v) (has-append t gone after) in
+    let all : has t (before ++ (gone ++ after)) ≡ (has t before || (has t gone || has t after)) = has-append t before (gone ++ after)
+    ∙ ap (λ v. has t before || v) (has-append t gone after) in
     has-append t before (come ++ after) ∙ ap (λ v. has t before || v) (has-append t come after)
     ∙ or_out (has t before) (has t gone) (has t come) (has t after)
     (λ e. has_once 0 t gone after (rises_right 0 before (gone ++ after) h) e)

@@ -1,5 +1,6 @@
 -- Spans, and where a toggle begins and ends.
-use Rattle.std.proofs.Common.{◌≡◌, ℕ, suc, ◌+◌, ◌-◌, ◌<◌, ◌≤◌, List, [], ◌∷◌, ◌++◌, length, take, drop, refl, sym, ap, ◌∙◌, subst, arith, inl, inr, append_assoc, length-append}
+use Rattle.std.proofs.Common.{◌≡◌, ℕ, suc, ◌+◌, ◌-◌, ◌<◌, ◌≤◌, List, [], ◌∷◌, ◌++◌, length, take, drop, refl, sym, ap, ◌∙◌, subst, arith, inl, inr}
+use Rattle.std.proofs.Common.{append_assoc, length-append}
 use Rattle.std.proofs.lemmas.List.{take-append-drop, length-take-le}
 use Rattle.std.proofs.Math.Seq.{take-append_seam, drop-append_seam, drop-append-add}
 use Rattle.irig_gap.specs.Items.{GapView, gap_view}
@@ -20,16 +21,21 @@ span_parts xs gone made ys = record {
   there = omega (arith, length-append xs (gone ++ ys), length-append gone ys);
   came = omega (arith, length-append xs (made ++ ys), length-append made ys);
   before = take-append_seam xs (made ++ ys) ∙ sym (take-append_seam xs (gone ++ ys));
-  after = drop-append-add xs (made ++ ys) (length made) ∙ drop-append_seam made ys ∙ sym (drop-append-add xs (gone ++ ys) (length gone) ∙ drop-append_seam gone ys);
+  after = drop-append-add xs (made ++ ys) (length made) ∙ drop-append_seam made ys
+      ∙ sym (drop-append-add xs (gone ++ ys) (length gone) ∙ drop-append_seam gone ys);
 }
 
-pub span_of : (at n m : ℕ) (old new xs gone made ys : List Pulse) → length xs ≡ at → length gone ≡ n → length made ≡ m → xs ++ (gone ++ ys) ≡ old → xs ++ (made ++ ys) ≡ new → IsSpan at n m old new
+pub span_of : (at n m : ℕ) (old new xs gone made ys : List Pulse) → length xs ≡ at → length gone ≡ n → length made ≡ m → xs ++ (gone ++ ys) ≡ old
+    → xs ++ (made ++ ys) ≡ new → IsSpan at n m old new
 span_of at n m old new xs gone made ys a b c d e =
     subst (λ k. IsSpan k n m old new) a (subst (λ k. IsSpan (length xs) k m old new) b (subst (λ k. IsSpan (length xs) (length gone) k old new) c
-    (subst (λ ps. IsSpan (length xs) (length gone) (length made) ps new) d (subst (λ ps. IsSpan (length xs) (length gone) (length made) (xs ++ (gone ++ ys)) ps) e (span_parts xs gone made ys)))))
+    (subst (λ ps. IsSpan (length xs) (length gone) (length made) ps new) d
+    (subst (λ ps. IsSpan (length xs) (length gone) (length made) (xs ++ (gone ++ ys)) ps) e (span_parts xs gone made ys)))))
 
-pub span_spliced : (at count m : ℕ) (put ps new : List Pulse) → at + count ≤ length ps → length put ≡ m → new ≡ spliced at count put ps → IsSpan at count m ps new
-span_spliced at count m put ps new le long e = span_of at count m ps new (take at ps) (piece at count ps) put (drop (at + count) ps) (length-take-le at ps (omega arith)) (length-piece ps at count le) long (parts at count ps) (sym e)
+pub span_spliced : (at count m : ℕ) (put ps new : List Pulse) → at + count ≤ length ps → length put ≡ m → new ≡ spliced at count put ps
+    → IsSpan at count m ps new
+span_spliced at count m put ps new le long e = span_of at count m ps new (take at ps) (piece at count ps) put (drop (at + count) ps)
+    (length-take-le at ps (omega arith)) (length-piece ps at count le) long (parts at count ps) (sym e)
 
 risen_by-append : (t : ℕ) (xs ys : List Pulse) → risen_by t (xs ++ ys) ≡ risen_by t xs + risen_by t ys
 risen_by-append t [] ys = omega arith
@@ -71,7 +77,8 @@ ended_before-le-risen_by a b low (p ∷ ps) le h = elim (below_or_not p.fall a) 
 ]
 
 -- how many pulses a toggle removed
-pub gone_count : (a b : ℕ) (u v : GapView Pulse) (s : Stays b u v) → a ≤ b → u.place ≤ length u.items → Under a (edges_of (left_of u)) → RisesFrom (b + 1) (edges_of (right_of v)) → risen_by b u.items ≡ u.place + length s.gone
+pub gone_count : (a b : ℕ) (u v : GapView Pulse) (s : Stays b u v) → a ≤ b → u.place ≤ length u.items → Under a (edges_of (left_of u))
+    → RisesFrom (b + 1) (edges_of (right_of v)) → risen_by b u.items ≡ u.place + length s.gone
 gone_count a b u v s le inside under late =
     let r : drop u.place u.items ≡ s.gone ++ right_of v = s.right in
     omega (
@@ -90,7 +97,8 @@ pub made_count : (b : ℕ) (u v : GapView Pulse) (s : Stays b u v) → u.place �
 made_count b u v s p q = let l : take v.place v.items ≡ take u.place u.items ++ s.made = s.left in
     omega (arith, ap length l, length-append (take u.place u.items) s.made, length-take-le u.place u.items p, length-take-le v.place v.items q)
 
-pub span_toggled : (a b n m : ℕ) (u v : GapView Pulse) → Stays b u v → a ≤ b → u.place ≤ length u.items → v.place ≤ length v.items → Under a (edges_of (left_of u)) → RisesFrom (b + 1) (edges_of (right_of v))
+pub span_toggled : (a b n m : ℕ) (u v : GapView Pulse) → Stays b u v → a ≤ b → u.place ≤ length u.items → v.place ≤ length v.items
+    → Under a (edges_of (left_of u)) → RisesFrom (b + 1) (edges_of (right_of v))
     → n ≡ risen_by b u.items - u.place → m ≡ v.place - u.place → IsSpan u.place n m u.items v.items
 span_toggled a b n m u v s le p q under late ne me =
     let l : take v.place v.items ≡ take u.place u.items ++ s.made = s.left in
@@ -105,7 +113,8 @@ pub ended_before-le : (a low : ℕ) (ps : List Pulse) → RisesFrom low (edges_o
 ended_before-le a low ps h = omega (arith, ended_before-le-risen_by a a low ps (omega arith) h, risen_by-le a ps)
 
 -- how many pulses a toggle left
-came_count : (a b : ℕ) (u v : GapView Pulse) (s : Stays b u v) → a ≤ b → u.place ≤ length u.items → v.place ≤ length v.items → Under a (edges_of (left_of u)) → RisesFrom (b + 1) (edges_of (right_of v)) → risen_by b v.items ≡ v.place
+came_count : (a b : ℕ) (u v : GapView Pulse) (s : Stays b u v) → a ≤ b → u.place ≤ length u.items → v.place ≤ length v.items → Under a (edges_of (left_of u))
+    → RisesFrom (b + 1) (edges_of (right_of v)) → risen_by b v.items ≡ v.place
 came_count a b u v s le p q under late =
     let early : RiseUpTo b (left_of v) = subst (RiseUpTo b) (sym s.left) (RiseUpTo-append b (left_of u) s.made (under_all a b (left_of u) le under) s.late) in
     omega (
@@ -125,7 +134,8 @@ pub record ToggleSpan (a b at before end : ℕ) (old new : List Pulse) : Type 0 
   pub ended : at ≡ ended_before a new
   pub risen : at + (end - at) ≡ risen_by b new
 
-pub toggle_spanned : (a b at before end : ℕ) (g u v : GapView Pulse) → a < b → RisesFrom 0 (edges_of g.items) → at ≡ ended_before a g.items → before ≡ risen_by b g.items
+pub toggle_spanned : (a b at before end : ℕ) (g u v : GapView Pulse) → a < b → RisesFrom 0 (edges_of g.items) → at ≡ ended_before a g.items
+    → before ≡ risen_by b g.items
     → u ≡ gap_view g.items at g.capacity → Stays b u v → RisesFrom (b + 1) (edges_of (right_of v)) → end ≡ v.place → v.place ≤ length v.items
     → edges_of v.items ≡ toggled a b (edges_of g.items)
     → ToggleSpan a b at before end g.items v.items

@@ -1,5 +1,6 @@
 -- Values on other codes, which say nothing.
-use Rattle.std.proofs.Common.{◌≡◌, ◌<◌, ◌≤◌, ◌+◌, ◌∷◌, ◌==◌, ◌&&◌, ◌⊎◌, [], ℕ, true, false, List, length, drop, filter, get_or, nat_le, None, Ok, inl, inr, refl, ap, sym, ◌∙◌, arith}
+use Rattle.std.proofs.Common.{◌≡◌, ◌<◌, ◌≤◌, ◌+◌, ◌∷◌, ◌==◌, ◌&&◌, ◌⊎◌, [], ℕ, true, false, List, length, drop, filter, get_or, nat_le, None, Ok, inl, inr}
+use Rattle.std.proofs.Common.{refl, ap, sym, ◌∙◌, arith}
 use Rattle.std.specs.Str.{bytes_eq}
 use Rattle.std.proofs.lemmas.Bool.{and_right, lt-leb, ne_eqb, or_from}
 use Rattle.irig_vcd.specs.Changes.{changes_from}
@@ -17,7 +18,8 @@ use Rattle.irig_vcd.proofs.Runs.{begins, newline, skips}
 
 -- a byte above a space is no white space
 pub dark_byte : (b : ℕ) → 32 < b → is_space b ≡ false
-dark_byte b low = or_from (nat_le 9 b && nat_le b 13) (b == 32) (and_right (nat_le 9 b) (nat_le b 13) (lt-leb b 13 (omega arith))) (ne_eqb b 32 (λ e. omega arith))
+dark_byte b low = or_from (nat_le 9 b && nat_le b 13) (b == 32) (and_right (nat_le 9 b) (nat_le b 13) (lt-leb b 13 (omega arith)))
+    (ne_eqb b 32 (λ e. omega arith))
 
 -- a space ends a word
 space : (s : List ℕ) (i : ℕ) → get_or s i 0 ≡ 32 → is_space (get_or s i 0) ≡ true
@@ -99,7 +101,8 @@ pub apart_on : (code : List ℕ) (unit last : ℕ) (old new : List Word) → Tak
     → changes_from any_word code unit last old ≡ changes_from any_word code unit last new
 apart_on code unit last old new takes = elim takes [
   | inl a ↦ on_level code unit last old a.word new new None a.left (ap is_hash a.kind) (apart_level code a.word new a.kind a.level)
-  | inr v ↦ on_level code unit last old v.word (v.next ∷ new) new None v.left (no_time v.word.kind v.kind) (value_read v.word.kind code v.word v.next new v.kind v.level)
+  | inr v ↦ on_level code unit last old v.word (v.next ∷ new) new None v.left (no_time v.word.kind v.kind)
+      (value_read v.word.kind code v.word v.next new v.kind v.level)
 ]
 
 -- and so are the journals

@@ -1,5 +1,6 @@
 -- The lines of a pulse in a buffer whose digits count up.
-use Rattle.std.proofs.Common.{◌≡◌, ◌<◌, ◌+◌, ◌-◌, ◌/◌, ◌%◌, ◌^◌, ◌∷◌, ◌++◌, [], ℕ, suc, List, eq-zero-or-pos, inl, inr, get_or, length, length-append, set, decimal, ap, sym, ◌∙◌, arith, append_assoc}
+use Rattle.std.proofs.Common.{◌≡◌, ◌<◌, ◌+◌, ◌-◌, ◌/◌, ◌%◌, ◌^◌, ◌∷◌, ◌++◌, [], ℕ, suc, List, eq-zero-or-pos, inl, inr, get_or, length, length-append, set}
+use Rattle.std.proofs.Common.{decimal, ap, sym, ◌∙◌, arith, append_assoc}
 use Rattle.std.proofs.Math.Seq.{get_or-append_seam, set-append_seam}
 use Rattle.std.proofs.lemmas.Fmt.{decimal_digit, decimal_step}
 use Rattle.irig_vcd.specs.Code.KeptPulse.{HoldsPulse, front, pulse_parts}
@@ -19,7 +20,8 @@ by_last k few = elim (eq-zero-or-pos (10 - k)) [
     next = λ low.
         let front_is : (k + 1) / 10 ≡ k / 10 = omega (arith, low) in
         let last_is : 48 + (k + 1) % 10 ≡ 48 + k % 10 + 1 = omega (arith, low) in
-        ap (λ (d : List ℕ). 35 ∷ d) (decimal_step (k + 1) (omega arith) few ∙ (ap (λ n. decimal n ++ ((48 + (k + 1) % 10) ∷ [])) front_is ∙ ap (λ n. decimal (k / 10) ++ (n ∷ [])) last_is));
+        ap (λ (d : List ℕ). 35 ∷ d) (decimal_step (k + 1) (omega arith) few
+        ∙ (ap (λ n. decimal n ++ ((48 + (k + 1) % 10) ∷ [])) front_is ∙ ap (λ n. decimal (k / 10) ++ (n ∷ [])) last_is));
   }
   | inr small ↦ record {
     same = 35 ∷ [];
@@ -45,7 +47,8 @@ fall_set q rise rest a b u i at =
     let p = q ++ (a ∷ (rise ++ (10 ∷ 49 ∷ 33 ∷ 10 ∷ q))) in
     let apart : (z : List ℕ) → q ++ (a ∷ (rise ++ (10 ∷ 49 ∷ 33 ∷ 10 ∷ (q ++ z)))) ≡ p ++ z =
     λ z. sym (append_assoc q (a ∷ (rise ++ (10 ∷ 49 ∷ 33 ∷ 10 ∷ q))) z ∙ ap (λ (l : List ℕ). q ++ (a ∷ l)) (append_assoc rise (10 ∷ 49 ∷ 33 ∷ 10 ∷ q) z)) in
-    let long : length p ≡ i = length-append q (a ∷ (rise ++ (10 ∷ 49 ∷ 33 ∷ 10 ∷ q))) ∙ (ap (λ n. length q + suc n) (length-append rise (10 ∷ 49 ∷ 33 ∷ 10 ∷ q)) ∙ omega (arith, at)) in
+    let long : length p ≡ i = length-append q (a ∷ (rise ++ (10 ∷ 49 ∷ 33 ∷ 10 ∷ q)))
+    ∙ (ap (λ n. length q + suc n) (length-append rise (10 ∷ 49 ∷ 33 ∷ 10 ∷ q)) ∙ omega (arith, at)) in
     ap (λ (l : List ℕ). set l i u) (apart (b ∷ rest))
     ∙ (ap (λ n. set (p ++ (b ∷ rest)) n u) (sym long) ∙ (set-append_seam p b rest u ∙ sym (apart (u ∷ rest))))
 

@@ -1,5 +1,6 @@
 -- Neighbouring lanes, joined by one multiplication.
-use Rattle.std.proofs.Common.{◌≡◌, ℕ, zero, suc, ◌+◌, ◌*◌, ◌/◌, ◌%◌, ◌^◌, ◌<◌, List, [], ◌∷◌, length, refl, ◌∙◌, ap, arith, get_or, pow-suc, div-add-mod', div-lt_iff_lt-mul}
+use Rattle.std.proofs.Common.{◌≡◌, ℕ, zero, suc, ◌+◌, ◌*◌, ◌/◌, ◌%◌, ◌^◌, ◌<◌, List, [], ◌∷◌, length, refl, ◌∙◌, ap, arith, get_or, pow-suc, div-add-mod'}
+use Rattle.std.proofs.Common.{div-lt_iff_lt-mul}
 use Rattle.std.specs.Int.Digits.{AllBelowBase, number_from_digits}
 use lib.Lanes.{number_l, digits_l}
 use Rattle.irig_vcd.specs.Code.Lanes.{joined}
@@ -45,7 +46,17 @@ fours_are (suc n) (a ∷ b ∷ xs) long h =
     (λ i. (ap (λ y. y * 6553601 % 4294967296 / 65536) low ∙ two) i ∷ fours_of n (on i)) ∙ ap (λ l. (100 * a + b) ∷ l) (fours_are n xs (omega arith) h.1.1)
 
 short_of : (xs : List ℕ) → length xs ≡ 8 → AllBelowBase 100 xs → number_l 65536 xs < 256 ^ 16
-short_of (a ∷ b ∷ c ∷ d ∷ e ∷ f ∷ g ∷ k ∷ []) long h = omega (arith, h.0, h.1.0, h.1.1.0, h.1.1.1.0, h.1.1.1.1.0, h.1.1.1.1.1.0, h.1.1.1.1.1.1.0, h.1.1.1.1.1.1.1.0)
+short_of (a ∷ b ∷ c ∷ d ∷ e ∷ f ∷ g ∷ k ∷ []) long h = omega (
+  arith,
+  h.0,
+  h.1.0,
+  h.1.1.0,
+  h.1.1.1.0,
+  h.1.1.1.1.0,
+  h.1.1.1.1.1.0,
+  h.1.1.1.1.1.1.0,
+  h.1.1.1.1.1.1.1.0,
+)
 short_of [] long h = absurd (omega arith)
 short_of (a ∷ []) long h = absurd (omega arith)
 short_of (a ∷ b ∷ []) long h = absurd (omega arith)
@@ -61,7 +72,8 @@ fours_again xs long h = ap (fours_of 4) (number_of_digits 256 16 (number_l 65536
 
 -- ---- what joined digits spell
 
-joined_below : (base wide : ℕ) → ((a b : ℕ) → a < base → b < base → base * a + b < wide) → (xs : List ℕ) → AllBelowBase base xs → AllBelowBase wide (joined base xs)
+joined_below : (base wide : ℕ) → ((a b : ℕ) → a < base → b < base → base * a + b < wide) → (xs : List ℕ) → AllBelowBase base xs
+    → AllBelowBase wide (joined base xs)
 joined_below base wide fits [] h = tt
 joined_below base wide fits (a ∷ []) h = tt
 joined_below base wide fits (a ∷ b ∷ xs) h = (fits a b h.0 h.1.0, joined_below base wide fits xs h.1.1)
@@ -75,7 +87,10 @@ below_10000 = joined_below 100 10000 (λ a b x y. omega (arith, x, y))
 abbrev word_of : List ℕ → ℕ
 word_of xs = number_l 256 (digits_l 256 16 (number_l 4294967296 xs))
 
-pub eights_are : (xs : List ℕ) (r s : ℕ) → length xs ≡ 4 → AllBelowBase 10000 xs → ((a b : ℕ) → word_of xs % 18446744073709551616 ≡ a + 2 ^ 32 * b → a < 10000 → b < 10000 → r ≡ 10000 * a + b) → ((a b : ℕ) → word_of xs / 18446744073709551616 % 18446744073709551616 ≡ a + 2 ^ 32 * b → a < 10000 → b < 10000 → s ≡ 10000 * a + b) → r ∷ s ∷ [] ≡ joined 10000 xs
+pub eights_are : (xs : List ℕ) (r s : ℕ) → length xs ≡ 4 → AllBelowBase 10000 xs
+    → ((a b : ℕ) → word_of xs % 18446744073709551616 ≡ a + 2 ^ 32 * b → a < 10000 → b < 10000 → r ≡ 10000 * a + b)
+    → ((a b : ℕ) → word_of xs / 18446744073709551616 % 18446744073709551616 ≡ a + 2 ^ 32 * b → a < 10000 → b < 10000 → s ≡ 10000 * a + b)
+    → r ∷ s ∷ [] ≡ joined 10000 xs
 eights_are ([]) r s long h first second = absurd (omega arith)
 eights_are (d0 ∷ []) r s long h first second = absurd (omega arith)
 eights_are (d0 ∷ d1 ∷ []) r s long h first second = absurd (omega arith)
@@ -90,7 +105,8 @@ eights_are (d0 ∷ d1 ∷ d2 ∷ d3 ∷ []) r s long h first second =
     λ i. p i ∷ q i ∷ []
 eights_are (d0 ∷ d1 ∷ d2 ∷ d3 ∷ more ∷ rest) r s long h first second = absurd (omega arith)
 
-pub value_of : (xs : List ℕ) → length xs ≡ 16 → AllBelowBase 10 xs → let p = joined 10000 (joined 100 (joined 10 xs)) in (get_or p 0 0 * 100000000 + get_or p 1 0 ≡ number_from_digits 10 xs) × (get_or p 0 0 * 100000000 + get_or p 1 0 < 2 ^ 64)
+pub value_of : (xs : List ℕ) → length xs ≡ 16 → AllBelowBase 10 xs → let p = joined 10000 (joined 100 (joined 10 xs)) in
+    (get_or p 0 0 * 100000000 + get_or p 1 0 ≡ number_from_digits 10 xs) × (get_or p 0 0 * 100000000 + get_or p 1 0 < 2 ^ 64)
 value_of ([]) long h = absurd (omega arith)
 value_of (d0 ∷ []) long h = absurd (omega arith)
 value_of (d0 ∷ d1 ∷ []) long h = absurd (omega arith)
@@ -107,5 +123,26 @@ value_of (d0 ∷ d1 ∷ d2 ∷ d3 ∷ d4 ∷ d5 ∷ d6 ∷ d7 ∷ d8 ∷ d9 ∷ 
 value_of (d0 ∷ d1 ∷ d2 ∷ d3 ∷ d4 ∷ d5 ∷ d6 ∷ d7 ∷ d8 ∷ d9 ∷ d10 ∷ d11 ∷ d12 ∷ []) long h = absurd (omega arith)
 value_of (d0 ∷ d1 ∷ d2 ∷ d3 ∷ d4 ∷ d5 ∷ d6 ∷ d7 ∷ d8 ∷ d9 ∷ d10 ∷ d11 ∷ d12 ∷ d13 ∷ []) long h = absurd (omega arith)
 value_of (d0 ∷ d1 ∷ d2 ∷ d3 ∷ d4 ∷ d5 ∷ d6 ∷ d7 ∷ d8 ∷ d9 ∷ d10 ∷ d11 ∷ d12 ∷ d13 ∷ d14 ∷ []) long h = absurd (omega arith)
-value_of (d0 ∷ d1 ∷ d2 ∷ d3 ∷ d4 ∷ d5 ∷ d6 ∷ d7 ∷ d8 ∷ d9 ∷ d10 ∷ d11 ∷ d12 ∷ d13 ∷ d14 ∷ d15 ∷ []) long h = (omega arith, omega (arith, h.0, h.1.0, h.1.1.0, h.1.1.1.0, h.1.1.1.1.0, h.1.1.1.1.1.0, h.1.1.1.1.1.1.0, h.1.1.1.1.1.1.1.0, h.1.1.1.1.1.1.1.1.0, h.1.1.1.1.1.1.1.1.1.0, h.1.1.1.1.1.1.1.1.1.1.0, h.1.1.1.1.1.1.1.1.1.1.1.0, h.1.1.1.1.1.1.1.1.1.1.1.1.0, h.1.1.1.1.1.1.1.1.1.1.1.1.1.0, h.1.1.1.1.1.1.1.1.1.1.1.1.1.1.0, h.1.1.1.1.1.1.1.1.1.1.1.1.1.1.1.0))
+value_of (d0 ∷ d1 ∷ d2 ∷ d3 ∷ d4 ∷ d5 ∷ d6 ∷ d7 ∷ d8 ∷ d9 ∷ d10 ∷ d11 ∷ d12 ∷ d13 ∷ d14 ∷ d15 ∷ []) long h = (
+  omega arith,
+  omega (
+    arith,
+    h.0,
+    h.1.0,
+    h.1.1.0,
+    h.1.1.1.0,
+    h.1.1.1.1.0,
+    h.1.1.1.1.1.0,
+    h.1.1.1.1.1.1.0,
+    h.1.1.1.1.1.1.1.0,
+    h.1.1.1.1.1.1.1.1.0,
+    h.1.1.1.1.1.1.1.1.1.0,
+    h.1.1.1.1.1.1.1.1.1.1.0,
+    h.1.1.1.1.1.1.1.1.1.1.1.0,
+    h.1.1.1.1.1.1.1.1.1.1.1.1.0,
+    h.1.1.1.1.1.1.1.1.1.1.1.1.1.0,
+    h.1.1.1.1.1.1.1.1.1.1.1.1.1.1.0,
+    h.1.1.1.1.1.1.1.1.1.1.1.1.1.1.1.0,
+  ),
+)
 value_of (d0 ∷ d1 ∷ d2 ∷ d3 ∷ d4 ∷ d5 ∷ d6 ∷ d7 ∷ d8 ∷ d9 ∷ d10 ∷ d11 ∷ d12 ∷ d13 ∷ d14 ∷ d15 ∷ more ∷ rest) long h = absurd (omega arith)

@@ -37,7 +37,8 @@ closed first (Ok x) = comment first x.0 ∷ comments_from any_word None x.1
 closed first (Err e) = []
 
 closed_now : (ends : Bool) (first : Word) (offset : ℕ) (ws : List Word) → comments_from comment_word (Some first) ws ≡ closed first (end_read ws)
-    → (cond ends (comment first offset ∷ comments_from any_word None ws) (comments_from comment_word (Some first) ws)) ≡ closed first (cond ends (Ok (offset, ws)) (end_read ws))
+    → (cond ends (comment first offset ∷ comments_from any_word None ws) (comments_from comment_word (Some first) ws))
+    ≡ closed first (cond ends (Ok (offset, ws)) (end_read ws))
 closed_now true first offset ws ih = refl
 closed_now false first offset ws ih = ih
 
@@ -45,11 +46,13 @@ closes : (first : Word) (ws : List Word) → comments_from comment_word (Some fi
 closes first [] = refl
 closes first (w ∷ ws) = closed_now (is_end w.bytes) first w.offset ws (closes first ws)
 
-only_journals : (b : Bool) (c : Comment) (rest : List Comment) → is_journal c ≡ b → filter is_journal (c ∷ rest) ≡ cond b (c ∷ filter is_journal rest) (filter is_journal rest)
+only_journals : (b : Bool) (c : Comment) (rest : List Comment) → is_journal c ≡ b
+    → filter is_journal (c ∷ rest) ≡ cond b (c ∷ filter is_journal rest) (filter is_journal rest)
 only_journals b c rest is = rw is refl
 
 -- the journals after the word that begins a comment
-pub in_comment : (b : Bool) (left : List Word) (w : Word) (ws rest : List Word) (end : ℕ) → left ≡ w ∷ ws → is_end w.bytes ≡ false → end_read ws ≡ Ok (end, rest) → bytes_eq w.bytes (codes "irig-journal-1") ≡ b
+pub in_comment : (b : Bool) (left : List Word) (w : Word) (ws rest : List Word) (end : ℕ) → left ≡ w ∷ ws → is_end w.bytes ≡ false
+    → end_read ws ≡ Ok (end, rest) → bytes_eq w.bytes (codes "irig-journal-1") ≡ b
     → filter is_journal (comments_from comment_word None left) ≡ cond b (comment w end ∷ journals_among rest) (journals_among rest)
 in_comment b left w ws rest end is more h first =
     rw (is, more) (ap (filter is_journal) (closes w ws ∙ ap (closed w) h) ∙ only_journals b (comment w end) (comments_from any_word None rest) first)
@@ -63,7 +66,8 @@ pub keeps_none : (left rest : List Comment) (j : Journals) → left ≡ rest →
 keeps_none left rest j same = λ done h. ([], rw append-nil h, same)
 
 -- a journal is kept
-pub keeps_one : (left rest : List Comment) (c : Comment) (old new : Journals) → left ≡ c ∷ rest → ((done : List Comment) → Holds done old → Holds (done ++ c ∷ []) new) → KeepsJournals left rest old new
+pub keeps_one : (left rest : List Comment) (c : Comment) (old new : Journals) → left ≡ c ∷ rest
+    → ((done : List Comment) → Holds done old → Holds (done ++ c ∷ []) new) → KeepsJournals left rest old new
 keeps_one left rest c old new is puts = λ done h. (c ∷ [], puts done h, is)
 
 pub keeps_on : (all left rest : List Comment) (old new : Journals) → HoldsUpTo all left old → KeepsJournals left rest old new → HoldsUpTo all rest new
@@ -111,5 +115,6 @@ pub past_mark : (w : Word) (ws : List Word) → w.kind ≡ dollar → is_mark w.
 past_mark w ws kind h = rw (kind, mark_apart w.bytes h) refl
 
 -- a comment begins
-pub into_comment : (w : Word) (ws : List Word) → w.kind ≡ dollar → is_comment w.bytes ≡ true → journals_among (w ∷ ws) ≡ filter is_journal (comments_from comment_word None ws)
+pub into_comment : (w : Word) (ws : List Word) → w.kind ≡ dollar → is_comment w.bytes ≡ true
+    → journals_among (w ∷ ws) ≡ filter is_journal (comments_from comment_word None ws)
 into_comment w ws kind h = rw (kind, h) refl

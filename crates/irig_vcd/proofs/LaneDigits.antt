@@ -1,5 +1,6 @@
 -- The digits of a number among sixteen bytes.
-use Rattle.std.proofs.Common.{◌≡◌, ◌<◌, ◌≤◌, ◌+◌, ◌-◌, ◌*◌, ◌%◌, ◌^◌, ◌++◌, ◌∷◌, [], ℕ, zero, suc, true, false, not, List, length, drop, take, get_or, map, replicate, nat_le, leb, cond, w8, Fits, refl, ap, subst, ◌∙◌, arith}
+use Rattle.std.proofs.Common.{◌≡◌, ◌<◌, ◌≤◌, ◌+◌, ◌-◌, ◌*◌, ◌%◌, ◌^◌, ◌++◌, ◌∷◌, [], ℕ, zero, suc, true, false, not, List, length, drop, take, get_or, map}
+use Rattle.std.proofs.Common.{replicate, nat_le, leb, cond, w8, Fits, refl, ap, subst, ◌∙◌, arith}
 use Rattle.std.specs.List.{list_all}
 use Rattle.std.specs.Int.Digits.{number_from_digits, number_from_digits_after, AllBelowBase}
 use Rattle.std.proofs.lemmas.Nat.{and_mask, and_le_r}
@@ -7,7 +8,8 @@ use Rattle.std.proofs.lemmas.Bool.{leb-false, leb-true, and_parts}
 use Rattle.std.proofs.lemmas.List.{drop-map, drop-take, drop-drop}
 use lib.Count.{count_trailing_zeros}
 use Rattle.std.specs.List.{prefix_len}
-use Rattle.std.proofs.lemmas.Simd.{trailing_mask_l, length-chunk, run_in_chunk_le, run_in_chunk_fails, zip2_splat, zip2_splat_left, tops_compared, map-map, mask_l-mod}
+use Rattle.std.proofs.lemmas.Simd.{trailing_mask_l, length-chunk, run_in_chunk_le, run_in_chunk_fails, zip2_splat, zip2_splat_left, tops_compared, map-map}
+use Rattle.std.proofs.lemmas.Simd.{mask_l-mod}
 use Rattle.std.proofs.lemmas.List.{length-map}
 use lib.Bits.{bit_and}
 use lib.Lanes.{zip2, mask_l, top, Each1, chunk}
@@ -22,7 +24,8 @@ less_48 b = (b + 208) % 256
 
 -- the mask of the bytes that are no digits
 pub mask_is : (v : List ℕ) → length v ≡ 16
-    → mask_l (map (top 7) (zip2 (λ a b. cond (leb a b) 255 0) (replicate 16 10) (zip2 (λ a b. (a + (256 - b)) % 256) v (replicate 16 48)))) % 2 ^ 64 ≡ mask_l (map shows_none v)
+    → mask_l (map (top 7) (zip2 (λ a b. cond (leb a b) 255 0) (replicate 16 10) (zip2 (λ a b. (a + (256 - b)) % 256) v (replicate 16 48)))) % 2 ^ 64
+    ≡ mask_l (map shows_none v)
 mask_is v long =
     let less : zip2 (λ a b. (a + (256 - b)) % 256) v (replicate 16 48) ≡ map less_48 v = zip2_splat (λ a b. (a + (256 - b)) % 256) v 16 48 long in
     let many : length (map less_48 v) ≡ 16 = length-map v less_48 ∙ long in
@@ -84,7 +87,8 @@ window (suc (suc (suc (suc (suc (suc (suc (suc (suc (suc (suc (suc (suc (suc (su
 window (suc (suc (suc (suc (suc (suc (suc (suc (suc (suc (suc (suc (suc (suc (suc (suc zero)))))))))))))))) h = refl
 window (suc (suc (suc (suc (suc (suc (suc (suc (suc (suc (suc (suc (suc (suc (suc (suc (suc c))))))))))))))))) h = absurd (omega arith)
 
-pub last_stay : (bs : List ℕ) (c : ℕ) → c ≤ 16 → length bs ≡ 16 → Each1 (Fits w8) bs → zip2 bit_and bs (take 16 (take (32 - c) (drop c keep))) ≡ replicate (16 - c) 0 ++ drop (16 - c) bs
+pub last_stay : (bs : List ℕ) (c : ℕ) → c ≤ 16 → length bs ≡ 16 → Each1 (Fits w8) bs → zip2 bit_and bs (take 16 (take (32 - c) (drop c keep)))
+    ≡ replicate (16 - c) 0 ++ drop (16 - c) bs
 last_stay bs c h long fits = ap (zip2 bit_and bs) (window c h) ∙ stay bs (16 - c) c (omega arith) fits
 
 -- ---- the number
@@ -128,11 +132,14 @@ kept_is s from c back h =
     ap (λ l. replicate (16 - c) 0 ++ l) (drop-map less_48 (16 - c) (take 16 (drop (from + c - 16) s)) ∙ ap (map less_48) cut)
 
 pub kept_below : (s : List ℕ) (from c : ℕ) → 16 ≤ from → c ≤ 16 → list_all is_digit (take c (drop from s)) ≡ true → AllBelowBase 10 (kept s from c)
-kept_below s from c back h digits = rw (kept_is s from c back h) (zeros_below (16 - c) (map less_48 (take c (drop from s))) (digits_below (take c (drop from s)) digits))
+kept_below s from c back h digits = rw (kept_is s from c back h)
+    (zeros_below (16 - c) (map less_48 (take c (drop from s))) (digits_below (take c (drop from s)) digits))
 
-pub kept_spell : (s : List ℕ) (from c : ℕ) → 16 ≤ from → c ≤ 16 → list_all is_digit (take c (drop from s)) ≡ true → number_from_digits 10 (kept s from c) ≡ number_from 0 (take c (drop from s))
+pub kept_spell : (s : List ℕ) (from c : ℕ) → 16 ≤ from → c ≤ 16 → list_all is_digit (take c (drop from s)) ≡ true
+    → number_from_digits 10 (kept s from c) ≡ number_from 0 (take c (drop from s))
 kept_spell s from c back h digits =
-    ap (number_from_digits 10) (kept_is s from c back h) ∙ (zeros_first (16 - c) (map less_48 (take c (drop from s))) ∙ digits_spell (take c (drop from s)) 0 digits)
+    ap (number_from_digits 10) (kept_is s from c back h) ∙ (zeros_first (16 - c) (map less_48 (take c (drop from s)))
+    ∙ digits_spell (take c (drop from s)) 0 digits)
 
 -- ---- the run
 
@@ -142,7 +149,8 @@ DigitRun s from i =
     × (before_space (drop from s) ≡ take (i - from) (drop from s) ++ before_space (drop i s))
     × (list_all is_digit (take (i - from) (drop from s)) ≡ true)
 
-pub digit_run : (c : ℕ) (s : List ℕ) (from i : ℕ) → i ≡ from + c → i ≤ length s → ((k : ℕ) → from ≤ k → k < i → (48 ≤ get_or s k 0) × (get_or s k 0 ≤ 57)) → DigitRun s from i
+pub digit_run : (c : ℕ) (s : List ℕ) (from i : ℕ) → i ≡ from + c → i ≤ length s → ((k : ℕ) → from ≤ k → k < i → (48 ≤ get_or s k 0) × (get_or s k 0 ≤ 57))
+    → DigitRun s from i
 digit_run zero s from i is le each =
     let same : from ≡ i = omega arith in
     let none : from - from ≡ 0 = omega arith in
@@ -159,18 +167,24 @@ digit_run (suc c) s from i is le each =
 
 -- ---- the count
 
-counted : (s : List ℕ) (from m : ℕ) → from + 16 ≤ length s → m ≡ mask_l (map shows_none (chunk from 16 s)) → 0 < m → count_trailing_zeros 64 m ≡ prefix_len (λ x. not (shows_none x)) (chunk from 16 s)
-counted s from m room is some = ap (count_trailing_zeros 64) is ∙ trailing_mask_l shows_none 64 (chunk from 16 s) (omega (arith, length-chunk from 16 s room)) (omega (arith, is, some))
+counted : (s : List ℕ) (from m : ℕ) → from + 16 ≤ length s → m ≡ mask_l (map shows_none (chunk from 16 s)) → 0 < m
+    → count_trailing_zeros 64 m ≡ prefix_len (λ x. not (shows_none x)) (chunk from 16 s)
+counted s from m room is some = ap (count_trailing_zeros 64) is
+    ∙ trailing_mask_l shows_none 64 (chunk from 16 s) (omega (arith, length-chunk from 16 s room)) (omega (arith, is, some))
 
 pub counted_few : (s : List ℕ) (from m : ℕ) → from + 16 ≤ length s → m ≡ mask_l (map shows_none (chunk from 16 s)) → 0 < m → count_trailing_zeros 64 m ≤ 16
 counted_few s from m room is some = run_in_chunk_le shows_none s from 16 (count_trailing_zeros 64 m) 0 room (counted s from m room is some)
 
-pub counted_digits : (s : List ℕ) (from m : ℕ) → from + 16 ≤ length s → m ≡ mask_l (map shows_none (chunk from 16 s)) → 0 < m → ((k : ℕ) → Fits w8 (get_or s k 0))
+pub counted_digits : (s : List ℕ) (from m : ℕ) → from + 16 ≤ length s → m ≡ mask_l (map shows_none (chunk from 16 s)) → 0 < m
+    → ((k : ℕ) → Fits w8 (get_or s k 0))
     → (k : ℕ) → from ≤ k → k < from + count_trailing_zeros 64 m → (48 ≤ get_or s k 0) × (get_or s k 0 ≤ 57)
-counted_digits s from m room is some fits k a b = shows (get_or s k 0) (let f = fits k in omega (arith, f.fits)) (run_in_chunk_fails shows_none s from 16 (count_trailing_zeros 64 m) 0 room (counted s from m room is some) k a b)
+counted_digits s from m room is some fits k a b = shows (get_or s k 0) (let f = fits k in omega (arith, f.fits))
+    (run_in_chunk_fails shows_none s from 16 (count_trailing_zeros 64 m) 0 room (counted s from m room is some) k a b)
 
-pub kept_lanes : (s : List ℕ) (from c : ℕ) → 16 ≤ from + c → from + c ≤ length s → replicate (16 - c) 0 ++ drop (16 - c) (zip2 (λ a b. (a + (256 - b)) % 256) (chunk (from + c - 16) 16 s) (replicate 16 48)) ≡ kept s from c
-kept_lanes s from c back room = ap (λ l. replicate (16 - c) 0 ++ drop (16 - c) l) (zip2_splat (λ a b. (a + (256 - b)) % 256) (chunk (from + c - 16) 16 s) 16 48 (length-chunk (from + c - 16) 16 s (omega arith)))
+pub kept_lanes : (s : List ℕ) (from c : ℕ) → 16 ≤ from + c → from + c ≤ length s
+    → replicate (16 - c) 0 ++ drop (16 - c) (zip2 (λ a b. (a + (256 - b)) % 256) (chunk (from + c - 16) 16 s) (replicate 16 48)) ≡ kept s from c
+kept_lanes s from c back room = ap (λ l. replicate (16 - c) 0 ++ drop (16 - c) l)
+    (zip2_splat (λ a b. (a + (256 - b)) % 256) (chunk (from + c - 16) 16 s) 16 48 (length-chunk (from + c - 16) 16 s (omega arith)))
 
 -- the digits of a run, counted from its start
 pub run_digits : (s : List ℕ) (from c : ℕ) → DigitRun s from (from + c) → list_all is_digit (take c (drop from s)) ≡ true

@@ -1,5 +1,6 @@
 -- The edges of changes give their level by parity.
-use Rattle.std.proofs.Common.{◌≡◌, ◌<◌, ℕ, zero, suc, Bool, true, false, not, List, [], ◌∷◌, ◌++◌, cond, nat_le, nat_lt, length, Option, Result, Ok, Err, refl, ap, subst, ◌∙◌, inl, inr, arith}
+use Rattle.std.proofs.Common.{◌≡◌, ◌<◌, ℕ, zero, suc, Bool, true, false, not, List, [], ◌∷◌, ◌++◌, cond, nat_le, nat_lt, length, Option, Result, Ok, Err, refl}
+use Rattle.std.proofs.Common.{ap, subst, ◌∙◌, inl, inr, arith}
 use Rattle.std.specs.List.{filter}
 use Rattle.std.proofs.lemmas.List.{append-nil}
 use Rattle.std.proofs.lemmas.List.Elements.{filter-append}
@@ -17,7 +18,8 @@ use Rattle.irig_vcd.proofs.Lawful.{not-not, even_below, Below, edges_are_below}
 level_later : (is_edge : Bool) (xs : List ℕ) (x t : ℕ) → t < x → level_by_edges t (xs ++ cond is_edge (x ∷ []) []) ≡ level_by_edges t xs
 level_later true xs x t lt =
     let no : nat_le x t ≡ false = grind (arith, nat_tests) in
-    ap (λ (l : List ℕ). not (is_even_long l)) (filter-append (λ edge. nat_le edge t) xs (x ∷ []) ∙ (ap (λ b. filter (λ edge. nat_le edge t) xs ++ cond b (x ∷ []) []) no ∙ append-nil (filter (λ edge. nat_le edge t) xs)))
+    ap (λ (l : List ℕ). not (is_even_long l)) (filter-append (λ edge. nat_le edge t) xs (x ∷ [])
+    ∙ (ap (λ b. filter (λ edge. nat_le edge t) xs ++ cond b (x ∷ []) []) no ∙ append-nil (filter (λ edge. nat_le edge t) xs)))
 level_later false xs x t lt = rw append-nil refl
 
 -- all edges count at a time that none is above
@@ -47,8 +49,11 @@ few_level : (many : Bool) (cs : List Change) (end : ℕ) (r : RecordingView) →
     → (end ≡ r.micros) × ((t : ℕ) → t < r.micros → level_by_edges t r.edges ≡ level_by_changes cs t)
 few_level true cs end r h = absurd (cc h)
 few_level false cs end r h =
-    let is : recording_view end (edges_up_to cs end) ≡ r = cc h in
-    (ap (λ (x : RecordingView). x.micros) is, subst (λ (x : RecordingView). (t : ℕ) → t < x.micros → level_by_edges t x.edges ≡ level_by_changes cs t) is (λ t lt. level_up_to cs end t lt))
+    let is : recording_view end (edges_up_to cs end) ≡ r = cc h in (
+      ap (λ (x : RecordingView). x.micros) is,
+      subst (λ (x : RecordingView). (t : ℕ) → t < x.micros → level_by_edges t x.edges ≡ level_by_changes cs t) is
+          (λ t lt. level_up_to cs end t lt),
+    )
 
 levels_of : (wire : Option (List ℕ)) (bytes : List ℕ) (r : RecordingView) (read : Result (List Change × ℕ) VcdFault) → changes_of wire bytes ≡ read
     → (read >>= λ x. recorded x.0 x.1) ≡ Ok r → TellsLevels wire bytes r

@@ -129,9 +129,12 @@ edge_taken s at end number code unit below time high room near sign after plain 
     let w = hash_word s at at end number refl (omega arith) sign after (omega arith) words front digits value (λ _. newline s end line) in
     let two : end + 1 + 1 ≡ end + 2 = omega arith in
     let one : take 1 (drop (end + 1 + 1) s) ≡ code ∷ [] = rw (two, opened s (end + 2) (omega arith), stands) refl in
-    let b = bit_word s (code ∷ []) (end + 1) (end + 3) (cond high 49 48) (omega arith) is (bit_dark high) (bit_kind high) plain (omega arith) (omega arith) one (λ _. newline s (end + 3) close) in
-    let next : words_from end false (drop end s) ≡ record { kind = scalar; bytes = cond high 49 48 ∷ code ∷ []; offset = end + 1 } ∷ words_from (end + 4) false (drop (end + 4) s) =
-    behind_newline s end (omega arith) line ∙ (b ∙ ap (λ (l : List Word). record { kind = scalar; bytes = cond high 49 48 ∷ code ∷ []; offset = end + 1 } ∷ l) (behind_newline s (end + 3) (omega arith) close ∙ ap (λ n. words_from n false (drop n s)) (let k : end + 3 + 1 ≡ end + 4 = omega arith in k))) in
+    let b = bit_word s (code ∷ []) (end + 1) (end + 3) (cond high 49 48) (omega arith) is (bit_dark high) (bit_kind high) plain (omega arith) (omega arith) one
+    (λ _. newline s (end + 3) close) in
+    let next : words_from end false (drop end s) ≡ record { kind = scalar; bytes = cond high 49 48 ∷ code ∷ []; offset = end + 1 }
+    ∷ words_from (end + 4) false (drop (end + 4) s) =
+    behind_newline s end (omega arith) line ∙ (b ∙ ap (λ (l : List Word). record { kind = scalar; bytes = cond high 49 48 ∷ code ∷ []; offset = end + 1 } ∷ l)
+    (behind_newline s (end + 3) (omega arith) close ∙ ap (λ n. words_from n false (drop n s)) (let k : end + 3 + 1 ≡ end + 4 = omega arith in k))) in
     record {
       sign = record { kind = hash; bytes = take (end - at) (drop at s); offset = at };
       level = record { kind = scalar; bytes = cond high 49 48 ∷ code ∷ []; offset = end + 1 };

@@ -1,5 +1,6 @@
 -- What is written is read back.
-use Rattle.std.proofs.Common.{◌≡◌, ◌≤◌, ◌+◌, ◌++◌, ◌∷◌, ◌==◌, [], ℕ, Bool, true, false, not, List, length, codes, None, Ok, refl, ap, sym, ◌∙◌, arith, inl, inr, append_assoc, subst}
+use Rattle.std.proofs.Common.{◌≡◌, ◌≤◌, ◌+◌, ◌++◌, ◌∷◌, ◌==◌, [], ℕ, Bool, true, false, not, List, length, codes, None, Ok, refl, ap, sym, ◌∙◌, arith, inl, inr}
+use Rattle.std.proofs.Common.{append_assoc, subst}
 use Rattle.std.specs.List.{list_any}
 use Rattle.std.proofs.lemmas.Bool.{le-ltb, cases_eq, eq-eqb, ne_eqb}
 use Rattle.std.proofs.lemmas.List.{append-nil}
@@ -30,12 +31,14 @@ after_header high ws =
     ∷ record { kind = dollar; bytes = codes "$end"; offset = 120 }
     ∷ ws
 
-pub declared : (high : Bool) (rest : List ℕ) → declarations_of None (words_of (header_text high ++ rest)) ≡ Ok ((9, codes "!"), after_header high (words_from 125 false rest))
+pub declared : (high : Bool) (rest : List ℕ) → declarations_of None (words_of (header_text high ++ rest))
+    ≡ Ok ((9, codes "!"), after_header high (words_from 125 false rest))
 unfolding head_text declarations_of section_of exponent_of declared_by variable_of
 declared true rest = refl
 declared false rest = refl
 
-header_played : (high : Bool) (ws : List Word) → changes_from any_word (codes "!") 9 0 (after_header high ws) ≡ behind (record { time = 0; high = high } ∷ []) (changes_from any_word (codes "!") 9 0 ws)
+header_played : (high : Bool) (ws : List Word) → changes_from any_word (codes "!") 9 0 (after_header high ws)
+    ≡ behind (record { time = 0; high = high } ∷ []) (changes_from any_word (codes "!") 9 0 ws)
 unfolding time_of micros_of is_mark
 header_played true ws = refl
 header_played false ws = refl
@@ -43,31 +46,38 @@ header_played false ws = refl
 -- a header, lines of edges and the line of the length, and a text that changes nothing
 played_back : (high : Bool) (later : List ℕ) (top : ℕ) (edges rest : List ℕ) → SaysNothing rest → RisesFrom 1 later → UpTo top later → top ≤ 1099511627776
     → (list_any (λ edge. edge == top) edges ≡ true → last_or 0 later ≡ top)
-    → dump None (header_text high ++ (edge_lines (not high) later ++ (end_line (recording_view top edges) ++ rest))) ≡ recorded (record { time = 0; high = high } ∷ turns (not high) later) top
+    → dump None (header_text high ++ (edge_lines (not high) later ++ (end_line (recording_view top edges) ++ rest)))
+    ≡ recorded (record { time = 0; high = high } ∷ turns (not high) later) top
 played_back high later top edges rest says r u low there =
     let behind_header = edge_lines (not high) later ++ (end_line (recording_view top edges) ++ rest) in
-    let start = behind_start None (header_text high ++ behind_header) (9, codes "!") (after_header high (words_from 125 false behind_header)) (declared high behind_header) in
+    let start = behind_start None (header_text high ++ behind_header) (9, codes "!") (after_header high (words_from 125 false behind_header))
+    (declared high behind_header) in
     let l = lines later (not high) 0 125 top (end_line (recording_view top edges) ++ rest) (rises_after 0 later r) u low in
     let e = ending (last_or 0 later) l.next top edges rest says (last_up later 0 top (omega arith) u) low there in
     start ∙ rw (header_played high (words_from 125 false behind_header), l.read, e, append-nil) refl
 
-few_recorded : (cs : List Change) (top : ℕ) (edges : List ℕ) → edges_up_to cs top ≡ edges → length edges ≤ 8388608 → recorded cs top ≡ Ok (recording_view top edges)
+few_recorded : (cs : List Change) (top : ℕ) (edges : List ℕ) → edges_up_to cs top ≡ edges → length edges ≤ 8388608
+    → recorded cs top ≡ Ok (recording_view top edges)
 few_recorded cs top edges is few = rw (is, le-ltb 8388608 (length edges) few) refl
 
 pub in_parts : (a b c d : List ℕ) → ((a ++ b) ++ c) ++ d ≡ a ++ (b ++ (c ++ d))
 in_parts a b c d = simp append_assoc
 
-text_back : (high : Bool) (later : List ℕ) (top : ℕ) (edges rest : List ℕ) → SaysNothing rest → begins_high edges ≡ high → later_edges edges ≡ later → RisesFrom 1 later → UpTo top later → IsRecording top edges
-    → (list_any (λ edge. edge == top) edges ≡ true → last_or 0 later ≡ top) → edges_up_to (record { time = 0; high = high } ∷ turns (not high) later) top ≡ edges
+text_back : (high : Bool) (later : List ℕ) (top : ℕ) (edges rest : List ℕ) → SaysNothing rest → begins_high edges ≡ high → later_edges edges ≡ later
+    → RisesFrom 1 later → UpTo top later → IsRecording top edges
+    → (list_any (λ edge. edge == top) edges ≡ true → last_or 0 later ≡ top) → edges_up_to (record { time = 0; high = high } ∷ turns (not high) later) top
+    ≡ edges
     → dump None (file_text (recording_view top edges) ++ rest) ≡ Ok (recording_view top edges)
 unfolding file_text
 text_back high later top edges rest says begins behind_first r u lawful there is =
     rw (begins, behind_first) (
     ap (dump None) (in_parts (header_text high) (edge_lines (not high) later) (end_line (recording_view top edges)) rest)
-    ∙ (played_back high later top edges rest says r u lawful.short there ∙ few_recorded (record { time = 0; high = high } ∷ turns (not high) later) top edges is lawful.few)
+    ∙ (played_back high later top edges rest says r u lawful.short there
+    ∙ few_recorded (record { time = 0; high = high } ∷ turns (not high) later) top edges is lawful.few)
     )
 
-edges_back : (top : ℕ) (edges rest : List ℕ) → SaysNothing rest → IsRecording top edges → dump None (file_text (recording_view top edges) ++ rest) ≡ Ok (recording_view top edges)
+edges_back : (top : ℕ) (edges rest : List ℕ) → SaysNothing rest → IsRecording top edges → dump None (file_text (recording_view top edges) ++ rest)
+    ≡ Ok (recording_view top edges)
 edges_back top [] rest says lawful =
     text_back false [] top [] rest says refl refl tt tt lawful (λ never. absurd (cc)) (low_edges [] top tt tt refl)
 edges_back top (e ∷ es) rest says lawful = elim (cases_eq e 0) [

@@ -19,7 +19,8 @@ none_behind (c ∷ cs) (Ok p) end h = let none : c ∷ (cs ++ p.0) ≡ [] = ap c
 none_behind (c ∷ cs) (Err e) end h = absurd (cc h)
 
 -- if the whole has no change, none was followed so far
-pub none_followed : (before : List Change) (read total : Result (List Change × ℕ) VcdFault) (t : Trace) → Follows before t → behind before read ≡ total → IsStill total → Follows [] t
+pub none_followed : (before : List Change) (read total : Result (List Change × ℕ) VcdFault) (t : Trace) → Follows before t → behind before read ≡ total
+    → IsStill total → Follows [] t
 none_followed before read total t follows rest still = subst (λ (cs : List Change). Follows cs t) (none_behind before read still.0 (rest ∙ still.1)) follows
 
 pub along_still : (code : List ℕ) (unit : ℕ) (total : Result (List Change × ℕ) VcdFault) (trace : Trace) (clock : Clock) (words : List Word)

@@ -1,5 +1,6 @@
 -- How long the text of a recording is: it can be read again.
-use Rattle.std.proofs.Common.{◌≡◌, ◌≤◌, ◌*◌, ◌^◌, ◌==◌, ◌++◌, ◌∷◌, [], ℕ, Bool, true, false, not, List, length, decimal, refl, arith, length-append, if◌then◌else◌, nat_lt, ◌&&◌, Result, Ok, Err, IsOk, OnOk}
+use Rattle.std.proofs.Common.{◌≡◌, ◌≤◌, ◌*◌, ◌^◌, ◌==◌, ◌++◌, ◌∷◌, [], ℕ, Bool, true, false, not, List, length, decimal, refl, arith, length-append}
+use Rattle.std.proofs.Common.{if◌then◌else◌, nat_lt, ◌&&◌, Result, Ok, Err, IsOk, OnOk}
 use Rattle.std.specs.List.{list_any}
 use Rattle.std.proofs.lemmas.Bool.{false≢true}
 use Rattle.std.proofs.lemmas.Fmt.{length-decimal-le}
@@ -23,7 +24,8 @@ lines_or_none false lines few = few
 
 -- the two lines of an edge
 pub length-lines_at : (high : Bool) (edge : ℕ) → edge ≤ 2 ^ 40 → length (lines_at high edge) ≤ 18
-length-lines_at high edge early = lines_or_none (edge == 0) (time_line edge ++ level_line high) (omega (arith, length-time_line edge early, length-append (time_line edge) (level_line high)))
+length-lines_at high edge early = lines_or_none (edge == 0) (time_line edge ++ level_line high)
+    (omega (arith, length-time_line edge early, length-append (time_line edge) (level_line high)))
 
 length-edge_lines : (high : Bool) (top : ℕ) (edges : List ℕ) → top ≤ 2 ^ 40 → UpTo top edges → length (edge_lines high edges) ≤ 18 * length edges
 length-edge_lines high top [] short within = omega arith

@@ -1,5 +1,6 @@
 -- The changes of the lines that are written.
-use Rattle.std.proofs.Common.{◌≡◌, ◌≤◌, ◌+◌, ◌++◌, ◌∷◌, ◌&&◌, ◌==◌, [], ℕ, Bool, true, false, not, List, nat_lt, decimal, Some, Result, Ok, Err, refl, ap, sym, ◌∙◌, arith, inl, inr, append_assoc}
+use Rattle.std.proofs.Common.{◌≡◌, ◌≤◌, ◌+◌, ◌++◌, ◌∷◌, ◌&&◌, ◌==◌, [], ℕ, Bool, true, false, not, List, nat_lt, decimal, Some, Result, Ok, Err, refl, ap, sym}
+use Rattle.std.proofs.Common.{◌∙◌, arith, inl, inr, append_assoc}
 use Rattle.std.specs.List.{list_any}
 use Rattle.std.proofs.lemmas.Bool.{le-ltb, ltb-false, and_cases, cases_Bool, eqb-true, or_cases, not-false, false≢true}
 use Rattle.irig_vcd.specs.Words.{Word, words_from, rest_of, scalar}
@@ -50,29 +51,38 @@ rises_after low (x ∷ xs) h = (omega (arith, h.0), h.1)
 -- the changes of the lines of edges, before those after them
 pub record Lines (last : ℕ) (high : Bool) (edges rest : List ℕ) (at : ℕ) : Type 0 where
   pub next : ℕ
-  pub read : changes_from any_word (33 ∷ []) 9 last (words_from at false (edge_lines high edges ++ rest)) ≡ behind (turns high edges) (changes_from any_word (33 ∷ []) 9 (last_or last edges) (words_from next false rest))
+  pub read : changes_from any_word (33 ∷ []) 9 last (words_from at false (edge_lines high edges ++ rest))
+      ≡ behind (turns high edges) (changes_from any_word (33 ∷ []) 9 (last_or last edges) (words_from next false rest))
 
 regroup : (a b c d : List ℕ) → ((a ++ b) ++ c) ++ d ≡ a ++ (b ++ (c ++ d))
 regroup a b c d = simp append_assoc
 
-pub lines : (edges : List ℕ) (high : Bool) (last at top : ℕ) (rest : List ℕ) → RisesFrom last edges → UpTo top edges → top ≤ 1099511627776 → Lines last high edges rest at
+pub lines : (edges : List ℕ) (high : Bool) (last at top : ℕ) (rest : List ℕ) → RisesFrom last edges → UpTo top edges → top ≤ 1099511627776
+    → Lines last high edges rest at
 lines [] high last at top rest r u low = record { next = at; read = sym (behind_none _) }
 lines (t ∷ ts) high last at top rest r u low =
-    let text : edge_lines high (t ∷ ts) ++ rest ≡ time_line t ++ (level_line high ++ (edge_lines (not high) ts ++ rest)) = regroup (time_line t) (level_line high) (edge_lines (not high) ts) rest in
+    let text : edge_lines high (t ∷ ts) ++ rest ≡ time_line t ++ (level_line high ++ (edge_lines (not high) ts ++ rest)) =
+    regroup (time_line t) (level_line high) (edge_lines (not high) ts) rest in
     let w = time_word t at (level_line high ++ (edge_lines (not high) ts ++ rest)) (omega (arith, u.0)) in
-    let left : words_from at false (edge_lines high (t ∷ ts) ++ rest) ≡ w.word ∷ words_from w.next false (level_line high ++ (edge_lines (not high) ts ++ rest)) = ap (words_from at false) text ∙ w.words in
+    let left : words_from at false (edge_lines high (t ∷ ts) ++ rest) ≡ w.word
+    ∷ words_from w.next false (level_line high ++ (edge_lines (not high) ts ++ rest)) = ap (words_from at false) text ∙ w.words in
     let set : time_of 9 last (rest_of w.word.bytes) w.word.offset ≡ Ok t = rw w.digits (decimal_time last t w.word.offset r.0 (omega (arith, u.0))) in
-    let one = on_time (33 ∷ []) 9 last (words_from at false (edge_lines high (t ∷ ts) ++ rest)) w.word (words_from w.next false (level_line high ++ (edge_lines (not high) ts ++ rest))) t left (ap is_hash w.kind) set in
-    let two = on_level (33 ∷ []) 9 t (words_from w.next false (level_line high ++ (edge_lines (not high) ts ++ rest))) (level_word high w.next) (words_from (w.next + 1 + 1 + 1) false (edge_lines (not high) ts ++ rest))
-    (words_from (w.next + 1 + 1 + 1) false (edge_lines (not high) ts ++ rest)) (Some high) (level_words high w.next (edge_lines (not high) ts ++ rest)) refl (read_level high w.next (words_from (w.next + 1 + 1 + 1) false (edge_lines (not high) ts ++ rest))) in
+    let one = on_time (33 ∷ []) 9 last (words_from at false (edge_lines high (t ∷ ts) ++ rest)) w.word
+    (words_from w.next false (level_line high ++ (edge_lines (not high) ts ++ rest))) t left (ap is_hash w.kind) set in
+    let two = on_level (33 ∷ []) 9 t (words_from w.next false (level_line high ++ (edge_lines (not high) ts ++ rest))) (level_word high w.next)
+    (words_from (w.next + 1 + 1 + 1) false (edge_lines (not high) ts ++ rest))
+    (words_from (w.next + 1 + 1 + 1) false (edge_lines (not high) ts ++ rest)) (Some high) (level_words high w.next (edge_lines (not high) ts ++ rest)) refl
+    (read_level high w.next (words_from (w.next + 1 + 1 + 1) false (edge_lines (not high) ts ++ rest))) in
     let three = lines ts (not high) t (w.next + 1 + 1 + 1) top rest (rises_after t ts r.1) u.1 low in
     record {
       next = three.next;
-      read = one ∙ (two ∙ (rw (same_micros t, three.read) (behind_behind (record { time = t; high = high } ∷ []) (turns (not high) ts) (changes_from any_word (33 ∷ []) 9 (last_or t ts) (words_from three.next false rest)))));
+      read = one ∙ (two ∙ (rw (same_micros t, three.read) (behind_behind (record { time = t; high = high } ∷ []) (turns (not high) ts)
+          (changes_from any_word (33 ∷ []) 9 (last_or t ts) (words_from three.next false rest)))));
     }
 
 -- an edge at the end is the last one
-pub last_top : (edges : List ℕ) (low last top : ℕ) → RisesFrom low edges → UpTo top edges → list_any (λ edge. edge == top) edges ≡ true → last_or last edges ≡ top
+pub last_top : (edges : List ℕ) (low last top : ℕ) → RisesFrom low edges → UpTo top edges → list_any (λ edge. edge == top) edges ≡ true
+    → last_or last edges ≡ top
 last_top [] low last top r u h = absurd (false≢true h)
 last_top (x ∷ []) low last top r u h = elim (or_cases (x == top) false h) [
   | inl is ↦ eqb-true x top is
@@ -90,15 +100,18 @@ SaysNothing rest = (last at : ℕ) → changes_from any_word (33 ∷ []) 9 last 
 pub says_nothing : SaysNothing []
 says_nothing last at = refl
 
-ends_with_line : (last at top : ℕ) (rest : List ℕ) → SaysNothing rest → last ≤ top → top ≤ 1099511627776 → changes_from any_word (33 ∷ []) 9 last (words_from at false (time_line top ++ rest)) ≡ Ok ([], top)
+ends_with_line : (last at top : ℕ) (rest : List ℕ) → SaysNothing rest → last ≤ top → top ≤ 1099511627776
+    → changes_from any_word (33 ∷ []) 9 last (words_from at false (time_line top ++ rest)) ≡ Ok ([], top)
 ends_with_line last at top rest says up low =
     let w = time_word top at rest (omega arith) in
     let set : time_of 9 last (rest_of w.word.bytes) w.word.offset ≡ Ok top = rw w.digits (decimal_time last top w.word.offset up low) in
-    let one = on_time (33 ∷ []) 9 last (words_from at false (time_line top ++ rest)) w.word (words_from w.next false rest) top w.words (ap is_hash w.kind) set in
+    let one = on_time (33 ∷ []) 9 last (words_from at false (time_line top ++ rest)) w.word (words_from w.next false rest) top w.words (ap is_hash w.kind)
+    set in
     one ∙ (says top w.next ∙ ap (λ t. pair_of [] t) (same_micros top))
 
 -- the line of the length, if there is one
-pub ending : (last at top : ℕ) (edges rest : List ℕ) → SaysNothing rest → last ≤ top → top ≤ 1099511627776 → (list_any (λ edge. edge == top) edges ≡ true → last ≡ top)
+pub ending : (last at top : ℕ) (edges rest : List ℕ) → SaysNothing rest → last ≤ top → top ≤ 1099511627776
+    → (list_any (λ edge. edge == top) edges ≡ true → last ≡ top)
     → changes_from any_word (33 ∷ []) 9 last (words_from at false (end_line (recording_view top edges) ++ rest)) ≡ Ok ([], top)
 ending last at top edges rest says up low there = elim (cases_Bool (nat_lt 0 top && not (list_any (λ edge. edge == top) edges))) [
   | inl line ↦ rw line (ends_with_line last at top rest says up low)

@@ -1,5 +1,6 @@
 -- What a command line asks for. This project's own.
-use Rattle.std.specs.Prelude.{◌≡◌, ◌-◌, ℕ, Bool, true, false, List, codes, Some, Result, Ok, Err, unwrap_or, option_map, slice_index}
+use Rattle.std.specs.Prelude.{◌≡◌, ◌-◌, ℕ, Bool, true, false, List, codes, Some, Result, Ok, Err}
+use Rattle.std.specs.Prelude.{unwrap_or, option_map, slice_index}
 use Rattle.clap.specs.Words.{Text, first_value, found_of}
 use Rattle.clap.specs.declared.parser.matches.Found.{Found}
 use Rattle.clap.specs.declared.parser.matches.ArgMatches.{ArgMatches}

@@ -1,5 +1,6 @@
 -- What a crash leaves of the files that were written. This project's own.
-use Rattle.std.specs.Prelude.{◌≡◌, ◌⊎◌, ◌+◌, ℕ, List, ◌∷◌, ◌++◌, length, All, Any, Option, Some, None}
+use Rattle.std.specs.Prelude.{◌≡◌, ◌⊎◌, ◌+◌, ℕ, List, ◌∷◌, ◌++◌, length, All, Any, Option, Some}
+use Rattle.std.specs.Prelude.{None}
 use Rattle.irig_ed.specs.Files.Puts.{Put, kept}
 
 -- the text that one of these writes was to leave at the path
@@ -10,7 +11,8 @@ IsTextOf puts path c = Any (λ put. (put.path ≡ path) × (c ≡ Some put.text)
 pub record KeepsAll (first : List ℕ → Option (List ℕ) → Type 0)
     (left_since : ℕ → List ℕ → Option (List ℕ) → Type 0) (puts : List Put) : Type 0 where
   -- Since a write that succeeded, at any moment: its text, or that of a later write, whole.
-  pub kept : (before after : List Put) (path text : List ℕ) → puts ≡ before ++ kept path text ∷ after
+  pub kept : (before after : List Put) (path text : List ℕ) → puts ≡ before ++ kept path text
+      ∷ after
       → (c : Option (List ℕ)) → left_since (length before + 1) path c
       → (c ≡ Some text) ⊎ IsTextOf after path c
   -- Since the first write, at any moment, if all were there: what it might have left before, or the

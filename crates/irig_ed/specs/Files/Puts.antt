@@ -1,5 +1,6 @@
 -- Texts written to files. This project's own.
-use Rattle.std.specs.Prelude.{ℕ, List, [], ◌∷◌, Bool, true, false, Option, Some, None, option_map, if◌then◌else◌}
+use Rattle.std.specs.Prelude.{ℕ, List, [], ◌∷◌, Bool, true, false, Option, Some, None, option_map}
+use Rattle.std.specs.Prelude.{if◌then◌else◌}
 use Rattle.std.specs.Str.{bytes_eq}
 use Rattle.irig_ed.specs.declared.files.written.Written.{Written}
 use Rattle.irig_ed.specs.declared.files.written.Written.TheVariants.{Whole, InPlace}

@@ -2,7 +2,8 @@
 
 ghost use Rattle.std.specs.Prelude.{◌≡◌, IfErr, IfOk, None, false, map, string_bytes};
 ghost use Rattle.clap.specs.Words.{app_of, found_of, rule_of};
-ghost use Rattle.irig_ed.specs.CommandLine.Options.{IsCommand, IsReading, IsChoice, IsParsed, MayRefuse, option, track};
+ghost use Rattle.irig_ed.specs.CommandLine.Options.{IsCommand, IsReading, IsChoice, IsParsed};
+ghost use Rattle.irig_ed.specs.CommandLine.Options.{MayRefuse, option, track};
 ghost use Rattle.irig_ed.specs.Statuses.{IsMistake};
 ghost use Rattle.irig_ed.specs.CommandLine.Settings.{Chooses, Reads, digit_named, kind_or_b};
 

@@ -1,6 +1,7 @@
 //! What the program asks of files.
 
-ghost use Rattle.std.specs.Prelude.{◌≡◌, ◌≤◌, ◌<◌, ◌^◌, ◌∷◌, [], ℕ, List, Option, IfOk, IfSome, IsErrOf, OnOk, OnErr, length, vec_len};
+ghost use Rattle.std.specs.Prelude.{◌≡◌, ◌≤◌, ◌<◌, ◌^◌, ◌∷◌, [], ℕ, List, Option, IfOk, IfSome};
+ghost use Rattle.std.specs.Prelude.{IsErrOf, OnOk, OnErr, length, vec_len};
 ghost use Rattle.irig_script.specs.Shelf.Shelved.{GrowsBy};
 ghost use Rattle.irig_ed.specs.Files.Keeps.{Keeps};
 ghost use Rattle.irig_ed.specs.Files.Puts.{Put, count_of, kept, not_kept};

@@ -136,7 +136,8 @@ fn follow_links<R: Files + AllocGlobal>(
     Err(ShelfFault)
 }
 
-/// Follows a symbolic link, and returns whether there was one. Only the text of a link takes memory.
+/// Follows a symbolic link, and returns whether there was one. Only the text of a link takes
+/// memory.
 fn follow_link<R: Files + AllocGlobal>(rt: &R, target: &mut PathBuf) -> Result<bool, ShelfFault> {
     let next = match fs::read_link(rt, target.as_str()) {
         Ok(next) => next,
@@ -148,7 +149,8 @@ fn follow_link<R: Files + AllocGlobal>(rt: &R, target: &mut PathBuf) -> Result<b
     Ok(true)
 }
 
-/// What describes a regular file that may be written. A file that must not be written is not replaced either.
+/// What describes a regular file that may be written. A file that must not be written is not
+/// replaced either.
 fn writable<R: Files>(rt: &R, target: &str) -> Result<Metadata, ShelfFault> {
     let there = open_to_write(rt, target)?;
     match there.metadata() {

@@ -20,10 +20,11 @@ pub fn write_whole<F: Folder, T: Text>(
     text: &mut T,
     block: &mut Vec<u8>,
 ) -> Result<Kept, ShelfFault>
-    // A crash at any moment of the call leaves the old text at the target or the new one, whole, and
-    // each other name that was there as it was.
+    // A crash at any moment of the call leaves the old text at the target or the new one, whole,
+    // and each other name that was there as it was.
     ensures any_moment { F.is_told → LeavesOnly (F.disk folder.old) (F.disk folder.new)
-        (OldOrNewIfThere (F.disk folder.old) target.now (held F.usual_mode mode (T.rest text.old))) }
+        (OldOrNewIfThere (F.disk folder.old) target.now
+        (held F.usual_mode mode (T.rest text.old))) }
     // After `Ok` each crash leaves the new text.
     ensures ok { F.is_told → OnOk result (IsKept (F.disk folder.old) (F.disk folder.new)
         target.now (held F.usual_mode mode (T.rest text.old))) }

@@ -1,5 +1,6 @@
 -- Marks that are moved, and moved back. This project's own.
-use Rattle.std.proofs.Common.{◌≡◌, ◌≤◌, ◌+◌, ℕ, suc, ℤ, Bool, true, false, List, [], ◌∷◌, Option, Some, None, length, refl, ap, ap₂, arith}
+use Rattle.std.proofs.Common.{◌≡◌, ◌≤◌, ◌+◌, ℕ, suc, ℤ, Bool, true, false, List, [], ◌∷◌, Option}
+use Rattle.std.proofs.Common.{Some, None, length, refl, ap, ap₂, arith}
 use Rattle.std.specs.List.{AllByRecursion}
 use Rattle.irig_track.specs.Shifts.{ahead, back}
 use Rattle.irig_track.proofs.Inverses.{Opposite}

@@ -1,5 +1,6 @@
 -- A mark that is set, and set back. This project's own.
-use Rattle.std.proofs.Common.{◌≡◌, ◌<◌, ℕ, suc, zero, List, [], ◌∷◌, Option, None, length, get_or, slice_set, refl, ap, arith}
+use Rattle.std.proofs.Common.{◌≡◌, ◌<◌, ℕ, suc, zero, List, [], ◌∷◌, Option, None, length, get_or}
+use Rattle.std.proofs.Common.{slice_set, refl, ap, arith}
 use Rattle.std.specs.List.{AllByRecursion}
 use Rattle.irig_edit.specs.State.{IsMark}
 

@@ -4,7 +4,9 @@ use Rattle.std.proofs.Math.IntN.{neg_ℤ-neg_ℤ}
 use Rattle.irig_track.specs.Edges.{edges_of}
 use Rattle.irig_track.specs.Splices.{piece}
 use Rattle.irig_track.specs.Toggles.{toggled}
-use Rattle.irig_track.proofs.Inverses.{piece-spliced, spliced-spliced, can_splice_back, toggled-toggled, can_toggle_back, Opposite-neg, shifted-shifted, can_shift_back}
+use Rattle.irig_track.proofs.Inverses.{piece-spliced, spliced-spliced, can_splice_back}
+use Rattle.irig_track.proofs.Inverses.{toggled-toggled, can_toggle_back, Opposite-neg}
+use Rattle.irig_track.proofs.Inverses.{shifted-shifted, can_shift_back}
 use Rattle.irig_track.proofs.Carried.{length-piece}
 use Rattle.irig_edit.specs.State.{State, IsState, state, with_pulses}
 use Rattle.irig_edit.specs.Laws.Edges.{edges_of-toggled, pulses_of-edges_of}

@@ -1,6 +1,7 @@
 //! Fills a stretch of time with frames.
 
-ghost use Rattle.std.specs.Prelude.{◌≡◌, ◌+◌, ◌*◌, ◌^◌, ◌<◌, ◌≤◌, None, Some, IfOk, IfErr, OnOk, IsTrue, length, if◌then◌else◌};
+ghost use Rattle.std.specs.Prelude.{◌≡◌, ◌+◌, ◌*◌, ◌^◌, ◌<◌, ◌≤◌, None, Some, IfOk, IfErr, OnOk};
+ghost use Rattle.std.specs.Prelude.{IsTrue, length, if◌then◌else◌};
 ghost use Rattle.irig_codes.specs.Format.{control_count_of};
 ghost use Rattle.irig_moment.specs.Generated.{starts_in};
 ghost use Rattle.irig_track.specs.Splices.{spliced, CanSplice};

@@ -3,7 +3,8 @@
 use Rattle.std.proofs.Common.{◌≡◌, ◌++◌, ◌∷◌, [], List, reverse, refl, ap, ap₂, sym, subst, ◌∙◌}
 use Rattle.std.proofs.lemmas.List.{reverse-append, reverse-reverse}
 use Rattle.irig_journal.specs.Turns.{FitAll, left_by, backs, ways_back}
-use Rattle.irig_journal.specs.Laws.Turns.{FitAll-append, backs-append, left_by-append, ways_back-cons}
+use Rattle.irig_journal.specs.Laws.Turns.{FitAll-append, backs-append, left_by-append}
+use Rattle.irig_journal.specs.Laws.Turns.{ways_back-cons}
 
 module _ {S D : Type 0} where
   -- a change leaves a state, from which the change that it leaves leads back

@@ -6,7 +6,8 @@ use Rattle.std.proofs.lemmas.List.Sums.{sum_by-append, sum_by-cons}
 use Rattle.irig_journal.specs.declared.stack.Edit.{Edit}
 use Rattle.irig_journal.specs.declared.stack.Edit.TheVariants.{One, Group}
 use Rattle.irig_journal.specs.declared.stack.Single.TheVariants.{Push, Pop}
-use Rattle.irig_journal.specs.Stack.{CanMake, made, CanEdit, edited, bytes_held, bytes_in, grouped, singles_of}
+use Rattle.irig_journal.specs.Stack.{CanMake, made, CanEdit, edited, bytes_held, bytes_in, grouped}
+use Rattle.irig_journal.specs.Stack.{singles_of}
 use Rattle.irig_journal.specs.Turns.{FitAll, left_by, ways_back}
 use Rattle.irig_journal.specs.Laws.Edits.{pair_with_group}
 use Rattle.irig_journal.specs.Laws.Parts.{IsOfParts, fit_of_parts, state_of_parts, ways_of_parts}

@@ -4,7 +4,8 @@ use Rattle.std.specs.Prelude.{flat_map}
 use Rattle.std.proofs.lemmas.List.{append-nil, reverse-append}
 use Rattle.std.proofs.lemmas.List.Concat.{flat_map-append}
 use Rattle.irig_journal.specs.Turns.{FitAll, left_by, backs, ways_back}
-use Rattle.irig_journal.specs.Laws.Turns.{FitAll-append, backs-append, left_by-append, ways_back-cons}
+use Rattle.irig_journal.specs.Laws.Turns.{FitAll-append, backs-append, left_by-append}
+use Rattle.irig_journal.specs.Laws.Turns.{ways_back-cons}
 
 module _ {S D P : Type 0} where
   -- a change is the same as its parts, turned one after another

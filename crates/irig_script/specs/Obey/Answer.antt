@@ -10,7 +10,8 @@ use Rattle.irig_script.specs.Obey.Obeying.{Obeys}
 use Rattle.irig_script.specs.Print.Printed.{Answer, reply_text}
 use Rattle.irig_script.specs.declared.script.command.Command.{Command}
 use Rattle.irig_script.specs.declared.print.reply.Reply.{Reply}
-use Rattle.irig_script.specs.declared.print.reply.Reply.TheVariants.{Written, Saved, BadLine, LineTooLong}
+use Rattle.irig_script.specs.declared.print.reply.Reply.TheVariants.{Written, Saved, BadLine}
+use Rattle.irig_script.specs.declared.print.reply.Reply.TheVariants.{LineTooLong}
 
 -- the line is too long, which is reported before anything else of it
 abbrev pub IsTooLong : Machine → List ℕ → Reply → Machine → Type 0

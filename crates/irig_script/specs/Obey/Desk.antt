@@ -1,13 +1,16 @@
 -- What lies round a session: what was printed, the texts written to the shelf, and how often it
 -- failed. And the status that answers make. This project's own.
-use Rattle.std.specs.Prelude.{◌≡◌, ◌+◌, ℕ, Bool, true, false, List, [], ◌∷◌, Option, Some, None, if◌then◌else◌}
+use Rattle.std.specs.Prelude.{◌≡◌, ◌+◌, ℕ, Bool, true, false, List, [], ◌∷◌, Option, Some, None}
+use Rattle.std.specs.Prelude.{if◌then◌else◌}
 use Rattle.std.specs.Io.KnownBytes.{Appends}
 use Rattle.irig_script.specs.Obey.Machine.{Machine}
 use Rattle.irig_script.specs.Obey.Answer.{texts_put}
 use Rattle.irig_script.specs.Print.Printed.{Answer}
 use Rattle.irig_script.specs.Shelf.Shelved.{Shelved, Puts}
 use Rattle.irig_script.specs.declared.print.reply.Reply.{Reply}
-use Rattle.irig_script.specs.declared.print.reply.Reply.TheVariants.{Written, Saved, Refused, BadLine, LineTooLong, WriteFailed}
+use Rattle.irig_script.specs.declared.print.reply.Reply.TheVariants.{Written, Saved, Refused}
+use Rattle.irig_script.specs.declared.print.reply.Reply.TheVariants.{BadLine, LineTooLong}
+use Rattle.irig_script.specs.declared.print.reply.Reply.TheVariants.{WriteFailed}
 use Rattle.irig_script.specs.declared.obey.status.Status.{Status}
 use Rattle.irig_script.specs.declared.obey.status.Status.TheVariants.{SomeRefused}
 

@@ -16,11 +16,12 @@ use Rattle.irig_script.specs.declared.obey.dump_run.DumpRunFault.TheVariants.{Du
 -- the dump was opened, with its journal if it has one and in this format if it has none, and
 -- the script was obeyed from there on, until the run ended
 pub record RanOnDump (wire : Option (List ℕ)) (chosen : FormatView) (source : List ℕ)
-    (script left : Option (List ℕ)) (from to : Desk) (result : Result Status RunFault) : Type 0 where
-  pub first : Machine
-  pub last : Machine
-  pub opened : IsOpened wire source chosen first
-  pub ran : EndsAs script left from to first last result
+    (script left : Option (List ℕ)) (from to : Desk) (result : Result Status RunFault) : Type 0
+  where
+    pub first : Machine
+    pub last : Machine
+    pub opened : IsOpened wire source chosen first
+    pub ran : EndsAs script left from to first last result
 
 -- if the declarations have a fault it is the one reported, however little memory there is
 abbrev pub TellsHeading : Option (List ℕ) → List ℕ → VcdFault → Type 0

@@ -6,7 +6,8 @@ use Rattle.irig_script.specs.Obey.Run.{Ran, Broke, Stopped}
 use Rattle.irig_script.specs.declared.obey.status.Status.{Status}
 use Rattle.irig_script.specs.declared.obey.status.Status.TheVariants.{AllAccepted}
 use Rattle.irig_script.specs.declared.obey.status.RunFault.{RunFault}
-use Rattle.irig_script.specs.declared.obey.status.RunFault.TheVariants.{ReadFailed, TooManyReads, PrintFailed}
+use Rattle.irig_script.specs.declared.obey.status.RunFault.TheVariants.{ReadFailed, TooManyReads}
+use Rattle.irig_script.specs.declared.obey.status.RunFault.TheVariants.{PrintFailed}
 
 -- the whole script was obeyed; or just the lines that were read, of at least 2^32 bytes if there
 -- were too many reads; or the lines to one whose answer was not printed whole

@@ -5,7 +5,8 @@ use Rattle.irig_codes.specs.Format.{is_permitted}
 use Rattle.irig_edit.specs.Calls.{Call, Edit}
 use Rattle.irig_script.specs.Obey.Machine.{Machine}
 use Rattle.irig_script.specs.Obey.PulseNumbers.{number_at, first_of, last_of, join_last_of, time_of}
-use Rattle.irig_script.specs.Obey.Replies.{Calls, Formats, Lists, Makes, Saves, Shows, Writes, format}
+use Rattle.irig_script.specs.Obey.Replies.{Calls, Formats, Lists, Makes, Saves, Shows, Writes}
+use Rattle.irig_script.specs.Obey.Replies.{format}
 use Rattle.irig_script.specs.declared.script.command.Command.{Command}
 use Rattle.irig_script.specs.declared.script.command.Command.TheVariants as command
 use Rattle.irig_script.specs.declared.print.reply.Reply.{Reply}

@@ -9,7 +9,8 @@ use Rattle.irig_script.specs.declared.obey.status.Status.{Status}
 use Rattle.irig_script.specs.declared.obey.status.Status.TheVariants.{AllAccepted}
 
 -- a whole script that ran on a dump, with what lay round before and afterwards
-pub record DumpRunOf (wire : Option (List ℕ)) (chosen : FormatView) (source script : List ℕ) : Type 0
+pub record DumpRunOf (wire : Option (List ℕ)) (chosen : FormatView) (source script : List ℕ) : Type
+    0
   where
     pub from : Desk
     pub to : Desk

@@ -1,5 +1,6 @@
 -- What addresses, ranges and times mean, in the machine before their line. This project's own.
-use Rattle.std.specs.Prelude.{◌+◌, ◌-◌, ◌^◌, ℕ, ℤ, nat_le, length, Option, Some, None, option_map, unwrap_or, get_or, if◌then◌else◌}
+use Rattle.std.specs.Prelude.{◌+◌, ◌-◌, ◌^◌, ℕ, ℤ, nat_le, length, Option, Some, None, option_map}
+use Rattle.std.specs.Prelude.{unwrap_or, get_or, if◌then◌else◌}
 use Rattle.irig_track.specs.Shifts.{ahead, back}
 use Rattle.irig_track.specs.Splices.{risen_by}
 use Rattle.irig_script.specs.Obey.Machine.{Machine}

@@ -13,7 +13,8 @@ use Rattle.irig_edit.specs.declared.refusal.Refusal.{Refusal}
 use Rattle.irig_edit.specs.declared.refusal.Refusal.TheVariants as refusal
 use Rattle.irig_script.specs.Obey.Machine.{Machine}
 use Rattle.irig_script.specs.declared.print.reply.Reply.{Reply}
-use Rattle.irig_script.specs.declared.print.reply.Reply.TheVariants.{Silent, Written, Saved, Listed, Refused, WriteFailed}
+use Rattle.irig_script.specs.declared.print.reply.Reply.TheVariants.{Silent, Written, Saved, Listed}
+use Rattle.irig_script.specs.declared.print.reply.Reply.TheVariants.{Refused, WriteFailed}
 
 -- a call of the session was accepted in silence, or refused
 abbrev pub Calls : Call → Machine → Reply → Machine → Type 0

@@ -2,7 +2,8 @@
 use Rattle.std.specs.Prelude.{ℕ, List, [], ◌++◌, Option, Some, None, codes, decimal}
 use Rattle.irig_codes.specs.declared.fields.Fields.{Fields}
 use Rattle.irig_codes.specs.declared.note.Name.{Name}
-use Rattle.irig_codes.specs.declared.note.Name.TheVariants.{Hundredths, Seconds, Minutes, Hours, Days, Year}
+use Rattle.irig_codes.specs.declared.note.Name.TheVariants.{Hundredths, Seconds, Minutes, Hours}
+use Rattle.irig_codes.specs.declared.note.Name.TheVariants.{Days, Year}
 use Rattle.irig_codes.specs.declared.note.Note.{Note}
 use Rattle.irig_codes.specs.declared.note.Note.TheVariants.{Fine, Field, SbsDisagrees, Stray}
 use Rattle.irig_index.specs.declared.record.Cause.{Cause}

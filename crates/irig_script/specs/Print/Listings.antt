@@ -1,5 +1,6 @@
 -- The lines that `list`, `marks` and `info` print. This project's own.
-use Rattle.std.specs.Prelude.{ℕ, ◌+◌, ◌-◌, List, [], ◌∷◌, ◌++◌, Option, Some, None, codes, decimal, length, take}
+use Rattle.std.specs.Prelude.{ℕ, ◌+◌, ◌-◌, List, [], ◌∷◌, ◌++◌, Option, Some, None, codes, decimal}
+use Rattle.std.specs.Prelude.{length, take}
 use Rattle.irig_codes.specs.Width.{class_of}
 use Rattle.irig_codes.specs.Format.{FormatView}
 use Rattle.irig_codes.specs.Words.{class_word, kind_word}

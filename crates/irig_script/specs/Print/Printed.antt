@@ -11,7 +11,10 @@ use Rattle.irig_script.specs.Print.Listings.{list_text, marks_text, info_text}
 use Rattle.irig_script.specs.Obey.Machine.{Machine}
 use Rattle.irig_script.specs.Print.Numbered.{numbered}
 use Rattle.irig_script.specs.declared.print.reply.Reply.{Reply}
-use Rattle.irig_script.specs.declared.print.reply.Reply.TheVariants.{Silent, Written, Saved, Listed, Frames, Marks, Info, Refused, BadLine, LineTooLong, WriteFailed}
+use Rattle.irig_script.specs.declared.print.reply.Reply.TheVariants.{Silent, Written, Saved, Listed}
+use Rattle.irig_script.specs.declared.print.reply.Reply.TheVariants.{Frames, Marks, Info, Refused}
+use Rattle.irig_script.specs.declared.print.reply.Reply.TheVariants.{BadLine, LineTooLong}
+use Rattle.irig_script.specs.declared.print.reply.Reply.TheVariants.{WriteFailed}
 
 -- why a command is refused, as a line
 abbrev pub refusal_text : Refusal → List ℕ

@@ -1,5 +1,6 @@
 -- The lines of a script, and which of them are obeyed. This project's own.
-use Rattle.std.specs.Prelude.{◌==◌, ℕ, Bool, true, false, not, ◌&&◌, List, [], ◌∷◌, length, nat_lt, if◌then◌else◌}
+use Rattle.std.specs.Prelude.{◌==◌, ℕ, Bool, true, false, not, ◌&&◌, List, [], ◌∷◌, length, nat_lt}
+use Rattle.std.specs.Prelude.{if◌then◌else◌}
 use Rattle.irig_script.specs.Script.Words.{onto_first, words_of}
 use Rattle.irig_script.specs.Script.Keywords.{keyword_of}
 use Rattle.irig_script.specs.declared.script.keyword.Keyword.{Keyword}

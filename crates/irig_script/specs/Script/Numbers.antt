@@ -1,6 +1,7 @@
 -- Numbers in a script: counts and times in decimal, distances with a sign, and control functions in
 -- hexadecimal. This project's own.
-use Rattle.std.specs.Prelude.{◌≡◌, ◌==◌, ◌+◌, ◌-◌, ◌*◌, ◌≤◌, ℕ, ℤ, Bool, true, ◌&&◌, ◌||◌, List, [], ◌∷◌, length, nat_le, if◌then◌else◌}
+use Rattle.std.specs.Prelude.{◌≡◌, ◌==◌, ◌+◌, ◌-◌, ◌*◌, ◌≤◌, ℕ, ℤ, Bool, true, ◌&&◌, ◌||◌, List, []}
+use Rattle.std.specs.Prelude.{◌∷◌, length, nat_le, if◌then◌else◌}
 use Rattle.std.specs.List.{list_all}
 use Rattle.irig_track.specs.Shifts.{ahead, back}
 

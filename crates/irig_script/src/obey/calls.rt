@@ -3,8 +3,10 @@
 ghost use Rattle.std.specs.Prelude.{◌≡◌, ◌-◌, Some, None};
 ghost use Rattle.irig_codes.specs.Format.{is_permitted};
 ghost use Rattle.irig_edit.specs.Calls.{Call, Edit};
-ghost use Rattle.irig_script.specs.Obey.Replies.{Calls, Formats, Lists, Makes, Shows, format, reply_to};
-ghost use Rattle.irig_script.specs.Obey.PulseNumbers.{number_at, first_of, last_of, join_last_of, time_of};
+ghost use Rattle.irig_script.specs.Obey.Replies.{Calls, Formats, Lists, Makes, Shows, format};
+ghost use Rattle.irig_script.specs.Obey.Replies.{reply_to};
+ghost use Rattle.irig_script.specs.Obey.PulseNumbers.{number_at, first_of, last_of, join_last_of};
+ghost use Rattle.irig_script.specs.Obey.PulseNumbers.{time_of};
 
 use crate::obey::pulse_numbers::{ends, join_ends, number_at, time};
 use crate::print::reply::Reply;

@@ -25,9 +25,10 @@ pub enum DumpRunFault {
     Run(RunFault),
 }
 
-/// Opens a dump and obeys a script on its session, from the bytes that come in to those that go out.
-/// The wire is chosen by its name, if one is given, and frames are read in the format, unless the
-/// dump has a journal with another. The bytes of the dump are dropped before the script is read.
+/// Opens a dump and obeys a script on its session, from the bytes that come in to those that go
+/// out. The wire is chosen by its name, if one is given, and frames are read in the format, unless
+/// the dump has a journal with another. The bytes of the dump are dropped before the script is
+/// read.
 pub fn run_on_dump<R: Read, W: Write, S: Shelf>(
     alloc: Global,
     source: Vec<u8>,

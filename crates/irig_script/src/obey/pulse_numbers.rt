@@ -2,7 +2,8 @@
 
 ghost use Rattle.std.specs.Prelude.{◌≡◌, ◌+◌, ◌-◌};
 ghost use Rattle.irig_track.specs.Shifts.{ahead, back};
-ghost use Rattle.irig_script.specs.Obey.PulseNumbers.{mark_of, base_of, pulse_at, number_at, first_of, last_of, join_last_of, time_of};
+ghost use Rattle.irig_script.specs.Obey.PulseNumbers.{mark_of, base_of, pulse_at, number_at};
+ghost use Rattle.irig_script.specs.Obey.PulseNumbers.{first_of, last_of, join_last_of, time_of};
 
 use crate::script::address::{Address, Base};
 use crate::script::letter::Letter;

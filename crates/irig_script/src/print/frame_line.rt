@@ -1,7 +1,9 @@
 //! The line that the command `frames` prints of a record.
 
 ghost use Rattle.std.specs.Prelude.{◌≡◌, ◌≤◌, ◌+◌, ◌++◌, length};
-ghost use Rattle.irig_script.specs.Print.FrameLine.{cause_word, name_word, note_text, time_text, parts_text, verdict_text, frame_line, hundredths_text, clock_text};
+ghost use Rattle.irig_script.specs.Print.FrameLine.{cause_word, name_word, note_text, time_text};
+ghost use Rattle.irig_script.specs.Print.FrameLine.{parts_text, verdict_text, frame_line};
+ghost use Rattle.irig_script.specs.Print.FrameLine.{hundredths_text, clock_text};
 
 use crate::print::row::Row;
 use irig_codes::{Fields, Name, Note};

@@ -1,6 +1,7 @@
 //! One printed line, while it is put together.
 
-ghost use Rattle.std.specs.Prelude.{◌≡◌, ◌<◌, ◌≤◌, ◌+◌, ◌-◌, ◌++◌, [], length, decimal, take, false};
+ghost use Rattle.std.specs.Prelude.{◌≡◌, ◌<◌, ◌≤◌, ◌+◌, ◌-◌, ◌++◌, [], length, decimal, take};
+ghost use Rattle.std.specs.Prelude.{false};
 ghost use Rattle.std.specs.Fmt.{digit_glyph};
 ghost use Rattle.irig_script.specs.Print.Row.{padded, hexadecimal};
 

@@ -2,7 +2,8 @@
 
 ghost use Rattle.std.specs.Prelude.{◌≡◌, ℤ, [], true, IfOk, OnErr};
 ghost use Rattle.irig_script.specs.Script.Letters.{is_letter};
-ghost use Rattle.irig_script.specs.Script.Addresses.{IsBase, IsOffset, IsAddress, IsPair, IsAddressOrCursor, IsRange, IsTime, at};
+ghost use Rattle.irig_script.specs.Script.Addresses.{IsBase, IsOffset, IsAddress, IsPair};
+ghost use Rattle.irig_script.specs.Script.Addresses.{IsAddressOrCursor, IsRange, IsTime, at};
 ghost use Rattle.irig_script.specs.declared.script.address.Base.{Base};
 ghost use Rattle.irig_script.specs.declared.script.address.Address.{Address};
 ghost use Rattle.irig_script.specs.declared.script.range.Range.{Range};

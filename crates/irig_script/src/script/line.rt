@@ -1,6 +1,7 @@
 //! The line of a script that is being read.
 
-ghost use Rattle.std.specs.Prelude.{◌≡◌, ◌≤◌, ◌<◌, ◌++◌, ◌∷◌, [], ◌≢◌, ℕ, List, IfSome, IfNone, length, ◌==◌};
+ghost use Rattle.std.specs.Prelude.{◌≡◌, ◌≤◌, ◌<◌, ◌++◌, ◌∷◌, [], ◌≢◌, ℕ, List, IfSome, IfNone};
+ghost use Rattle.std.specs.Prelude.{length, ◌==◌};
 
 /// The most bytes of a line, its newline not counted.
 const LINE_LIMIT: usize = 1000;

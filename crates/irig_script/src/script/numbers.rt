@@ -1,7 +1,8 @@
 //! Numbers of a script.
 
 ghost use Rattle.std.specs.Prelude.{◌≡◌, ◌<◌, ◌^◌, ℕ, ℤ, IfOk, OnErr};
-ghost use Rattle.irig_script.specs.Script.Numbers.{IsNumber, IsDistance, IsControl, IsSigned, is_digit, size, hex_digit};
+ghost use Rattle.irig_script.specs.Script.Numbers.{IsNumber, IsDistance, IsControl, IsSigned};
+ghost use Rattle.irig_script.specs.Script.Numbers.{is_digit, size, hex_digit};
 
 use crate::script::command::BadLine;
 use crate::script::cutting::is_sign;

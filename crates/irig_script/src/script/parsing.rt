@@ -1,6 +1,7 @@
 //! Lines of a script as commands.
 
-ghost use Rattle.std.specs.Prelude.{◌≡◌, ◌++◌, ◌&&◌, ◌||◌, not, ℕ, List, [], true, IfOk, OnOk, OnErr};
+ghost use Rattle.std.specs.Prelude.{◌≡◌, ◌++◌, ◌&&◌, ◌||◌, not, ℕ, List, [], true, IfOk, OnOk};
+ghost use Rattle.std.specs.Prelude.{OnErr};
 ghost use Rattle.irig_script.specs.Script.Addresses.{IsRange};
 ghost use Rattle.irig_script.specs.Script.Commands.{Asks};
 ghost use Rattle.irig_script.specs.Script.Letters.{is_letter};

@@ -19,8 +19,10 @@ loop-place-preserved c =
     let slot = slot-of-part c.args.format c.args.part c.loop-place.place c.carried-slots.result.now c.loop-place-test.true c.carried-slots.ensures in
     let v = c.element_of.ensures ∙ ap (element_of c.args.digits.now) slot in
     record {
-      put = put-more (λ e. element_of c.args.digits.now (slot_at c.args.format e)) c.args.frame.now c.loop-place.frame (10 * c.args.part) c.loop-place.place c.element_of.result (omega (arith, c.loop-place-test.true, c.requires, c.loop-place.invariant.long)) c.loop-place.invariant.put v;
-      rest = drop-set-lt (10 * c.args.part + 10) c.loop-place.frame at c.element_of.result (omega (arith, c.loop-place-test.true)) ∙ c.loop-place.invariant.rest;
+      put = put-more (λ e. element_of c.args.digits.now (slot_at c.args.format e)) c.args.frame.now c.loop-place.frame (10 * c.args.part) c.loop-place.place
+          c.element_of.result (omega (arith, c.loop-place-test.true, c.requires, c.loop-place.invariant.long)) c.loop-place.invariant.put v;
+      rest = drop-set-lt (10 * c.args.part + 10) c.loop-place.frame at c.element_of.result (omega (arith, c.loop-place-test.true))
+          ∙ c.loop-place.invariant.rest;
       long = length-set c.loop-place.frame at c.element_of.result ∙ c.loop-place.invariant.long;
     }
 

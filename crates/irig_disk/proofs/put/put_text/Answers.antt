@@ -18,7 +18,8 @@ loop-preserved g c =
         inv.2.0 ++ done.0,
         more_text inv.2.0 done.0 _ _ _ inv.2.1 done.1,
         more_count inv.2.0 done.0 _ _ inv.2.2 done.2,
-        λ told. called _ _ _ _ _ _ _ _ _ _ _ c.append_next.ensures.beside refl c.append_next.ensures.file refl (done.3 told c.args.target.now _ c.args.folder.now inv.2.0 (inv.2.3 told)),
+        λ told. called _ _ _ _ _ _ _ _ _ _ _ c.append_next.ensures.beside refl c.append_next.ensures.file refl
+            (done.3 told c.args.target.now _ c.args.folder.now inv.2.0 (inv.2.3 told)),
       ),
     )
 

@@ -7,7 +7,8 @@ use Rattle.irig_ed.specs.declared.ending.Ending.{Ending}
 use Rattle.irig_ed.specs.declared.ending.Ending.TheVariants.{Usage, Unread, Ran}
 use Rattle.irig_ed.proofs.file_run.obey_words.Goals as goal
 
-ends_by : (words : List Text) (held : List ℕ → Option (List ℕ)) (old new : Ends) (chosen : Settings) (ending : Ending) → Reads words (Ok chosen) → Obeys held old new chosen ending → EndsBy words held old new ending
+ends_by : (words : List Text) (held : List ℕ → Option (List ℕ)) (old new : Ends) (chosen : Settings) (ending : Ending) → Reads words (Ok chosen)
+    → Obeys held old new chosen ending → EndsBy words held old new ending
 ends_by words held old new chosen (Usage fault) r o = absurd o
 ends_by words held old new chosen (Unread path fault) r o = (chosen, r, o)
 ends_by words held old new chosen (Ran path result) r o = (chosen, r, o)

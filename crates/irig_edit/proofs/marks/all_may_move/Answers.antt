@@ -3,7 +3,8 @@ use Rattle.std.proofs.lemmas.Int.{to_z-of_z}
 use Rattle.irig_edit.specs.Marks.{AllMayMove}
 use Rattle.irig_edit.proofs.MovedMarks.{may_more, may_all, may_one}
 use Rattle.irig_edit.proofs.marks.all_may_move.Goals as goal
-use Rattle.irig_edit.proofs.marks.all_may_move.Goals.{else-letters-letter-via-then-letters-letter+else-not-may_move, else-letters-letter-via-else-letters-letter}
+use Rattle.irig_edit.proofs.marks.all_may_move.Goals.{else-letters-letter-via-then-letters-letter+else-not-may_move}
+use Rattle.irig_edit.proofs.marks.all_may_move.Goals.{else-letters-letter-via-else-letters-letter}
 
 pub returns-then-not-may_move : goal.returns-then-not-may_move
 returns-then-not-may_move c =
@@ -12,7 +13,8 @@ returns-then-not-may_move c =
       (λ yes. let bad : false ≡ true = yes in cc),
       (λ all.
           let may = may_one c.args.micros (to_z w64 (of_z w64 c.args.by)) c.loop-letter.letter c.args.letters.now c.args.marks.now
-          (omega (arith, c.told-letters, c.loop-letter-test.true)) (omega (arith, c.told-marks, c.loop-letter-test.true)) (subst P (sym same) all) c.if-letters-letter.true in
+          (omega (arith, c.told-letters, c.loop-letter-test.true)) (omega (arith, c.told-marks, c.loop-letter-test.true)) (subst P (sym same) all)
+          c.if-letters-letter.true in
           let yes : c.may_move.result ≡ true = c.may_move.ensures.1 may in
           let no : c.may_move.result ≡ false = c.if-not-may_move.true in
           let bad : false ≡ true = cc in

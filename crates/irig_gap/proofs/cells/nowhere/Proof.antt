@@ -1,5 +1,9 @@
 -- `nowhere` makes a row of no bytes of nothing. Assumes `Logic`.
-use Rattle.irig_gap.proofs.Steps.{◌≡◌, refl, sym, ap, subst, ◌∙◌, ℕ, ◌*◌, ◌<◌, ◌^◌, [], ◌∷◌, lit<, length, replicate, length-replicate, w64, named, inst_fn, ◌⊑◌, fact, ‵, raw, ◌⊛◌, ◌$◌, ◌∵◌, !, qed, done, move, keep, drop, use0, split, fjoin, suffices, agg, stop, addr, of_opd, and_then, no_more, returns, enter, alloc_all, pass_all, free_all, look_at, local, through, sets, u8, usize, RefOf, yes, uint_vals, uint_Tells, owns, block_ptr, shr_vals, shr_Tells, plain, types_at, heard, nothing, alive, Stays, stay_dropped, walk_of, Goes-dropped, ends_at, says, proved, None, El, R, args}
+use Rattle.irig_gap.proofs.Steps.{◌≡◌, refl, sym, ap, subst, ◌∙◌, ℕ, ◌*◌, ◌<◌, ◌^◌, [], ◌∷◌, lit<, length, replicate, length-replicate, w64, named, inst_fn}
+use Rattle.irig_gap.proofs.Steps.{◌⊑◌, fact, ‵, raw, ◌⊛◌, ◌$◌, ◌∵◌, !, qed, done, move, keep, drop, use0, split, fjoin, suffices, agg, stop, addr, of_opd}
+use Rattle.irig_gap.proofs.Steps.{and_then, no_more, returns, enter, alloc_all, pass_all, free_all, look_at, local, through, sets, u8, usize, RefOf, yes}
+use Rattle.irig_gap.proofs.Steps.{uint_vals, uint_Tells, owns, block_ptr, shr_vals, shr_Tells, plain, types_at, heard, nothing, alive, Stays, stay_dropped}
+use Rattle.irig_gap.proofs.Steps.{walk_of, Goes-dropped, ends_at, says, proved, None, El, R, args}
 use Rattle.irig_gap.specs.Cells.{row}
 use Rattle.irig_gap.proofs.Rows.{Ce, sz, word, of_nothing, cells_made}
 use Rattle.irig_gap.specs.contracts.cells.nowhere as F
@@ -18,7 +22,8 @@ nowhere_spec 𝓤 𝓛 𝓜 𝓡 wired X L =
     let W = walk_of 𝓛 (F.ended X) stayed c in let b = a.0.ref_ptr.0 in let o = a.0.ref_ptr.1 in let len = a.1.0 in
     let y : W.Ghost = ((κs, qs, bounds, a, (shr_vals a.0, (uint_vals w64 len, tt))), g) in
     let made : (Ce E).Denot = record { start = block_ptr b o; slots = replicate len None } in
-    qed 𝓛 ((raw (alive 𝓛 (F.signature X) κs qs) ⊛ ‵ (owns (types_at (F.signature X).params κs) a y.0.4)) ∷ (raw (fact 𝓤 (κs.1.0 ⊑ X.lives)) ⊛ raw (fact 𝓤 (len * s ≡ 0))) ∷ []) ∵
+    qed 𝓛 ((raw (alive 𝓛 (F.signature X) κs qs) ⊛ ‵ (owns (types_at (F.signature X).params κs) a y.0.4))
+    ∷ (raw (fact 𝓤 (κs.1.0 ⊑ X.lives)) ⊛ raw (fact 𝓤 (len * s ≡ 0))) ∷ []) ∵
     move ! (1 ∷ []) $ split ! $ drop ! $ heard ! (len * s ≡ 0) (λ none.
     let long : length made.slots * s ≡ 0 = ap (λ (k : ℕ). k * s) (length-replicate len None) ∙ none in
     split ! $ enter ! _ _ _ _ _ $ alloc_all ! (λ l. pass_all ! refl ((tt, tt), ((tt, record { fits = are.1.0.1 }), tt)) $

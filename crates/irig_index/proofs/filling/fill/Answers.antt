@@ -58,7 +58,8 @@ loop-before-preserved c =
     let seen_then = ap (λ v. v.track.pulses) c.in-Some.ensures.passed.looked.lens ∙ seen in
     let passed = passed_in f ps _ c.loop-before.place before 2 _ _ _ _ seen c.in-Some.ensures.passed in
     let found = subst (λ qs. StandsAfter f qs before first) seen c.in-Some.ensures.found.1 in
-    let check = subst (λ qs. Checked f qs (before + 1) c.next_marker.new.lens c.verdict-verdict.new.lens c.next_marker.new.looks c.verdict-verdict.new.looks) seen_then c.verdict-verdict.ensures.looked in
+    let check = subst (λ qs. Checked f qs (before + 1) c.next_marker.new.lens c.verdict-verdict.new.lens c.next_marker.new.looks c.verdict-verdict.new.looks)
+    seen_then c.verdict-verdict.ensures.looked in
     let verdict = c.verdict-verdict.ensures.verdict ∙ ap (λ qs. verdict_of f (frame_at qs (before + 1))) seen_then in
     let next = c.next_place-place.result in
     let alone : (k : ℕ) → before + 1 ≤ k → k < next → record_after f ps k ≡ [] =
@@ -69,10 +70,12 @@ loop-before-preserved c =
       within = c.next_place-place.ensures.within;
       left = c.in_ok-put.ensures.left ∙ ((λ i. so_far.left i ++ (record { marker = before + 1; verdict = verdict i }) ∷ [])
           ∙ (append_assoc (left_of c.args.records.now) (records_in f ps c.args.from (place - c.args.from)) (found_record f ps before ∷ [])
-          ∙ ap (λ rs. left_of c.args.records.now ++ rs) (sym (window_found f ps c.args.from place before first so_far.spent.order passed.order passed.none found)
+          ∙ ap (λ rs. left_of c.args.records.now ++ rs) (sym (window_found f ps c.args.from place before first so_far.spent.order passed.order passed.none
+          found)
           ∙ sym (window_none f ps c.args.from (before + 1) next (omega (arith, so_far.spent.order, passed.order)) c.next_place-place.ensures.order alone))));
       right = c.in_ok-put.ensures.right ∙ so_far.right;
-      room = λ enough. (c.in_ok-put.ensures.room (fits f ps c.args.from place before c.args.to _ _ first so_far.spent.order passed.order c.in-Some.ensures.found.0 passed.none found
+      room = λ enough. (c.in_ok-put.ensures.room (fits f ps c.args.from place before c.args.to _ _ first so_far.spent.order passed.order
+          c.in-Some.ensures.found.0 passed.none found
           so_far.left so_far.right enough (so_far.room enough))).1 ∙ so_far.room enough;
       bounded = omega (arith, so_far.bounded, c.in_ok-put.ensures.bounded, c.in_ok-put.ensures.long);
     }
@@ -86,7 +89,8 @@ returns-in_err-put-clause-room c = λ enough.
     let seen = ap (λ v. v.track.pulses) so_far.spent.looked.lens in
     let passed = passed_in f ps _ c.loop-before.place before 2 _ _ _ _ seen c.in-Some.ensures.passed in
     let found = subst (λ qs. StandsAfter f qs before c.in-Some.first) seen c.in-Some.ensures.found.1 in
-    let room = c.in_err-put.ensures.room (fits f ps c.args.from c.loop-before.place before c.args.to _ _ c.in-Some.first so_far.spent.order passed.order c.in-Some.ensures.found.0 passed.none found
+    let room = c.in_err-put.ensures.room (fits f ps c.args.from c.loop-before.place before c.args.to _ _ c.in-Some.first so_far.spent.order passed.order
+    c.in-Some.ensures.found.0 passed.none found
     so_far.left so_far.right enough (so_far.room enough)) in
     absurd (cc room.0)
 
@@ -100,8 +104,10 @@ returns-in_err-put-clause-looked c =
     let seen_then = ap (λ v. v.track.pulses) c.in-Some.ensures.passed.looked.lens ∙ seen in
     let passed = passed_in f ps _ c.loop-before.place before 2 _ _ _ _ seen c.in-Some.ensures.passed in
     let found = subst (λ qs. StandsAfter f qs before c.in-Some.first) seen c.in-Some.ensures.found.1 in
-    let check = subst (λ qs. Checked f qs (before + 1) c.next_marker.new.lens c.verdict-verdict.new.lens c.next_marker.new.looks c.verdict-verdict.new.looks) seen_then c.verdict-verdict.ensures.looked in
-    let spent = spent_checked f ps c.args.from c.loop-before.place before _ _ _ _ _ _ _ _ so_far.spent passed check (some_after f ps before c.in-Some.first found) in
+    let check = subst (λ qs. Checked f qs (before + 1) c.next_marker.new.lens c.verdict-verdict.new.lens c.next_marker.new.looks c.verdict-verdict.new.looks)
+    seen_then c.verdict-verdict.ensures.looked in
+    let spent = spent_checked f ps c.args.from c.loop-before.place before _ _ _ _ _ _ _ _ so_far.spent passed check
+    (some_after f ps before c.in-Some.first found) in
     let w = c.args.to - c.args.from in
     looked_up _ _ _ _ _ (min (101 * w) (3 * w + 98)) (spent_all f ps c.args.from (before + 1) _ _ _ _ spent) (omega (arith, c.in-Some.ensures.found.0))
 
@@ -112,7 +118,8 @@ returns-clause-left c =
     let so_far = c.loop-before.invariant in
     let seen = ap (λ v. v.track.pulses) so_far.spent.looked.lens in
     let passed = passed_in f ps _ c.loop-before.place c.args.to 0 _ _ _ _ seen c.in_default.ensures.passed in
-    so_far.left ∙ ap (λ rs. left_of c.args.records.now ++ rs) (sym (window_none f ps c.args.from c.loop-before.place c.args.to so_far.spent.order passed.order passed.none))
+    so_far.left ∙ ap (λ rs. left_of c.args.records.now ++ rs)
+    (sym (window_none f ps c.args.from c.loop-before.place c.args.to so_far.spent.order passed.order passed.none))
 
 pub returns-clause-looked : goal.returns-clause-looked
 returns-clause-looked c =

@@ -1,4 +1,5 @@
-use Rattle.std.proofs.Common.{◌≡◌, ◌+◌, ◌-◌, ◌<◌, ◌≤◌, ◌∷◌, ◌++◌, [], length, drop, slice_get, unwrap_or, true, false, cond, None, refl, ap, sym, ◌∙◌, arith, take, List}
+use Rattle.std.proofs.Common.{◌≡◌, ◌+◌, ◌-◌, ◌<◌, ◌≤◌, ◌∷◌, ◌++◌, [], length, drop, slice_get, unwrap_or, true, false, cond, None, refl, ap, sym, ◌∙◌, arith}
+use Rattle.std.proofs.Common.{take, List}
 use Rattle.std.proofs.lemmas.List.{length-append, length-take}
 use Rattle.std.proofs.lemmas.Option.{slice_get_within}
 use Rattle.irig_codes.specs.declared.width.Element.{Element}
@@ -17,7 +18,8 @@ use Rattle.irig_index.specs.Verdict.{elements_of, first_fault, judged, suits}
 use Rattle.irig_index.proofs.CheckLemmas.{alone_next, digits_next, is_due, suits_other}
 use Rattle.irig_index.proofs.LookLemmas.{lens_next}
 use Rattle.irig_index.proofs.PulseLemmas.{rise-rise, slice_get-part, take-all}
-use Rattle.irig_index.proofs.VerdictLemmas.{fault-ended, fault-step, fault-class, fault-none, elements-next, first_fault-here, first_fault-next, first_fault-zero}
+use Rattle.irig_index.proofs.VerdictLemmas.{fault-ended, fault-step, fault-class, fault-none, elements-next, first_fault-here, first_fault-next}
+use Rattle.irig_index.proofs.VerdictLemmas.{first_fault-zero}
 use Rattle.irig_index.proofs.frame.check.Goals as goal
 
 pub loop-k-init : goal.loop-k-init
@@ -47,7 +49,8 @@ returns-then-count-lt100-clause-verdict c =
     let within : k < 100 = omega (arith, some) in
     let reached : c.min-count.result ≡ k = omega (arith, some) in
     let fails = fault-ended f ps c.args.at k c.loop-k.before (omega arith) (omega (arith, within)) c.loop-k.invariant.before past in
-    ap (λ n. Broken n Ended) reached ∙ sym (ap (judged f (frame_at ps c.args.at)) (sym c.loop-k.invariant.rest ∙ first_fault-here f _ (100 - k) (99 - k) k (omega (arith, within)) Ended fails))
+    ap (λ n. Broken n Ended) reached ∙ sym (ap (judged f (frame_at ps c.args.at))
+    (sym c.loop-k.invariant.rest ∙ first_fault-here f _ (100 - k) (99 - k) k (omega (arith, within)) Ended fails))
 
 pub overflow_sub-pulse : goal.overflow_sub-pulse
 overflow_sub-pulse c =
@@ -61,7 +64,8 @@ returns-then-not-step_in-clause-verdict c =
     let k = c.loop-k.k in
     let p = c.pulse-pulse.result in
     let here = ap (λ v. slice_get v.track.pulses (c.args.at + k)) (sym c.loop-k.invariant.lens) ∙ c.pulse-pulse.ensures.value in
-    let off : follows f c.loop-k.before p ≡ false = ap (λ n. step_in n (p.rise - c.loop-k.before.rise)) (sym c.interval-interval.ensures.value) ∙ (sym c.step_in.ensures ∙ c.if-not-step_in.true) in
+    let off : follows f c.loop-k.before p ≡ false = ap (λ n. step_in n (p.rise - c.loop-k.before.rise)) (sym c.interval-interval.ensures.value)
+    ∙ (sym c.step_in.ensures ∙ c.if-not-step_in.true) in
     let fails = fault-step f ps c.args.at k c.loop-k.before (omega arith) (omega arith) c.loop-k.invariant.before p here off in
     sym (ap (judged f (frame_at ps c.args.at)) (sym c.loop-k.invariant.rest ∙ first_fault-here f _ (100 - k) (99 - k) k (omega arith) Step fails))
 
@@ -73,10 +77,12 @@ returns-in_default-clause-verdict c =
     let p = c.pulse-pulse.result in
     let interval = c.interval-interval.ensures.value in
     let here = ap (λ v. slice_get v.track.pulses (c.args.at + k)) (sym c.loop-k.invariant.lens) ∙ c.pulse-pulse.ensures.value in
-    let on : follows f c.loop-k.before p ≡ true = ap (λ n. step_in n (p.rise - c.loop-k.before.rise)) (sym interval) ∙ (sym c.step_in.ensures ∙ c.if-not-step_in.false) in
+    let on : follows f c.loop-k.before p ≡ true = ap (λ n. step_in n (p.rise - c.loop-k.before.rise)) (sym interval)
+    ∙ (sym c.step_in.ensures ∙ c.if-not-step_in.false) in
     let due = is_due c.loop-k.digits k c.loop-k.invariant.digits in
     let off : suits k (class_at f p) ≡ false =
-    (λ i. cond (sym due i) (is_position (class_in (sym interval i) (p.fall - p.rise))) (is_digit (class_in (sym interval i) (p.fall - p.rise)))) ∙ c.in_default.ensures in
+    (λ i. cond (sym due i) (is_position (class_in (sym interval i) (p.fall - p.rise))) (is_digit (class_in (sym interval i) (p.fall - p.rise))))
+    ∙ c.in_default.ensures in
     let fails = fault-class f ps c.args.at k c.loop-k.before (omega arith) (omega arith) c.loop-k.invariant.before p here on off in
     sym (ap (judged f (frame_at ps c.args.at)) (sym c.loop-k.invariant.rest ∙ first_fault-here f _ (100 - k) (99 - k) k (omega arith) Class fails))
 
@@ -90,10 +96,12 @@ loop-k-preserved c =
     let interval = c.interval-interval.ensures.value in
     let so_far = c.loop-k.invariant in
     let here = ap (λ v. slice_get v.track.pulses (c.args.at + k)) (sym so_far.lens) ∙ c.pulse-pulse.ensures.value in
-    let on : follows f c.loop-k.before p ≡ true = ap (λ n. step_in n (p.rise - c.loop-k.before.rise)) (sym interval) ∙ (sym c.step_in.ensures ∙ c.if-not-step_in.false) in
+    let on : follows f c.loop-k.before p ≡ true = ap (λ n. step_in n (p.rise - c.loop-k.before.rise)) (sym interval)
+    ∙ (sym c.step_in.ensures ∙ c.if-not-step_in.false) in
     let due = is_due c.loop-k.digits k so_far.digits in
     let also : suits k (class_at f p) ≡ true =
-    (λ i. cond (sym due i) (is_position (class_in (sym interval i) (p.fall - p.rise))) (is_digit (class_in (sym interval i) (p.fall - p.rise)))) ∙ c.in-Some.ensures.0 in
+    (λ i. cond (sym due i) (is_position (class_in (sym interval i) (p.fall - p.rise))) (is_digit (class_in (sym interval i) (p.fall - p.rise))))
+    ∙ c.in-Some.ensures.0 in
     let sound = fault-none f ps c.args.at k c.loop-k.before (omega arith) (omega arith) so_far.before p here on also in
     let in_frame = slice_get-part 100 c.args.at ps k (c.args.at + k) (omega arith) refl ∙ here in
     let e : Element = unwrap_or (class_at f p) Zero in
@@ -104,7 +112,8 @@ loop-k-preserved c =
     let fuel : 100 - (k + 1) ≡ 99 - k = omega arith in
     let made : k - 1 + 1 ≡ k + 1 - 1 = omega arith in
     record {
-      lens = lens_next c.args.lens.now c.loop-k.lens _ (k - 1) so_far.lens c.pulse-pulse.ensures.counted ∙ ap (λ n. lens_view c.args.lens.now.track (after_looks c.args.lens.now.looks n)) made;
+      lens = lens_next c.args.lens.now c.loop-k.lens _ (k - 1) so_far.lens c.pulse-pulse.ensures.counted
+          ∙ ap (λ n. lens_view c.args.lens.now.track (after_looks c.args.lens.now.looks n)) made;
       before = ap (slice_get ps) next ∙ here;
       long = ap (λ (xs : List Element). length xs) grown ∙ (length-append gathered (e ∷ []) ∙ ap (λ n. n + 1) so_far.long);
       ones = ap (λ (xs : List Element). raised xs) grown ∙ c.and-ones-in-loop-k.ensures gathered e (omega (arith, so_far.long)) so_far.ones one;
@@ -123,7 +132,8 @@ returns-clause-verdict c =
     (let done : 100 - k ≡ 0 = omega arith in
     sym c.loop-k.invariant.rest ∙ (ap (λ n. first_fault f w n k) done ∙ first_fault-zero f w k)) in
     let whole : k ≡ 100 = omega arith in
-    let all : elements_of f (take k w) ≡ elements_of f w = ap (elements_of f) (take-all w k (omega (arith, length-take 100 (drop c.args.at c.args.lens.now.track.pulses)))) in
+    let all : elements_of f (take k w) ≡ elements_of f w = ap (elements_of f)
+    (take-all w k (omega (arith, length-take 100 (drop c.args.at c.args.lens.now.track.pulses)))) in
     let read = c.decode_ones-note.ensures (elements_of f (take k w)) (c.loop-k.invariant.long ∙ whole)
     (c.ones.ensures (elements_of f (take k w)) (c.loop-k.invariant.long ∙ whole) c.loop-k.invariant.ones) in
     ap (λ d. Read d.0 d.1) (read ∙ ap (decoded f) all) ∙ sym (ap (judged f w) none)

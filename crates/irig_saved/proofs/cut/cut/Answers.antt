@@ -15,5 +15,8 @@ returns c =
     let text = c.args.text.now in
     let at = c.in_ok-at.at in
     let found = c.in_ok-at.ensures in
-    let within : at < length text = found.0.high in
-    (parts_at c.args.byte at text within (eqb-true (get_or text at 0) c.args.byte found.1) ∙ ap (λ (l : List ℕ). take at text ++ c.args.byte ∷ l) (sym (take_rest text (at + 1))), lacks_take c.args.byte at text within (λ j lt e. found.0.before j (omega arith) lt (eq-eqb (get_or text j 0) c.args.byte e)))
+    let within : at < length text = found.0.high in (
+      parts_at c.args.byte at text within (eqb-true (get_or text at 0) c.args.byte found.1)
+          ∙ ap (λ (l : List ℕ). take at text ++ c.args.byte ∷ l) (sym (take_rest text (at + 1))),
+      lacks_take c.args.byte at text within (λ j lt e. found.0.before j (omega arith) lt (eq-eqb (get_or text j 0) c.args.byte e)),
+    )

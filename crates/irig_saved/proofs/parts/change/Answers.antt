@@ -8,7 +8,8 @@ returns-in_default c = no_change_stops c.args.text.now c.in_default.ensures
 pub returns-in-Err : goal.returns-in-Err
 returns-in-Err c =
     stopped c.in-Err.stop
-    (λ rest s. group_stops c.args.text.now c.in-Some.line.now c.in-Some.next.now rest c.in-Some-counted.count c.in-Some.ensures.0 c.in-Some.ensures.1 c.in-Some-counted.ensures.0 c.in-Some-counted.ensures.1 s)
+    (λ rest s. group_stops c.args.text.now c.in-Some.line.now c.in-Some.next.now rest c.in-Some-counted.count c.in-Some.ensures.0 c.in-Some.ensures.1
+    c.in-Some-counted.ensures.0 c.in-Some-counted.ensures.1 s)
     (λ m. tt) c.in-Err.ensures
 
 pub returns-in-Err-single : goal.returns-in-Err-single

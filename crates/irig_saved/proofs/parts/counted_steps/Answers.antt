@@ -10,7 +10,8 @@ pub returns-in_default : goal.returns-in_default
 returns-in_default c = no_counted_stops c.args.head.now c.args.text.now c.in_default.ensures
 
 pub returns-in_default-counted : goal.returns-in_default-counted
-returns-in_default-counted c = counted_line_stops c.args.head.now c.args.text.now c.in-Some.line.now c.in-Some.next.now c.requires c.in-Some.ensures.0 c.in-Some.ensures.1 c.in_default-counted.ensures
+returns-in_default-counted c = counted_line_stops c.args.head.now c.args.text.now c.in-Some.line.now c.in-Some.next.now c.requires c.in-Some.ensures.0
+    c.in-Some.ensures.1 c.in_default-counted.ensures
 
 pub returns : goal.returns
 returns c =

@@ -15,5 +15,6 @@ loop-letter-preserved c =
     let size : length (take k ms) ≡ k = length-take-le k ms (omega (arith, within)) in
     let P : ℕ → Type 0 = λ n. Leads (97 + n) (m ∷ []) rest next in (
       length-set ms k m ∙ c.loop-letter.invariant.0,
-      rw (take_more_set ms k m within) (lead_more 97 (take k ms) m c.args.text.now rest next c.loop-letter.invariant.1 (subst P (sym size) c.marked-time.ensures)),
+      rw (take_more_set ms k m within) (lead_more 97 (take k ms) m c.args.text.now rest next c.loop-letter.invariant.1
+          (subst P (sym size) c.marked-time.ensures)),
     )

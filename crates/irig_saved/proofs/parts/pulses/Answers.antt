@@ -12,17 +12,21 @@ loop-init c = rw c.new-pulses.ensures (row_begins IsPulse one_line pulse_lines p
 
 pub loop-preserved : goal.loop-preserved
 loop-preserved c =
-    let one = line_reads IsPulse pulse_line c.loop.rest.now c.in-Some.line.now c.in-Some.next.now c.in-Some-pulse.pulse c.in-Some.ensures.0 c.in-Some-pulse.ensures.0 c.in-Some-pulse.ensures.1 in
-    rw c.in-Ok.ensures.pushed (row_next IsPulse one_line pulse_lines pulse_family c.loop.counter c.args.text.now c.loop.pulses c.loop.rest.now c.in-Some-pulse.pulse c.in-Some.next.now c.loop.invariant one)
+    let one = line_reads IsPulse pulse_line c.loop.rest.now c.in-Some.line.now c.in-Some.next.now c.in-Some-pulse.pulse c.in-Some.ensures.0
+    c.in-Some-pulse.ensures.0 c.in-Some-pulse.ensures.1 in
+    rw c.in-Ok.ensures.pushed (row_next IsPulse one_line pulse_lines pulse_family c.loop.counter c.args.text.now c.loop.pulses c.loop.rest.now
+    c.in-Some-pulse.pulse c.in-Some.next.now c.loop.invariant one)
 
 pub returns-in_default : goal.returns-in_default
 returns-in_default c =
-    row_stops IsPulse one_line pulse_lines pulse_family c.loop.counter c.args.count c.args.text.now c.loop.pulses c.loop.rest.now c.loop.rest.now (omega arith) c.loop.invariant
+    row_stops IsPulse one_line pulse_lines pulse_family c.loop.counter c.args.count c.args.text.now c.loop.pulses c.loop.rest.now c.loop.rest.now (omega arith)
+    c.loop.invariant
     (no_pulse_stops c.loop.rest.now c.in_default.ensures)
 
 pub returns-in_default-pulse : goal.returns-in_default-pulse
 returns-in_default-pulse c =
-    row_stops IsPulse one_line pulse_lines pulse_family c.loop.counter c.args.count c.args.text.now c.loop.pulses c.loop.rest.now c.loop.rest.now (omega arith) c.loop.invariant
+    row_stops IsPulse one_line pulse_lines pulse_family c.loop.counter c.args.count c.args.text.now c.loop.pulses c.loop.rest.now c.loop.rest.now (omega arith)
+    c.loop.invariant
     (pulse_stops c.loop.rest.now c.in-Some.line.now c.in-Some.next.now c.in-Some.ensures.0 c.in-Some.ensures.1 c.in_default-pulse.ensures)
 
 pub returns : goal.returns

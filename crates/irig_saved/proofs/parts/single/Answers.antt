@@ -7,14 +7,17 @@ returns-in_default c = no_single_stops c.args.text.now c.in_default.ensures
 
 pub returns-in-None : goal.returns-in-None
 returns-in-None c =
-    single_line_stops c.args.text.now c.in-Some.line.now c.in-Some.next.now c.in-Some.ensures.0 c.in-Some.ensures.1 c.in_default-splice.ensures c.in-None.ensures
+    single_line_stops c.args.text.now c.in-Some.line.now c.in-Some.next.now c.in-Some.ensures.0 c.in-Some.ensures.1 c.in_default-splice.ensures
+    c.in-None.ensures
 
 pub returns-in-Some-short : goal.returns-in-Some-short
 returns-in-Some-short c =
-    short_reads c.args.text.now c.in-Some.line.now c.in-Some.next.now c.in-Some-short.single c.in-Some.ensures.0 c.in-Some-short.ensures.0 c.in-Some-short.ensures.1
+    short_reads c.args.text.now c.in-Some.line.now c.in-Some.next.now c.in-Some-short.single c.in-Some.ensures.0 c.in-Some-short.ensures.0
+    c.in-Some-short.ensures.1
 
 pub returns-in-Err : goal.returns-in-Err
 returns-in-Err c =
     stopped c.in-Err.stop
-    (λ rest s. splice_stops c.args.text.now c.in-Some.line.now c.in-Some.next.now rest (c.in-Some-splice.at, c.in-Some-splice.count, c.in-Some-splice.put) c.in-Some.ensures.0 c.in-Some.ensures.1 c.in-Some-splice.ensures.0 c.in-Some-splice.ensures.1 s)
+    (λ rest s. splice_stops c.args.text.now c.in-Some.line.now c.in-Some.next.now rest (c.in-Some-splice.at, c.in-Some-splice.count, c.in-Some-splice.put)
+    c.in-Some.ensures.0 c.in-Some.ensures.1 c.in-Some-splice.ensures.0 c.in-Some-splice.ensures.1 s)
     (λ m. tt) c.in-Err.ensures

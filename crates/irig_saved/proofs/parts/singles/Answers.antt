@@ -12,12 +12,14 @@ loop-init c = rw c.new-singles.ensures (row_begins IsSingle single_lines singles
 
 pub loop-preserved : goal.loop-preserved
 loop-preserved c =
-    rw c.in-Ok-push.ensures.pushed (row_next IsSingle single_lines singles_lines single_family c.loop.counter c.args.text.now c.loop.singles c.loop.rest.now c.in-Ok.read.0 c.in-Ok.read.1.now c.loop.invariant c.in-Ok.ensures)
+    rw c.in-Ok-push.ensures.pushed (row_next IsSingle single_lines singles_lines single_family c.loop.counter c.args.text.now c.loop.singles c.loop.rest.now
+    c.in-Ok.read.0 c.in-Ok.read.1.now c.loop.invariant c.in-Ok.ensures)
 
 pub returns-in-Err : goal.returns-in-Err
 returns-in-Err c =
     stopped c.in-Err.stop
-    (λ rest s. row_stops IsSingle single_lines singles_lines single_family c.loop.counter c.args.count c.args.text.now c.loop.singles c.loop.rest.now rest (omega arith) c.loop.invariant s)
+    (λ rest s. row_stops IsSingle single_lines singles_lines single_family c.loop.counter c.args.count c.args.text.now c.loop.singles c.loop.rest.now rest
+    (omega arith) c.loop.invariant s)
     (λ m. tt) c.in-Err.ensures
 
 pub returns : goal.returns

@@ -13,17 +13,22 @@ loop-init c = rw c.new-steps.ensures (row_begins IsStep step_lines steps_lines s
 
 pub loop-preserved : goal.loop-preserved
 loop-preserved c =
-    rw c.in-Ok-push.ensures.pushed (row_next IsStep step_lines steps_lines step_family c.loop.counter c.args.text.now c.loop.steps c.loop.rest.now c.in-Ok.read.0 c.in-Ok.read.1.now c.loop.invariant c.in-Ok.ensures)
+    rw c.in-Ok-push.ensures.pushed (row_next IsStep step_lines steps_lines step_family c.loop.counter c.args.text.now c.loop.steps c.loop.rest.now
+    c.in-Ok.read.0 c.in-Ok.read.1.now c.loop.invariant c.in-Ok.ensures)
 
 pub returns-in-Err : goal.returns-in-Err
 returns-in-Err c =
     stopped c.in-Err.stop
-    (λ rest s. row_stops IsStep step_lines steps_lines step_family c.loop.counter c.args.count c.args.text.now c.loop.steps c.loop.rest.now rest (omega arith) c.loop.invariant s)
+    (λ rest s. row_stops IsStep step_lines steps_lines step_family c.loop.counter c.args.count c.args.text.now c.loop.steps c.loop.rest.now rest (omega arith)
+    c.loop.invariant s)
     (λ first. (omega arith, steps_begin c.loop.counter c.args.text.now c.loop.steps c.loop.rest.now c.loop.invariant first)) c.in-Err.ensures
 
 pub returns-in_default : goal.returns-in_default
-returns-in_default c =
-    (omega arith, steps_begin c.loop.counter c.args.text.now c.loop.steps c.loop.rest.now c.loop.invariant (step_begins c.loop.rest.now c.in-Ok.read.1.now c.in-Ok.read.0 c.in-Ok.ensures))
+returns-in_default c = (
+  omega arith,
+  steps_begin c.loop.counter c.args.text.now c.loop.steps c.loop.rest.now c.loop.invariant
+      (step_begins c.loop.rest.now c.in-Ok.read.1.now c.in-Ok.read.0 c.in-Ok.ensures),
+)
 
 pub returns : goal.returns
 returns c =

@@ -10,4 +10,5 @@ returns-in_default c = λ n more h e. not_lacking 10 (cursor_line n) more (let P
 
 pub returns-in-None : goal.returns-in-None
 returns-in-None c = λ n more h e.
-    c.in-None.ensures n h (cut_at 10 c.in-Some.line.now (cursor_line n) c.in-Some.rest.now more c.in-Some.ensures.1 (counted_lacks newline (codes "cursor") n refl h) (sym c.in-Some.ensures.0 ∙ e)).0
+    c.in-None.ensures n h (cut_at 10 c.in-Some.line.now (cursor_line n) c.in-Some.rest.now more c.in-Some.ensures.1
+    (counted_lacks newline (codes "cursor") n refl h) (sym c.in-Some.ensures.0 ∙ e)).0

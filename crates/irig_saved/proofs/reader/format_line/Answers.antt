@@ -9,4 +9,5 @@ returns-in_default c = λ f more h e. not_lacking 10 (format_line f) more (let P
 
 pub returns-in-None : goal.returns-in-None
 returns-in-None c = λ f more h e.
-    c.in-None.ensures f h (cut_at 10 c.in-Some.line.now (format_line f) c.in-Some.rest.now more c.in-Some.ensures.1 (format_clean f h) (sym c.in-Some.ensures.0 ∙ e)).0
+    c.in-None.ensures f h (cut_at 10 c.in-Some.line.now (format_line f) c.in-Some.rest.now more c.in-Some.ensures.1 (format_clean f h)
+    (sym c.in-Some.ensures.0 ∙ e)).0

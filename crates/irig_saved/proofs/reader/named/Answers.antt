@@ -14,4 +14,5 @@ returns-else-eq c = λ more e.
 
 pub returns-then-eq : goal.returns-then-eq
 returns-then-eq c =
-    c.in-Some.ensures.0 ∙ ap (λ (l : List ℕ). l ++ 10 ∷ c.in-Some.rest.now) (same_text c.in-Some.line.now c.as_slice.result.now c.if-eq.ensures ∙ c.as_slice.ensures)
+    c.in-Some.ensures.0 ∙ ap (λ (l : List ℕ). l ++ 10 ∷ c.in-Some.rest.now)
+    (same_text c.in-Some.line.now c.as_slice.result.now c.if-eq.ensures ∙ c.as_slice.ensures)

@@ -25,11 +25,13 @@ loop-letter-preserved c =
           })
       | in-len1-up+then-first-letter w ↦
           let others : c.if-rest-lt1.rest.now ≡ drop 1 text = ap (λ (b : Bor (List ℕ)). b.now) w.rest-is ∙ take_rest text 1 in
-          let cut : text ≡ (97 + k) ∷ drop 1 text = drop_more text 0 0 (omega (arith, w.in-len1-up.len_at_least)) ∙ ap (λ b. b ∷ drop 1 text) w.if-first-letter.true in
+          let cut : text ≡ (97 + k) ∷ drop 1 text = drop_more text 0 0 (omega (arith, w.in-len1-up.len_at_least))
+          ∙ ap (λ b. b ∷ drop 1 text) w.if-first-letter.true in
           rw (w.marks-is, others) (record {
             size = length-set old k true ∙ h.size;
             clear = ap (list_all not) (drop-set-lt (k + 1) old k true (omega arith)) ∙ clear_next k old within h.clear;
-            read = h.read ∙ ap (λ (l : List ℕ). letters_from 97 old ++ l) cut ∙ sym (append_assoc (letters_from 97 old) ((97 + k) ∷ []) (drop 1 text)) ∙ ap (λ (l : List ℕ). l ++ drop 1 text) (sym (one_more 97 k old within h.clear));
+            read = h.read ∙ ap (λ (l : List ℕ). letters_from 97 old ++ l) cut ∙ sym (append_assoc (letters_from 97 old) ((97 + k) ∷ []) (drop 1 text))
+                ∙ ap (λ (l : List ℕ). l ++ drop 1 text) (sym (one_more 97 k old within h.clear));
             alone = λ ms n e. taken k ms (drop 1 text) (omega (arith, n, c.loop-letter-test.true)) (sym cut ∙ h.alone ms n e);
           })
       | in-len1-up+else-first-letter w ↦

@@ -8,7 +8,8 @@ pub returns-in_default : goal.returns-in_default
 returns-in_default c = λ x small e. c.in_default.ensures.cases.0 (let P : List ℕ → Type 0 = λ w. IsUtf8 w in subst P (sym e) (utf8_number x small))
 
 pub returns-in_default-parse : goal.returns-in_default-parse
-returns-in_default-parse c = λ x small e. c.in_default-parse.not-Ok x (parsed_number x c.in-Ok.text.now c.parse.result small (c.in-Ok.ensures.cases.0 ∙ e) c.parse.ensures.value.0)
+returns-in_default-parse c = λ x small e. c.in_default-parse.not-Ok x
+    (parsed_number x c.in-Ok.text.now c.parse.result small (c.in-Ok.ensures.cases.0 ∙ e) c.parse.ensures.value.0)
 
 pub returns-else-eq : goal.returns-else-eq
 returns-else-eq c = λ x small e.

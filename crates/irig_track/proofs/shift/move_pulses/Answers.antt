@@ -10,25 +10,29 @@ pub overflow_add-pulse : goal.overflow_add-pulse
 overflow_add-pulse c =
     let i = c.loop-moved.invariant in let ps = c.args.pulses.now.items in let k = c.args.at + c.loop-moved.moved in
     let is : slice_get ps k ≡ Some c.get-pulse.result =
-    sym (next_unmoved c.args.on c.args.off c.args.at c.loop-moved.moved ps (omega arith)) ∙ sym (ap (λ (w : GapView Pulse). slice_get w.items k) i.1) ∙ c.get-pulse.ensures in
+    sym (next_unmoved c.args.on c.args.off c.args.at c.loop-moved.moved ps (omega arith)) ∙ sym (ap (λ (w : GapView Pulse). slice_get w.items k) i.1)
+    ∙ c.get-pulse.ensures in
     omega (arith, rise_within (2 ^ 40) k c.get-pulse.result ps c.requires.short is)
 
 pub overflow_add-pulse-in-loop-moved : goal.overflow_add-pulse-in-loop-moved
 overflow_add-pulse-in-loop-moved c =
     let i = c.loop-moved.invariant in let ps = c.args.pulses.now.items in let k = c.args.at + c.loop-moved.moved in
     let is : slice_get ps k ≡ Some c.get-pulse.result =
-    sym (next_unmoved c.args.on c.args.off c.args.at c.loop-moved.moved ps (omega arith)) ∙ sym (ap (λ (w : GapView Pulse). slice_get w.items k) i.1) ∙ c.get-pulse.ensures in
+    sym (next_unmoved c.args.on c.args.off c.args.at c.loop-moved.moved ps (omega arith)) ∙ sym (ap (λ (w : GapView Pulse). slice_get w.items k) i.1)
+    ∙ c.get-pulse.ensures in
     omega (arith, pulse_within (2 ^ 40) k c.get-pulse.result ps c.requires.short is)
 
 pub loop-moved-preserved : goal.loop-moved-preserved
 loop-moved-preserved c =
     let i = c.loop-moved.invariant in let ps = c.args.pulses.now.items in let k = c.args.at + c.loop-moved.moved in
     let is : slice_get ps k ≡ Some c.get-pulse.result =
-    sym (next_unmoved c.args.on c.args.off c.args.at c.loop-moved.moved ps (omega arith)) ∙ sym (ap (λ (w : GapView Pulse). slice_get w.items k) i.1) ∙ c.get-pulse.ensures in
+    sym (next_unmoved c.args.on c.args.off c.args.at c.loop-moved.moved ps (omega arith)) ∙ sym (ap (λ (w : GapView Pulse). slice_get w.items k) i.1)
+    ∙ c.get-pulse.ensures in
     let rise : c.saturating_sub-rise.result ≡ c.get-pulse.result.rise + c.args.on - c.args.off = c.saturating_sub-rise.ensures in
     let fall : c.saturating_sub-fall.result ≡ c.get-pulse.result.fall + c.args.on - c.args.off = c.saturating_sub-fall.ensures in (
       omega arith,
       c.set.ensures
           ∙ (λ t. gap_view (slice_set (i.1 t).items k (pulse (rise t) (fall t))) (i.1 t).place (i.1 t).capacity)
-          ∙ ap (λ qs. gap_view qs c.args.pulses.now.place c.args.pulses.now.capacity) (more_moved c.args.on c.args.off c.args.at c.loop-moved.moved c.get-pulse.result ps is),
+          ∙ ap (λ qs. gap_view qs c.args.pulses.now.place c.args.pulses.now.capacity)
+          (more_moved c.args.on c.args.off c.args.at c.loop-moved.moved c.get-pulse.result ps is),
     )

@@ -7,7 +7,8 @@ abbrev pub invariant-loop-moved : goal.invariant-loop-moved
 invariant-loop-moved l =
     (l.moved ≤ l.count)
     × (l.from ≡ gap_view (spliced l.initial.from.place l.moved [] l.initial.from.items) l.initial.from.place l.initial.from.capacity)
-    × (l.to ≡ gap_view (spliced l.initial.to.place 0 (piece l.initial.from.place l.moved l.initial.from.items) l.initial.to.items) (l.initial.to.place + l.moved) l.initial.to.capacity)
+    × (l.to ≡ gap_view (spliced l.initial.to.place 0 (piece l.initial.from.place l.moved l.initial.from.items) l.initial.to.items)
+    (l.initial.to.place + l.moved) l.initial.to.capacity)
 
 abbrev pub decreases-loop-moved : goal.decreases-loop-moved
 decreases-loop-moved l = l.count - l.moved

@@ -19,13 +19,15 @@ loop-first-preserved c =
     let rises : RisesFrom 0 (waiting c.loop-first.pulses c.loop-first.rise) = subst (RisesFrom 0) (sym i.0) c.requires.rises in (
       waiting_on c.loop-first.rise c.in-Some.first c.loop-first.pulses c.take_next.new.pulses _ t o ∙ i.0,
       under_on c.args.b c.loop-first.rise c.in-Some.first _ c.take_next.new.pulses _ rises i.1 c.if-first-b.false t o,
-      stays_step c.args.b c.in-Some.first (pulse c.loop-first.rise c.in-Some.first.rise) _ _ c.take_next.new.pulses _ (omega (arith, c.if-first-b.false)) (omega (arith, c.if-first-b.false, (waits_below c.loop-first.rise c.in-Some.first c.loop-first.pulses c.take_next.new.pulses rises t).1.0)) i.2 t o,
+      stays_step c.args.b c.in-Some.first (pulse c.loop-first.rise c.in-Some.first.rise) _ _ c.take_next.new.pulses _ (omega (arith, c.if-first-b.false))
+          (omega (arith, c.if-first-b.false, (waits_below c.loop-first.rise c.in-Some.first c.loop-first.pulses c.take_next.new.pulses rises t).1.0)) i.2 t o,
       omega arith,
     )
 
 pub returns-then-first-b-clause-right : goal.returns-then-first-b-clause-right
 returns-then-first-b-clause-right c =
-    late_some c.args.b c.loop-first.rise c.in-Some.first c.loop-first.pulses (subst (RisesFrom 0) (sym c.loop-first.invariant.0) c.requires.rises) (sym c.in-Some.ensures.next) c.if-first-b.true
+    late_some c.args.b c.loop-first.rise c.in-Some.first c.loop-first.pulses (subst (RisesFrom 0) (sym c.loop-first.invariant.0) c.requires.rises)
+    (sym c.in-Some.ensures.next) c.if-first-b.true
 
 pub returns-in_default-clause-right : goal.returns-in_default-clause-right
 returns-in_default-clause-right c = late_none c.args.b c.loop-first.pulses (sym c.next.ensures.next ∙ c.in_default.is)

@@ -36,8 +36,10 @@ tokens-preserved c =
     let i = c.tokens.invariant.1 in
     let next : c.next_short.new.self ≡ word_of c.in-Some.token ∷ c.next.new.self = search rules in
     let left = sym c.in-Other.ensures ∙ next in
-    let here : Along c.args.code.now c.args.unit (changes_from any_word c.args.code.now c.args.unit 0 c.args.tokens.now) c.tokens.trace c.tokens.clock (word_of c.in-Some.token ∷ c.next.new.self) =
-    subst (λ (ws : List Word). Along c.args.code.now c.args.unit (changes_from any_word c.args.code.now c.args.unit 0 c.args.tokens.now) c.tokens.trace c.tokens.clock ws) left
+    let here : Along c.args.code.now c.args.unit (changes_from any_word c.args.code.now c.args.unit 0 c.args.tokens.now) c.tokens.trace c.tokens.clock
+    (word_of c.in-Some.token ∷ c.next.new.self) =
+    subst (λ (ws : List Word). Along c.args.code.now c.args.unit (changes_from any_word c.args.code.now c.args.unit 0 c.args.tokens.now) c.tokens.trace
+    c.tokens.clock ws) left
     (c.tokens.invariant.0, record { time = i.time; late = i.late; follows = i.follows; rest = i.rest }) in
     let there = c.in_ok-clock-in-Other.ensures.along _ here in (
       there.0,
@@ -55,12 +57,14 @@ tokens-preserved-in-Time c =
     let i = c.tokens.invariant.1 in
     let n = c.in-Time.ensures in
     let hash : is_hash n.word.kind ≡ true = ap is_hash n.kind in
-    let read : time_of c.args.unit (units_of c.args.unit c.tokens.clock) (rest_of n.word.bytes) n.word.offset ≡ Ok (units_of c.args.unit c.in_ok-clock-in-Time.clock) = rw n.offset (c.in_ok-clock-in-Time.ensures.exact (rest_of n.word.bytes) n.digits n.value) in
+    let read : time_of c.args.unit (units_of c.args.unit c.tokens.clock) (rest_of n.word.bytes) n.word.offset
+    ≡ Ok (units_of c.args.unit c.in_ok-clock-in-Time.clock) = rw n.offset (c.in_ok-clock-in-Time.ensures.exact (rest_of n.word.bytes) n.digits n.value) in
     let k = on_time _ _ _ _ n.word _ _ n.left hash read in (
       c.tokens.invariant.0,
       record {
         time = c.in_ok-clock-in-Time.ensures.time;
-        late = let up = later c.args.unit c.tokens.clock c.in_ok-clock-in-Time.clock i.time c.in_ok-clock-in-Time.ensures.time c.in_ok-clock-in-Time.ensures.forward in omega (arith, up, i.late);
+        late = let up = later c.args.unit c.tokens.clock c.in_ok-clock-in-Time.clock i.time c.in_ok-clock-in-Time.ensures.time
+            c.in_ok-clock-in-Time.ensures.forward in omega (arith, up, i.late);
         follows = i.follows;
         rest = ap (behind c.tokens.invariant.0) (sym k) ∙ i.rest;
         journals = keeps_past _ _ _ _ i.journals (past_time _ n.word _ n.left hash);
@@ -74,7 +78,8 @@ tokens-preserved-in-Bit c =
     let some = c.is_plain-is_plain.ensures.some c.in-Bit.ensures.0 in
     let hash : is_hash b.word.kind ≡ false = ap is_hash b.kind in
     let read = bit_level c.in-Bit.high c.args.code.now b.word c.next_short.new.self some b.kind b.bytes in
-    let here = along_level c.args.code.now c.args.unit (changes_from any_word c.args.code.now c.args.unit 0 c.args.tokens.now) c.tokens.trace c.put.new.self c.tokens.clock _ b.word _ c.next_short.new.self c.in-Bit.high
+    let here = along_level c.args.code.now c.args.unit (changes_from any_word c.args.code.now c.args.unit 0 c.args.tokens.now) c.tokens.trace c.put.new.self
+    c.tokens.clock _ b.word _ c.next_short.new.self c.in-Bit.high
     b.left hash read (rw (c.in_ok-put-in-Bit.ensures.time, c.micros.ensures.value) refl) (rw (← c.micros.ensures.value) c.in_ok-put-in-Bit.ensures.ok)
     (c.tokens.invariant.0, record { time = i.time; late = i.late; follows = i.follows; rest = i.rest }) in
     let there = c.in_ok-clock-in-Bit.ensures.along _ here in
@@ -120,7 +125,8 @@ returns-in_err-clock-in-Bit-clause-memory c = λ memory still.
     let some = c.is_plain-is_plain.ensures.some c.in-Bit.ensures.0 in
     let hash : is_hash b.word.kind ≡ false = ap is_hash b.kind in
     let read = bit_level c.in-Bit.high c.args.code.now b.word c.next_short.new.self some b.kind b.bytes in
-    let here = along_level c.args.code.now c.args.unit (changes_from any_word c.args.code.now c.args.unit 0 c.args.tokens.now) c.tokens.trace c.put.new.self c.tokens.clock _ b.word _ c.next_short.new.self c.in-Bit.high
+    let here = along_level c.args.code.now c.args.unit (changes_from any_word c.args.code.now c.args.unit 0 c.args.tokens.now) c.tokens.trace c.put.new.self
+    c.tokens.clock _ b.word _ c.next_short.new.self c.in-Bit.high
     b.left hash read (rw (c.in_ok-put-in-Bit.ensures.time, c.micros.ensures.value) refl) (rw (← c.micros.ensures.value) c.in_ok-put-in-Bit.ensures.ok)
     (c.tokens.invariant.0, record { time = i.time; late = i.late; follows = i.follows; rest = i.rest }) in
     c.in_err-clock-in-Bit.ensures.memory (along_still _ _ _ c.put.new.self c.tokens.clock c.next_short.new.self here still)
@@ -130,8 +136,10 @@ returns-in_err-clock-in-Other-clause-memory c = λ memory still.
     let i = c.tokens.invariant.1 in
     let next : c.next_short.new.self ≡ word_of c.in-Some.token ∷ c.next.new.self = search rules in
     let left = sym c.in-Other.ensures ∙ next in
-    let here : Along c.args.code.now c.args.unit (changes_from any_word c.args.code.now c.args.unit 0 c.args.tokens.now) c.tokens.trace c.tokens.clock (word_of c.in-Some.token ∷ c.next.new.self) =
-    subst (λ (ws : List Word). Along c.args.code.now c.args.unit (changes_from any_word c.args.code.now c.args.unit 0 c.args.tokens.now) c.tokens.trace c.tokens.clock ws) left
+    let here : Along c.args.code.now c.args.unit (changes_from any_word c.args.code.now c.args.unit 0 c.args.tokens.now) c.tokens.trace c.tokens.clock
+    (word_of c.in-Some.token ∷ c.next.new.self) =
+    subst (λ (ws : List Word). Along c.args.code.now c.args.unit (changes_from any_word c.args.code.now c.args.unit 0 c.args.tokens.now) c.tokens.trace
+    c.tokens.clock ws) left
     (c.tokens.invariant.0, record { time = i.time; late = i.late; follows = i.follows; rest = i.rest }) in
     let p = err_from_is_err_and c.from_residual-in_err-clock-in-Other.result c.from_residual-in_err-clock-in-Other.ensures.1 in
     let told : c.in_err-clock-in-Other.field-0.0 ≡ OutOfMemory = cc (rw (p.1, p.2) at memory) in

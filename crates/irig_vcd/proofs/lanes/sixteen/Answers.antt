@@ -7,7 +7,8 @@ pub fours-requires-clause-digits : goal.fours-requires-clause-digits
 fours-requires-clause-digits c = rw c.twos.ensures (below_100 c.args.digits c.requires.digits)
 
 pub eights-parts-requires-clause-digits : goal.eights-parts-requires-clause-digits
-eights-parts-requires-clause-digits c = rw (c.fours.ensures ∙ ap (joined 100) c.twos.ensures) (below_10000 (joined 10 c.args.digits) (below_100 c.args.digits c.requires.digits))
+eights-parts-requires-clause-digits c = rw (c.fours.ensures ∙ ap (joined 100) c.twos.ensures)
+    (below_10000 (joined 10 c.args.digits) (below_100 c.args.digits c.requires.digits))
 
 pub overflow_add-result : goal.overflow_add-result
 overflow_add-result c =

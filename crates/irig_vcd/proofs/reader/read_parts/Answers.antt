@@ -8,8 +8,10 @@ returns-in-Err-clause-fault c = no_dump (name_of c.args.wire) c.args.source.now 
 
 pub returns-in-Ok-text-clause-read : goal.returns-in-Ok-text-clause-read
 returns-in-Ok-text-clause-read c =
-    with_journal (name_of c.args.wire) c.args.source.now _ _ c.in-Ok.ensures.read (c.in-Ok-text.ensures.one (journals_in c.args.source.now) c.in-Ok.ensures.journals)
+    with_journal (name_of c.args.wire) c.args.source.now _ _ c.in-Ok.ensures.read
+    (c.in-Ok-text.ensures.one (journals_in c.args.source.now) c.in-Ok.ensures.journals)
 
 pub returns-in-Err-text-clause-fault : goal.returns-in-Err-text-clause-fault
 returns-in-Err-text-clause-fault c =
-    fails_now c.in-Err-text.fault _ (many_journals (name_of c.args.wire) c.args.source.now _ _ c.in-Ok.ensures.read (c.in-Err-text.ensures.one (journals_in c.args.source.now) c.in-Ok.ensures.journals))
+    fails_now c.in-Err-text.fault _ (many_journals (name_of c.args.wire) c.args.source.now _ _ c.in-Ok.ensures.read
+    (c.in-Err-text.ensures.one (journals_in c.args.source.now) c.in-Ok.ensures.journals))

@@ -11,4 +11,5 @@ returns-then-rest-eq0 c =
 pub returns-else-rest-eq0 : goal.returns-else-rest-eq0
 returns-else-rest-eq0 c =
     let low = trailing_zeros w128 (bit_and c.self.inside.bits (bit_not w128 c.args.mask)) in
-    subst (λ (n : ℕ). IsLowestOutside n c.args.mask (Some low)) c.self.view_is (some-outside c.self.inside.bits c.args.mask c.ranges.mask.fits (omega (arith, c.if-rest-eq0.false)))
+    subst (λ (n : ℕ). IsLowestOutside n c.args.mask (Some low)) c.self.view_is
+    (some-outside c.self.inside.bits c.args.mask c.ranges.mask.fits (omega (arith, c.if-rest-eq0.false)))

@@ -21,6 +21,7 @@ overflow_add-bits c =
 
 pub loop-place-preserved : goal.loop-place-preserved
 loop-place-preserved c = record {
-  bits = of-more c.args.frame.now c.loop-place.place c.loop-place.bits c.is_one.result c.told-frame c.loop-place-test.true c.is_one.ensures c.loop-place.invariant.bits;
+  bits = of-more c.args.frame.now c.loop-place.place c.loop-place.bits c.is_one.result c.told-frame c.loop-place-test.true c.is_one.ensures
+      c.loop-place.invariant.bits;
   bound = of-below c.loop-place.place c.loop-place.bits c.is_one.result c.loop-place.invariant.bound;
 }

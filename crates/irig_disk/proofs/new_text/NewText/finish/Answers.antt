@@ -21,9 +21,11 @@ returns-in-Ok-clause-any_moment g c told start text w =
 
 pub returns-clause-err : goal.returns-clause-err
 returns-clause-err g c told start text w =
-    after_removal _ _ _ _ _ _ c.remove.result c.in-Err.fault c.fault_after.result (c.in-Err.ensures.err told start text w) (c.remove.ensures.ok told) (c.remove.ensures.err told)
+    after_removal _ _ _ _ _ _ c.remove.result c.in-Err.fault c.fault_after.result (c.in-Err.ensures.err told start text w) (c.remove.ensures.ok told)
+    (c.remove.ensures.err told)
     c.fault_after.ensures
 
 pub returns-clause-any_moment : goal.returns-clause-any_moment
 returns-clause-any_moment g c told start text w =
-    moments_of_removal _ _ _ _ _ _ c.remove.result (c.in-Err.ensures.err told start text w) (c.remove.ensures.ok told) (c.remove.ensures.err told) (c.remove.ensures.time told)
+    moments_of_removal _ _ _ _ _ _ c.remove.result (c.in-Err.ensures.err told start text w) (c.remove.ensures.ok told) (c.remove.ensures.err told)
+    (c.remove.ensures.time told)

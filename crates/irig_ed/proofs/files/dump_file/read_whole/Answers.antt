@@ -7,5 +7,6 @@ pub returns-clause-whole : goal.returns-clause-whole
 returns-clause-whole g c =
     let limit : c.take.result.limit ≡ 268435457 = c.take.ensures.limit in
     let below : length c.append_all.new.bytes.items < c.take.result.limit = search rules in
-    let all : IfSome (option_map (take c.take.result.limit) (g.R.Read.remaining c.take.result.inner)) (λ xs. c.append_all.new.bytes.items ≡ xs) = search rules in
+    let all : IfSome (option_map (take c.take.result.limit) (g.R.Read.remaining c.take.result.inner)) (λ xs. c.append_all.new.bytes.items ≡ xs) =
+    search rules in
     rw (← c.take.ensures.inner) (whole_read _ _ c.take.result.limit all below)

@@ -15,5 +15,6 @@ pub returns-else-can_toggle-clause-refused : goal.returns-else-can_toggle-clause
 returns-else-can_toggle-clause-refused c =
     let within : c.args.b ≤ c.args.present.now.state.micros = omega (arith, c.if-b-length.false, c.length.ensures.length) in
     let range : is_range c.args.a c.args.b c.args.present.now.state ≡ true = grind (arith, nat_tests) in
-    let over = overfull c.args.a c.args.b c.args.present.now.state c.length.ensures.state c.if-a-b.false within (λ can. let bad : false ≡ true = c.if-can_toggle.ensures.1 can in cc) in
+    let over = overfull c.args.a c.args.b c.args.present.now.state c.length.ensures.state c.if-a-b.false within
+    (λ can. let bad : false ≡ true = c.if-can_toggle.ensures.1 can in cc) in
     rw range (rw over refl)

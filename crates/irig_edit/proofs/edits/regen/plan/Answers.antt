@@ -14,7 +14,8 @@ use Rattle.irig_edit.proofs.edits.regen.plan.Goals as goal
 pub overflow_sub-count : goal.overflow_sub-count
 overflow_sub-count c =
     let s = c.args.present.now.state in
-    let said = end_said (are_frames c.args.start c.args.frames s) (frames_end s.format c.args.start c.args.frames) c.in-Some.end (sym c.end_of.ensures ∙ c.in-Some.is) in
+    let said = end_said (are_frames c.args.start c.args.frames s) (frames_end s.format c.args.start c.args.frames) c.in-Some.end
+    (sym c.end_of.ensures ∙ c.in-Some.is) in
     let there : are_frames c.args.start c.args.frames s ≡ true = said.0 in
     let free : is_met c.args.start s ≡ false = sym c.is_met.ensures ∙ c.if-is_met.false in
     let is_end = c.rising_before.ensures.count ∙ ap (λ t. length (rising_before t s.pulses)) (sym said.1) in
@@ -23,24 +24,35 @@ overflow_sub-count c =
 pub returns-then-frames-room-clause-refused : goal.returns-then-frames-room-clause-refused
 returns-then-frames-room-clause-refused c =
     let s = c.args.present.now.state in
-    let said = end_said (are_frames c.args.start c.args.frames s) (frames_end s.format c.args.start c.args.frames) c.in-Some.end (sym c.end_of.ensures ∙ c.in-Some.is) in
+    let said = end_said (are_frames c.args.start c.args.frames s) (frames_end s.format c.args.start c.args.frames) c.in-Some.end
+    (sym c.end_of.ensures ∙ c.in-Some.is) in
     let there : are_frames c.args.start c.args.frames s ≡ true = said.0 in
     let free : is_met c.args.start s ≡ false = sym c.is_met.ensures ∙ c.if-is_met.false in
     let is_end = c.rising_before.ensures.count ∙ ap (λ t. length (rising_before t s.pulses)) (sym said.1) in
     let many : are_too_many c.args.start c.args.frames s ≡ true =
     too_many_yes c.args.start c.args.frames c.rising_before-at.result c.rising_before.result s c.rising_before-at.ensures.count is_end
-    (omega (arith, c.room.ensures, c.if-frames-room.true, before_end c.args.start (frames_end s.format c.args.start c.args.frames) s.pulses (omega arith), c.rising_before-at.ensures.count, is_end)) in
+    (omega (
+      arith,
+      c.room.ensures,
+      c.if-frames-room.true,
+      before_end c.args.start (frames_end s.format c.args.start c.args.frames) s.pulses (omega arith),
+      c.rising_before-at.ensures.count,
+      is_end,
+    )) in
     rw there (rw free (rw many refl))
 
 pub returns-then-not-starts-clause-refused : goal.returns-then-not-starts-clause-refused
 returns-then-not-starts-clause-refused c =
     let s = c.args.present.now.state in
-    let said = end_said (are_frames c.args.start c.args.frames s) (frames_end s.format c.args.start c.args.frames) c.in-Some.end (sym c.end_of.ensures ∙ c.in-Some.is) in
+    let said = end_said (are_frames c.args.start c.args.frames s) (frames_end s.format c.args.start c.args.frames) c.in-Some.end
+    (sym c.end_of.ensures ∙ c.in-Some.is) in
     let there : are_frames c.args.start c.args.frames s ≡ true = said.0 in
     let free : is_met c.args.start s ≡ false = sym c.is_met.ensures ∙ c.if-is_met.false in
     let is_end = c.rising_before.ensures.count ∙ ap (λ t. length (rising_before t s.pulses)) (sym said.1) in
-    let few : length s.pulses + 100 * c.args.frames ≤ 2 ^ 22 + (c.rising_before.result - c.rising_before-at.result) = omega (arith, c.room.ensures, c.if-frames-room.false) in
-    let fit : are_too_many c.args.start c.args.frames s ≡ false = too_many_no c.args.start c.args.frames c.rising_before-at.result c.rising_before.result s c.rising_before-at.ensures.count is_end few in
+    let few : length s.pulses + 100 * c.args.frames ≤ 2 ^ 22 + (c.rising_before.result - c.rising_before-at.result) =
+    omega (arith, c.room.ensures, c.if-frames-room.false) in
+    let fit : are_too_many c.args.start c.args.frames s ≡ false =
+    too_many_no c.args.start c.args.frames c.rising_before-at.result c.rising_before.result s c.rising_before-at.ensures.count is_end few in
     let bad : starts_in s.format c.args.moment ≡ false =
     sym (ap (λ (f : FormatView). starts_in f c.args.moment) c.format-format.ensures) ∙ sym c.starts.ensures ∙ c.if-not-starts.true in
     rw there (rw free (rw fit (rw bad refl)))
@@ -48,12 +60,15 @@ returns-then-not-starts-clause-refused c =
 pub returns-then-control-control_count-gt0-clause-refused : goal.returns-then-control-control_count-gt0-clause-refused
 returns-then-control-control_count-gt0-clause-refused c =
     let s = c.args.present.now.state in
-    let said = end_said (are_frames c.args.start c.args.frames s) (frames_end s.format c.args.start c.args.frames) c.in-Some.end (sym c.end_of.ensures ∙ c.in-Some.is) in
+    let said = end_said (are_frames c.args.start c.args.frames s) (frames_end s.format c.args.start c.args.frames) c.in-Some.end
+    (sym c.end_of.ensures ∙ c.in-Some.is) in
     let there : are_frames c.args.start c.args.frames s ≡ true = said.0 in
     let free : is_met c.args.start s ≡ false = sym c.is_met.ensures ∙ c.if-is_met.false in
     let is_end = c.rising_before.ensures.count ∙ ap (λ t. length (rising_before t s.pulses)) (sym said.1) in
-    let few : length s.pulses + 100 * c.args.frames ≤ 2 ^ 22 + (c.rising_before.result - c.rising_before-at.result) = omega (arith, c.room.ensures, c.if-frames-room.false) in
-    let fit : are_too_many c.args.start c.args.frames s ≡ false = too_many_no c.args.start c.args.frames c.rising_before-at.result c.rising_before.result s c.rising_before-at.ensures.count is_end few in
+    let few : length s.pulses + 100 * c.args.frames ≤ 2 ^ 22 + (c.rising_before.result - c.rising_before-at.result) =
+    omega (arith, c.room.ensures, c.if-frames-room.false) in
+    let fit : are_too_many c.args.start c.args.frames s ≡ false =
+    too_many_no c.args.start c.args.frames c.rising_before-at.result c.rising_before.result s c.rising_before-at.ensures.count is_end few in
     let good : starts_in s.format c.args.moment ≡ true =
     sym (ap (λ (f : FormatView). starts_in f c.args.moment) c.format-format.ensures) ∙ sym c.starts.ensures ∙ c.if-not-starts.false in
     let count = c.control_count.ensures.value ∙ ap (λ (f : FormatView). control_count_of f) c.format-format.ensures in
@@ -63,12 +78,15 @@ returns-then-control-control_count-gt0-clause-refused c =
 pub returns-clause-allowed : goal.returns-clause-allowed
 returns-clause-allowed c =
     let s = c.args.present.now.state in
-    let said = end_said (are_frames c.args.start c.args.frames s) (frames_end s.format c.args.start c.args.frames) c.in-Some.end (sym c.end_of.ensures ∙ c.in-Some.is) in
+    let said = end_said (are_frames c.args.start c.args.frames s) (frames_end s.format c.args.start c.args.frames) c.in-Some.end
+    (sym c.end_of.ensures ∙ c.in-Some.is) in
     let there : are_frames c.args.start c.args.frames s ≡ true = said.0 in
     let free : is_met c.args.start s ≡ false = sym c.is_met.ensures ∙ c.if-is_met.false in
     let is_end = c.rising_before.ensures.count ∙ ap (λ t. length (rising_before t s.pulses)) (sym said.1) in
-    let few : length s.pulses + 100 * c.args.frames ≤ 2 ^ 22 + (c.rising_before.result - c.rising_before-at.result) = omega (arith, c.room.ensures, c.if-frames-room.false) in
-    let fit : are_too_many c.args.start c.args.frames s ≡ false = too_many_no c.args.start c.args.frames c.rising_before-at.result c.rising_before.result s c.rising_before-at.ensures.count is_end few in
+    let few : length s.pulses + 100 * c.args.frames ≤ 2 ^ 22 + (c.rising_before.result - c.rising_before-at.result) =
+    omega (arith, c.room.ensures, c.if-frames-room.false) in
+    let fit : are_too_many c.args.start c.args.frames s ≡ false =
+    too_many_no c.args.start c.args.frames c.rising_before-at.result c.rising_before.result s c.rising_before-at.ensures.count is_end few in
     let good : starts_in s.format c.args.moment ≡ true =
     sym (ap (λ (f : FormatView). starts_in f c.args.moment) c.format-format.ensures) ∙ sym c.starts.ensures ∙ c.if-not-starts.false in
     let count = c.control_count.ensures.value ∙ ap (λ (f : FormatView). control_count_of f) c.format-format.ensures in
@@ -78,39 +96,47 @@ returns-clause-allowed c =
 pub returns-clause-can : goal.returns-clause-can
 returns-clause-can c =
     let s = c.args.present.now.state in
-    let said = end_said (are_frames c.args.start c.args.frames s) (frames_end s.format c.args.start c.args.frames) c.in-Some.end (sym c.end_of.ensures ∙ c.in-Some.is) in
+    let said = end_said (are_frames c.args.start c.args.frames s) (frames_end s.format c.args.start c.args.frames) c.in-Some.end
+    (sym c.end_of.ensures ∙ c.in-Some.is) in
     let there : are_frames c.args.start c.args.frames s ≡ true = said.0 in
     let free : is_met c.args.start s ≡ false = sym c.is_met.ensures ∙ c.if-is_met.false in
     let is_end = c.rising_before.ensures.count ∙ ap (λ t. length (rising_before t s.pulses)) (sym said.1) in
-    let few : length s.pulses + 100 * c.args.frames ≤ 2 ^ 22 + (c.rising_before.result - c.rising_before-at.result) = omega (arith, c.room.ensures, c.if-frames-room.false) in
+    let few : length s.pulses + 100 * c.args.frames ≤ 2 ^ 22 + (c.rising_before.result - c.rising_before-at.result) =
+    omega (arith, c.room.ensures, c.if-frames-room.false) in
     let within = (frames_said c.args.start c.args.frames s there).2 in
     let sum = before_end c.args.start (frames_end s.format c.args.start c.args.frames) s.pulses (omega arith) in
-    let both : c.rising_before-at.result + (c.rising_before.result - c.rising_before-at.result) ≡ c.rising_before.result = omega (arith, sum, c.rising_before-at.ensures.count, is_end) in
+    let both : c.rising_before-at.result + (c.rising_before.result - c.rising_before-at.result) ≡ c.rising_before.result =
+    omega (arith, sum, c.rising_before-at.ensures.count, is_end) in
     (regenerated s c.args.start c.args.frames c.args.moment c.args.control c.rising_before-at.result (c.rising_before.result - c.rising_before-at.result)
     c.rising_before.ensures.state within free few c.rising_before-at.ensures.count (both ∙ is_end) (omega (arith, both, c.rising_before.ensures.within))).0
 
 pub returns-clause-becomes : goal.returns-clause-becomes
 returns-clause-becomes c =
     let s = c.args.present.now.state in
-    let said = end_said (are_frames c.args.start c.args.frames s) (frames_end s.format c.args.start c.args.frames) c.in-Some.end (sym c.end_of.ensures ∙ c.in-Some.is) in
+    let said = end_said (are_frames c.args.start c.args.frames s) (frames_end s.format c.args.start c.args.frames) c.in-Some.end
+    (sym c.end_of.ensures ∙ c.in-Some.is) in
     let there : are_frames c.args.start c.args.frames s ≡ true = said.0 in
     let free : is_met c.args.start s ≡ false = sym c.is_met.ensures ∙ c.if-is_met.false in
     let is_end = c.rising_before.ensures.count ∙ ap (λ t. length (rising_before t s.pulses)) (sym said.1) in
-    let few : length s.pulses + 100 * c.args.frames ≤ 2 ^ 22 + (c.rising_before.result - c.rising_before-at.result) = omega (arith, c.room.ensures, c.if-frames-room.false) in
+    let few : length s.pulses + 100 * c.args.frames ≤ 2 ^ 22 + (c.rising_before.result - c.rising_before-at.result) =
+    omega (arith, c.room.ensures, c.if-frames-room.false) in
     let within = (frames_said c.args.start c.args.frames s there).2 in
     let sum = before_end c.args.start (frames_end s.format c.args.start c.args.frames) s.pulses (omega arith) in
-    let both : c.rising_before-at.result + (c.rising_before.result - c.rising_before-at.result) ≡ c.rising_before.result = omega (arith, sum, c.rising_before-at.ensures.count, is_end) in
+    let both : c.rising_before-at.result + (c.rising_before.result - c.rising_before-at.result) ≡ c.rising_before.result =
+    omega (arith, sum, c.rising_before-at.ensures.count, is_end) in
     (regenerated s c.args.start c.args.frames c.args.moment c.args.control c.rising_before-at.result (c.rising_before.result - c.rising_before-at.result)
     c.rising_before.ensures.state within free few c.rising_before-at.ensures.count (both ∙ is_end) (omega (arith, both, c.rising_before.ensures.within))).1
 
 pub returns-clause-change : goal.returns-clause-change
 returns-clause-change c =
     let s = c.args.present.now.state in
-    let said = end_said (are_frames c.args.start c.args.frames s) (frames_end s.format c.args.start c.args.frames) c.in-Some.end (sym c.end_of.ensures ∙ c.in-Some.is) in
+    let said = end_said (are_frames c.args.start c.args.frames s) (frames_end s.format c.args.start c.args.frames) c.in-Some.end
+    (sym c.end_of.ensures ∙ c.in-Some.is) in
     let is_end = c.rising_before.ensures.count ∙ ap (λ t. length (rising_before t s.pulses)) (sym said.1) in
     let sum = before_end c.args.start (frames_end s.format c.args.start c.args.frames) s.pulses (omega arith) in
     let is_at = c.rising_before-at.ensures.count in
-    let gone : c.rising_before.result - c.rising_before-at.result ≡ length (rising_in c.args.start (frames_end s.format c.args.start c.args.frames) s.pulses) = omega arith in
+    let gone : c.rising_before.result - c.rising_before-at.result ≡ length (rising_in c.args.start (frames_end s.format c.args.start c.args.frames) s.pulses) =
+    omega arith in
     (λ k. Alone (Spliced (is_at k) (gone k) (frames_pulses s.format c.args.start c.args.frames c.args.moment c.args.control)))
 
 pub returns-clause-many : goal.returns-clause-many

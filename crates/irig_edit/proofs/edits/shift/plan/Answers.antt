@@ -28,7 +28,8 @@ returns-clause-fits c =
     let letters : c.letters_from-letters.result ≡ map (stands (pulse_of i s).rise (pulse_of j s).fall) s.marks =
     c.letters_from-letters.ensures ∙ (λ k. map (stands (rise k) (fall k)) s.marks) in
     let may = marks_may i j d s c.pulse-low.ensures.state there.0 there.1 there.2 can in
-    let P : ℤ → Type 0 = λ e. CanShift s.micros (i - 1) (j - 1) e s.pulses × AllMayMove s.micros e c.letters_from-letters.result s.marks × (length c.letters_from-letters.result ≡ 26) in
+    let P : ℤ → Type 0 = λ e. CanShift s.micros (i - 1) (j - 1) e s.pulses × AllMayMove s.micros e c.letters_from-letters.result s.marks
+    × (length c.letters_from-letters.result ≡ 26) in
     let long : length c.letters_from-letters.result ≡ 26 = search rules in
     subst P (sym passed) (can, subst (λ (ls : List Bool). AllMayMove s.micros d ls s.marks) (sym letters) may, long)
 
@@ -61,4 +62,5 @@ returns-clause-exchange c =
     let letters : c.letters_from-letters.result ≡ map (stands (pulse_of i s).rise (pulse_of j s).fall) s.marks =
     c.letters_from-letters.ensures ∙ (λ k. map (stands (rise k) (fall k)) s.marks) in
     let size : count_to (i - 1) (j - 1) ≡ j + 1 - i = omega (arith, there.0, there.1) in
-    (λ k. holding_none (window (size k)) (window (size k)) (Alone (Shifted (i - 1) (j - 1) (neg_ℤ (passed k)) (letters k))) (Alone (Shifted (i - 1) (j - 1) (passed k) (letters k))))
+    (λ k. holding_none (window (size k)) (window (size k)) (Alone (Shifted (i - 1) (j - 1) (neg_ℤ (passed k)) (letters k)))
+    (Alone (Shifted (i - 1) (j - 1) (passed k) (letters k))))

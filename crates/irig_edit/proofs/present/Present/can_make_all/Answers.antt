@@ -41,8 +41,10 @@ returns-clause-same c = λ is.
     let listed = ap (map single_of) c.reverse.ensures.items
     ∙ (map-reverse single_of c.singles.inside.items.items
     ∙ ap reverse (ap (map single_of) c.singles.view_is ∙ made.1)) in (
-      c.turn.ensures.turned.0 ∙ (ap₂ (λ (x : State) (l : List SingleDelta). left_by turned_single x l) made.0 listed ∙ ways_state s ds c.len-len.ensures.state fit),
-      c.turn.ensures.turned.1 ∙ (ap₂ (λ (x : State) (l : List SingleDelta). ways_back turned_single x l) made.0 listed ∙ ways_ways s ds c.len-len.ensures.state fit),
+      c.turn.ensures.turned.0 ∙ (ap₂ (λ (x : State) (l : List SingleDelta). left_by turned_single x l) made.0 listed
+          ∙ ways_state s ds c.len-len.ensures.state fit),
+      c.turn.ensures.turned.1 ∙ (ap₂ (λ (x : State) (l : List SingleDelta). ways_back turned_single x l) made.0 listed
+          ∙ ways_ways s ds c.len-len.ensures.state fit),
     )
 
 pub returns-clause-grows : goal.returns-clause-grows

@@ -29,7 +29,8 @@ loop-i-preserved c =
     let taken : take (at.i + 1) (set xs at.i y) ≡ take at.i xs ++ y ∷ [] = take_more_set xs at.i y (omega arith) in (
       length-set xs at.i y ∙ at.invariant.0,
       subst (λ (l : List Single). MadeSoFar first.state all next.state l (drop (at.i + 1) (set xs at.i y))) (sym taken)
-          (subst (λ (l : List Single). MadeSoFar first.state all next.state (take at.i xs ++ y ∷ []) l) (sym (drop-set-lt (at.i + 1) xs at.i y (omega arith))) more),
+          (subst (λ (l : List Single). MadeSoFar first.state all next.state (take at.i xs ++ y ∷ []) l) (sym (drop-set-lt (at.i + 1) xs at.i y (omega arith)))
+          more),
       record {
         pulses = omega (arith, at.invariant.2.pulses, grows.pulses);
         records = omega (arith, at.invariant.2.records, grows.records);

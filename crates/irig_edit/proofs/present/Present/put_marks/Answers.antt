@@ -8,6 +8,12 @@ invariant_of-self c =
     let marks = c.args.marks.now in
     let is : c.length.result ≡ c.self.inside.track.micros = search rules in
     let none = subst (λ (n : ℕ). mark_beyond n 4 marks ≡ None) is c.in-Ok.ensures.0 in (
-      record { track = c.self.invariant.0.track; permitted = c.self.invariant.0.permitted; letters = search rules; marks = marks_within c.self.inside.track.micros 4 marks none },
+      record {
+        track = c.self.invariant.0.track;
+        permitted = c.self.invariant.0.permitted;
+        letters = search rules;
+        marks =
+            marks_within c.self.inside.track.micros 4 marks none;
+      },
       c.self.invariant.1,
     )

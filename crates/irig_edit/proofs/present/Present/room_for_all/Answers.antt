@@ -13,7 +13,8 @@ pub returns-clause-refused : goal.returns-clause-refused
 returns-clause-refused c =
     let same = ap (λ n. min n (2 ^ 64 - 1)) (brought_same c.args.singles.now c.reserve_taken.new.self (sym c.in_ok-reserve_taken.ensures.same)) in
     on_err c.reserve_brought.result
-    (λ no room. no (subst (λ n. HasPlacesFor n (places_in c.args.self.now) c.args.self.now.state) (same ∙ sym c.brought.ensures) room.places)) c.reserve_brought.ensures.refused
+    (λ no room. no (subst (λ n. HasPlacesFor n (places_in c.args.self.now) c.args.self.now.state) (same ∙ sym c.brought.ensures) room.places))
+    c.reserve_brought.ensures.refused
 
 pub returns-clause-room : goal.returns-clause-room
 returns-clause-room c =

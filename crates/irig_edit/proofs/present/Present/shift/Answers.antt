@@ -27,7 +27,8 @@ repair-requires-clause-room c =
     let p = c.self.inside in
     let x = c.args.shift.now in
     let holds = subst (λ (v : PresentView). HoldsState (places_in v) 0
-    (state v.state.micros (shifted x.i x.j x.by v.state.pulses) v.state.format (marks_moved x.by x.letters v.state.marks))) (sym c.self.view_is) c.requires.holds in
+    (state v.state.micros (shifted x.i x.j x.by v.state.pulses) v.state.format (marks_moved x.by x.letters v.state.marks))) (sym c.self.view_is)
+    c.requires.holds in
     let told = ap (λ (l : LensView). length (frames p.format l.track.pulses)) c.lens.ensures in
     let made = ap (λ (ps : List Pulse). length (frames p.format ps)) c.turn_shift-span.ensures.track.1 in
     omega (arith, told, made, holds.records, ap length c.self.invariant.1)

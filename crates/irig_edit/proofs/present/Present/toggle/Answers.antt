@@ -38,7 +38,8 @@ repair-requires-clause-room c =
     let a = c.args.a in
     let b = c.args.b in
     let new = c.turn_toggle-span.new.track.pulses in
-    let holds = subst (λ (v : PresentView). HoldsState (places_in v) 1 (with_pulses (pulses_of (toggled a b (edges_of v.state.pulses))) v.state)) (sym c.self.view_is) c.requires.holds in
+    let holds = subst (λ (v : PresentView). HoldsState (places_in v) 1 (with_pulses (pulses_of (toggled a b (edges_of v.state.pulses))) v.state))
+    (sym c.self.view_is) c.requires.holds in
     let told = ap (λ (l : LensView). length (frames p.format l.track.pulses)) c.lens.ensures in
     let pulses : new ≡ pulses_of (toggled a b (edges_of p.track.pulses)) = sym (pulses_of-edges_of new) ∙ ap pulses_of c.turn_toggle-span.ensures.pulses in
     omega (arith, told, ap (λ (ps : List Pulse). length (frames p.format ps)) pulses, holds.records, ap length c.self.invariant.1)

@@ -25,8 +25,11 @@ invariant_of-self c =
     let s = c.self.inside in
     let t = c.abort.new in
     let step = grouped-aborted s.present.state t.state.state s.cursor t.cursor (past_of delta_of s.journal) (future_of delta_of s.journal)
-    (past_of delta_of t.self) (future_of delta_of t.self) s.journal.floor t.self.floor c.in-Ok.ensures.grouped c.in-Ok.ensures.steps.1 c.in-Ok.ensures.steps.0 in
-    (IsGrouped-aborted (grouped_at s.present.state s.cursor s.journal) (grouped_at t.state.state t.cursor t.self) c.self.invariant.0 step, c.abort.ensures.ready)
+    (past_of delta_of t.self) (future_of delta_of t.self) s.journal.floor t.self.floor c.in-Ok.ensures.grouped c.in-Ok.ensures.steps.1
+    c.in-Ok.ensures.steps.0 in (
+      IsGrouped-aborted (grouped_at s.present.state s.cursor s.journal) (grouped_at t.state.state t.cursor t.self) c.self.invariant.0 step,
+      c.abort.ensures.ready,
+    )
 
 pub invariant_of-self-in-Err : goal.invariant_of-self-in-Err
 invariant_of-self-in-Err c =
@@ -38,7 +41,8 @@ returns-in-Ok-clause-step c =
     let s = c.self.inside in
     let t = c.abort.new in
     let step = grouped-aborted s.present.state t.state.state s.cursor t.cursor (past_of delta_of s.journal) (future_of delta_of s.journal)
-    (past_of delta_of t.self) (future_of delta_of t.self) s.journal.floor t.self.floor c.in-Ok.ensures.grouped c.in-Ok.ensures.steps.1 c.in-Ok.ensures.steps.0 in
+    (past_of delta_of t.self) (future_of delta_of t.self) s.journal.floor t.self.floor c.in-Ok.ensures.grouped c.in-Ok.ensures.steps.1
+    c.in-Ok.ensures.steps.0 in
     subst (λ (v : SessionView). Steps Abort (grouped_in v) (Ok tt) (grouped_at t.state.state t.cursor t.self)) c.self.view_is
     (Steps-aborted (grouped_at s.present.state s.cursor s.journal) (grouped_at t.state.state t.cursor t.self) step)
 

@@ -29,7 +29,8 @@ invariant_of-self c =
     ready_same s.present s.journal t kept.0 kept.1 c.self.invariant.1 in
     elim c.match-begin.branch [
       | in-Ok w ↦
-          let step = grouped-began s.present.state s.cursor (past_of delta_of s.journal) (future_of delta_of s.journal) (past_of delta_of t) (future_of delta_of t)
+          let step = grouped-began s.present.state s.cursor (past_of delta_of s.journal) (future_of delta_of s.journal) (past_of delta_of t)
+          (future_of delta_of t)
           s.journal.floor t.floor (w.in-Ok.ensures.grouped s.present.state) past future in
           (IsGrouped-begun (grouped_at s.present.state s.cursor s.journal) (grouped_at s.present.state s.cursor t) c.self.invariant.0 step, ready)
       | in-Err w ↦ (subst (λ (j : Journaled Change). IsGrouped (grouped_at s.present.state s.cursor j)) (sym w.in-Err.ensures.err.1) c.self.invariant.0, ready)
@@ -42,7 +43,8 @@ returns-clause-step c =
     let kept = c.begin.ensures.steps in
     elim c.match-begin.branch [
       | in-Ok w ↦
-          let step = grouped-began s.present.state s.cursor (past_of delta_of s.journal) (future_of delta_of s.journal) (past_of delta_of t) (future_of delta_of t)
+          let step = grouped-began s.present.state s.cursor (past_of delta_of s.journal) (future_of delta_of s.journal) (past_of delta_of t)
+          (future_of delta_of t)
           s.journal.floor t.floor (w.in-Ok.ensures.grouped s.present.state) (ap (steps_of delta_of) kept.0) (ap (steps_of delta_of) kept.1) in
           rw w.result-is (subst (λ (v : SessionView). Steps Begin (grouped_in v) (Ok tt) (grouped_at s.present.state s.cursor t)) c.self.view_is
           (Steps-begun (grouped_at s.present.state s.cursor s.journal) (grouped_at s.present.state s.cursor t) step))

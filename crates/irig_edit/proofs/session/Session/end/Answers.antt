@@ -27,15 +27,25 @@ invariant_of-self c =
     let future = ap (steps_of delta_of) c.end.ensures.stays in
     elim c.match-end.branch [
       | in-Ok w ↦
-          let step = grouped-ended s.present.state s.present.state s.cursor (past_of delta_of s.journal) (future_of delta_of s.journal) (past_of delta_of t.self) (future_of delta_of t.self)
-          s.journal.floor t.self.floor (w.in-Ok.ensures.grouped s.cursor) w.in-Ok.ensures.steps refl future c.self.invariant.0.machine.present.state c.self.invariant.1.0.0 in
-          (IsGrouped-ended (grouped_at s.present.state s.cursor s.journal) (grouped_at s.present.state s.cursor t.self) c.self.invariant.0 step, c.end.ensures.ready)
+          let step = grouped-ended s.present.state s.present.state s.cursor (past_of delta_of s.journal) (future_of delta_of s.journal)
+          (past_of delta_of t.self) (future_of delta_of t.self)
+          s.journal.floor t.self.floor (w.in-Ok.ensures.grouped s.cursor) w.in-Ok.ensures.steps refl future c.self.invariant.0.machine.present.state
+          c.self.invariant.1.0.0 in (
+            IsGrouped-ended (grouped_at s.present.state s.cursor s.journal) (grouped_at s.present.state s.cursor t.self) c.self.invariant.0 step,
+            c.end.ensures.ready,
+          )
       | in-Err-NoGroup w ↦
-          let same = w.in-Err-NoGroup.ensures.err in
-          (subst (λ (g : Grouped Kept). IsGrouped g) (λ k. over_opening (sym same.1 k) (machine (history s.present.state s.cursor (steps_of delta_of (sym same.0 k)) (sym future k)))) c.self.invariant.0, c.end.ensures.ready)
+          let same = w.in-Err-NoGroup.ensures.err in (
+            subst (λ (g : Grouped Kept). IsGrouped g) (λ k. over_opening (sym same.1 k)
+                (machine (history s.present.state s.cursor (steps_of delta_of (sym same.0 k)) (sym future k)))) c.self.invariant.0,
+            c.end.ensures.ready,
+          )
       | in-Err w ↦
-          let same = w.in-Err.ensures.err in
-          (subst (λ (g : Grouped Kept). IsGrouped g) (λ k. over_opening (sym same.1 k) (machine (history s.present.state s.cursor (steps_of delta_of (sym same.0 k)) (sym future k)))) c.self.invariant.0, c.end.ensures.ready)
+          let same = w.in-Err.ensures.err in (
+            subst (λ (g : Grouped Kept). IsGrouped g) (λ k. over_opening (sym same.1 k)
+                (machine (history s.present.state s.cursor (steps_of delta_of (sym same.0 k)) (sym future k)))) c.self.invariant.0,
+            c.end.ensures.ready,
+          )
     ]
 
 pub returns-clause-step : goal.returns-clause-step
@@ -45,8 +55,10 @@ returns-clause-step c =
     let future = ap (steps_of delta_of) c.end.ensures.stays in
     elim c.match-end.branch [
       | in-Ok w ↦
-          let step = grouped-ended s.present.state s.present.state s.cursor (past_of delta_of s.journal) (future_of delta_of s.journal) (past_of delta_of t.self) (future_of delta_of t.self)
-          s.journal.floor t.self.floor (w.in-Ok.ensures.grouped s.cursor) w.in-Ok.ensures.steps refl future c.self.invariant.0.machine.present.state c.self.invariant.1.0.0 in
+          let step = grouped-ended s.present.state s.present.state s.cursor (past_of delta_of s.journal) (future_of delta_of s.journal)
+          (past_of delta_of t.self) (future_of delta_of t.self)
+          s.journal.floor t.self.floor (w.in-Ok.ensures.grouped s.cursor) w.in-Ok.ensures.steps refl future c.self.invariant.0.machine.present.state
+          c.self.invariant.1.0.0 in
           rw w.result-is (subst (λ (v : SessionView). Steps End (grouped_in v) (Ok tt) (grouped_at s.present.state s.cursor t.self)) c.self.view_is
           (Steps-ended (grouped_at s.present.state s.cursor s.journal) (grouped_at s.present.state s.cursor t.self) step))
       | in-Err-NoGroup w ↦
@@ -55,7 +67,8 @@ returns-clause-step c =
           let shut = is_open-none (machine_at s.present.state s.cursor s.journal) s.journal.floor (c.end.ensures.none.0 none) in
           rw w.result-is (
             ap (λ (v : SessionView). refusal_of End (grouped_in v)) (sym c.self.view_is) ∙ ap (λ (test : Bool). first_of ((not test, NoGroup) ∷ [])) shut,
-            (λ k. over_opening (same.1 k) (machine (history s.present.state s.cursor (steps_of delta_of (same.0 k)) (future k)))) ∙ ap grouped_in c.self.view_is,
+            (λ k. over_opening (same.1 k) (machine (history s.present.state s.cursor (steps_of delta_of (same.0 k)) (future k))))
+                ∙ ap grouped_in c.self.view_is,
           )
       | in-Err w ↦
           let same = w.in-Err.ensures.err in
@@ -63,7 +76,8 @@ returns-clause-step c =
           let open_now = is_open-not_none (machine_at s.present.state s.cursor s.journal) s.journal.floor (λ none. some (c.end.ensures.none.1 none)) in
           rw w.result-is (
             ap (λ (v : SessionView). refusal_of End (grouped_in v)) (sym c.self.view_is) ∙ ap (λ (test : Bool). first_of ((not test, NoGroup) ∷ [])) open_now,
-            (λ k. over_opening (same.1 k) (machine (history s.present.state s.cursor (steps_of delta_of (same.0 k)) (future k)))) ∙ ap grouped_in c.self.view_is,
+            (λ k. over_opening (same.1 k) (machine (history s.present.state s.cursor (steps_of delta_of (same.0 k)) (future k))))
+                ∙ ap grouped_in c.self.view_is,
             tt,
           )
     ]
@@ -80,7 +94,8 @@ returns-clause-memory c =
             | inl none ↦ absurd (some (w.in-Err.is ∙ none))
             | inr out ↦
                 subst (λ (v : SessionView). HasMade 2 v) c.self.view_is
-                (has_made 2 (λ o. o.steps + 1 < length (past_of delta_of s.journal)) s.present.state s.cursor (past_of delta_of s.journal) (future_of delta_of s.journal) s.journal.floor (λ o few. omega (arith, few)) out.1)
+                (has_made 2 (λ o. o.steps + 1 < length (past_of delta_of s.journal)) s.present.state s.cursor (past_of delta_of s.journal)
+                (future_of delta_of s.journal) s.journal.floor (λ o few. omega (arith, few)) out.1)
           ] in
           rw w.result-is (λ is. made)
     ]

@@ -11,6 +11,8 @@ pub returns : goal.returns
 returns c =
     let s = c.self.inside in
     record {
-      past = c.weights.ensures.past ∙ (held_back s.present.state s.cursor (past_of delta_of s.journal) ∙ ap (λ (m : SessionView). sum_by taken_for (m.present ∷ m.past)) c.self.view_is);
-      future = c.weights.ensures.future ∙ (held_forward s.present.state (future_of delta_of s.journal) ∙ ap (λ (m : SessionView). sum_by put_for m.future) c.self.view_is);
+      past = c.weights.ensures.past ∙ (held_back s.present.state s.cursor (past_of delta_of s.journal)
+          ∙ ap (λ (m : SessionView). sum_by taken_for (m.present ∷ m.past)) c.self.view_is);
+      future = c.weights.ensures.future ∙ (held_forward s.present.state (future_of delta_of s.journal)
+          ∙ ap (λ (m : SessionView). sum_by put_for m.future) c.self.view_is);
     }

@@ -47,10 +47,15 @@ returns-clause-step c =
     let becomes = toggled_becomes a b place s is can count within in
     let law = turned-turned s (Alone (Toggled a b)) is can in
     let exchanged : exchange_of s (Alone (Toggled a b)) ≡ exchange_by (Invert a b) s =
-    ap (λ (p : State × Delta). holding_none (window (standing_in a b p.0.pulses)) (window (standing_in a b (turned s (Alone (Toggled a b))).0.pulses)) (Alone (Toggled a b)) (Alone (Toggled a b))) law in
-    (none, accepts_becomes (Invert a b) (grouped_in c.args.self.now) _ (turned s (Alone (Toggled a b))).0 place (exchange_of s (Alone (Toggled a b))) becomes exchanged new)
+    ap (λ (p : State × Delta). holding_none (window (standing_in a b p.0.pulses)) (window (standing_in a b (turned s (Alone (Toggled a b))).0.pulses))
+    (Alone (Toggled a b)) (Alone (Toggled a b))) law in (
+      none,
+      accepts_becomes (Invert a b) (grouped_in c.args.self.now) _ (turned s (Alone (Toggled a b))).0 place (exchange_of s (Alone (Toggled a b))) becomes
+          exchanged new,
+    )
 
 pub returns-clause-looks : goal.returns-clause-looks
 returns-clause-looks c =
     let before = c.args.self.now.looks in
-    subst (λ (v : SessionView). (before ≤ v.looks) × (v.last_looks ≡ v.looks - before) × Within v.present.made.forth v.last_looks) (sym c.self-2.view_is) c.in_ok-change.ensures.looks
+    subst (λ (v : SessionView). (before ≤ v.looks) × (v.last_looks ≡ v.looks - before) × Within v.present.made.forth v.last_looks) (sym c.self-2.view_is)
+    c.in_ok-change.ensures.looks

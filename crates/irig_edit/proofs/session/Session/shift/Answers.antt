@@ -23,7 +23,9 @@ returns-clause-step c =
     let none = subst (λ (x : State). judgement_of (Shift i j d) x ≡ None) same
     (subst (λ (e : ℤ). judgement_of (Shift i j e) c.self.inside.present.state ≡ None) passed r.allowed) in
     let becomes = subst (λ (x : State). Becomes (Shift i j d) x (turned x (Alone (Shifted m.i m.j m.by m.letters))).0 j) same
-    (subst (λ (e : ℤ). Becomes (Shift i j e) c.self.inside.present.state (turned c.self.inside.present.state (Alone (Shifted m.i m.j m.by m.letters))).0 j) passed r.becomes) in
+    (subst (λ (e : ℤ). Becomes (Shift i j e) c.self.inside.present.state (turned c.self.inside.present.state (Alone (Shifted m.i m.j m.by m.letters))).0 j)
+    passed r.becomes) in
     let exchanged = subst (λ (x : State). exchange_of x (Alone (Shifted m.i m.j m.by m.letters)) ≡ exchange_by (Shift i j d) x) same
-    (subst (λ (e : ℤ). exchange_of c.self.inside.present.state (Alone (Shifted m.i m.j m.by m.letters)) ≡ exchange_by (Shift i j e) c.self.inside.present.state) passed r.exchange) in
+    (subst (λ (e : ℤ). exchange_of c.self.inside.present.state (Alone (Shifted m.i m.j m.by m.letters)) ≡ exchange_by (Shift i j e) c.self.inside.present.state)
+    passed r.exchange) in
     c.change.ensures.step (Shift i j d) none becomes exchanged

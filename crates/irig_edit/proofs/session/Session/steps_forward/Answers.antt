@@ -8,4 +8,5 @@ use Rattle.irig_edit.specs.Session.{SessionView}
 pub returns : goal.returns
 returns c =
     let s = c.self.inside in
-    c.steps_forward.ensures ∙ sym (length-kept_forward s.present.state (future_of delta_of s.journal)) ∙ ap (λ (m : SessionView). length m.future) c.self.view_is
+    c.steps_forward.ensures ∙ sym (length-kept_forward s.present.state (future_of delta_of s.journal))
+    ∙ ap (λ (m : SessionView). length m.future) c.self.view_is

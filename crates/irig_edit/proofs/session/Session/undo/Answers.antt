@@ -52,10 +52,12 @@ returns-in-Ok-clause-looks c =
     let new = c.undo.new.state.index.looks in
     let rise = c.looks_since-self-inside.result in
     let rose = undone_rose c.self.inside.present.state (past_of delta_of c.self.inside.journal) old new c.in-Ok.ensures.step.once in (
-      never_fell (exchange_back c.self.inside.present.state (past_of delta_of c.self.inside.journal)).back old new c.looks-before.result _ rose c.looks-before.ensures (ap (λ (v : SessionView). v.looks) c.self.view_is) (omega arith),
+      never_fell (exchange_back c.self.inside.present.state (past_of delta_of c.self.inside.journal)).back old new c.looks-before.result _ rose
+          c.looks-before.ensures (ap (λ (v : SessionView). v.looks) c.self.view_is) (omega arith),
       c.looks_since-self-inside.ensures ∙ ap (λ (n : ℕ). new - n) (c.looks-before.ensures ∙ ap (λ (v : SessionView). v.looks) c.self.view_is),
       subst (λ (v : SessionView). Within v.present.made.back rise) c.self.view_is
-          (risen_within (exchange_back c.self.inside.present.state (past_of delta_of c.self.inside.journal)).back old new c.looks-before.result rise rose c.looks-before.ensures c.looks_since-self-inside.ensures),
+          (risen_within (exchange_back c.self.inside.present.state (past_of delta_of c.self.inside.journal)).back old new c.looks-before.result rise rose
+          c.looks-before.ensures c.looks_since-self-inside.ensures),
     )
 
 pub returns-in-Err : goal.returns-in-Err

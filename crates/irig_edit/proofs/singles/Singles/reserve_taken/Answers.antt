@@ -9,7 +9,8 @@ use Rattle.irig_edit.proofs.singles.Singles.reserve_taken.Goals as goal
 
 pub returns-in_err-reserve_taken-clause-same : goal.returns-in_err-reserve_taken-clause-same
 returns-in_err-reserve_taken-clause-same c =
-    map-set_same single_of c.loop-i.self-inside.items.items c.loop-i.i c.reserve_taken.new.self c.index_mut.result.now (c.in_err-reserve_taken.ensures.same ∙ ap single_of c.index_mut.ensures.value)
+    map-set_same single_of c.loop-i.self-inside.items.items c.loop-i.i c.reserve_taken.new.self c.index_mut.result.now
+    (c.in_err-reserve_taken.ensures.same ∙ ap single_of c.index_mut.ensures.value)
     ∙ c.loop-i.invariant.1
 
 pub loop-i-preserved : goal.loop-i-preserved

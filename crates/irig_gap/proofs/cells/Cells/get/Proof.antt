@@ -1,5 +1,10 @@
 -- `get` hands on the `&` to the item that a `&` to the row holds. Assumes `Logic`.
-use Rattle.irig_gap.proofs.Steps.{◌≡◌, refl, ℕ, zero, suc, ◌+◌, ◌*◌, ◌<◌, ◌^◌, arith, List, [], ◌∷◌, length, get_or, id⊢, never, ftrue, flft, w64, named, inst_fn, vptr, ◌⊑◌, fact, tables, ‵, raw, ◌⊛◌, at_ret, ◌$◌, ◌∵◌, !, qed, done, move, keep, drop, use1, split, join, fsplit, fjoin, feq_i, flt_l, rewrite, suffices, stop, fld, load, addr, size_lit, of_opd, bin, first, blocks, exec, returns, enter, alloc_all, pass_all, free_all, look_at, local, through, sets, sets_last, env, usize, RefOf, yes, uint_vals, uint_Tells, owns, RawPtr, in_a_block, shr_vals, shr_Tells, plain, types_at, heard, nothing, Stays, stay_dropped, walk_of, Goes-dropped, ends_at, says, proved, Option, Some, None, El, R, args, after}
+use Rattle.irig_gap.proofs.Steps.{◌≡◌, refl, ℕ, zero, suc, ◌+◌, ◌*◌, ◌<◌, ◌^◌, arith, List, [], ◌∷◌, length, get_or, id⊢, never, ftrue, flft, w64, named}
+use Rattle.irig_gap.proofs.Steps.{inst_fn, vptr, ◌⊑◌, fact, tables, ‵, raw, ◌⊛◌, at_ret, ◌$◌, ◌∵◌, !, qed, done, move, keep, drop, use1, split, join, fsplit}
+use Rattle.irig_gap.proofs.Steps.{fjoin, feq_i, flt_l, rewrite, suffices, stop, fld, load, addr, size_lit, of_opd, bin, first, blocks, exec, returns, enter}
+use Rattle.irig_gap.proofs.Steps.{alloc_all, pass_all, free_all, look_at, local, through, sets, sets_last, env, usize, RefOf, yes, uint_vals, uint_Tells, owns}
+use Rattle.irig_gap.proofs.Steps.{RawPtr, in_a_block, shr_vals, shr_Tells, plain, types_at, heard, nothing, Stays, stay_dropped, walk_of, Goes-dropped, ends_at}
+use Rattle.irig_gap.proofs.Steps.{says, proved, Option, Some, None, El, R, args, after}
 use types.Run.{look}
 use denote.Memory.{hidden_shr}
 use denote.Opens.{hide}
@@ -25,10 +30,12 @@ get_spec 𝓤 𝓛 𝓜 𝓡 wired X L =
     proved 𝓛 (F.ended X) stayed c 𝓜 𝓡 (Goes-dropped 𝓛 2 cells yes (λ κs x f. refl), (Goes-dropped 𝓛 2 (plain (λ _. usize)) yes (λ κs x f. refl), tt))
     (#self (args E)) (inst_fn (args E) code.function) (code.unfolded 𝓤 𝓛.H 𝓜 𝓡 wired (X, tt))
     (λ κs. (shr_vals, (uint_vals w64, tt))) (λ κs. (shr_Tells (named 0) κs.0 (Ce E), (uint_Tells w64, tt))) (λ κs qs bounds a g are.
-    let W = walk_of 𝓛 (F.ended X) stayed c in let s = sz E in let self = a.0 in let i = a.1.0 in let d = self.now in let rb = self.ref_ptr.0 in let ro = self.ref_ptr.1 in
+    let W = walk_of 𝓛 (F.ended X) stayed c in let s = sz E in let self = a.0 in let i = a.1.0 in let d = self.now in let rb = self.ref_ptr.0 in let ro =
+    self.ref_ptr.1 in
     let y : W.Ghost = ((κs, qs, bounds, a, (shr_vals self, (uint_vals w64 i, tt))), g) in
     let body = inst_fn (args E) code.function in
-    qed 𝓛 (((‵ (flft κs.0 qs.0) ⊛ ‵ (flft κs.1.0 qs.1.0) ⊛ ‵ ftrue) ⊛ ‵ (owns (types_at (F.signature X).params κs) a y.0.4)) ∷ (raw (fact 𝓤 (κs.1.0 ⊑ X.lives)) ⊛ raw (fact 𝓤 (IsFull d.slots i))) ∷ []) ∵
+    qed 𝓛 (((‵ (flft κs.0 qs.0) ⊛ ‵ (flft κs.1.0 qs.1.0) ⊛ ‵ ftrue) ⊛ ‵ (owns (types_at (F.signature X).params κs) a y.0.4))
+    ∷ (raw (fact 𝓤 (κs.1.0 ⊑ X.lives)) ⊛ raw (fact 𝓤 (IsFull d.slots i))) ∷ []) ∵
     move ! (1 ∷ []) $ split ! $ drop ! $ heard ! (IsFull d.slots i) (λ full.
     let within = full_within d.slots i full.0 full.1 in
     split ! $ split ! $ move ! (2 ∷ []) $ fsplit ! $ fsplit ! $ drop ! $
@@ -48,6 +55,7 @@ get_spec 𝓤 𝓛 𝓜 𝓡 wired X L =
     sets_last ! (addr ! (through ! refl (stop !))) refl (tt, tt) $
     exec ! 𝓣.C 𝓣.Λ (env body.locals l) (after 1 body.body) (at_ret (env body.locals l) (W.post y)) $ sets ! (of_opd ! (local ! refl)) refl (tt, tt) $
     returns ! (look_at ! 0 refl) $ free_all ! refl $
-    suffices ! _ (ends_at 𝓛 (F.ended X) stayed c y (vptr b (i * s + o)) (record { ref_ptr = (b, i * s + o); now = full.0 }) (tt, (tt, tt)) (tt, (tt, tt))) $ says ! full.1 $
+    suffices ! _ (ends_at 𝓛 (F.ended X) stayed c y (vptr b (i * s + o)) (record { ref_ptr = (b, i * s + o); now = full.0 }) (tt, (tt, tt)) (tt, (tt, tt))) $
+    says ! full.1 $
     move ! (1 ∷ []) $ feq_i ! _ (vptr b (i * s + o) ∷ []) _ refl $ fjoin ! $ nothing ! $ nothing ! $ fjoin ! $ nothing ! $ fjoin ! $
     move ! (2 ∷ 4 ∷ []) $ join ! $ keep ! (0 ∷ 1 ∷ 2 ∷ []) $ done !))))))

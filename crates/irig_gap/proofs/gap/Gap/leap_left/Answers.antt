@@ -4,15 +4,21 @@ use Rattle.irig_gap.proofs.gap.Gap.leap_left.Goals as goal
 
 pub invariant_of-self : goal.invariant_of-self
 invariant_of-self g c =
-    let s = shows _ _ _ _ c.self.view_is c.self.invariant.0 in
-    ((anywhere_step _ _ _ _ c.self.view_is c.self.invariant.0 c.args.place (omega (arith, c.if-free-eq0.true)) (omega (arith, c.requires))).0, c.self.invariant.1, c.self.invariant.2, c.self.invariant.3)
+    let s = shows _ _ _ _ c.self.view_is c.self.invariant.0 in (
+      (anywhere_step _ _ _ _ c.self.view_is c.self.invariant.0 c.args.place (omega (arith, c.if-free-eq0.true)) (omega (arith, c.requires))).0,
+      c.self.invariant.1,
+      c.self.invariant.2,
+      c.self.invariant.3,
+    )
 
 pub returns-then-free-eq0-clause-view : goal.returns-then-free-eq0-clause-view
 returns-then-free-eq0-clause-view g c =
-    let s = shows _ _ _ _ c.self.view_is c.self.invariant.0 in (anywhere_step _ _ _ _ c.self.view_is c.self.invariant.0 c.args.place (omega (arith, c.if-free-eq0.true)) (omega (arith, c.requires))).1
+    let s = shows _ _ _ _ c.self.view_is c.self.invariant.0 in
+    (anywhere_step _ _ _ _ c.self.view_is c.self.invariant.0 c.args.place (omega (arith, c.if-free-eq0.true)) (omega (arith, c.requires))).1
 
 pub move_run-requires-clause-inside : goal.move_run-requires-clause-inside
-move_run-requires-clause-inside g c = let s = shows _ _ _ _ c.self.view_is c.self.invariant.0 in (omega (arith, c.min-count.ensures), omega (arith, c.min-count.ensures))
+move_run-requires-clause-inside g c = let s = shows _ _ _ _ c.self.view_is c.self.invariant.0 in
+    (omega (arith, c.min-count.ensures), omega (arith, c.min-count.ensures))
 
 pub move_run-requires-clause-full : goal.move_run-requires-clause-full
 move_run-requires-clause-full g c = run_left _ _ _ _ c.self.view_is c.self.invariant.0 _ c.min-count.result (omega (arith, c.min-count.ensures, c.requires))
@@ -20,11 +26,17 @@ move_run-requires-clause-full g c = run_left _ _ _ _ c.self.view_is c.self.invar
 pub invariant_of-self-2 : goal.invariant_of-self-2
 invariant_of-self-2 g c =
     let s = shows _ _ _ _ c.self.view_is c.self.invariant.0 in
-    let held = up_step _ _ _ _ c.self.view_is c.self.invariant.0 (c.self.inside.gap - c.min-count.result) (c.self.inside.after - c.min-count.result) c.min-count.result (omega (arith, c.min-count.ensures)) (omega (arith, c.min-count.ensures)) (omega (arith, c.min-count.ensures)) in
-    (rw c.move_run.ensures.slots held.1.0, ap length c.move_run.ensures.slots ∙ held.0 ∙ c.self.invariant.1, c.self.invariant.2, rw c.move_run.ensures.start c.self.invariant.3)
+    let held = up_step _ _ _ _ c.self.view_is c.self.invariant.0 (c.self.inside.gap - c.min-count.result) (c.self.inside.after - c.min-count.result)
+    c.min-count.result (omega (arith, c.min-count.ensures)) (omega (arith, c.min-count.ensures)) (omega (arith, c.min-count.ensures)) in (
+      rw c.move_run.ensures.slots held.1.0,
+      ap length c.move_run.ensures.slots ∙ held.0 ∙ c.self.invariant.1,
+      c.self.invariant.2,
+      rw c.move_run.ensures.start c.self.invariant.3,
+    )
 
 pub returns-clause-view : goal.returns-clause-view
 returns-clause-view g c =
     let s = shows _ _ _ _ c.self.view_is c.self.invariant.0 in
-    let held = up_step _ _ _ _ c.self.view_is c.self.invariant.0 (c.self.inside.gap - c.min-count.result) (c.self.inside.after - c.min-count.result) c.min-count.result (omega (arith, c.min-count.ensures)) (omega (arith, c.min-count.ensures)) (omega (arith, c.min-count.ensures)) in
+    let held = up_step _ _ _ _ c.self.view_is c.self.invariant.0 (c.self.inside.gap - c.min-count.result) (c.self.inside.after - c.min-count.result)
+    c.min-count.result (omega (arith, c.min-count.ensures)) (omega (arith, c.min-count.ensures)) (omega (arith, c.min-count.ensures)) in
     rw c.move_run.ensures.slots held.1.1

@@ -38,7 +38,8 @@ returns-then-not-some_go-clause-frames c =
     λ k le lt. sym (ap (λ v. record_after f v.track.pulses k) c.retell.ensures.looked.lens) ∙ c.next_marked-place.ensures.passed.none k le lt in
     kept_in_place f e.at e.old e.new c.args.lens.now.track.micros all ps were c.len-len.ensures.track.few (omega arith) from count
     c.saturating_sub-from.ensures c.count_up_to-count.ensures.before c.count_up_to-count.ensures.after
-    to place last c.next_marked-place.ensures.passed.order c.next_marked-place.ensures.within none (shown c.self.inside.pulses c.retell.new.records) c.retell.ensures.shown
+    to place last c.next_marked-place.ensures.passed.order c.next_marked-place.ensures.within none (shown c.self.inside.pulses c.retell.new.records)
+    c.retell.ensures.shown
     (omega arith) (omega arith) (c.is_up_to-some_go.ensures c.if-not-some_go.true)
 
 pub returns-then-not-some_go-clause-looked : goal.returns-then-not-some_go-clause-looked
@@ -67,7 +68,8 @@ unwrap-requires c =
     let room = all_room c.self.inside.records c.self.inside.pulses c.self.inside.looks c.args.self.now c.self.view_is (omega (arith, c.len-count.ensures)) in
     let long = frames_long f e.at e.old e.new c.args.lens.now.track.micros all ps were c.len-len.ensures.track.few (omega arith) from count
     c.saturating_sub-from.ensures c.count_up_to-count.ensures.before c.count_up_to-count.ensures.after
-    to place last c.next_marked-place.ensures.passed.order c.next_marked-place.ensures.within none (shown c.self.inside.pulses c.retell.new.records) c.retell.ensures.shown
+    to place last c.next_marked-place.ensures.passed.order c.next_marked-place.ensures.within none (shown c.self.inside.pulses c.retell.new.records)
+    c.retell.ensures.shown
     c.self.inside.pulses c.drop_back_to.new.records c.part.new.records c.drop_up_to.new.records
     c.drop_back_to.ensures.cut c.part.ensures.shown c.part.ensures.left c.part.ensures.right c.drop_up_to.ensures.left c.drop_up_to.ensures.right in
     (c.fill.ensures.room (omega (
@@ -104,7 +106,8 @@ returns-clause-frames c =
     let kept = rw c.unwrap.ensures at c.fill.ensures.right in
     repaired f e.at e.old e.new c.args.lens.now.track.micros all ps were c.len-len.ensures.track.few (omega arith) from count
     c.saturating_sub-from.ensures c.count_up_to-count.ensures.before c.count_up_to-count.ensures.after
-    to place last c.next_marked-place.ensures.passed.order c.next_marked-place.ensures.within none (shown c.self.inside.pulses c.retell.new.records) c.retell.ensures.shown
+    to place last c.next_marked-place.ensures.passed.order c.next_marked-place.ensures.within none (shown c.self.inside.pulses c.retell.new.records)
+    c.retell.ensures.shown
     c.self.inside.pulses c.drop_back_to.new.records c.part.new.records c.drop_up_to.new.records
     c.drop_back_to.ensures.cut c.part.ensures.shown c.part.ensures.left c.part.ensures.right c.drop_up_to.ensures.left c.drop_up_to.ensures.right
     _ c.fill.new.records left kept refl

@@ -19,4 +19,5 @@ returns-clause-grouped g c =
     let rest : steps_of r.delta c.turn_beyond.new.past.items ≡ farthest o.steps steps = search rules in
     ap (λ j. aborted (grouped_of r.turned r.delta s c.args.cursor.now j)) (sym c.self.view_is)
     ∙ ap (λ f. aborted (grouped_of r.turned r.delta s c.args.cursor.now (floored_at past future f))) c.in-Some.is
-    ∙ aborted_by r.turned r.delta s (r.content c.turn_beyond.new.state) c.args.cursor.now o.cursor past c.turn_beyond.new.past.items future c.clear.new.self.items o there rest refl c.clear.ensures.items
+    ∙ aborted_by r.turned r.delta s (r.content c.turn_beyond.new.state) c.args.cursor.now o.cursor past c.turn_beyond.new.past.items future
+    c.clear.new.self.items o there rest refl c.clear.ensures.items

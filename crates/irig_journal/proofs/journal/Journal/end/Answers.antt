@@ -20,8 +20,10 @@ returns-clause-grouped g c cursor =
     let fit = subst (λ j. FitInTurn r.fits r.turned s (past_of r.delta j)) (sym c.self.view_is) c.requires.ready.0.0 in
     let joins : steps_of r.delta c.join_beyond.new.past.items ≡ joined_beyond r.gathered o.steps steps = search rules in
     let known : o.steps + 1 < vec_len c.self.inside.past → r.is_state s = search rules in
-    let same : o.steps + 1 < length steps → (r.turned s (r.gathered (changes_of (beyond o.steps steps)))).0 ≡ left_by r.turned s (changes_of (beyond o.steps steps)) =
-    λ long. ap (λ p. p.0) (g.met.R.Reversible.gathered_turns s (changes_of (beyond o.steps steps)) (known (omega (arith, length-steps r.delta past))) (fit_parts r.fits r.turned s o.steps steps fit).0) in
+    let same : o.steps + 1 < length steps → (r.turned s (r.gathered (changes_of (beyond o.steps steps)))).0
+    ≡ left_by r.turned s (changes_of (beyond o.steps steps)) =
+    λ long. ap (λ p. p.0) (g.met.R.Reversible.gathered_turns s (changes_of (beyond o.steps steps)) (known (omega (arith, length-steps r.delta past)))
+    (fit_parts r.fits r.turned s o.steps steps fit).0) in
     ap (λ j. ended (grouped_of r.turned r.delta s cursor j)) (sym c.self.view_is)
     ∙ ap (λ f. ended (grouped_of r.turned r.delta s cursor (floored_at past future f))) c.in-Some.is
     ∙ (ended_by r.turned r.delta r.gathered s cursor past c.join_beyond.new.past.items future o joins same)

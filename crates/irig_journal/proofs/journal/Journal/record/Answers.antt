@@ -20,12 +20,15 @@ returns-clause-grouped g c after =
     let back = r.delta c.turn.new.change in
     let turn : (r.content c.turn.new.self, back) ≡ r.turned s d = rw (← c.prepare.ensures.state, ← c.prepare.ensures.change) c.turn.ensures.turned in
     let law = g.met.R.Reversible.back s d c.prepare.ensures.known c.requires.applies in
-    let pushed : c.push.new.self.items ≡ past ++ step c.turn.new.change c.args.before ∷ [] = rw (c.unwrap.ensures, c.reserve_step.ensures.past.0) at c.push.ensures.items in
+    let pushed : c.push.new.self.items ≡ past ++ step c.turn.new.change c.args.before ∷ [] =
+    rw (c.unwrap.ensures, c.reserve_step.ensures.past.0) at c.push.ensures.items in
     let longer : steps_of r.delta c.push.new.self.items ≡ step back c.args.before ∷ steps =
     ap (steps_of r.delta) pushed ∙ steps-push r.delta past (step c.turn.new.change c.args.before) in
-    let stands : StandsOnFloor c.self.inside.floor (length steps) = subst (StandsOnFloor c.self.inside.floor) (sym (length-steps r.delta past)) c.self.invariant.0 in
+    let stands : StandsOnFloor c.self.inside.floor (length steps) =
+    subst (StandsOnFloor c.self.inside.floor) (sym (length-steps r.delta past)) c.self.invariant.0 in
     rw c.clear.ensures.items
-    (recorded_by r.turned c.self.inside.floor s (r.content c.turn.new.self) d back c.args.before after steps (steps_of r.delta c.push.new.self.items) turn law longer stands
+    (recorded_by r.turned c.self.inside.floor s (r.content c.turn.new.self) d back c.args.before after steps (steps_of r.delta c.push.new.self.items) turn law
+    longer stands
     ∙ ap (λ j. recorded_over (grouped_of r.turned r.delta s c.args.before j) (kept (r.turned s d).0 after)) c.self.view_is)
 
 -- the way back is ready, before what was ready at the state
@@ -39,7 +42,8 @@ returns-clause-ready g c =
     let back = step c.turn.new.change c.args.before in
     let small = r.has_room (r.places c.args.state.now) in
     let large = r.has_room (r.places c.turn.new.self) in
-    let wider : IsWider small large = λ x y h. g.met.R.Reversible.wider _ _ x y c.turn.ensures.grows (g.met.R.Reversible.wider _ _ x y c.prepare.ensures.grows h) in
+    let wider : IsWider small large = λ x y h. g.met.R.Reversible.wider _ _ x y c.turn.ensures.grows
+    (g.met.R.Reversible.wider _ _ x y c.prepare.ensures.grows h) in
     let turn : (after, r.delta c.turn.new.change) ≡ r.turned s d = rw (← c.prepare.ensures.state, ← c.prepare.ensures.change) c.turn.ensures.turned in
     let law = g.met.R.Reversible.back s d c.prepare.ensures.known c.requires.applies in
     let back_fits = g.met.R.Reversible.back_fits s d c.prepare.ensures.known c.requires.applies in
@@ -49,7 +53,8 @@ returns-clause-ready g c =
     let longer = ap (steps_of r.delta) pushed ∙ steps-push r.delta past back in
     let none = c.clear.ensures.items in (
       (
-        fits_back r.fits r.turned s after (r.delta c.turn.new.change) (step d c.args.before) c.args.before (steps_of r.delta past) (steps_of r.delta c.push.new.self.items) turn back_fits law longer ready.0.0,
+        fits_back r.fits r.turned s after (r.delta c.turn.new.change) (step d c.args.before) c.args.before (steps_of r.delta past)
+            (steps_of r.delta c.push.new.self.items) turn back_fits law longer ready.0.0,
         subst (λ l. FitInTurn r.fits r.turned after (steps_of r.delta l)) (sym none) tt,
       ),
       room_back r.turned r.delta small large wider s after back past c.push.new.self.items pushed home c.turn.ensures.back ready.1,

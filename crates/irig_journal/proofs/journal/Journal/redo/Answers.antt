@@ -20,7 +20,8 @@ returns-clause-grouped g c =
     let more = steps_of r.delta c.turn_nearest.new.to.items in
     let stands : StandsOnFloor floor (length past) = subst (StandsOnFloor floor) (sym (length-steps r.delta c.self.inside.past.items)) c.self.invariant.0 in
     let fit = subst (λ j. FitInTurn r.fits r.turned s (future_of r.delta j)) (sym c.self.view_is) c.requires.ready.0.1 in
-    let t = stepped_back-parts r.turned s after c.args.cursor.now c.turn_nearest.new.cursor future (steps_of r.delta c.turn_nearest.new.from.items) past more c.turn_nearest.ensures.step.steps in
+    let t = stepped_back-parts r.turned s after c.args.cursor.now c.turn_nearest.new.cursor future (steps_of r.delta c.turn_nearest.new.from.items) past more
+    c.turn_nearest.ensures.step.steps in
     let near = t.near.change in
     let fits = (subst (FitInTurn r.fits r.turned s) t.parts fit).0 in
     let home = ap (λ x. (r.turned x (r.turned s near).1).0) (sym t.state) ∙ ap (λ p. p.0) (g.met.R.Reversible.back s near c.turn_nearest.ensures.known fits) in

@@ -16,9 +16,13 @@ returns-in_default-clause-ok g c = λ text h.
 pub returns-clause-ok : goal.returns-clause-ok
 returns-clause-ok g c = on_ok_weaker c.answer.result (λ p text h.
     let a = c.in-Some.ensures.answer text h in
-    ran_line _ _ _ _ _ _ text (answer_with c.obey_line.new.session c.in-Some.reply) h.plain a.0 (sym (c.is_empty.ensures text h) ∙ c.if-is_empty.false) (a.1, refl) (tells_one _ _ c.args.session.now (answer_with c.obey_line.new.session c.in-Some.reply) p c.in-Some.ensures.put) c.answer.ensures.status) c.answer.ensures.ok
+    ran_line _ _ _ _ _ _ text (answer_with c.obey_line.new.session c.in-Some.reply) h.plain a.0 (sym (c.is_empty.ensures text h) ∙ c.if-is_empty.false)
+    (a.1, refl) (tells_one _ _ c.args.session.now (answer_with c.obey_line.new.session c.in-Some.reply) p c.in-Some.ensures.put) c.answer.ensures.status)
+    c.answer.ensures.ok
 
 pub returns-clause-err : goal.returns-clause-err
 returns-clause-err g c = on_err_weaker c.answer.result (λ p text h.
     let a = c.in-Some.ensures.answer text h in
-    broken_line _ _ _ _ text p.front p.back (answer_with c.obey_line.new.session c.in-Some.reply) h.plain a.0 (sym (c.is_empty.ensures text h) ∙ c.if-is_empty.false) (a.1, refl) p.part p.missing (tells_front _ _ c.args.session.now (answer_with c.obey_line.new.session c.in-Some.reply) p.front p.appends c.in-Some.ensures.put)) c.answer.ensures.err
+    broken_line _ _ _ _ text p.front p.back (answer_with c.obey_line.new.session c.in-Some.reply) h.plain a.0
+    (sym (c.is_empty.ensures text h) ∙ c.if-is_empty.false) (a.1, refl) p.part p.missing
+    (tells_front _ _ c.args.session.now (answer_with c.obey_line.new.session c.in-Some.reply) p.front p.appends c.in-Some.ensures.put)) c.answer.ensures.err

@@ -22,10 +22,14 @@ returns-in_err-answer-clause-err g c =
     c.args.session.now c.obey_line.new.session (text ++ c.args.byte ∷ []) = λ text h.
     (let a = c.in-Some.ensures.answer text h in
     let front = c.in_err-answer.ensures.err in
-    rw c.if-byte-ne10.false (broke_line _ _ text _ _ front.front front.back (answer_with c.obey_line.new.session c.in-Some.reply) h.plain a.0 (a.1, refl) front.part front.missing (tells_front _ _ c.args.session.now (answer_with c.obey_line.new.session c.in-Some.reply) front.front front.appends c.in-Some.ensures.put))) in
+    rw c.if-byte-ne10.false (broke_line _ _ text _ _ front.front front.back (answer_with c.obey_line.new.session c.in-Some.reply) h.plain a.0 (a.1, refl)
+    front.part front.missing (tells_front _ _ c.args.session.now (answer_with c.obey_line.new.session c.in-Some.reply) front.front front.appends
+    c.in-Some.ensures.put))) in
     given _ broke
 
 pub returns-clause-ok : goal.returns-clause-ok
 returns-clause-ok g c = λ text h.
     let a = c.in-Some.ensures.answer text h in
-    rw c.if-byte-ne10.false (obeyed_line _ _ _ _ text _ _ (answer_with c.obey_line.new.session c.in-Some.reply) _ h.plain a.0 (a.1, refl) (tells_one _ _ c.args.session.now (answer_with c.obey_line.new.session c.in-Some.reply) c.in_ok-answer.ensures.ok c.in-Some.ensures.put) c.answer.ensures.status c.clear.ensures)
+    rw c.if-byte-ne10.false (obeyed_line _ _ _ _ text _ _ (answer_with c.obey_line.new.session c.in-Some.reply) _ h.plain a.0 (a.1, refl)
+    (tells_one _ _ c.args.session.now (answer_with c.obey_line.new.session c.in-Some.reply) c.in_ok-answer.ensures.ok c.in-Some.ensures.put)
+    c.answer.ensures.status c.clear.ensures)

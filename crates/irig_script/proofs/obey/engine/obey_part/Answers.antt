@@ -16,7 +16,8 @@ returns-in_err-obey_byte-clause-err g c =
     (desk (g.W.Write.contents c.args.out.now) (g.S.Shelf.known c.args.shelf.now))
     (desk (g.W.Write.contents c.obey_byte.new.out) (g.S.Shelf.known c.obey_byte.new.shelf))
     c.args.session.now c.obey_byte.new.session (text ++ l) = λ text h.
-    (let part = broke_more _ _ _ _ _ _ _ _ (text ++ take i l) (get_or l i 0 ∷ []) c.loop-byte.line (c.loop-byte.invariant text h) c.in_err-obey_byte.ensures.err in
+    (let part = broke_more _ _ _ _ _ _ _ _ (text ++ take i l) (get_or l i 0 ∷ []) c.loop-byte.line (c.loop-byte.invariant text h)
+    c.in_err-obey_byte.ensures.err in
     rw (← whole_text text l i c.loop-byte-test.true) (broke_rest _ _ _ _ _ (drop (i + 1) l) part)) in
     given _ broke
 
@@ -25,7 +26,8 @@ returns-then-branch-clause-ok g c = λ text h.
     let step = rw c.if-branch.true at c.in_ok-obey_byte.ensures.ok in
     let i = c.loop-byte.byte-index in
     let l = c.args.bytes.now in
-    let upto = obeyed_more true _ _ _ _ _ _ _ _ _ (text ++ take i l) (get_or l i 0 ∷ []) c.loop-byte.line c.obey_byte.new.line (c.loop-byte.invariant text h) step in
+    let upto = obeyed_more true _ _ _ _ _ _ _ _ _ (text ++ take i l) (get_or l i 0 ∷ []) c.loop-byte.line c.obey_byte.new.line (c.loop-byte.invariant text h)
+    step in
     rw (← whole_text text l i c.loop-byte-test.true) (obeyed_rest _ _ _ _ _ _ _ (drop (i + 1) l) c.obey_byte.new.line upto)
 
 pub loop-byte-preserved : goal.loop-byte-preserved
@@ -33,7 +35,8 @@ loop-byte-preserved g c = λ text h.
     let step = rw c.if-branch.false at c.in_ok-obey_byte.ensures.ok in
     let i = c.loop-byte.byte-index in
     let l = c.args.bytes.now in
-    rw (← next_text text l i c.loop-byte-test.true) (obeyed_more false _ _ _ _ _ _ _ _ _ (text ++ take i l) (get_or l i 0 ∷ []) c.loop-byte.line c.obey_byte.new.line (c.loop-byte.invariant text h) step)
+    rw (← next_text text l i c.loop-byte-test.true) (obeyed_more false _ _ _ _ _ _ _ _ _ (text ++ take i l) (get_or l i 0 ∷ []) c.loop-byte.line
+    c.obey_byte.new.line (c.loop-byte.invariant text h) step)
 
 pub returns-clause-ok : goal.returns-clause-ok
 returns-clause-ok g c = λ text h.

@@ -52,7 +52,8 @@ returns-in-Err-obey_part-clause-ends g c =
     let i = c.loop-reads.invariant in
     let n = c.in-Ok.count in
     let all = consumes-consumes _ _ _ i.bytes (take n c.read_part.new.buffer) i.read c.in-Ok.ensures.bytes.0 in
-    run_broke _ _ _ _ _ _ (i.bytes ++ take n c.read_part.new.buffer) all (broke_more _ _ _ _ _ _ _ _ i.bytes (take n c.read_part.new.buffer) c.loop-reads.line i.obeyed c.in-Err-obey_part.ensures.err)
+    run_broke _ _ _ _ _ _ (i.bytes ++ take n c.read_part.new.buffer) all
+    (broke_more _ _ _ _ _ _ _ _ i.bytes (take n c.read_part.new.buffer) c.loop-reads.line i.obeyed c.in-Err-obey_part.ensures.err)
 
 pub returns-in-Ok-true-clause-ends : goal.returns-in-Ok-true-clause-ends
 returns-in-Ok-true-clause-ends g c =
@@ -60,7 +61,8 @@ returns-in-Ok-true-clause-ends g c =
     let step = rw c.in-Ok-true.field-0-test at c.in-Ok-true.ensures.ok in
     let n = c.in-Ok.count in
     let all = consumes-consumes _ _ _ i.bytes (take n c.read_part.new.buffer) i.read c.in-Ok.ensures.bytes.0 in
-    run_quit _ _ _ _ _ _ _ _ (i.bytes ++ take n c.read_part.new.buffer) c.obey_part.new.line all (obeyed_more true _ _ _ _ _ _ _ _ _ i.bytes (take n c.read_part.new.buffer) c.loop-reads.line c.obey_part.new.line i.obeyed step)
+    run_quit _ _ _ _ _ _ _ _ (i.bytes ++ take n c.read_part.new.buffer) c.obey_part.new.line all
+    (obeyed_more true _ _ _ _ _ _ _ _ _ i.bytes (take n c.read_part.new.buffer) c.loop-reads.line c.obey_part.new.line i.obeyed step)
 
 pub loop-reads-preserved : goal.loop-reads-preserved
 loop-reads-preserved g c =
@@ -71,7 +73,14 @@ loop-reads-preserved g c =
     record {
       bytes = i.bytes ++ take n c.read_part.new.buffer;
       read = consumes-consumes _ _ _ i.bytes (take n c.read_part.new.buffer) i.read c.in-Ok.ensures.bytes.0;
-      many = omega (arith, i.many, length-append i.bytes (take n c.read_part.new.buffer), length-take n c.read_part.new.buffer, c.in-Ok.ensures.bound, c.in-Ok.count-test);
+      many = omega (
+        arith,
+        i.many,
+        length-append i.bytes (take n c.read_part.new.buffer),
+        length-take n c.read_part.new.buffer,
+        c.in-Ok.ensures.bound,
+        c.in-Ok.count-test,
+      );
       most = omega (arith, i.most, whole, length-append i.bytes (take n c.read_part.new.buffer), length-take n c.read_part.new.buffer);
       obeyed = obeyed_more false _ _ _ _ _ _ _ _ _ i.bytes (take n c.read_part.new.buffer) c.loop-reads.line c.obey_part.new.line i.obeyed step;
     }

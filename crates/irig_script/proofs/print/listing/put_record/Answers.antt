@@ -22,7 +22,8 @@ returns c = λ r here.
     let told = rw here at c.frame-record.ensures in
     let place : c.frame-record.result.marker - 1 ≡ r.marker = omega (arith, told.0) in
     let there = get_or_from_slice_get s.pulses (c.frame-record.result.marker - 1) c.pulse-rise.result (pulse 0 0) c.pulse-rise.ensures in
-    let rise : c.pulse-rise.result.rise ≡ (get_or s.pulses r.marker (pulse 0 0)).rise = ap (λ p. p.rise) (sym there) ∙ ap (λ k. (get_or s.pulses k (pulse 0 0)).rise) place in
+    let rise : c.pulse-rise.result.rise ≡ (get_or s.pulses r.marker (pulse 0 0)).rise = ap (λ p. p.rise) (sym there)
+    ∙ ap (λ k. (get_or s.pulses k (pulse 0 0)).rise) place in
     c.put_frame.ensures.line
     ∙ (ap (λ m. frame_line c.args.number m c.pulse-rise.result.rise c.frame-record.result.verdict) told.0
     ∙ (ap (λ t. frame_line c.args.number (r.marker + 1) t c.frame-record.result.verdict) rise

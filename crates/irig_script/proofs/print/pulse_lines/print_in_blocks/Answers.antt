@@ -17,8 +17,11 @@ loop-done-preserved g c =
     let within : b + d ≤ length s.pulses = omega (arith, c.loop-done-test.true, c.min-there.ensures, c.saturating_sub.ensures, c.len.ensures) in
     let place : b + d + k - k ≡ b + d = omega arith in
     let whole : take (length bytes - start) (drop start bytes) ≡ list_text (b + d) k s =
-    rest_whole bytes start ∙ c.write_pulses-start.ensures.written ∙ ap (λ m. list_text m k s) place in
-    (few, c.write_pulses-start.ensures.within.1 ∙ c.loop-done.invariant.1, listing_more s b d k _ _ _ within c.loop-done.invariant.2 (rw whole at c.in_ok-put_all.ensures.ok))
+    rest_whole bytes start ∙ c.write_pulses-start.ensures.written ∙ ap (λ m. list_text m k s) place in (
+      few,
+      c.write_pulses-start.ensures.within.1 ∙ c.loop-done.invariant.1,
+      listing_more s b d k _ _ _ within c.loop-done.invariant.2 (rw whole at c.in_ok-put_all.ensures.ok),
+    )
 
 pub returns-in_err-put_all-clause-err : goal.returns-in_err-put_all-clause-err
 returns-in_err-put_all-clause-err g c =
@@ -29,7 +32,14 @@ returns-in_err-put_all-clause-err g c =
     let bytes = c.write_pulses-start.new.bytes in
     let start = c.write_pulses-start.result in
     let few : d + k ≤ c.args.count = omega (arith, c.min-lines.ensures, c.loop-done-test.true, c.min-there.ensures) in
-    let within : b + (d + k) ≤ length s.pulses = omega (arith, c.min-lines.ensures, c.loop-done-test.true, c.min-there.ensures, c.saturating_sub.ensures, c.len.ensures) in
+    let within : b + (d + k) ≤ length s.pulses = omega (
+      arith,
+      c.min-lines.ensures,
+      c.loop-done-test.true,
+      c.min-there.ensures,
+      c.saturating_sub.ensures,
+      c.len.ensures,
+    ) in
     let place : b + d + k - k ≡ b + d = omega arith in
     let whole : take (length bytes - start) (drop start bytes) ≡ list_text (b + d) k s =
     rest_whole bytes start ∙ c.write_pulses-start.ensures.written ∙ ap (λ m. list_text m k s) place in

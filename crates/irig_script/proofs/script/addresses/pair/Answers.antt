@@ -10,7 +10,11 @@ use Rattle.irig_script.proofs.script.addresses.pair.Goals.{else-is_empty-via-the
 pub returns-in_err-address-clause-err : goal.returns-in_err-address-clause-err
 returns-in_err-address-clause-err c =
     let some : c.args.first.now ≡ [] → c.args.second.now ≡ [] → ⊥ = λ e f.
-    elim c.else-is_empty.branch [ else-is_empty-via-then-is_empty+else-is_empty-2 w ↦ (let x = ap length f in grind (arith, nat_tests)) | else-is_empty-via-else-is_empty w ↦ (let x = ap length e in grind (arith, nat_tests)) ] in
+    elim c.else-is_empty.branch [
+      | else-is_empty-via-then-is_empty+else-is_empty-2 w ↦
+          (let x = ap length f in grind (arith, nat_tests))
+      | else-is_empty-via-else-is_empty w ↦ (let x = ap length e in grind (arith, nat_tests))
+    ] in
     let no : (a : Address) → (b : Address) → IsPair c.args.first.now c.args.second.now a b → ⊥ = λ a b h.
     c.in_err-address.ensures.err a (pair_addresses _ _ a b some h).0 in
     given _ no
@@ -18,7 +22,11 @@ returns-in_err-address-clause-err c =
 pub returns-in_err-address-2-clause-err : goal.returns-in_err-address-2-clause-err
 returns-in_err-address-2-clause-err c =
     let some : c.args.first.now ≡ [] → c.args.second.now ≡ [] → ⊥ = λ e f.
-    elim c.else-is_empty.branch [ else-is_empty-via-then-is_empty+else-is_empty-2 w ↦ (let x = ap length f in grind (arith, nat_tests)) | else-is_empty-via-else-is_empty w ↦ (let x = ap length e in grind (arith, nat_tests)) ] in
+    elim c.else-is_empty.branch [
+      | else-is_empty-via-then-is_empty+else-is_empty-2 w ↦
+          (let x = ap length f in grind (arith, nat_tests))
+      | else-is_empty-via-else-is_empty w ↦ (let x = ap length e in grind (arith, nat_tests))
+    ] in
     let no : (a : Address) → (b : Address) → IsPair c.args.first.now c.args.second.now a b → ⊥ = λ a b h.
     c.in_err-address-2.ensures.err b (pair_addresses _ _ a b some h).1 in
     given _ no

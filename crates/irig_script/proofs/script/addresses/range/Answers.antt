@@ -14,8 +14,10 @@ returns-in_err-address_or_cursor-in-empty-clause-err c =
 
 pub returns-in_err-first-in-len1-up-clause-err : goal.returns-in_err-first-in-len1-up-clause-err
 returns-in_err-first-in-len1-up-clause-err c =
-    given _ (pair_refused c.args.text.now _ _ _ c.cut.ensures.before c.cut.ensures.onward c.in-len1-up.len_at_least (rest_whole c.cut.result.1.now 1) c.in_err-first-in-len1-up.ensures.err)
+    given _ (pair_refused c.args.text.now _ _ _ c.cut.ensures.before c.cut.ensures.onward c.in-len1-up.len_at_least (rest_whole c.cut.result.1.now 1)
+    c.in_err-first-in-len1-up.ensures.err)
 
 pub returns-in_ok-first-in-len1-up-clause-ok : goal.returns-in_ok-first-in-len1-up-clause-ok
 returns-in_ok-first-in-len1-up-clause-ok c =
-    pair_range c.args.text.now _ _ _ _ _ c.cut.ensures.before c.cut.ensures.onward c.in-len1-up.len_at_least (rest_whole c.cut.result.1.now 1) c.in_ok-first-in-len1-up.ensures.ok
+    pair_range c.args.text.now _ _ _ _ _ c.cut.ensures.before c.cut.ensures.onward c.in-len1-up.len_at_least (rest_whole c.cut.result.1.now 1)
+    c.in_ok-first-in-len1-up.ensures.ok

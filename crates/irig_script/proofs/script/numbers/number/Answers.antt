@@ -4,12 +4,14 @@ use Rattle.irig_script.proofs.script.numbers.number.Goals as goal
 
 pub overflow_mul-number : goal.overflow_mul-number
 overflow_mul-number c =
-    let small : c.loop-digit.number < 100000000000000000 = small_number c.loop-digit.digit-index c.loop-digit.number (omega arith) c.loop-digit.invariant.small in
+    let small : c.loop-digit.number < 100000000000000000 = small_number c.loop-digit.digit-index c.loop-digit.number (omega arith)
+    c.loop-digit.invariant.small in
     omega arith
 
 pub overflow_add-number : goal.overflow_add-number
 overflow_add-number c =
-    let small : c.loop-digit.number < 100000000000000000 = small_number c.loop-digit.digit-index c.loop-digit.number (omega arith) c.loop-digit.invariant.small in
+    let small : c.loop-digit.number < 100000000000000000 = small_number c.loop-digit.digit-index c.loop-digit.number (omega arith)
+    c.loop-digit.invariant.small in
     let digit = digit_most (get_or c.args.word.now c.loop-digit.digit-index 0) (sym c.is_digit.ensures ∙ c.if-not-is_digit.false) in
     omega (arith, digit, c.from.ensures)
 

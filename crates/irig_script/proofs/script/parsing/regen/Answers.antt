@@ -53,5 +53,22 @@ returns-clause-ok c =
     let one = full_word _ _ _ (time_some _ _ c.in_ok-start.ensures.ok) c.split_word.ensures.words in
     let two = full_word _ _ _ c.in_ok-frames.ensures.ok.some c.split_word-2.ensures.words in
     let three = full_word _ _ _ (moment_some _ _ c.in_ok-from.ensures.ok) c.split_word-3.ensures.words in
-    let all = one ∙ ap (λ ws. c.split_word.result.0.now ∷ ws) (two ∙ ap (λ ws. c.split_word-2.result.0.now ∷ ws) three) in
-    (_, _, _, _, refl, c.in_ok-no_range.ensures.ok, (_, _, _, _, all, c.in_ok-start.ensures.ok, c.in_ok-frames.ensures.ok, c.in_ok-from.ensures.ok, c.in_ok-controls.ensures.ok))
+    let all = one ∙ ap (λ ws. c.split_word.result.0.now ∷ ws) (two ∙ ap (λ ws. c.split_word-2.result.0.now ∷ ws) three) in (
+      _,
+      _,
+      _,
+      _,
+      refl,
+      c.in_ok-no_range.ensures.ok,
+      (
+        _,
+        _,
+        _,
+        _,
+        all,
+        c.in_ok-start.ensures.ok,
+        c.in_ok-frames.ensures.ok,
+        c.in_ok-from.ensures.ok,
+        c.in_ok-controls.ensures.ok,
+      ),
+    )

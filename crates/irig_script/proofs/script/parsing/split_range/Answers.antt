@@ -9,7 +9,8 @@ returns-clause-cut c = λ range rest r e is follows.
     let text = c.args.text.now in
     let stopped : range_length c.loop-at.quoted (drop c.loop-at.at text) ≡ 0 =
     elim c.loop-at-test.branch [
-      | then-loop-at-test+else-not-ends_range w ↦ (let ends : ends_range c.loop-at.quoted (get_or text c.loop-at.at 0) ≡ true = search rules in range_stops c.loop-at.quoted text c.loop-at.at w.loop-at-test.true ends)
+      | then-loop-at-test+else-not-ends_range w ↦ (let ends : ends_range c.loop-at.quoted (get_or text c.loop-at.at 0) ≡ true = search rules in
+          range_stops c.loop-at.quoted text c.loop-at.at w.loop-at-test.true ends)
       | else-loop-at-test w ↦ range_done c.loop-at.quoted text c.loop-at.at w.loop-at-test.false
     ] in
     let long : range_length false text ≡ c.loop-at.at = omega (arith, c.loop-at.invariant.1, stopped) in

@@ -23,9 +23,11 @@ returns-then-free_from-back c =
     let ps = c.args.self.now.pulses in let micros = c.args.self.now.micros in
     let order : c.args.i ≤ c.args.j = omega arith in let there : c.args.j < length ps = omega arith in (
       λ e. let late = below _ _ e in
-          stands_shift c.args.i c.args.j c.pulse.result c.pulse-2.result ps order c.pulse.ensures.value c.pulse-2.ensures.value micros c.free_from.result c.free_to.result c.args.by there c.len.ensures.track
+          stands_shift c.args.i c.args.j c.pulse.result c.pulse-2.result ps order c.pulse.ensures.value c.pulse-2.ensures.value micros c.free_from.result
+          c.free_to.result c.args.by there c.len.ensures.track
           c.free_from.ensures.time c.free_to.ensures.time (omega arith) (omega arith),
-      λ can. let both = shift_stands c.args.i c.args.j c.pulse.result c.pulse-2.result ps order c.pulse.ensures.value c.pulse-2.ensures.value micros c.free_from.result c.free_to.result c.args.by there c.len.ensures.track
+      λ can. let both = shift_stands c.args.i c.args.j c.pulse.result c.pulse-2.result ps order c.pulse.ensures.value c.pulse-2.ensures.value micros
+          c.free_from.result c.free_to.result c.args.by there c.len.ensures.track
           c.free_from.ensures.time c.free_to.ensures.time can in
           test_lt _ _ (omega arith),
     )
@@ -38,7 +40,8 @@ returns-else-free_from-back c =
     let ps = c.args.self.now.pulses in let micros = c.args.self.now.micros in
     let order : c.args.i ≤ c.args.j = omega arith in let there : c.args.j < length ps = omega arith in (
       λ e. absurd (not_up_to _ _ c.if-free_from-back.false e),
-      λ can. let both = shift_stands c.args.i c.args.j c.pulse.result c.pulse-2.result ps order c.pulse.ensures.value c.pulse-2.ensures.value micros c.free_from.result
+      λ can. let both = shift_stands c.args.i c.args.j c.pulse.result c.pulse-2.result ps order c.pulse.ensures.value c.pulse-2.ensures.value micros
+          c.free_from.result
           (first_or (micros + 1) (edges_of (drop (c.args.j + 1) ps))) c.args.by there c.len.ensures.track c.free_from.ensures.time refl can in
           absurd (omega (arith, both.0)),
     )

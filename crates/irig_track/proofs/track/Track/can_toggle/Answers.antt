@@ -10,8 +10,10 @@ returns-then-is_edge_at c =
     let ps = c.args.self.now.pulses in let micros = c.args.self.now.micros in
     let within : c.args.b ≤ micros = omega arith in (
       λ e. elim c.if-room-gt0.branch [
-        | then-room-gt0 w ↦ can_toggle_room c.args.a c.args.b micros c.room.result ps c.if-a-b.false within c.length.ensures.track c.room.ensures w.if-room-gt0.true
-        | else-room-gt0 w ↦ can_toggle_first c.args.a c.args.b micros ps c.if-a-b.false within c.length.ensures.track (sym w.is_edge_at.ensures ∙ sym w.value-is ∙ c.if-is_edge_at.true)
+        | then-room-gt0 w ↦ can_toggle_room c.args.a c.args.b micros c.room.result ps c.if-a-b.false within c.length.ensures.track c.room.ensures
+            w.if-room-gt0.true
+        | else-room-gt0 w ↦ can_toggle_first c.args.a c.args.b micros ps c.if-a-b.false within c.length.ensures.track
+            (sym w.is_edge_at.ensures ∙ sym w.value-is ∙ c.if-is_edge_at.true)
       ],
       λ can. c.if-is_edge_at.true,
     )

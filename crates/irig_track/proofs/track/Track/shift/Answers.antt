@@ -13,7 +13,8 @@ use Rattle.irig_track.proofs.Spans.{span_spliced}
 use Rattle.irig_track.proofs.track.Track.shift.Goals as goal
 
 pub move_pulses-requires-clause-short : goal.move_pulses-requires-clause-short
-move_pulses-requires-clause-short c = UpTo-more c.self.inside.micros (2 ^ 40) (edges_of c.self.inside.pulses.items) c.self.invariant.short c.self.invariant.within
+move_pulses-requires-clause-short c = UpTo-more c.self.inside.micros (2 ^ 40) (edges_of c.self.inside.pulses.items) c.self.invariant.short
+    c.self.invariant.within
 
 pub returns-clause-edges : goal.returns-clause-edges
 returns-clause-edges c = λ t.
@@ -23,7 +24,8 @@ returns-clause-edges c = λ t.
     let off : c.back_of.result ≡ back c.args.by = c.back_of.ensures.distance ∙ ap back (to_z-of_z w64 c.args.by c.ranges.by) in
     let made : c.move_pulses.new.pulses.items ≡ shifted c.args.i c.args.j c.args.by ps =
     ap (λ (w : GapView Pulse). w.items) c.move_pulses.ensures ∙ (λ k. spliced c.args.i n (map (moved_pulse (on k) (off k)) (piece c.args.i n ps)) ps) in
-    subst (λ qs. is_edge t c.move_pulses.new.pulses.items ≡ replaced (edges_of (piece c.args.i n qs)) (edges_of (moved c.args.by (piece c.args.i n qs))) t (is_edge t qs)) (sym same)
+    subst (λ qs. is_edge t c.move_pulses.new.pulses.items ≡ replaced (edges_of (piece c.args.i n qs)) (edges_of (moved c.args.by (piece c.args.i n qs))) t
+    (is_edge t qs)) (sym same)
     (ap (is_edge t) made ∙ is_edge-spliced t c.args.i n (moved c.args.by (piece c.args.i n ps)) ps c.self.invariant.rises)
 
 pub returns-clause-spanned : goal.returns-clause-spanned

@@ -21,7 +21,8 @@ pub returns-then-is_journal-clause-kept : goal.returns-then-is_journal-clause-ke
 returns-then-is_journal-clause-kept c =
     let next : c.args.tokens.now ≡ word_of c.in-Some.first ∷ c.next.new.self = search rules in
     let more : is_end c.in-Some.first.slice.now ≡ false = sym c.is_end.ensures ∙ c.if-is_end.false in
-    let left = in_comment true _ (word_of c.in-Some.first) c.next.new.self _ _ next more c.in-Ok.ensures.exact (sym c.is_journal.ensures ∙ c.if-is_journal.true) in
+    let left = in_comment true _ (word_of c.in-Some.first) c.next.new.self _ _ next more c.in-Ok.ensures.exact
+    (sym c.is_journal.ensures ∙ c.if-is_journal.true) in
     keeps_one _ _ (comment (word_of c.in-Some.first) c.in-Ok.end) _ _ left (λ done h. c.put.ensures done _ refl refl h)
 
 pub returns-else-is_journal-clause-exact : goal.returns-else-is_journal-clause-exact
@@ -34,4 +35,5 @@ pub returns-else-is_journal-clause-kept : goal.returns-else-is_journal-clause-ke
 returns-else-is_journal-clause-kept c =
     let next : c.args.tokens.now ≡ word_of c.in-Some.first ∷ c.next.new.self = search rules in
     let more : is_end c.in-Some.first.slice.now ≡ false = sym c.is_end.ensures ∙ c.if-is_end.false in
-    keeps_none _ _ _ (in_comment false _ (word_of c.in-Some.first) c.next.new.self _ _ next more c.in-Ok.ensures.exact (sym c.is_journal.ensures ∙ c.if-is_journal.false))
+    keeps_none _ _ _ (in_comment false _ (word_of c.in-Some.first) c.next.new.self _ _ next more c.in-Ok.ensures.exact
+    (sym c.is_journal.ensures ∙ c.if-is_journal.false))

@@ -18,7 +18,8 @@ returns-clause-holds c =
       rise = h.rise;
       fall = h.fall;
       pad = h.pad;
-      is = rw (next, digit) (ap (λ (l : List ℕ). set (set l i (48 + k % 10 + 1)) (p.long + i) (48 + k % 10 + 1)) h.is ∙ counted_up k i (p.long + i) h.rise h.fall h.pad few low h.of_rise at (omega (arith, h.fits)));
+      is = rw (next, digit) (ap (λ (l : List ℕ). set (set l i (48 + k % 10 + 1)) (p.long + i) (48 + k % 10 + 1)) h.is
+          ∙ counted_up k i (p.long + i) h.rise h.fall h.pad few low h.of_rise at (omega (arith, h.fits)));
       of_rise = h.of_rise;
       of_fall = h.of_fall;
       fits = rw next (ap (λ n. n + 8) (front_as_long k few low) ∙ h.fits);
