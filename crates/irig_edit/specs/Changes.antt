@@ -1,38 +1,9 @@
--- The change that each edit is. This project's own.
-use Rattle.std.specs.Prelude.{◌+◌, ◌-◌, [], ◌∷◌, length, map}
-use Rattle.irig_codes.specs.Width.{nominal_of}
-use Rattle.irig_track.specs.Edges.{pulse}
-use Rattle.irig_track.specs.Splices.{risen_by}
-use Rattle.irig_edit.specs.Calls.{Edit}
-use Rattle.irig_edit.specs.Calls.Edit.{Insert, Delete, Split, Join, Shift, Invert, Force, Regen}
-use Rattle.irig_edit.specs.Calls.Edit.{SetFormat, SetMark}
-use Rattle.irig_edit.specs.Conditions.{fall_at}
-use Rattle.irig_edit.specs.Delta.{Delta}
-use Rattle.irig_edit.specs.Delta.Delta.{Alone}
-use Rattle.irig_edit.specs.Edits.{pulse_of}
-use Rattle.irig_edit.specs.Marks.{stands}
-use Rattle.irig_edit.specs.Regenerated.{frames_end, frames_pulses, rising_before, rising_in}
-use Rattle.irig_edit.specs.Single.SingleDelta.{Spliced, Toggled, Shifted, Formatted, Marked}
-use Rattle.irig_edit.specs.State.{State}
-
--- what an edit of a state changes. Most insert pulses instead of those that they remove, an
--- inserted one after those that rise at or before its fall; a shift moves the marks that are
--- from the first rise to the last fall
-abbrev pub change_by : Edit → State → Delta
-change_by (Insert a b) s = Alone (Spliced (risen_by b s.pulses) 0 (pulse a b ∷ []))
-change_by (Delete i j) s = Alone (Spliced (i - 1) (j + 1 - i) [])
-change_by (Split i a b) s =
-    Alone (Spliced (i - 1) 1 (pulse (pulse_of i s).rise a ∷ pulse b (pulse_of i s).fall ∷ []))
-change_by (Join i j) s =
-    Alone (Spliced (i - 1) (j + 1 - i) (pulse (pulse_of i s).rise (pulse_of j s).fall ∷ []))
-change_by (Shift i j d) s =
-    Alone (Shifted (i - 1) (j - 1) d (map (stands (pulse_of i s).rise (pulse_of j s).fall) s.marks))
-change_by (Invert a b) s = Alone (Toggled a b)
-change_by (Force i e) s = Alone (Spliced (i - 1) 1
-    (pulse (pulse_of i s).rise (fall_at i (nominal_of s.format e) s) ∷ []))
-change_by (Regen start frames moment control) s =
-    Alone (Spliced (length (rising_before start s.pulses))
-    (length (rising_in start (frames_end s.format start frames) s.pulses))
-    (frames_pulses s.format start frames moment control))
-change_by (SetFormat f) s = Alone (Formatted f)
-change_by (SetMark letter time) s = Alone (Marked letter time)
+-- What a change is, how it turns, and the room that it needs.
+pub mod Single
+pub mod Delta
+pub mod Held
+pub mod Looks
+pub mod Room
+pub mod Ample
+pub mod Ready
+pub mod Laws

@@ -1,8 +1,8 @@
 //! The text of a session with its journal.
 
 ghost use Rattle.std.specs.Prelude.{◌≡◌, IfOk};
-ghost use Rattle.irig_edit.specs.SavedSession.{saved_text};
-ghost use Rattle.irig_edit.specs.Session.{machine_in};
+ghost use Rattle.irig_edit.specs.Saved.SavedSession.{saved_text};
+ghost use Rattle.irig_edit.specs.Session.Session.{machine_in};
 
 mod change_lines;
 mod pulse_lines;
@@ -11,7 +11,7 @@ mod stage;
 mod step_lines;
 mod text;
 
-use crate::session::Session;
+use crate::session::session::Session;
 use irig_text::whole;
 use std::alloc::AllocError;
 pub use text::SavedText;

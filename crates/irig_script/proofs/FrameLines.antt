@@ -6,7 +6,7 @@ use Rattle.irig_index.specs.declared.record.Record.{Record}
 use Rattle.irig_index.specs.declared.record.Cause.TheVariants.{Ended}
 use Rattle.irig_index.specs.declared.record.Verdict.TheVariants.{Broken}
 use Rattle.irig_index.proofs.MarkerLaws.{frames_are_the_markers}
-use Rattle.irig_edit.specs.State.{State, frames_of}
+use Rattle.irig_edit.specs.State.State.{State, frames_of}
 
 -- the marker of a frame is a pulse of the track
 pub marker_within : (s : State) (k : ℕ) (r : Record) → slice_get (frames_of s) k ≡ Some r → r.marker < length s.pulses

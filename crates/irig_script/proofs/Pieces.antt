@@ -8,7 +8,7 @@ use Rattle.irig_track.specs.declared.pulse.Pulse.{Pulse}
 use Rattle.irig_track.specs.Edges.{pulse}
 use Rattle.irig_track.specs.Splices.{piece}
 use Rattle.irig_index.proofs.PulseLemmas.{drop-item}
-use Rattle.irig_edit.specs.State.{State}
+use Rattle.irig_edit.specs.State.State.{State}
 use Rattle.irig_script.specs.Print.Front.{AppendsFront}
 use Rattle.irig_script.specs.Print.Listings.{list_text, pulse_line}
 use Rattle.irig_script.specs.Print.Numbered.{numbered}

@@ -1,6 +1,6 @@
 -- A script runs on a dump in one way.
 use Rattle.std.proofs.Common.{refl}
-use Rattle.irig_edit.specs.Runs.{OneOutcome}
+use Rattle.irig_edit.specs.Session.Runs.{OneOutcome}
 use Rattle.irig_script.specs.Obey.OneDumpRun.{OneDumpRun, run_in}
 use Rattle.irig_script.specs.Obey.OneRun.{BeginTheSame}
 use Rattle.irig_script.proofs.SameOpening.{opened_one}

@@ -11,19 +11,19 @@ use Rattle.irig_saved.specs.declared.step.Step as saved
 use Rattle.irig_track.proofs.Sets.{edges_of-inj}
 use Rattle.irig_vcd.specs.Recording.{RecordingView}
 use Rattle.irig_vcd.specs.declared.fault.VcdFault.{VcdFault}
-use Rattle.irig_edit.specs.Delta.{Delta}
-use Rattle.irig_edit.specs.Delta.Delta.{Alone, Together}
-use Rattle.irig_edit.specs.Keeping.{machine}
-use Rattle.irig_edit.specs.Kept.{Kept}
-use Rattle.irig_edit.specs.Machine as first
-use Rattle.irig_edit.specs.Opened.{IsAccepted, state_of}
-use Rattle.irig_edit.specs.Openings.{IsOpened, IsStart, IsTextOf}
-use Rattle.irig_edit.specs.Saved.{saved_change, saved_single, saved_step}
-use Rattle.irig_edit.specs.Session.{grouped_in}
-use Rattle.irig_edit.specs.Single.{SingleDelta}
-use Rattle.irig_edit.specs.Single.SingleDelta.{Spliced, Toggled, Shifted, Formatted, Marked}
-use Rattle.irig_edit.specs.State.{State, recording_of, state}
-use Rattle.irig_edit.specs.Taken.{AreTaken}
+use Rattle.irig_edit.specs.Changes.Delta.{Delta}
+use Rattle.irig_edit.specs.Changes.Delta.Delta.{Alone, Together}
+use Rattle.irig_edit.specs.Session.Keeping.{machine}
+use Rattle.irig_edit.specs.Session.Kept.{Kept}
+use Rattle.irig_edit.specs.Session.Machine as first
+use Rattle.irig_edit.specs.Opened.Opened.{IsAccepted, state_of}
+use Rattle.irig_edit.specs.Opened.Openings.{IsOpened, IsStart, IsTextOf}
+use Rattle.irig_edit.specs.Saved.Saved.{saved_change, saved_single, saved_step}
+use Rattle.irig_edit.specs.Session.Session.{grouped_in}
+use Rattle.irig_edit.specs.Changes.Single.{SingleDelta}
+use Rattle.irig_edit.specs.Changes.Single.SingleDelta.{Spliced, Toggled, Shifted, Formatted, Marked}
+use Rattle.irig_edit.specs.State.State.{State, recording_of, state}
+use Rattle.irig_edit.specs.Opened.Taken.{AreTaken}
 use Rattle.irig_script.specs.Obey.Machine.{Machine}
 
 -- a change is named in one way

@@ -4,17 +4,17 @@ use Rattle.std.specs.Prelude.{Result, Ok, Err}
 use Rattle.irig_vcd.specs.FileText.{file_text}
 use Rattle.irig_codes.specs.Format.{FormatView, is_permitted}
 use Rattle.irig_journal.specs.Groups.{Grouped as Whole}
-use Rattle.irig_edit.specs.Calls.{Call, Edit}
-use Rattle.irig_edit.specs.Conditions.{are_pulses}
-use Rattle.irig_edit.specs.Kept.{Kept}
-use Rattle.irig_edit.specs.Machine.{Steps}
-use Rattle.irig_edit.specs.Refusals.{refusal_of}
-use Rattle.irig_edit.specs.Runs.{OneOutcome}
-use Rattle.irig_edit.specs.SavedSession.{saved_text}
-use Rattle.irig_edit.specs.Session.{grouped_in, machine_in, session_view}
-use Rattle.irig_edit.specs.State.{recording_of}
-use Rattle.irig_edit.specs.declared.refusal.Refusal.{Refusal}
-use Rattle.irig_edit.specs.declared.refusal.Refusal.TheVariants as refusal
+use Rattle.irig_edit.specs.Session.Calls.{Call, Edit}
+use Rattle.irig_edit.specs.Edits.Conditions.{are_pulses}
+use Rattle.irig_edit.specs.Session.Kept.{Kept}
+use Rattle.irig_edit.specs.Session.Machine.{Steps}
+use Rattle.irig_edit.specs.Edits.Refusals.{refusal_of}
+use Rattle.irig_edit.specs.Session.Runs.{OneOutcome}
+use Rattle.irig_edit.specs.Saved.SavedSession.{saved_text}
+use Rattle.irig_edit.specs.Session.Session.{grouped_in, machine_in, session_view}
+use Rattle.irig_edit.specs.State.State.{recording_of}
+use Rattle.irig_edit.specs.declared.session.refusal.Refusal.{Refusal}
+use Rattle.irig_edit.specs.declared.session.refusal.Refusal.TheVariants as refusal
 use Rattle.irig_script.specs.Obey.Machine.{Machine}
 use Rattle.irig_script.specs.Obey.Obeying.{Obeys}
 use Rattle.irig_script.specs.Obey.Replies.{Calls, Formats, Lists, Saves, Shows, Writes, format, reply_to}

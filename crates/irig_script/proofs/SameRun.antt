@@ -3,10 +3,10 @@ use Rattle.std.proofs.Common.{◌≡◌, ◌++◌, ◌∷◌, [], ℕ, Option, S
 use Rattle.std.specs.Prelude.{IsSome}
 use Rattle.std.specs.Io.KnownBytes.{Appends}
 use Rattle.irig_vcd.specs.FileText.{file_text}
-use Rattle.irig_edit.specs.Runs.{OneOutcome}
-use Rattle.irig_edit.specs.SavedSession.{saved_text}
-use Rattle.irig_edit.specs.Session.{grouped_in}
-use Rattle.irig_edit.specs.State.{recording_of}
+use Rattle.irig_edit.specs.Session.Runs.{OneOutcome}
+use Rattle.irig_edit.specs.Saved.SavedSession.{saved_text}
+use Rattle.irig_edit.specs.Session.Session.{grouped_in}
+use Rattle.irig_edit.specs.State.State.{recording_of}
 use Rattle.irig_script.specs.Obey.Answer.{Answered, IsBad, IsObeyedAs, IsTooLong, Step, texts_put}
 use Rattle.irig_script.specs.Obey.Desk.{status_after}
 use Rattle.irig_script.specs.Shelf.Shelved.{GrowsBy}

@@ -1,7 +1,7 @@
 -- A script runs on a saved session in one way.
 use Rattle.std.proofs.Common.{sym, ◌∙◌}
-use Rattle.irig_edit.specs.GoingOn.{GoesOn}
-use Rattle.irig_edit.specs.Runs.{OneOutcome}
+use Rattle.irig_edit.specs.Opened.GoingOn.{GoesOn}
+use Rattle.irig_edit.specs.Session.Runs.{OneOutcome}
 use Rattle.irig_script.specs.Obey.Machine.{Machine}
 use Rattle.irig_script.specs.Obey.OneDumpRun.{run_in}
 use Rattle.irig_script.specs.Obey.OneRun.{BeginTheSame}

@@ -1,6 +1,6 @@
 //! What holds of lines and of the runs of scripts.
 
-ghost use Rattle.irig_edit.specs.GoingOn.{IsShort};
+ghost use Rattle.irig_edit.specs.Opened.GoingOn.{IsShort};
 ghost use Rattle.irig_script.specs.Script.OneCommand.{OneCommand};
 ghost use Rattle.irig_script.specs.Obey.OneDumpRun.{OneDumpRun};
 ghost use Rattle.irig_script.specs.Obey.OneRun.{OneRun};

@@ -2,15 +2,15 @@
 
 ghost use Rattle.std.specs.Prelude.{◌≡◌, ◌+◌, ◌-◌, ◌≤◌, [], None, Some, IfOk, IfErr, OnOk};
 ghost use Rattle.irig_track.specs.Splices.{spliced, CanSplice};
-ghost use Rattle.irig_edit.specs.Becoming.{Becomes, judgement_of};
-ghost use Rattle.irig_edit.specs.Calls.Call.{Make};
-ghost use Rattle.irig_edit.specs.Calls.Edit.{Delete};
-ghost use Rattle.irig_edit.specs.Session.{LooksAfter, Steps};
-ghost use Rattle.irig_edit.specs.State.{with_pulses};
+ghost use Rattle.irig_edit.specs.Edits.Becoming.{Becomes, judgement_of};
+ghost use Rattle.irig_edit.specs.Session.Calls.Call.{Make};
+ghost use Rattle.irig_edit.specs.Session.Calls.Edit.{Delete};
+ghost use Rattle.irig_edit.specs.Session.Session.{LooksAfter, Steps};
+ghost use Rattle.irig_edit.specs.State.State.{with_pulses};
 
-use crate::present::Present;
-use crate::refusal::Refusal;
-use crate::session::Session;
+use crate::session::refusal::Refusal;
+use crate::session::session::Session;
+use crate::state::present::Present;
 use irig_gap::Gap;
 
 /// The cursor after the pulses `i` to `j` are removed, if they are there.

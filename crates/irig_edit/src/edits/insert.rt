@@ -3,19 +3,19 @@
 ghost use Rattle.std.specs.Prelude.{◌≡◌, ◌+◌, [], ◌∷◌, None, Some, IfOk, IfErr, OnOk};
 ghost use Rattle.irig_track.specs.Edges.{pulse};
 ghost use Rattle.irig_track.specs.Splices.{spliced, CanSplice};
-ghost use Rattle.irig_edit.specs.Calls.Call.{Make};
-ghost use Rattle.irig_edit.specs.Calls.Edit.{Insert};
-ghost use Rattle.irig_edit.specs.Becoming.{Becomes, judgement_of};
-ghost use Rattle.irig_edit.specs.Changes.{change_by};
-ghost use Rattle.irig_edit.specs.Delta.Delta.{Alone};
-ghost use Rattle.irig_edit.specs.Session.{LooksAfter, Steps};
-ghost use Rattle.irig_edit.specs.Single.SingleDelta.{Spliced};
-ghost use Rattle.irig_edit.specs.State.{with_pulses};
+ghost use Rattle.irig_edit.specs.Session.Calls.Call.{Make};
+ghost use Rattle.irig_edit.specs.Session.Calls.Edit.{Insert};
+ghost use Rattle.irig_edit.specs.Edits.Becoming.{Becomes, judgement_of};
+ghost use Rattle.irig_edit.specs.Edits.Changes.{change_by};
+ghost use Rattle.irig_edit.specs.Changes.Delta.Delta.{Alone};
+ghost use Rattle.irig_edit.specs.Session.Session.{LooksAfter, Steps};
+ghost use Rattle.irig_edit.specs.Changes.Single.SingleDelta.{Spliced};
+ghost use Rattle.irig_edit.specs.State.State.{with_pulses};
 
 use super::one;
-use crate::present::Present;
-use crate::refusal::Refusal;
-use crate::session::Session;
+use crate::session::refusal::Refusal;
+use crate::session::session::Session;
+use crate::state::present::Present;
 use irig_track::Pulse;
 
 /// How many pulses are before a pulse from `a` to `b`, if it can be inserted.

@@ -2,16 +2,16 @@
 
 ghost use Rattle.std.specs.Prelude.{◌≡◌, None, Some, IfErr, OnOk};
 ghost use Rattle.irig_track.specs.Toggles.{CanToggle};
-ghost use Rattle.irig_edit.specs.Becoming.{judgement_of};
-ghost use Rattle.irig_edit.specs.Calls.Call.{Make};
-ghost use Rattle.irig_edit.specs.Calls.Edit.{Invert};
-ghost use Rattle.irig_edit.specs.Session.{LooksAfter, Steps};
+ghost use Rattle.irig_edit.specs.Edits.Becoming.{judgement_of};
+ghost use Rattle.irig_edit.specs.Session.Calls.Call.{Make};
+ghost use Rattle.irig_edit.specs.Session.Calls.Edit.{Invert};
+ghost use Rattle.irig_edit.specs.Session.Session.{LooksAfter, Steps};
 
-use crate::change::Change;
-use crate::present::Present;
-use crate::refusal::Refusal;
-use crate::session::Session;
-use crate::single::Single;
+use crate::changes::change::Change;
+use crate::changes::single::Single;
+use crate::session::refusal::Refusal;
+use crate::session::session::Session;
+use crate::state::present::Present;
 
 /// Whether the level can be inverted from `a` to `b`.
 fn plan(present: &Present, a: u64, b: u64) -> Result<(), Refusal>

@@ -2,22 +2,22 @@
 
 ghost use Rattle.std.specs.Prelude.{◌≡◌, ◌-◌, ◌≤◌, None, Some, IfOk, IfErr, OnOk, length};
 ghost use Rattle.irig_track.specs.Shifts.{CanShift};
-ghost use Rattle.irig_edit.specs.Becoming.{Becomes, judgement_of};
-ghost use Rattle.irig_edit.specs.Calls.Call.{Make};
-ghost use Rattle.irig_edit.specs.Calls.Edit.{Shift};
-ghost use Rattle.irig_edit.specs.Conditions.{leaves};
-ghost use Rattle.irig_edit.specs.Delta.{Fits, turned};
-ghost use Rattle.irig_edit.specs.Delta.Delta.{Alone};
-ghost use Rattle.irig_edit.specs.Exchanges.{exchange_by};
-ghost use Rattle.irig_edit.specs.Keeping.{exchange_of};
-ghost use Rattle.irig_edit.specs.Session.{LooksAfter, Steps};
-ghost use Rattle.irig_edit.specs.Single.SingleDelta.{Shifted};
+ghost use Rattle.irig_edit.specs.Edits.Becoming.{Becomes, judgement_of};
+ghost use Rattle.irig_edit.specs.Session.Calls.Call.{Make};
+ghost use Rattle.irig_edit.specs.Session.Calls.Edit.{Shift};
+ghost use Rattle.irig_edit.specs.Edits.Conditions.{leaves};
+ghost use Rattle.irig_edit.specs.Changes.Delta.{Fits, turned};
+ghost use Rattle.irig_edit.specs.Changes.Delta.Delta.{Alone};
+ghost use Rattle.irig_edit.specs.Edits.Exchanges.{exchange_by};
+ghost use Rattle.irig_edit.specs.Session.Keeping.{exchange_of};
+ghost use Rattle.irig_edit.specs.Session.Session.{LooksAfter, Steps};
+ghost use Rattle.irig_edit.specs.Changes.Single.SingleDelta.{Shifted};
 
-use crate::change::Change;
-use crate::present::Present;
-use crate::refusal::Refusal;
-use crate::session::Session;
-use crate::single::{Shift as Move, Single};
+use crate::changes::change::Change;
+use crate::changes::single::{Shift as Move, Single};
+use crate::session::refusal::Refusal;
+use crate::session::session::Session;
+use crate::state::present::Present;
 
 /// Whether the pulses `i` to `j`, moved by `by` microseconds, leave the track.
 fn leaves(present: &Present, i: usize, j: usize, by: i64) -> bool

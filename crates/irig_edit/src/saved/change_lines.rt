@@ -5,16 +5,16 @@ ghost use Rattle.std.specs.List.{AllByRecursion};
 ghost use Rattle.irig_saved.specs.Lines.{text_of};
 ghost use Rattle.irig_saved.specs.ChangeWords.{single_line};
 ghost use Rattle.irig_saved.specs.SavedText.{change_lines};
-ghost use Rattle.irig_edit.specs.Delta.{singles_of};
-ghost use Rattle.irig_edit.specs.Held.{delta_of, single_of};
-ghost use Rattle.irig_edit.specs.Single.SingleDelta.{Spliced};
-ghost use Rattle.irig_edit.specs.Saved.{CanBeNamed, saved_change, saved_single};
-ghost use Rattle.irig_edit.specs.SavedParts.{changes_text};
+ghost use Rattle.irig_edit.specs.Changes.Delta.{singles_of};
+ghost use Rattle.irig_edit.specs.Changes.Held.{delta_of, single_of};
+ghost use Rattle.irig_edit.specs.Changes.Single.SingleDelta.{Spliced};
+ghost use Rattle.irig_edit.specs.Saved.Saved.{CanBeNamed, saved_change, saved_single};
+ghost use Rattle.irig_edit.specs.Saved.SavedParts.{changes_text};
 
-use crate::change::Change;
+use crate::changes::change::Change;
+use crate::changes::single::Single;
+use crate::changes::splice::Splice;
 use crate::saved::pulse_lines::PulseLines;
-use crate::single::Single;
-use crate::splice::Splice;
 use irig_saved::{put_group, put_set_format, put_set_mark, put_shift, put_splice, put_toggle};
 use std::alloc::AllocError;
 use std::marker::Model;
@@ -31,9 +31,9 @@ pub(crate) struct ChangeLines<'s> {
 impl<'s> Model for ChangeLines<'s> {
     ghost use Rattle.std.specs.Prelude.{◌++◌, List, ℕ, drop, map};
     ghost use Rattle.std.specs.List.{AllByRecursion};
-    ghost use Rattle.irig_edit.specs.Held.{single_of};
-    ghost use Rattle.irig_edit.specs.Saved.{CanBeNamed};
-    ghost use Rattle.irig_edit.specs.SavedParts.{changes_text};
+    ghost use Rattle.irig_edit.specs.Changes.Held.{single_of};
+    ghost use Rattle.irig_edit.specs.Saved.Saved.{CanBeNamed};
+    ghost use Rattle.irig_edit.specs.Saved.SavedParts.{changes_text};
 
     ghost Value = { List ℕ };
 

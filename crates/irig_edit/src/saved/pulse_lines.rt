@@ -3,10 +3,10 @@
 ghost use Rattle.std.specs.Prelude.{◌≡◌, ◌≤◌, ◌++◌, [], IfOk, OnOk, false, true, vec_len};
 ghost use Rattle.irig_saved.specs.Lines.{text_of};
 ghost use Rattle.irig_saved.specs.SavedText.{pulse_lines, put_of};
-ghost use Rattle.irig_edit.specs.Held.{single_of};
-ghost use Rattle.irig_edit.specs.Saved.{saved_single};
+ghost use Rattle.irig_edit.specs.Changes.Held.{single_of};
+ghost use Rattle.irig_edit.specs.Saved.Saved.{saved_single};
 
-use crate::single::Single;
+use crate::changes::single::Single;
 use irig_gap::Gap;
 use irig_saved::put_pulse;
 use irig_track::Pulse;
@@ -22,7 +22,7 @@ pub(crate) struct PulseLines<'s> {
 
 impl<'s> Model for PulseLines<'s> {
     ghost use Rattle.std.specs.Prelude.{List, ℕ};
-    ghost use Rattle.irig_edit.specs.SavedParts.{pulses_left};
+    ghost use Rattle.irig_edit.specs.Saved.SavedParts.{pulses_left};
 
     ghost Value = { List ℕ };
 

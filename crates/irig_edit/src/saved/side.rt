@@ -2,11 +2,11 @@
 
 ghost use Rattle.std.specs.Prelude.{◌≡◌, ◌<◌, Some, length, slice_get};
 ghost use Rattle.irig_journal.specs.History.{step};
-ghost use Rattle.irig_edit.specs.Held.{delta_of};
-ghost use Rattle.irig_edit.specs.SavedParts.{steps_at};
+ghost use Rattle.irig_edit.specs.Changes.Held.{delta_of};
+ghost use Rattle.irig_edit.specs.Saved.SavedParts.{steps_at};
 
-use crate::change::Change;
-use crate::present::Present;
+use crate::changes::change::Change;
+use crate::state::present::Present;
 use irig_journal::{Journal, Step};
 
 /// A side of the present.

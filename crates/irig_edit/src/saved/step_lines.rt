@@ -5,15 +5,15 @@ ghost use Rattle.std.specs.List.{AllByRecursion};
 ghost use Rattle.irig_journal.specs.History.{step};
 ghost use Rattle.irig_saved.specs.Lines.{text_of};
 ghost use Rattle.irig_saved.specs.SavedText.{step_lines};
-ghost use Rattle.irig_edit.specs.Delta.{singles_of};
-ghost use Rattle.irig_edit.specs.Held.{delta_of};
-ghost use Rattle.irig_edit.specs.Saved.{CanBeNamed, StepsCanBeNamed, saved_step};
-ghost use Rattle.irig_edit.specs.SavedParts.{steps_at, steps_text};
+ghost use Rattle.irig_edit.specs.Changes.Delta.{singles_of};
+ghost use Rattle.irig_edit.specs.Changes.Held.{delta_of};
+ghost use Rattle.irig_edit.specs.Saved.Saved.{CanBeNamed, StepsCanBeNamed, saved_step};
+ghost use Rattle.irig_edit.specs.Saved.SavedParts.{steps_at, steps_text};
 
-use crate::change::Change;
-use crate::present::Present;
+use crate::changes::change::Change;
 use crate::saved::change_lines::{ChangeLines, begin_change};
 use crate::saved::side::{Side, count_at, step_at};
+use crate::state::present::Present;
 use irig_journal::{Journal, Step};
 use irig_saved::put_at;
 use std::alloc::AllocError;
@@ -30,8 +30,8 @@ pub(crate) struct StepLines<'s> {
 
 impl<'s> Model for StepLines<'s> {
     ghost use Rattle.std.specs.Prelude.{◌++◌, List, ℕ, drop};
-    ghost use Rattle.irig_edit.specs.Saved.{StepsCanBeNamed};
-    ghost use Rattle.irig_edit.specs.SavedParts.{steps_at, steps_text};
+    ghost use Rattle.irig_edit.specs.Saved.Saved.{StepsCanBeNamed};
+    ghost use Rattle.irig_edit.specs.Saved.SavedParts.{steps_at, steps_text};
 
     ghost Value = { List ℕ };
 

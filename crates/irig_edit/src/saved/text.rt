@@ -2,14 +2,15 @@
 
 ghost use Rattle.std.specs.Prelude.{◌≡◌, ◌++◌, OnOk};
 ghost use Rattle.irig_saved.specs.Lines.{text_of};
-ghost use Rattle.irig_edit.specs.Saved.{StepsCanBeNamed};
-ghost use Rattle.irig_edit.specs.SavedParts.{opening_text, parts_text, present_lines, steps_at};
+ghost use Rattle.irig_edit.specs.Saved.Saved.{StepsCanBeNamed};
+ghost use Rattle.irig_edit.specs.Saved.SavedParts.{opening_text, parts_text, present_lines};
+ghost use Rattle.irig_edit.specs.Saved.SavedParts.{steps_at};
 ghost use Rattle.irig_edit.specs.declared.saved.side.Side.TheVariants.{Future, Past};
 
-use crate::present::Present;
 use crate::saved::side::Side;
 use crate::saved::stage::Stage;
 use crate::saved::step_lines::StepLines;
+use crate::state::present::Present;
 use irig_journal::Journal;
 use irig_saved::{put_cursor, put_format, put_future, put_marks, put_name, put_past};
 use irig_text::Text;
@@ -31,7 +32,7 @@ pub struct SavedText<'s> {
 
 impl<'s> Model for SavedText<'s> {
     ghost use Rattle.std.specs.Prelude.{List, ℕ};
-    ghost use Rattle.irig_edit.specs.SavedParts.{middle_text, opening_text, parts_left};
+    ghost use Rattle.irig_edit.specs.Saved.SavedParts.{middle_text, opening_text, parts_left};
 
     ghost Value = { List ℕ };
 

@@ -1,9 +1,9 @@
 -- What the session answers to a line of a script. This project's own.
 use Rattle.std.specs.Prelude.{◌≡◌, ◌<◌, ◌≤◌, ◌⊎◌, ℕ, List, [], ◌∷◌, length}
 use Rattle.irig_vcd.specs.FileText.{file_text}
-use Rattle.irig_edit.specs.SavedSession.{saved_text}
-use Rattle.irig_edit.specs.Session.{machine_in}
-use Rattle.irig_edit.specs.State.{recording_of}
+use Rattle.irig_edit.specs.Saved.SavedSession.{saved_text}
+use Rattle.irig_edit.specs.Session.Session.{machine_in}
+use Rattle.irig_edit.specs.State.State.{recording_of}
 use Rattle.irig_script.specs.Obey.Machine.{Machine}
 use Rattle.irig_script.specs.Script.Grammar.{Means}
 use Rattle.irig_script.specs.Obey.Obeying.{Obeys}

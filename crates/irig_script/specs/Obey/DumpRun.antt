@@ -4,7 +4,7 @@ use Rattle.irig_codes.specs.Format.{FormatView}
 use Rattle.irig_vcd.specs.Declarations.{declarations_of}
 use Rattle.irig_vcd.specs.Words.{words_of}
 use Rattle.irig_vcd.specs.declared.fault.VcdFault.{VcdFault}
-use Rattle.irig_edit.specs.Openings.{IsOpened, IsUnopened}
+use Rattle.irig_edit.specs.Opened.Openings.{IsOpened, IsUnopened}
 use Rattle.irig_script.specs.Obey.Machine.{Machine}
 use Rattle.irig_script.specs.Obey.Desk.{Desk}
 use Rattle.irig_script.specs.Obey.Ending.{EndsAs}

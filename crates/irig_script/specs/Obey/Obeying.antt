@@ -2,7 +2,7 @@
 -- own.
 use Rattle.std.specs.Prelude.{◌≡◌, ◌-◌, Some, None}
 use Rattle.irig_codes.specs.Format.{is_permitted}
-use Rattle.irig_edit.specs.Calls.{Call, Edit}
+use Rattle.irig_edit.specs.Session.Calls.{Call, Edit}
 use Rattle.irig_script.specs.Obey.Machine.{Machine}
 use Rattle.irig_script.specs.Obey.PulseNumbers.{number_at, first_of, last_of, join_last_of, time_of}
 use Rattle.irig_script.specs.Obey.Replies.{Calls, Formats, Lists, Makes, Saves, Shows, Writes}

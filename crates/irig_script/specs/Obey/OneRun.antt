@@ -1,8 +1,8 @@
 -- That a script has one run, but for the lines that run out of memory or fail to write. This
 -- project's own.
 use Rattle.std.specs.Prelude.{◌≡◌, ℕ, Bool, true, false, List, map, IsSome}
-use Rattle.irig_edit.specs.Session.{grouped_in}
-use Rattle.irig_edit.specs.declared.refusal.Refusal.TheVariants.{OutOfMemory}
+use Rattle.irig_edit.specs.Session.Session.{grouped_in}
+use Rattle.irig_edit.specs.declared.session.refusal.Refusal.TheVariants.{OutOfMemory}
 use Rattle.irig_script.specs.Obey.Machine.{Machine}
 use Rattle.irig_script.specs.Obey.Desk.{Desk}
 use Rattle.irig_script.specs.Obey.Run.{Ran}

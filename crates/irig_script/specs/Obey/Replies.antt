@@ -4,13 +4,13 @@ use Rattle.std.specs.Prelude.{◌≡◌, ◌+◌, ◌-◌, ℕ, Bool, true, fals
 use Rattle.irig_vcd.specs.FileText.{file_text}
 use Rattle.irig_codes.specs.Format.{FormatView}
 use Rattle.irig_codes.specs.declared.format.Kind.{Kind}
-use Rattle.irig_edit.specs.State.{recording_of}
-use Rattle.irig_edit.specs.Calls.{Call, Edit}
-use Rattle.irig_edit.specs.Conditions.{are_pulses}
-use Rattle.irig_edit.specs.SavedSession.{saved_text}
-use Rattle.irig_edit.specs.Session.{Steps, machine_in}
-use Rattle.irig_edit.specs.declared.refusal.Refusal.{Refusal}
-use Rattle.irig_edit.specs.declared.refusal.Refusal.TheVariants as refusal
+use Rattle.irig_edit.specs.State.State.{recording_of}
+use Rattle.irig_edit.specs.Session.Calls.{Call, Edit}
+use Rattle.irig_edit.specs.Edits.Conditions.{are_pulses}
+use Rattle.irig_edit.specs.Saved.SavedSession.{saved_text}
+use Rattle.irig_edit.specs.Session.Session.{Steps, machine_in}
+use Rattle.irig_edit.specs.declared.session.refusal.Refusal.{Refusal}
+use Rattle.irig_edit.specs.declared.session.refusal.Refusal.TheVariants as refusal
 use Rattle.irig_script.specs.Obey.Machine.{Machine}
 use Rattle.irig_script.specs.declared.print.reply.Reply.{Reply}
 use Rattle.irig_script.specs.declared.print.reply.Reply.TheVariants.{Silent, Written, Saved, Listed}

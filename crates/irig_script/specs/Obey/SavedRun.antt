@@ -3,8 +3,8 @@
 use Rattle.std.specs.Prelude.{◌≡◌, ℕ, List, None}
 use Rattle.irig_codes.specs.Format.{FormatView}
 use Rattle.irig_journal.specs.Groups.{over}
-use Rattle.irig_edit.specs.SavedSession.{saved_text}
-use Rattle.irig_edit.specs.Session.{grouped_in, machine_in}
+use Rattle.irig_edit.specs.Saved.SavedSession.{saved_text}
+use Rattle.irig_edit.specs.Session.Session.{grouped_in, machine_in}
 use Rattle.irig_script.specs.Obey.Machine.{Machine}
 use Rattle.irig_script.specs.Obey.OneDumpRun.{DumpRunOf, run_in}
 use Rattle.irig_script.specs.Obey.OneRun.{EndTheSame, MeetTheSame, RunOf}

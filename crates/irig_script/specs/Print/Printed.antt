@@ -3,9 +3,9 @@ use Rattle.std.specs.Prelude.{ℕ, List, [], ◌∷◌, ◌++◌, ◌+◌, codes
 use Rattle.std.specs.List.{flat_map}
 use Rattle.irig_track.specs.Edges.{pulse}
 use Rattle.irig_index.specs.declared.record.Record.{Record}
-use Rattle.irig_edit.specs.State.{State, frames_of}
-use Rattle.irig_edit.specs.declared.refusal.Refusal.{Refusal}
-use Rattle.irig_edit.specs.declared.refusal.Refusal.TheVariants as refusal
+use Rattle.irig_edit.specs.State.State.{State, frames_of}
+use Rattle.irig_edit.specs.declared.session.refusal.Refusal.{Refusal}
+use Rattle.irig_edit.specs.declared.session.refusal.Refusal.TheVariants as refusal
 use Rattle.irig_script.specs.Print.FrameLine.{frame_line}
 use Rattle.irig_script.specs.Print.Listings.{list_text, marks_text, info_text}
 use Rattle.irig_script.specs.Obey.Machine.{Machine}

@@ -2,7 +2,7 @@
 
 ghost use Rattle.std.specs.Prelude.{◌≡◌, ◌-◌, Some, None};
 ghost use Rattle.irig_codes.specs.Format.{is_permitted};
-ghost use Rattle.irig_edit.specs.Calls.{Call, Edit};
+ghost use Rattle.irig_edit.specs.Session.Calls.{Call, Edit};
 ghost use Rattle.irig_script.specs.Obey.Replies.{Calls, Formats, Lists, Makes, Shows, format};
 ghost use Rattle.irig_script.specs.Obey.Replies.{reply_to};
 ghost use Rattle.irig_script.specs.Obey.PulseNumbers.{number_at, first_of, last_of, join_last_of};

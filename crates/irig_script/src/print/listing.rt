@@ -3,7 +3,7 @@
 ghost use Rattle.std.specs.Prelude.{◌≡◌, ◌≤◌, ◌-◌, OnOk, OnErr, Some, length, slice_get};
 ghost use Rattle.std.specs.Io.KnownBytes.{Appends};
 ghost use Rattle.irig_index.specs.declared.record.Record.{Record};
-ghost use Rattle.irig_edit.specs.State.{frames_of};
+ghost use Rattle.irig_edit.specs.State.State.{frames_of};
 ghost use Rattle.irig_script.specs.Print.Front.{AppendsFront};
 ghost use Rattle.irig_script.specs.Print.Printed.{frames_text, record_line};
 

@@ -1,4 +1,4 @@
-use Rattle.irig_edit.proofs.GroupLaws.{abort_back, end_once}
+use Rattle.irig_edit.proofs.SessionLemmas.GroupLaws.{abort_back, end_once}
 use Rattle.irig_edit.proofs.law.groups_give_back.Goals as goal
 
 pub returns-clause-abort : goal.returns-clause-abort

@@ -1,9 +1,9 @@
 use Rattle.std.proofs.Common.{subst}
 use Rattle.irig_journal.specs.Journal.{history_of}
-use Rattle.irig_edit.specs.GoingOn.{GoesOn, IsAlwaysOpened, IsShort}
-use Rattle.irig_edit.specs.Held.{delta_of}
-use Rattle.irig_edit.specs.Session.{SessionView}
-use Rattle.irig_edit.proofs.GoingOn.{always_opened, can_go_back, can_go_on, goes_on}
+use Rattle.irig_edit.specs.Opened.GoingOn.{GoesOn, IsAlwaysOpened, IsShort}
+use Rattle.irig_edit.specs.Changes.Held.{delta_of}
+use Rattle.irig_edit.specs.Session.Session.{SessionView}
+use Rattle.irig_edit.proofs.OpenedLemmas.GoingOn.{always_opened, can_go_back, can_go_on, goes_on}
 use Rattle.irig_edit.proofs.law.saved_goes_on.Goals as goal
 
 pub returns-clause-same : goal.returns-clause-same

@@ -1,5 +1,5 @@
 use Rattle.std.proofs.Common.{arith, ap, ◌∙◌, ◌-◌, ◌+◌, min}
-use Rattle.irig_edit.proofs.Deletions.{deleted}
+use Rattle.irig_edit.proofs.EditLemmas.Deletions.{deleted}
 use Rattle.irig_edit.proofs.edits.delete.plan.Goals as goal
 
 pub returns-clause-can : goal.returns-clause-can

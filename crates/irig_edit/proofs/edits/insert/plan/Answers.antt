@@ -1,5 +1,5 @@
 use Rattle.std.proofs.Common.{arith, sym, ◌∙◌}
-use Rattle.irig_edit.proofs.Insertions.{inserted}
+use Rattle.irig_edit.proofs.EditLemmas.Insertions.{inserted}
 use Rattle.irig_edit.proofs.edits.insert.plan.Goals as goal
 
 pub returns-clause-can : goal.returns-clause-can

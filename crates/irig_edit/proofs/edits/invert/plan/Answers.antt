@@ -1,7 +1,7 @@
 use Rattle.std.proofs.Common.{◌≡◌, ◌≤◌, arith, refl, true, false}
 use Rattle.std.proofs.lemmas.Bool.Decides.{nat_tests}
-use Rattle.irig_edit.specs.Conditions.{is_range}
-use Rattle.irig_edit.proofs.Toggles.{overfull_not, overfull}
+use Rattle.irig_edit.specs.Edits.Conditions.{is_range}
+use Rattle.irig_edit.proofs.EditLemmas.Toggles.{overfull_not, overfull}
 use Rattle.irig_edit.proofs.edits.invert.plan.Goals as goal
 
 pub returns-then-can_toggle-clause-allowed : goal.returns-then-can_toggle-clause-allowed

@@ -1,5 +1,5 @@
 use Rattle.std.proofs.Common.{arith}
-use Rattle.irig_edit.proofs.ChangedPulses.{joined}
+use Rattle.irig_edit.proofs.EditLemmas.ChangedPulses.{joined}
 use Rattle.irig_edit.proofs.edits.join.plan.Goals as goal
 
 pub returns-clause-can : goal.returns-clause-can

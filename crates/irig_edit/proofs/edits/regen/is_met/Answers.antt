@@ -1,5 +1,5 @@
 use Rattle.std.proofs.Common.{sym}
-use Rattle.irig_edit.proofs.PulsesAtTimes.{is_met-last, is_met-none}
+use Rattle.irig_edit.proofs.StateLemmas.PulsesAtTimes.{is_met-last, is_met-none}
 use Rattle.irig_edit.proofs.edits.regen.is_met.Goals as goal
 
 pub returns-then-risen-gt0 : goal.returns-then-risen-gt0

@@ -1,14 +1,14 @@
 use Rattle.std.proofs.Common.{◌≡◌, ◌≤◌, ◌+◌, ◌-◌, ◌*◌, ◌^◌, true, false, length, refl, ap, sym, ◌∙◌, arith}
 use Rattle.irig_codes.specs.Format.{FormatView, control_count_of}
 use Rattle.irig_moment.specs.Generated.{starts_in}
-use Rattle.irig_edit.specs.Conditions.{are_frames, is_met, are_too_many, is_wide}
-use Rattle.irig_edit.specs.Regenerated.{frame_elements, frames_end, frames_pulses, rising_before, rising_in}
-use Rattle.irig_edit.specs.Delta.Delta.{Alone}
-use Rattle.irig_edit.specs.Single.SingleDelta.{Spliced}
-use Rattle.irig_edit.proofs.GeneratedPulses.{frames_many}
-use Rattle.irig_edit.proofs.GenerationTests.{end_said, frames_said, too_many_yes, too_many_no, is_wide_yes, is_wide_no}
-use Rattle.irig_edit.proofs.Regenerations.{regenerated}
-use Rattle.irig_edit.proofs.Risings.{before_end}
+use Rattle.irig_edit.specs.Edits.Conditions.{are_frames, is_met, are_too_many, is_wide}
+use Rattle.irig_edit.specs.Edits.Regenerated.{frame_elements, frames_end, frames_pulses, rising_before, rising_in}
+use Rattle.irig_edit.specs.Changes.Delta.Delta.{Alone}
+use Rattle.irig_edit.specs.Changes.Single.SingleDelta.{Spliced}
+use Rattle.irig_edit.proofs.EditLemmas.GeneratedPulses.{frames_many}
+use Rattle.irig_edit.proofs.EditLemmas.GenerationTests.{end_said, frames_said, too_many_yes, too_many_no, is_wide_yes, is_wide_no}
+use Rattle.irig_edit.proofs.EditLemmas.Regenerations.{regenerated}
+use Rattle.irig_edit.proofs.StateLemmas.Risings.{before_end}
 use Rattle.irig_edit.proofs.edits.regen.plan.Goals as goal
 
 pub overflow_sub-count : goal.overflow_sub-count

@@ -2,8 +2,8 @@ use Rattle.std.proofs.Common.{◌≡◌, ◌≤◌, ◌-◌, ℤ, ap, arith, sym
 use Rattle.std.proofs.lemmas.Bool.Decides.{nat_tests}
 use Rattle.std.proofs.lemmas.Int.{to_z-of_z}
 use Rattle.irig_track.specs.Shifts.{CanShift}
-use Rattle.irig_edit.specs.Conditions.{are_pulses, leaves}
-use Rattle.irig_edit.proofs.Shifts.{meets_not, meets_some}
+use Rattle.irig_edit.specs.Edits.Conditions.{are_pulses, leaves}
+use Rattle.irig_edit.proofs.EditLemmas.Shifts.{meets_not, meets_some}
 use Rattle.irig_edit.proofs.edits.shift.judge.Goals as goal
 
 pub returns-then-can_shift-clause-allowed : goal.returns-then-can_shift-clause-allowed

@@ -2,16 +2,16 @@ use Rattle.std.proofs.Common.{rules, ◌≡◌, ◌+◌, ◌-◌, ℤ, neg_ℤ, 
 use Rattle.std.proofs.lemmas.Int.{to_z-of_z}
 use Rattle.irig_track.specs.declared.pulse.Pulse.{Pulse}
 use Rattle.irig_track.specs.Shifts.{CanShift, count_to}
-use Rattle.irig_edit.specs.Becoming.{Becomes}
-use Rattle.irig_edit.specs.Calls.Edit.{Shift}
-use Rattle.irig_edit.specs.Delta.Delta.{Alone}
-use Rattle.irig_edit.specs.Single.{turned_single}
-use Rattle.irig_edit.specs.Single.SingleDelta.{Shifted}
-use Rattle.irig_edit.specs.Edits.{pulse_of}
-use Rattle.irig_edit.specs.Kept.{holding_none}
-use Rattle.irig_edit.specs.Looks.{window}
-use Rattle.irig_edit.specs.Marks.{AllMayMove, stands}
-use Rattle.irig_edit.proofs.ShiftedStates.{marks_may, shifted_becomes}
+use Rattle.irig_edit.specs.Edits.Becoming.{Becomes}
+use Rattle.irig_edit.specs.Session.Calls.Edit.{Shift}
+use Rattle.irig_edit.specs.Changes.Delta.Delta.{Alone}
+use Rattle.irig_edit.specs.Changes.Single.{turned_single}
+use Rattle.irig_edit.specs.Changes.Single.SingleDelta.{Shifted}
+use Rattle.irig_edit.specs.Edits.Edits.{pulse_of}
+use Rattle.irig_edit.specs.Session.Kept.{holding_none}
+use Rattle.irig_edit.specs.Changes.Looks.{window}
+use Rattle.irig_edit.specs.State.Marks.{AllMayMove, stands}
+use Rattle.irig_edit.proofs.EditLemmas.ShiftedStates.{marks_may, shifted_becomes}
 use Rattle.irig_edit.proofs.edits.shift.plan.Goals as goal
 
 pub returns-clause-fits : goal.returns-clause-fits

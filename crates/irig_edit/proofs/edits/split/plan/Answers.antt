@@ -1,5 +1,5 @@
 use Rattle.std.proofs.Common.{arith}
-use Rattle.irig_edit.proofs.ChangedPulses.{split_up}
+use Rattle.irig_edit.proofs.EditLemmas.ChangedPulses.{split_up}
 use Rattle.irig_edit.proofs.edits.split.plan.Goals as goal
 
 pub returns-clause-can : goal.returns-clause-can

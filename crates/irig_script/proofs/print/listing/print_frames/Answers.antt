@@ -1,7 +1,7 @@
 use Rattle.std.proofs.Common.{rules, ◌≡◌, ◌<◌, ◌+◌, length, get_or, ap, ◌∙◌, arith}
 use Rattle.std.proofs.Math.Seq.{take-length}
 use Rattle.std.proofs.lemmas.Result.{on_ok_weaker, on_err_weaker}
-use Rattle.irig_edit.specs.State.{frames_of}
+use Rattle.irig_edit.specs.State.State.{frames_of}
 use Rattle.irig_script.specs.Print.Numbered.{numbered}
 use Rattle.irig_script.specs.Print.Printed.{record_line}
 use Rattle.irig_script.proofs.Blocks.{sends_all, sends_end}

@@ -1,5 +1,5 @@
 use Rattle.std.proofs.Common.{[], take}
-use Rattle.irig_edit.specs.State.{frames_of}
+use Rattle.irig_edit.specs.State.State.{frames_of}
 use Rattle.irig_script.specs.Print.Blocks.{Sends}
 use Rattle.irig_script.specs.Print.Numbered.{numbered}
 use Rattle.irig_script.specs.Print.Printed.{record_line}

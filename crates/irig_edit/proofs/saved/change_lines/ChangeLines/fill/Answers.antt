@@ -4,10 +4,10 @@ use Rattle.std.proofs.lemmas.Option.{slice_get-map, slice_get_read}
 use Rattle.irig_saved.specs.ChangeWords.{single_line}
 use Rattle.irig_saved.specs.Lines.{text_of}
 use Rattle.irig_saved.specs.SavedText.{pulse_lines, put_of, single_lines}
-use Rattle.irig_edit.specs.Held.{single_of}
-use Rattle.irig_edit.specs.Saved.{CanBeNamed, saved_single}
-use Rattle.irig_edit.specs.SavedParts.{changes_text}
-use Rattle.irig_edit.proofs.Rests.{all_at, begun, changes-next, line_first}
+use Rattle.irig_edit.specs.Changes.Held.{single_of}
+use Rattle.irig_edit.specs.Saved.Saved.{CanBeNamed, saved_single}
+use Rattle.irig_edit.specs.Saved.SavedParts.{changes_text}
+use Rattle.irig_edit.proofs.SavedLemmas.Rests.{all_at, begun, changes-next, line_first}
 use Rattle.irig_edit.proofs.saved.change_lines.ChangeLines.fill.Goals as goal
 
 pub put_first-requires : goal.put_first-requires

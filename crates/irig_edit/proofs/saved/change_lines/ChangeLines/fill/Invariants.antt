@@ -1,8 +1,8 @@
 use Rattle.std.proofs.Common.{◌≡◌, ◌++◌, drop, map}
 use Rattle.std.specs.List.{AllByRecursion}
-use Rattle.irig_edit.specs.Held.{single_of}
-use Rattle.irig_edit.specs.Saved.{CanBeNamed}
-use Rattle.irig_edit.specs.SavedParts.{changes_text}
+use Rattle.irig_edit.specs.Changes.Held.{single_of}
+use Rattle.irig_edit.specs.Saved.Saved.{CanBeNamed}
+use Rattle.irig_edit.specs.Saved.SavedParts.{changes_text}
 use Rattle.irig_edit.proofs.saved.change_lines.ChangeLines.fill.Given as goal
 
 -- the block, with the lines that are left of the change that has begun, and those of the changes after it

@@ -1,7 +1,7 @@
 use Rattle.std.proofs.Common.{◌≡◌, ◌++◌, ℕ, drop}
 use Rattle.irig_saved.specs.Lines.{text_of}
 use Rattle.irig_saved.specs.SavedText.{pulse_lines}
-use Rattle.irig_edit.specs.SavedParts.{pulses_left}
+use Rattle.irig_edit.specs.Saved.SavedParts.{pulses_left}
 use Rattle.irig_edit.proofs.saved.pulse_lines.PulseLines.fill.Given as goal
 
 -- the block, with the lines of the pulses that are left

@@ -2,10 +2,10 @@ use Rattle.std.proofs.Common.{◌+◌, drop, ◌∙◌}
 use Rattle.irig_journal.specs.History.{step}
 use Rattle.irig_saved.specs.Lines.{text_of}
 use Rattle.irig_saved.specs.SavedText.{step_lines}
-use Rattle.irig_edit.specs.Held.{delta_of}
-use Rattle.irig_edit.specs.Saved.{saved_step}
-use Rattle.irig_edit.specs.SavedParts.{steps_at, steps_text}
-use Rattle.irig_edit.proofs.Rests.{begun, steps-next}
+use Rattle.irig_edit.specs.Changes.Held.{delta_of}
+use Rattle.irig_edit.specs.Saved.Saved.{saved_step}
+use Rattle.irig_edit.specs.Saved.SavedParts.{steps_at, steps_text}
+use Rattle.irig_edit.proofs.SavedLemmas.Rests.{begun, steps-next}
 use Rattle.irig_edit.proofs.saved.step_lines.StepLines.fill.Goals as goal
 
 pub loop-number-preserved : goal.loop-number-preserved

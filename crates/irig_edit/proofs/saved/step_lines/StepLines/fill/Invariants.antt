@@ -1,6 +1,6 @@
 use Rattle.std.proofs.Common.{◌≡◌, ◌++◌, drop}
-use Rattle.irig_edit.specs.Saved.{StepsCanBeNamed}
-use Rattle.irig_edit.specs.SavedParts.{steps_at, steps_text}
+use Rattle.irig_edit.specs.Saved.Saved.{StepsCanBeNamed}
+use Rattle.irig_edit.specs.Saved.SavedParts.{steps_at, steps_text}
 use Rattle.irig_edit.proofs.saved.step_lines.StepLines.fill.Given as goal
 
 -- the block, with the lines that are left of the step that has begun, and those of the steps after it

@@ -1,0 +1,9 @@
+-- A session that is opened from a dump with its journal.
+pub mod Names
+pub mod Trials
+pub mod Walks
+pub mod TakenSteps
+pub mod Heads
+pub mod OpenedMachines
+pub mod Numbers
+pub mod GoingOn

@@ -1,0 +1,238 @@
+-- What a session is saved as, opened again.
+use Rattle.std.proofs.Common.{◌≡◌, ◌≤◌, ◌<◌, ◌+◌, ◌^◌, ◌++◌, ℕ, suc, zero, false, List, [], ◌∷◌, Option, Some, None, Result, Ok, length, map, take, reverse}
+use Rattle.std.proofs.Common.{nat_lt, codes, inl, inr, refl, ap, ap₂, sym, ◌∙◌, subst, arith}
+use Rattle.std.specs.List.{AllByRecursion}
+use Rattle.std.proofs.lemmas.Bool.Decides.{nat_tests}
+use Rattle.std.proofs.lemmas.List.{length-append, reverse-append, reverse-reverse, take-map}
+use Rattle.irig_codes.specs.Format.{FormatView}
+use Rattle.irig_journal.specs.declared.step.Step.{Step}
+use Rattle.irig_journal.specs.Groups.{over}
+use Rattle.irig_journal.specs.History.{FitInTurn, History}
+use Rattle.irig_saved.specs.Faults.{IsFault}
+use Rattle.irig_saved.specs.Ranges.{IsSaved}
+use Rattle.irig_saved.specs.SavedText.{journal_text}
+use Rattle.irig_saved.specs.declared.saved.Saved.{Saved}
+use Rattle.irig_saved.specs.declared.step.Step.{Step as SavedStep}
+use Rattle.irig_saved.proofs.Counts.{NumbersOfStep, saved_of_parts}
+use Rattle.irig_saved.proofs.FaultFacts.{journal_not_at_fault}
+use Rattle.irig_saved.proofs.JournalTexts.{journal_is_text, section_is_comment}
+use Rattle.irig_saved.proofs.Unique.{same_journal}
+use Rattle.irig_track.proofs.Recordings as track
+use Rattle.irig_vcd.specs.Answer.{IsFaultOf}
+use Rattle.irig_vcd.specs.FileText.{file_text}
+use Rattle.irig_vcd.specs.Parts.{comment_text, dump_parts}
+use Rattle.irig_vcd.specs.Recording.{RecordingView}
+use Rattle.irig_vcd.specs.declared.fault.VcdFault.{VcdFault}
+use Rattle.irig_vcd.specs.declared.fault.VcdFault.TheVariants as fault
+use Rattle.irig_vcd.proofs.WrittenJournal.{journal_back}
+use Rattle.irig_edit.specs.Changes.Delta.{Delta, Fits, turned}
+use Rattle.irig_edit.specs.Session.Keeping.{kept_back, kept_forward, machine}
+use Rattle.irig_edit.specs.Changes.Laws.Edges.{pulses_of-edges_of}
+use Rattle.irig_edit.specs.Session.Limits.{IsKept}
+use Rattle.irig_edit.specs.Opened.Opened.{IsAccepted, IsLineAtFault, head_fault, mark_beyond, state_of}
+use Rattle.irig_edit.specs.Opened.Openings.{IsBad, IsJournalFault, IsOpened, IsTextOf, IsUnopened}
+use Rattle.irig_edit.specs.Saved.Saved.{saved_step}
+use Rattle.irig_edit.specs.Saved.SavedSession.{saved_of, saved_text}
+use Rattle.irig_edit.specs.Session.Session.{SessionView, grouped_in}
+use Rattle.irig_edit.specs.State.State.{IsMark, IsState, State, recording_of, state}
+use Rattle.irig_edit.specs.Opened.Taken.{AreTaken, CanTakeAll, StopsAfter}
+use Rattle.irig_edit.specs.Opened.Walk.{walk}
+use Rattle.irig_edit.proofs.ChangeLemmas.GroupTurns.{all-append}
+use Rattle.irig_edit.proofs.OpenedLemmas.Heads.{head_marks}
+use Rattle.irig_edit.proofs.OpenedLemmas.Names.{same_step}
+use Rattle.irig_edit.proofs.OpenedLemmas.Numbers.{digit_permitted, steps_small, times_small}
+use Rattle.irig_edit.proofs.SavedLemmas.SavedSteps.{steps_back-kept, steps_on-kept}
+
+-- steps of the same names are the same
+same_steps : (ds es : List (Step Delta)) → map saved_step ds ≡ map saved_step es → ds ≡ es
+same_steps [] [] same = refl
+same_steps [] (e ∷ es) same = cc
+same_steps (d ∷ ds) [] same = cc
+same_steps (d ∷ ds) (e ∷ es) same =
+    let first : saved_step d ≡ saved_step e = cc in
+    let rest : map saved_step ds ≡ map saved_step es = cc in
+    ap₂ (λ (x : Step Delta) (xs : List (Step Delta)). x ∷ xs) (same_step d e first) (same_steps ds es rest)
+
+-- what holds of each of a list holds of each in the opposite order
+all-reverse : {X : Type 0} (P : X → Type 0) (xs : List X) → AllByRecursion P xs → AllByRecursion P (reverse xs)
+all-reverse P [] all = tt
+all-reverse P (x ∷ xs) all =
+    subst (AllByRecursion P) (sym (reverse-append (x ∷ []) xs)) (all-append P (reverse xs) (x ∷ []) (all-reverse P xs all.1) (all.0, tt))
+
+-- the steps of a machine within its limits can be taken, back and on
+pub can_go_back : (s : State) (ds : List (Step Delta)) → FitInTurn Fits turned s ds → AllByRecursion IsKept (kept_back s ds)
+    → CanTakeAll s ds
+can_go_back s [] fit all = tt
+can_go_back s (d ∷ ds) fit all =
+    (record { fits = fit.0; cursor = all.0.cursor }, can_go_back (turned s d.change).0 ds fit.1 all.1)
+
+pub can_go_on : (s : State) (ds : List (Step Delta)) → FitInTurn Fits turned s ds → AllByRecursion IsKept (kept_forward s ds)
+    → CanTakeAll s ds
+can_go_on s [] fit all = tt
+can_go_on s (d ∷ ds) fit all =
+    (record { fits = fit.0; cursor = all.0.cursor }, can_go_on (turned s d.change).0 ds fit.1 all.1)
+
+-- so can the first of them, by their names
+first_taken : (s : State) (ds : List (Step Delta)) (n : ℕ) → CanTakeAll s ds → AreTaken s (take n (map saved_step ds)) (take n ds)
+first_taken s ds n can = record {
+  named = take-map saved_step n ds;
+  can = first s ds n can;
+} where
+  first : (s : State) (ds : List (Step Delta)) (n : ℕ) → CanTakeAll s ds → CanTakeAll s (take n ds)
+  first s [] zero can = tt
+  first s [] (suc n) can = tt
+  first s (d ∷ ds) zero can = tt
+  first s (d ∷ ds) (suc n) can = (can.0, first (turned s d.change).0 ds n can.1)
+
+-- nowhere it stops
+never_stops : (s : State) (ds : List (Step Delta)) (saves : List SavedStep) (n : ℕ) → saves ≡ map saved_step ds → CanTakeAll s ds
+    → StopsAfter s saves n → ⊥
+never_stops s ds saves n named can stops =
+    stops.refused (take (n + 1) ds) (subst (λ (l : List SavedStep). AreTaken s (take (n + 1) l) (take (n + 1) ds)) (sym named) (first_taken s ds (n + 1) can))
+
+-- no mark within a length is beyond it
+none_beyond : (micros line : ℕ) (marks : List (Option ℕ)) → AllByRecursion (IsMark micros) marks → mark_beyond micros line marks ≡ None
+none_beyond micros line [] all = refl
+none_beyond micros line (None ∷ marks) all = none_beyond micros line marks all.1
+none_beyond micros line (Some t ∷ marks) all =
+    let past : nat_lt micros t ≡ false = grind (arith, nat_tests, all.0) in
+    rw past (none_beyond micros (line + 1) marks all.1)
+
+-- what was read has no fault, but memory may run out
+only_memory : {Y : Type 0} (e : VcdFault) (read : Result Y VcdFault) (y : Y) → read ≡ Ok y → IsFaultOf e read → e ≡ fault.OutOfMemory
+only_memory fault.OutOfMemory read y is told = refl
+only_memory fault.Unclosed read y is told = absurd (cc)
+only_memory fault.NoTimescale read y is told = absurd (cc)
+only_memory fault.BadTimescale read y is told = absurd (cc)
+only_memory fault.BadVar read y is told = absurd (cc)
+only_memory fault.NoSuchWire read y is told = absurd (cc)
+only_memory fault.ManyWires read y is told = absurd (cc)
+only_memory fault.NotOneBit read y is told = absurd (cc)
+only_memory fault.NoEndDefinitions read y is told = absurd (cc)
+only_memory (fault.BadToken n) read y is told = absurd (cc)
+only_memory (fault.Backward n) read y is told = absurd (cc)
+only_memory (fault.TimeTooLarge n) read y is told = absurd (cc)
+only_memory fault.TooManyPulses read y is told = absurd (cc)
+only_memory (fault.BadJournal n) read y is told = absurd (cc)
+
+-- nor has a journal without a line at fault
+not_bad : (P : ℕ → Type 0) (e : VcdFault) → ((n : ℕ) → P n → ⊥) → IsBad P e → e ≡ fault.OutOfMemory
+not_bad P fault.OutOfMemory none bad = refl
+not_bad P (fault.BadJournal n) none bad = absurd (none n bad)
+not_bad P e none bad = absurd bad
+
+-- what was read determines its parts
+same_parts : {R T E : Type 0} (read : Result (R × Option T) E) (r s : R) (t u : T)
+    → read ≡ Ok (r, Some t) → read ≡ Ok (s, Some u) → (r ≡ s) × (t ≡ u)
+same_parts {R} {T} read r s t u told other =
+    let both : (r, Some t) ≡ (s, Some u) = cc in
+    let journal : Some t ≡ Some u = ap (λ (p : R × Option T). p.1) both in
+    let text : t ≡ u = cc in (ap (λ (p : R × Option T). p.0) both, text)
+
+one_journal : {R T E : Type 0} (read : Result (R × Option T) E) (r s : R) (t : T)
+    → read ≡ Ok (r, Some t) → read ≡ Ok (s, None) → ⊥
+one_journal {R} {T} read r s t told none =
+    let both : (r, Some t) ≡ (s, None) = cc in
+    let bad : Some t ≡ None = ap (λ (p : R × Option T). p.1) both in cc
+
+-- a machine, whose text is short
+module _ (h : History State Delta) (is : IsState h.state) (within : h.cursor ≤ length h.state.pulses)
+    (back : CanTakeAll h.state h.past) (on : CanTakeAll h.state h.future) (short : length (saved_text (machine h)) ≤ 2 ^ 28) where
+  abbrev saved : Saved
+  saved = saved_of (machine h)
+
+  abbrev recorded : RecordingView
+  recorded = recording_of h.state
+
+  -- its steps by their names
+  past_named : saved.past ≡ reverse (map saved_step h.past)
+  past_named = ap reverse (steps_back-kept h.state h.cursor h.past)
+
+  future_named : saved.future ≡ map saved_step h.future
+  future_named = steps_on-kept h.state h.future
+
+  -- its parts
+  text_parts : saved_text (machine h) ≡ file_text recorded ++ comment_text (journal_text saved)
+  unfolding saved_text
+  text_parts = ap (λ (l : List ℕ). file_text recorded ++ l) (section_is_comment saved)
+
+  text_long : length (journal_text saved) < 2 ^ 64
+  text_long = omega (
+    arith,
+    short,
+    ap length text_parts,
+    length-append (file_text recorded) (comment_text (journal_text saved)),
+    length-append (codes "$comment\n") (journal_text saved ++ codes "$end\n"),
+    length-append (journal_text saved) (codes "$end\n"),
+  )
+
+  -- its journal can be saved
+  pub is_saved : IsSaved saved
+  is_saved = saved_of_parts saved text_long
+      (digit_permitted h.state.format.kind h.state.format.expression is.permitted)
+      (omega (arith, within, is.track.few))
+      is.letters
+      (times_small h.state.micros h.state.marks is.track.short is.marks)
+      (subst (AllByRecursion NumbersOfStep) (sym past_named) (all-reverse NumbersOfStep (map saved_step h.past) (steps_small h.state h.past is back)))
+      (subst (AllByRecursion NumbersOfStep) (sym future_named) (steps_small h.state h.future is on))
+
+  -- and its text says both
+  parts : dump_parts None (saved_text (machine h)) ≡ Ok (recorded, Some (journal_text saved))
+  parts = ap (dump_parts None) text_parts
+      ∙ journal_back recorded (journal_text saved) (track.recording_of h.state.micros h.state.pulses is.track) (journal_is_text saved is_saved)
+
+  -- the state that they make
+  state_is : state_of recorded saved ≡ h.state
+  state_is = λ k. state h.state.micros (pulses_of-edges_of h.state.pulses k) h.state.format h.state.marks
+
+  -- what is read of it
+  text_is : (r : RecordingView) (text : List ℕ) → dump_parts None (saved_text (machine h)) ≡ Ok (r, Some text)
+      → (r ≡ recorded) × (text ≡ journal_text saved)
+  text_is r text read = same_parts (dump_parts None (saved_text (machine h))) r recorded text (journal_text saved) read parts
+
+  -- its journal
+  journal_is : (text : List ℕ) (other : Saved) → text ≡ journal_text saved → IsTextOf text other → other ≡ saved
+  journal_is text other same told = same_journal other saved told.ranges is_saved (sym told.same ∙ same)
+
+  -- the machine that it makes
+  accepted : (w : SessionView) → IsAccepted (state_of recorded saved) saved w → grouped_in w ≡ over None (machine h)
+  accepted w made =
+      let past : made.past ≡ h.past =
+      same_steps made.past h.past (sym made.back.named ∙ (ap reverse past_named ∙ reverse-reverse (map saved_step h.past))) in
+      let future : made.future ≡ h.future = same_steps made.future h.future (sym made.on.named ∙ future_named) in
+      ap grouped_in made.session ∙ (λ k. over None (machine (walk (state_is k) h.cursor (past k) (future k))))
+
+  pub goes_on : (format : FormatView) (w : SessionView) → IsOpened None (saved_text (machine h)) format w → grouped_in w ≡ over None (machine h)
+  goes_on format w (inl (r, read, start)) = absurd (one_journal (dump_parts None (saved_text (machine h))) recorded r (journal_text saved) parts read)
+  goes_on format w (inr (r, (text, (other, read, told, made)))) =
+      let same = text_is r text read in
+      let journal = journal_is text other same.1 told in
+      accepted w (subst (λ (x : Saved). IsAccepted (state_of recorded x) x w) journal
+      (subst (λ (x : RecordingView). IsAccepted (state_of x other) other w) same.0 made))
+
+  -- no line is at fault
+  head_is : head_fault (state_of recorded saved) saved ≡ None
+  head_is = head_marks (state_of recorded saved) saved is.permitted
+      (subst (λ (x : State). h.cursor ≤ length x.pulses) (sym state_is) within)
+      ∙ none_beyond h.state.micros 4 h.state.marks is.marks
+
+  no_line : (n : ℕ) → IsLineAtFault (state_of recorded saved) saved n → ⊥
+  no_line n (inl head) = let bad : None ≡ Some n = sym head_is ∙ head in cc
+  no_line n (inr (head, inl (count, stops))) =
+      never_stops (state_of recorded saved) h.past (reverse saved.past) count (ap reverse past_named ∙ reverse-reverse (map saved_step h.past))
+      (subst (λ (x : State). CanTakeAll x h.past) (sym state_is) back) stops.0
+  no_line n (inr (head, inr (taken, (count, stops)))) =
+      never_stops (state_of recorded saved) h.future saved.future count future_named
+      (subst (λ (x : State). CanTakeAll x h.future) (sym state_is) on) stops.0
+
+  no_fault : (r : RecordingView) (text : List ℕ) (n : ℕ) → r ≡ recorded → text ≡ journal_text saved → IsJournalFault r text n → ⊥
+  no_fault r text n same_r same (inl form) = journal_not_at_fault saved is_saved n (subst (IsFault n) same form)
+  no_fault r text n same_r same (inr (other, told, line)) =
+      no_line n (subst (λ (x : Saved). IsLineAtFault (state_of recorded x) x n) (journal_is text other same told)
+      (subst (λ (x : RecordingView). IsLineAtFault (state_of x other) other n) same_r line))
+
+  pub always_opened : (e : VcdFault) → IsUnopened None (saved_text (machine h)) e → e ≡ fault.OutOfMemory
+  always_opened e (inl told) = only_memory e (dump_parts None (saved_text (machine h))) (recorded, Some (journal_text saved)) parts told
+  always_opened e (inr (r, (text, told))) =
+      let same = text_is r text told.0 in
+      not_bad (IsJournalFault r text) e (λ n. no_fault r text n same.0 same.1) told.1

@@ -1,0 +1,54 @@
+-- What a saved journal says above its steps.
+use Rattle.std.proofs.Common.{◌≡◌, ◌≤◌, ◌<◌, ◌+◌, ℕ, Bool, true, false, List, [], ◌∷◌, Option, Some, None, IsTrue, length, nat_lt, not, if◌then◌else◌, refl, ap}
+use Rattle.std.proofs.Common.{sym, ◌∙◌, arith}
+use Rattle.std.proofs.lemmas.Bool.Decides.{nat_tests}
+use Rattle.std.specs.List.{AllByRecursion}
+use Rattle.irig_codes.specs.Format.{is_permitted}
+use Rattle.irig_saved.specs.declared.saved.Saved.{Saved}
+use Rattle.irig_vcd.specs.Recording.{RecordingView}
+use Rattle.irig_edit.specs.Changes.Laws.Edges.{pulses_of-edges_of}
+use Rattle.irig_edit.specs.Opened.Opened.{head_fault, mark_beyond, state_of}
+use Rattle.irig_edit.specs.Changes.Single.{pulses_of}
+use Rattle.irig_edit.specs.State.State.{IsMark, State, recording_of, state}
+
+-- the state of a recording with a format and marks
+pub opened_state : (s : State) (r : RecordingView) (saved : Saved) → recording_of s ≡ r
+    → s.format ≡ record { kind = saved.kind; expression = saved.expression }
+    → state s.micros s.pulses s.format saved.marks ≡ state_of r saved
+opened_state s r saved is format =
+    let micros : s.micros ≡ r.micros = ap (λ (x : RecordingView). x.micros) is in
+    let pulses = sym (pulses_of-edges_of s.pulses) ∙ ap (λ (x : RecordingView). pulses_of x.edges) is in
+    (λ k. state (micros k) (pulses k) (format k) saved.marks)
+
+unless_is : {X : Type 0} (b : Bool) (x y : X) → IsTrue b → (if not b then x else y) ≡ y
+unless_is true x y is = refl
+unless_is false x y is = let bad : false ≡ true = is in cc
+
+lt_yes : {X : Type 0} (m n : ℕ) (x y : X) → m < n → (if nat_lt m n then x else y) ≡ x
+lt_yes m n x y less = let yes : nat_lt m n ≡ true = grind (arith, nat_tests) in rw yes refl
+
+lt_no : {X : Type 0} (m n : ℕ) (x y : X) → n ≤ m → (if nat_lt m n then x else y) ≡ y
+lt_no m n x y more = let past : nat_lt m n ≡ false = grind (arith, nat_tests) in rw past refl
+
+-- a cursor beyond the pulses
+pub head_cursor : (s : State) (saved : Saved) → IsTrue (is_permitted saved.kind saved.expression) → length s.pulses < saved.cursor
+    → head_fault s saved ≡ Some 3
+head_cursor s saved is less =
+    unless_is (is_permitted saved.kind saved.expression) _ _ is ∙ lt_yes (length s.pulses) saved.cursor _ _ less
+
+-- and then the marks
+pub head_marks : (s : State) (saved : Saved) → IsTrue (is_permitted saved.kind saved.expression) → saved.cursor ≤ length s.pulses
+    → head_fault s saved ≡ mark_beyond s.micros 4 saved.marks
+head_marks s saved is within =
+    unless_is (is_permitted saved.kind saved.expression) _ _ is ∙ lt_no (length s.pulses) saved.cursor _ _ within
+
+-- marks, none of them beyond
+pub marks_within : (micros line : ℕ) (marks : List (Option ℕ)) → mark_beyond micros line marks ≡ None → AllByRecursion (IsMark micros) marks
+marks_within micros line [] none = tt
+marks_within micros line (None ∷ marks) none = (tt, marks_within micros line marks none)
+marks_within micros line (Some t ∷ marks) none = by_test (nat_lt micros t) refl none (λ rest. marks_within micros (line + 1) marks rest) where
+  by_test : (b : Bool) → nat_lt micros t ≡ b → (if b then Some line else mark_beyond micros (line + 1) marks) ≡ None
+      → (mark_beyond micros (line + 1) marks ≡ None → AllByRecursion (IsMark micros) marks)
+      → (t ≤ micros) × AllByRecursion (IsMark micros) marks
+  by_test true is none rest = absurd (cc)
+  by_test false is none rest = let within : t ≤ micros = grind (arith, nat_tests) in (within, rest none)

@@ -1,0 +1,8 @@
+-- Pulses, times and marks.
+pub mod Reversed
+pub mod Pulses
+pub mod PulsesAtTimes
+pub mod TouchedStretches
+pub mod Risings
+pub mod Distances
+pub mod MovedMarks

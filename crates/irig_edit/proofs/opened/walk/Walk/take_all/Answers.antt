@@ -1,0 +1,38 @@
+use Rattle.std.proofs.Common.{rules, ◌≡◌, ◌+◌, ◌<◌, ◌^◌, true, false, reverse, ap, arith}
+use Rattle.irig_edit.proofs.OpenedLemmas.TakenSteps.{lines_short, taken_more, taken_next, taken_stops, told_no, told_yes}
+use Rattle.irig_edit.proofs.opened.walk.Walk.take_all.Goals as goal
+
+pub lines-requires : goal.lines-requires
+lines-requires c =
+    let so_far = taken_next c.args.self.now c.loop-step.self (reverse c.args.steps) c.loop-step.steps c.pop.new.self c.in-Some.step c.loop-step.before
+    c.loop-step.invariant c.in-Some.ensures in
+    let short = lines_short c.args.self.now c.loop-step.self (reverse c.args.steps) (reverse c.pop.new.self) c.in-Some.step c.loop-step.before so_far
+    c.requires.lines in
+    omega (arith, short)
+
+pub overflow_add-behind : goal.overflow_add-behind
+overflow_add-behind c =
+    let so_far = taken_next c.args.self.now c.loop-step.self (reverse c.args.steps) c.loop-step.steps c.pop.new.self c.in-Some.step c.loop-step.before
+    c.loop-step.invariant c.in-Some.ensures in
+    let short = lines_short c.args.self.now c.loop-step.self (reverse c.args.steps) (reverse c.pop.new.self) c.in-Some.step c.loop-step.before so_far
+    c.requires.lines in
+    let within : c.loop-step.before + c.lines.result < 2 ^ 63 = omega (arith, short, c.lines.ensures) in
+    search (rules, within)
+
+pub loop-step-preserved : goal.loop-step-preserved
+loop-step-preserved c =
+    let so_far = taken_next c.args.self.now c.loop-step.self (reverse c.args.steps) c.loop-step.steps c.pop.new.self c.in-Some.step c.loop-step.before
+    c.loop-step.invariant c.in-Some.ensures in
+    let is : c.in-Ok-true.field-0 ≡ true = search rules in
+    let took = told_yes c.in-Ok-true.field-0 _ _ is c.in-Ok-true.ensures in
+    taken_more c.args.self.now c.loop-step.self c.take.new.self (reverse c.args.steps) (reverse c.pop.new.self) c.loop-step.before
+    (c.loop-step.before + c.lines.result)
+    c.in-Some.step took.0 so_far took.1.0 took.1.1.0 took.1.1.1 (ap (λ n. c.loop-step.before + n) c.lines.ensures)
+
+pub returns-in-Ok-false : goal.returns-in-Ok-false
+returns-in-Ok-false c =
+    let so_far = taken_next c.args.self.now c.loop-step.self (reverse c.args.steps) c.loop-step.steps c.pop.new.self c.in-Some.step c.loop-step.before
+    c.loop-step.invariant c.in-Some.ensures in
+    let is : c.in-Ok-false.field-0 ≡ false = search rules in
+    taken_stops c.args.self.now c.loop-step.self (reverse c.args.steps) (reverse c.pop.new.self) c.loop-step.before (c.loop-step.before + c.lines.result)
+    c.in-Some.step so_far (told_no c.in-Ok-false.field-0 _ _ is c.in-Ok-false.ensures) (ap (λ n. c.loop-step.before + n) c.lines.ensures) c.requires.lines

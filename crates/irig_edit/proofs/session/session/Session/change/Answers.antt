@@ -1,0 +1,113 @@
+use Rattle.std.proofs.Common.{◌≡◌, Ok, ◌≤◌, length, ap, sym, ◌∙◌, subst, ℕ, ◌-◌, arith}
+use Rattle.irig_journal.specs.Groups.{Grouped, recorded_over}
+use Rattle.irig_journal.specs.History.{steps_of}
+use Rattle.irig_journal.specs.Journal.{past_of, future_of}
+use Rattle.irig_journal.specs.Machine.{Machine}
+use Rattle.irig_journal.specs.Machine as journal
+use Rattle.irig_edit.specs.Changes.Delta.{Fits, turned}
+use Rattle.irig_edit.specs.Changes.Laws.Delta.{IsState-turned}
+use Rattle.irig_edit.specs.Changes.Held.{delta_of}
+use Rattle.irig_edit.specs.Session.Keeping.{exchange_of, machine, machine_at}
+use Rattle.irig_edit.specs.Session.Kept.{Kept, kept}
+use Rattle.irig_edit.specs.Session.Limits.{IsGrouped}
+use Rattle.irig_edit.specs.State.State.{State}
+use Rattle.irig_edit.specs.Changes.Looks.{Within, looks_of}
+use Rattle.irig_edit.specs.Session.Session.{SessionView, grouped_in}
+use Rattle.irig_edit.proofs.SessionLemmas.Floors.{IsGrouped-recorded, grouped-recorded, over_opening}
+use Rattle.irig_edit.proofs.SessionLemmas.Machines.{history, machine-made}
+use Rattle.irig_edit.proofs.ChangeLemmas.LooksOfSteps.{never_fell, risen_within}
+use Rattle.irig_edit.proofs.SessionLemmas.MachineSteps.{steps_becomes}
+use Rattle.irig_edit.proofs.session.session.Session.change.Goals as goal
+
+pub record-requires-clause-applies : goal.record-requires-clause-applies
+record-requires-clause-applies c =
+    let same = ap (λ (m : SessionView). m.present.state) c.self.view_is in
+    subst (λ (s : State). Fits s (delta_of c.args.change)) (sym same) c.requires.fits
+
+pub invariant_of-self : goal.invariant_of-self
+invariant_of-self c =
+    let s = c.self.inside.present.state in
+    let d = delta_of c.args.change in
+    let same = ap (λ (m : SessionView). m.present.state) c.self.view_is in
+    let fits = subst (λ (x : State). Fits x d) (sym same) c.requires.fits in
+    let within = subst (λ (x : State). c.args.cursor ≤ length (turned x d).0.pulses) (sym same) c.requires.cursor in
+    let is = c.self.invariant.0.machine.present.state in
+    let stands = ap (λ (m : Machine (journal.Kept State)). m.present.state) (c.in-Ok.ensures.machine 0) in
+    let made = machine-made s c.record.new.state.state d c.self.inside.cursor c.args.cursor (past_of delta_of c.self.inside.journal)
+    (future_of delta_of c.self.inside.journal)
+    (past_of delta_of c.record.new.self) (future_of delta_of c.record.new.self) is fits stands c.in-Ok.ensures.steps.0 c.in-Ok.ensures.steps.1 in
+    let grouped = grouped-recorded (machine_at c.self.inside.present.state c.self.inside.cursor c.self.inside.journal)
+    (machine (history c.record.new.state.state c.args.cursor (past_of delta_of c.record.new.self) (future_of delta_of c.record.new.self)))
+    (kept (turned s d).0 c.args.cursor (exchange_of s d)) c.self.inside.journal.floor c.record.new.self.floor made c.in-Ok.ensures.steps.2
+    c.self.invariant.0.floor in
+    (IsGrouped-recorded (turned s d).0 c.args.cursor (exchange_of s d) c.self.invariant.0 (IsState-turned s d is fits) within grouped, c.record.ensures.ready)
+
+pub invariant_of-self-in-Err : goal.invariant_of-self-in-Err
+invariant_of-self-in-Err c =
+    let unmoved = c.in-Err.ensures.err in
+    let P : Grouped Kept → Type 0 = IsGrouped in
+    let is : over_opening c.record.new.self.floor (machine (history c.record.new.state.state c.self.inside.cursor (past_of delta_of c.record.new.self)
+    (future_of delta_of c.record.new.self)))
+    ≡ over_opening c.self.inside.journal.floor (machine (history c.self.inside.present.state c.self.inside.cursor (past_of delta_of c.self.inside.journal)
+    (future_of delta_of c.self.inside.journal))) =
+    (λ k. over_opening (unmoved.5 k) (machine (history (unmoved.1 k) c.self.inside.cursor (steps_of delta_of (unmoved.3 k))
+    (steps_of delta_of (unmoved.4 k))))) in
+    (subst P (sym is) c.self.invariant.0, c.record.ensures.ready)
+
+pub returns-in-Ok-clause-ok : goal.returns-in-Ok-clause-ok
+returns-in-Ok-clause-ok c =
+    let s = c.self.inside.present.state in
+    let d = delta_of c.args.change in
+    let same = ap (λ (m : SessionView). m.present.state) c.self.view_is in
+    let fits = subst (λ (x : State). Fits x d) (sym same) c.requires.fits in
+    let stands = ap (λ (m : Machine (journal.Kept State)). m.present.state) (c.in-Ok.ensures.machine 0) in
+    let made = machine-made s c.record.new.state.state d c.self.inside.cursor c.args.cursor (past_of delta_of c.self.inside.journal)
+    (future_of delta_of c.self.inside.journal)
+    (past_of delta_of c.record.new.self) (future_of delta_of c.record.new.self) c.self.invariant.0.machine.present.state fits stands c.in-Ok.ensures.steps.0
+    c.in-Ok.ensures.steps.1 in
+    grouped-recorded (machine_at c.self.inside.present.state c.self.inside.cursor c.self.inside.journal)
+    (machine (history c.record.new.state.state c.args.cursor (past_of delta_of c.record.new.self) (future_of delta_of c.record.new.self)))
+    (kept (turned s d).0 c.args.cursor (exchange_of s d)) c.self.inside.journal.floor c.record.new.self.floor made c.in-Ok.ensures.steps.2
+    c.self.invariant.0.floor
+    ∙ ap (λ (m : SessionView). recorded_over (grouped_in m) (kept (turned m.present.state d).0 c.args.cursor (exchange_of m.present.state d))) c.self.view_is
+
+pub returns-in-Ok-clause-step : goal.returns-in-Ok-clause-step
+returns-in-Ok-clause-step c =
+    let s = c.self.inside.present.state in
+    let d = delta_of c.args.change in
+    let same = ap (λ (m : SessionView). m.present.state) c.self.view_is in
+    let fits = subst (λ (x : State). Fits x d) (sym same) c.requires.fits in
+    let stands = ap (λ (m : Machine (journal.Kept State)). m.present.state) (c.in-Ok.ensures.machine 0) in
+    let made = machine-made s c.record.new.state.state d c.self.inside.cursor c.args.cursor (past_of delta_of c.self.inside.journal)
+    (future_of delta_of c.self.inside.journal)
+    (past_of delta_of c.record.new.self) (future_of delta_of c.record.new.self) c.self.invariant.0.machine.present.state fits stands c.in-Ok.ensures.steps.0
+    c.in-Ok.ensures.steps.1 in
+    let step = grouped-recorded (machine_at c.self.inside.present.state c.self.inside.cursor c.self.inside.journal)
+    (machine (history c.record.new.state.state c.args.cursor (past_of delta_of c.record.new.self) (future_of delta_of c.record.new.self)))
+    (kept (turned s d).0 c.args.cursor (exchange_of s d)) c.self.inside.journal.floor c.record.new.self.floor made c.in-Ok.ensures.steps.2
+    c.self.invariant.0.floor
+    ∙ ap (λ (m : SessionView). recorded_over (grouped_in m) (kept (turned m.present.state d).0 c.args.cursor (exchange_of m.present.state d))) c.self.view_is in
+    λ edit none becomes exchanged.
+    let now = c.args.self.now.present.state in
+    steps_becomes edit (grouped_in c.args.self.now) _ (Ok tt) (turned now d).0 c.args.cursor (exchange_of now d) none becomes exchanged step tt
+
+pub returns-in-Ok-clause-looks : goal.returns-in-Ok-clause-looks
+returns-in-Ok-clause-looks c =
+    let s = c.self.inside.present.state in
+    let d = delta_of c.args.change in
+    let same = ap (λ (m : SessionView). m.present.state) c.self.view_is in
+    let fits = subst (λ (x : State). Fits x d) (sym same) c.requires.fits in
+    let stands = ap (λ (m : Machine (journal.Kept State)). m.present.state) (c.in-Ok.ensures.machine 0) in
+    let made = machine-made s c.record.new.state.state d c.self.inside.cursor c.args.cursor (past_of delta_of c.self.inside.journal)
+    (future_of delta_of c.self.inside.journal)
+    (past_of delta_of c.record.new.self) (future_of delta_of c.record.new.self) c.self.invariant.0.machine.present.state fits stands c.in-Ok.ensures.steps.0
+    c.in-Ok.ensures.steps.1 in
+    let looks = c.looks_since-self-inside.result in
+    let rise = risen_within (looks_of s d) c.self.inside.present.index.looks c.record.new.state.index.looks c.looks-before.result looks
+    c.in-Ok.ensures.once c.looks-before.ensures c.looks_since-self-inside.ensures in (
+      never_fell (looks_of s d) c.self.inside.present.index.looks c.record.new.state.index.looks c.looks-before.result _ c.in-Ok.ensures.once
+          c.looks-before.ensures (ap (λ (v : SessionView). v.looks) c.self.view_is) (omega arith),
+      c.looks_since-self-inside.ensures ∙ ap (λ (n : ℕ). c.record.new.state.index.looks - n)
+          (c.looks-before.ensures ∙ ap (λ (v : SessionView). v.looks) c.self.view_is),
+      subst (λ (m : Machine Kept). Within m.present.made.forth looks) (sym made) rise,
+    )

@@ -1,0 +1,13 @@
+-- The steps of a journal are ready to be turned. This project's own.
+use Rattle.irig_journal.specs.Journal.{AreReady, Steps}
+use Rattle.irig_edit.specs.Changes.Delta.{Fits, turned}
+use Rattle.irig_edit.specs.Changes.Held.{delta_of}
+use Rattle.irig_edit.specs.State.Places.{places_in}
+use Rattle.irig_edit.specs.State.Present.{PresentView}
+use Rattle.irig_edit.specs.Changes.Room.{HasRoom}
+use Rattle.irig_edit.specs.declared.changes.change.Change.{Change}
+
+-- the steps back and forward can be made in turn from the present state, and each has its room when
+-- its turn comes
+abbrev pub StepsAreReady : PresentView → Steps Change → Type 0
+StepsAreReady p j = AreReady Fits turned delta_of (HasRoom (places_in p)) p.state j

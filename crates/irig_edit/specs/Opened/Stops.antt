@@ -1,0 +1,39 @@
+-- Where the steps of a saved journal are no longer taken. This project's own.
+use Rattle.std.specs.Prelude.{◌≡◌, ◌<◌, ◌^◌, ◌+◌, ℕ, Bool, true, false, List, length, reverse, take}
+use Rattle.irig_saved.specs.SavedText.{steps_lines}
+use Rattle.irig_saved.specs.declared.step.Step.{Step as SavedStep}
+use Rattle.irig_journal.specs.declared.step.Step.{Step}
+use Rattle.irig_journal.specs.History.{History}
+use Rattle.irig_edit.specs.Changes.Delta.{Delta}
+use Rattle.irig_edit.specs.State.State.{State}
+use Rattle.irig_edit.specs.Opened.Taken.{AreTaken, StopsAfter}
+use Rattle.irig_edit.specs.Opened.Walk.{walk}
+use Rattle.irig_edit.specs.declared.opened.taking.Stop.{Stop}
+use Rattle.irig_edit.specs.declared.opened.taking.Stop.TheVariants.{At, Memory}
+
+-- one fact of an answer yes, another of no
+abbrev pub Told : Bool → Type 0 → Type 0 → Type 0
+Told true P Q = P
+Told false P Q = Q
+
+-- this many lines are before the step that is not taken, and this many up to its end
+pub record StopsAt (s : State) (saves : List SavedStep) (before behind : ℕ) : Type 0 where
+  pub count : ℕ
+  pub stops : StopsAfter s saves count
+  pub before_are : before ≡ length (steps_lines (take count saves))
+  pub behind_are : behind ≡ length (steps_lines (take (count + 1) saves))
+  pub few : before < 2 ^ 63
+
+-- if memory runs out nothing is said
+abbrev pub IsStop : State → List SavedStep → Stop → Type 0
+IsStop s saves (At before behind) = StopsAt s saves before behind
+IsStop s saves Memory = Unit {0}
+
+-- steps back and forward that are named can be taken, and are the past and the future of the state
+pub record HasTaken (old : History State Delta) (past future : List SavedStep)
+    (new : History State Delta) : Type 0 where
+  pub behind : List (Step Delta)
+  pub ahead : List (Step Delta)
+  pub back : AreTaken old.state (reverse past) behind
+  pub on : AreTaken old.state future ahead
+  pub stands : new ≡ walk old.state old.cursor behind ahead

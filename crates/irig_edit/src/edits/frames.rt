@@ -1,0 +1,69 @@
+//! The pulses of frames that are generated.
+
+ghost use Rattle.std.specs.Prelude.{◌≡◌, ◌+◌, ◌*◌, ◌^◌, ◌<◌, ◌≤◌, ◌++◌, length, IsTrue, IfOk};
+ghost use Rattle.irig_codes.specs.Format.{control_count_of, interval_of};
+ghost use Rattle.irig_gap.specs.Items.{gap_view};
+ghost use Rattle.irig_moment.specs.Generated.{starts_in};
+ghost use Rattle.irig_edit.specs.Edits.Regenerated.{index_point, frame_pulses, frames_end};
+ghost use Rattle.irig_edit.specs.Edits.Regenerated.{frames_pulses};
+
+use irig_codes::{Element, Format, encode, nominal};
+use irig_gap::Gap;
+use irig_moment::Moment;
+use irig_track::Pulse;
+use std::alloc::{AllocError, Global};
+
+/// How long frames are together, in microseconds.
+pub(crate) fn span(format: Format, frames: u64) -> u64
+    requires { frames ≤ 10000 }
+    ensures value { result ≡ 100 * frames * interval_of format.kind }
+    ensures short { result ≤ 100000000000 }
+{
+    100 * frames * format.interval()
+}
+
+/// The pulses of frames, one after the other, from a start on, in microseconds. The first frame
+/// carries the moment.
+pub(crate) fn pulses_of(
+    alloc: Global,
+    format: Format,
+    start: u64,
+    frames: u64,
+    moment: Moment,
+    control: u64,
+) -> Result<Gap<Pulse>, AllocError>
+    requires few { frames ≤ 10000 }
+    requires within { frames_end format start frames ≤ 2 ^ 40 }
+    requires starts { IsTrue (starts_in format moment) }
+    requires controls { control < 2 ^ control_count_of format }
+    ensures { IfOk result (λ g. g.items ≡ frames_pulses format start frames moment control) }
+{
+    let mut pulses = Gap::new(alloc);
+    pulses.reserve(100 * frames as usize)?;
+    for k in 0..frames {
+        let elements = encode(format, &moment.fields(format, k, control));
+        put_frame(&mut pulses, format, start, k, &elements);
+    }
+    Ok(pulses)
+}
+
+/// Adds frame `k`, from 0, after the pulses. Frame 0 begins at a start, in microseconds.
+fn put_frame(pulses: &mut Gap<Pulse>, format: Format, start: u64, k: u64, elements: &[Element; 100])
+    requires last { pulses.old.place ≡ length pulses.old.items }
+    requires room { length pulses.old.items + 100 ≤ pulses.old.capacity }
+    requires few { k ≤ 10000 }
+    requires within { index_point format start k 100 ≤ 2 ^ 40 }
+    ensures { pulses.new ≡ gap_view
+        (pulses.old.items ++ frame_pulses format start k elements.now)
+        (pulses.old.place + 100) pulses.old.capacity }
+{
+    let interval = format.interval();
+    for element in 0..100 {
+        let rise = start + (100 * k + element as u64) * interval;
+        let width = nominal(format, elements[element]);
+        pulses.put(Pulse {
+            rise,
+            fall: rise + width,
+        });
+    }
+}

@@ -1,0 +1,121 @@
+//! A session is opened from a dump, with the journal that it carries.
+
+ghost use Rattle.std.specs.Prelude.{◌≡◌, ◌≤◌, ◌^◌, Err, IfOk, IfErr, IfSome, IsTrue, length};
+ghost use Rattle.irig_codes.specs.Format.{is_permitted};
+ghost use Rattle.irig_saved.specs.Faults.{IsFault, ReachesSteps};
+ghost use Rattle.irig_saved.specs.SavedText.{saved_lines};
+ghost use Rattle.irig_vcd.specs.Answer.{name_of};
+ghost use Rattle.irig_vcd.specs.Changes.{IsStill};
+ghost use Rattle.irig_vcd.specs.Declarations.{declarations_of};
+ghost use Rattle.irig_vcd.specs.Dump.{changes_of};
+ghost use Rattle.irig_vcd.specs.Parts.{dump_parts};
+ghost use Rattle.irig_vcd.specs.Words.{words_of};
+ghost use Rattle.irig_vcd.specs.declared.fault.VcdFault.{VcdFault};
+ghost use Rattle.irig_vcd.specs.declared.fault.VcdFault.TheVariants.{OutOfMemory};
+ghost use Rattle.irig_edit.specs.Opened.Opened.{IsAccepted, IsLineAtFault, state_of};
+ghost use Rattle.irig_edit.specs.Opened.Openings.{ArePartsOf, IsBad, IsOpened, IsTextOf};
+ghost use Rattle.irig_edit.specs.Opened.Openings.{IsUnopened};
+ghost use Rattle.irig_edit.specs.Opened.Openings.{MayBeShort};
+
+use crate::opened::head::start;
+use crate::session::session::Session;
+use irig_codes::Format;
+use irig_saved::{Fault, Saved, parse};
+use irig_vcd::{Recording, VcdFault, read_parts};
+use std::alloc::Global;
+
+impl Session {
+    /// The session of a dump's wire, as `irig_vcd::read` takes it. A dump without a journal opens
+    /// in this format, as `open` does; else format, marks, cursor, past and future are those of the
+    /// journal. The bytes are dropped before the session takes its memory.
+    ///
+    /// A fault of the dump; V13 with the number of the line at fault of the journal, from 1.
+    pub fn open_dump(
+        alloc: Global,
+        bytes: Vec<u8>,
+        wire: Option<&[u8]>,
+        format: Format,
+    ) -> Result<Session, VcdFault>
+        requires short { length bytes.items ≤ 2 ^ 28 }
+        ensures opened { IfOk result (λ s. IsOpened (name_of wire.entry) bytes.items format s) }
+        ensures heading { (e : VcdFault)
+            → declarations_of (name_of wire.entry) (words_of bytes.items) ≡ Err e
+            → result ≡ Err e }
+        ensures fault { IfErr result (λ e. IsUnopened (name_of wire.entry) bytes.items e) }
+        ensures memory { IsStill (changes_of (name_of wire.entry) bytes.items)
+            → result ≡ Err OutOfMemory → MayBeShort (dump_parts (name_of wire.entry) bytes.items) }
+    {
+        match parts_of(alloc, bytes, wire) {
+            Ok((recording, journal)) => match journal {
+                Some(saved) => session_of(alloc, recording, saved),
+                None => match Session::open(alloc, recording, format) {
+                    Ok(session) => Ok(session),
+                    Err(_) => Err(VcdFault::OutOfMemory),
+                },
+            },
+            Err(fault) => Err(fault),
+        }
+    }
+}
+
+/// The recording of a dump, and the journal that it carries. None of its steps was tried.
+fn parts_of(
+    alloc: Global,
+    bytes: Vec<u8>,
+    wire: Option<&[u8]>,
+) -> Result<(Recording, Option<Saved>), VcdFault>
+    requires short { length bytes.items ≤ 2 ^ 28 }
+    ensures parts { IfOk result (λ p. ArePartsOf (name_of wire.entry) bytes.items p.0 p.1) }
+    ensures lines { IfOk result (λ p. IfSome p.1 (λ saved. length (saved_lines saved) ≤ 2 ^ 28)) }
+    ensures heading { (e : VcdFault)
+        → declarations_of (name_of wire.entry) (words_of bytes.items) ≡ Err e → result ≡ Err e }
+    ensures fault { IfErr result (λ e. IsUnopened (name_of wire.entry) bytes.items e) }
+    ensures memory { IsStill (changes_of (name_of wire.entry) bytes.items)
+        → result ≡ Err OutOfMemory → MayBeShort (dump_parts (name_of wire.entry) bytes.items) }
+{
+    match read_parts(alloc, bytes.as_slice(), wire) {
+        Ok((recording, journal)) => match journal {
+            None => Ok((recording, None)),
+            Some(text) => match journal_of(alloc, text) {
+                Ok(saved) => Ok((recording, Some(saved))),
+                Err(fault) => Err(fault),
+            },
+        },
+        Err(fault) => Err(fault),
+    }
+}
+
+/// The journal of this text.
+fn journal_of(alloc: Global, text: &[u8]) -> Result<Saved, VcdFault>
+    requires short { length text.now ≤ 2 ^ 28 }
+    ensures saved { IfOk result (IsTextOf text.now) }
+    ensures lines { IfOk result (λ saved. length (saved_lines saved) ≤ 2 ^ 28) }
+    ensures fault { IfErr result (IsBad (λ line. IsFault line text.now)) }
+    ensures memory { result ≡ Err OutOfMemory → ReachesSteps text.now }
+{
+    match parse(alloc, text) {
+        Ok(saved) => Ok(saved),
+        Err(Fault::Line(line)) => Err(VcdFault::BadJournal(line)),
+        Err(Fault::Memory) => Err(VcdFault::OutOfMemory),
+    }
+}
+
+/// The session of a recording with a journal.
+fn session_of(alloc: Global, recording: Recording, saved: Saved) -> Result<Session, VcdFault>
+    requires short { length (saved_lines saved) ≤ 2 ^ 28 }
+    ensures opened { IfOk result (IsAccepted (state_of recording saved) saved) }
+    ensures fault { IfErr result (IsBad (IsLineAtFault (state_of recording saved) saved)) }
+    ensures memory { result ≡ Err OutOfMemory
+        → IsTrue (is_permitted saved.kind saved.expression) }
+{
+    let (mut walk, marked) = match start(alloc, recording, &saved) {
+        Ok(start) => start,
+        Err(fault) => return Err(fault),
+    };
+    let Saved { past, future, .. } = saved;
+    let line = marked + past.lines() + 1;
+    match walk.follow_both(alloc, past, future, line) {
+        Ok(()) => Ok(walk.into_session(alloc)),
+        Err(fault) => Err(fault),
+    }
+}

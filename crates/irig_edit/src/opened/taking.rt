@@ -1,0 +1,148 @@
+//! The steps of a saved journal, taken one after another.
+
+ghost use Rattle.std.specs.Prelude.{◌≡◌, ◌≤◌, ◌<◌, ◌^◌, ℕ, List, [], IfErr, IfOk, MatchResult};
+ghost use Rattle.std.specs.Prelude.{OnOk, length, reverse};
+ghost use Rattle.irig_journal.specs.declared.step.Step.{Step};
+ghost use Rattle.irig_journal.specs.History.{History, step};
+ghost use Rattle.irig_saved.specs.SavedText.{steps_lines};
+ghost use Rattle.irig_edit.specs.Changes.Delta.{Delta, Fits, turned};
+ghost use Rattle.irig_edit.specs.Changes.Held.{delta_of};
+ghost use Rattle.irig_edit.specs.Opened.Opened.{IsStepAtFault};
+ghost use Rattle.irig_edit.specs.Opened.Openings.{IsBad};
+ghost use Rattle.irig_edit.specs.Saved.Saved.{saved_step};
+ghost use Rattle.irig_edit.specs.State.State.{IsState, State};
+ghost use Rattle.irig_edit.specs.Opened.Stops.{HasTaken, IsStop, Told};
+ghost use Rattle.irig_edit.specs.Opened.Taken.{AreTaken, CanTake, CanTakeAll};
+ghost use Rattle.irig_edit.specs.Opened.Walk.{ahead_of, gone_along, gone_on};
+
+use crate::changes::change::Change;
+use crate::opened::naming::change_named;
+use crate::opened::walk::Walk;
+use irig_saved::Steps;
+use irig_vcd::VcdFault;
+use std::alloc::{AllocError, Global};
+
+/// Why steps were not all taken.
+#[derive(Drop)]
+pub(crate) enum Stop {
+    /// One can't be: this many lines of steps are before it, and this many up to its end.
+    At { before: usize, behind: usize },
+    /// Memory ran out.
+    Memory,
+}
+
+impl Walk {
+    /// Takes steps, the last first, and goes back: they are ahead then.
+    fn follow(&mut self, alloc: Global, steps: Steps) -> Result<(), Stop>
+        requires ahead { self.old.future ≡ [] }
+        requires lines { length (steps_lines (reverse steps)) < 2 ^ 63 }
+        ensures { MatchResult result
+            (λ _. (ds : List (Step Delta)) × (AreTaken self.old.state (reverse steps) ds
+            × (self.new ≡ ahead_of self.old ds)))
+            (λ stop. IsStop self.old.state (reverse steps) stop) }
+    {
+        let _len = self.len();
+        let count = steps.len();
+        self.take_all(alloc, steps)?;
+        self.go_back(count);
+        Ok(())
+    }
+
+    /// Takes the steps back of a journal, and goes back; then the steps forward, and goes back.
+    /// The line that counts the steps forward has this number, from 1.
+    pub(crate) fn follow_both(
+        &mut self,
+        alloc: Global,
+        past: Steps,
+        mut future: Steps,
+        line: usize,
+    ) -> Result<(), VcdFault>
+        requires start { (self.old.past ≡ []) × (self.old.future ≡ []) }
+        requires line { line ≤ 2 ^ 29 }
+        requires lines { (length (steps_lines past) < 2 ^ 63)
+            × (length (steps_lines future) < 2 ^ 63) }
+        ensures taken { OnOk result (HasTaken self.old past future self.new) }
+        ensures fault { IfErr result (IsBad (IsStepAtFault self.old.state past future line)) }
+    {
+        match self.follow(alloc, past) {
+            Ok(()) => {}
+            Err(Stop::At { behind, .. }) => {
+                return Err(VcdFault::BadJournal(line.saturating_sub(behind)));
+            }
+            Err(Stop::Memory) => return Err(VcdFault::OutOfMemory),
+        }
+        self.turn_round();
+        future.reverse();
+        match self.follow(alloc, future) {
+            Ok(()) => Ok(()),
+            Err(Stop::At { before, .. }) => Err(VcdFault::BadJournal(line + 1 + before)),
+            Err(Stop::Memory) => Err(VcdFault::OutOfMemory),
+        }
+    }
+
+    /// Takes steps, the last first.
+    fn take_all(&mut self, alloc: Global, mut steps: Steps) -> Result<(), Stop>
+        requires lines { length (steps_lines (reverse steps)) < 2 ^ 63 }
+        ensures { MatchResult result
+            (λ _. (ds : List (Step Delta)) × (AreTaken self.old.state (reverse steps) ds
+            × (self.new ≡ gone_along self.old ds)))
+            (λ stop. IsStop self.old.state (reverse steps) stop) }
+    {
+        let mut before = 0;
+        while let Some(step) = steps.pop() {
+            let behind = before + step.lines();
+            match self.take(alloc, step) {
+                Ok(true) => before = behind,
+                Ok(false) => return Err(Stop::At { before, behind }),
+                Err(_) => return Err(Stop::Memory),
+            }
+        }
+        Ok(())
+    }
+
+    /// Takes this many steps back.
+    fn go_back(&mut self, count: usize)
+        ensures { (h : History State Delta) → (ds : List (Step Delta))
+            → IsState h.state → CanTakeAll h.state ds → self.old ≡ gone_along h ds
+            → h.future ≡ [] → length ds ≡ count
+            → self.new ≡ ahead_of h ds }
+    {
+        for _ in 0..count {
+            self.undo();
+        }
+    }
+
+    /// Takes a step, and returns whether it can be taken.
+    fn take(&mut self, alloc: Global, step: irig_saved::Step) -> Result<bool, AllocError>
+        ensures { IfOk result (λ taken. Told taken
+            ((d : Step Delta) × ((step ≡ saved_step d) × (CanTake self.old.state d
+            × (self.new ≡ gone_on self.old d))))
+            ((d : Step Delta) → step ≡ saved_step d → CanTake self.old.state d → ⊥)) }
+    {
+        let irig_saved::Step { cursor, change } = step;
+        match change_named(alloc, change)? {
+            None => Ok(false),
+            Some(change) => self.make(alloc, change, cursor),
+        }
+    }
+
+    /// Makes a change that leads to a cursor, and returns whether both can be.
+    fn make(&mut self, alloc: Global, mut change: Change, cursor: u64) -> Result<bool, AllocError>
+        ensures { IfOk result (λ made. Told made
+            ((Fits self.old.state (delta_of change)
+            × (cursor ≤ length (turned self.old.state (delta_of change)).0.pulses))
+            × (self.new ≡ gone_on self.old (step (delta_of change) cursor)))
+            (Fits self.old.state (delta_of change)
+            → cursor ≤ length (turned self.old.state (delta_of change)).0.pulses → ⊥)) }
+    {
+        if !self.can_make(alloc, &mut change)? {
+            return Ok(false);
+        }
+        self.change(change)?;
+        if cursor > self.len() as u64 {
+            return Ok(false);
+        }
+        self.go(cursor as usize);
+        Ok(true)
+    }
+}

@@ -1,0 +1,134 @@
+//! A state on its way along steps.
+
+ghost use Rattle.std.specs.Prelude.{◌≡◌, ◌≢◌, ◌≤◌, ◌↔◌, IfOk, IsTrue, Some, None, OnOk, [], length};
+ghost use Rattle.irig_journal.specs.Groups.{over};
+ghost use Rattle.irig_journal.specs.History.{stepped_back, turned_round};
+ghost use Rattle.irig_edit.specs.Changes.Delta.{Fits, turned};
+ghost use Rattle.irig_edit.specs.Changes.Held.{delta_of};
+ghost use Rattle.irig_edit.specs.Session.Keeping.{machine};
+ghost use Rattle.irig_edit.specs.Session.Session.{session_view};
+ghost use Rattle.irig_edit.specs.State.State.{IsState};
+ghost use Rattle.irig_edit.specs.Opened.Taken.{CanTakeAll};
+ghost use Rattle.irig_edit.specs.Opened.Walk.{changed, walk};
+
+use crate::changes::change::Change;
+use crate::session::session::Session;
+use crate::state::present::Present;
+use irig_journal::Journal;
+use std::alloc::{AllocError, Global};
+use std::marker::Model;
+
+/// A state with its cursor, and the steps that lead back and forward from it. No group is open.
+///
+/// If a call runs out of memory, nothing is said of what it leaves.
+#[derive(Drop)]
+pub(crate) struct Walk {
+    pub(crate) present: Present,
+    pub(crate) cursor: usize,
+    pub(crate) journal: Journal<Present>,
+}
+
+impl Model for Walk {
+    ghost use Rattle.std.specs.Prelude.{◌≡◌, None};
+    ghost use Rattle.irig_journal.specs.History.{History};
+    ghost use Rattle.irig_journal.specs.Journal.{history_of};
+    ghost use Rattle.irig_edit.specs.Changes.Delta.{Delta};
+    ghost use Rattle.irig_edit.specs.Changes.Held.{delta_of};
+    ghost use Rattle.irig_edit.specs.Changes.Ready.{StepsAreReady};
+    ghost use Rattle.irig_edit.specs.State.State.{State};
+
+    ghost Value = { History State Delta };
+
+    ghost view = { λ w. history_of delta_of w.present.state w.cursor w.journal };
+
+    ghost invariant = { λ w. (w.journal.floor ≡ None) × StepsAreReady w.present w.journal };
+}
+
+impl Walk {
+    /// At a state with this cursor, with no steps.
+    pub(crate) fn new(alloc: Global, present: Present, cursor: usize) -> Walk
+        ensures { result ≡ walk present.state cursor [] [] }
+    {
+        Walk {
+            present,
+            cursor,
+            journal: Journal::new(alloc),
+        }
+    }
+
+    /// How many pulses the state has.
+    pub(crate) fn len(&self) -> usize
+        ensures len { result ≡ length self.now.state.pulses }
+        ensures state { IsState self.now.state }
+    {
+        self.present.len()
+    }
+
+    /// Whether a change can be made. If not, the state may be another, so the steps are dropped.
+    pub(crate) fn can_make(
+        &mut self,
+        alloc: Global,
+        change: &mut Change,
+    ) -> Result<bool, AllocError>
+        ensures can { IfOk result (λ can. IsTrue can ↔ Fits self.old.state (delta_of change.old)) }
+        ensures same { IfOk result (λ can. IsTrue can → (self.new ≡ self.old)
+            × (delta_of change.new ≡ delta_of change.old)) }
+    {
+        match self.present.can_make(change) {
+            Ok(true) => Ok(true),
+            other => {
+                self.journal = Journal::new(alloc);
+                other
+            }
+        }
+    }
+
+    /// Makes a change, and stays at its cursor.
+    pub(crate) fn change(&mut self, change: Change) -> Result<(), AllocError>
+        requires { Fits self.old.state (delta_of change) }
+        ensures { OnOk result (self.new ≡ changed self.old (delta_of change)) }
+    {
+        match self.journal.record(&mut self.present, change, self.cursor) {
+            Ok(()) => Ok(()),
+            Err(_) => Err(AllocError),
+        }
+    }
+
+    /// Moves the cursor to a place.
+    pub(crate) fn go(&mut self, cursor: usize)
+        ensures { self.new ≡ walk self.old.state cursor self.old.past self.old.future }
+    {
+        self.cursor = cursor;
+    }
+
+    /// Undoes the nearest step, if there is one. This takes no memory.
+    pub(crate) fn undo(&mut self)
+        ensures { self.old.past ≢ [] → stepped_back turned self.old ≡ Some self.new }
+    {
+        // It is refused only if there is no step, as no group is open.
+        let _undone = self.journal.undo(&mut self.present, &mut self.cursor);
+    }
+
+    /// Swaps past and future.
+    pub(crate) fn turn_round(&mut self)
+        ensures { self.new ≡ turned_round self.old }
+    {
+        self.journal.turn_round();
+    }
+
+    /// The session, which shows no looks yet.
+    pub(crate) fn into_session(self, alloc: Global) -> Session
+        requires cursor { self.cursor ≤ length self.state.pulses }
+        requires steps { CanTakeAll self.state self.past × CanTakeAll self.state self.future }
+        ensures { result ≡ session_view (over None (machine self)) result.looks 0 }
+    {
+        let _len = self.len();
+        Session {
+            alloc,
+            present: self.present,
+            cursor: self.cursor,
+            journal: self.journal,
+            last_looks: 0,
+        }
+    }
+}

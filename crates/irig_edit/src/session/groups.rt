@@ -1,0 +1,58 @@
+//! Groups: several edits that are one step.
+
+ghost use Rattle.std.specs.Prelude.{IsErrOf};
+ghost use Rattle.irig_edit.specs.Session.Calls.Call.{Begin, End, Abort};
+ghost use Rattle.irig_edit.specs.Session.Session.{HasMade, LooksAfter, Steps};
+
+use crate::session::refusal::Refusal;
+use crate::session::session::Session;
+use irig_journal::JournalFault;
+
+impl Session {
+    /// Opens a group: what is edited up to its end becomes one step. This takes no memory.
+    ///
+    /// E12 if a group is open.
+    pub fn begin(&mut self) -> Result<(), Refusal>
+        ensures step { Steps Begin self.old result self.new }
+        ensures looks { LooksAfter Begin self.old result self.new }
+    {
+        match self.journal.begin(self.cursor) {
+            Ok(()) => Ok(()),
+            Err(_) => Err(Refusal::GroupOpen),
+        }
+    }
+
+    /// Closes the open group: its steps become one. What was undone can still be redone.
+    /// This takes memory only if there are two steps or more: a list of their changes.
+    ///
+    /// E13 if no group is open.
+    pub fn end(&mut self) -> Result<(), Refusal>
+        ensures step { Steps End self.old result self.new }
+        ensures looks { LooksAfter End self.old result self.new }
+        ensures memory { IsErrOf result Refusal.OutOfMemory → HasMade 2 self.old }
+    {
+        match self.journal.end(&self.present) {
+            Ok(()) => Ok(()),
+            Err(JournalFault::NoGroup) => Err(Refusal::NoGroup),
+            Err(_) => Err(Refusal::OutOfMemory),
+        }
+    }
+
+    /// Closes the open group and undoes its steps for good: the present is that of its begin, with
+    /// the cursor of that time, and nothing is left to redo. This takes no memory.
+    ///
+    /// E13 if no group is open.
+    pub fn abort(&mut self) -> Result<(), Refusal>
+        ensures step { Steps Abort self.old result self.new }
+        ensures looks { LooksAfter Abort self.old result self.new }
+    {
+        let before = self.present.looks();
+        match self.journal.abort(&mut self.present, &mut self.cursor) {
+            Ok(()) => {
+                self.last_looks = self.present.looks_since(before);
+                Ok(())
+            }
+            Err(_) => Err(Refusal::NoGroup),
+        }
+    }
+}

@@ -1,0 +1,211 @@
+//! A track under edit.
+
+ghost use Rattle.std.specs.Prelude.{◌≡◌, ◌≤◌, ◌<◌, ◌-◌, length, IfOk, OnOk, OnErr, IsErrOf, None};
+ghost use Rattle.std.specs.Prelude.{Ok};
+ghost use Rattle.irig_journal.specs.Groups.{recorded_over};
+ghost use Rattle.irig_edit.specs.State.State.{recording_of, with_pulses};
+ghost use Rattle.irig_edit.specs.Session.Machine.{NoMarks};
+ghost use Rattle.irig_edit.specs.Session.Session.{LooksAfter, LooksWithin, Steps, grouped_in};
+ghost use Rattle.irig_edit.specs.Session.Session.{started};
+ghost use Rattle.irig_edit.specs.Session.Kept.{exchange, kept};
+ghost use Rattle.irig_edit.specs.Edits.Exchanges.{exchange_by};
+ghost use Rattle.irig_edit.specs.Session.Keeping.{exchange_of};
+ghost use Rattle.irig_edit.specs.Edits.Becoming.{Becomes, judgement_of};
+ghost use Rattle.irig_edit.specs.Session.Calls.{Edit};
+ghost use Rattle.irig_edit.specs.Changes.Delta.{Fits, turned};
+ghost use Rattle.irig_edit.specs.Changes.Delta.Delta.{Alone};
+ghost use Rattle.irig_edit.specs.Changes.Held.{delta_of};
+ghost use Rattle.irig_edit.specs.Session.Calls.Call.{Make, Undo, Redo, Go};
+ghost use Rattle.irig_edit.specs.Session.Calls.Edit.{SetFormat, SetMark};
+ghost use Rattle.irig_edit.specs.Changes.Single.SingleDelta.{Spliced};
+ghost use Rattle.irig_track.specs.Splices.{spliced, CanSplice};
+
+use crate::changes::change::Change;
+use crate::changes::single::Single;
+use crate::changes::splice::Splice;
+use crate::session::refusal::Refusal;
+use crate::state::present::Present;
+use irig_codes::Format;
+use irig_gap::Gap;
+use irig_journal::{Journal, JournalFault};
+use irig_track::Pulse;
+use irig_vcd::Recording;
+use std::alloc::{AllocError, Global};
+use std::marker::Model;
+
+/// A track with its format, marks and cursor, and the steps that can be undone and redone.
+///
+/// Pulses count from 1, and the cursor is the number of a pulse, or 0 before the first. Times are
+/// in microseconds. A refused call changes nothing.
+#[derive(Drop)]
+pub struct Session {
+    pub(crate) alloc: Global,
+    pub(crate) present: Present,
+    pub(crate) cursor: usize,
+    pub(crate) journal: Journal<Present>,
+    pub(crate) last_looks: u64,
+}
+
+impl Model for Session {
+    ghost use Rattle.irig_edit.specs.Session.Keeping.{grouped_at};
+    ghost use Rattle.irig_edit.specs.Session.Session.{SessionView, session_view};
+    ghost use Rattle.irig_edit.specs.Session.Limits.{IsGrouped};
+    ghost use Rattle.irig_edit.specs.Changes.Ready.{StepsAreReady};
+
+    ghost Value = { SessionView };
+
+    ghost view = { λ s.
+        session_view (grouped_at s.present.state s.cursor s.journal) s.present.index.looks
+        s.last_looks };
+
+    ghost invariant = { λ s. IsGrouped (grouped_at s.present.state s.cursor s.journal)
+        × StepsAreReady s.present s.journal };
+}
+
+impl Session {
+    /// The session of a recording in a format. The cursor is at the last pulse, no mark is
+    /// set, and no step can be undone.
+    pub fn open(alloc: Global, recording: Recording, format: Format) -> Result<Session, AllocError>
+        ensures { IfOk result (λ s. (s ≡ started s.looks s.present.state)
+            × (recording_of s.present.state ≡ recording) × (s.present.state.format ≡ format)
+            × NoMarks s.present.state.marks) }
+    {
+        let present = Present::open(alloc, recording, format)?;
+        let cursor = present.len();
+        Ok(Session {
+            alloc,
+            present,
+            cursor,
+            journal: Journal::new(alloc),
+            last_looks: 0,
+        })
+    }
+
+    /// Sets the format.
+    pub fn format(&mut self, format: Format) -> Result<(), Refusal>
+        ensures step { Steps (Make (SetFormat format)) self.old result self.new }
+        ensures looks { LooksAfter (Make (SetFormat format)) self.old result self.new }
+    {
+        let cursor = self.cursor;
+        self.change(Change::One(Single::SetFormat(format)), cursor)
+    }
+
+    /// Sets the mark of a letter a to z to a time in microseconds, or clears it.
+    pub fn mark(&mut self, letter: u8, time: Option<u64>) -> Result<(), Refusal>
+        requires { (97 ≤ letter) × (letter ≤ 122) }
+        ensures step { Steps (Make (SetMark (letter - 97) time)) self.old result self.new }
+        ensures looks { LooksAfter (Make (SetMark (letter - 97) time)) self.old result self.new }
+    {
+        if !self.present.may_mark(time) {
+            return Err(Refusal::OutOfRange);
+        }
+        let letter = (letter - b'a') as usize;
+        let cursor = self.cursor;
+        self.change(Change::One(Single::SetMark { letter, time }), cursor)
+    }
+
+    /// Undoes the newest step. This takes no memory.
+    ///
+    /// E9 if there is none; E14 if it was made before the open group was begun.
+    pub fn undo(&mut self) -> Result<(), Refusal>
+        ensures step { Steps Undo self.old result self.new }
+        ensures looks { LooksAfter Undo self.old result self.new }
+    {
+        let before = self.present.looks();
+        match self.journal.undo(&mut self.present, &mut self.cursor) {
+            Ok(()) => {
+                self.last_looks = self.present.looks_since(before);
+                Ok(())
+            }
+            Err(JournalFault::NothingToUndo) => Err(Refusal::NothingToUndo),
+            Err(_) => Err(Refusal::GroupFloor),
+        }
+    }
+
+    /// Redoes the step that was undone last. This takes no memory.
+    ///
+    /// E10 if there is none.
+    pub fn redo(&mut self) -> Result<(), Refusal>
+        ensures step { Steps Redo self.old result self.new }
+        ensures looks { LooksAfter Redo self.old result self.new }
+    {
+        let before = self.present.looks();
+        match self.journal.redo(&mut self.present, &mut self.cursor) {
+            Ok(()) => {
+                self.last_looks = self.present.looks_since(before);
+                Ok(())
+            }
+            Err(_) => Err(Refusal::NothingToRedo),
+        }
+    }
+
+    /// Moves the cursor to a pulse, from 1. This takes no memory, and is no step.
+    ///
+    /// E2 unless the pulse is there.
+    pub fn go(&mut self, pulse: usize) -> Result<(), Refusal>
+        ensures step { Steps (Go pulse) self.old result self.new }
+        ensures looks { LooksAfter (Go pulse) self.old result self.new }
+    {
+        if pulse == 0 || pulse > self.present.len() {
+            return Err(Refusal::NoPulse);
+        }
+        self.cursor = pulse;
+        Ok(())
+    }
+
+    /// Replaces `count` pulses from `at` on by the pulses of `put`, as a step.
+    pub(crate) fn splice(
+        &mut self,
+        at: usize,
+        count: usize,
+        put: Gap<Pulse>,
+        cursor: usize,
+    ) -> Result<(), Refusal>
+        requires can { CanSplice self.old.present.state.micros at count put.items
+            self.old.present.state.pulses }
+        requires cursor { cursor ≤
+            length (spliced at count put.items self.old.present.state.pulses) }
+        ensures step { (edit : Edit) → judgement_of edit self.old.present.state ≡ None
+            → Becomes edit self.old.present.state (with_pulses
+            (spliced at count put.items self.old.present.state.pulses)
+            self.old.present.state) cursor
+            → exchange count (length put.items) (turned self.old.present.state
+            (Alone (Spliced at count put.items))).1 (Alone (Spliced at count put.items))
+            ≡ exchange_by edit self.old.present.state
+            → Steps (Make edit) self.old result self.new }
+        ensures looks { LooksWithin self.new.present.made.forth self.old result self.new }
+    {
+        let splice = Splice::new(self.alloc, at, count, put);
+        self.change(Change::One(Single::Splice(splice)), cursor)
+    }
+
+    /// Makes a change, as a step that leaves the cursor at a place. The memory that its undo and
+    /// its redo take is asked for here.
+    pub(crate) fn change(&mut self, change: Change, cursor: usize) -> Result<(), Refusal>
+        requires fits { Fits self.old.present.state (delta_of change) }
+        requires cursor { cursor ≤
+            length (turned self.old.present.state (delta_of change)).0.pulses }
+        ensures step { (edit : Edit) → judgement_of edit self.old.present.state ≡ None
+            → Becomes edit self.old.present.state
+            (turned self.old.present.state (delta_of change)).0 cursor
+            → exchange_of self.old.present.state (delta_of change)
+            ≡ exchange_by edit self.old.present.state
+            → Steps (Make edit) self.old result self.new }
+        ensures looks { LooksWithin self.new.present.made.forth self.old result self.new }
+        ensures ok { OnOk result (grouped_in self.new ≡ recorded_over (grouped_in self.old)
+            (kept (turned self.old.present.state (delta_of change)).0 cursor
+            (exchange_of self.old.present.state (delta_of change)))) }
+        ensures err { OnErr result ((self.new ≡ self.old) × IsErrOf result Refusal.OutOfMemory) }
+    {
+        let before = self.present.looks();
+        let place = self.cursor;
+        match self.journal.record(&mut self.present, change, place) {
+            Ok(()) => {
+                self.cursor = cursor;
+                self.last_looks = self.present.looks_since(before);
+                Ok(())
+            }
+            Err(_) => Err(Refusal::OutOfMemory),
+        }
+    }
+}

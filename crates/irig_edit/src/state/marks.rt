@@ -1,0 +1,102 @@
+//! Marks, and times that are moved.
+
+ghost use Rattle.std.specs.Prelude.{◌≡◌, ◌≤◌, ◌^◌, ◌↔◌, IsTrue, map};
+ghost use Rattle.std.specs.List.{AllByRecursion};
+ghost use Rattle.irig_edit.specs.State.Marks.{AllMayMove, MayMove, marks_moved, moved_if};
+ghost use Rattle.irig_edit.specs.State.Marks.{moved_time};
+ghost use Rattle.irig_edit.specs.State.Marks.{stands};
+ghost use Rattle.irig_edit.specs.State.State.{IsMark};
+
+/// The marks a to z: each unset, or a time in microseconds.
+pub(crate) type Marks = [Option<u64>; 26];
+
+/// For each letter a to z whether it is named.
+pub(crate) type Letters = [bool; 26];
+
+/// A time moved by `by`, both in microseconds: 0 if it would come before 0.
+pub(crate) fn moved_time(time: u64, by: i64) -> u64
+    requires { time ≤ 2 ^ 40 }
+    ensures { result ≡ moved_time by time }
+{
+    if by < 0 {
+        time.saturating_sub(by.unsigned_abs())
+    } else {
+        time + by.unsigned_abs()
+    }
+}
+
+/// A mark moved by `by`, in microseconds, if it is named.
+fn moved_if(mark: Option<u64>, named: bool, by: i64) -> Option<u64>
+    requires { IsMark (2 ^ 40) mark }
+    ensures { result ≡ moved_if by named mark }
+{
+    match mark {
+        Some(time) if named => Some(moved_time(time, by)),
+        unmoved => unmoved,
+    }
+}
+
+/// Moves the marks of the letters named by `by`, in microseconds.
+pub(crate) fn move_marks(marks: &mut Marks, letters: &Letters, by: i64)
+    requires { AllByRecursion (IsMark (2 ^ 40)) marks.old }
+    ensures { marks.new ≡ marks_moved by letters.now marks.old }
+{
+    for letter in 0..26 {
+        marks[letter] = moved_if(marks[letter], letters[letter], by);
+    }
+}
+
+/// Whether a mark is from `low` to `high`, in microseconds.
+fn stands(mark: Option<u64>, low: u64, high: u64) -> bool
+    ensures { result ≡ stands low high mark }
+{
+    match mark {
+        None => false,
+        Some(time) => low <= time && time <= high,
+    }
+}
+
+/// The letters whose marks are from `low` to `high`, in microseconds.
+pub(crate) fn letters_from(marks: &Marks, low: u64, high: u64) -> Letters
+    ensures { result ≡ map (stands low high) marks.now }
+{
+    let mut letters = [false; 26];
+    for letter in 0..26 {
+        letters[letter] = stands(marks[letter], low, high);
+    }
+    letters
+}
+
+/// Whether a mark is set, and moved by `by` stays from 0 to the length, all in microseconds.
+fn may_move(mark: Option<u64>, by: i64, micros: u64) -> bool
+    requires within { IsMark micros mark }
+    requires short { micros ≤ 2 ^ 40 }
+    ensures { IsTrue result ↔ MayMove micros by mark }
+{
+    let distance = by.unsigned_abs();
+    match mark {
+        None => false,
+        Some(time) => {
+            if by < 0 {
+                distance <= time
+            } else {
+                distance <= micros - time
+            }
+        }
+    }
+}
+
+/// Whether each mark named may be moved by `by`: it is set, and stays from 0 to the length, all in
+/// microseconds.
+pub(crate) fn all_may_move(marks: &Marks, letters: &Letters, by: i64, micros: u64) -> bool
+    requires within { AllByRecursion (IsMark micros) marks.now }
+    requires short { micros ≤ 2 ^ 40 }
+    ensures { IsTrue result ↔ AllMayMove micros by letters.now marks.now }
+{
+    for letter in 0..26 {
+        if letters[letter] && !may_move(marks[letter], by, micros) {
+            return false;
+        }
+    }
+    true
+}

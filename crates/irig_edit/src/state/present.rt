@@ -1,0 +1,199 @@
+//! The present state, with its frames.
+
+ghost use Rattle.std.specs.Prelude.{◌≡◌, ◌<◌, ◌≤◌, ◌+◌, ◌-◌, ◌*◌, ◌^◌, length, map, ◌↔◌, IsTrue};
+ghost use Rattle.std.specs.Prelude.{IfOk, Some, slice_get};
+ghost use Rattle.irig_track.specs.Splices.{risen_by};
+ghost use Rattle.irig_vcd.specs.FileText.{file_text};
+ghost use Rattle.irig_edit.specs.Edits.Conditions.{is_touched};
+ghost use Rattle.irig_edit.specs.State.Marks.{stands};
+ghost use Rattle.irig_edit.specs.Edits.Edits.{pulse_of};
+ghost use Rattle.irig_edit.specs.Session.Machine.{NoMarks};
+ghost use Rattle.irig_edit.specs.State.State.{IsMark, IsState, frames_of, recording_of};
+
+use crate::state::marks::{Letters, Marks, letters_from};
+use irig_codes::Format;
+use irig_index::{Index, Record};
+use irig_track::{Pulse, Track, TrackText};
+use irig_vcd::Recording;
+use std::alloc::{AllocError, Global};
+use std::marker::Model;
+
+/// The present state, a track, a format and the marks a to z, and the frames of the track.
+#[derive(Drop)]
+pub struct Present {
+    pub(crate) track: Track,
+    pub(crate) format: Format,
+    pub(crate) marks: Marks,
+    pub(crate) index: Index,
+}
+
+impl Model for Present {
+    ghost use Rattle.std.specs.Prelude.{◌≡◌};
+    ghost use Rattle.irig_edit.specs.State.State.{IsState, frames_of, state};
+    ghost use Rattle.irig_edit.specs.State.Present.{PresentView, present_view};
+
+    ghost Value = { PresentView };
+
+    ghost view = { λ p.
+        present_view (state p.track.micros p.track.pulses p.format p.marks) p.track.spare p.index };
+
+    ghost invariant = { λ p. IsState (state p.track.micros p.track.pulses p.format p.marks)
+        × (p.index.records ≡ frames_of (state p.track.micros p.track.pulses p.format p.marks)) };
+}
+
+impl Present {
+    /// A recording in a format, with no mark set.
+    pub(crate) fn open(
+        alloc: Global,
+        recording: Recording,
+        format: Format,
+    ) -> Result<Present, AllocError>
+        ensures { IfOk result (λ p. (recording_of p.state ≡ recording)
+            × (p.state.format ≡ format) × NoMarks p.state.marks) }
+    {
+        let track = Track::new(alloc, recording)?;
+        let index = Index::build(alloc, &mut track.lens(), format)?;
+        Ok(Present {
+            track,
+            format,
+            marks: [None; 26],
+            index,
+        })
+    }
+
+    /// The text of the track's dump, in parts. It takes no memory.
+    pub(crate) fn text_parts(&self) -> TrackText<'_>
+        ensures { result ≡ file_text (recording_of self.now.state) }
+    {
+        self.track.text_parts()
+    }
+
+    /// How many bytes to ask for at first, for all of that text.
+    pub(crate) fn text_room(&self) -> usize
+        ensures { result ≡ 36 * length self.now.state.pulses + 4096 }
+    {
+        36 * self.len() + 4096
+    }
+}
+
+/// The track.
+impl Present {
+    /// How long the track is, in microseconds.
+    pub(crate) fn length(&self) -> u64
+        ensures length { result ≡ self.now.state.micros }
+        ensures state { IsState self.now.state }
+    {
+        self.track.length()
+    }
+
+    /// How many pulses there are.
+    pub(crate) fn len(&self) -> usize
+        ensures len { result ≡ length self.now.state.pulses }
+        ensures state { IsState self.now.state }
+    {
+        self.track.len()
+    }
+
+    /// How many more pulses the limit lets in.
+    pub(crate) fn room(&self) -> usize
+        ensures { result + length self.now.state.pulses ≡ 2 ^ 22 }
+    {
+        self.track.room()
+    }
+
+    /// How many pulses rise at or before a time, in microseconds.
+    pub(crate) fn find(&self, time: u64) -> usize
+        ensures count { result ≡ risen_by time self.now.state.pulses }
+        ensures within { result ≤ length self.now.state.pulses }
+        ensures state { IsState self.now.state }
+    {
+        Index::find(&mut self.track.lens(), time)
+    }
+
+    /// A pulse, from 1.
+    pub(crate) fn pulse(&self, number: usize) -> Pulse
+        requires first { 1 ≤ number }
+        requires last { number ≤ length self.now.state.pulses }
+        ensures there { slice_get self.now.state.pulses (number - 1) ≡ Some result }
+        ensures pulse { result ≡ pulse_of number self.now.state }
+        ensures short { (result.rise < result.fall) × (result.fall ≤ 2 ^ 40) }
+        ensures state { IsState self.now.state }
+    {
+        let _len = self.len();
+        self.track.pulse(number - 1)
+    }
+
+    /// Whether a pulse rises at or before `b` and falls at or after `a`, in microseconds.
+    pub(crate) fn is_touched(&self, a: u64, b: u64) -> bool
+        requires { a < b }
+        ensures { result ≡ is_touched a b self.now.state }
+    {
+        let risen = self.find(b);
+        risen > 0 && self.pulse(risen).fall >= a
+    }
+}
+
+/// Format, marks and frames.
+impl Present {
+    /// The format.
+    pub(crate) fn format(&self) -> Format
+        ensures { result ≡ self.now.state.format }
+    {
+        self.format
+    }
+
+    /// The mark of a letter, from 0.
+    pub(crate) fn mark(&self, letter: usize) -> Option<u64>
+        requires { letter < 26 }
+        ensures { slice_get self.now.state.marks letter ≡ Some result }
+    {
+        let mark = self.marks[letter];
+        mark
+    }
+
+    /// The letters whose marks are from `low` to `high`, in microseconds.
+    pub(crate) fn letters_from(&self, low: u64, high: u64) -> Letters
+        ensures { result ≡ map (stands low high) self.now.state.marks }
+    {
+        letters_from(&self.marks, low, high)
+    }
+
+    /// Whether a mark can be set to a time, in microseconds, or to none.
+    pub(crate) fn may_mark(&self, time: Option<u64>) -> bool
+        ensures { IsTrue result ↔ IsMark self.now.state.micros time }
+    {
+        match time {
+            None => true,
+            Some(time) => time <= self.track.length(),
+        }
+    }
+
+    /// How many frames the track has.
+    pub(crate) fn frames(&self) -> usize
+        ensures { result ≡ length (frames_of self.now.state) }
+    {
+        self.index.len()
+    }
+
+    /// A frame, from 0.
+    pub(crate) fn frame(&self, number: usize) -> Record
+        requires { number < length (frames_of self.now.state) }
+        ensures { slice_get (frames_of self.now.state) number ≡ Some result }
+    {
+        self.index.record(number)
+    }
+
+    /// How many looks at pulses its index has counted.
+    pub(crate) fn looks(&self) -> u64
+        ensures { result ≡ self.now.index.looks }
+    {
+        self.index.looks()
+    }
+
+    /// How many more looks it has counted than `before`.
+    pub(crate) fn looks_since(&self, before: u64) -> u64
+        ensures { result ≡ self.now.index.looks - before }
+    {
+        self.index.looks().saturating_sub(before)
+    }
+}
