@@ -1,6 +1,6 @@
 //! What a text in parts is.
 
-ghost use Rattle.std.specs.Prelude.{◌≡◌, ◌++◌, [], true, ℕ, List, IfOk, OnOk};
+ghost use Rattle.std.specs.Prelude.{◌≡◌, ◌≤◌, ◌++◌, [], false, true, ℕ, List, IfOk, OnOk, vec_len};
 
 use std::alloc::AllocError;
 
@@ -15,5 +15,6 @@ pub trait Text {
     fn fill(&mut self, block: &mut Vec<u8>, enough: usize) -> Result<bool, AllocError>
         ensures bytes { OnOk result
             (block.new.items ++ rest self.new ≡ block.old.items ++ rest self.old) }
-        ensures end { IfOk result (λ ended. ended ≡ true → rest self.new ≡ []) };
+        ensures end { IfOk result (λ ended. ended ≡ true → rest self.new ≡ []) }
+        ensures full { IfOk result (λ ended. ended ≡ false → enough ≤ vec_len block.new) };
 }
