@@ -1,13 +1,13 @@
 -- The steps of a gap buffer, on the places of its block.
 use Rattle.std.proofs.Common.{◌≡◌, ℕ, suc, zero, ◌+◌, ◌-◌, ◌<◌, ◌≤◌, List, ◌++◌, map, length, take, drop, set, get_or, insert, remove, Option, Some, None}
-use Rattle.std.proofs.Common.{slice_get, refl, sym, ap, ◌∙◌, subst, ◌⊎◌, inl, inr, arith}
-use Rattle.std.proofs.lemmas.List.{map-set, take-map, drop-map, length-map, length-set, drop-take}
+use Rattle.std.proofs.Common.{slice_get, replicate, refl, sym, ap, ◌∙◌, subst, ◌⊎◌, inl, inr, arith}
+use Rattle.std.proofs.lemmas.List.{map-set, take-map, drop-map, length-map, length-set, drop-take, length-append, length-replicate}
 use Rattle.irig_gap.specs.Cells.{IsFull, IsRun, moved}
 use Rattle.irig_gap.specs.Items.{GapView, gap_view}
 use Rattle.irig_gap.specs.Slots.{somes, live, IsGap, view_of}
 use Rattle.irig_gap.proofs.Live.{somes-map, read_map, map-insert, map-remove, cut_at, length-live, live-put, live-left, live-right, live-set_left}
 use Rattle.irig_gap.proofs.Live.{live-set_right, read_left, read_right, live-of, live-none, live-up, live-down, length-moved, live-left_side, live-right_side}
-use Rattle.irig_gap.proofs.Live.{live-taken, live-taken_right}
+use Rattle.irig_gap.proofs.Live.{live-taken, live-taken_right, live-front}
 use Rattle.irig_gap.proofs.Copies.{copied}
 
 below_or_not : (i n : ℕ) → (i < n) ⊎ (n ≤ i)
@@ -44,6 +44,18 @@ module _ {X : Type 0} where
   holds ds k b w p q e i j =
       let same : somes (live ds k b) ≡ w.items = ap somes e ∙ somes-map w.items in
       (record { within = (p, q); full = e ∙ ap (map Some) (sym same) }, λ t. gap_view (same t) (i t) (j t))
+
+  -- the places of a vector's block
+  pub of_vec : (xs : List X) (cs : List (Option X)) (n c : ℕ) → n ≡ length xs → n ≤ c → cs ≡ map Some xs ++ replicate (c - n) None
+      → (length cs ≡ c) × Holds cs n c (gap_view xs n c)
+  of_vec xs cs n c here within is =
+      let free : List (Option X) = replicate (c - n) None in
+      let full : length (map Some xs) ≡ n = length-map xs Some ∙ sym here in
+      let long : length cs ≡ c = omega (arith, ap length is, length-append (map Some xs) free, length-replicate {A = Option X} (c - n) None, full) in (
+        long,
+        holds _ _ _ _ within (omega arith)
+            (ap (λ ds. live ds n c) is ∙ live-front xs free n c (sym full) (omega (arith, ap length is))) refl long,
+      )
 
   module _ (cs : List (Option X)) (g a : ℕ) (v : GapView X) (e : view_of cs g a ≡ v) (h : IsGap cs g a) where
     pub put_step : (x : X) → length v.items < v.capacity → (g < length cs)

@@ -5,10 +5,11 @@
 
 ghost use Rattle.std.specs.Prelude.{◌≡◌, ◌+◌, ◌-◌, ◌/◌, ◌^◌, ◌<◌, ◌≤◌, length, max, min};
 ghost use Rattle.std.specs.Prelude.{[], slice_get, slice_set, insert, remove, OnOk, OnErr};
+ghost use Rattle.std.specs.Prelude.{vec_capacity};
 ghost use Rattle.irig_gap.specs.Items.{gap_view};
 
 use crate::block::{block, copy_items, free};
-use crate::cells::{Cells, Deed, nowhere};
+use crate::cells::{Cells, Deed, block_of, nowhere};
 use std::alloc::{AllocError, Global};
 use std::marker::Model;
 use std::mem;
@@ -55,6 +56,27 @@ impl<T: Copy> Gap<T> {
             gap: 0,
             after: 0,
             capacity: 0,
+            alloc,
+        }
+    }
+
+    /// A buffer in the block of a vector, with its items and its capacity. No item moves, and it
+    /// takes no memory. The place is right of all items.
+    pub fn from_vec(vec: Vec<T>) -> Self
+        ensures { result ≡ gap_view vec.items (length vec.items) (vec_capacity vec) }
+    {
+        let alloc = *vec.allocator();
+        let (len, capacity) = (vec.len(), vec.capacity());
+        if capacity == 0 {
+            return Gap::new(alloc);
+        }
+        let (cells, deed) = block_of(vec);
+        Gap {
+            cells,
+            deed: Some(deed),
+            gap: len,
+            after: capacity,
+            capacity,
             alloc,
         }
     }
