@@ -1,19 +1,20 @@
 -- Values on other codes, which say nothing.
-use Rattle.std.proofs.Common.{◌≡◌, ◌<◌, ◌≤◌, ◌+◌, ◌∷◌, ◌==◌, ◌&&◌, ◌⊎◌, [], ℕ, true, false, List, length, drop, filter, get_or, nat_le, None, Ok, inl, inr}
+use Rattle.std.proofs.Common.{◌≡◌, ◌<◌, ◌≤◌, ◌+◌, ◌∷◌, ◌==◌, ◌&&◌, ◌⊎◌, [], ℕ, true, false, List, length, drop, get_or, nat_le, None, Ok, inl, inr}
 use Rattle.std.proofs.Common.{refl, ap, sym, ◌∙◌, arith}
 use Rattle.std.specs.Str.{bytes_eq}
 use Rattle.std.proofs.lemmas.Bool.{and_right, lt-leb, ne_eqb, or_from}
+use Rattle.irig_vcd.specs.Answer.{◌>>=◌}
 use Rattle.irig_vcd.specs.Changes.{changes_from}
 use Rattle.irig_vcd.specs.Code.Event.{is_hash, level_read}
 use Rattle.irig_vcd.specs.Code.Short.{TakesApart, TakesValue, takes_code}
 use Rattle.irig_vcd.specs.Events.{Next, any_word, code_of_value, level_by}
-use Rattle.irig_vcd.specs.Journals.{comments_from, is_journal, journals_among, next_after}
+use Rattle.irig_vcd.specs.Journals.{comments_from, next_after}
 use Rattle.irig_vcd.specs.Words.{Word, WordKind, is_space, kind_of_byte, words_from, before_space}
 use Rattle.irig_vcd.specs.Words.{dollar, hash, scalar, vector, real, text, other}
 use Rattle.irig_vcd.proofs.ChangeSteps.{on_level}
 use Rattle.irig_vcd.proofs.CodeRuns.{apart_level, other_bytes}
+use Rattle.irig_vcd.proofs.Cuts.{pair_ok}
 use Rattle.irig_vcd.proofs.DigitRuns.{none_before}
-use Rattle.irig_vcd.proofs.JournalWords.{past_level}
 use Rattle.irig_vcd.proofs.Runs.{begins, newline, skips}
 
 -- a byte above a space is no white space
@@ -62,7 +63,7 @@ value_word s code start mid byte lt room dark kind dots gap at line low apart =
     }
 
 -- after a vector, a real or a text comes its code
-then_code : (kind : WordKind) (w : Word) → takes_code kind ≡ true → next_after kind w ≡ code_of_value w
+pub then_code : (kind : WordKind) (w : Word) → takes_code kind ≡ true → next_after kind w ≡ code_of_value w
 then_code vector w is = refl
 then_code real w is = refl
 then_code text w is = refl
@@ -71,12 +72,13 @@ then_code hash w is = absurd (cc is)
 then_code scalar w is = absurd (cc is)
 then_code other w is = absurd (cc is)
 
--- a value and its code are no journal
-past_value : (left : List Word) (w c : Word) (ws : List Word) → left ≡ w ∷ c ∷ ws → takes_code w.kind ≡ true → journals_among left ≡ journals_among ws
-past_value left w c ws is h = ap journals_among is ∙ ap (λ (n : Next). filter is_journal (comments_from n None (c ∷ ws))) (then_code w.kind w h)
+-- a value and its code are no comment
+past_value : (left : List Word) (w c : Word) (ws : List Word) → left ≡ w ∷ c ∷ ws → takes_code w.kind ≡ true
+    → comments_from any_word None left ≡ comments_from any_word None ws
+past_value left w c ws is h = ap (comments_from any_word None) is ∙ ap (λ (n : Next). comments_from n None (c ∷ ws)) (then_code w.kind w h)
 
 -- a value sets no time
-no_time : (kind : WordKind) → takes_code kind ≡ true → is_hash kind ≡ false
+pub no_time : (kind : WordKind) → takes_code kind ≡ true → is_hash kind ≡ false
 no_time vector is = refl
 no_time real is = refl
 no_time text is = refl
@@ -85,16 +87,16 @@ no_time hash is = absurd (cc is)
 no_time scalar is = absurd (cc is)
 no_time other is = absurd (cc is)
 
--- the level of a value on another code
-value_read : (kind : WordKind) (code : List ℕ) (w c : Word) (ws : List Word) → takes_code kind ≡ true → level_by kind code w c.bytes ≡ Ok None
-    → level_read kind code w (c ∷ ws) ≡ Ok (None, ws)
-value_read vector code w c ws is level = rw level refl
-value_read real code w c ws is level = refl
-value_read text code w c ws is level = refl
-value_read dollar code w c ws is level = absurd (cc is)
-value_read hash code w c ws is level = absurd (cc is)
-value_read scalar code w c ws is level = absurd (cc is)
-value_read other code w c ws is level = absurd (cc is)
+-- a value and its code, read at once
+pub any_read : (kind : WordKind) (code : List ℕ) (w c : Word) (ws : List Word) → takes_code kind ≡ true
+    → level_read kind code w (c ∷ ws) ≡ (level_by kind code w c.bytes >>= λ x. pair_ok x ws)
+any_read vector code w c ws is = refl
+any_read real code w c ws is = refl
+any_read text code w c ws is = refl
+any_read dollar code w c ws is = absurd (cc is)
+any_read hash code w c ws is = absurd (cc is)
+any_read scalar code w c ws is = absurd (cc is)
+any_read other code w c ws is = absurd (cc is)
 
 -- the changes after a value on another code are those at it
 pub apart_on : (code : List ℕ) (unit last : ℕ) (old new : List Word) → TakesApart old new code ⊎ TakesValue old new code
@@ -102,12 +104,17 @@ pub apart_on : (code : List ℕ) (unit last : ℕ) (old new : List Word) → Tak
 apart_on code unit last old new takes = elim takes [
   | inl a ↦ on_level code unit last old a.word new new None a.left (ap is_hash a.kind) (apart_level code a.word new a.kind a.level)
   | inr v ↦ on_level code unit last old v.word (v.next ∷ new) new None v.left (no_time v.word.kind v.kind)
-      (value_read v.word.kind code v.word v.next new v.kind v.level)
+      (any_read v.word.kind code v.word v.next new v.kind ∙ ap (λ r. r >>= λ x. pair_ok x new) v.level)
 ]
 
--- and so are the journals
-pub apart_journals : (code : List ℕ) (old new : List Word) → TakesApart old new code ⊎ TakesValue old new code → journals_among old ≡ journals_among new
-apart_journals code old new takes = elim takes [
-  | inl a ↦ past_level old a.word new a.left a.kind
+past_scalar : (left : List Word) (w : Word) (ws : List Word) → left ≡ w ∷ ws → w.kind ≡ scalar
+    → comments_from any_word None left ≡ comments_from any_word None ws
+past_scalar left w ws is h = ap (comments_from any_word None) is ∙ ap (λ k. comments_from (next_after k w) None ws) h
+
+-- and so are the comments
+pub apart_comments : (code : List ℕ) (old new : List Word) → TakesApart old new code ⊎ TakesValue old new code
+    → comments_from any_word None old ≡ comments_from any_word None new
+apart_comments code old new takes = elim takes [
+  | inl a ↦ past_scalar old a.word new a.left a.kind
   | inr v ↦ past_value old v.word v.next new v.left v.kind
 ]

@@ -43,7 +43,7 @@ in_comment : (ends : Bool) (code : List ℕ) (e last : ℕ) (ws : List Word)
 in_comment true code e last ws ih = refl
 in_comment false code e last ws ih = ih
 
-comment : (code : List ℕ) (e last : ℕ) (ws : List Word) → changes_from comment_word code e last ws
+pub comment : (code : List ℕ) (e last : ℕ) (ws : List Word) → changes_from comment_word code e last ws
     ≡ (after_end ws >>= λ rest. changes_from any_word code e last rest)
 comment code e last [] = refl
 comment code e last (w ∷ ws) = in_comment (is_end w.bytes) code e last ws (comment code e last ws)

@@ -36,12 +36,17 @@ cuts_so : (r : Result Heading VcdFault) (stop : Stop) (g : Heading) (ws : List W
 cuts_so (Ok h) stop g ws is = stops_so h stop g ws is
 cuts_so (Err e) stop g ws is = absurd (cc is)
 
+pub words_after : (wire : Option (List ℕ)) (words : List Word) (s : ℕ × List ℕ) (ws : List Word) → declarations_of wire words ≡ Ok (s, ws)
+    → words_behind (cut_from None words).stop ≡ ws
+unfolding declarations_of
+words_after wire words s ws h =
+    let read = starts_so wire (read_cut nothing (cut_from None words)) ws s h in
+    cuts_so (judged nothing (cut_from None words).sections) (cut_from None words).stop read.0 ws read.1
+
 pub journals_behind : (wire : Option (List ℕ)) (bytes : List ℕ) (s : ℕ × List ℕ) (ws : List Word) → declarations_of wire (words_of bytes) ≡ Ok (s, ws)
     → journals_in bytes ≡ journals_among ws
-unfolding declarations_of journals_in
-journals_behind wire bytes s ws h =
-    let read = starts_so wire (read_cut nothing (cut_from None (words_of bytes))) ws s h in
-    ap journals_among (cuts_so (judged nothing (cut_from None (words_of bytes)).sections) (cut_from None (words_of bytes)).stop read.0 ws read.1)
+unfolding journals_in
+journals_behind wire bytes s ws h = ap journals_among (words_after wire (words_of bytes) s ws h)
 
 -- the words of a text are in their order, from a place on and before another
 abbrev Ordered : ℕ → ℕ → List Word → Type 0

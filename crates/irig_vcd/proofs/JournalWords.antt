@@ -1,19 +1,16 @@
 -- The journals among words, a word at a time.
-use Rattle.std.proofs.Common.{◌≡◌, ◌++◌, ◌∷◌, [], ℕ, Bool, true, false, cond, List, Some, None, Result, Ok, Err, filter, codes, inl, inr, refl, ap, sym, ◌∙◌}
+use Rattle.std.proofs.Common.{◌≡◌, ◌∷◌, [], ℕ, Bool, true, false, cond, List, Some, None, Result, Ok, Err, filter, codes, inl, inr, refl, ap, sym, ◌∙◌}
 use Rattle.std.specs.Str.{bytes_eq}
 use Rattle.std.proofs.lemmas.Bool.{cases_Bool, false≢true}
-use Rattle.std.proofs.lemmas.List.{append-nil, append_assoc}
 use Rattle.std.proofs.lemmas.Slice.Eq.{bytes_eq-Decides}
 use Rattle.irig_vcd.specs.Answer.{◌>>=◌}
 use Rattle.irig_vcd.specs.Code.Event.{is_hash}
-use Rattle.irig_vcd.specs.Code.Journals.{Holds, KeepsJournals}
 use Rattle.irig_vcd.specs.Code.Section.{after_end, end_read}
 use Rattle.irig_vcd.specs.Events.{any_word, comment_word, is_comment, is_mark}
 use Rattle.irig_vcd.specs.Journals.{Comment, comment, comments_from, is_journal, journals_among, next_after}
 use Rattle.irig_vcd.specs.Sections.{is_end}
 use Rattle.irig_vcd.specs.Words.{Word, WordKind, dollar, hash, scalar, vector, real, text, other}
 use Rattle.irig_vcd.specs.declared.fault.VcdFault.{VcdFault}
-use Rattle.irig_vcd.specs.declared.journals.Journals.{Journals}
 
 same_end : (ends : Bool) (offset : ℕ) (ws : List Word) → after_end ws ≡ (end_read ws >>= λ x. Ok x.1)
     → (cond ends (Ok ws) (after_end ws)) ≡ ((cond ends (Ok (offset, ws)) (end_read ws)) >>= λ x. Ok x.1)
@@ -32,7 +29,7 @@ pub no_end : (ws : List Word) (e : VcdFault) → end_read ws ≡ Err e → after
 no_end ws e h = only_words ws ∙ ap (λ r. r >>= λ x. Ok x.1) h
 
 -- a comment up to its end, and those after it
-abbrev closed : Word → Result (ℕ × List Word) VcdFault → List Comment
+abbrev pub closed : Word → Result (ℕ × List Word) VcdFault → List Comment
 closed first (Ok x) = comment first x.0 ∷ comments_from any_word None x.1
 closed first (Err e) = []
 
@@ -42,7 +39,7 @@ closed_now : (ends : Bool) (first : Word) (offset : ℕ) (ws : List Word) → co
 closed_now true first offset ws ih = refl
 closed_now false first offset ws ih = ih
 
-closes : (first : Word) (ws : List Word) → comments_from comment_word (Some first) ws ≡ closed first (end_read ws)
+pub closes : (first : Word) (ws : List Word) → comments_from comment_word (Some first) ws ≡ closed first (end_read ws)
 closes first [] = refl
 closes first (w ∷ ws) = closed_now (is_end w.bytes) first w.offset ws (closes first ws)
 
@@ -57,34 +54,8 @@ pub in_comment : (b : Bool) (left : List Word) (w : Word) (ws rest : List Word) 
 in_comment b left w ws rest end is more h first =
     rw (is, more) (ap (filter is_journal) (closes w ws ∙ ap (closed w) h) ∙ only_journals b (comment w end) (comments_from any_word None rest) first)
 
--- the journals before those left are held
-abbrev pub HoldsUpTo : List Comment → List Comment → Journals → Type 0
-HoldsUpTo all left j = (done : List Comment) × Holds done j × (all ≡ done ++ left)
-
--- nothing is kept
-pub keeps_none : (left rest : List Comment) (j : Journals) → left ≡ rest → KeepsJournals left rest j j
-keeps_none left rest j same = λ done h. ([], rw append-nil h, same)
-
--- a journal is kept
-pub keeps_one : (left rest : List Comment) (c : Comment) (old new : Journals) → left ≡ c ∷ rest
-    → ((done : List Comment) → Holds done old → Holds (done ++ c ∷ []) new) → KeepsJournals left rest old new
-keeps_one left rest c old new is puts = λ done h. (c ∷ [], puts done h, is)
-
-pub keeps_on : (all left rest : List Comment) (old new : Journals) → HoldsUpTo all left old → KeepsJournals left rest old new → HoldsUpTo all rest new
-keeps_on all left rest old new h keeps =
-    let k = keeps h.0 h.1 in
-    (h.0 ++ k.0, k.1, h.2 ∙ (ap (λ (l : List Comment). h.0 ++ l) k.2 ∙ sym (append_assoc h.0 k.0 rest)))
-
-pub keeps_past : (all left rest : List Comment) (j : Journals) → HoldsUpTo all left j → left ≡ rest → HoldsUpTo all rest j
-keeps_past all left rest j h same = (h.0, h.1, h.2 ∙ ap (λ (l : List Comment). h.0 ++ l) same)
-
-pub holds_all : (all : List Comment) (left : List Word) (j : Journals) → HoldsUpTo all (journals_among left) j → left ≡ [] → Holds all j
-holds_all all left j h none =
-    let is : all ≡ h.0 = h.2 ∙ (ap (λ l. h.0 ++ journals_among l) none ∙ append-nil h.0) in
-    rw is h.1
-
 -- a mark is no comment
-mark_apart : (w : List ℕ) → is_mark w ≡ true → is_comment w ≡ false
+pub mark_apart : (w : List ℕ) → is_mark w ≡ true → is_comment w ≡ false
 unfolding is_mark
 mark_apart w h = elim (cases_Bool (is_comment w)) [
   | inl is ↦
@@ -93,7 +64,7 @@ mark_apart w h = elim (cases_Bool (is_comment w)) [
   | inr not ↦ not
 ]
 
-after_time : (kind : WordKind) (w : Word) → is_hash kind ≡ true → next_after kind w ≡ any_word
+pub after_time : (kind : WordKind) (w : Word) → is_hash kind ≡ true → next_after kind w ≡ any_word
 after_time hash w h = refl
 after_time dollar w h = absurd (cc h)
 after_time scalar w h = absurd (cc h)
@@ -109,10 +80,6 @@ past_time left w ws is h = rw (is, after_time w.kind w h) refl
 -- nor a value with its code in one word
 pub past_level : (left : List Word) (w : Word) (ws : List Word) → left ≡ w ∷ ws → w.kind ≡ scalar → journals_among left ≡ journals_among ws
 past_level left w ws is h = rw (is, h) refl
-
--- nor a mark
-pub past_mark : (w : Word) (ws : List Word) → w.kind ≡ dollar → is_mark w.bytes ≡ true → journals_among (w ∷ ws) ≡ journals_among ws
-past_mark w ws kind h = rw (kind, mark_apart w.bytes h) refl
 
 -- a comment begins
 pub into_comment : (w : Word) (ws : List Word) → w.kind ≡ dollar → is_comment w.bytes ≡ true

@@ -1,11 +1,14 @@
 -- Words of a text, a byte at a time, and those that are read in one step.
 pub mod Runs
+pub mod Joins
 pub mod DigitRuns
 pub mod Doubling
 pub mod LaneDigits
 pub mod CodeRuns
 pub mod ApartWords
 pub mod DarkLanes
+pub mod PartWords
+pub mod MovedWords
 -- Numbers of digits, and times in two parts.
 pub mod Digits
 pub mod Sizes
@@ -15,18 +18,22 @@ pub mod TimeLemmas
 -- The declarations, a section at a time.
 pub mod Cuts
 pub mod Steps
+pub mod MoreWords
 -- The changes, a word at a time, and the edges of their level.
 pub mod ChangeSteps
-pub mod AlongSteps
 pub mod JournalWords
+pub mod EventSteps
+pub mod ReachedSteps
 pub mod JournalPlaces
 pub mod Levels
 pub mod PulseSteps
 pub mod Lawful
 pub mod LevelLaw
 pub mod RecordingLemmas
+pub mod PulseEdges
 -- The whole of a dump.
 pub mod WholeDump
+pub mod PartSteps
 -- The text of a recording, its words and its changes: what is written is read back.
 pub mod TextParts
 pub mod WrittenWords

@@ -1,21 +1,20 @@
 -- A rise and a fall in one step.
 use Rattle.std.proofs.Common.{◌≡◌, ◌<◌, ◌≤◌, ◌+◌, ◌-◌, cond, ◌++◌, ◌∷◌, [], ℕ, Bool, true, false, List, length, drop, take, get_or, ◌/◌, ◌%◌, ◌^◌}
-use Rattle.std.proofs.Common.{Some, Result, refl, ap, sym, subst, ◌∙◌, arith, append_assoc}
-use Rattle.std.specs.Global.{Vec}
+use Rattle.std.proofs.Common.{Some, map, refl, ap, sym, subst, ◌∙◌, arith, append_assoc}
 use Rattle.std.specs.List.{list_all}
 use Rattle.std.proofs.lemmas.List.{length-append}
 use Rattle.irig_vcd.specs.Changes.{changes_from, with_level}
-use Rattle.irig_vcd.specs.Code.Along.{behind, Along, HasFallen, TakesEdge, at_micros}
+use Rattle.irig_vcd.specs.Code.Along.{behind, read_on, Along, HasFallen, SameJournals, TakesEdge, Total, at_micros}
 use Rattle.irig_vcd.specs.Code.Event.{is_hash}
+use Rattle.irig_vcd.specs.Code.Part.{moved}
 use Rattle.irig_vcd.specs.Code.Time.{units_of, IsTime}
-use Rattle.irig_vcd.specs.Code.Trace.{Follows, edges_kept}
+use Rattle.irig_vcd.specs.Code.Trace.{Follows}
+use Rattle.irig_vcd.specs.Code.Edges.{edges_kept}
 use Rattle.irig_vcd.specs.Digits.{is_digit, number_from}
 use Rattle.irig_vcd.specs.Events.{any_word}
-use Rattle.irig_vcd.specs.Journals.{journals_among}
 use Rattle.irig_vcd.specs.Level.{Change}
 use Rattle.irig_vcd.specs.Times.{micros_of}
 use Rattle.irig_vcd.specs.Words.{Word, words_from, before_space, is_space, is_code, kind_of_byte, hash, scalar}
-use Rattle.irig_vcd.specs.declared.fault.VcdFault.{VcdFault}
 use Rattle.irig_vcd.specs.declared.pulses.Edge.{Edge}
 use Rattle.irig_vcd.specs.declared.time.Clock.{Clock}
 use Rattle.irig_vcd.specs.declared.trace.Trace.{Trace}
@@ -29,73 +28,86 @@ use Rattle.irig_vcd.proofs.Runs.{opened, newline, behind_newline}
 use Rattle.irig_vcd.proofs.TimeLemmas.{units_cut, shown_time, fine_time, rest_low, later_read}
 
 -- a trace after a fall takes a pulse
-pub pulse_put : (cs : List Change) (old new : Trace) (one : Vec ℕ) (rise fall : ℕ) → HasFallen old → length old.edges.items + 2 ≤ edges_kept
-    → old.time < rise → rise < fall → one.items ≡ old.edges.items ++ old.time ∷ [] → new.edges.items ≡ one.items ++ rise ∷ []
+pub pulse_put : (cs : List Change) (old new : Trace) (rise fall : ℕ) → HasFallen old → length old.edges + 2 ≤ edges_kept
+    → old.time < rise → rise < fall → new.edges ≡ old.edges ++ old.time ∷ rise ∷ []
     → new.time ≡ fall → new.before ≡ true → new.now ≡ false → Follows cs old
     → Follows (cs ++ record { time = rise; high = true } ∷ record { time = fall; high = false } ∷ []) new
-pulse_put cs old new one rise fall fallen room first second pushed again time before now h =
+pulse_put cs old new rise fall fallen room first second added time before now h =
     let up : Change = record { time = rise; high = true } in
     let down : Change = record { time = fall; high = false } in
+    let one : List ℕ = old.edges ++ old.time ∷ [] in
     let low : Trace = record { time = rise; before = false; now = false; edges = one } in
     let risen : Trace = record { time = rise; before = false; now = true; edges = one } in
     let high : Trace = record { time = fall; before = true; now = true; edges = new.edges } in
-    let long : length one.items ≡ length old.edges.items + 1 = ap length pushed ∙ length-append old.edges.items (old.time ∷ []) in
+    let long : length one ≡ length old.edges + 1 = length-append old.edges (old.time ∷ []) in
     let a : Follows cs low = advanced cs old low first (sym fallen.now) (sym fallen.now)
-    (λ all is. rw (fallen.now, fallen.before) (pushed ∙ kept_more edges_kept old.time old.edges.items all is (omega arith))) h in
+    (λ all is. rw (fallen.now, fallen.before) (kept_more edges_kept old.time old.edges all is (omega arith))) h in
     let b : Follows (cs ++ up ∷ []) risen = changed cs up low risen refl refl refl refl refl a in
+    let again : new.edges ≡ one ++ rise ∷ [] = added ∙ sym (append_assoc old.edges (old.time ∷ []) (rise ∷ [])) in
     let d : Follows (cs ++ up ∷ []) high = advanced (cs ++ up ∷ []) risen high second refl refl
-    (λ all is. again ∙ kept_more edges_kept rise one.items all is (omega arith)) b in
+    (λ all is. again ∙ kept_more edges_kept rise one all is (omega arith)) b in
     let e : Follows ((cs ++ up ∷ []) ++ down ∷ []) new = changed (cs ++ up ∷ []) down high new refl time now before refl d in
     rw (sym (append_assoc cs (up ∷ []) (down ∷ []))) e
 
+-- the words of a text at a place, at their places in the dump
+abbrev pub words_here : ℕ → List ℕ → ℕ → List Word
+words_here base s at = map (moved base) (words_from at false (drop at s))
+
+edge_words : (base code unit : ℕ) (s : List ℕ) (at : ℕ) (high : Bool) (e : Edge) (more : List Word) → (k : TakesEdge s at high code unit e)
+    → words_here base s at ++ more ≡ moved base k.sign ∷ moved base k.level ∷ (words_here base s e.end ++ more)
+edge_words base code unit s at high e more k = ap (λ (l : List Word). map (moved base) l ++ more) k.left
+
 -- an edge is two words
-on_edge : (code unit : ℕ) (last : Clock) (s : List ℕ) (at : ℕ) (high : Bool) (e : Edge)
+on_edge : (base code unit : ℕ) (last : Clock) (s : List ℕ) (at : ℕ) (high : Bool) (e : Edge) (more : List Word)
     → unit ≤ 9 → TakesEdge s at high code unit e → IsTime unit last → last.whole < e.time.whole → e.time.whole ≤ 1099511627776
-    → changes_from any_word (code ∷ []) unit (units_of unit last) (words_from at false (drop at s))
-    ≡ with_level (Some high) e.time.whole (changes_from any_word (code ∷ []) unit (units_of unit e.time) (words_from e.end false (drop e.end s)))
-on_edge code unit last s at high e fine k was lt top =
-    let ws = words_from e.end false (drop e.end s) in
+    → changes_from any_word (code ∷ []) unit (units_of unit last) (words_here base s at ++ more)
+    ≡ with_level (Some high) e.time.whole (changes_from any_word (code ∷ []) unit (units_of unit e.time) (words_here base s e.end ++ more))
+on_edge base code unit last s at high e more fine k was lt top =
+    let ws = words_here base s e.end ++ more in
     let now = units_of unit e.time in
     let time = fine_time unit e.time fine top k.rest in
-    let a = on_time (code ∷ []) unit (units_of unit last) (words_from at false (drop at s)) k.sign (k.level ∷ ws) now k.left (ap is_hash k.is_hash)
-    (later_read unit last e.time _ k.sign.offset (shown_time unit _ e.time top k.rest k.digits k.value) was time lt) in
-    let b = on_level (code ∷ []) unit now (k.level ∷ ws) k.level ws ws (Some high) refl (ap is_hash k.is_scalar)
-    (bit_level high (code ∷ []) k.level ws (omega arith) k.is_scalar k.bytes) in
+    let a = on_time (code ∷ []) unit (units_of unit last) (words_here base s at ++ more) (moved base k.sign) (moved base k.level ∷ ws) now
+    (edge_words base code unit s at high e more k) (ap is_hash k.is_hash)
+    (later_read unit last e.time _ (base + k.sign.offset) (shown_time unit _ e.time top k.rest k.digits k.value) was time lt) in
+    let b = on_level (code ∷ []) unit now (moved base k.level ∷ ws) (moved base k.level) ws ws (Some high) refl (ap is_hash k.is_scalar)
+    (bit_level high (code ∷ []) (moved base k.level) ws (omega arith) k.is_scalar k.bytes) in
     a ∙ (b ∙ ap (λ t. with_level (Some high) t (changes_from any_word (code ∷ []) unit now ws)) (micros_fine unit e.time fine time))
 
-pub fewer_left : (s : List ℕ) (at : ℕ) (high : Bool) (code unit : ℕ) (e : Edge) → TakesEdge s at high code unit e
-    → length (words_from e.end false (drop e.end s)) ≤ length (words_from at false (drop at s))
-fewer_left s at high code unit e k = let long = ap length k.left in omega (arith, long)
+pub fewer_left : (base : ℕ) (s : List ℕ) (at : ℕ) (high : Bool) (code unit : ℕ) (e : Edge) → TakesEdge s at high code unit e
+    → length (words_here base s e.end) ≤ length (words_here base s at)
+fewer_left base s at high code unit e k = let long = ap (λ (l : List Word). length (map (moved base) l)) k.left in omega (arith, long)
 
 -- an edge is no journal
-pub past_edge : (s : List ℕ) (at : ℕ) (high : Bool) (code unit : ℕ) (e : Edge) → TakesEdge s at high code unit e
-    → journals_among (words_from at false (drop at s)) ≡ journals_among (words_from e.end false (drop e.end s))
-past_edge s at high code unit e k =
-    let ws = words_from e.end false (drop e.end s) in
-    past_time (words_from at false (drop at s)) k.sign (k.level ∷ ws) k.left (ap is_hash k.is_hash) ∙ past_level (k.level ∷ ws) k.level ws refl k.is_scalar
+pub past_edge : (base : ℕ) (s : List ℕ) (at : ℕ) (high : Bool) (code unit : ℕ) (e : Edge) → TakesEdge s at high code unit e
+    → SameJournals (words_here base s at) (words_here base s e.end)
+past_edge base s at high code unit e k = λ more.
+    let ws = words_here base s e.end ++ more in
+    past_time (words_here base s at ++ more) (moved base k.sign) (moved base k.level ∷ ws) (edge_words base code unit s at high e more k) (ap is_hash k.is_hash)
+    ∙ past_level (moved base k.level ∷ ws) (moved base k.level) ws refl k.is_scalar
 
 -- reading continues by a pulse
-pub along_pulse : (code unit : ℕ) (from : Clock) (total : Result (List Change × ℕ) VcdFault) (old new : Trace) (s : List ℕ) (at : ℕ) (rise fall : Edge)
+pub along_pulse : (base code unit : ℕ) (from : Clock) (total : Total) (old new : Trace) (s : List ℕ) (at : ℕ) (rise fall : Edge)
     → unit ≤ 9 → TakesEdge s at true code unit rise → TakesEdge s rise.end false code unit fall
     → from.whole < rise.time.whole → rise.time.whole < fall.time.whole → fall.time.whole ≤ 1099511627776
     → ((changes : List Change) → Follows changes old
     → Follows (changes ++ record { time = rise.time.whole; high = true } ∷ record { time = fall.time.whole; high = false } ∷ []) new)
     → new.time ≡ fall.time.whole
-    → Along (code ∷ []) unit total old from (words_from at false (drop at s))
-    → Along (code ∷ []) unit total new fall.time (words_from fall.end false (drop fall.end s))
-along_pulse code unit from total old new s at rise fall fine up down first second top follows time is =
+    → Along (code ∷ []) unit total old from (words_here base s at)
+    → Along (code ∷ []) unit total new fall.time (words_here base s fall.end)
+along_pulse base code unit from total old new s at rise fall fine up down first second top follows time is =
     let before = is.0 in
     let i = is.1 in
     let high : Change = record { time = rise.time.whole; high = true } in
     let low : Change = record { time = fall.time.whole; high = false } in
     let risen = fine_time unit rise.time fine (omega (arith, second, top)) up.rest in
     let fallen = fine_time unit fall.time fine top down.rest in
-    let k = on_edge code unit from s at true rise fine up i.time first (omega (arith, second, top)) in
-    let j = on_edge code unit rise.time s rise.end false fall fine down risen second top in
-    let left = changes_from any_word (code ∷ []) unit (units_of unit fall.time) (words_from fall.end false (drop fall.end s)) in
-    let one : behind before (with_level (Some true) rise.time.whole (with_level (Some false) fall.time.whole left)) ≡ total =
-    ap (λ r. behind before (with_level (Some true) rise.time.whole r)) (sym j) ∙ (ap (behind before) (sym k) ∙ i.rest) in
-    let two : behind ((before ++ high ∷ []) ++ low ∷ []) left ≡ total =
+    let two : (more : List Word) → read_on any_word ((before ++ high ∷ []) ++ low ∷ []) (code ∷ []) unit (units_of unit fall.time)
+    (words_here base s fall.end) more ≡ total more = λ more.
+    let k = on_edge base code unit from s at true rise more fine up i.time first (omega (arith, second, top)) in
+    let j = on_edge base code unit rise.time s rise.end false fall more fine down risen second top in
+    let left = changes_from any_word (code ∷ []) unit (units_of unit fall.time) (words_here base s fall.end ++ more) in
+    let one : behind before (with_level (Some true) rise.time.whole (with_level (Some false) fall.time.whole left)) ≡ total more =
+    ap (λ r. behind before (with_level (Some true) rise.time.whole r)) (sym j) ∙ (ap (behind before) (sym k) ∙ i.rest more) in
     sym (one_change (before ++ high ∷ []) fall.time.whole false left)
     ∙ (sym (one_change before rise.time.whole true (with_level (Some false) fall.time.whole left)) ∙ one) in (
       before ++ high ∷ low ∷ [],
@@ -162,12 +174,12 @@ one_byte (x ∷ []) one = refl
 pub whole_9 : (c : Clock) → IsTime 9 c → c ≡ at_micros c.whole
 whole_9 c h = let none : c.rest ≡ 0 = omega (arith, h.rest) in λ i. record { whole = c.whole; rest = none i }
 
-pub along_micros : (code : List ℕ) (total : Result (List Change × ℕ) VcdFault) (t : Trace) (c : Clock) (ws : List Word)
+pub along_micros : (code : List ℕ) (total : Total) (t : Trace) (c : Clock) (ws : List Word)
     → Along code 9 total t c ws → Along code 9 total t (at_micros c.whole) ws
 along_micros code total t c ws is = subst (λ (d : Clock). Along code 9 total t d ws) (whole_9 c is.1.time) is
 
 -- a step in microseconds is one in the unit
-pub step_micros : (code : List ℕ) (unit : ℕ) (c : Clock) (whole : ℕ) (total : Result (List Change × ℕ) VcdFault) (old new : Trace) (ws vs : List Word)
+pub step_micros : (code : List ℕ) (unit : ℕ) (c : Clock) (whole : ℕ) (total : Total) (old new : Trace) (ws vs : List Word)
     → unit ≡ 9
     → (Along code 9 total old (at_micros c.whole) ws → Along code 9 total new (at_micros whole) vs)
     → Along code unit total old c ws → Along code unit total new (at_micros whole) vs
@@ -176,7 +188,7 @@ step_micros code unit c whole total old new ws vs is go along =
     subst (λ (u : ℕ). Along code u total new (at_micros whole) vs) (sym is) (go (along_micros code total old c ws there))
 
 -- and the other way
-pub micros_step : (code : List ℕ) (unit : ℕ) (c d : Clock) (total : Result (List Change × ℕ) VcdFault) (old new : Trace) (ws vs : List Word)
+pub micros_step : (code : List ℕ) (unit : ℕ) (c d : Clock) (total : Total) (old new : Trace) (ws vs : List Word)
     → unit ≡ 9
     → (Along code unit total old c ws → Along code unit total new d vs)
     → Along code 9 total old c ws → Along code 9 total new (at_micros d.whole) vs

@@ -1,12 +1,10 @@
 -- A wire that never changes: no edge is kept, so no memory is asked for.
 use Rattle.std.proofs.Common.{◌≡◌, ◌++◌, ◌∷◌, [], ℕ, List, Result, Ok, Err, refl, ap, sym, subst, ◌∙◌}
 use Rattle.irig_vcd.specs.Changes.{IsStill}
-use Rattle.irig_vcd.specs.Code.Along.{behind, Along}
+use Rattle.irig_vcd.specs.Code.Along.{behind}
 use Rattle.irig_vcd.specs.Code.Trace.{Follows}
 use Rattle.irig_vcd.specs.Level.{Change}
-use Rattle.irig_vcd.specs.Words.{Word}
 use Rattle.irig_vcd.specs.declared.fault.VcdFault.{VcdFault}
-use Rattle.irig_vcd.specs.declared.time.Clock.{Clock}
 use Rattle.irig_vcd.specs.declared.trace.Trace.{Trace}
 
 abbrev changes_in : Result (List Change × ℕ) VcdFault → List Change
@@ -22,10 +20,6 @@ none_behind (c ∷ cs) (Err e) end h = absurd (cc h)
 pub none_followed : (before : List Change) (read total : Result (List Change × ℕ) VcdFault) (t : Trace) → Follows before t → behind before read ≡ total
     → IsStill total → Follows [] t
 none_followed before read total t follows rest still = subst (λ (cs : List Change). Follows cs t) (none_behind before read still.0 (rest ∙ still.1)) follows
-
-pub along_still : (code : List ℕ) (unit : ℕ) (total : Result (List Change × ℕ) VcdFault) (trace : Trace) (clock : Clock) (words : List Word)
-    → Along code unit total trace clock words → IsStill total → Follows [] trace
-along_still code unit total trace clock words along still = none_followed along.0 _ total trace along.1.follows along.1.rest still
 
 -- what fails has no end
 pub no_end : (total : Result (List Change × ℕ) VcdFault) (e : VcdFault) → total ≡ Err e → IsStill total → ⊥

@@ -1,11 +1,13 @@
--- The text that is written edge by edge is the text of the recording.
+-- The text that is written pulse by pulse is the text of the recording.
 use Rattle.std.proofs.Common.{◌≡◌, ◌≤◌, ◌+◌, ◌==◌, ◌++◌, ◌∷◌, ◌&&◌, ◌||◌, [], ℕ, Bool, true, false, not, List, length, drop, nat_lt, inl, inr, subst, refl, ap}
 use Rattle.std.proofs.Common.{sym, ◌∙◌, arith, append_assoc, if◌then◌else◌}
 use Rattle.std.specs.List.{list_any}
 use Rattle.std.proofs.lemmas.List.{drop_all, append-nil}
 use Rattle.std.proofs.lemmas.Bool.{ne_eqb, eq-eqb, lt-ltb, cases_eq}
 use Rattle.irig_vcd.specs.FileText.{file_text, header_text, time_line, level_line, edge_lines, begins_high, later_edges, end_line, lines_at, length_line}
+use Rattle.irig_vcd.specs.Pulses.{edges_of}
 use Rattle.irig_vcd.specs.Recording.{recording_view, RisesFrom, UpTo}
+use Rattle.irig_vcd.specs.declared.pulse.Pulse.{Pulse}
 use Rattle.irig_vcd.proofs.WrittenChanges.{last_or, last_up}
 
 -- the lines of edges, the first of them high or low
@@ -71,14 +73,17 @@ pub whole_text : (micros : ℕ) (edges : List ℕ) → RisesFrom 0 edges → UpT
 unfolding file_text
 whole_text micros edges r u = rw (lines edges r, ends micros edges r u) refl
 
--- what was written after a start when no edge is left
-pub all_put : (high : Bool) (n micros : ℕ) (start text : List ℕ) (last : ℕ) (edges : List ℕ) → length edges ≤ n
-    → text ++ all_lines high (drop n edges) ≡ start ++ (header_text (begins_high edges) ++ all_lines true edges) → last_or last (drop n edges) ≡ last_or 0 edges
-    → RisesFrom 0 edges → UpTo micros edges → text ++ length_line last micros ≡ start ++ file_text (recording_view micros edges)
-all_put high n micros start text last edges done put end r u =
-    let none : drop n edges ≡ [] = drop_all n edges done in
+-- what was written after a start when no pulse is left
+pub all_put : (n micros : ℕ) (start text : List ℕ) (last : ℕ) (ps : List Pulse) → length ps ≤ n
+    → text ++ all_lines true (edges_of (drop n ps)) ≡ start ++ (header_text (begins_high (edges_of ps)) ++ all_lines true (edges_of ps))
+    → last_or last (edges_of (drop n ps)) ≡ last_or 0 (edges_of ps)
+    → RisesFrom 0 (edges_of ps) → UpTo micros (edges_of ps)
+    → text ++ length_line last micros ≡ start ++ file_text (recording_view micros (edges_of ps))
+all_put n micros start text last ps done put end r u =
+    let edges = edges_of ps in
+    let none : edges_of (drop n ps) ≡ [] = ap edges_of (drop_all n ps done) in
     let before : text ≡ start ++ (header_text (begins_high edges) ++ all_lines true edges) =
-    sym (append-nil text) ∙ ap (λ es. text ++ all_lines high es) (sym none) ∙ put in
+    sym (append-nil text) ∙ ap (λ es. text ++ all_lines true es) (sym none) ∙ put in
     let at : last ≡ last_or 0 edges = ap (last_or last) (sym none) ∙ end in
     rw (before, at) (append_assoc start (header_text (begins_high edges) ++ all_lines true edges) (length_line (last_or 0 edges) micros)
     ∙ ap (λ (whole : List ℕ). start ++ whole) (whole_text micros edges r u))

@@ -10,5 +10,11 @@ pub mod Header
 pub mod Time
 pub mod Event
 pub mod Journals
+pub mod Edges
+pub mod Joins
+pub mod Pending
 pub mod Trace
 pub mod Along
+pub mod Reached
+pub mod Part
+pub mod DumpReader

@@ -1,3 +1,4 @@
+pub mod Pulses
 pub mod Recording
 pub mod Words
 pub mod Digits

@@ -1,27 +1,29 @@
 //! The changes of a wire.
 
-ghost use Rattle.std.specs.Prelude.{◌≡◌, ◌↔◌, ◌≤◌, ◌<◌, ◌^◌, ◌∷◌, [], ℕ, List, Result, Err};
+ghost use Rattle.std.specs.Prelude.{◌≡◌, ◌↔◌, ◌≤◌, ◌<◌, ◌^◌, ◌∷◌, [], ℕ, List, Err};
 ghost use Rattle.std.specs.Prelude.{true, length, slice_index, IfOk, IfErr, OnOk, OnErr};
 ghost use Rattle.irig_vcd.specs.Code.Token.{kind_view, word_of};
 ghost use Rattle.irig_vcd.specs.Answer.{IsFaultOf};
-ghost use Rattle.irig_vcd.specs.Words.{rest_of, is_code};
+ghost use Rattle.irig_vcd.specs.Words.{Word, rest_of, is_code};
 ghost use Rattle.irig_vcd.specs.Changes.{changes_from, IsStill};
 ghost use Rattle.irig_vcd.specs.Code.Event.{is_hash};
 ghost use Rattle.irig_vcd.specs.Code.Trace.{Follows, KeepsEdges};
-ghost use Rattle.irig_vcd.specs.Code.Along.{Along};
+ghost use Rattle.irig_vcd.specs.Code.Along.{Along, SameJournals, Total};
+ghost use Rattle.irig_vcd.specs.Code.Reached.{IsOn, ReachedBy, ReachedFrom, Told};
 ghost use Rattle.irig_vcd.specs.Code.Time.{IsTime, units_of};
-ghost use Rattle.irig_vcd.specs.Level.{Change};
 ghost use Rattle.irig_vcd.specs.Times.{micros_of};
-ghost use Rattle.irig_vcd.specs.declared.fault.VcdFault.{VcdFault};
 ghost use Rattle.irig_vcd.specs.declared.fault.VcdFault.TheVariants.{OutOfMemory};
-ghost use Rattle.irig_vcd.specs.Code.Journals.{Holds, KeepsJournals};
+ghost use Rattle.irig_vcd.specs.Code.Journals.{Holds};
 ghost use Rattle.irig_vcd.specs.Events.{any_word};
 ghost use Rattle.irig_vcd.specs.Journals.{journals_among};
 
-use crate::event::take_level;
+use crate::edges::Edges;
+use crate::event::{take_level, take_open};
 use crate::fault::VcdFault;
 use crate::journals::Journals;
+use crate::pending::Pending;
 use crate::pulses::pulses;
+use crate::reading::Reading;
 use crate::short::{LONGEST_CODE, Short};
 use crate::time::{Clock, micros, number_time, time};
 use crate::token::{Kind, Token, Tokens};
@@ -88,11 +90,11 @@ fn ahead(
     requires dark { is_quick ≡ true → is_code code.now ≡ true }
     requires time { IsTime unit clock }
     requires late { trace.old.time ≤ micros_of unit (units_of unit clock) }
-    ensures along { IfOk result (λ now. (total : Result (List Change × ℕ) VcdFault)
+    ensures along { IfOk result (λ now. (total : Total)
         → Along code.now unit total trace.old clock tokens.old
         → Along code.now unit total trace.new now tokens.new) }
     ensures fewer { length tokens.new ≤ length tokens.old }
-    ensures journals { journals_among tokens.old ≡ journals_among tokens.new }
+    ensures journals { SameJournals tokens.old tokens.new }
     ensures memory { OnErr result (Follows [] trace.old → ⊥) }
 {
     if is_quick && trace.has_fallen() && has_sign(tokens.source, tokens.at) {
@@ -113,42 +115,121 @@ fn take(
     clock: Clock,
     trace: &mut Trace,
     journals: &mut Journals,
+    pending: &mut Pending,
 ) -> Result<Clock, VcdFault>
-    requires time { IsTime unit clock }
-    requires late { trace.old.time ≤ micros_of unit (units_of unit clock) }
-    ensures along { IfOk result (λ now. (total : Result (List Change × ℕ) VcdFault)
-        → Along code.now unit total trace.old clock (word_of token.entry ∷ tokens.old)
-        → Along code.now unit total trace.new now tokens.new) }
+    requires time { IsOn unit trace.old clock }
+    ensures time { IfOk result (λ now. IsOn unit trace.new now) }
+    ensures reached { IfOk result (λ now. (total : Total) (told : Told)
+        → ReachedBy code.now unit total told trace.old clock journals.old pending.old
+        (word_of token.entry ∷ tokens.old)
+        → ReachedBy code.now unit total told trace.new now journals.new pending.new tokens.new) }
     ensures fewer { length tokens.new ≤ length tokens.old }
-    ensures kept { OnOk result (KeepsJournals (journals_among (word_of token.entry ∷ tokens.old))
-        (journals_among tokens.new) journals.old journals.new) }
-    ensures fault { IfErr result (λ e. (total : Result (List Change × ℕ) VcdFault)
-        → Along code.now unit total trace.old clock (word_of token.entry ∷ tokens.old)
-        → IsFaultOf e total) }
-    ensures memory { result ≡ Err OutOfMemory → (total : Result (List Change × ℕ) VcdFault)
-        → Along code.now unit total trace.old clock (word_of token.entry ∷ tokens.old)
-        → IsStill total → ⊥ }
+    ensures fault { IfErr result (λ e. (total : Total) (told : Told) (more : List Word)
+        → ReachedBy code.now unit total told trace.old clock journals.old pending.old
+        (word_of token.entry ∷ tokens.old)
+        → IsFaultOf e (total more)) }
+    ensures memory { result ≡ Err OutOfMemory → (total : Total) (told : Told) (more : List Word)
+        → ReachedBy code.now unit total told trace.old clock journals.old pending.old
+        (word_of token.entry ∷ tokens.old)
+        → IsStill (total more) → ⊥ }
 {
     if is_hash(token.kind) {
         return time(unit, clock, digits_of(token.slice), token.offset);
     }
-    if let Some(high) = take_level(code, token, tokens, journals)? {
+    if let Some(high) = take_level(code, token, tokens, journals, pending)? {
         trace.put(micros(unit, clock), high)?;
     }
     Ok(clock)
+}
+
+/// Takes the tokens that what is open wants.
+fn resume(
+    tokens: &mut Tokens,
+    unit: Unit,
+    code: &[u8],
+    clock: Clock,
+    trace: &mut Trace,
+    journals: &mut Journals,
+    pending: &mut Pending,
+) -> Result<(), VcdFault>
+    requires time { IsOn unit trace.old clock }
+    ensures time { OnOk result (IsOn unit trace.new clock) }
+    ensures reached { OnOk result ((total : Total) (told : Told)
+        → ReachedFrom code.now unit total told trace.old clock journals.old pending.old tokens.old
+        → ReachedBy code.now unit total told trace.new clock journals.new pending.new
+        tokens.new) }
+    ensures fewer { length tokens.new ≤ length tokens.old }
+    ensures fault { IfErr result (λ e. (total : Total) (told : Told) (more : List Word)
+        → ReachedFrom code.now unit total told trace.old clock journals.old pending.old tokens.old
+        → IsFaultOf e (total more)) }
+    ensures memory { result ≡ Err OutOfMemory → (total : Total) (told : Told) (more : List Word)
+        → ReachedFrom code.now unit total told trace.old clock journals.old pending.old tokens.old
+        → IsStill (total more) → ⊥ }
+{
+    if let Some(high) = take_open(code, tokens, journals, pending)? {
+        trace.put(micros(unit, clock), high)?;
+    }
+    Ok(())
 }
 
 /// What is after the declarations: the last time in microseconds, the edges, and the journals.
 #[derive(Drop)]
 pub struct Body {
     pub end: u64,
-    pub edges: Vec<u64>,
+    pub edges: Edges,
     pub journals: Journals,
 }
 
-/// Reads what is after the declarations. A function of its own for the machine too: what it
-/// is called from would take its registers.
+/// Follows the tokens of a part of the changes, and gives the time then. A function of its own for
+/// the machine too: what it is called from would take its registers.
 #[inline(never)]
+pub fn follow(
+    tokens: &mut Tokens,
+    unit: Unit,
+    code: &[u8],
+    from: Clock,
+    trace: &mut Trace,
+    journals: &mut Journals,
+    pending: &mut Pending,
+) -> Result<Clock, VcdFault>
+    requires time { IsOn unit trace.old from }
+    ensures time { IfOk result (λ now. IsOn unit trace.new now) }
+    ensures reached { IfOk result (λ now. (total : Total) (told : Told)
+        → ReachedFrom code.now unit total told trace.old from journals.old pending.old tokens.old
+        → ReachedBy code.now unit total told trace.new now journals.new pending.new []) }
+    ensures fault { IfErr result (λ e. (total : Total) (told : Told) (more : List Word)
+        → ReachedFrom code.now unit total told trace.old from journals.old pending.old tokens.old
+        → IsFaultOf e (total more)) }
+    ensures memory { result ≡ Err OutOfMemory → (total : Total) (told : Told) (more : List Word)
+        → ReachedFrom code.now unit total told trace.old from journals.old pending.old tokens.old
+        → IsStill (total more) → ⊥ }
+{
+    let is_plain = is_plain(code);
+    let is_quick = is_quick(is_plain, unit, code);
+    let mut clock = from;
+    resume(tokens, unit, code, clock, trace, journals, pending)?;
+    'tokens: loop {
+        match tokens.next_short(code, is_plain) {
+            Short::Time(number) => {
+                clock = number_time(unit, clock, number.value, number.offset)?;
+            }
+            Short::Bit(high) => {
+                trace.put(micros(unit, clock), high)?;
+                clock = ahead(is_quick, tokens, unit, code, clock, trace)?;
+            }
+            Short::Apart => {}
+            Short::Other => {
+                let Some(token) = tokens.next() else {
+                    break;
+                };
+                clock = take(token, tokens, unit, code, clock, trace, journals, pending)?;
+            }
+        }
+    }
+    Ok(clock)
+}
+
+/// Reads what is after the declarations.
 pub fn changes(
     alloc: Global,
     tokens: &mut Tokens,
@@ -162,34 +243,9 @@ pub fn changes(
     ensures memory { result ≡ Err OutOfMemory →
         IsStill (changes_from any_word code.now unit 0 tokens.old) → ⊥ }
 {
-    let is_plain = is_plain(code);
-    let is_quick = is_quick(is_plain, unit, code);
-    let mut trace = Trace::new(alloc);
-    let mut journals = Journals::new();
-    let mut clock = Clock { whole: 0, rest: 0 };
-    'tokens: loop {
-        match tokens.next_short(code, is_plain) {
-            Short::Time(number) => {
-                clock = number_time(unit, clock, number.value, number.offset)?;
-            }
-            Short::Bit(high) => {
-                trace.put(micros(unit, clock), high)?;
-                clock = ahead(is_quick, tokens, unit, code, clock, &mut trace)?;
-            }
-            Short::Apart => {}
-            Short::Other => {
-                let Some(token) = tokens.next() else {
-                    break;
-                };
-                clock = take(token, tokens, unit, code, clock, &mut trace, &mut journals)?;
-            }
-        }
+    let mut reading = Reading::new(alloc);
+    match reading.read(tokens, unit, code) {
+        Ok(()) => reading.finish(unit),
+        Err(fault) => Err(fault),
     }
-    let end = micros(unit, clock);
-    let edges = trace.finish(end)?;
-    Ok(Body {
-        end,
-        edges,
-        journals,
-    })
 }

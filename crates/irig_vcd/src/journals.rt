@@ -1,20 +1,22 @@
 //! The journals of a dump, by their places.
 
-ghost use Rattle.std.specs.Prelude.{◌≡◌, ◌≤◌, ◌++◌, ◌∷◌, [], List, None, OnOk, IfErr, IfOk, IfSome};
+ghost use Rattle.std.specs.Prelude.{◌≡◌, ◌≤◌, ◌++◌, ◌∷◌, [], ℕ, List, None, Some, IfErr, IfOk};
 ghost use Rattle.irig_vcd.specs.declared.fault.VcdFault.TheVariants.{BadJournal};
-ghost use Rattle.std.specs.Prelude.{codes, filter, length, map};
+ghost use Rattle.std.specs.Prelude.{IfSome, codes, length, map};
 ghost use Rattle.std.specs.Str.{bytes_eq};
 ghost use Rattle.irig_vcd.specs.Answer.{Gives, name_of};
-ghost use Rattle.irig_vcd.specs.Code.Journals.{Holds, KeepsJournals, LiesIn};
-ghost use Rattle.irig_vcd.specs.Code.Section.{after_end};
+ghost use Rattle.irig_vcd.specs.Code.Journals.{Holds, LiesIn, text_at};
+ghost use Rattle.irig_vcd.specs.Code.Pending.{Begins, ReadsTo};
+ghost use Rattle.irig_vcd.specs.Code.Token.{word_of};
 ghost use Rattle.irig_vcd.specs.Events.{comment_word};
-ghost use Rattle.irig_vcd.specs.Journals.{Comment, comments_from, is_journal, journals_among};
-ghost use Rattle.irig_vcd.specs.Journals.{text_of};
+ghost use Rattle.irig_vcd.specs.Journals.{Comment, text_of};
+ghost use Rattle.irig_vcd.specs.Words.{Word};
 ghost use Rattle.irig_vcd.specs.Parts.{one_journal};
 
 use crate::fault::VcdFault;
+use crate::pending::Pending;
 use crate::section::{end_at, is_end};
-use crate::token::Tokens;
+use crate::token::{Token, Tokens};
 
 /// Where a text begins and where it ends, in bytes of the dump, from 0.
 #[derive(Clone, Copy)]
@@ -53,29 +55,48 @@ impl Journals {
         }
     }
 
-    /// Goes past the `$end` of a comment, and keeps its place if it is a journal.
-    pub fn take_comment(&mut self, tokens: &mut Tokens) -> Result<(), VcdFault>
-        ensures exact { Gives (λ _. tokens.new) result (after_end tokens.old) }
+    /// Goes past the `$end` of a comment whose first word was read, and keeps its place if it is a
+    /// journal. `journal` is where that begins, in bytes of the dump from 0.
+    pub fn take_rest(&mut self, journal: Option<usize>, tokens: &mut Tokens) -> Pending
+        ensures read { (code : List ℕ) (w : Word) → Begins journal w
+            → ReadsTo code comment_word (Some w) tokens.old None result tokens.new
+            self.old self.new }
         ensures fewer { length tokens.new ≤ length tokens.old }
-        ensures kept { OnOk result
-            (KeepsJournals (filter is_journal (comments_from comment_word None tokens.old))
-            (journals_among tokens.new) self.old self.new) }
     {
-        let Some(first) = tokens.next() else {
-            return Err(VcdFault::Unclosed);
-        };
-        if is_end(first.slice) {
-            return Ok(());
-        }
         let end = match end_at(tokens) {
             Ok(end) => end,
-            Err(fault) => return Err(fault),
+            Err(_) => return Pending::Rest(journal),
         };
-        if is_journal(first.slice) {
-            let start = first.offset;
+        if let Some(start) = journal {
             self.put(Place { start, end });
         }
-        Ok(())
+        Pending::Nothing
+    }
+
+    /// The same of a comment from its first word on.
+    pub fn take_comment(&mut self, tokens: &mut Tokens) -> Pending
+        ensures read { (code : List ℕ) → ReadsTo code comment_word None tokens.old None
+            result tokens.new self.old self.new }
+        ensures fewer { length tokens.new ≤ length tokens.old }
+    {
+        let Some(first) = tokens.next() else {
+            return Pending::Comment;
+        };
+        if is_end(first.slice) {
+            return Pending::Nothing;
+        }
+        self.take_rest(journal_at(first), tokens)
+    }
+
+    /// The place of the one journal, if there is one. A second one is a fault, at line 1.
+    pub fn place(self) -> Result<Option<Place>, VcdFault>
+        ensures { (all : List Comment) (bytes : List ℕ) → Holds all self
+            → Gives (text_at bytes) result (one_journal (map (text_of bytes) all)) }
+    {
+        if self.many {
+            return Err(VcdFault::BadJournal(1));
+        }
+        Ok(self.first)
     }
 
     /// The text of the one journal, if there is one. A second one is a fault, at line 1.
@@ -94,6 +115,17 @@ impl Journals {
             None => Ok(None),
             Some(place) => Ok(Some(&source[place.start..place.end])),
         }
+    }
+}
+
+/// Where a journal begins, if this is the first word of one.
+fn journal_at(first: Token<'_>) -> Option<usize>
+    ensures { Begins result (word_of first.entry) }
+{
+    if is_journal(first.slice) {
+        Some(first.offset)
+    } else {
+        None
     }
 }
 

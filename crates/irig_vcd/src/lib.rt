@@ -3,6 +3,8 @@
 
 mod apart;
 mod changes;
+mod dump_reader;
+mod edges;
 mod event;
 mod fault;
 mod header;
@@ -10,8 +12,12 @@ mod journals;
 mod kept_pulse;
 mod lanes;
 mod law;
+mod part;
+mod pending;
+mod pulse;
 mod pulses;
 mod reader;
+mod reading;
 mod recording;
 mod section;
 mod short;
@@ -23,8 +29,11 @@ mod unit;
 mod variable;
 mod writer;
 
+pub use dump_reader::DumpReader;
 pub use fault::VcdFault;
+pub use journals::Place;
 pub use law::{edges_tell_levels, read_back, read_back_parts};
+pub use pulse::Pulse;
 pub use reader::{read, read_parts};
 pub use recording::Recording;
 pub use token::{Kind, Token, Tokens};

@@ -2,12 +2,10 @@
 
 ghost use Rattle.std.specs.Prelude.{◌≡◌, ◌≤◌, ◌+◌, ◌∷◌, [], ℕ, List, true, Result, length};
 ghost use Rattle.std.specs.Prelude.{slice_index, IfSome, IfOk};
-ghost use Rattle.irig_vcd.specs.Code.Along.{Along, HasFallen, TakesEdge, at_micros};
+ghost use Rattle.irig_vcd.specs.Code.Along.{Along, HasFallen, SameJournals, TakesEdge, Total};
+ghost use Rattle.irig_vcd.specs.Code.Along.{at_micros};
 ghost use Rattle.irig_vcd.specs.Code.Time.{IsTime};
-ghost use Rattle.irig_vcd.specs.Journals.{journals_among};
-ghost use Rattle.irig_vcd.specs.Level.{Change};
 ghost use Rattle.irig_vcd.specs.Words.{is_code};
-ghost use Rattle.irig_vcd.specs.declared.fault.VcdFault.{VcdFault};
 
 use crate::lanes::lanes_end;
 use crate::time::{Clock, cut};
@@ -84,13 +82,14 @@ fn pulses_in(
     requires dark { is_code (code ∷ []) ≡ true }
     requires fallen { HasFallen trace.old }
     requires late { trace.old.time ≤ from.whole }
-    ensures along { IfOk result (λ now. (total : Result (List Change × ℕ) VcdFault)
+    ensures along { IfOk result (λ now. (total : Total)
         → Along (code ∷ []) unit total trace.old from tokens.old
         → Along (code ∷ []) unit total trace.new now tokens.new) }
     ensures fewer { length tokens.new ≤ length tokens.old }
-    ensures journals { journals_among tokens.old ≡ journals_among tokens.new }
+    ensures journals { SameJournals tokens.old tokens.new }
 {
     let source = tokens.source;
+    let base = tokens.base;
     let mut at = tokens.at;
     if at < 16 {
         return Ok(from);
@@ -130,11 +129,11 @@ fn pulses_in_micros(
     requires dark { is_code (code ∷ []) ≡ true }
     requires fallen { HasFallen trace.old }
     requires late { trace.old.time ≤ from }
-    ensures along { IfOk result (λ time. (total : Result (List Change × ℕ) VcdFault)
+    ensures along { IfOk result (λ time. (total : Total)
         → Along (code ∷ []) 9 total trace.old (at_micros from) tokens.old
         → Along (code ∷ []) 9 total trace.new (at_micros time) tokens.new) }
     ensures fewer { length tokens.new ≤ length tokens.old }
-    ensures journals { journals_among tokens.old ≡ journals_among tokens.new }
+    ensures journals { SameJournals tokens.old tokens.new }
 {
     let from = Clock {
         whole: from,
@@ -159,11 +158,11 @@ pub fn pulses(
     requires fallen { HasFallen trace.old }
     requires late { trace.old.time ≤ from.whole }
     requires time { IsTime unit from }
-    ensures along { IfOk result (λ now. (total : Result (List Change × ℕ) VcdFault)
+    ensures along { IfOk result (λ now. (total : Total)
         → Along (code ∷ []) unit total trace.old from tokens.old
         → Along (code ∷ []) unit total trace.new now tokens.new) }
     ensures fewer { length tokens.new ≤ length tokens.old }
-    ensures journals { journals_among tokens.old ≡ journals_among tokens.new }
+    ensures journals { SameJournals tokens.old tokens.new }
 {
     if unit.is_microsecond() {
         let whole = pulses_in_micros(tokens, code, from.whole, trace)?;

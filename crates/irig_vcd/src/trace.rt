@@ -5,9 +5,10 @@ ghost use Rattle.std.specs.Prelude.{OnOk, OnErr, IfOk};
 ghost use Rattle.std.specs.Prelude.{length, take, if◌then◌else◌};
 ghost use Rattle.irig_vcd.specs.Level.{Change, change, edges_up_to, differs};
 ghost use Rattle.irig_vcd.specs.Code.Along.{HasFallen};
-ghost use Rattle.irig_vcd.specs.Code.Trace.{edges_kept, Follows};
+ghost use Rattle.irig_vcd.specs.Code.Edges.{edges_kept};
+ghost use Rattle.irig_vcd.specs.Code.Trace.{Follows};
 
-use crate::recording::EDGES_LIMIT;
+use crate::edges::Edges;
 use std::alloc::{AllocError, Global};
 
 /// A level that was followed up to a time: the edges before it, the level before it, and the level
@@ -17,7 +18,7 @@ pub struct Trace {
     time: u64,
     before: bool,
     now: bool,
-    edges: Vec<u64>,
+    edges: Edges,
 }
 
 impl Trace {
@@ -30,7 +31,7 @@ impl Trace {
             time: 0,
             before: false,
             now: false,
-            edges: Vec::new(alloc),
+            edges: Edges::new(alloc),
         }
     }
 
@@ -40,7 +41,7 @@ impl Trace {
         ensures ok { OnOk result
             ((changes : List Change) → Follows changes self.old → Follows changes self.new) }
         ensures time { OnOk result (self.new.time ≡ time) }
-        ensures refused { OnErr result (length self.old.edges.items ≤ 2 ^ 23) }
+        ensures refused { OnErr result (length self.old.edges ≤ 2 ^ 23) }
         ensures memory { OnErr result (Follows [] self.old → ⊥) }
     {
         if time <= self.time {
@@ -59,7 +60,7 @@ impl Trace {
             ((changes : List Change) → Follows changes self.old
             → Follows (changes ++ change time high ∷ []) self.new) }
         ensures time { OnOk result (self.new.time ≡ time) }
-        ensures refused { OnErr result (length self.old.edges.items ≤ 2 ^ 23) }
+        ensures refused { OnErr result (length self.old.edges ≤ 2 ^ 23) }
         ensures memory { OnErr result (Follows [] self.old → ⊥) }
     {
         self.advance(time)?;
@@ -71,23 +72,22 @@ impl Trace {
     pub fn has_fallen(&self) -> bool
         ensures { result ≡ true → HasFallen self.entry.now }
     {
-        self.before && !self.now
+        self.before && !self.now && self.edges.is_open()
     }
 
     /// Whether two edges more are kept.
-    #[tactic(auto, unfolding(crate::specs::Code::Trace::edges_kept))]
     #[inline(always)]
     pub fn has_room(&self) -> bool
-        ensures { result ≡ true → length self.entry.now.edges.items + 2 ≤ edges_kept }
+        ensures { result ≡ true → length self.entry.now.edges + 2 ≤ edges_kept }
     {
-        self.edges.len() < EDGES_LIMIT
+        self.edges.has_room()
     }
 
     /// Takes a rise and a fall after a fall, at times in microseconds.
     #[inline(always)]
     pub fn put_pulse(&mut self, rise: u64, fall: u64) -> Result<(), AllocError>
         requires fallen { HasFallen self.old }
-        requires room { length self.old.edges.items + 2 ≤ edges_kept }
+        requires room { length self.old.edges + 2 ≤ edges_kept }
         requires first { self.old.time < rise }
         requires second { rise < fall }
         ensures ok { OnOk result
@@ -96,18 +96,17 @@ impl Trace {
         ensures time { OnOk result (self.new.time ≡ fall) }
         ensures fallen { OnOk result (HasFallen self.new) }
     {
-        self.edges.push(self.time)?;
-        self.edges.push(rise)?;
+        self.edges.close_and_open(self.time, rise)?;
         self.time = fall;
         Ok(())
     }
 
     /// The edges of a recording that ends at a time.
-    pub fn finish(mut self, end: u64) -> Result<Vec<u64>, AllocError>
+    pub fn finish(mut self, end: u64) -> Result<Edges, AllocError>
         requires { self.time ≤ end }
         ensures edges { IfOk result
             (λ edges. (changes : List Change) → Follows changes self
-            → edges.items ≡ take edges_kept (edges_up_to changes end)) }
+            → edges ≡ take edges_kept (edges_up_to changes end)) }
         ensures memory { OnErr result (Follows [] self → ⊥) }
     {
         self.advance(end)?;
@@ -125,18 +124,17 @@ pub fn differ(level: bool, other: bool) -> bool
 
 /// Adds an edge, if there is one, after the others. If there is one too many already, it adds none
 /// and asks for no memory.
-fn keep(edges: &mut Vec<u64>, is_edge: bool, edge: u64) -> Result<(), AllocError>
+fn keep(edges: &mut Edges, is_edge: bool, edge: u64) -> Result<(), AllocError>
     ensures ok { OnOk result
-        ((all : List ℕ) → edges.old.items ≡ take edges_kept all
-        → edges.new.items ≡ take edges_kept (all ++ (if is_edge then edge ∷ [] else []))) }
-    ensures refused { OnErr result ((is_edge ≡ true) × (length edges.old.items ≤ 2 ^ 23)) }
+        ((all : List ℕ) → edges.old ≡ take edges_kept all
+        → edges.new ≡ take edges_kept (all ++ (if is_edge then edge ∷ [] else []))) }
+    ensures refused { OnErr result ((is_edge ≡ true) × (length edges.old ≤ 2 ^ 23)) }
 {
     if !is_edge {
         return Ok(());
     }
-    if edges.len() > EDGES_LIMIT {
+    if edges.is_full() {
         return Ok(());
     }
-    edges.push(edge)?;
-    Ok(())
+    edges.push(edge)
 }

@@ -6,8 +6,10 @@ use Rattle.irig_vcd.specs.Changes.{changes_from}
 use Rattle.irig_vcd.specs.Code.Time.{IsTime, units_of}
 use Rattle.irig_vcd.specs.Code.Trace.{Follows}
 use Rattle.irig_vcd.specs.Digits.{is_number, number_from}
-use Rattle.irig_vcd.specs.Events.{any_word}
+use Rattle.irig_vcd.specs.Events.{Next, any_word}
+use Rattle.irig_vcd.specs.Journals.{journals_among}
 use Rattle.irig_vcd.specs.Level.{Change}
+use Rattle.irig_vcd.specs.Recording.{is_even_long}
 use Rattle.irig_vcd.specs.Times.{micros_of}
 use Rattle.irig_vcd.specs.Words.{Word, words_from, rest_of, hash, scalar}
 use Rattle.irig_vcd.specs.declared.fault.VcdFault.{VcdFault}
@@ -20,25 +22,41 @@ abbrev pub behind : List Change → Result (List Change × ℕ) VcdFault
     → Result (List Change × ℕ) VcdFault
 behind before read = read >>= λ p. pair_of (before ++ p.0) p.1
 
--- a trace has followed all words but those that are left, and reading all words gives total
-abbrev pub Along : List ℕ → ℕ → Result (List Change × ℕ) VcdFault → Trace → Clock → List Word
-    → Type 0
+-- what is read of all words in the end, by the words that come after those that are here
+abbrev pub Total : Type 0
+Total = List Word → Result (List Change × ℕ) VcdFault
+
+-- what is read in the end after changes and a time in units, by the words after those here
+abbrev pub read_on : Next → List Change → List ℕ → ℕ → ℕ → List Word → Total
+read_on next before code unit last words more =
+    behind before (changes_from next code unit last (words ++ more))
+
+-- a trace has followed all words but those that are left, and reading all words gives total,
+-- whatever words come after them
+abbrev pub Along : List ℕ → ℕ → Total → Trace → Clock → List Word → Type 0
 Along code unit total trace clock words =
     (before : List Change) × record {
       time : IsTime unit clock;
       late : trace.time ≤ micros_of unit (units_of unit clock);
       follows : Follows before trace;
-      rest : behind before (changes_from any_word code unit (units_of unit clock) words) ≡ total;
+      rest : (more : List Word)
+          → read_on any_word before code unit (units_of unit clock) words more ≡ total more;
     }
+
+-- the journals of words are those of others, whatever words come after them
+abbrev pub SameJournals : List Word → List Word → Type 0
+SameJournals words others =
+    (more : List Word) → journals_among (words ++ more) ≡ journals_among (others ++ more)
 
 -- a time in whole microseconds
 abbrev pub at_micros : ℕ → Clock
 at_micros n = record { whole = n; rest = 0 }
 
--- the level was high before the last change, and is low from it on
+-- the level was high before the last change, and is low from it on; the rise is kept
 pub record HasFallen (t : Trace) : Type 0 where
   pub before : t.before ≡ true
   pub now : t.now ≡ false
+  pub risen : is_even_long t.edges ≡ false
 
 -- the next words are a time and a value on a code of one byte
 pub record TakesEdge (s : List ℕ) (at : ℕ) (high : Bool) (code unit : ℕ) (e : Edge) : Type 0 where

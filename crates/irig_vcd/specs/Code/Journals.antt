@@ -1,6 +1,6 @@
 -- What the code keeps of the journals so far.
-use Rattle.std.specs.Prelude.{◌≡◌, ◌≤◌, ◌++◌, ℕ, Bool, true, false, List, [], ◌∷◌, length}
-use Rattle.std.specs.Prelude.{Option, Some, None, IfSome}
+use Rattle.std.specs.Prelude.{◌≡◌, ◌≤◌, ◌-◌, ℕ, Bool, true, false, List, [], ◌∷◌, length}
+use Rattle.std.specs.Prelude.{Option, Some, None, IfSome, take, drop}
 use Rattle.irig_vcd.specs.Journals.{Comment}
 use Rattle.irig_vcd.specs.declared.journals.Journals.{Journals}
 use Rattle.irig_vcd.specs.declared.journals.Place.{Place}
@@ -26,11 +26,11 @@ pub record Holds (all : List Comment) (j : Journals) : Type 0 where
   pub first : place_view j.first ≡ first_place all
   pub many : j.many ≡ are_many all
 
--- of the journals that were left, those before the rest were kept after the others
-abbrev pub KeepsJournals : List Comment → List Comment → Journals → Journals → Type 0
-KeepsJournals left rest old new = (done : List Comment) → Holds done old
-    → (more : List Comment) × Holds (done ++ more) new × (left ≡ more ++ rest)
-
 -- the place that is kept lies in a text
 abbrev pub LiesIn : List ℕ → Journals → Type 0
 LiesIn text j = IfSome j.first (λ p. (p.start ≤ p.end) × (p.end ≤ length text))
+
+-- the bytes at a place, if there is one
+abbrev pub text_at : List ℕ → Option Place → Option (List ℕ)
+text_at bytes None = None
+text_at bytes (Some p) = Some (take (p.end - p.start) (drop p.start bytes))

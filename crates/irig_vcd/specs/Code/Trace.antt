@@ -2,6 +2,7 @@
 use Rattle.std.specs.Prelude.{◌≡◌, ◌≤◌, ℕ, Bool, List, Result, Ok, Err, take}
 use Rattle.std.specs.List.{AllByRecursion}
 use Rattle.irig_vcd.specs.Answer.{IsFaultOf}
+use Rattle.irig_vcd.specs.Code.Edges.{edges_kept}
 use Rattle.irig_vcd.specs.Level.{Change, change, level_by_changes, level_before, edges_below}
 use Rattle.irig_vcd.specs.Level.{edges_up_to}
 use Rattle.irig_vcd.specs.declared.changes.Body.{Body}
@@ -12,16 +13,12 @@ use Rattle.irig_vcd.specs.declared.trace.Trace.{Trace}
 abbrev pub change_of : ℕ × Bool → Change
 change_of c = change c.0 c.1
 
--- the most edges that a trace keeps: one more than a recording may have
-unfoldable pub edges_kept : ℕ
-edges_kept = 8388609
-
 -- a trace has followed these changes
 pub record Follows (changes : List Change) (t : Trace) : Type 0 where
   pub upto : AllByRecursion (λ c. c.time ≤ t.time) changes
   pub before : t.before ≡ level_before changes t.time
   pub now : t.now ≡ level_by_changes changes t.time
-  pub edges : t.edges.items ≡ take edges_kept (edges_below changes t.time)
+  pub edges : t.edges ≡ take edges_kept (edges_below changes t.time)
 
 -- the edges of changes up to an end, up to the most that are kept
 abbrev pub IsKept : List Change → ℕ → List ℕ → Type 0
@@ -32,5 +29,5 @@ IsKept changes end edges = edges ≡ take edges_kept (edges_up_to changes end)
 abbrev pub KeepsEdges : Result Body VcdFault → Result (List Change × ℕ) VcdFault → Type 0
 KeepsEdges (Ok x) read =
     (changes : List Change) × (read ≡ Ok (changes, x.end))
-    × IsKept changes x.end x.edges.items
+    × IsKept changes x.end x.edges
 KeepsEdges (Err e) read = IsFaultOf e read

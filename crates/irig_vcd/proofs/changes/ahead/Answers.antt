@@ -1,7 +1,5 @@
-use Rattle.std.proofs.Common.{ℕ, List, Result, subst}
-use Rattle.irig_vcd.specs.Code.Along.{Along}
-use Rattle.irig_vcd.specs.Level.{Change}
-use Rattle.irig_vcd.specs.declared.fault.VcdFault.{VcdFault}
+use Rattle.std.proofs.Common.{ℕ, List, subst}
+use Rattle.irig_vcd.specs.Code.Along.{Along, Total}
 use Rattle.irig_vcd.proofs.PulseSteps.{late_fine, one_byte}
 use Rattle.irig_vcd.proofs.changes.ahead.Goals as goal
 
@@ -11,6 +9,6 @@ pulses-requires-clause-late c = late_fine c.args.unit c.args.clock c.args.trace.
 pub returns-then-has_sign-clause-along : goal.returns-then-has_sign-clause-along
 returns-then-has_sign-clause-along c =
     subst
-    (λ (code : List ℕ). (total : Result (List Change × ℕ) VcdFault) → Along code c.args.unit total c.args.trace.now c.args.clock c.args.tokens.now
+    (λ (code : List ℕ). (total : Total) → Along code c.args.unit total c.args.trace.now c.args.clock c.args.tokens.now
     → Along code c.args.unit total c.pulses.new.trace c.in_ok-now.now c.pulses.new.tokens)
     (one_byte c.args.code.now (c.requires.one c.if-is_quick.true)) c.in_ok-now.ensures.along

@@ -1,8 +1,6 @@
-use Rattle.std.proofs.Common.{◌≡◌, ◌∷◌, ◌∙◌, [], ℕ, List, Result, IfOk, subst, sym}
+use Rattle.std.proofs.Common.{◌≡◌, ◌∷◌, ◌∙◌, [], ℕ, IfOk, subst, sym}
 use Rattle.std.proofs.lemmas.Bool.{eqb-true}
-use Rattle.irig_vcd.specs.Code.Along.{Along}
-use Rattle.irig_vcd.specs.Level.{Change}
-use Rattle.irig_vcd.specs.declared.fault.VcdFault.{VcdFault}
+use Rattle.irig_vcd.specs.Code.Along.{Along, Total}
 use Rattle.irig_vcd.specs.declared.time.Clock.{Clock}
 use Rattle.irig_vcd.proofs.PulseSteps.{step_micros}
 use Rattle.irig_vcd.proofs.pulses.pulses.Goals as goal
@@ -19,5 +17,5 @@ returns-then-is_nanosecond-clause-along c =
     let is : c.new.result ≡ c.args.unit = c.new.ensures ∙ sym six in
     subst
     (λ (u : ℕ). IfOk c.pulses_in.result
-    (λ (now : Clock). (total : Result (List Change × ℕ) VcdFault) → Along (c.args.code ∷ []) u total c.args.trace.now c.args.from c.args.tokens.now
+    (λ (now : Clock). (total : Total) → Along (c.args.code ∷ []) u total c.args.trace.now c.args.from c.args.tokens.now
     → Along (c.args.code ∷ []) u total c.pulses_in.new.trace now c.pulses_in.new.tokens)) is c.pulses_in.ensures.along

@@ -5,6 +5,7 @@ use Rattle.irig_vcd.proofs.pulses.pulses_in.Goals as goal
 pub loop-at-preserved : goal.loop-at-preserved
 loop-at-preserved c =
     let i = c.loop-at.invariant in
+    let b = c.tokens.inside.base in
     let rise = c.in-Some.rise in
     let fall = c.in-Some-edge_at.fall in
     let up = c.in-Some.ensures in
@@ -18,9 +19,9 @@ loop-at-preserved c =
       within = omega (arith, up.near, down.near, c.loop-at-test.true);
       fallen = put.fallen;
       late = omega (arith, put.time);
-      fewer = omega (arith, fewer_left _ c.loop-at.at _ _ _ rise up, fewer_left _ rise.end _ _ _ fall down, i.fewer);
-      journals = i.journals ∙ (past_edge _ c.loop-at.at _ _ _ rise up ∙ past_edge _ rise.end _ _ _ fall down);
+      fewer = omega (arith, fewer_left b _ c.loop-at.at _ _ _ rise up, fewer_left b _ rise.end _ _ _ fall down, i.fewer);
+      journals = λ more. i.journals more ∙ (past_edge b _ c.loop-at.at _ _ _ rise up more ∙ past_edge b _ rise.end _ _ _ fall down more);
       along = λ total h.
-          along_pulse c.args.code c.args.unit c.loop-at.clock total c.loop-at.trace c.put_pulse.new.self _ c.loop-at.at
+          along_pulse b c.args.code c.args.unit c.loop-at.clock total c.loop-at.trace c.put_pulse.new.self _ c.loop-at.at
           rise fall c.requires.unit up down first second top put.ok put.time (i.along total h);
     }

@@ -1,9 +1,6 @@
-use Rattle.std.proofs.Common.{◌≡◌, ◌≤◌, ◌-◌, ◌∷◌, [], ℕ, List, Result, false, length, drop}
-use Rattle.irig_vcd.specs.Words.{words_from}
-use Rattle.irig_vcd.specs.Code.Along.{Along, HasFallen}
-use Rattle.irig_vcd.specs.Journals.{journals_among}
-use Rattle.irig_vcd.specs.Level.{Change}
-use Rattle.irig_vcd.specs.declared.fault.VcdFault.{VcdFault}
+use Rattle.std.proofs.Common.{◌≤◌, ◌-◌, ◌∷◌, [], length}
+use Rattle.irig_vcd.specs.Code.Along.{Along, HasFallen, SameJournals, Total}
+use Rattle.irig_vcd.proofs.PulseSteps.{words_here}
 use Rattle.irig_vcd.proofs.pulses.pulses_in.Given as goal
 
 abbrev pub invariant-loop-at : goal.invariant-loop-at
@@ -12,10 +9,10 @@ invariant-loop-at l = record {
   within : l.at ≤ length l.source;
   fallen : HasFallen l.trace;
   late : l.trace.time ≤ l.clock.whole;
-  fewer : length (words_from l.at false (drop l.at l.source)) ≤ length l.fn.tokens;
-  journals : journals_among l.fn.tokens ≡ journals_among (words_from l.at false (drop l.at l.source));
-  along : (total : Result (List Change × ℕ) VcdFault) → Along (l.code ∷ []) l.unit total l.fn.trace l.fn.from l.fn.tokens
-      → Along (l.code ∷ []) l.unit total l.trace l.clock (words_from l.at false (drop l.at l.source));
+  fewer : length (words_here l.base l.source l.at) ≤ length l.fn.tokens;
+  journals : SameJournals l.fn.tokens (words_here l.base l.source l.at);
+  along : (total : Total) → Along (l.code ∷ []) l.unit total l.fn.trace l.fn.from l.fn.tokens
+      → Along (l.code ∷ []) l.unit total l.trace l.clock (words_here l.base l.source l.at);
 }
 
 abbrev pub decreases-loop-at : goal.decreases-loop-at

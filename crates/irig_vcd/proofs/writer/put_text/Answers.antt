@@ -7,12 +7,12 @@ use Rattle.irig_vcd.proofs.writer.put_text.Goals as goal
 
 pub returns : goal.returns
 returns c =
-    let lawful = c.edges-edges.ensures.lawful in
-    let exact = c.edges-edges.ensures.exact in
+    let lawful = c.pulses-pulses.ensures.lawful in
+    let exact = c.pulses-pulses.ensures.exact in
     on_ok_weaker c.finish.result
-    (λ ends. ends ∙ ap (λ n. c.loop-edge.text.items ++ length_line c.loop-edge.writer.last n) c.length.ensures.exact
-    ∙ all_put c.loop-edge.high c.loop-edge.edge-index c.args.recording.now.micros c.args.text.now.items c.loop-edge.text.items c.loop-edge.writer.last
-    c.edges-edges.result.now
-    c.loop-edge-test.false c.loop-edge.invariant.text c.loop-edge.invariant.last (rw exact lawful.rises) (rw exact lawful.within)
+    (λ ends. ends ∙ ap (λ n. c.loop-pulse.text.items ++ length_line c.loop-pulse.writer.last n) c.length.ensures.exact
+    ∙ all_put c.loop-pulse.pulse-index c.args.recording.now.micros c.args.text.now.items c.loop-pulse.text.items c.loop-pulse.writer.last
+    c.pulses-pulses.result.now
+    c.loop-pulse-test.false c.loop-pulse.invariant.text c.loop-pulse.invariant.last (rw exact lawful.rises) (rw exact lawful.within)
     ∙ ap (λ es. c.args.text.now.items ++ file_text (recording_view c.args.recording.now.micros es)) exact)
     c.finish.ensures.text

@@ -1,0 +1,41 @@
+//! What is open after a word.
+
+ghost use Rattle.std.specs.Prelude.{◌≡◌, ℕ, List, [], Option};
+ghost use Rattle.irig_vcd.specs.Answer.{Gives};
+ghost use Rattle.irig_vcd.specs.Changes.{ended};
+ghost use Rattle.irig_vcd.specs.Code.Pending.{Means};
+ghost use Rattle.irig_vcd.specs.Events.{Next};
+ghost use Rattle.irig_vcd.specs.Words.{Word};
+
+use crate::fault::VcdFault;
+
+/// A value without its code: its place in the dump, in bytes from 0, and the level that it gives
+/// the wire of its code.
+#[derive(Clone, Copy)]
+pub struct Value {
+    pub offset: usize,
+    pub level: Result<Option<bool>, VcdFault>,
+}
+
+/// What is open after a word: nothing, a value, a comment of no word so far, or a comment with its
+/// first word. Of a journal that one's place is kept, in bytes of the dump from 0.
+#[derive(Clone, Copy)]
+pub enum Pending {
+    Nothing,
+    Code(Value),
+    Comment,
+    Rest(Option<usize>),
+}
+
+/// What is at fault if a dump ends here.
+pub fn closed(pending: Pending) -> Result<(), VcdFault>
+    ensures { (next : Next) (first : Option Word) (time : ℕ) → Means pending next first
+        → Gives (λ _. ([], time)) result (ended next time) }
+{
+    match pending {
+        Pending::Nothing => Ok(()),
+        Pending::Code(value) => Err(VcdFault::BadToken(value.offset)),
+        Pending::Comment => Err(VcdFault::Unclosed),
+        Pending::Rest(_) => Err(VcdFault::Unclosed),
+    }
+}
