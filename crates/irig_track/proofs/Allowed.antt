@@ -3,7 +3,7 @@ use Rattle.std.proofs.Common.{◌≡◌, ℕ, suc, zero, ℤ, ◌+◌, ◌-◌, 
 use Rattle.std.proofs.Common.{subst, arith, append_assoc}
 use Rattle.std.proofs.lemmas.List.{take-map, length-map, drop-drop}
 use Rattle.irig_vcd.specs.Recording.{RisesFrom, UpTo}
-use Rattle.irig_track.specs.declared.pulse.Pulse.{Pulse}
+use Rattle.irig_vcd.specs.declared.pulse.Pulse.{Pulse}
 use Rattle.irig_track.specs.Edges.{edges_of}
 use Rattle.irig_track.specs.Free.{following, first_or}
 use Rattle.irig_track.specs.Shifts.{moved_pulse, moved, ahead, back, count_to, StaysFromZero, CanShift}

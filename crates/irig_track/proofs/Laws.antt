@@ -3,12 +3,13 @@ use Rattle.std.proofs.Common.{◌≡◌, ℕ, ◌+◌, ◌<◌, ◌≤◌, ◌==
 use Rattle.std.proofs.Common.{◌∙◌, subst, ◌⊎◌, inl, inr, arith, append_assoc}
 use Rattle.std.proofs.lemmas.Bool.Decides.{nat_tests}
 use Rattle.std.proofs.lemmas.List.{take-append-drop, drop-drop}
-use Rattle.irig_track.specs.declared.pulse.Pulse.{Pulse}
+use Rattle.irig_vcd.specs.declared.pulse.Pulse.{Pulse}
 use Rattle.irig_vcd.specs.Recording.{RisesFrom, UpTo}
 use Rattle.irig_track.specs.Edges.{Under, has, edges_of, is_edge, with_both, replaced, without, without_between, inverted, pulse}
 use Rattle.irig_track.specs.Toggles.{flipped, toggled}
 use Rattle.irig_track.specs.Splices.{spliced, piece}
-use Rattle.irig_track.proofs.RisingLists.{rises_left, rises_right, has_there, edges_of-append, has-flipped_same, has-flipped_other, RisesFrom-flipped, test_eq}
+use Rattle.irig_vcd.proofs.PulseEdges.{edges_of-append}
+use Rattle.irig_track.proofs.RisingLists.{rises_left, rises_right, has_there, has-flipped_same, has-flipped_other, RisesFrom-flipped, test_eq}
 use Rattle.irig_track.proofs.RisingLists.{test_ne, under_next}
 use Rattle.irig_track.proofs.Sets.{has-append, has-splice, same_or_not}
 

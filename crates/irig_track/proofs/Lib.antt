@@ -3,7 +3,6 @@ pub mod RisingLists
 pub mod Below
 pub mod Sets
 -- Pulses and their edges.
-pub mod Pairs
 pub mod Places
 pub mod Searches
 pub mod Recordings

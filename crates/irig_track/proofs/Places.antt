@@ -1,7 +1,7 @@
 -- What one pulse of a track says of the edges round it.
 use Rattle.std.proofs.Common.{◌≡◌, ℕ, suc, zero, ◌+◌, ◌<◌, ◌≤◌, ◌==◌, false, ◌||◌, List, [], ◌∷◌, drop, slice_get, Some, refl, ap, ◌∙◌, subst, arith, inl, inr}
 use Rattle.irig_vcd.specs.Recording.{RisesFrom, UpTo}
-use Rattle.irig_track.specs.declared.pulse.Pulse.{Pulse}
+use Rattle.irig_vcd.specs.declared.pulse.Pulse.{Pulse}
 use Rattle.irig_track.specs.Edges.{edges_of, has, is_edge}
 use Rattle.irig_track.specs.Splices.{risen_by}
 use Rattle.irig_track.specs.Free.{first_or}

@@ -1,6 +1,6 @@
 -- Pulses that fit between two times.
 use Rattle.std.proofs.Common.{◌≡◌, ℕ, suc, zero, ◌+◌, ◌<◌, ◌≤◌, List, [], ◌∷◌, ◌++◌, take, drop, slice_get, Some, sym, ap, ◌∙◌, subst, arith}
-use Rattle.irig_track.specs.declared.pulse.Pulse.{Pulse}
+use Rattle.irig_vcd.specs.declared.pulse.Pulse.{Pulse}
 use Rattle.irig_vcd.specs.Recording.{RisesFrom}
 use Rattle.irig_track.specs.Edges.{edges_of}
 use Rattle.irig_track.specs.Free.{following}

@@ -1,20 +1,14 @@
 -- Tracks and recordings: pulses on the one side, edges on the other.
-use Rattle.std.proofs.Common.{◌≡◌, ℕ, ◌+◌, ◌^◌, ◌<◌, ◌≤◌, Bool, true, false, not, List, [], ◌∷◌, length, refl, sym, ap, ◌∙◌, subst, arith, inl, inr}
+use Rattle.std.proofs.Common.{◌≡◌, ℕ, ◌+◌, ◌^◌, ◌<◌, ◌≤◌, true, false, not, List, [], ◌∷◌, length, refl, sym, ap, ◌∙◌, subst, arith, inl, inr}
 use Rattle.irig_vcd.specs.Recording.{RisesFrom, IsRecording, is_even_long}
-use Rattle.irig_track.specs.declared.pulse.Pulse.{Pulse}
+use Rattle.irig_vcd.specs.declared.pulse.Pulse.{Pulse}
+use Rattle.irig_vcd.proofs.Lawful.{not-not}
 use Rattle.irig_track.specs.Edges.{edges_of, has, is_edge}
 use Rattle.irig_track.specs.Toggles.{flipped, toggled, CanToggle}
 use Rattle.irig_track.specs.Track.{IsTrack}
-use Rattle.irig_track.proofs.RisingLists.{three, flip_low, flip_same, flip_high, has_here, has_there, has_none, has-flipped_other, length-edges_of}
+use Rattle.irig_vcd.proofs.PulseEdges.{length-edges_of, even-edges_of}
+use Rattle.irig_track.proofs.RisingLists.{three, flip_low, flip_same, flip_high, has_here, has_there, has_none, has-flipped_other}
 use Rattle.irig_track.proofs.RisingLists.{RisesFrom-flipped, UpTo-flipped}
-
-pub not-not : (b : Bool) → not (not b) ≡ b
-not-not true = refl
-not-not false = refl
-
-even-edges_of : (ps : List Pulse) → is_even_long (edges_of ps) ≡ true
-even-edges_of [] = refl
-even-edges_of (p ∷ ps) = not-not (is_even_long (edges_of ps)) ∙ even-edges_of ps
 
 -- the edges of a track are a recording
 pub recording_of : (micros : ℕ) (ps : List Pulse) → IsTrack micros ps → IsRecording micros (edges_of ps)

@@ -1,12 +1,11 @@
 -- Laws of a rising list of edges.
-use Rattle.std.proofs.Common.{◌≡◌, ℕ, suc, zero, ◌+◌, ◌*◌, ◌<◌, ◌≤◌, ◌≢◌, ◌==◌, nat_lt, true, false, cond}
+use Rattle.std.proofs.Common.{◌≡◌, ℕ, suc, zero, ◌+◌, ◌<◌, ◌≤◌, ◌≢◌, ◌==◌, nat_lt, true, false, cond}
 use Rattle.std.proofs.Common.{not, List, [], ◌∷◌, ◌++◌, length, get_or, refl, sym, ap, ◌∙◌, subst, ◌⊎◌, inl}
 use Rattle.std.proofs.Common.{inr, arith}
 use Rattle.std.proofs.lemmas.Bool.Decides.{nat_tests}
 use Rattle.irig_vcd.specs.Recording.{RisesFrom, UpTo}
-use Rattle.irig_track.specs.Edges.{Under, has, edges_of}
+use Rattle.irig_track.specs.Edges.{Under, has}
 use Rattle.irig_track.specs.Toggles.{flipped}
-use Rattle.irig_track.specs.declared.pulse.Pulse.{Pulse}
 
 pub rises_low : (low : ℕ) (xs : List ℕ) (j : ℕ) → RisesFrom low xs → j < length xs → low ≤ get_or xs j 0
 rises_low low [] j h lt = absurd (omega arith)
@@ -141,14 +140,6 @@ flipped-past t (x ∷ l) ys h = flip_high t x (l ++ ys) h.0 ∙ ap (λ zs. x ∷
 pub Under-more : (t u : ℕ) (l : List ℕ) → t ≤ u → Under t l → Under u l
 Under-more t u [] le h = tt
 Under-more t u (x ∷ l) le h = (omega (arith, h.0), Under-more t u l le h.1)
-
-pub edges_of-append : (ps qs : List Pulse) → edges_of (ps ++ qs) ≡ edges_of ps ++ edges_of qs
-edges_of-append [] qs = refl
-edges_of-append (p ∷ ps) qs = ap (λ xs. p.rise ∷ p.fall ∷ xs) (edges_of-append ps qs)
-
-pub length-edges_of : (ps : List Pulse) → length (edges_of ps) ≡ 2 * length ps
-length-edges_of [] = refl
-length-edges_of (p ∷ ps) = omega (arith, length-edges_of ps)
 
 pub rises_left : (low : ℕ) (xs ys : List ℕ) → RisesFrom low (xs ++ ys) → RisesFrom low xs
 rises_left low [] ys h = tt

@@ -5,7 +5,7 @@ use Rattle.irig_vcd.specs.FileText.{file_text, header_text, begins_high, lines_a
 use Rattle.irig_vcd.specs.Recording.{recording_view}
 use Rattle.irig_vcd.proofs.WrittenChanges.{last_or}
 use Rattle.irig_vcd.proofs.WrittenText.{all_lines, whole_text}
-use Rattle.irig_track.specs.declared.pulse.Pulse.{Pulse}
+use Rattle.irig_vcd.specs.declared.pulse.Pulse.{Pulse}
 use Rattle.irig_track.specs.Edges.{edges_of}
 use Rattle.irig_track.specs.Texts.{lines_of, last_fall, lines_after}
 use Rattle.irig_track.specs.Track.{IsTrack}

@@ -4,12 +4,13 @@ use Rattle.std.proofs.Common.{ap, ◌∙◌, subst, arith, append_assoc}
 use Rattle.std.proofs.lemmas.List.{take-append-drop, append-nil, length-take-le}
 use Rattle.std.proofs.Math.Seq.{take-append_seam, drop-append_seam, take-append-add, drop-append-add}
 use Rattle.irig_gap.specs.Items.{GapView, gap_view}
-use Rattle.irig_track.specs.declared.pulse.Pulse.{Pulse}
+use Rattle.irig_vcd.specs.declared.pulse.Pulse.{Pulse}
 use Rattle.irig_vcd.specs.Recording.{RisesFrom}
 use Rattle.irig_track.specs.Edges.{Under, edges_of, pulse}
 use Rattle.irig_track.specs.Toggles.{flipped}
 use Rattle.irig_track.specs.Sides.{left_of, right_of, waiting, RiseUpTo, Stays, Took, Wrote, Begun, Finished}
-use Rattle.irig_track.proofs.RisingLists.{flip_low, flip_same, flip_high, flipped-past, Under-more, rises_right, rises_more, edges_of-append}
+use Rattle.irig_vcd.proofs.PulseEdges.{edges_of-append}
+use Rattle.irig_track.proofs.RisingLists.{flip_low, flip_same, flip_high, flipped-past, Under-more, rises_right, rises_more}
 
 pub edges_of-sides : (v : GapView Pulse) → edges_of v.items ≡ edges_of (left_of v) ++ edges_of (right_of v)
 edges_of-sides v = sym (ap edges_of (take-append-drop v.place v.items)) ∙ edges_of-append (left_of v) (right_of v)

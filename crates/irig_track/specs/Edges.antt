@@ -1,16 +1,8 @@
 -- The edges of pulses: a rising list of times, and by membership a set. This project's own.
 use Rattle.std.specs.Prelude.{ℕ, ◌<◌, ◌==◌, nat_le, List, [], ◌∷◌, Bool, true, false, cond, not}
 use Rattle.std.specs.Prelude.{◌&&◌, ◌||◌}
-use Rattle.irig_track.specs.declared.pulse.Pulse.{Pulse}
-
--- the pulse that is high from a to b, in microseconds
-abbrev pub pulse : ℕ → ℕ → Pulse
-pulse a b = record { rise = a; fall = b }
-
--- the edges of pulses, in order: rise and fall of each
-abbrev pub edges_of : List Pulse → List ℕ
-edges_of [] = []
-edges_of (p ∷ ps) = p.rise ∷ p.fall ∷ edges_of ps
+use Rattle.irig_vcd.specs.declared.pulse.Pulse.{Pulse}
+pub use Rattle.irig_vcd.specs.Pulses.{pulse, edges_of}
 
 -- t is among the numbers
 abbrev pub has : ℕ → List ℕ → Bool

@@ -1,8 +1,8 @@
 -- The text of a track, pulse by pulse. This project's own.
-use Rattle.std.specs.Prelude.{◌++◌, ℕ, true, false, List, [], ◌∷◌, drop}
+use Rattle.std.specs.Prelude.{◌++◌, ℕ, true, false, List, [], ◌∷◌, Option, Some, None, drop}
 use Rattle.irig_vcd.specs.FileText.{file_text, lines_at, length_line}
 use Rattle.irig_vcd.specs.Recording.{recording_view}
-use Rattle.irig_track.specs.declared.pulse.Pulse.{Pulse}
+use Rattle.irig_vcd.specs.declared.pulse.Pulse.{Pulse}
 use Rattle.irig_track.specs.declared.track_text.Next.{Next}
 use Rattle.irig_track.specs.declared.track_text.Next.TheVariants.{Header, Lines, Nothing}
 use Rattle.irig_track.specs.Edges.{edges_of}
@@ -27,3 +27,8 @@ abbrev pub still_to_come : TrackView → ℕ → Next → List ℕ
 still_to_come t last Header = file_text (recording_view t.micros (edges_of t.pulses))
 still_to_come t last (Lines at) = lines_after last (drop at t.pulses) t.micros
 still_to_come t last Nothing = []
+
+-- what comes next, if it is the lines of the pulse with a number, or else nothing
+abbrev pub coming : Option ℕ → Next
+coming (Some at) = Lines at
+coming None = Nothing

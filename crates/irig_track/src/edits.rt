@@ -11,7 +11,6 @@ ghost use Rattle.irig_track.specs.Splices.{spliced, piece, CanSplice, IsSpan};
 ghost use Rattle.irig_track.specs.Splices.{risen_by, ended_before};
 ghost use Rattle.irig_track.specs.Toggles.{toggled, CanToggle};
 
-use crate::pulse::Pulse;
 use crate::shift::{ahead_of, back_of, move_pulses};
 use crate::span::Span;
 use crate::splice::replace;
@@ -19,6 +18,7 @@ use crate::stands::stands;
 use crate::toggle::toggle_right;
 use crate::track::Track;
 use irig_gap::Gap;
+use irig_vcd::Pulse;
 
 impl Track {
     /// Whether a splice leaves a track within the limits: false too if the pulses that would

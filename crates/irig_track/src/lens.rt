@@ -4,8 +4,8 @@ ghost use Rattle.std.specs.Prelude.{◌≡◌, ◌<◌, ◌≤◌, length, slice
 ghost use Rattle.irig_track.specs.Looks.{lens_view, counted};
 ghost use Rattle.irig_track.specs.Track.{IsTrack};
 
-use crate::pulse::Pulse;
 use crate::track::Track;
+use irig_vcd::Pulse;
 use std::marker::Model;
 
 impl Track {

@@ -3,7 +3,6 @@
 
 mod edits;
 mod lens;
-mod pulse;
 mod shift;
 mod sides;
 mod span;
@@ -13,8 +12,8 @@ mod toggle;
 mod track;
 mod track_text;
 
+pub use irig_vcd::Pulse;
 pub use lens::Lens;
-pub use pulse::Pulse;
 pub use span::Span;
 pub use track::Track;
 pub use track_text::TrackText;

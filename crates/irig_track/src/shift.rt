@@ -7,8 +7,8 @@ ghost use Rattle.irig_track.specs.Edges.{edges_of};
 ghost use Rattle.irig_track.specs.Shifts.{moved_pulse, ahead, back};
 ghost use Rattle.irig_track.specs.Splices.{spliced, piece};
 
-use crate::pulse::Pulse;
 use irig_gap::Gap;
+use irig_vcd::Pulse;
 
 /// By how many microseconds a distance goes on: 0 if it goes back.
 pub(crate) fn ahead_of(by: i64) -> u64

@@ -4,8 +4,8 @@ ghost use Rattle.std.specs.Prelude.{◌≡◌, ◌+◌, ◌<◌, ◌≤◌, ◌+
 ghost use Rattle.irig_vcd.specs.Recording.{RisesFrom};
 ghost use Rattle.irig_track.specs.Edges.{edges_of};
 
-use crate::pulse::Pulse;
 use irig_gap::Gap;
+use irig_vcd::Pulse;
 
 /// Whether the pulses rise in order from `start` on, and end before `high`.
 pub(crate) fn stands(put: &Gap<Pulse>, start: u64, high: u64) -> bool

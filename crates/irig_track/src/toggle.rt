@@ -10,9 +10,9 @@ ghost use Rattle.irig_track.specs.Toggles.{toggled};
 ghost use Rattle.irig_track.specs.Sides.{left_of, right_of, waiting, ReachesFrom, Stays, Begun};
 ghost use Rattle.irig_track.specs.Sides.{Finished};
 
-use crate::pulse::Pulse;
 use crate::sides::{next, put_last, take_next};
 use irig_gap::Gap;
+use irig_vcd::Pulse;
 
 /// Toggles `a`, and returns the rise that waits.
 fn begin(pulses: &mut Gap<Pulse>, a: u64) -> u64

@@ -1,24 +1,23 @@
 //! A length and pulses in order.
 
-ghost use Rattle.std.specs.Prelude.{◌≡◌, ◌+◌, ◌-◌, ◌^◌, ◌/◌, ◌<◌, ◌≤◌, length, [], slice_get, Some};
+ghost use Rattle.std.specs.Prelude.{◌≡◌, ◌+◌, ◌-◌, ◌^◌, ◌/◌, ◌<◌, ◌≤◌, length, slice_get, Some};
 ghost use Rattle.std.specs.Prelude.{true, max, IfOk, OnOk, OnErr};
 ghost use Rattle.irig_vcd.specs.FileText.{file_text, begins_high};
-ghost use Rattle.irig_vcd.specs.Recording.{recording_view, is_even_long};
+ghost use Rattle.irig_vcd.specs.Recording.{recording_view};
 ghost use Rattle.irig_track.specs.Edges.{edges_of, is_edge};
 ghost use Rattle.irig_track.specs.Splices.{risen_by, ended_before};
 ghost use Rattle.irig_track.specs.Track.{IsTrack};
 
-use crate::pulse::Pulse;
 use irig_gap::Gap;
 use irig_text::whole;
-use irig_vcd::Recording;
+use irig_vcd::{Pulse, Recording};
 use std::alloc::{AllocError, Global};
 use std::marker::Model;
 
 /// The most pulses of a track.
 const PULSES_LIMIT: usize = 1 << 22;
 
-/// How many more pulses than it has a new track has room for.
+/// How many more pulses than it has a new track has room for, at least.
 const NEW_SPARE: usize = 1024;
 
 /// A length and pulses, in microseconds. The edges rise strictly and lie within the length.
@@ -43,23 +42,20 @@ impl Model for Track {
 }
 
 impl Track {
-    /// The track with the recording's length and edges. An error drops the recording.
+    /// The track with the recording's length and edges, in its block. An error drops the recording.
     ///
     /// It has some spare room, so that the first pulse that comes does not move it to another
-    /// block, and later ones move many pulses at a time.
-    pub fn new(alloc: Global, recording: Recording) -> Result<Track, AllocError>
+    /// block, and later ones move many pulses at a time. It takes memory only if the block has no
+    /// such room.
+    pub fn new(recording: Recording) -> Result<Track, AllocError>
         ensures length { IfOk result (λ t. t.micros ≡ recording.micros) }
         ensures edges { IfOk result (λ t. edges_of t.pulses ≡ recording.edges) }
-        ensures spare { IfOk result (λ t. t.spare ≡ 1024) }
+        ensures spare { IfOk result (λ t. 1024 ≤ t.spare) }
     {
-        let edges = recording.edges();
-        let mut pulses = Gap::new(alloc);
-        pulses.reserve(edges.len() / 2 + NEW_SPARE)?;
-        put_pairs(&mut pulses, edges);
-        Ok(Track {
-            micros: recording.length(),
-            pulses,
-        })
+        let micros = recording.length();
+        let mut pulses = Gap::from_vec(recording.into_pulses());
+        pulses.reserve(NEW_SPARE)?;
+        Ok(Track { micros, pulses })
     }
 
     /// The recording with the track's length and edges.
@@ -68,13 +64,11 @@ impl Track {
             r ≡ recording_view self.now.micros (edges_of self.now.pulses)) }
         ensures refused { OnErr result (0 < length self.now.pulses) }
     {
-        let mut edges = Vec::with_capacity(alloc, 2 * self.pulses.len())?;
+        let mut pulses = Vec::with_capacity(alloc, self.pulses.len())?;
         for index in 0..self.pulses.len() {
-            let pulse = self.pulses.get(index);
-            edges.push(pulse.rise)?;
-            edges.push(pulse.fall)?;
+            pulses.push(self.pulses.get(index))?;
         }
-        Ok(Recording::from_parts(self.micros, edges))
+        Ok(Recording::from_parts(self.micros, pulses))
     }
 
     /// The text of the recording with the track's length and edges, as `irig_vcd::text` writes it.
@@ -182,24 +176,5 @@ impl Track {
         }
         let last = self.pulse(risen - 1);
         last.rise == time || last.fall == time
-    }
-}
-
-/// Adds a pulse for each two edges, all in order.
-fn put_pairs(pulses: &mut Gap<Pulse>, edges: &[u64])
-    requires empty { pulses.old.items ≡ [] }
-    requires even { is_even_long edges.now ≡ true }
-    requires room { length edges.now / 2 ≤ pulses.old.capacity }
-    ensures edges { edges_of pulses.new.items ≡ edges.now }
-    ensures capacity { pulses.new.capacity ≡ pulses.old.capacity }
-{
-    let mut index = 0;
-    pulses.move_to(pulses.len());
-    while edges.len() - index > 1 {
-        pulses.put(Pulse {
-            rise: edges[index],
-            fall: edges[index + 1],
-        });
-        index += 2;
     }
 }

@@ -1,10 +1,10 @@
 //! The text of a track, in parts.
 
-ghost use Rattle.std.specs.Prelude.{◌≡◌, ◌++◌, [], true, drop, IfOk, OnOk};
+ghost use Rattle.std.specs.Prelude.{◌≡◌, ◌≤◌, ◌<◌, ◌++◌, drop, length, vec_len, IfOk, IsSome};
 ghost use Rattle.irig_vcd.specs.FileText.{file_text};
 ghost use Rattle.irig_vcd.specs.Recording.{recording_view};
 ghost use Rattle.irig_track.specs.Edges.{edges_of};
-ghost use Rattle.irig_track.specs.Texts.{lines_after};
+ghost use Rattle.irig_track.specs.Texts.{coming, lines_after, still_to_come};
 
 use crate::track::Track;
 use irig_text::Text;
@@ -53,53 +53,63 @@ impl<'t> Model for TrackText<'t> {
     ghost view = { λ t. still_to_come t.track.now t.writer.last t.next };
 }
 
-impl<'t> TrackText<'t> {
-    /// Writes the header, if that comes next.
-    fn put_header(&mut self, block: &mut Vec<u8>) -> Result<(), AllocError>
-        ensures { OnOk result (block.new.items ++ self.new ≡ block.old.items ++ self.old) }
-    {
-        if let Next::Header = self.next {
-            self.writer.begin(block, self.track.begins_high())?;
-            self.next = Next::Lines(0);
-        }
-        Ok(())
-    }
+impl Text for TrackText<'_> {
+    ghost rest = { λ t. t };
 
-    /// Writes the lines of pulses, if those come next, until a block has `enough` bytes.
-    fn put_lines(&mut self, block: &mut Vec<u8>, enough: usize) -> Result<(), AllocError>
-        ensures { OnOk result (block.new.items ++ self.new ≡ block.old.items ++ self.old) }
-    {
-        if let Next::Lines(at) = self.next {
-            let next = put_pulses(&mut self.writer, block, self.track, at, enough)?;
-            self.next = Next::Lines(next);
-        }
-        Ok(())
-    }
-
-    /// Writes the line of the length, if no pulse comes next. Returns whether the text has ended.
-    fn put_length(&mut self, block: &mut Vec<u8>) -> Result<bool, AllocError>
-        ensures bytes { OnOk result (block.new.items ++ self.new ≡ block.old.items ++ self.old) }
-        ensures end { IfOk result (λ ended. ended ≡ true → self.new ≡ []) }
-    {
-        match self.next {
-            Next::Header => return Ok(false),
-            Next::Lines(at) if at < self.track.len() => return Ok(false),
-            Next::Lines(_) => self.writer.finish(block, self.track.length())?,
-            Next::Nothing => {}
+    fn fill(&mut self, block: &mut Vec<u8>, enough: usize) -> Result<bool, AllocError> {
+        if let Some(first) = put_header(&mut self.writer, block, self.track, self.next)? {
+            if let Some(next) = put_lines(&mut self.writer, block, self.track, first, enough)? {
+                self.next = Next::Lines(next);
+                return Ok(false);
+            }
         }
         self.next = Next::Nothing;
         Ok(true)
     }
 }
 
-impl Text for TrackText<'_> {
-    ghost rest = { λ t. t };
-
-    fn fill(&mut self, block: &mut Vec<u8>, enough: usize) -> Result<bool, AllocError> {
-        self.put_header(block)?;
-        self.put_lines(block, enough)?;
-        self.put_length(block)
+/// Writes the header, if that comes next. Returns the number of the pulse that comes next, from 0;
+/// `None` if the text has ended.
+fn put_header(
+    writer: &mut TextWriter,
+    text: &mut Vec<u8>,
+    track: &Track,
+    next: Next,
+) -> Result<Option<usize>, AllocError>
+    ensures { IfOk result (λ first. text.new.items ++ still_to_come track.now writer.new.last
+        (coming first) ≡ text.old.items ++ still_to_come track.now writer.old.last next) }
+{
+    match next {
+        Next::Header => {
+            writer.begin(text, track.begins_high())?;
+            Ok(Some(0))
+        }
+        Next::Lines(first) => Ok(Some(first)),
+        Next::Nothing => Ok(None),
     }
+}
+
+/// Writes the lines of the pulses from the one at `first` on, and after the last pulse the line of
+/// the length, until a text has `enough` bytes. Returns the number of the pulse that comes next,
+/// from 0; `None` after the line of the length.
+fn put_lines(
+    writer: &mut TextWriter,
+    text: &mut Vec<u8>,
+    track: &Track,
+    first: usize,
+    enough: usize,
+) -> Result<Option<usize>, AllocError>
+    ensures bytes { IfOk result (λ next. text.new.items ++ still_to_come track.now writer.new.last
+        (coming next) ≡ text.old.items
+        ++ lines_after writer.old.last (drop first track.now.pulses) track.now.micros) }
+    ensures full { IfOk result (λ next. IsSome next → enough ≤ vec_len text.new) }
+{
+    let next = put_pulses(writer, text, track, first, enough)?;
+    if next < track.len() {
+        return Ok(Some(next));
+    }
+    writer.finish(text, track.length())?;
+    Ok(None)
 }
 
 /// Writes the lines of the pulses from the one at `first` on, until a text has `enough` bytes.
@@ -111,10 +121,11 @@ fn put_pulses(
     first: usize,
     enough: usize,
 ) -> Result<usize, AllocError>
-    ensures { IfOk result (λ next.
+    ensures bytes { IfOk result (λ next.
         text.new.items ++ lines_after writer.new.last (drop next track.now.pulses) track.now.micros
         ≡ text.old.items
         ++ lines_after writer.old.last (drop first track.now.pulses) track.now.micros) }
+    ensures full { IfOk result (λ next. next < length track.now.pulses → enough ≤ vec_len text.new) }
 {
     let mut next = first;
     let count = track.len();

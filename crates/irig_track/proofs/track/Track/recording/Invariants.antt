@@ -1,6 +1,5 @@
 use Rattle.std.proofs.Common.{◌≡◌, take}
-use Rattle.irig_track.specs.Edges.{edges_of}
 use Rattle.irig_track.proofs.track.Track.recording.Given as goal
 
 abbrev pub invariant-loop-index : goal.invariant-loop-index
-invariant-loop-index l = l.edges.items ≡ edges_of (take l.index l.self-inside.pulses.items)
+invariant-loop-index l = l.pulses.items ≡ take l.index l.self-inside.pulses.items
