@@ -20,6 +20,7 @@ pub mod Strays
 -- fields, encoding, decoding, and the way there and back
 pub mod EncodeSteps
 pub mod FieldLemmas
+pub mod NarrowFields
 pub mod NoteLemmas
 pub mod RoundTrip
 pub mod SlotRoundTrip

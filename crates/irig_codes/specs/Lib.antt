@@ -4,6 +4,7 @@ pub mod Encoding
 pub mod Fields
 pub mod Format
 pub mod Layout
+pub mod Narrow
 pub mod Notes
 pub mod Ones
 pub mod Parts

@@ -3,7 +3,7 @@
 use Rattle.std.specs.Prelude.{◌≡◌, ℕ, ◌≤◌, List, [], ◌∷◌, slice_get, Some}
 use Rattle.irig_codes.specs.declared.width.Element.TheVariants.{Position}
 use Rattle.irig_codes.specs.Format.{FormatView}
-use Rattle.irig_track.specs.declared.pulse.Pulse.{Pulse}
+use Rattle.irig_vcd.specs.declared.pulse.Pulse.{Pulse}
 use Rattle.irig_index.specs.declared.record.Record.{Record}
 use Rattle.irig_index.specs.Frames.{frame_at}
 use Rattle.irig_index.specs.Marker.{class_at}

@@ -13,8 +13,9 @@ use crate::frame::{looks_of, verdict};
 use crate::look::add_looks;
 use crate::marker::next_marker;
 use crate::places::set_record;
-use crate::record::{Record, Verdict};
+use crate::record::Verdict;
 use crate::sides::{put, record_at};
+use crate::stored::Stored;
 use irig_codes::Format;
 use irig_gap::Gap;
 use irig_track::Lens;
@@ -39,7 +40,7 @@ pub fn count_markers(lens: &mut Lens<'_>, looks: &mut u64, format: Format) -> us
 /// Puts the records of the markers after the places `from` to `to`, that one not included, left of
 /// the gap. If there is room for them it does not grow.
 pub fn fill(
-    records: &mut Gap<Record>,
+    records: &mut Gap<Stored>,
     lens: &mut Lens<'_>,
     looks: &mut u64,
     format: Format,
@@ -65,7 +66,7 @@ pub fn fill(
     while let Some((before, first)) = next_marker(lens, looks, format, place, to) {
         let marker = before + 1;
         let verdict = verdict(lens, looks, format, marker, first);
-        put(records, Record { marker, verdict })?;
+        put(records, Stored::new(marker, verdict))?;
         place = next_place(marker, verdict, to);
     }
     Ok(())
@@ -74,7 +75,7 @@ pub fn fill(
 /// Checks the frame of the last of the first `count` markers again, unless that marker is one up to
 /// `settled`.
 pub fn retell(
-    records: &mut Gap<Record>,
+    records: &mut Gap<Stored>,
     pulses: usize,
     count: usize,
     lens: &mut Lens<'_>,
@@ -97,14 +98,14 @@ pub fn retell(
     if count == 0 {
         return;
     }
-    let marker = record_at(records, pulses, count - 1).marker;
+    let marker = record_at(records, pulses, count - 1).marker();
     if marker <= settled {
         return;
     }
     let first = lens.pulse(marker);
     add_looks(looks, 1);
     let verdict = verdict(lens, looks, format, marker, first);
-    set_record(records, pulses, count - 1, Record { marker, verdict });
+    set_record(records, pulses, count - 1, Stored::new(marker, verdict));
 }
 
 /// The first place from `from` to `to` with a marker after it, or `to`.

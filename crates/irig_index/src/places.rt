@@ -3,12 +3,12 @@
 ghost use Rattle.std.specs.Prelude.{◌≡◌, ℕ, ◌+◌, ◌<◌, ◌≤◌, false, length, take, drop, slice_set};
 ghost use Rattle.irig_index.specs.Sides.{shown, EndsUpTo, BeginsAfter};
 
-use crate::record::Record;
 use crate::sides::{begins_up_to, ends_after, record_at, turned};
+use crate::stored::Stored;
 use irig_gap::Gap;
 
 /// How many records are of markers up to `last`, if they rise.
-pub fn count_up_to(records: &Gap<Record>, pulses: usize, last: usize) -> usize
+pub fn count_up_to(records: &Gap<Stored>, pulses: usize, last: usize) -> usize
     ensures within { result ≤ length records.now.items }
     ensures before { EndsUpTo last (take result (shown pulses records.now)) }
     ensures after { BeginsAfter last (drop result (shown pulses records.now)) }
@@ -17,7 +17,7 @@ pub fn count_up_to(records: &Gap<Record>, pulses: usize, last: usize) -> usize
     let mut high = most_up_to(records, pulses, last);
     while low < high {
         let middle = low + (high - low) / 2;
-        if record_at(records, pulses, middle).marker <= last {
+        if record_at(records, pulses, middle).marker() <= last {
             low = middle + 1;
         } else {
             high = middle;
@@ -27,7 +27,7 @@ pub fn count_up_to(records: &Gap<Record>, pulses: usize, last: usize) -> usize
 }
 
 /// How many records are of markers up to `last` at least. The gap is often there.
-fn least_up_to(records: &Gap<Record>, pulses: usize, last: usize) -> usize
+fn least_up_to(records: &Gap<Stored>, pulses: usize, last: usize) -> usize
     ensures within { result ≤ records.now.place }
     ensures before { EndsUpTo last (take result (shown pulses records.now)) }
 {
@@ -39,7 +39,7 @@ fn least_up_to(records: &Gap<Record>, pulses: usize, last: usize) -> usize
 }
 
 /// How many records are of markers up to `last` at most.
-fn most_up_to(records: &Gap<Record>, pulses: usize, last: usize) -> usize
+fn most_up_to(records: &Gap<Stored>, pulses: usize, last: usize) -> usize
     ensures from { records.now.place ≤ result }
     ensures within { result ≤ length records.now.items }
     ensures after { BeginsAfter last (drop result (shown pulses records.now)) }
@@ -52,15 +52,15 @@ fn most_up_to(records: &Gap<Record>, pulses: usize, last: usize) -> usize
 }
 
 /// Whether the record at place `k`, from 0, is of a marker up to `last`.
-pub fn is_up_to(records: &Gap<Record>, pulses: usize, k: usize, last: usize) -> bool
+pub fn is_up_to(records: &Gap<Stored>, pulses: usize, k: usize, last: usize) -> bool
     requires { k ≤ length records.now.items }
     ensures { result ≡ false → BeginsAfter last (drop k (shown pulses records.now)) }
 {
-    k < records.len() && record_at(records, pulses, k).marker <= last
+    k < records.len() && record_at(records, pulses, k).marker() <= last
 }
 
 /// Writes a record over the one at place `k`, from 0.
-pub fn set_record(records: &mut Gap<Record>, pulses: usize, k: usize, found: Record)
+pub fn set_record(records: &mut Gap<Stored>, pulses: usize, k: usize, found: Stored)
     requires { k < length records.old.items }
     ensures shown { shown pulses records.new ≡ slice_set (shown pulses records.old) k found }
     ensures length { length records.new.items ≡ length records.old.items }

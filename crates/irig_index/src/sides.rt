@@ -7,23 +7,20 @@ ghost use Rattle.irig_index.specs.Cuts.{Cut, EndsWithin};
 ghost use Rattle.irig_index.specs.Sides.{turned, left_of, kept_right, right_of, shown};
 ghost use Rattle.irig_index.specs.Sides.{EndsUpTo, BeginsAfter, BeginsUpTo, Dropped};
 
-use crate::record::Record;
+use crate::stored::Stored;
 use irig_gap::Gap;
 use std::alloc::AllocError;
 
 /// The record with its number counted from the other end of this many pulses.
-pub fn turned(pulses: usize, kept: Record) -> Record
+pub fn turned(pulses: usize, kept: Stored) -> Stored
     ensures turned { result ≡ turned pulses kept }
     ensures fits { kept.marker < 2 ^ 64 }
 {
-    Record {
-        marker: pulses.wrapping_sub(kept.marker),
-        verdict: kept.verdict,
-    }
+    kept.at(pulses.wrapping_sub(kept.marker()))
 }
 
 /// The record at place `k`, from 0, its marker counted from the front.
-pub fn record_at(records: &Gap<Record>, pulses: usize, k: usize) -> Record
+pub fn record_at(records: &Gap<Stored>, pulses: usize, k: usize) -> Stored
     requires { k < length records.now.items }
     ensures { slice_get (shown pulses records.now) k ≡ Some result }
 {
@@ -36,7 +33,7 @@ pub fn record_at(records: &Gap<Record>, pulses: usize, k: usize) -> Record
 }
 
 /// Removes all records.
-pub fn clear(records: &mut Gap<Record>)
+pub fn clear(records: &mut Gap<Stored>)
     ensures items { records.new.items ≡ [] }
     ensures capacity { records.new.capacity ≡ records.old.capacity }
 {
@@ -49,7 +46,7 @@ pub fn clear(records: &mut Gap<Record>)
 }
 
 /// Moves the gap to the place after the records of the markers up to `last`.
-pub fn part(records: &mut Gap<Record>, pulses: usize, last: usize)
+pub fn part(records: &mut Gap<Stored>, pulses: usize, last: usize)
     ensures shown { shown pulses records.new ≡ shown pulses records.old }
     ensures left { EndsUpTo last (left_of records.new) }
     ensures right { BeginsAfter last (right_of pulses records.new) }
@@ -67,7 +64,7 @@ pub fn part(records: &mut Gap<Record>, pulses: usize, last: usize)
 /// Moves the gap left over the records of the markers after `last`, and then removes the records
 /// left of it that are of markers after `first`. If the records rise, those that are still to go
 /// are right of the gap then.
-pub fn drop_back_to(records: &mut Gap<Record>, pulses: usize, first: usize, last: usize)
+pub fn drop_back_to(records: &mut Gap<Stored>, pulses: usize, first: usize, last: usize)
     ensures cut { Cut first last (shown pulses records.old)
         (left_of records.new) (right_of pulses records.new) }
     ensures length { length records.new.items ≤ length records.old.items }
@@ -82,7 +79,7 @@ pub fn drop_back_to(records: &mut Gap<Record>, pulses: usize, first: usize, last
 }
 
 /// Removes the records right of the gap that are of markers up to `last`.
-pub fn drop_up_to(records: &mut Gap<Record>, pulses: usize, last: usize)
+pub fn drop_up_to(records: &mut Gap<Stored>, pulses: usize, last: usize)
     ensures left { left_of records.new ≡ left_of records.old }
     ensures right { Dropped last (right_of pulses records.old) (right_of pulses records.new) }
     ensures length { length records.new.items ≤ length records.old.items }
@@ -94,37 +91,37 @@ pub fn drop_up_to(records: &mut Gap<Record>, pulses: usize, last: usize)
 }
 
 /// Whether the record left of the gap is of a marker after `last`.
-pub fn ends_after(records: &Gap<Record>, last: usize) -> bool
+pub fn ends_after(records: &Gap<Stored>, last: usize) -> bool
     ensures left { result ≡ false → EndsUpTo last (left_of records.now) }
     ensures some { result ≡ true → 0 < records.now.place }
 {
     let place = records.gap_at();
-    place > 0 && records.get(place - 1).marker > last
+    place > 0 && records.get(place - 1).marker() > last
 }
 
 /// Whether the record left of the gap is of a marker after `first`, up to `last`.
-fn ends_within(records: &Gap<Record>, first: usize, last: usize) -> bool
+fn ends_within(records: &Gap<Stored>, first: usize, last: usize) -> bool
     ensures { result ≡ true → EndsWithin first last records.now.items records.now.place }
 {
     let place = records.gap_at();
     if place == 0 {
         return false;
     }
-    let marker = records.get(place - 1).marker;
+    let marker = records.get(place - 1).marker();
     marker > first && marker <= last
 }
 
 /// Whether the record right of the gap is of a marker up to `last`.
-pub fn begins_up_to(records: &Gap<Record>, pulses: usize, last: usize) -> bool
+pub fn begins_up_to(records: &Gap<Stored>, pulses: usize, last: usize) -> bool
     ensures right { result ≡ false → BeginsAfter last (right_of pulses records.now) }
     ensures some { result ≡ true → BeginsUpTo last (right_of pulses records.now) }
 {
     let place = records.gap_at();
-    place < records.len() && turned(pulses, records.get(place)).marker <= last
+    place < records.len() && turned(pulses, records.get(place)).marker() <= last
 }
 
 /// Moves the gap over the record left of it, which is then counted from the back.
-fn step_left(records: &mut Gap<Record>, pulses: usize)
+fn step_left(records: &mut Gap<Stored>, pulses: usize)
     requires { 0 < records.old.place }
     ensures shown { shown pulses records.new ≡ shown pulses records.old }
     ensures place { records.new.place + 1 ≡ records.old.place }
@@ -138,7 +135,7 @@ fn step_left(records: &mut Gap<Record>, pulses: usize)
 }
 
 /// Moves the gap over the record right of it, which is then counted from the front.
-fn step_right(records: &mut Gap<Record>, pulses: usize)
+fn step_right(records: &mut Gap<Stored>, pulses: usize)
     requires { records.old.place < length records.old.items }
     ensures shown { shown pulses records.new ≡ shown pulses records.old }
     ensures left { (last : ℕ) → BeginsUpTo last (right_of pulses records.old)
@@ -154,7 +151,7 @@ fn step_right(records: &mut Gap<Record>, pulses: usize)
 }
 
 /// Inserts a record that was found left of the gap. If it has room it does not grow.
-pub fn put(records: &mut Gap<Record>, found: Record) -> Result<(), AllocError>
+pub fn put(records: &mut Gap<Stored>, found: Stored) -> Result<(), AllocError>
     ensures left { OnOk result (left_of records.new ≡ left_of records.old ++ (found ∷ [])) }
     ensures right { OnOk result (kept_right records.new ≡ kept_right records.old) }
     ensures room { length records.old.items + 1 ≤ records.old.capacity

@@ -2,15 +2,17 @@ use Rattle.std.proofs.Common.{◌≡◌, ℕ, ◌+◌, ◌-◌, ◌*◌, ◌<◌
 use Rattle.std.proofs.lemmas.List.{append-nil}
 use Rattle.irig_codes.specs.Format.{FormatView}
 use Rattle.irig_gap.specs.Items.{GapView}
-use Rattle.irig_track.specs.declared.pulse.Pulse.{Pulse}
+use Rattle.irig_vcd.specs.declared.pulse.Pulse.{Pulse}
 use Rattle.irig_index.specs.declared.record.Record.{Record}
 use Rattle.irig_index.specs.Checked.{Checked}
 use Rattle.irig_index.specs.Frames.{frame_at, record_after, records_in}
+use Rattle.irig_index.specs.Kept.{IsNarrow}
 use Rattle.irig_index.specs.Passed.{StandsAfter}
 use Rattle.irig_index.specs.Sides.{left_of, kept_right}
 use Rattle.irig_index.specs.Verdict.{verdict_of}
 use Rattle.irig_index.proofs.FrameLemmas.{records_in-le, records_in-none}
 use Rattle.irig_index.proofs.LookLemmas.{looked_up}
+use Rattle.irig_index.proofs.NarrowVerdicts.{narrow-verdict_of}
 use Rattle.irig_index.proofs.PlaceLemmas.{found_record, passed_in, window_found, window_none}
 use Rattle.irig_index.proofs.SideLemmas.{length-sides}
 use Rattle.irig_index.proofs.LookBounds.{spent_all, spent_checked, spent_none, spent_on, spent_passed}
@@ -46,6 +48,9 @@ fits f ps from place before to old now p order more lt none found left right roo
     let sides = ap length left ∙ length-append (left_of old) (records_in f ps from (place - from)) in
     omega (arith, next, long, enough, sides, ap length right, length-sides old, length-sides now)
 
+pub new-requires : goal.new-requires
+new-requires c = subst IsNarrow (sym c.verdict-verdict.ensures.verdict) (narrow-verdict_of c.args.format _)
+
 pub loop-before-preserved : goal.loop-before-preserved
 loop-before-preserved c =
     let f = c.args.format in
@@ -68,11 +73,13 @@ loop-before-preserved c =
       spent = spent_on f ps c.args.from (before + 1) next _ _ _ _ c.next_place-place.ensures.order
           (spent_checked f ps c.args.from place before _ _ _ _ _ _ _ _ so_far.spent passed check (some_after f ps before first found));
       within = c.next_place-place.ensures.within;
-      left = c.in_ok-put.ensures.left ∙ ((λ i. so_far.left i ++ (record { marker = before + 1; verdict = verdict i }) ∷ [])
+      left = c.in_ok-put.ensures.left
+          ∙ (ap (λ r. left_of c.loop-before.records ++ (r ∷ [])) c.new.ensures
+          ∙ ((λ i. so_far.left i ++ (record { marker = before + 1; verdict = verdict i }) ∷ [])
           ∙ (append_assoc (left_of c.args.records.now) (records_in f ps c.args.from (place - c.args.from)) (found_record f ps before ∷ [])
           ∙ ap (λ rs. left_of c.args.records.now ++ rs) (sym (window_found f ps c.args.from place before first so_far.spent.order passed.order passed.none
           found)
-          ∙ sym (window_none f ps c.args.from (before + 1) next (omega (arith, so_far.spent.order, passed.order)) c.next_place-place.ensures.order alone))));
+          ∙ sym (window_none f ps c.args.from (before + 1) next (omega (arith, so_far.spent.order, passed.order)) c.next_place-place.ensures.order alone)))));
       right = c.in_ok-put.ensures.right ∙ so_far.right;
       room = λ enough. (c.in_ok-put.ensures.room (fits f ps c.args.from place before c.args.to _ _ first so_far.spent.order passed.order
           c.in-Some.ensures.found.0 passed.none found

@@ -9,7 +9,6 @@ use Rattle.irig_index.specs.Verdict.{verdict_of}
 use Rattle.irig_index.proofs.FrameLemmas.{position_class, record_after-pulses}
 use Rattle.irig_index.proofs.LookLemmas.{lens_next}
 use Rattle.irig_index.proofs.PlaceLemmas.{none_more, one_passed, two_passed}
-use Rattle.irig_index.proofs.PulseLemmas.{rise-rise}
 use Rattle.irig_index.proofs.marker.next_marker.Goals as goal
 
 pub loop-next-init : goal.loop-next-init
@@ -66,14 +65,6 @@ pub pulse-before-requires : goal.pulse-before-requires
 pulse-before-requires c =
     let inside = c.requires.within (omega (arith, c.loop-next.invariant.order)) in
     omega (arith, inside, ap (λ v. length v.track.pulses) c.pulse-pulse.ensures.counted, ap (λ v. length v.track.pulses) c.loop-next.invariant.lens)
-
-pub is_marker-requires-clause-order : goal.is_marker-requires-clause-order
-is_marker-requires-clause-order c =
-    let place = c.loop-next.next in
-    let here = ap (λ v. slice_get v.track.pulses (place + 1)) (sym c.loop-next.invariant.lens) ∙ c.pulse-pulse.ensures.value in
-    let seen = ap (λ v. v.track.pulses) c.pulse-pulse.ensures.counted ∙ ap (λ v. v.track.pulses) c.loop-next.invariant.lens in
-    let before = ap (λ qs. slice_get qs place) (sym seen) ∙ c.pulse-before.ensures.value in
-    rise-rise 0 _ place (place + 1) _ _ c.requires.track.rises before here refl
 
 pub returns-then-is_marker-clause-passed : goal.returns-then-is_marker-clause-passed
 returns-then-is_marker-clause-passed c =

@@ -4,8 +4,8 @@ use Rattle.irig_index.proofs.ShownLemmas.{begins_at}
 use Rattle.irig_index.proofs.SideLemmas.{ends_up_to}
 use Rattle.irig_index.proofs.places.count_up_to.Goals as goal
 
-pub loop-low-preserved-then-record_at-last : goal.loop-low-preserved-then-record_at-last
-loop-low-preserved-then-record_at-last c =
+pub loop-low-preserved-then-marker-last : goal.loop-low-preserved-then-marker-last
+loop-low-preserved-then-marker-last c =
     let before = c.loop-low.invariant in
     let middle = c.loop-low.low + (c.loop-low.high - c.loop-low.low) / 2 in
     let all = shown c.args.pulses c.args.records.now in
