@@ -1,6 +1,5 @@
 -- Turns of changes: their room, and how often they look.
 pub mod Turned
-pub mod GroupTurns
 pub mod Rooms
 pub mod Readiness
 pub mod Windows

@@ -1,9 +1,7 @@
 //! The changes of a state, their turns, and the room that these need.
 
-pub mod change;
 pub mod room;
 pub mod single;
-pub mod singles;
 pub mod splice;
 pub mod turn;
 pub mod turns;

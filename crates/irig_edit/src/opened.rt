@@ -4,5 +4,4 @@ pub mod head;
 pub mod naming;
 pub mod opening;
 pub mod taking;
-pub mod trial;
 pub mod walk;

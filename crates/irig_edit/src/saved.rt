@@ -6,7 +6,6 @@ ghost use Rattle.irig_edit.specs.Session.Session.{machine_in};
 
 mod change_lines;
 mod pulse_lines;
-mod side;
 mod stage;
 mod step_lines;
 mod text;

@@ -5,15 +5,14 @@ use Rattle.std.specs.Prelude.{nat_le, option_map, if◌then◌else◌}
 use Rattle.std.proofs.lemmas.Bool.{lt-leb, leb-true, leb-false}
 use Rattle.std.proofs.lemmas.List.{drop_at, length-take-le}
 use Rattle.irig_journal.specs.declared.opening.Opening.{Opening}
-use Rattle.irig_journal.specs.declared.step.Step.{Step}
-use Rattle.irig_journal.specs.Groups.{Floor, aborted, begun, ended, over, is_at_floor, undone_over, redone_over}
-use Rattle.irig_journal.specs.History.{History, machine, states_along, step, stepped_back, steps_of}
+use Rattle.irig_journal.specs.Groups.{Floor, Grouped, aborted, begun, ended, over, is_at_floor, undone_over, redone_over}
+use Rattle.irig_journal.specs.History.{History, Step, machine, states_along, step, stepped_back}
 use Rattle.irig_journal.specs.Joining.{beyond, changes_of, cursor_of_farthest, farthest, joined, joined_beyond}
-use Rattle.irig_journal.specs.Journal.{Steps, grouped_of}
+use Rattle.irig_journal.specs.Journal.{Steps}
 use Rattle.irig_journal.specs.Openings.{AtFloor, StandsOnFloor, floor_at}
 use Rattle.irig_journal.specs.Machine.{Kept, Machine, kept, undone, redone}
 use Rattle.irig_journal.specs.Turns.{left_by}
-use Rattle.irig_journal.proofs.StepLemmas.{history, length-steps}
+use Rattle.irig_journal.proofs.StepLemmas.{history}
 use Rattle.irig_journal.proofs.JoinLemmas.{beyond-farthest, beyond_none}
 
 module _ {S : Type 0} where
@@ -34,20 +33,9 @@ module _ {S : Type 0} where
       → redone_over (over floor m) ≡ Some (over floor_after n)
   redone_over_by m n floor floor_after went same = rw (went, same) refl
 
-module _ {C : Type 0} where
-  -- a journal of these lists, with its floor
-  abbrev pub floored_at : List (Step C) → List (Step C) → Option Opening → Steps C
-  floored_at past future floor = record {
-    past = past;
-    future = future;
-    past_room = 0;
-    future_room = 0;
-    floor = floor;
-  }
-
-  -- where its open group was begun
-  abbrev pub floor_in : Steps C → Option Opening
-  floor_in j = j.floor
+-- where the open group of a journal was begun
+abbrev pub floor_in : {C : Type 0} → Steps C → Option Opening
+floor_in j = j.floor
 
 -- a group begun so high, at this cursor
 abbrev pub opening : ℕ → ℕ → Opening
@@ -210,44 +198,43 @@ module _ {S D : Type 0} where
       (floor_kept turned o s after (step back cursor) past more longer home stands)
       (ap₂ (λ (l : List (Kept S)) (t : S). machine_of_states l (kept t place) []) states there)
 
-module _ {S C D : Type 0} where
+module _ {S D : Type 0} where
+  -- the machine of these steps, with its floor
+  abbrev pub grouped_at : (S → D → S × D) → S → ℕ → List (Step D) → List (Step D) → Option Opening
+      → Grouped (Kept S)
+  grouped_at turned s cursor past future floor =
+      over (option_map (floor_at turned s past) floor) (machine turned (history s cursor past future))
+
   -- a group begun here has the present as its floor
-  pub begun_by : (turned : S → D → S × D) (delta : C → D) (s : S) (cursor n : ℕ) (past future : List (Step C))
+  pub begun_by : (turned : S → D → S × D) (s : S) (cursor n : ℕ) (past future : List (Step D))
       → n ≡ length past
-      → begun (grouped_of turned delta s cursor (floored_at past future None))
-      ≡ Some (grouped_of turned delta s cursor (floored_at past future (Some (opening n cursor))))
-  begun_by turned delta s cursor n past future long =
-      let steps = steps_of delta past in
-      let height : length (states_along turned s steps) ≡ n =
-      length-states turned s steps ∙ (length-steps delta past ∙ sym long) in
-      let none : beyond n steps ≡ [] =
-      beyond_none n steps (omega (arith, length-steps delta past)) in
+      → begun (grouped_at turned s cursor past future None)
+      ≡ Some (grouped_at turned s cursor past future (Some (opening n cursor)))
+  begun_by turned s cursor n past future long =
+      let height : length (states_along turned s past) ≡ n = length-states turned s past ∙ sym long in
+      let none : beyond n past ≡ [] = beyond_none n past (omega (arith, long)) in
       ap₂ (λ (k : ℕ) (l : List (Step D)). Some (over (Some (with_present k (left_by turned s (changes_of l)) cursor))
-      (machine turned (history s cursor steps (steps_of delta future)))))
+      (machine turned (history s cursor past future))))
       height (sym none)
 
-  pub ended_by : (turned : S → D → S × D) (delta : C → D) (gathered : List D → D) (s : S) (cursor : ℕ)
-      (past left future : List (Step C)) (o : Opening)
-      → steps_of delta left ≡ joined_beyond gathered o.steps (steps_of delta past)
-      → (o.steps + 1 < length (steps_of delta past)
-      → (turned s (gathered (changes_of (beyond o.steps (steps_of delta past))))).0
-      ≡ left_by turned s (changes_of (beyond o.steps (steps_of delta past))))
-      → ended (grouped_of turned delta s cursor (floored_at past future (Some o)))
-      ≡ Some (grouped_of turned delta s cursor (floored_at left future None))
-  ended_by turned delta gathered s cursor past left future o joins same =
-      ap (λ (l : List (Kept S)). Some (over None (machine_of_states l (kept s cursor) (states_along turned s (steps_of delta future)))))
-      (past_ended turned gathered s o.steps (steps_of delta past) same
-      ∙ ap (states_along turned s) (sym joins))
+  pub ended_by : (turned : S → D → S × D) (gathered : List D → D) (s : S) (cursor : ℕ)
+      (past left future : List (Step D)) (o : Opening)
+      → left ≡ joined_beyond gathered o.steps past
+      → (o.steps + 1 < length past
+      → (turned s (gathered (changes_of (beyond o.steps past)))).0 ≡ left_by turned s (changes_of (beyond o.steps past)))
+      → ended (grouped_at turned s cursor past future (Some o))
+      ≡ Some (grouped_at turned s cursor left future None)
+  ended_by turned gathered s cursor past left future o joins same =
+      ap (λ (l : List (Kept S)). Some (over None (machine_of_states l (kept s cursor) (states_along turned s future))))
+      (past_ended turned gathered s o.steps past same ∙ ap (states_along turned s) (sym joins))
 
-  pub aborted_by : (turned : S → D → S × D) (delta : C → D) (s after : S) (cursor place : ℕ)
-      (past left future none : List (Step C)) (o : Opening)
-      → after ≡ left_by turned s (changes_of (beyond o.steps (steps_of delta past)))
-      → steps_of delta left ≡ farthest o.steps (steps_of delta past)
-      → place ≡ o.cursor → none ≡ []
-      → aborted (grouped_of turned delta s cursor (floored_at past future (Some o)))
-      ≡ Some (grouped_of turned delta after place (floored_at left none None))
-  aborted_by turned delta s after cursor place past left future none o there rest at empty =
+  pub aborted_by : (turned : S → D → S × D) (s after : S) (cursor place : ℕ)
+      (past left future none : List (Step D)) (o : Opening)
+      → after ≡ left_by turned s (changes_of (beyond o.steps past))
+      → left ≡ farthest o.steps past → place ≡ o.cursor → none ≡ []
+      → aborted (grouped_at turned s cursor past future (Some o))
+      ≡ Some (grouped_at turned after place left none None)
+  aborted_by turned s after cursor place past left future none o there rest at empty =
       rw (there, rest, at, empty)
-      (ap (λ (l : List (Kept S)). Some (over None (machine_of_states l (kept (left_by turned s (changes_of (beyond o.steps (steps_of delta past)))) o.cursor)
-      [])))
-      (past_aborted turned s o.steps (steps_of delta past)))
+      (ap (λ (l : List (Kept S)). Some (over None (machine_of_states l (kept (left_by turned s (changes_of (beyond o.steps past))) o.cursor) [])))
+      (past_aborted turned s o.steps past))

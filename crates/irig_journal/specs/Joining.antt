@@ -1,19 +1,12 @@
 -- Several steps made one. This project's own.
 use Rattle.std.specs.Prelude.{◌≡◌, ℕ, ◌+◌, ◌-◌, List, [], ◌∷◌, drop, if◌then◌else◌, length, map}
 use Rattle.std.specs.Prelude.{nat_le, take}
-use Rattle.irig_journal.specs.declared.step.Step.{Step}
-use Rattle.irig_journal.specs.History.{step}
+use Rattle.irig_journal.specs.History.{Step, step}
 
 module _ {D : Type 0} where
   -- the changes of steps
   abbrev pub changes_of : List (Step D) → List D
   changes_of steps = map (λ s. s.change) steps
-
-  -- steps with these changes and cursors
-  abbrev pub paired : List D → List ℕ → List (Step D)
-  paired (d ∷ ds) (n ∷ ns) = step d n ∷ paired ds ns
-  paired (d ∷ ds) [] = []
-  paired [] ns = []
 
   -- of a list with the nearest first, the steps before its n farthest
   abbrev pub beyond : ℕ → List (Step D) → List (Step D)

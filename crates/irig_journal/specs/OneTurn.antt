@@ -1,7 +1,6 @@
 -- What a turn of the nearest step does. This project's own.
 use Rattle.std.specs.Prelude.{◌≡◌, List, Option, Some}
-use Rattle.irig_journal.specs.declared.step.Step.{Step}
-use Rattle.irig_journal.specs.History.{CountsNearest, History, machine}
+use Rattle.irig_journal.specs.History.{CountsNearest, History, Step, machine}
 use Rattle.irig_journal.specs.Machine.{Kept, Machine}
 
 -- one turn, that of the nearest of some steps, led from one history to another: by a move of the

@@ -1,21 +1,24 @@
 //! Groups: several edits that one undo reverses.
 
-ghost use Rattle.std.specs.Prelude.{◌≡◌, ◌⊎◌, ◌+◌, ◌<◌, ◌≤◌, ◌↔◌, [], ℕ, IsErr, IsErrOf, IsNone};
-ghost use Rattle.std.specs.Prelude.{IsSome, IfSome, OnErr, OnOk, None, Some, length, vec_capacity};
-ghost use Rattle.std.specs.Prelude.{vec_len};
+ghost use Rattle.std.specs.Prelude.{◌≡◌, ◌↔◌, ◌<◌, ◌≤◌, ◌∷◌, ◌^◌, [], ℕ, IsErr, IsErrOf, IsNone};
+ghost use Rattle.std.specs.Prelude.{IsSome, IfSome, OnErr, OnOk, None, Some, drop, length, take};
+ghost use Rattle.std.specs.Prelude.{vec_capacity, vec_len};
 ghost use Rattle.irig_journal.specs.Groups.{aborted, begun, ended};
-ghost use Rattle.irig_journal.specs.History.{steps_of};
+ghost use Rattle.irig_journal.specs.History.{step};
 ghost use Rattle.irig_journal.specs.Joining.{CountsAlong, beyond, changes_of, farthest};
 ghost use Rattle.irig_journal.specs.Joining.{joined_beyond};
-ghost use Rattle.irig_journal.specs.Journal.{AreReady, ReadyInTurn, future_of, grouped_of, past_of};
+ghost use Rattle.irig_journal.specs.Journal.{AreReady, future_of, grouped_of, past_of, steps_in};
+ghost use Rattle.irig_journal.specs.Sides.{AreSides};
+ghost use Rattle.irig_journal.specs.Sizes.{counts_of, ended_beyond};
 ghost use Rattle.irig_journal.specs.Turns.{left_by};
 
-use crate::gathering::gather_beyond;
+use crate::entry::{Entry, join_beyond};
 use crate::journal::Journal;
+use crate::moving::turn_nearest;
 use crate::opening::Opening;
-use crate::step::Step;
+use crate::places::reserve_group;
+use crate::side::Side;
 use crate::{JournalFault, Reversible};
-use std::alloc::AllocError;
 
 impl<R: Reversible> Journal<R> {
     /// Opens a group at the present, whose cursor this is. It takes no memory, and the only error
@@ -32,12 +35,13 @@ impl<R: Reversible> Journal<R> {
         if self.floor.is_some() {
             return Err(JournalFault::GroupOpen);
         }
-        let steps = self.past.len();
+        let steps = self.past.entries.len();
         self.floor = Some(Opening { steps, cursor });
         Ok(())
     }
 
     /// Closes the open group: the steps made since its begin become one. One alone stays as it is.
+    /// It takes no memory, and the only error is `NoGroup`.
     pub fn end(&mut self, state: &R) -> Result<(), JournalFault>
         requires ready { AreReady R.fits R.turned R.delta (R.has_room (R.places state.now))
             (R.content state.now) self.old }
@@ -49,12 +53,9 @@ impl<R: Reversible> Journal<R> {
             ≡ joined_beyond R.gathered opening.steps (past_of R.delta self.old))) }
         ensures stays { self.new.future ≡ self.old.future }
 
-        ensures none { IsErrOf result JournalFault.NoGroup ↔ IsNone self.old.floor }
-        ensures memory { OnErr result (IsErrOf result JournalFault.NoGroup
-            ⊎ (IsErrOf result JournalFault.OutOfMemory × IfSome self.old.floor (λ opening.
-            opening.steps + 1 < length (past_of R.delta self.old)))) }
-        ensures err { OnErr result ((self.new.past ≡ self.old.past)
-            × (self.new.floor ≡ self.old.floor)) }
+        ensures none { IsErr result ↔ IsNone self.old.floor }
+        ensures err { OnErr result (IsErrOf result JournalFault.NoGroup
+            × (self.new ≡ self.old)) }
         ensures ready { AreReady R.fits R.turned R.delta (R.has_room (R.places state.now))
             (R.content state.now) self.new }
     {
@@ -62,10 +63,38 @@ impl<R: Reversible> Journal<R> {
             None => return Err(JournalFault::NoGroup),
             Some(opening) => opening,
         };
-        if join_beyond(&mut self.past, opening.steps, state).is_err() {
+        state.known();
+        end_beyond(&mut self.past.entries, opening.steps);
+        self.floor = None;
+        Ok(())
+    }
+
+    /// Makes one group of the newest `count` steps, which leads to `cursor`. It is for steps that
+    /// are taken from elsewhere, as a saved session is opened. It takes memory only for a group of
+    /// none. The only error is `OutOfMemory`; no step changes then.
+    pub fn gather(&mut self, state: &R, count: usize, cursor: usize) -> Result<(), JournalFault>
+        requires within { count ≤ length (past_of R.delta self.old) }
+        requires no_group { self.old.floor ≡ None }
+        requires ready { AreReady R.fits R.turned R.delta (R.has_room (R.places state.now))
+            (R.content state.now) self.old }
+
+        ensures steps { OnOk result ((past_of R.delta self.new
+            ≡ step (R.gathered (changes_of (take count (past_of R.delta self.old)))) cursor
+            ∷ drop count (past_of R.delta self.old))
+            × (future_of R.delta self.new ≡ future_of R.delta self.old)
+            × (self.new.floor ≡ None)) }
+        ensures err { OnErr result (IsErrOf result JournalFault.OutOfMemory × (count ≡ 0)
+            × (self.new.past ≡ self.old.past) × (self.new.future ≡ self.old.future)
+            × (self.new.floor ≡ None)) }
+        ensures ready { AreReady R.fits R.turned R.delta (R.has_room (R.places state.now))
+            (R.content state.now) self.new }
+    {
+        state.known();
+        if reserve_group(&mut self.past.entries, &mut self.future.entries, count).is_err() {
             return Err(JournalFault::OutOfMemory);
         }
-        self.floor = None;
+        let at = self.past.entries.len() - count;
+        join_beyond(&mut self.past.entries, at, cursor);
         Ok(())
     }
 
@@ -97,7 +126,7 @@ impl<R: Reversible> Journal<R> {
             None => return Err(JournalFault::NoGroup),
             Some(opening) => opening,
         };
-        turn_beyond(&mut self.past, opening.steps, state);
+        turn_beyond(&mut self.past, &mut self.future, opening.steps, state);
         *cursor = opening.cursor;
         self.future.clear();
         self.floor = None;
@@ -105,50 +134,48 @@ impl<R: Reversible> Journal<R> {
     }
 }
 
-/// Joins the steps beyond the `at` farthest to one. One alone stays as it is.
-fn join_beyond<R: Reversible>(
-    past: &mut Vec<Step<R::Change>>,
-    at: usize,
-    state: &R,
-) -> Result<(), AllocError>
-    requires ready { ReadyInTurn R.fits R.turned R.delta (R.has_room (R.places state.now))
-        (R.content state.now) past.old.items }
-    ensures joined { OnOk result (steps_of R.delta past.new.items
-        ≡ joined_beyond R.gathered at (steps_of R.delta past.old.items)) }
-    ensures ready { ReadyInTurn R.fits R.turned R.delta (R.has_room (R.places state.now))
-        (R.content state.now) past.new.items }
-    ensures known { OnOk result (at + 1 < vec_len past.old → R.is_state (R.content state.now)) }
-    ensures places { (vec_len past.new ≤ vec_len past.old)
-        × (vec_capacity past.old ≤ vec_capacity past.new) }
-    ensures err { OnErr result ((past.new.items ≡ past.old.items)
-        × (at + 1 < vec_len past.old)) }
+/// Makes one step of those after the `at` farthest, if they are more than one. It leads to where
+/// the farthest of them leads. It takes no memory.
+fn end_beyond(entries: &mut Vec<Entry>, at: usize)
+    requires within { at ≤ vec_len entries.old }
+    requires few { counts_of entries.old.items < 2 ^ 64 }
+    ensures joined { entries.new.items ≡ ended_beyond at entries.old.items }
+    ensures few { vec_len entries.new ≤ vec_len entries.old }
+    ensures beyond { at ≤ vec_len entries.new }
+    ensures capacity { vec_capacity entries.old ≤ vec_capacity entries.new }
 {
-    if past.len() <= at || past.len() - at == 1 {
-        return Ok(());
+    if entries.len() - at > 1 {
+        let cursor = entries[at].cursor;
+        join_beyond(entries, at, cursor);
     }
-    let one = gather_beyond(past, at, state)?;
-    past.push(one).unwrap();
-    Ok(())
 }
 
-/// Turns the steps beyond the `at` farthest back, one after another, and drops them. It takes no
-/// memory.
-fn turn_beyond<R: Reversible>(past: &mut Vec<Step<R::Change>>, at: usize, state: &mut R)
-    requires ready { ReadyInTurn R.fits R.turned R.delta (R.has_room (R.places state.old))
-        (R.content state.old) past.old.items }
-    ensures rest { steps_of R.delta past.new.items
-        ≡ farthest at (steps_of R.delta past.old.items) }
+/// Undoes the steps after the `at` farthest, one after another. It takes no memory.
+fn turn_beyond<R: Reversible>(
+    past: &mut Side<R::Change>,
+    future: &mut Side<R::Change>,
+    at: usize,
+    state: &mut R,
+)
+    requires within { at ≤ vec_len past.old.entries }
+    requires sides { AreSides past.old future.old }
+    requires ready { AreReady R.fits R.turned R.delta (R.has_room (R.places state.old))
+        (R.content state.old) (steps_in past.old future.old) }
+
+    ensures rest { past_of R.delta (steps_in past.new future.new)
+        ≡ farthest at (past_of R.delta (steps_in past.old future.old)) }
     ensures state { R.content state.new ≡ left_by R.turned (R.content state.old)
-        (changes_of (beyond at (steps_of R.delta past.old.items))) }
+        (changes_of (beyond at (past_of R.delta (steps_in past.old future.old)))) }
     ensures once { CountsAlong R.counted R.turned (R.content state.old)
-        (beyond at (steps_of R.delta past.old.items)) (R.tally state.old) (R.tally state.new) }
-    ensures ready { ReadyInTurn R.fits R.turned R.delta (R.has_room (R.places state.new))
-        (R.content state.new) past.new.items }
-    ensures places { (vec_len past.new ≤ vec_len past.old)
-        × (vec_capacity past.old ≤ vec_capacity past.new) }
+        (beyond at (past_of R.delta (steps_in past.old future.old)))
+        (R.tally state.old) (R.tally state.new) }
+    ensures ready { AreReady R.fits R.turned R.delta (R.has_room (R.places state.new))
+        (R.content state.new) (steps_in past.new future.new) }
+    ensures sides { AreSides past.new future.new }
+    ensures left { vec_len past.new.entries ≡ at }
 {
-    while past.len() > at {
-        let mut nearest = past.pop().unwrap();
-        state.turn(&mut nearest.change);
+    let mut cursor = 0;
+    while past.entries.len() > at {
+        turn_nearest(past, future, state, &mut cursor);
     }
 }

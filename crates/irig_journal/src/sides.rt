@@ -1,32 +1,35 @@
-//! The steps on both sides of the present, one by one, and past and future changed over.
+//! The steps on both sides of the present, one after another, and past and future changed over.
 
-ghost use Rattle.std.specs.Prelude.{◌≡◌, ◌<◌, ℕ, None, Some, length, reverse, slice_get};
-ghost use Rattle.irig_journal.specs.History.{step};
+ghost use Rattle.std.specs.Prelude.{◌≡◌, ℕ, None, reverse};
 ghost use Rattle.irig_journal.specs.Journal.{AreReady, future_of, machine_of, past_of};
 ghost use Rattle.irig_journal.specs.Machine.{mirrored};
 
 use crate::Reversible;
 use crate::journal::Journal;
-use crate::step::Step;
+use crate::steps_left::StepsLeft;
 use std::mem;
 
 impl<R: Reversible> Journal<R> {
-    /// A step that can be undone, by its number from 0: 0 is the oldest. This takes no memory.
-    pub fn past(&self, number: usize) -> &Step<R::Change>
-        requires within { number < length (past_of R.delta self.now) }
-        ensures { slice_get (reverse (past_of R.delta self.now)) number
-            ≡ Some (step (R.delta result.now.change) result.now.cursor) }
+    /// The steps that can be undone, the oldest first. This takes no memory.
+    pub fn past_steps(&self) -> StepsLeft<'_, R::Change>
+        ensures { result ≡ reverse self.now.past }
     {
-        &self.past[number]
+        StepsLeft {
+            changes: &self.past.changes,
+            entries: &self.past.entries,
+            from_oldest: true,
+        }
     }
 
-    /// A step that can be redone, by its number from 0: 0 is the next. This takes no memory.
-    pub fn future(&self, number: usize) -> &Step<R::Change>
-        requires within { number < length (future_of R.delta self.now) }
-        ensures { slice_get (future_of R.delta self.now) number
-            ≡ Some (step (R.delta result.now.change) result.now.cursor) }
+    /// The steps that can be redone, the next first. This takes no memory.
+    pub fn future_steps(&self) -> StepsLeft<'_, R::Change>
+        ensures { result ≡ self.now.future }
     {
-        &self.future[self.future.len() - 1 - number]
+        StepsLeft {
+            changes: &self.future.changes,
+            entries: &self.future.entries,
+            from_oldest: false,
+        }
     }
 
     /// Swaps past and future: what could be undone can be redone, and the other way round. The

@@ -1,7 +1,9 @@
 -- A word that is read in a text.
-use Rattle.std.proofs.Common.{◌≡◌, ◌++◌, ◌∷◌, [], ℕ, List, Option, Some, None, drop, subst, sym, ap, ◌∙◌}
+use Rattle.std.proofs.Common.{◌≡◌, ◌++◌, ◌∷◌, [], ℕ, List, Option, Some, None, drop, decimal, subst, sym, ap, ◌∙◌}
 use Rattle.std.proofs.lemmas.List.{append-nil, append_cancel_left}
-use Rattle.irig_saved.proofs.Bytes.{cut_at, not_lacking}
+use Rattle.irig_saved.proofs.Bytes.{cut_at, not_lacking, wordy_lacks}
+use Rattle.irig_saved.proofs.Decimals.{number_is_word}
+use Rattle.irig_saved.specs.Ranges.{IsNumber}
 use Rattle.irig_saved.specs.Reading.{Decodes, Lacks}
 
 -- what a word decodes to, the text round it does
@@ -23,6 +25,12 @@ behind_head text head u v at e = ap (λ (l : List ℕ). drop 1 l) (append_cancel
 -- a text of more words than one determines the first and the others
 pub first_word : (text u v w z : List ℕ) → text ≡ u ++ 32 ∷ v → Lacks 32 u → Lacks 32 w → text ≡ w ++ 32 ∷ z → (u ≡ w) × (v ≡ z)
 first_word text u v w z at lacks word e = cut_at 32 u w v z lacks word (sym at ∙ e)
+
+-- a text that begins with a number and a space determines the number's word and what is after the space
+pub leading_number : (text u v : List ℕ) (n m : ℕ) → IsNumber n → IsNumber m → text ≡ decimal n ++ 32 ∷ u → text ≡ decimal m ++ 32 ∷ v
+    → (decimal n ≡ decimal m) × (u ≡ v)
+leading_number text u v n m one two at e =
+    first_word text (decimal n) u (decimal m) v at (wordy_lacks (decimal n) (number_is_word n one)) (wordy_lacks (decimal m) (number_is_word m two)) e
 
 pub no_words : (text w z : List ℕ) → Lacks 32 text → text ≡ w ++ 32 ∷ z → ⊥
 no_words text w z lacks e = let P : List ℕ → Type 0 = λ l. Lacks 32 l in not_lacking 32 w z (subst P e lacks)

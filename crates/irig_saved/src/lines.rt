@@ -65,12 +65,32 @@ pub fn mark(letter_byte: u8, text: &[u8]) -> Option<u64>
     }
 }
 
+/// The number in the first word of a text, and what is after the space that ends it.
+fn leading(text: &[u8]) -> Option<(u64, &[u8])>
+    ensures { MatchOption result
+        ((n : ℕ) (rest : List ℕ) → IsNumber n → text.now ≡ decimal n ++ 32 ∷ rest → ⊥)
+        (λ x. IsNumber x.0 × (text.now ≡ decimal x.0 ++ 32 ∷ x.1.now)) }
+{
+    let Some((word, rest)) = word_of(text) else {
+        return None;
+    };
+    match number(word) {
+        Some(number) => Some((number, rest)),
+        None => None,
+    }
+}
+
 /// Two numbers with a space between them.
 fn pair(text: &[u8]) -> Option<(u64, u64)>
     ensures { Decodes AreTwo (λ t. numbered (decimal t.0) (t.1 ∷ [])) text.now result }
 {
-    let (first, second) = word_of(text)?;
-    Some((number(first)?, number(second)?))
+    let Some((first, second)) = leading(text) else {
+        return None;
+    };
+    match number(second) {
+        Some(second) => Some((first, second)),
+        None => None,
+    }
 }
 
 /// The pulse in a line of its rise and fall.
@@ -87,9 +107,16 @@ pub fn pulse(text: &[u8]) -> Option<Pulse>
 pub fn splice(text: &[u8]) -> Option<(u64, u64, u64)>
     ensures { Decodes AreThree (λ t. line (codes "splice") (words_of_three t)) text.now result }
 {
-    let (at, rest) = word_of(behind(b"splice", text)?)?;
-    let (count, put) = word_of(rest)?;
-    Some((number(at)?, number(count)?, number(put)?))
+    let Some(numbers) = behind(b"splice", text) else {
+        return None;
+    };
+    let Some((at, rest)) = leading(numbers) else {
+        return None;
+    };
+    match pair(rest) {
+        Some((count, put)) => Some((at, count, put)),
+        None => None,
+    }
 }
 
 /// The change in a line, if it is no splice.
@@ -132,10 +159,17 @@ fn set_mark(text: &[u8]) -> Option<(u8, Option<u64>)>
 fn shift(text: &[u8]) -> Option<(u64, u64, i64, [bool; 26])>
     ensures { Decodes IsShift (λ t. line (codes "shift") (words_of_shift t)) text.now result }
 {
-    let (i, rest) = word_of(behind(b"shift", text)?)?;
-    let (j, rest) = word_of(rest)?;
-    let (by, marks) = move_in(rest)?;
-    Some((number(i)?, number(j)?, by, marks))
+    let Some(words) = behind(b"shift", text) else {
+        return None;
+    };
+    let Some((i, words)) = leading(words) else {
+        return None;
+    };
+    let Some((j, words)) = leading(words) else {
+        return None;
+    };
+    let (by, marks) = move_in(words)?;
+    Some((i, j, by, marks))
 }
 
 /// A distance and the marks that move by it.

@@ -3,7 +3,7 @@ use Rattle.std.proofs.Common.{◌≡◌, ◌+◌, ℕ, List, [], ◌∷◌, Opti
 use Rattle.std.specs.Prelude.{Result, Ok}
 use Rattle.irig_codes.specs.Format.{FormatView}
 use Rattle.irig_journal.specs.Groups.{Grouped, over}
-use Rattle.irig_journal.specs.declared.step.Step.{Step}
+use Rattle.irig_journal.specs.History.{Step}
 use Rattle.irig_saved.proofs.Unique.{same_saved}
 use Rattle.irig_saved.specs.SavedText.{journal_text}
 use Rattle.irig_saved.specs.declared.saved.Saved.{Saved}

@@ -1,7 +1,6 @@
 -- How many looks a step of the journal takes.
 use Rattle.std.proofs.Common.{◌≡◌, ◌-◌, ◌<◌, ◌≤◌, ◌^◌, ℕ, List, [], ◌∷◌, Option, Some, None, option_map, sym, subst, arith}
-use Rattle.irig_journal.specs.declared.step.Step.{Step}
-use Rattle.irig_journal.specs.History.{CountsNearest, FitInTurn, History, step, stepped_forward, turned_back, turned_round}
+use Rattle.irig_journal.specs.History.{CountsNearest, FitInTurn, History, Step, step, stepped_forward, turned_back, turned_round}
 use Rattle.irig_edit.specs.Changes.Delta.{Delta, Fits, turned}
 use Rattle.irig_edit.specs.Changes.Laws.Delta.{turned-turned}
 use Rattle.irig_edit.specs.Session.Keeping.{exchange_back, machine}

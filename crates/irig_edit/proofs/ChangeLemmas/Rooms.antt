@@ -1,20 +1,15 @@
 -- The room of changes: what an edit asks for is enough, and a turn leaves room for its way back.
-use Rattle.std.proofs.Common.{◌≡◌, ◌≤◌, ◌+◌, ◌-◌, ◌^◌, ◌++◌, ℕ, List, [], ◌∷◌, length, map, min, refl, ap, sym, subst, ◌∙◌, arith}
-use Rattle.std.specs.List.{AllByRecursion}
-use Rattle.std.proofs.lemmas.List.{length-map}
-use Rattle.std.proofs.lemmas.List.Sums.{sum_by-cons}
-use Rattle.irig_codes.specs.Format.{FormatView}
+use Rattle.std.proofs.Common.{◌≡◌, ◌≤◌, ◌+◌, ◌-◌, ℕ, List, Result, Ok, Err, OnOk, length, take, drop, refl, ap, sym, subst, ◌∙◌, arith}
 use Rattle.irig_index.specs.Frames.{frames}
 use Rattle.irig_index.specs.Index.{WereFrames}
-use Rattle.irig_index.proofs.FewFrames.{frames_few_after}
-use Rattle.irig_index.proofs.MarkerBounds.{length-records_in}
-use Rattle.irig_track.specs.declared.pulse.Pulse.{Pulse}
-use Rattle.irig_track.specs.Shifts.{count_to, moved, moved_pulse, ahead, back}
-use Rattle.irig_track.specs.Splices.{IsSpan, ended_before, piece, risen_by}
-use Rattle.irig_track.proofs.Carried.{length-piece, length-spliced}
-use Rattle.irig_track.proofs.Spans.{span_spliced}
+use Rattle.irig_index.proofs.FewFrames.{frames_few, frames_few_after, frames_moved}
+use Rattle.irig_index.proofs.RepairLemmas.{parts}
+use Rattle.irig_vcd.specs.declared.pulse.Pulse.{Pulse}
+use Rattle.irig_track.specs.Shifts.{count_to, moved}
+use Rattle.irig_track.specs.Splices.{IsSpan, ended_before, piece, risen_by, spliced}
+use Rattle.irig_track.proofs.Carried.{length-spliced}
 use Rattle.irig_track.proofs.ToggleSpans.{span_of_toggle}
-use Rattle.irig_edit.specs.Changes.Ample.{IsAmpleFor, IsAmpleForAll, PutsIn, brought, records_for}
+use Rattle.irig_edit.specs.Changes.Ample.{IsAmpleFor, PutsIn, records_for}
 use Rattle.irig_edit.specs.Changes.Held.{single_of}
 use Rattle.irig_edit.specs.Changes.Laws.Edges.{edges_of-toggled}
 use Rattle.irig_edit.specs.Changes.Laws.Room.{holds_wider}
@@ -22,43 +17,36 @@ use Rattle.irig_edit.specs.Changes.Laws.Single.{turned_single-turned}
 use Rattle.irig_edit.specs.Changes.Laws.State.{IsState-turned_single}
 use Rattle.irig_edit.specs.State.Places.{HoldsState, IsWithin, KeepsPlaces, Places, places_in}
 use Rattle.irig_edit.specs.State.Present.{PresentView}
-use Rattle.irig_edit.specs.Changes.Room.{HasRoomFor, HaveRoom, TakesIn, passing}
-use Rattle.irig_edit.specs.Changes.Single.{FitsSingle, SingleDelta, brought_by, turned_single}
+use Rattle.irig_edit.specs.Changes.Room.{HasRoomFor, TakesIn, passing}
+use Rattle.irig_edit.specs.Changes.Single.{FitsSingle, SingleDelta, turned_single}
 use Rattle.irig_edit.specs.Changes.Single.SingleDelta.{Spliced, Toggled, Shifted, Formatted, Marked}
 use Rattle.irig_edit.specs.State.State.{State, IsState, frames_of}
 use Rattle.irig_edit.specs.declared.changes.single.Single.{Single}
-use Rattle.irig_journal.specs.Turns.{FitAll, left_by}
 use Rattle.irig_edit.proofs.EditLemmas.ShiftedStates.{length-shifted}
 use Rattle.irig_edit.proofs.EditLemmas.Toggles.{length-toggled}
 use Rattle.irig_edit.proofs.ChangeLemmas.Windows.{length-spanned, risen_few, toggled_few}
 
--- fewer frames than pulses
-pub frames_few : (f : FormatView) (ps : List Pulse) → length (frames f ps) ≤ length ps - 1
-frames_few f ps = length-records_in f ps 0 (length ps - 1)
-
--- a turn brings no more pulses than it may
-pub few_brought : (s : State) (d : SingleDelta) → FitsSingle s d
-    → length (turned_single s d).0.pulses ≤ length s.pulses + brought_by d
-few_brought s (Spliced at count put) can = omega (arith, length-spliced s.pulses put at count can.there)
-few_brought s (Toggled a b) can = length-toggled s a b can
-few_brought s (Shifted i j d named) can = omega (arith, length-shifted i j d s.pulses can.0.order can.0.there)
-few_brought s (Formatted f) can = omega arith
-few_brought s (Marked letter time) can = omega arith
-
--- an edit at one place brings no more records than pulses came, and 100
+-- an edit at one place brings no more records than pulses came, and two
 spanned_few : (s : State) (at gone come : ℕ) (ps : List Pulse) → IsState s → IsSpan at gone come s.pulses ps
-    → length (frames s.format ps) ≤ length (frames_of s) + (come + 100)
+    → length (frames s.format ps) ≤ length (frames_of s) + (come + 2)
 spanned_few s at gone come ps is span =
     let were : WereFrames s.format at gone come (frames_of s) s.micros ps =
     record { former = s.pulses; track = is.track; frames = refl; span = span } in
     frames_few_after s.format at gone come s.micros (frames_of s) ps were
 
+-- other pulses instead of some bring at most two records more than those of both, as if they stood alone
+parted_few : (s : State) (at count : ℕ) (put : List Pulse) → length (frames s.format (spliced at count put s.pulses))
+    + length (frames s.format (piece at count s.pulses)) ≤ length (frames_of s) + length (frames s.format put) + 2
+parted_few s at count put =
+    let a = take at s.pulses in
+    let x = piece at count s.pulses in
+    let b = drop (at + count) s.pulses in
+    omega (arith, frames_few s.format a x put b, ap (λ qs. length (frames s.format qs)) (parts s.pulses at count))
+
 -- a turn brings no more records than it may
 pub frames_after : (s : State) (d : SingleDelta) → IsState s → FitsSingle s d
     → length (frames_of (turned_single s d).0) ≤ length (frames_of s) + records_for s d
-frames_after s (Spliced at count put) is can =
-    let new = (turned_single s (Spliced at count put)).0.pulses in
-    spanned_few s at count (length put) new is (span_spliced at count (length put) put s.pulses new can.there refl refl)
+frames_after s (Spliced at count put) is can = omega (arith, parted_few s at count put)
 frames_after s (Toggled a b) is can =
     let new = (turned_single s (Toggled a b)).0.pulses in
     let edges = edges_of-toggled s.micros a b s.pulses can in
@@ -76,12 +64,8 @@ frames_after s (Toggled a b) is can =
       span.came,
     )
 frames_after s (Shifted i j d named) is can =
-    let n = count_to i j in
-    let part = piece i n s.pulses in
-    let there : i + n ≤ length s.pulses = omega (arith, can.0.order, can.0.there) in
-    let new = (turned_single s (Shifted i j d named)).0.pulses in
-    let long : length (moved d part) ≡ n = length-map part (moved_pulse (ahead d) (back d)) ∙ length-piece s.pulses i n there in
-    spanned_few s i n n new is (span_spliced i n n (moved d part) s.pulses new there long refl)
+    let part = piece i (count_to i j) s.pulses in
+    omega (arith, parted_few s i (count_to i j) (moved d part), frames_moved s.format d part can.0.from_zero)
 frames_after s (Formatted f) is can = omega arith
 frames_after s (Marked letter time) is can = omega arith
 
@@ -153,56 +137,7 @@ room_back p q x y is can room turn keeps takes =
           (subst (λ (s : State). HoldsState (places_in q) n s) first after);
     }
 
--- what one brings, and then the others
-pub brought-cons : (x : Single) (left : List Single) → brought (x ∷ left) ≡ brought_by (single_of x) + brought left
-brought-cons x left = sum_by-cons (λ (y : Single). brought_by (single_of y)) x left
-
-passing_few : (d : SingleDelta) → passing d ≤ 1
-passing_few (Spliced at count put) = omega arith
-passing_few (Toggled a b) = omega arith
-passing_few (Shifted i j d named) = omega arith
-passing_few (Formatted f) = omega arith
-passing_few (Marked letter time) = omega arith
-
--- places for as many pulses as a state may have are enough for its frames too
-holds_few : (p : Places) (s : State) (n m : ℕ) → length s.pulses ≤ m → n ≤ 1 → m + 1 ≤ p.pulses → m ≤ p.records → HoldsState p n s
-holds_few p s n m few one pulses records = record {
-  pulses = omega (arith, few, one, pulses);
-  records = omega (arith, few, records, frames_few s.format s.pulses);
-}
-
--- places for all that single changes bring, and that they take, are room for each in turn
-room_in_turn : (p : Places) (s : State) (m : ℕ) (left : List Single) → IsState s → FitAll FitsSingle turned_single s (map single_of left)
-    → AllByRecursion TakesIn left → min (length s.pulses + brought left) (2 ^ 22) ≤ m → m + 1 ≤ p.pulses → m ≤ p.records
-    → HaveRoom p s left
-room_in_turn p s m [] is fit take most pulses records = tt
-room_in_turn p s m (x ∷ left) is fit take most pulses records =
-    let d = single_of x in
-    let after = (turned_single s d).0 in
-    let is_after = IsState-turned_single s d is fit.0 in
-    let bring = brought-cons x left in
-    let few = few_brought s d fit.0 in
-    let one = passing_few d in
-    let within : length s.pulses ≤ m = omega (arith, most, is.track.few) in
-    let within_after : length after.pulses ≤ m = omega (arith, most, bring, few, is_after.track.few) in
-    let rest : min (length after.pulses + brought left) (2 ^ 22) ≤ m = omega (arith, most, bring, few) in (
-      record {
-        takes = take.0;
-        before = holds_few p s (passing d) m within one pulses records;
-        after = holds_few p after (passing d) m within_after one pulses records;
-      },
-      room_in_turn p after m left is_after fit.1 take.1 rest pulses records,
-    )
-
--- so what a group asks for is enough
-pub ample_enough_all : (p : Places) (s : State) (singles : List Single) → IsState s
-    → FitAll FitsSingle turned_single s (map single_of singles) → IsAmpleForAll p s singles → HaveRoom p s singles
-ample_enough_all p s singles is fit ample =
-    let most = min (length s.pulses + min (brought singles) (2 ^ 64 - 1)) (2 ^ 22) in
-    room_in_turn p s most singles is fit ample.take (omega arith) ample.places.pulses ample.places.records
-
--- some in turn, and then others
-pub room-append : (p : Places) (s : State) (xs ys : List Single) → HaveRoom p s xs
-    → HaveRoom p (left_by turned_single s (map single_of xs)) ys → HaveRoom p s (xs ++ ys)
-room-append p s [] ys one other = other
-room-append p s (x ∷ xs) ys one other = (one.0, room-append p (turned_single s (single_of x)).0 xs ys one.1 other)
+-- a fact of a value leads to another
+pub on_ok : {A B P Q : Type 0} (r : Result A B) → (P → Q) → OnOk r P → OnOk r Q
+on_ok (Ok x) f h = f h
+on_ok (Err e) f h = tt

@@ -7,9 +7,9 @@ use Rattle.irig_track.specs.Edges.{edges_of}
 use Rattle.irig_track.specs.Looks.{counted}
 use Rattle.irig_track.specs.Splices.{IsSpan, ended_before, risen_by}
 use Rattle.irig_track.specs.Toggles.{flipped, toggled}
-use Rattle.irig_track.specs.declared.pulse.Pulse.{Pulse}
+use Rattle.irig_vcd.specs.declared.pulse.Pulse.{Pulse}
 use Rattle.irig_track.proofs.Searches.{below_or_not, ended_no, ended_yes, risen_none, risen_yes}
-use Rattle.irig_track.proofs.RisingLists.{length-edges_of}
+use Rattle.irig_vcd.proofs.PulseEdges.{length-edges_of}
 use Rattle.irig_index.specs.Looked.{after_looks}
 use Rattle.irig_edit.specs.Changes.Looks.{standing_in}
 use Rattle.irig_edit.proofs.EditLemmas.Toggles.{length-flipped}

@@ -12,9 +12,10 @@ use Rattle.irig_codes.specs.declared.width.Element.TheVariants.{Zero}
 use Rattle.irig_codes.specs.Format.{FormatView, interval_of}
 use Rattle.irig_codes.specs.Width.{nominal_of}
 use Rattle.irig_gap.specs.Items.{GapView, gap_view}
-use Rattle.irig_track.specs.declared.pulse.Pulse.{Pulse}
+use Rattle.irig_vcd.specs.declared.pulse.Pulse.{Pulse}
 use Rattle.irig_track.specs.Edges.{edges_of, pulse, Under}
-use Rattle.irig_track.proofs.RisingLists.{edges_of-append, rises_more}
+use Rattle.irig_vcd.proofs.PulseEdges.{edges_of-append}
+use Rattle.irig_track.proofs.RisingLists.{rises_more}
 use Rattle.irig_edit.specs.Edits.Regenerated.{index_point, element_pulse, frame_pulses, frames_end}
 use Rattle.irig_codes.proofs.WidthLemmas.{nominal_of-within}
 

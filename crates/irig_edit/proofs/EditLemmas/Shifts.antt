@@ -3,7 +3,7 @@ use Rattle.std.proofs.Common.{◌≡◌, ◌≤◌, ◌<◌, ◌+◌, ◌-◌, �
 use Rattle.std.proofs.Common.{drop, slice_get, get_or, Some, refl, ap, sym, ◌∙◌, subst, arith}
 use Rattle.std.proofs.lemmas.Bool.Decides.{nat_tests}
 use Rattle.irig_vcd.specs.Recording.{RisesFrom}
-use Rattle.irig_track.specs.declared.pulse.Pulse.{Pulse}
+use Rattle.irig_vcd.specs.declared.pulse.Pulse.{Pulse}
 use Rattle.irig_track.specs.Edges.{edges_of, pulse}
 use Rattle.irig_track.specs.Free.{following, first_or}
 use Rattle.irig_track.specs.Shifts.{CanShift, ahead, back}

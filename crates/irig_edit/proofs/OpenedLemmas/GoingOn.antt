@@ -5,9 +5,8 @@ use Rattle.std.specs.List.{AllByRecursion}
 use Rattle.std.proofs.lemmas.Bool.Decides.{nat_tests}
 use Rattle.std.proofs.lemmas.List.{length-append, reverse-append, reverse-reverse, take-map}
 use Rattle.irig_codes.specs.Format.{FormatView}
-use Rattle.irig_journal.specs.declared.step.Step.{Step}
 use Rattle.irig_journal.specs.Groups.{over}
-use Rattle.irig_journal.specs.History.{FitInTurn, History}
+use Rattle.irig_journal.specs.History.{FitInTurn, History, Step}
 use Rattle.irig_saved.specs.Faults.{IsFault}
 use Rattle.irig_saved.specs.Ranges.{IsSaved}
 use Rattle.irig_saved.specs.SavedText.{journal_text}
@@ -37,7 +36,6 @@ use Rattle.irig_edit.specs.Session.Session.{SessionView, grouped_in}
 use Rattle.irig_edit.specs.State.State.{IsMark, IsState, State, recording_of, state}
 use Rattle.irig_edit.specs.Opened.Taken.{AreTaken, CanTakeAll, StopsAfter}
 use Rattle.irig_edit.specs.Opened.Walk.{walk}
-use Rattle.irig_edit.proofs.ChangeLemmas.GroupTurns.{all-append}
 use Rattle.irig_edit.proofs.OpenedLemmas.Heads.{head_marks}
 use Rattle.irig_edit.proofs.OpenedLemmas.Names.{same_step}
 use Rattle.irig_edit.proofs.OpenedLemmas.Numbers.{digit_permitted, steps_small, times_small}
@@ -52,6 +50,12 @@ same_steps (d ∷ ds) (e ∷ es) same =
     let first : saved_step d ≡ saved_step e = cc in
     let rest : map saved_step ds ≡ map saved_step es = cc in
     ap₂ (λ (x : Step Delta) (xs : List (Step Delta)). x ∷ xs) (same_step d e first) (same_steps ds es rest)
+
+-- what holds of each of two lists holds of each of both
+all-append : {X : Type 0} (P : X → Type 0) (xs ys : List X) → AllByRecursion P xs → AllByRecursion P ys
+    → AllByRecursion P (xs ++ ys)
+all-append P [] ys one other = other
+all-append P (x ∷ xs) ys one other = (one.0, all-append P xs ys one.1 other)
 
 -- what holds of each of a list holds of each in the opposite order
 all-reverse : {X : Type 0} (P : X → Type 0) (xs : List X) → AllByRecursion P xs → AllByRecursion P (reverse xs)

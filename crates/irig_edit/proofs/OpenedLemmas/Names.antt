@@ -1,18 +1,12 @@
 -- What a saved journal names: one name, one change.
-use Rattle.std.proofs.Common.{◌≡◌, ◌+◌, ◌++◌, List, [], ◌∷◌, Option, Some, None, map, refl, ap, ap₂, sym, ◌∙◌, subst, arith}
-use Rattle.std.specs.Prelude.{MatchOption}
-use Rattle.irig_saved.specs.declared.single.Single.{Single}
-use Rattle.irig_saved.specs.declared.change.Change.{Change}
-use Rattle.irig_saved.specs.declared.change.Change.TheVariants.{One, Group}
+use Rattle.std.proofs.Common.{◌≡◌, ◌+◌, List, [], ◌∷◌, map, refl, ap, ap₂, arith}
 use Rattle.irig_saved.specs.declared.step.Step.{Step as SavedStep}
-use Rattle.irig_journal.specs.declared.step.Step.{Step}
-use Rattle.irig_journal.specs.Turns.{FitAll}
-use Rattle.irig_edit.specs.Changes.Delta.{Delta, Fits}
+use Rattle.irig_journal.specs.History.{Step}
+use Rattle.irig_edit.specs.Changes.Delta.{Delta}
 use Rattle.irig_edit.specs.Changes.Delta.Delta.{Alone, Together}
 use Rattle.irig_edit.specs.Saved.Saved.{saved_change, saved_single, saved_step}
-use Rattle.irig_edit.specs.Changes.Single.{FitsSingle, SingleDelta, turned_single}
+use Rattle.irig_edit.specs.Changes.Single.{SingleDelta}
 use Rattle.irig_edit.specs.Changes.Single.SingleDelta.{Spliced, Toggled, Shifted, Formatted, Marked}
-use Rattle.irig_edit.specs.State.State.{State}
 
 -- single changes of one name are one
 pub same_single : (d e : SingleDelta) → saved_single d ≡ saved_single e → d ≡ e
@@ -74,37 +68,3 @@ same_step d e same =
     let change : d.change ≡ e.change = same_change d.change e.change (ap (λ (s : SavedStep). s.change) same) in
     let cursor : d.cursor ≡ e.cursor = ap (λ (s : SavedStep). s.cursor) same in
     (λ k. record { change = change k; cursor = cursor k })
-
--- if a name among others names nothing, all of them name nothing
-pub no_singles : (done rest names : List Single) (x : Single) → names ≡ done ++ x ∷ rest
-    → ((d : SingleDelta) (s : State) → FitsSingle s d → x ≡ saved_single d → ⊥)
-    → (ds : List SingleDelta) (s : State) → FitAll FitsSingle turned_single s ds → names ≡ map saved_single ds → ⊥
-no_singles [] rest names x split none [] s can same = let bad : x ∷ rest ≡ [] = sym split ∙ same in cc
-no_singles [] rest names x split none (d ∷ ds) s can same =
-    let both : x ∷ rest ≡ saved_single d ∷ map saved_single ds = sym split ∙ same in
-    let first : x ≡ saved_single d = cc in none d s can.0 first
-no_singles (y ∷ done) rest names x split none [] s can same = let bad : y ∷ done ++ x ∷ rest ≡ [] = sym split ∙ same in cc
-no_singles (y ∷ done) rest names x split none (d ∷ ds) s can same =
-    let both : y ∷ done ++ x ∷ rest ≡ saved_single d ∷ map saved_single ds = sym split ∙ same in
-    let tail : done ++ x ∷ rest ≡ map saved_single ds = cc in
-    no_singles done rest (done ++ x ∷ rest) x refl none ds (turned_single s d).0 can.1 tail
-
--- and so a group
-pub no_group : (names : List Single) (name : Change) (group : Change) → name ≡ group → group ≡ Group names
-    → ((ds : List SingleDelta) (s : State) → FitAll FitsSingle turned_single s ds → names ≡ map saved_single ds → ⊥)
-    → (d : Delta) (s : State) → Fits s d → name ≡ saved_change d → ⊥
-no_group names name group is are none (Alone d) s can same =
-    let bad : Group names ≡ One (saved_single d) = sym are ∙ (sym is ∙ same) in cc
-no_group names name group is are none (Together ds) s can same =
-    let both : Group names ≡ Group (map saved_single ds) = sym are ∙ (sym is ∙ same) in
-    let inner : names ≡ map saved_single ds = cc in none ds s can inner
-
--- what is said of nothing
-pub none_of : {X : Type 0} (N : Type 0) (P : X → Type 0) (o : Option X) → o ≡ None → MatchOption o N P → N
-none_of N P None is h = h
-none_of N P (Some x) is h = absurd (cc)
-
--- what is said of something
-pub some_of : {X : Type 0} (N : Type 0) (P : X → Type 0) (o : Option X) (x : X) → o ≡ Some x → MatchOption o N P → P x
-some_of N P None x is h = absurd (cc)
-some_of N P (Some y) x is h = let same : y ≡ x = cc in subst P same h

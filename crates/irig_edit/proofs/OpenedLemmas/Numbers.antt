@@ -6,13 +6,13 @@ use Rattle.std.proofs.lemmas.Bool.Decides.{nat_tests}
 use Rattle.irig_codes.specs.Format.{is_permitted}
 use Rattle.irig_codes.specs.declared.format.Kind.{Kind}
 use Rattle.irig_codes.specs.declared.format.Kind.TheVariants.{A, B, E, G}
-use Rattle.irig_track.specs.declared.pulse.Pulse.{Pulse}
+use Rattle.irig_vcd.specs.declared.pulse.Pulse.{Pulse}
 use Rattle.irig_track.specs.Edges.{edges_of}
 use Rattle.irig_track.specs.Shifts.{CanShift, ahead, back}
 use Rattle.irig_track.proofs.Places.{pulse_within}
-use Rattle.irig_track.proofs.RisingLists.{edges_of-append}
+use Rattle.irig_vcd.proofs.PulseEdges.{edges_of-append}
 use Rattle.irig_vcd.specs.Recording.{UpTo}
-use Rattle.irig_journal.specs.declared.step.Step.{Step}
+use Rattle.irig_journal.specs.History.{Step}
 use Rattle.irig_journal.specs.Turns.{FitAll}
 use Rattle.irig_saved.specs.Ranges.{IsDistance, IsPulse, IsTime}
 use Rattle.irig_saved.proofs.Counts.{NumbersOfChange, NumbersOfSingle, NumbersOfStep}

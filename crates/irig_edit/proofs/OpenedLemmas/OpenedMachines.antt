@@ -1,7 +1,7 @@
 -- The machine of steps that can be taken.
 use Rattle.std.proofs.Common.{◌≤◌, ℕ, List, [], ◌∷◌, length}
 use Rattle.std.specs.List.{AllByRecursion}
-use Rattle.irig_journal.specs.declared.step.Step.{Step}
+use Rattle.irig_journal.specs.History.{Step}
 use Rattle.irig_edit.specs.Changes.Delta.{Delta, turned}
 use Rattle.irig_edit.specs.Session.Keeping.{kept_back, kept_forward, machine}
 use Rattle.irig_edit.specs.Changes.Laws.Delta.{IsState-turned}

@@ -1,20 +1,18 @@
 -- The steps of a saved journal that were taken so far.
-use Rattle.std.proofs.Common.{Bool, true, false, Result, Ok, Err, ◌≡◌, ◌≤◌, ◌<◌, ◌^◌, ℕ, ◌+◌, ◌++◌, List, [], ◌∷◌, length, map, take, reverse, refl, ap, ap₂}
+use Rattle.std.proofs.Common.{Bool, true, false, ◌≡◌, ◌<◌, ◌^◌, ℕ, ◌+◌, ◌++◌, List, [], ◌∷◌, length, map, take, reverse, refl, ap, ap₂}
 use Rattle.std.proofs.Common.{sym, ◌∙◌, subst, arith, append_assoc}
 use Rattle.std.proofs.Math.Seq.{take-append-add, take-append_seam}
 use Rattle.std.proofs.lemmas.List.{length-append, map-append, reverse-append}
 use Rattle.irig_saved.specs.SavedText.{step_lines, steps_lines}
 use Rattle.irig_saved.specs.declared.step.Step.{Step as SavedStep}
-use Rattle.irig_journal.specs.declared.step.Step.{Step}
-use Rattle.irig_journal.specs.History.{History, step}
-use Rattle.std.specs.Prelude.{IfOk}
-use Rattle.irig_edit.specs.Changes.Delta.{Delta, Fits, turned}
-use Rattle.irig_edit.specs.Saved.Saved.{saved_change, saved_step}
+use Rattle.irig_journal.specs.History.{History, Step}
+use Rattle.irig_edit.specs.Changes.Delta.{Delta}
+use Rattle.irig_edit.specs.Saved.Saved.{saved_step}
 use Rattle.irig_edit.specs.State.State.{State}
 use Rattle.irig_edit.specs.Opened.Stops.{StopsAt, Told}
 use Rattle.irig_edit.specs.Opened.Taken.{AreTaken, CanTake, CanTakeAll}
 use Rattle.irig_edit.specs.Opened.Walk.{gone_along, gone_on}
-use Rattle.irig_edit.proofs.OpenedLemmas.Names.{same_change, same_step}
+use Rattle.irig_edit.proofs.OpenedLemmas.Names.{same_step}
 use Rattle.irig_edit.proofs.OpenedLemmas.Walks.{can_take-append, can_take-next, gone_along-append}
 
 -- the lines of steps and of others
@@ -129,21 +127,3 @@ told_yes false P Q is h = absurd (cc)
 pub told_no : (b : Bool) (P Q : Type 0) → b ≡ false → Told b P Q → Q
 told_no true P Q is h = absurd (cc)
 told_no false P Q is h = h
-
--- a change made that a step names is the step taken
-pub took : {E : Type 0} (r : Result Bool E) (h new : History State Delta) (s : SavedStep) (d : Delta) → s.change ≡ saved_change d
-    → IfOk r (λ made. Told made
-    ((Fits h.state d × (s.cursor ≤ length (turned h.state d).0.pulses)) × (new ≡ gone_on h (step d s.cursor)))
-    (Fits h.state d → s.cursor ≤ length (turned h.state d).0.pulses → ⊥))
-    → IfOk r (λ taken. Told taken
-    ((x : Step Delta) × ((s ≡ saved_step x) × (CanTake h.state x × (new ≡ gone_on h x))))
-    ((x : Step Delta) → s ≡ saved_step x → CanTake h.state x → ⊥))
-took (Ok true) h new s d named made =
-    (step d s.cursor, ((λ k. record { cursor = s.cursor; change = named k }), (record { fits = made.0.0; cursor = made.0.1 }, made.1)))
-took (Ok false) h new s d named refused = λ x is can.
-    let same : x.change ≡ d = same_change x.change d (sym (ap (λ (y : SavedStep). y.change) is) ∙ named) in
-    let at : s.cursor ≡ x.cursor = ap (λ (y : SavedStep). y.cursor) is in
-    refused (subst (λ (y : Delta). Fits h.state y) same can.fits)
-    (subst (λ (n : ℕ). n ≤ length (turned h.state d).0.pulses) (sym at)
-    (subst (λ (y : Delta). x.cursor ≤ length (turned h.state y).0.pulses) same can.cursor))
-took (Err e) h new s d named made = tt

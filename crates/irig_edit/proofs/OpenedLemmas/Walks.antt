@@ -3,8 +3,7 @@ use Rattle.std.proofs.Common.{◌≡◌, ◌≢◌, ◌⊎◌, inl, inr, Ok, Err
 use Rattle.std.proofs.Common.{drop, refl, ap, ap₂, sym, ◌∙◌, subst, arith}
 use Rattle.std.proofs.lemmas.List.{take-append-drop, take_all}
 use Rattle.std.proofs.Math.ListN.{drop_of_length-le}
-use Rattle.irig_journal.specs.declared.step.Step.{Step}
-use Rattle.irig_journal.specs.History.{History, step, stepped_back, turned_back}
+use Rattle.irig_journal.specs.History.{History, Step, step, stepped_back, turned_back}
 use Rattle.irig_journal.specs.declared.fault.JournalFault.{JournalFault}
 use Rattle.irig_journal.specs.declared.fault.JournalFault.TheVariants.{GroupFloor, NothingToUndo}
 use Rattle.irig_edit.specs.Changes.Delta.{Delta, turned}

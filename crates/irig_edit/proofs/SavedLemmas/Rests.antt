@@ -1,16 +1,19 @@
 -- Texts in a row, given part by part: what was given, with what is left.
-use Rattle.std.proofs.Common.{◌≡◌, ◌≤◌, ◌++◌, ◌+◌, ℕ, suc, zero, List, [], ◌∷◌, Some, ap, drop, length, map, refl, slice_get, subst, sym, ◌∙◌, append_assoc}
+use Rattle.std.proofs.Common.{◌≡◌, ◌≤◌, ◌++◌, ◌+◌, ℕ, Bool, true, false, List, [], ◌∷◌, Some, ap, drop, length, map, refl, reverse, slice_get, subst, sym, ◌∙◌}
+use Rattle.std.proofs.Common.{append_assoc}
 use Rattle.std.specs.List.{AllByRecursion}
-use Rattle.std.proofs.lemmas.List.{at_drop_all}
+use Rattle.std.proofs.lemmas.List.{at_drop_all, reverse-append}
 use Rattle.irig_index.proofs.PulseLemmas.{drop-item}
-use Rattle.irig_journal.specs.declared.step.Step.{Step}
+use Rattle.irig_journal.specs.Held.{Held, parts_in, parts_of}
+use Rattle.irig_journal.specs.History.{step}
 use Rattle.irig_saved.specs.Lines.{text_of}
 use Rattle.irig_saved.specs.SavedText.{pulse_line, pulse_lines, single_lines, singles_lines, step_lines, steps_lines}
 use Rattle.irig_saved.proofs.Texts.{text_of_append}
-use Rattle.irig_track.specs.declared.pulse.Pulse.{Pulse}
-use Rattle.irig_edit.specs.Changes.Delta.{Delta}
-use Rattle.irig_edit.specs.Changes.Held.{single_of}
-use Rattle.irig_edit.specs.Saved.Saved.{saved_single, saved_step}
+use Rattle.irig_vcd.specs.declared.pulse.Pulse.{Pulse}
+use Rattle.irig_edit.specs.Changes.Delta.{singles_of}
+use Rattle.irig_edit.specs.Changes.Held.{delta_of, deltas_of, single_of}
+use Rattle.irig_edit.specs.Changes.Laws.Parts.{singles_of-delta_of}
+use Rattle.irig_edit.specs.Saved.Saved.{CanBeNamed, saved_single, saved_step}
 use Rattle.irig_edit.specs.Saved.SavedParts.{changes_text, steps_text}
 use Rattle.irig_edit.specs.declared.changes.single.Single.{Single}
 
@@ -46,25 +49,36 @@ pub pulses-next : (ps : List Pulse) (i : ℕ) (p : Pulse) → slice_get ps i ≡
     → text_of (pulse_lines (drop i ps)) ≡ text_of (pulse_line p ∷ pulse_lines (drop (i + 1) ps))
 pulses-next ps i p there = ap (λ xs. text_of (pulse_lines xs)) (drop-item ps i p there)
 
--- the lines of a change, and those after it
-pub changes-next : (xs : List Single) (i : ℕ) (x : Single) → slice_get xs i ≡ Some x
-    → changes_text (drop i xs) ≡ text_of (single_lines (saved_single (single_of x))) ++ changes_text (drop (i + 1) xs)
-changes-next xs i x there =
-    ap (λ ys. changes_text ys) (drop-item xs i x there)
-    ∙ text_of_append (single_lines (saved_single (single_of x))) (singles_lines (map saved_single (map single_of (drop (i + 1) xs))))
+-- the lines of the last change, and those of the changes before it
+pub changes-next : (xs others : List Single) (x : Single) → xs ≡ others ++ x ∷ []
+    → changes_text (reverse xs) ≡ text_of (single_lines (saved_single (single_of x))) ++ changes_text (reverse others)
+changes-next xs others x split =
+    ap (λ (l : List Single). changes_text l) (ap reverse split ∙ reverse-append others (x ∷ []))
+    ∙ text_of_append (single_lines (saved_single (single_of x))) (singles_lines (map saved_single (map single_of (reverse others))))
+
+-- the last of changes that can be named can be, and so can the others
+pub named-next : (xs others : List Single) (x : Single) → xs ≡ others ++ x ∷ [] → AllByRecursion CanBeNamed (map single_of (reverse xs))
+    → CanBeNamed (single_of x) × AllByRecursion CanBeNamed (map single_of (reverse others))
+named-next xs others x split named =
+    subst (λ (l : List Single). AllByRecursion CanBeNamed (map single_of l)) (ap reverse split ∙ reverse-append others (x ∷ [])) named
 
 -- the lines of a step, and those after it
-pub steps-next : (xs : List (Step Delta)) (i : ℕ) (x : Step Delta) → slice_get xs i ≡ Some x
-    → steps_text (drop i xs) ≡ text_of (step_lines (saved_step x)) ++ steps_text (drop (i + 1) xs)
-steps-next xs i x there =
-    ap (λ ys. steps_text ys) (drop-item xs i x there)
-    ∙ text_of_append (step_lines (saved_step x)) (steps_lines (map saved_step (drop (i + 1) xs)))
+pub steps-next : (hs others : List (Held Single)) (h : Held Single) → hs ≡ h ∷ others
+    → steps_text (deltas_of hs) ≡ text_of (step_lines (saved_step (step (delta_of h.parts) h.cursor))) ++ steps_text (deltas_of others)
+steps-next hs others h split =
+    ap (λ (l : List (Held Single)). steps_text (deltas_of l)) split
+    ∙ text_of_append (step_lines (saved_step (step (delta_of h.parts) h.cursor))) (steps_lines (map saved_step (deltas_of others)))
 
-module _ {X : Type 0} where
-  -- what holds of all holds of the one at a place
-  pub all_at : (P : X → Type 0) (xs : List X) (i : ℕ) (x : X) → AllByRecursion P xs
-      → slice_get xs i ≡ Some x → P x
-  all_at P [] zero x all there = absurd (cc)
-  all_at P [] (suc i) x all there = absurd (cc)
-  all_at P (y ∷ xs) zero x all there = let same : y ≡ x = cc in subst P same all.0
-  all_at P (y ∷ xs) (suc i) x all there = all_at P xs i x all.1 there
+-- the changes of a step that is shown, the nearest first
+parts_in-parts_of : (is_group : Bool) (cs : List Single) → parts_in (parts_of is_group cs) ≡ cs
+parts_in-parts_of true cs = refl
+parts_in-parts_of false [] = refl
+parts_in-parts_of false (c ∷ []) = refl
+parts_in-parts_of false (c ∷ (d ∷ cs)) = refl
+
+-- they can be named
+pub shown_named : (is_group : Bool) (cs : List Single) → AllByRecursion CanBeNamed (singles_of (delta_of (parts_of is_group cs)))
+    → AllByRecursion CanBeNamed (map single_of cs)
+shown_named is_group cs named =
+    subst (AllByRecursion CanBeNamed) (ap (map single_of) (parts_in-parts_of is_group cs))
+    (subst (AllByRecursion CanBeNamed) (sym (singles_of-delta_of (parts_of is_group cs))) named)

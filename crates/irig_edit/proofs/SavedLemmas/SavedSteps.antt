@@ -2,8 +2,7 @@
 use Rattle.std.proofs.Common.{◌≡◌, ◌++◌, ℕ, List, [], ◌∷◌, map, refl, reverse, ap, arith, subst, sym}
 use Rattle.std.proofs.lemmas.List.{reverse-append}
 use Rattle.std.specs.List.{AllByRecursion}
-use Rattle.irig_journal.specs.declared.step.Step.{Step}
-use Rattle.irig_journal.specs.History.{FitInTurn}
+use Rattle.irig_journal.specs.History.{FitInTurn, Step}
 use Rattle.irig_journal.specs.Turns.{FitAll}
 use Rattle.irig_edit.specs.Changes.Delta.{Delta, Fits, singles_of, turned}
 use Rattle.irig_edit.specs.Changes.Delta.Delta.{Alone, Together}

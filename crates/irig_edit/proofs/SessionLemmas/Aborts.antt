@@ -1,10 +1,10 @@
 -- What an abort of a group leaves of the steps, and what these mean.
-use Rattle.std.proofs.Common.{◌≡◌, ◌≤◌, ◌+◌, ◌-◌, ℕ, suc, zero, false, List, [], ◌∷◌, length, nat_le, drop, take, Option, Some, None, option_map, refl, ap, sym}
+use Rattle.std.proofs.Common.{◌≡◌, ◌-◌, ℕ, suc, zero, false, List, [], ◌∷◌, length, nat_le, drop, take, Option, Some, None, option_map, refl, ap, sym}
 use Rattle.std.proofs.Common.{◌∙◌, subst, arith}
 use Rattle.std.specs.Prelude.{IfSome, flat_map}
 use Rattle.std.specs.List.{AllByRecursion}
 use Rattle.irig_journal.specs.declared.opening.Opening.{Opening}
-use Rattle.irig_journal.specs.declared.step.Step.{Step}
+use Rattle.irig_journal.specs.History.{Step}
 use Rattle.irig_journal.specs.Groups.{Floor, Grouped, aborted, dropped_over, is_at_floor, over, undone_over}
 use Rattle.irig_journal.specs.History as journal
 use Rattle.irig_journal.specs.Joining.{CountsAlong, beyond, changes_of, farthest}
@@ -20,7 +20,7 @@ use Rattle.irig_edit.specs.Changes.Looks.{RoseWithin, both, looks_of}
 use Rattle.irig_edit.specs.Session.Session.{made_since}
 use Rattle.irig_edit.specs.State.State.{State}
 use Rattle.irig_edit.proofs.SessionLemmas.Floors.{over_opening}
-use Rattle.irig_edit.proofs.ChangeLemmas.GroupTurns.{rose_then}
+use Rattle.irig_edit.specs.Changes.Laws.Looks.{rose_then}
 use Rattle.irig_edit.proofs.ChangeLemmas.LooksOfSteps.{counted}
 use Rattle.irig_edit.proofs.SessionLemmas.Machines.{history, length-kept_back}
 use Rattle.irig_edit.proofs.SessionLemmas.MachineSteps.{allowed_some}
@@ -152,11 +152,3 @@ aborted_rose s cursor past future (Some o) old new counts some =
     (λ i. looks_back (take (long i - o.steps) (kept s cursor (exchange_back s past) ∷ kept_back s past)))
     ∙ looks_back-along (length past - o.steps) s cursor past in
     subst (λ (most : Option ℕ). RoseWithin most old new) (sym bound) (rose_along s (beyond o.steps past) old new counts)
-
--- the steps of the journal since a group was begun are the same number of steps of the machine
-pub has_made : (n : ℕ) (P : Opening → Type 0) (s : State) (cursor : ℕ) (past future : List (Step Delta)) (opening : Option Opening)
-    → ((o : Opening) → P o → o.steps + n ≤ length past) → IfSome opening P
-    → IfSome (option_map (floor_of (machine (history s cursor past future))) opening)
-    (λ f. f.height + n ≤ length (machine (history s cursor past future)).past)
-has_made n P s cursor past future None stand made = tt
-has_made n P s cursor past future (Some o) stand made = omega (arith, stand o made, length-kept_back s past)

@@ -5,9 +5,8 @@ use Rattle.std.specs.Prelude.{IfSome, IsNone, IsSome}
 use Rattle.std.proofs.lemmas.Bool.{leb-false}
 use Rattle.std.proofs.lemmas.Bool.Decides.{nat_tests}
 use Rattle.irig_journal.specs.declared.opening.Opening.{Opening}
-use Rattle.irig_journal.specs.declared.step.Step.{Step}
 use Rattle.irig_journal.specs.Groups.{Floor, Grouped, begun, ended, joined_over, over}
-use Rattle.irig_journal.specs.History.{FitInTurn}
+use Rattle.irig_journal.specs.History.{FitInTurn, Step}
 use Rattle.irig_journal.specs.History as journal
 use Rattle.irig_journal.specs.Joining.{beyond, changes_of, cursor_of_farthest, farthest, joined, joined_beyond}
 use Rattle.irig_journal.specs.Machine.{Machine}
@@ -171,7 +170,3 @@ is_open-none m (Some o) is = absurd (cc)
 pub is_open-some : (m : Machine Kept) (opening : Option Opening) → IsSome opening → is_open (option_map (floor_of m) opening) ≡ true
 is_open-some m None is = absurd (cc)
 is_open-some m (Some o) is = refl
-
-pub is_open-not_none : (m : Machine Kept) (opening : Option Opening) → (IsNone opening → ⊥) → is_open (option_map (floor_of m) opening) ≡ true
-is_open-not_none m None some = absurd (some refl)
-is_open-not_none m (Some o) some = refl

@@ -1,7 +1,7 @@
 -- An edit that is made or refused is a step of the machine, and so is each other call.
 use Rattle.std.proofs.Common.{◌≡◌, ℕ, Bool, true, false, not, List, [], ◌∷◌, Option, Some, None, option_map, if◌then◌else◌, Result, Ok, Err, OnOk, OnErr}
 use Rattle.std.proofs.Common.{IsErrOf, refl, ap, sym, subst}
-use Rattle.irig_journal.specs.declared.step.Step.{Step}
+use Rattle.irig_journal.specs.History.{Step}
 use Rattle.irig_journal.specs.Groups.{Floor, Grouped, aborted, begun, dropped_over, ended, floored, is_at_floor, joined_over, over, recorded_over, redone_over}
 use Rattle.irig_journal.specs.Groups.{undone_over}
 use Rattle.irig_journal.specs.Machine.{Machine, mirrored, recorded, redone, taken_back, undone}

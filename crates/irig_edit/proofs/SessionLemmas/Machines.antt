@@ -2,9 +2,8 @@
 use Rattle.std.proofs.Common.{◌≡◌, ◌≤◌, ◌+◌, ℕ, suc, List, [], ◌∷◌, length, Some, option_map, refl, ap, sym, subst, ◌∙◌}
 use Rattle.std.specs.List.{AllByRecursion, sum_by}
 use Rattle.std.proofs.lemmas.List.Sums.{sum_by-cons}
-use Rattle.irig_journal.specs.declared.step.Step.{Step}
 use Rattle.irig_journal.specs.Machine.{Machine, mirrored, recorded, redone, taken_back, undone}
-use Rattle.irig_journal.specs.History.{FitInTurn, History, step, stepped_back, stepped_forward, turned_back, turned_round}
+use Rattle.irig_journal.specs.History.{FitInTurn, History, Step, step, stepped_back, stepped_forward, turned_back, turned_round}
 use Rattle.irig_journal.specs.Journal as journal
 use Rattle.irig_edit.specs.Changes.Delta.{Delta, Fits, turned, weight_of}
 use Rattle.irig_edit.specs.Changes.Laws.Delta.{turned-turned}

@@ -6,8 +6,7 @@ use Rattle.std.specs.List.{sum_by}
 use Rattle.std.proofs.lemmas.List.{append-nil, reverse-append}
 use Rattle.std.proofs.lemmas.List.Concat.{flat_map-append}
 use Rattle.std.proofs.lemmas.List.Sums.{sum_by-cons, sum_by_push}
-use Rattle.irig_journal.specs.declared.step.Step.{Step}
-use Rattle.irig_journal.specs.History.{FitInTurn}
+use Rattle.irig_journal.specs.History.{FitInTurn, Step}
 use Rattle.irig_journal.specs.Joining.{changes_of}
 use Rattle.irig_journal.specs.Laws.Backs.{LeadsBack, lead_all_back}
 use Rattle.irig_journal.specs.Laws.Turns.{ways_back-cons}

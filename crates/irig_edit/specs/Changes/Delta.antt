@@ -35,8 +35,3 @@ singles_of (Together singles) = singles
 -- the group of the single changes of several
 abbrev pub gathered : List Delta → Delta
 gathered changes = Together (flat_map singles_of changes)
-
--- the changes on which the test whether they can be made is exact
-abbrev pub IsAlone : Delta → Type 0
-IsAlone (Alone single) = Unit {0}
-IsAlone (Together singles) = ⊥

@@ -1,11 +1,13 @@
 -- The changes that the code holds, and what they mean. This project's own.
-use Rattle.std.specs.Prelude.{List, [], ◌∷◌, map}
+use Rattle.std.specs.Prelude.{List, map}
+use Rattle.irig_journal.specs.Held.{Held, Parts}
+use Rattle.irig_journal.specs.Held.Parts.{Alone as One, Group}
+use Rattle.irig_journal.specs.History.{Step}
+use Rattle.irig_journal.specs.Journal.{told}
 use Rattle.irig_edit.specs.Changes.Delta.{Delta}
 use Rattle.irig_edit.specs.Changes.Delta.Delta.{Alone, Together}
 use Rattle.irig_edit.specs.Changes.Single.{SingleDelta}
 use Rattle.irig_edit.specs.Changes.Single.SingleDelta.{Spliced, Toggled, Shifted, Formatted, Marked}
-use Rattle.irig_edit.specs.declared.changes.change.Change.{Change}
-use Rattle.irig_edit.specs.declared.changes.change.Change.TheVariants.{One, Group}
 use Rattle.irig_edit.specs.declared.changes.single.Single.{Single}
 use Rattle.irig_edit.specs.declared.changes.single.Single.TheVariants.{Splice, Toggle, Shift}
 use Rattle.irig_edit.specs.declared.changes.single.Single.TheVariants.{SetFormat}
@@ -19,12 +21,11 @@ single_of (Shift s) = Shifted s.i s.j s.by s.letters
 single_of (SetFormat f) = Formatted f
 single_of (SetMark letter time) = Marked letter time
 
--- what a change is, without its spare room
-abbrev pub delta_of : Change → Delta
+-- what the changes of a step are, without their spare room
+abbrev pub delta_of : Parts Single → Delta
 delta_of (One single) = Alone (single_of single)
 delta_of (Group singles) = Together (map single_of singles)
 
--- the single changes that a change holds
-abbrev pub parts_of : Change → List Single
-parts_of (One single) = single ∷ []
-parts_of (Group singles) = singles
+-- steps that are held, by what their changes are
+abbrev pub deltas_of : List (Held Single) → List (Step Delta)
+deltas_of steps = map (told delta_of) steps

@@ -2,7 +2,9 @@
 pub mod Delta
 pub mod Edges
 pub mod Groups
+pub mod Looks
 pub mod Marks
+pub mod Parts
 pub mod Room
 pub mod SetMarks
 pub mod Single

@@ -2,7 +2,7 @@
 use Rattle.std.specs.Prelude.{◌≤◌, ℕ, ◌+◌, ◌-◌, ◌*◌, ◌^◌, List, [], ◌∷◌, Option, Some, None, length}
 use Rattle.std.specs.Prelude.{min, nat_le, ◌&&◌, cond}
 use Rattle.irig_track.specs.Shifts.{count_to}
-use Rattle.irig_track.specs.declared.pulse.Pulse.{Pulse}
+use Rattle.irig_vcd.specs.declared.pulse.Pulse.{Pulse}
 use Rattle.irig_edit.specs.Changes.Delta.{Delta}
 use Rattle.irig_edit.specs.Changes.Delta.Delta.{Alone, Together}
 use Rattle.irig_edit.specs.Changes.Single.{SingleDelta, turned_single}

@@ -4,10 +4,10 @@ use Rattle.irig_edit.specs.Changes.Delta.{Fits, turned}
 use Rattle.irig_edit.specs.Changes.Held.{delta_of}
 use Rattle.irig_edit.specs.State.Places.{places_in}
 use Rattle.irig_edit.specs.State.Present.{PresentView}
-use Rattle.irig_edit.specs.Changes.Room.{HasRoom}
-use Rattle.irig_edit.specs.declared.changes.change.Change.{Change}
+use Rattle.irig_edit.specs.Changes.Room.{HasRoomFor}
+use Rattle.irig_edit.specs.declared.changes.single.Single.{Single}
 
--- the steps back and forward can be made in turn from the present state, and each has its room when
--- its turn comes
-abbrev pub StepsAreReady : PresentView → Steps Change → Type 0
-StepsAreReady p j = AreReady Fits turned delta_of (HasRoom (places_in p)) p.state j
+-- the steps back and forward can be made in turn from the present state, and each of their changes
+-- has its room when its turn comes
+abbrev pub StepsAreReady : PresentView → Steps Single → Type 0
+StepsAreReady p j = AreReady Fits turned delta_of (HasRoomFor (places_in p)) p.state j

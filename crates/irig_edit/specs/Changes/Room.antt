@@ -1,14 +1,11 @@
 -- The room that a turn of a change needs, and the turn of the change that leads back. This
--- project's
--- own.
-use Rattle.std.specs.Prelude.{ℕ, ◌≤◌, List, [], ◌∷◌}
+-- project's own.
+use Rattle.std.specs.Prelude.{ℕ, ◌≤◌}
 use Rattle.irig_edit.specs.Changes.Held.{single_of}
 use Rattle.irig_edit.specs.State.Places.{HoldsState, Places}
 use Rattle.irig_edit.specs.Changes.Single.{SingleDelta, turned_single}
 use Rattle.irig_edit.specs.Changes.Single.SingleDelta.{Toggled}
 use Rattle.irig_edit.specs.State.State.{State}
-use Rattle.irig_edit.specs.declared.changes.change.Change.{Change}
-use Rattle.irig_edit.specs.declared.changes.change.Change.TheVariants.{One, Group}
 use Rattle.irig_edit.specs.declared.changes.single.Single.{Single}
 use Rattle.irig_edit.specs.declared.changes.single.Single.TheVariants.{Splice}
 
@@ -28,13 +25,3 @@ pub record HasRoomFor (p : Places) (s : State) (single : Single) : Type 0 where
   pub takes : TakesIn single
   pub before : HoldsState p (passing (single_of single)) s
   pub after : HoldsState p (passing (single_of single)) (turned_single s (single_of single)).0
-
--- there is room for turns of single changes, one after another
-abbrev pub HaveRoom : Places → State → List Single → Type 0
-HaveRoom p s [] = Unit {0}
-HaveRoom p s (x ∷ xs) = HasRoomFor p s x × HaveRoom p (turned_single s (single_of x)).0 xs
-
--- there is room for a turn of the change
-abbrev pub HasRoom : Places → State → Change → Type 0
-HasRoom p s (One single) = HasRoomFor p s single
-HasRoom p s (Group singles) = HaveRoom p s singles

@@ -1,9 +1,9 @@
 -- What a single change of a state is, when it can be made, what it leaves, and how many pulses it
--- holds and brings. This project's own.
+-- holds. This project's own.
 use Rattle.std.specs.Prelude.{◌≡◌, ℕ, ℤ, ◌<◌, Bool, IsTrue, List, [], ◌∷◌, Option, None, length}
 use Rattle.std.specs.Prelude.{get_or, slice_set, neg_ℤ}
 use Rattle.irig_codes.specs.Format.{FormatView, is_permitted}
-use Rattle.irig_track.specs.declared.pulse.Pulse.{Pulse}
+use Rattle.irig_vcd.specs.declared.pulse.Pulse.{Pulse}
 use Rattle.irig_track.specs.Edges.{pulse, edges_of}
 use Rattle.irig_track.specs.Shifts.{CanShift, shifted}
 use Rattle.irig_track.specs.Splices.{CanSplice, piece, spliced}
@@ -58,9 +58,3 @@ turned_single s (Marked letter time) = (
 abbrev pub held_in : SingleDelta → ℕ
 held_in (Spliced at count put) = length put
 held_in single = 0
-
--- how many pulses its turn brings at most
-abbrev pub brought_by : SingleDelta → ℕ
-brought_by (Spliced at count put) = length put
-brought_by (Toggled a b) = 1
-brought_by single = 0

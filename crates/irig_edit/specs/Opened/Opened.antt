@@ -2,7 +2,7 @@
 use Rattle.std.specs.Prelude.{◌≡◌, ◌⊎◌, ◌+◌, ◌-◌, ℕ, List, [], ◌∷◌, Option, Some, None, length}
 use Rattle.std.specs.Prelude.{nat_lt, not, if◌then◌else◌, reverse, take}
 use Rattle.irig_codes.specs.Format.{is_permitted}
-use Rattle.irig_journal.specs.declared.step.Step.{Step}
+use Rattle.irig_journal.specs.History.{Step}
 use Rattle.irig_journal.specs.Groups.{over}
 use Rattle.irig_saved.specs.SavedText.{mark_lines, steps_lines}
 use Rattle.irig_saved.specs.declared.saved.Saved.{Saved}

@@ -2,8 +2,7 @@
 use Rattle.std.specs.Prelude.{◌≡◌, ◌<◌, ◌^◌, ◌+◌, ℕ, Bool, true, false, List, length, reverse, take}
 use Rattle.irig_saved.specs.SavedText.{steps_lines}
 use Rattle.irig_saved.specs.declared.step.Step.{Step as SavedStep}
-use Rattle.irig_journal.specs.declared.step.Step.{Step}
-use Rattle.irig_journal.specs.History.{History}
+use Rattle.irig_journal.specs.History.{History, Step}
 use Rattle.irig_edit.specs.Changes.Delta.{Delta}
 use Rattle.irig_edit.specs.State.State.{State}
 use Rattle.irig_edit.specs.Opened.Taken.{AreTaken, StopsAfter}

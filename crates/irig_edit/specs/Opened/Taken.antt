@@ -1,6 +1,6 @@
 -- The steps of a saved journal, taken one after another from a state. This project's own.
 use Rattle.std.specs.Prelude.{◌≡◌, ◌≤◌, ◌<◌, ◌+◌, ℕ, List, [], ◌∷◌, length, map, take}
-use Rattle.irig_journal.specs.declared.step.Step.{Step}
+use Rattle.irig_journal.specs.History.{Step}
 use Rattle.irig_saved.specs.declared.step.Step.{Step as SavedStep}
 use Rattle.irig_edit.specs.Changes.Delta.{Delta, Fits, turned}
 use Rattle.irig_edit.specs.Saved.Saved.{saved_step}

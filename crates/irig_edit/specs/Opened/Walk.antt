@@ -1,7 +1,6 @@
 -- A state that continues along steps. This project's own.
 use Rattle.std.specs.Prelude.{ℕ, List, [], ◌∷◌}
-use Rattle.irig_journal.specs.declared.step.Step.{Step}
-use Rattle.irig_journal.specs.History.{History, step}
+use Rattle.irig_journal.specs.History.{History, Step, step}
 use Rattle.irig_edit.specs.Changes.Delta.{Delta, turned}
 use Rattle.irig_edit.specs.State.State.{State}
 

@@ -2,7 +2,7 @@
 -- project's own.
 use Rattle.std.specs.Prelude.{◌<◌, ◌+◌, ◌^◌, List, map}
 use Rattle.std.specs.List.{AllByRecursion}
-use Rattle.irig_journal.specs.declared.step.Step as journal
+use Rattle.irig_journal.specs.History as journal
 use Rattle.irig_saved.specs.declared.change.Change.{Change}
 use Rattle.irig_saved.specs.declared.change.Change.TheVariants.{One, Group}
 use Rattle.irig_saved.specs.declared.single.Single.{Single}

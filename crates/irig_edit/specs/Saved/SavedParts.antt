@@ -5,20 +5,17 @@ use Rattle.std.specs.Prelude.{length, map, reverse}
 use Rattle.std.specs.Borrow.{Bor}
 use Rattle.irig_codes.specs.Words.{kind_word}
 use Rattle.irig_gap.specs.Items.{GapView}
-use Rattle.irig_journal.specs.declared.step.Step.{Step}
+use Rattle.irig_journal.specs.History.{Step}
 use Rattle.irig_journal.specs.Journal.{Steps, future_of, past_of}
 use Rattle.irig_saved.specs.Lines.{line, numbered, text_of}
 use Rattle.irig_saved.specs.SavedText.{mark_lines, pulse_lines, singles_lines, steps_lines}
-use Rattle.irig_track.specs.declared.pulse.Pulse.{Pulse}
+use Rattle.irig_vcd.specs.declared.pulse.Pulse.{Pulse}
 use Rattle.irig_vcd.specs.FileText.{file_text}
 use Rattle.irig_edit.specs.Changes.Delta.{Delta}
-use Rattle.irig_edit.specs.Changes.Held.{delta_of, single_of}
+use Rattle.irig_edit.specs.Changes.Held.{delta_of, deltas_of, single_of}
 use Rattle.irig_edit.specs.Saved.Saved.{saved_single, saved_step}
 use Rattle.irig_edit.specs.State.State.{State, recording_of}
-use Rattle.irig_edit.specs.declared.changes.change.Change.{Change}
 use Rattle.irig_edit.specs.declared.changes.single.Single.{Single}
-use Rattle.irig_edit.specs.declared.saved.side.Side.{Side}
-use Rattle.irig_edit.specs.declared.saved.side.Side.TheVariants.{Past, Future}
 use Rattle.irig_edit.specs.declared.saved.stage.Stage.{Stage}
 use Rattle.irig_edit.specs.declared.saved.stage.Stage.TheVariants.{Dump, Back, On, Over}
 
@@ -30,11 +27,6 @@ pulses_left (Some pulses) next = text_of (pulse_lines (drop next pulses.now.item
 -- the lines of changes
 abbrev pub changes_text : List Single → List ℕ
 changes_text singles = text_of (singles_lines (map saved_single (map single_of singles)))
-
--- the steps of a side: those back, the oldest first, or those on, the next first
-abbrev pub steps_at : Side → Steps Change → List (Step Delta)
-steps_at Past j = reverse (past_of delta_of j)
-steps_at Future j = future_of delta_of j
 
 -- the lines of steps
 abbrev pub steps_text : List (Step Delta) → List ℕ
@@ -51,12 +43,12 @@ present_lines s cursor = codes "irig-journal-1"
     ∷ numbered (codes "cursor") (cursor ∷ []) ∷ mark_lines 97 s.marks
 
 -- the beginning of the section, up to the count of the steps back
-abbrev pub opening_text : State → ℕ → Steps Change → List ℕ
+abbrev pub opening_text : State → ℕ → Steps Single → List ℕ
 opening_text s cursor j = codes "$comment\n" ++ text_of (present_lines s cursor)
     ++ count_text (codes "past") (length (past_of delta_of j))
 
 -- the count of the steps on
-abbrev pub middle_text : Steps Change → List ℕ
+abbrev pub middle_text : Steps Single → List ℕ
 middle_text j = count_text (codes "future") (length (future_of delta_of j))
 
 -- from a stage on: the dump, the beginning of the section, the steps back, the count of the steps
@@ -69,6 +61,6 @@ parts_left On dump opening back middle on = on ++ codes "$end\n"
 parts_left Over dump opening back middle on = []
 
 -- all parts, of a state with its cursor and its journal
-abbrev pub parts_text : State → ℕ → Steps Change → List ℕ
+abbrev pub parts_text : State → ℕ → Steps Single → List ℕ
 parts_text s cursor j = parts_left Dump (file_text (recording_of s)) (opening_text s cursor j)
-    (steps_text (steps_at Past j)) (middle_text j) (steps_text (steps_at Future j))
+    (steps_text (deltas_of (reverse j.past))) (middle_text j) (steps_text (deltas_of j.future))

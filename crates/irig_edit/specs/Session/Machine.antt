@@ -61,11 +61,10 @@ Accepts Begin old new = begun old ≡ Some new
 Accepts End old new = ended (over old.floor (with_group old.floor old.machine)) ≡ Some new
 Accepts Abort old new = aborted old ≡ Some new
 
--- memory can run out at an edit, which asks for all that its undo and redo take, and at an end;
--- never at an undo, a redo, a begin or an abort
+-- memory can run out at an edit alone, which asks for all that its undo and redo take, and all that
+-- the end of its group takes
 abbrev pub MayWantMemory : Call → Type 0
 MayWantMemory (Make edit) = Unit {0}
-MayWantMemory End = Unit {0}
 MayWantMemory call = ⊥
 
 -- one step: accepted if no refusal holds; else the first refusal, or out of memory if none

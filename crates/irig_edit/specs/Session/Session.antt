@@ -1,7 +1,7 @@
 -- What contracts see of a session: a machine of whole states with its floor, and how many looks at
 -- pulses its last change took. This project's own.
-use Rattle.std.specs.Prelude.{◌≡◌, ◌≤◌, ℕ, ◌+◌, ◌-◌, List, [], ◌∷◌, Option, Some, None, Result, Ok}
-use Rattle.std.specs.Prelude.{Err, IfSome, length, take}
+use Rattle.std.specs.Prelude.{◌≡◌, ◌≤◌, ℕ, ◌-◌, List, [], ◌∷◌, Option, Some, None, Result, Ok}
+use Rattle.std.specs.Prelude.{Err, length, take}
 use Rattle.irig_journal.specs.Groups.{Floor, Grouped, over}
 use Rattle.irig_journal.specs.Machine.{Machine}
 use Rattle.irig_edit.specs.Session.Calls.{Call}
@@ -75,7 +75,3 @@ LooksAfter Redo old result new = LooksWithin new.present.made.forth old result n
 LooksAfter Abort old result new =
     LooksWithin (looks_back (made_since old.floor (machine_in old))) old result new
 LooksAfter _ old result new = LooksStay old new
-
--- at least this many steps were made since the open group was begun
-abbrev pub HasMade : ℕ → SessionView → Type 0
-HasMade n v = IfSome v.floor (λ floor. floor.height + n ≤ length v.past)

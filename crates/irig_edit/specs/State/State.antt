@@ -3,7 +3,7 @@ use Rattle.std.specs.Prelude.{◌≡◌, ◌≤◌, ℕ, IsTrue, List, Option, S
 use Rattle.std.specs.List.{AllByRecursion}
 use Rattle.irig_vcd.specs.Recording.{RecordingView, recording_view}
 use Rattle.irig_codes.specs.Format.{FormatView, is_permitted}
-use Rattle.irig_track.specs.declared.pulse.Pulse.{Pulse}
+use Rattle.irig_vcd.specs.declared.pulse.Pulse.{Pulse}
 use Rattle.irig_track.specs.Edges.{edges_of}
 use Rattle.irig_index.specs.declared.record.Record.{Record}
 use Rattle.irig_index.specs.Frames.{frames}

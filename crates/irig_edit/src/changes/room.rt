@@ -1,22 +1,19 @@
 //! Whether a change of the present state can be made, and room for its turn.
 
-ghost use Rattle.std.specs.Prelude.{◌≡◌, ◌≤◌, ◌↔◌, IsTrue, OnErr, OnOk, map};
-ghost use Rattle.irig_journal.specs.Turns.{FitAll};
+ghost use Rattle.std.specs.Prelude.{◌≡◌, ◌≤◌, ◌↔◌, IsTrue, OnErr, OnOk};
 ghost use Rattle.irig_track.specs.Shifts.{CanShift};
 ghost use Rattle.irig_track.specs.Toggles.{CanToggle};
-ghost use Rattle.irig_edit.specs.Changes.Ample.{HasPlacesFor, IsAmpleFor, IsAmpleForAll, PutsIn};
-ghost use Rattle.irig_edit.specs.Changes.Ample.{records_for};
+ghost use Rattle.irig_edit.specs.Changes.Ample.{IsAmpleFor, PutsIn, records_for};
 ghost use Rattle.irig_edit.specs.Changes.Held.{single_of};
 ghost use Rattle.irig_edit.specs.State.Places.{IsWithin, places_in};
-ghost use Rattle.irig_edit.specs.Changes.Room.{HasRoomFor, HaveRoom};
-ghost use Rattle.irig_edit.specs.Changes.Single.{FitsSingle, turned_single};
+ghost use Rattle.irig_edit.specs.Changes.Room.{HasRoomFor};
+ghost use Rattle.irig_edit.specs.Changes.Single.{FitsSingle};
 ghost use Rattle.irig_edit.specs.State.State.{IsState};
 
 use crate::changes::single::Single;
-use crate::changes::singles::Singles;
 use crate::state::marks::all_may_move;
 use crate::state::present::Present;
-use irig_index::Index;
+use irig_index::{Index, markers_among};
 use std::alloc::AllocError;
 
 /// Whether a change can be made.
@@ -87,12 +84,12 @@ impl Present {
     {
         let pulses = self.len();
         match single {
-            Single::Splice(splice) => splice.put.len() + 100,
+            Single::Splice(splice) => markers_among(&splice.put, self.format) + 2,
             Single::Toggle { a, b } => {
                 let between = self.find(*b).saturating_sub(self.find(*a));
-                (between + 102).min(pulses + 101)
+                (between + 4).min(pulses + 3)
             }
-            Single::Shift(shift) => shift.j - shift.i + 101,
+            Single::Shift(_) => 2,
             Single::SetFormat(format) => {
                 Index::count(&mut self.track.lens(), *format).saturating_sub(self.index.len())
             }
@@ -118,39 +115,5 @@ impl Present {
             Single::Toggle { .. } => self.track.reserve(2),
             _ => Ok(()),
         }
-    }
-
-    /// Makes room for a turn of a group, whose single changes stay what they are, and for its turn
-    /// back.
-    pub(crate) fn room_for_all(&mut self, singles: &mut Singles) -> Result<(), AllocError>
-        requires fit { FitAll FitsSingle turned_single self.old.state (map single_of singles.old) }
-        ensures known { IsState self.old.state }
-        ensures stays { (self.new.state ≡ self.old.state)
-            × (map single_of singles.new ≡ map single_of singles.old)
-            × (self.new.index.looks ≡ self.old.index.looks) }
-        ensures grows { IsWithin (places_in self.old) (places_in self.new) }
-        ensures room { OnOk result (HaveRoom (places_in self.new) self.new.state singles.new) }
-        ensures refused { OnErr result
-            (IsAmpleForAll (places_in self.old) self.old.state singles.old → ⊥) }
-    {
-        let _len = self.len();
-        singles.reserve_taken()?;
-        self.reserve_brought(singles.brought())
-    }
-
-    /// Makes room for turns that bring this many pulses at most, counted up to 2^64 - 1.
-    fn reserve_brought(&mut self, brought: usize) -> Result<(), AllocError>
-        ensures state { self.new.state ≡ self.old.state }
-        ensures looks { self.new.index.looks ≡ self.old.index.looks }
-        ensures grows { IsWithin (places_in self.old) (places_in self.new) }
-        ensures room { OnOk result (HasPlacesFor brought (places_in self.new) self.new.state) }
-        ensures refused { OnErr result
-            (HasPlacesFor brought (places_in self.old) self.old.state → ⊥) }
-    {
-        let pulses = self.len();
-        let most = pulses.saturating_add(brought).min(1 << 22);
-        let records = most.saturating_sub(self.index.len());
-        self.track.reserve(most + 1 - pulses)?;
-        self.index.reserve(records)
     }
 }

@@ -12,7 +12,7 @@ ghost use Rattle.irig_edit.specs.State.Marks.{marks_moved};
 ghost use Rattle.irig_edit.specs.Changes.Held.{single_of};
 ghost use Rattle.irig_edit.specs.Changes.Looks.{standing_in};
 ghost use Rattle.irig_edit.specs.Changes.Room.{TakesIn};
-ghost use Rattle.irig_edit.specs.Changes.Single.{brought_by, held_in};
+ghost use Rattle.irig_edit.specs.Changes.Single.{held_in};
 ghost use Rattle.irig_edit.specs.State.State.{IsMark};
 
 use crate::changes::splice::Splice;
@@ -59,16 +59,6 @@ impl Single {
         match self {
             Single::Splice(splice) => splice.put.len(),
             _ => 0,
-        }
-    }
-
-    /// How many pulses its turn brings at most.
-    pub(crate) fn brought(&self) -> usize
-        ensures { result ≡ brought_by (single_of self.now) }
-    {
-        match self {
-            Single::Toggle { .. } => 1,
-            _ => self.held(),
         }
     }
 

@@ -7,7 +7,6 @@ ghost use Rattle.irig_edit.specs.Session.Calls.Call.{Make};
 ghost use Rattle.irig_edit.specs.Session.Calls.Edit.{Invert};
 ghost use Rattle.irig_edit.specs.Session.Session.{LooksAfter, Steps};
 
-use crate::changes::change::Change;
 use crate::changes::single::Single;
 use crate::session::refusal::Refusal;
 use crate::session::session::Session;
@@ -41,7 +40,7 @@ impl Session {
         ensures looks { LooksAfter (Make (Invert a b)) self.old result self.new }
     {
         plan(&self.present, a, b)?;
-        self.change(Change::One(Single::Toggle { a, b }), 0)?;
+        self.change(Single::Toggle { a, b }, 0)?;
         self.cursor = self.present.find(b);
         Ok(())
     }

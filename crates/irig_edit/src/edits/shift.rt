@@ -13,7 +13,6 @@ ghost use Rattle.irig_edit.specs.Session.Keeping.{exchange_of};
 ghost use Rattle.irig_edit.specs.Session.Session.{LooksAfter, Steps};
 ghost use Rattle.irig_edit.specs.Changes.Single.SingleDelta.{Shifted};
 
-use crate::changes::change::Change;
 use crate::changes::single::{Shift as Move, Single};
 use crate::session::refusal::Refusal;
 use crate::session::session::Session;
@@ -93,6 +92,6 @@ impl Session {
         ensures looks { LooksAfter (Make (Shift i j by)) self.old result self.new }
     {
         let shift = plan(&self.present, i, j, by)?;
-        self.change(Change::One(Single::Shift(shift)), j)
+        self.change(Single::Shift(shift), j)
     }
 }

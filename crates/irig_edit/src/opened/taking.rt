@@ -1,22 +1,22 @@
 //! The steps of a saved journal, taken one after another.
 
 ghost use Rattle.std.specs.Prelude.{◌≡◌, ◌≤◌, ◌<◌, ◌^◌, ℕ, List, [], IfErr, IfOk, MatchResult};
-ghost use Rattle.std.specs.Prelude.{OnOk, length, reverse};
-ghost use Rattle.irig_journal.specs.declared.step.Step.{Step};
-ghost use Rattle.irig_journal.specs.History.{History, step};
+ghost use Rattle.std.specs.Prelude.{OnOk, length, map, reverse};
+ghost use Rattle.irig_journal.specs.History.{History, Step};
+ghost use Rattle.irig_journal.specs.Turns.{FitAll};
 ghost use Rattle.irig_saved.specs.SavedText.{steps_lines};
-ghost use Rattle.irig_edit.specs.Changes.Delta.{Delta, Fits, turned};
-ghost use Rattle.irig_edit.specs.Changes.Held.{delta_of};
+ghost use Rattle.irig_edit.specs.Changes.Delta.{Delta, Fits};
+ghost use Rattle.irig_edit.specs.Changes.Delta.Delta.{Alone, Together};
+ghost use Rattle.irig_edit.specs.Changes.Single.{FitsSingle, SingleDelta, turned_single};
 ghost use Rattle.irig_edit.specs.Opened.Opened.{IsStepAtFault};
 ghost use Rattle.irig_edit.specs.Opened.Openings.{IsBad};
-ghost use Rattle.irig_edit.specs.Saved.Saved.{saved_step};
+ghost use Rattle.irig_edit.specs.Saved.Saved.{saved_change, saved_single, saved_step};
 ghost use Rattle.irig_edit.specs.State.State.{IsState, State};
 ghost use Rattle.irig_edit.specs.Opened.Stops.{HasTaken, IsStop, Told};
 ghost use Rattle.irig_edit.specs.Opened.Taken.{AreTaken, CanTake, CanTakeAll};
-ghost use Rattle.irig_edit.specs.Opened.Walk.{ahead_of, gone_along, gone_on};
+ghost use Rattle.irig_edit.specs.Opened.Walk.{ahead_of, changed, gone_along, gone_on};
 
-use crate::changes::change::Change;
-use crate::opened::naming::change_named;
+use crate::opened::naming::single_named;
 use crate::opened::walk::Walk;
 use irig_saved::Steps;
 use irig_vcd::VcdFault;
@@ -82,6 +82,7 @@ impl Walk {
 
     /// Takes steps, the last first.
     fn take_all(&mut self, alloc: Global, mut steps: Steps) -> Result<(), Stop>
+        requires ahead { self.old.future ≡ [] }
         requires lines { length (steps_lines (reverse steps)) < 2 ^ 63 }
         ensures { MatchResult result
             (λ _. (ds : List (Step Delta)) × (AreTaken self.old.state (reverse steps) ds
@@ -112,37 +113,78 @@ impl Walk {
         }
     }
 
-    /// Takes a step, and returns whether it can be taken.
+    /// Takes a step, and returns whether it can be taken. If not, nothing is said of what it leaves.
     fn take(&mut self, alloc: Global, step: irig_saved::Step) -> Result<bool, AllocError>
+        requires ahead { self.old.future ≡ [] }
         ensures { IfOk result (λ taken. Told taken
             ((d : Step Delta) × ((step ≡ saved_step d) × (CanTake self.old.state d
             × (self.new ≡ gone_on self.old d))))
             ((d : Step Delta) → step ≡ saved_step d → CanTake self.old.state d → ⊥)) }
     {
         let irig_saved::Step { cursor, change } = step;
-        match change_named(alloc, change)? {
-            None => Ok(false),
-            Some(change) => self.make(alloc, change, cursor),
-        }
-    }
-
-    /// Makes a change that leads to a cursor, and returns whether both can be.
-    fn make(&mut self, alloc: Global, mut change: Change, cursor: u64) -> Result<bool, AllocError>
-        ensures { IfOk result (λ made. Told made
-            ((Fits self.old.state (delta_of change)
-            × (cursor ≤ length (turned self.old.state (delta_of change)).0.pulses))
-            × (self.new ≡ gone_on self.old (step (delta_of change) cursor)))
-            (Fits self.old.state (delta_of change)
-            → cursor ≤ length (turned self.old.state (delta_of change)).0.pulses → ⊥)) }
-    {
-        if !self.can_make(alloc, &mut change)? {
+        if !self.make(alloc, change)? {
             return Ok(false);
         }
-        self.change(change)?;
         if cursor > self.len() as u64 {
             return Ok(false);
         }
         self.go(cursor as usize);
+        Ok(true)
+    }
+
+    /// Makes the change of a step, stays at its cursor, and returns whether the change can be made.
+    fn make(&mut self, alloc: Global, change: irig_saved::Change) -> Result<bool, AllocError>
+        requires ahead { self.old.future ≡ [] }
+        ensures { IfOk result (λ made. Told made
+            ((d : Delta) × ((change ≡ saved_change d) × (Fits self.old.state d
+            × (self.new ≡ changed self.old d))))
+            ((d : Delta) → change ≡ saved_change d → Fits self.old.state d → ⊥)) }
+    {
+        match change {
+            irig_saved::Change::One(single) => self.make_one(alloc, single),
+            irig_saved::Change::Group(singles) => self.make_all(alloc, singles.into_vec()),
+        }
+    }
+
+    /// Makes a single change.
+    fn make_one(&mut self, alloc: Global, name: irig_saved::Single) -> Result<bool, AllocError>
+        ensures { IfOk result (λ made. Told made
+            ((d : SingleDelta) × ((name ≡ saved_single d) × (FitsSingle self.old.state d
+            × (self.new ≡ changed self.old (Alone d)))))
+            ((d : SingleDelta) → name ≡ saved_single d → FitsSingle self.old.state d → ⊥)) }
+    {
+        let Some(single) = single_named(alloc, name) else {
+            return Ok(false);
+        };
+        if !self.allows(&single) {
+            return Ok(false);
+        }
+        self.change(single)?;
+        Ok(true)
+    }
+
+    /// Makes single changes one after another, and makes one group of them.
+    fn make_all(
+        &mut self,
+        alloc: Global,
+        mut names: Vec<irig_saved::Single>,
+    ) -> Result<bool, AllocError>
+        requires ahead { self.old.future ≡ [] }
+        ensures { IfOk result (λ made. Told made
+            ((ds : List SingleDelta) × ((names.items ≡ map saved_single ds)
+            × (FitAll FitsSingle turned_single self.old.state ds
+            × (self.new ≡ changed self.old (Together ds)))))
+            ((ds : List SingleDelta) → names.items ≡ map saved_single ds
+            → FitAll FitsSingle turned_single self.old.state ds → ⊥)) }
+    {
+        let count = names.len();
+        names.reverse();
+        while let Some(name) = names.pop() {
+            if !self.make_one(alloc, name)? {
+                return Ok(false);
+            }
+        }
+        self.gather(count)?;
         Ok(true)
     }
 }

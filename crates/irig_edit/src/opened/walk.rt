@@ -1,17 +1,21 @@
 //! A state on its way along steps.
 
-ghost use Rattle.std.specs.Prelude.{◌≡◌, ◌≢◌, ◌≤◌, ◌↔◌, IfOk, IsTrue, Some, None, OnOk, [], length};
+ghost use Rattle.std.specs.Prelude.{◌≡◌, ◌≢◌, ◌≤◌, ◌↔◌, ◌∷◌, IsTrue, Some, None, OnOk, []};
+ghost use Rattle.std.specs.Prelude.{drop, length, take};
 ghost use Rattle.irig_journal.specs.Groups.{over};
-ghost use Rattle.irig_journal.specs.History.{stepped_back, turned_round};
-ghost use Rattle.irig_edit.specs.Changes.Delta.{Fits, turned};
-ghost use Rattle.irig_edit.specs.Changes.Held.{delta_of};
+ghost use Rattle.irig_journal.specs.History.{step, stepped_back, turned_round};
+ghost use Rattle.irig_journal.specs.Joining.{changes_of};
+ghost use Rattle.irig_edit.specs.Changes.Delta.{gathered, turned};
+ghost use Rattle.irig_edit.specs.Changes.Delta.Delta.{Alone};
+ghost use Rattle.irig_edit.specs.Changes.Held.{single_of};
+ghost use Rattle.irig_edit.specs.Changes.Single.{FitsSingle};
 ghost use Rattle.irig_edit.specs.Session.Keeping.{machine};
 ghost use Rattle.irig_edit.specs.Session.Session.{session_view};
 ghost use Rattle.irig_edit.specs.State.State.{IsState};
 ghost use Rattle.irig_edit.specs.Opened.Taken.{CanTakeAll};
 ghost use Rattle.irig_edit.specs.Opened.Walk.{changed, walk};
 
-use crate::changes::change::Change;
+use crate::changes::single::Single;
 use crate::session::session::Session;
 use crate::state::present::Present;
 use irig_journal::Journal;
@@ -64,31 +68,33 @@ impl Walk {
         self.present.len()
     }
 
-    /// Whether a change can be made. If not, the state may be another, so the steps are dropped.
-    pub(crate) fn can_make(
-        &mut self,
-        alloc: Global,
-        change: &mut Change,
-    ) -> Result<bool, AllocError>
-        ensures can { IfOk result (λ can. IsTrue can ↔ Fits self.old.state (delta_of change.old)) }
-        ensures same { IfOk result (λ can. IsTrue can → (self.new ≡ self.old)
-            × (delta_of change.new ≡ delta_of change.old)) }
+    /// Whether a single change can be made.
+    pub(crate) fn allows(&self, single: &Single) -> bool
+        ensures { IsTrue result ↔ FitsSingle self.now.state (single_of single.now) }
     {
-        match self.present.can_make(change) {
-            Ok(true) => Ok(true),
-            other => {
-                self.journal = Journal::new(alloc);
-                other
-            }
+        self.present.allows(single)
+    }
+
+    /// Makes a single change, and stays at its cursor.
+    pub(crate) fn change(&mut self, single: Single) -> Result<(), AllocError>
+        requires { FitsSingle self.old.state (single_of single) }
+        ensures { OnOk result (self.new ≡ changed self.old (Alone (single_of single))) }
+    {
+        match self.journal.record(&mut self.present, single, self.cursor) {
+            Ok(()) => Ok(()),
+            Err(_) => Err(AllocError),
         }
     }
 
-    /// Makes a change, and stays at its cursor.
-    pub(crate) fn change(&mut self, change: Change) -> Result<(), AllocError>
-        requires { Fits self.old.state (delta_of change) }
-        ensures { OnOk result (self.new ≡ changed self.old (delta_of change)) }
+    /// Makes one group of the newest steps, which leads to its cursor. It takes memory only if there
+    /// are none.
+    pub(crate) fn gather(&mut self, count: usize) -> Result<(), AllocError>
+        requires { count ≤ length self.old.past }
+        ensures { OnOk result (self.new ≡ walk self.old.state self.old.cursor
+            (step (gathered (changes_of (take count self.old.past))) self.old.cursor
+            ∷ drop count self.old.past) self.old.future) }
     {
-        match self.journal.record(&mut self.present, change, self.cursor) {
+        match self.journal.gather(&self.present, count, self.cursor) {
             Ok(()) => Ok(()),
             Err(_) => Err(AllocError),
         }

@@ -1,35 +1,31 @@
-//! The lines of a step's changes, in parts.
+//! The lines of single changes, in parts.
 
-ghost use Rattle.std.specs.Prelude.{◌≡◌, ◌≤◌, ◌++◌, ◌∷◌, [], IfOk, OnOk, false, map, true, vec_len};
+ghost use Rattle.std.specs.Prelude.{◌≡◌, ◌≤◌, ◌++◌, ◌∷◌, [], IfOk, OnOk, false, map, reverse};
+ghost use Rattle.std.specs.Prelude.{true, vec_len};
 ghost use Rattle.std.specs.List.{AllByRecursion};
-ghost use Rattle.irig_saved.specs.Lines.{text_of};
 ghost use Rattle.irig_saved.specs.ChangeWords.{single_line};
-ghost use Rattle.irig_saved.specs.SavedText.{change_lines};
-ghost use Rattle.irig_edit.specs.Changes.Delta.{singles_of};
-ghost use Rattle.irig_edit.specs.Changes.Held.{delta_of, single_of};
+ghost use Rattle.irig_edit.specs.Changes.Held.{single_of};
 ghost use Rattle.irig_edit.specs.Changes.Single.SingleDelta.{Spliced};
-ghost use Rattle.irig_edit.specs.Saved.Saved.{CanBeNamed, saved_change, saved_single};
+ghost use Rattle.irig_edit.specs.Saved.Saved.{CanBeNamed, saved_single};
 ghost use Rattle.irig_edit.specs.Saved.SavedParts.{changes_text};
 
-use crate::changes::change::Change;
 use crate::changes::single::Single;
 use crate::changes::splice::Splice;
 use crate::saved::pulse_lines::PulseLines;
-use irig_saved::{put_group, put_set_format, put_set_mark, put_shift, put_splice, put_toggle};
+use irig_saved::{put_set_format, put_set_mark, put_shift, put_splice, put_toggle};
 use std::alloc::AllocError;
 use std::marker::Model;
-use std::slice;
 
-/// The lines of single changes: those of the one that has begun, and of all from a number on.
+/// The lines of single changes, the last first: those of the one that has begun, and of all that
+/// are left.
 #[derive(Drop)]
 pub(crate) struct ChangeLines<'s> {
     pulses: PulseLines<'s>,
-    singles: &'s [Single],
-    next: usize,
+    left: &'s [Single],
 }
 
 impl<'s> Model for ChangeLines<'s> {
-    ghost use Rattle.std.specs.Prelude.{◌++◌, List, ℕ, drop, map};
+    ghost use Rattle.std.specs.Prelude.{◌++◌, List, ℕ, map, reverse};
     ghost use Rattle.std.specs.List.{AllByRecursion};
     ghost use Rattle.irig_edit.specs.Changes.Held.{single_of};
     ghost use Rattle.irig_edit.specs.Saved.Saved.{CanBeNamed};
@@ -37,21 +33,20 @@ impl<'s> Model for ChangeLines<'s> {
 
     ghost Value = { List ℕ };
 
-    ghost view = { λ c. c.pulses ++ changes_text (drop c.next c.singles.now) };
+    ghost view = { λ c. c.pulses ++ changes_text (reverse c.left.now) };
 
-    ghost invariant = { λ c. AllByRecursion CanBeNamed (map single_of c.singles.now) };
+    ghost invariant = { λ c. AllByRecursion CanBeNamed (map single_of (reverse c.left.now)) };
 }
 
 impl<'s> ChangeLines<'s> {
-    /// The lines of all of them.
+    /// The lines of all of them, the last first.
     pub(crate) fn new(singles: &'s [Single]) -> ChangeLines<'s>
-        requires { AllByRecursion CanBeNamed (map single_of singles.now) }
-        ensures { result ≡ changes_text singles.now }
+        requires { AllByRecursion CanBeNamed (map single_of (reverse singles.now)) }
+        ensures { result ≡ changes_text (reverse singles.now) }
     {
         ChangeLines {
             pulses: PulseLines::none(),
-            singles,
-            next: 0,
+            left: singles,
         }
     }
 
@@ -61,36 +56,18 @@ impl<'s> ChangeLines<'s> {
         ensures end { IfOk result (λ ended. ended ≡ true → self.new ≡ []) }
         ensures full { IfOk result (λ ended. ended ≡ false → enough ≤ vec_len block.new) }
     {
-        let singles = self.singles;
-        for number in self.next..singles.len() {
-            if !self.pulses.fill(block, enough)? || block.len() >= enough {
-                self.next = number;
+        while self.pulses.fill(block, enough)? {
+            if block.len() >= enough {
                 return Ok(false);
             }
-            let single = &singles[number];
+            let Some((single, others)) = self.left.split_last() else {
+                return Ok(true);
+            };
             put_first(block, single)?;
             self.pulses = PulseLines::of(single);
+            self.left = others;
         }
-        self.next = singles.len();
-        self.pulses.fill(block, enough)
-    }
-}
-
-/// Writes the line before the changes of a group. Returns their lines, or those of a change alone.
-pub(crate) fn begin_change<'s>(
-    text: &mut Vec<u8>,
-    change: &'s Change,
-) -> Result<ChangeLines<'s>, AllocError>
-    requires named { AllByRecursion CanBeNamed (singles_of (delta_of change.now)) }
-    ensures { IfOk result (λ left. text.new.items ++ left ≡ text.old.items ++ text_of
-        (change_lines (saved_change (delta_of change.now)))) }
-{
-    match change {
-        Change::One(single) => Ok(ChangeLines::new(slice::from_ref(single))),
-        Change::Group(singles) => {
-            put_group(text, singles.items.len() as u64)?;
-            Ok(ChangeLines::new(&singles.items))
-        }
+        Ok(false)
     }
 }
 

@@ -1,56 +1,52 @@
 //! The lines of the steps on one side of the present, in parts.
 
-ghost use Rattle.std.specs.Prelude.{◌≡◌, ◌≤◌, ◌++◌, [], IfOk, OnOk, false, true, vec_len};
+ghost use Rattle.std.specs.Prelude.{◌≡◌, ◌≤◌, ◌++◌, [], IfOk, OnOk, false, length, true, vec_len};
 ghost use Rattle.std.specs.List.{AllByRecursion};
+ghost use Rattle.irig_journal.specs.Held.{held_of};
 ghost use Rattle.irig_journal.specs.History.{step};
 ghost use Rattle.irig_saved.specs.Lines.{text_of};
 ghost use Rattle.irig_saved.specs.SavedText.{step_lines};
 ghost use Rattle.irig_edit.specs.Changes.Delta.{singles_of};
-ghost use Rattle.irig_edit.specs.Changes.Held.{delta_of};
+ghost use Rattle.irig_edit.specs.Changes.Held.{delta_of, deltas_of};
 ghost use Rattle.irig_edit.specs.Saved.Saved.{CanBeNamed, StepsCanBeNamed, saved_step};
-ghost use Rattle.irig_edit.specs.Saved.SavedParts.{steps_at, steps_text};
+ghost use Rattle.irig_edit.specs.Saved.SavedParts.{steps_text};
 
-use crate::changes::change::Change;
-use crate::saved::change_lines::{ChangeLines, begin_change};
-use crate::saved::side::{Side, count_at, step_at};
-use crate::state::present::Present;
-use irig_journal::{Journal, Step};
-use irig_saved::put_at;
+use crate::changes::single::Single;
+use crate::saved::change_lines::ChangeLines;
+use irig_journal::{Step, StepsLeft};
+use irig_saved::{put_at, put_group};
 use std::alloc::AllocError;
 use std::marker::Model;
 
-/// The lines of the steps of a side: those of the one that has begun, and of all from a number on.
+/// The lines of steps: those of the step that has begun, and of all that are left.
 #[derive(Drop)]
 pub(crate) struct StepLines<'s> {
     changes: ChangeLines<'s>,
-    journal: &'s Journal<Present>,
-    side: Side,
-    next: usize,
+    left: StepsLeft<'s, Single>,
 }
 
 impl<'s> Model for StepLines<'s> {
-    ghost use Rattle.std.specs.Prelude.{◌++◌, List, ℕ, drop};
+    ghost use Rattle.std.specs.Prelude.{◌++◌, List, ℕ};
+    ghost use Rattle.irig_edit.specs.Changes.Held.{deltas_of};
     ghost use Rattle.irig_edit.specs.Saved.Saved.{StepsCanBeNamed};
-    ghost use Rattle.irig_edit.specs.Saved.SavedParts.{steps_at, steps_text};
+    ghost use Rattle.irig_edit.specs.Saved.SavedParts.{steps_text};
 
     ghost Value = { List ℕ };
 
-    ghost view = { λ s. s.changes ++ steps_text (drop s.next (steps_at s.side s.journal.now)) };
+    ghost view = { λ s. s.changes ++ steps_text (deltas_of s.left) };
 
-    ghost invariant = { λ s. StepsCanBeNamed (steps_at s.side s.journal.now) };
+    ghost invariant = { λ s. StepsCanBeNamed (deltas_of s.left) };
 }
 
 impl<'s> StepLines<'s> {
-    /// The lines of all steps of a side.
-    pub(crate) fn new(side: Side, journal: &'s Journal<Present>) -> StepLines<'s>
-        requires { StepsCanBeNamed (steps_at side journal.now) }
-        ensures { result ≡ steps_text (steps_at side journal.now) }
+    /// The lines of all steps, one after another.
+    pub(crate) fn new(steps: StepsLeft<'s, Single>) -> StepLines<'s>
+        requires { StepsCanBeNamed (deltas_of steps) }
+        ensures { result ≡ steps_text (deltas_of steps.entry) }
     {
         StepLines {
             changes: ChangeLines::new(&[]),
-            journal,
-            side,
-            next: 0,
+            left: steps,
         }
     }
 
@@ -60,26 +56,29 @@ impl<'s> StepLines<'s> {
         ensures end { IfOk result (λ ended. ended ≡ true → self.new ≡ []) }
         ensures full { IfOk result (λ ended. ended ≡ false → enough ≤ vec_len block.new) }
     {
-        let (side, journal) = (self.side, self.journal);
-        let count = count_at(side, journal);
-        for number in self.next..count {
-            if !self.changes.fill(block, enough)? || block.len() >= enough {
-                self.next = number;
+        while self.changes.fill(block, enough)? {
+            if block.len() >= enough {
                 return Ok(false);
             }
-            self.changes = begin_step(block, step_at(side, journal, number))?;
+            if self.left.len() == 0 {
+                return Ok(true);
+            }
+            self.changes = begin_step(block, self.left.next().unwrap())?;
         }
-        self.next = count;
-        self.changes.fill(block, enough)
+        Ok(false)
     }
 }
 
 /// Writes the first line of a step, and of a group the second. Returns the lines of its changes.
-fn begin_step<'s>(text: &mut Vec<u8>, kept: &'s Step<Change>) -> Result<ChangeLines<'s>, AllocError>
-    requires named { AllByRecursion CanBeNamed (singles_of (delta_of kept.now.change)) }
+fn begin_step<'s>(text: &mut Vec<u8>, kept: Step<'s, Single>) -> Result<ChangeLines<'s>, AllocError>
+    requires alone { kept.is_group ≡ false → length kept.changes.now ≡ 1 }
+    requires named { AllByRecursion CanBeNamed (singles_of (delta_of (held_of kept).parts)) }
     ensures { IfOk result (λ left. text.new.items ++ left ≡ text.old.items ++ text_of (step_lines
-        (saved_step (step (delta_of kept.now.change) kept.now.cursor)))) }
+        (saved_step (step (delta_of (held_of kept.entry).parts) kept.entry.cursor)))) }
 {
     put_at(text, kept.cursor as u64)?;
-    begin_change(text, &kept.change)
+    if kept.is_group {
+        put_group(text, kept.changes.len() as u64)?;
+    }
+    Ok(ChangeLines::new(kept.changes))
 }

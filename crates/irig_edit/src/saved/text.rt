@@ -1,13 +1,11 @@
 //! The text of a saved session, in parts.
 
-ghost use Rattle.std.specs.Prelude.{◌≡◌, ◌++◌, OnOk};
+ghost use Rattle.std.specs.Prelude.{◌≡◌, ◌++◌, OnOk, reverse};
 ghost use Rattle.irig_saved.specs.Lines.{text_of};
 ghost use Rattle.irig_edit.specs.Saved.Saved.{StepsCanBeNamed};
+ghost use Rattle.irig_edit.specs.Changes.Held.{deltas_of};
 ghost use Rattle.irig_edit.specs.Saved.SavedParts.{opening_text, parts_text, present_lines};
-ghost use Rattle.irig_edit.specs.Saved.SavedParts.{steps_at};
-ghost use Rattle.irig_edit.specs.declared.saved.side.Side.TheVariants.{Future, Past};
 
-use crate::saved::side::Side;
 use crate::saved::stage::Stage;
 use crate::saved::step_lines::StepLines;
 use crate::state::present::Present;
@@ -48,8 +46,8 @@ impl<'s> SavedText<'s> {
         cursor: usize,
         journal: &'s Journal<Present>,
     ) -> SavedText<'s>
-        requires back { StepsCanBeNamed (steps_at Past journal.now) }
-        requires on { StepsCanBeNamed (steps_at Future journal.now) }
+        requires back { StepsCanBeNamed (deltas_of (reverse journal.now.past)) }
+        requires on { StepsCanBeNamed (deltas_of journal.now.future) }
         ensures { result ≡ parts_text present.now.state cursor journal.now }
     {
         SavedText {
@@ -57,39 +55,10 @@ impl<'s> SavedText<'s> {
             present,
             cursor,
             journal,
-            back: StepLines::new(Side::Past, journal),
-            on: StepLines::new(Side::Future, journal),
+            back: StepLines::new(journal.past_steps()),
+            on: StepLines::new(journal.future_steps()),
             stage: Stage::Dump,
         }
-    }
-
-    /// Adds what is next at the present stage until the block has `enough` bytes. If the stage ends
-    /// before that, goes to the next one.
-    fn go_on(&mut self, block: &mut Vec<u8>, enough: usize) -> Result<(), AllocError>
-        ensures { OnOk result (block.new.items ++ self.new ≡ block.old.items ++ self.old) }
-    {
-        match self.stage {
-            Stage::Dump => {
-                if self.dump.fill(block, enough)? && block.len() < enough {
-                    put_opening(block, self.present, self.cursor, self.journal)?;
-                    self.stage = Stage::Back;
-                }
-            }
-            Stage::Back => {
-                if self.back.fill(block, enough)? && block.len() < enough {
-                    put_future(block, self.journal.steps_forward() as u64)?;
-                    self.stage = Stage::On;
-                }
-            }
-            Stage::On => {
-                if self.on.fill(block, enough)? && block.len() < enough {
-                    block.extend_from_slice(b"$end\n")?;
-                    self.stage = Stage::Over;
-                }
-            }
-            Stage::Over => {}
-        }
-        Ok(())
     }
 }
 
@@ -98,10 +67,32 @@ impl Text for SavedText<'_> {
 
     fn fill(&mut self, block: &mut Vec<u8>, enough: usize) -> Result<bool, AllocError> {
         // Each turn ends a stage, unless the block is full.
-        for _ in 0..3 {
-            self.go_on(block, enough)?;
+        loop {
+            match self.stage {
+                Stage::Dump => {
+                    if !self.dump.fill(block, enough)? || block.len() >= enough {
+                        return Ok(false);
+                    }
+                    put_opening(block, self.present, self.cursor, self.journal)?;
+                    self.stage = Stage::Back;
+                }
+                Stage::Back => {
+                    if !self.back.fill(block, enough)? || block.len() >= enough {
+                        return Ok(false);
+                    }
+                    put_future(block, self.journal.steps_forward() as u64)?;
+                    self.stage = Stage::On;
+                }
+                Stage::On => {
+                    if !self.on.fill(block, enough)? || block.len() >= enough {
+                        return Ok(false);
+                    }
+                    block.extend_from_slice(b"$end\n")?;
+                    self.stage = Stage::Over;
+                }
+                Stage::Over => return Ok(true),
+            }
         }
-        Ok(matches!(self.stage, Stage::Over))
     }
 }
 

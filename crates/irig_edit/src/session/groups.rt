@@ -1,12 +1,10 @@
 //! Groups: several edits that are one step.
 
-ghost use Rattle.std.specs.Prelude.{IsErrOf};
 ghost use Rattle.irig_edit.specs.Session.Calls.Call.{Begin, End, Abort};
-ghost use Rattle.irig_edit.specs.Session.Session.{HasMade, LooksAfter, Steps};
+ghost use Rattle.irig_edit.specs.Session.Session.{LooksAfter, Steps};
 
 use crate::session::refusal::Refusal;
 use crate::session::session::Session;
-use irig_journal::JournalFault;
 
 impl Session {
     /// Opens a group: what is edited up to its end becomes one step. This takes no memory.
@@ -22,19 +20,17 @@ impl Session {
         }
     }
 
-    /// Closes the open group: its steps become one. What was undone can still be redone.
-    /// This takes memory only if there are two steps or more: a list of their changes.
+    /// Closes the open group: its steps become one. What was undone can still be redone. This takes
+    /// no memory.
     ///
     /// E13 if no group is open.
     pub fn end(&mut self) -> Result<(), Refusal>
         ensures step { Steps End self.old result self.new }
         ensures looks { LooksAfter End self.old result self.new }
-        ensures memory { IsErrOf result Refusal.OutOfMemory → HasMade 2 self.old }
     {
         match self.journal.end(&self.present) {
             Ok(()) => Ok(()),
-            Err(JournalFault::NoGroup) => Err(Refusal::NoGroup),
-            Err(_) => Err(Refusal::OutOfMemory),
+            Err(_) => Err(Refusal::NoGroup),
         }
     }
 

@@ -1,8 +1,6 @@
 //! What a session keeps, taken apart by patterns: a type that keeps more does not compile here.
 
-use crate::changes::change::Change;
 use crate::changes::single::{Shift, Single};
-use crate::changes::singles::Singles;
 use crate::changes::splice::Splice;
 use crate::session::session::Session;
 use crate::state::marks::{Letters, Marks};
@@ -10,7 +8,7 @@ use crate::state::present::Present;
 use irig_codes::Format;
 use irig_gap::Gap;
 use irig_index::Index;
-use irig_journal::Journal;
+use irig_journal::{Journal, Step};
 use irig_track::{Pulse, Track};
 use std::alloc::Global;
 
@@ -29,8 +27,8 @@ pub fn take_apart(session: &Session) {
     let _last_looks: &u64 = last_looks;
     let journal: &Journal<Present> = journal;
     state_parts(present);
-    if journal.steps_back() > 0 {
-        change_parts(&journal.past(0).change);
+    if let Some(step) = journal.past_steps().next() {
+        step_parts(&step);
     }
 }
 
@@ -48,13 +46,17 @@ fn state_parts(present: &Present) {
     let _index: &Index = index;
 }
 
-/// A change is a single one or a group, which keeps a list of single ones.
-fn change_parts(change: &Change) {
-    match change {
-        Change::One(single) => single_parts(single),
-        Change::Group(Singles { items }) => {
-            let _items: &Vec<Single> = items;
-        }
+/// A step keeps its single changes, whether they are a group, and a cursor.
+fn step_parts(step: &Step<'_, Single>) {
+    let Step {
+        changes,
+        is_group,
+        cursor,
+    } = step;
+    let _is_group: &bool = is_group;
+    let _cursor: &usize = cursor;
+    if let Some(single) = changes.first() {
+        single_parts(single);
     }
 }
 

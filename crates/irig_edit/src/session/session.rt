@@ -14,13 +14,12 @@ ghost use Rattle.irig_edit.specs.Edits.Becoming.{Becomes, judgement_of};
 ghost use Rattle.irig_edit.specs.Session.Calls.{Edit};
 ghost use Rattle.irig_edit.specs.Changes.Delta.{Fits, turned};
 ghost use Rattle.irig_edit.specs.Changes.Delta.Delta.{Alone};
-ghost use Rattle.irig_edit.specs.Changes.Held.{delta_of};
+ghost use Rattle.irig_edit.specs.Changes.Held.{single_of};
 ghost use Rattle.irig_edit.specs.Session.Calls.Call.{Make, Undo, Redo, Go};
 ghost use Rattle.irig_edit.specs.Session.Calls.Edit.{SetFormat, SetMark};
 ghost use Rattle.irig_edit.specs.Changes.Single.SingleDelta.{Spliced};
 ghost use Rattle.irig_track.specs.Splices.{spliced, CanSplice};
 
-use crate::changes::change::Change;
 use crate::changes::single::Single;
 use crate::changes::splice::Splice;
 use crate::session::refusal::Refusal;
@@ -87,7 +86,7 @@ impl Session {
         ensures looks { LooksAfter (Make (SetFormat format)) self.old result self.new }
     {
         let cursor = self.cursor;
-        self.change(Change::One(Single::SetFormat(format)), cursor)
+        self.change(Single::SetFormat(format), cursor)
     }
 
     /// Sets the mark of a letter a to z to a time in microseconds, or clears it.
@@ -101,7 +100,7 @@ impl Session {
         }
         let letter = (letter - b'a') as usize;
         let cursor = self.cursor;
-        self.change(Change::One(Single::SetMark { letter, time }), cursor)
+        self.change(Single::SetMark { letter, time }, cursor)
     }
 
     /// Undoes the newest step. This takes no memory.
@@ -176,30 +175,30 @@ impl Session {
         ensures looks { LooksWithin self.new.present.made.forth self.old result self.new }
     {
         let splice = Splice::new(self.alloc, at, count, put);
-        self.change(Change::One(Single::Splice(splice)), cursor)
+        self.change(Single::Splice(splice), cursor)
     }
 
     /// Makes a change, as a step that leaves the cursor at a place. The memory that its undo and
     /// its redo take is asked for here.
-    pub(crate) fn change(&mut self, change: Change, cursor: usize) -> Result<(), Refusal>
-        requires fits { Fits self.old.present.state (delta_of change) }
+    pub(crate) fn change(&mut self, single: Single, cursor: usize) -> Result<(), Refusal>
+        requires fits { Fits self.old.present.state (Alone (single_of single)) }
         requires cursor { cursor ≤
-            length (turned self.old.present.state (delta_of change)).0.pulses }
+            length (turned self.old.present.state (Alone (single_of single))).0.pulses }
         ensures step { (edit : Edit) → judgement_of edit self.old.present.state ≡ None
             → Becomes edit self.old.present.state
-            (turned self.old.present.state (delta_of change)).0 cursor
-            → exchange_of self.old.present.state (delta_of change)
+            (turned self.old.present.state (Alone (single_of single))).0 cursor
+            → exchange_of self.old.present.state (Alone (single_of single))
             ≡ exchange_by edit self.old.present.state
             → Steps (Make edit) self.old result self.new }
         ensures looks { LooksWithin self.new.present.made.forth self.old result self.new }
         ensures ok { OnOk result (grouped_in self.new ≡ recorded_over (grouped_in self.old)
-            (kept (turned self.old.present.state (delta_of change)).0 cursor
-            (exchange_of self.old.present.state (delta_of change)))) }
+            (kept (turned self.old.present.state (Alone (single_of single))).0 cursor
+            (exchange_of self.old.present.state (Alone (single_of single))))) }
         ensures err { OnErr result ((self.new ≡ self.old) × IsErrOf result Refusal.OutOfMemory) }
     {
         let before = self.present.looks();
         let place = self.cursor;
-        match self.journal.record(&mut self.present, change, place) {
+        match self.journal.record(&mut self.present, single, place) {
             Ok(()) => {
                 self.cursor = cursor;
                 self.last_looks = self.present.looks_since(before);

@@ -51,7 +51,7 @@ impl Present {
         ensures { IfOk result (λ p. (recording_of p.state ≡ recording)
             × (p.state.format ≡ format) × NoMarks p.state.marks) }
     {
-        let track = Track::new(alloc, recording)?;
+        let track = Track::new(recording)?;
         let index = Index::build(alloc, &mut track.lens(), format)?;
         Ok(Present {
             track,

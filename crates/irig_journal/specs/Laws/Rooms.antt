@@ -1,8 +1,7 @@
--- Room for changes in turn: in more places, and for the one changes and then the others. This
--- project's own.
+-- Room for changes in turn is room in more places. This project's own.
 use Rattle.std.proofs.Common.{◌≤◌, ◌∷◌, [], ℕ, List, arith}
-use Rattle.irig_journal.specs.declared.stack.Edit.{Edit}
-use Rattle.irig_journal.specs.Stack.{HasPlace, HasPlaceFor, made, singles_of}
+use Rattle.irig_journal.specs.declared.stack.Single.{Single}
+use Rattle.irig_journal.specs.Stack.{HasPlaceFor}
 use Rattle.irig_journal.specs.Turns.{RoomForAll}
 
 module _ {S C D : Type 0} where
@@ -16,9 +15,7 @@ module _ {S C D : Type 0} where
     RoomForAll-wider turned delta small large wider (turned s (delta c)).0 cs room.1,
   )
 
--- a place for each push is one among more places
-pub HasPlace-wider : (a b : ℕ) (xs : List ℕ) (edit : Edit) → a ≤ b → HasPlace a xs edit
-    → HasPlace b xs edit
-HasPlace-wider a b xs edit more room =
-    RoomForAll-wider made (λ single. single) (HasPlaceFor a) (HasPlaceFor b)
-    (λ ys single h. omega (arith, more, h)) xs (singles_of edit) room
+-- a place for a push is one among more places
+pub HasPlaceFor-wider : (a b : ℕ) (xs : List ℕ) (single : Single) → a ≤ b → HasPlaceFor a xs single
+    → HasPlaceFor b xs single
+HasPlaceFor-wider a b xs single more room = omega (arith, more, room)

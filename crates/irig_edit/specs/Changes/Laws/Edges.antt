@@ -1,7 +1,7 @@
 -- Pulses and their edges determine each other. This project's own.
 use Rattle.std.proofs.Common.{◌≡◌, ℕ, Bool, true, false, not, List, [], ◌∷◌, refl, ap, sym, ◌∙◌}
 use Rattle.irig_vcd.specs.Recording.{is_even_long}
-use Rattle.irig_track.specs.declared.pulse.Pulse.{Pulse}
+use Rattle.irig_vcd.specs.declared.pulse.Pulse.{Pulse}
 use Rattle.irig_track.specs.Edges.{edges_of}
 use Rattle.irig_track.specs.Toggles.{CanToggle, toggled}
 use Rattle.irig_edit.specs.Changes.Single.{pulses_of}

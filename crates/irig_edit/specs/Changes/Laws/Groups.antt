@@ -17,7 +17,7 @@ fit_singles : (s : State) (d : Delta) → Fits s d
 fit_singles s (Alone d) can = (can, tt)
 fit_singles s (Together ds) can = can
 
-singles_state : (s : State) (d : Delta) → (turned s d).0 ≡ left_by turned_single s (singles_of d)
+pub singles_state : (s : State) (d : Delta) → (turned s d).0 ≡ left_by turned_single s (singles_of d)
 singles_state s (Alone d) = refl
 singles_state s (Together ds) = refl
 

@@ -1,12 +1,10 @@
 -- Room in some places is room in those places and more. This project's own.
-use Rattle.std.proofs.Common.{ℕ, List, [], ◌∷◌, arith}
+use Rattle.std.proofs.Common.{ℕ, arith}
 use Rattle.irig_edit.specs.Changes.Held.{single_of}
 use Rattle.irig_edit.specs.State.Places.{HoldsState, IsWithin, Places}
-use Rattle.irig_edit.specs.Changes.Room.{HasRoom, HasRoomFor, HaveRoom, passing}
+use Rattle.irig_edit.specs.Changes.Room.{HasRoomFor, passing}
 use Rattle.irig_edit.specs.Changes.Single.{turned_single}
 use Rattle.irig_edit.specs.State.State.{State}
-use Rattle.irig_edit.specs.declared.changes.change.Change.{Change}
-use Rattle.irig_edit.specs.declared.changes.change.Change.TheVariants.{One, Group}
 use Rattle.irig_edit.specs.declared.changes.single.Single.{Single}
 
 -- more places hold a state too
@@ -18,24 +16,11 @@ holds_wider a b n s within holds = record {
 }
 
 -- room in some places is room in those and more
-room_wider : (a b : Places) (s : State) (x : Single) → IsWithin a b → HasRoomFor a s x
+pub HasRoomFor-wider : (a b : Places) (s : State) (x : Single) → IsWithin a b → HasRoomFor a s x
     → HasRoomFor b s x
-room_wider a b s x within room = record {
+HasRoomFor-wider a b s x within room = record {
   takes = room.takes;
   before = holds_wider a b (passing (single_of x)) s within room.before;
   after = holds_wider a b (passing (single_of x)) (turned_single s (single_of x)).0 within
       room.after;
 }
-
-pub all_wider : (a b : Places) (s : State) (xs : List Single) → IsWithin a b → HaveRoom a s xs
-    → HaveRoom b s xs
-all_wider a b s [] within room = tt
-all_wider a b s (x ∷ xs) within room = (
-  room_wider a b s x within room.0,
-  all_wider a b (turned_single s (single_of x)).0 xs within room.1,
-)
-
-pub HasRoom-wider : (a b : Places) (s : State) (c : Change) → IsWithin a b → HasRoom a s c
-    → HasRoom b s c
-HasRoom-wider a b s (One single) within room = room_wider a b s single within room
-HasRoom-wider a b s (Group singles) within room = all_wider a b s singles within room

@@ -1,12 +1,13 @@
-use Rattle.std.proofs.Common.{length, ap, sym, subst, ◌∙◌}
+use Rattle.std.proofs.Common.{map, length, ap, sym, subst, ◌∙◌, arith}
 use Rattle.std.specs.Prelude.{option_map}
 use Rattle.irig_journal.specs.Groups.{redone_over}
-use Rattle.irig_journal.specs.History.{FitInTurn, step, steps_of}
-use Rattle.irig_journal.specs.Journal.{future_of, grouped_of}
-use Rattle.irig_journal.specs.Openings.{StandsOnFloor}
+use Rattle.irig_journal.specs.History.{FitInTurn, step}
+use Rattle.irig_journal.specs.Journal.{future_of, grouped_of, told}
 use Rattle.irig_journal.specs.Machine.{mirrored}
+use Rattle.irig_journal.specs.Openings.{StandsOnFloor}
+use Rattle.irig_journal.specs.Sides.{steps_on}
 use Rattle.irig_journal.proofs.FloorLemmas.{floor_in, floor_kept, stepped_back-parts, redone_over_by}
-use Rattle.irig_journal.proofs.StepLemmas.{length-steps}
+use Rattle.irig_journal.proofs.SideLemmas.{length-told}
 use Rattle.irig_journal.proofs.journal.Journal.redo.Goals as goal
 
 pub returns-clause-grouped : goal.returns-clause-grouped
@@ -15,13 +16,15 @@ returns-clause-grouped g c =
     let s = r.content c.args.state.now in
     let after = r.content c.turn_nearest.new.state in
     let floor = c.self.inside.floor in
-    let past = steps_of r.delta c.self.inside.past.items in
-    let future = steps_of r.delta c.self.inside.future.items in
-    let more = steps_of r.delta c.turn_nearest.new.to.items in
-    let stands : StandsOnFloor floor (length past) = subst (StandsOnFloor floor) (sym (length-steps r.delta c.self.inside.past.items)) c.self.invariant.0 in
+    let side = c.self.inside.past in
+    let past = map (told r.delta) (steps_on side) in
+    let future = map (told r.delta) (steps_on c.self.inside.future) in
+    let more = map (told r.delta) (steps_on c.turn_nearest.new.to) in
+    let stands : StandsOnFloor floor (length past) =
+    subst (StandsOnFloor floor) (omega (arith, length-told r.delta side.changes.items side.entries.items)) c.self.invariant.0 in
     let fit = subst (λ j. FitInTurn r.fits r.turned s (future_of r.delta j)) (sym c.self.view_is) c.requires.ready.0.1 in
-    let t = stepped_back-parts r.turned s after c.args.cursor.now c.turn_nearest.new.cursor future (steps_of r.delta c.turn_nearest.new.from.items) past more
-    c.turn_nearest.ensures.step.steps in
+    let t = stepped_back-parts r.turned s after c.args.cursor.now c.turn_nearest.new.cursor future (map (told r.delta) (steps_on c.turn_nearest.new.from)) past
+    more c.turn_nearest.ensures.step.steps in
     let near = t.near.change in
     let fits = (subst (FitInTurn r.fits r.turned s) t.parts fit).0 in
     let home = ap (λ x. (r.turned x (r.turned s near).1).0) (sym t.state) ∙ ap (λ p. p.0) (g.met.R.Reversible.back s near c.turn_nearest.ensures.known fits) in

@@ -1,6 +1,5 @@
 use Rattle.std.proofs.Common.{◌≡◌, ◌-◌, List, [], length, take, drop}
-use Rattle.irig_journal.specs.declared.step.Step.{Step}
-use Rattle.irig_journal.specs.History.{History}
+use Rattle.irig_journal.specs.History.{History, Step}
 use Rattle.irig_edit.specs.Changes.Delta.{Delta}
 use Rattle.irig_edit.specs.State.State.{State, IsState}
 use Rattle.irig_edit.specs.Opened.Taken.{CanTakeAll}

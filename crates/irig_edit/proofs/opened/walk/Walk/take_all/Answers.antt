@@ -1,6 +1,15 @@
-use Rattle.std.proofs.Common.{rules, ◌≡◌, ◌+◌, ◌<◌, ◌^◌, true, false, reverse, ap, arith}
+use Rattle.std.proofs.Common.{rules, ◌≡◌, ◌+◌, ◌<◌, ◌^◌, ◌∙◌, true, false, reverse, ap, arith}
+use Rattle.irig_journal.specs.History.{History}
+use Rattle.irig_edit.specs.Changes.Delta.{Delta}
+use Rattle.irig_edit.specs.State.State.{State}
 use Rattle.irig_edit.proofs.OpenedLemmas.TakenSteps.{lines_short, taken_more, taken_next, taken_stops, told_no, told_yes}
+use Rattle.irig_edit.proofs.OpenedLemmas.Walks.{future_gone}
 use Rattle.irig_edit.proofs.opened.walk.Walk.take_all.Goals as goal
+
+pub take-requires : goal.take-requires
+take-requires c =
+    let so_far = c.loop-step.invariant in
+    record { ahead = ap (λ (h : History State Delta). h.future) so_far.stands ∙ future_gone c.args.self.now so_far.steps c.requires.ahead }
 
 pub lines-requires : goal.lines-requires
 lines-requires c =

@@ -2,7 +2,7 @@ use Rattle.std.proofs.Common.{◌++◌, ◌+◌, ℕ, List, Option, ap, drop, sy
 use Rattle.std.specs.Borrow.{Bor}
 use Rattle.irig_gap.specs.Items.{GapView}
 use Rattle.irig_saved.specs.SavedText.{pulse_line, pulse_lines}
-use Rattle.irig_track.specs.declared.pulse.Pulse.{Pulse}
+use Rattle.irig_vcd.specs.declared.pulse.Pulse.{Pulse}
 use Rattle.irig_edit.specs.Saved.SavedParts.{pulses_left}
 use Rattle.irig_edit.proofs.SavedLemmas.Rests.{line_first, pulses-end, pulses-next}
 use Rattle.irig_edit.proofs.saved.pulse_lines.PulseLines.fill.Goals as goal

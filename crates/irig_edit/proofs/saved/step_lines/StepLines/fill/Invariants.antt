@@ -1,12 +1,15 @@
-use Rattle.std.proofs.Common.{◌≡◌, ◌++◌, drop}
+use Rattle.std.proofs.Common.{◌≡◌, ◌++◌, length}
+use Rattle.irig_edit.specs.Changes.Held.{deltas_of}
 use Rattle.irig_edit.specs.Saved.Saved.{StepsCanBeNamed}
-use Rattle.irig_edit.specs.Saved.SavedParts.{steps_at, steps_text}
+use Rattle.irig_edit.specs.Saved.SavedParts.{steps_text}
 use Rattle.irig_edit.proofs.saved.step_lines.StepLines.fill.Given as goal
 
--- the block, with the lines that are left of the step that has begun, and those of the steps after it
-abbrev pub invariant-loop-number : goal.invariant-loop-number
-invariant-loop-number l = record {
-  given : l.block.items ++ (l.self-inside.changes ++ steps_text (drop l.number (steps_at l.side l.journal))) ≡ l.fn.block.items ++ l.fn.self;
-  same : steps_at l.self-inside.side l.self-inside.journal.now ≡ steps_at l.side l.journal;
-  named : StepsCanBeNamed (steps_at l.side l.journal);
+-- the block, with the lines that are left of the step that has begun, and those of the steps that are left
+abbrev pub invariant-loop-block : goal.invariant-loop-block
+invariant-loop-block l = record {
+  given : l.block.items ++ (l.self-inside.changes ++ steps_text (deltas_of l.self-inside.left)) ≡ l.fn.block.items ++ l.fn.self;
+  named : StepsCanBeNamed (deltas_of l.self-inside.left);
 }
+
+abbrev pub decreases-loop-block : goal.decreases-loop-block
+decreases-loop-block l = length l.self-inside.left

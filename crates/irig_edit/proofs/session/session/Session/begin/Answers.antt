@@ -1,15 +1,14 @@
 use Rattle.std.proofs.Common.{rules, IsErr, Ok, Bool, [], ◌∷◌, sym, subst, ap, ◌∙◌}
-use Rattle.irig_journal.specs.History.{steps_of}
 use Rattle.irig_journal.specs.Journal.{Steps as Journaled, past_of, future_of}
 use Rattle.irig_edit.specs.Session.Calls.Call.{Begin}
-use Rattle.irig_edit.specs.Changes.Held.{delta_of}
+use Rattle.irig_edit.specs.Changes.Held.{delta_of, deltas_of}
 use Rattle.irig_edit.specs.Session.Keeping.{grouped_at, machine_at}
 use Rattle.irig_edit.specs.Session.Limits.{IsGrouped}
 use Rattle.irig_edit.specs.Session.Machine.{Steps}
 use Rattle.irig_edit.specs.Changes.Ready.{StepsAreReady}
 use Rattle.irig_edit.specs.Edits.Refusals.{first_of, refusal_of}
 use Rattle.irig_edit.specs.Session.Session.{SessionView, grouped_in}
-use Rattle.irig_edit.specs.declared.changes.change.Change.{Change}
+use Rattle.irig_edit.specs.declared.changes.single.Single.{Single}
 use Rattle.irig_edit.specs.declared.session.refusal.Refusal.TheVariants.{GroupOpen}
 use Rattle.irig_edit.proofs.SessionLemmas.Endings.{grouped-began, is_open-some}
 use Rattle.irig_edit.proofs.SessionLemmas.Floors.{IsGrouped-begun}
@@ -23,8 +22,8 @@ invariant_of-self c =
     let s = c.self.inside in
     let t = c.begin.new.self in
     let kept = c.begin.ensures.steps in
-    let past = ap (steps_of delta_of) kept.0 in
-    let future = ap (steps_of delta_of) kept.1 in
+    let past = ap deltas_of kept.0 in
+    let future = ap deltas_of kept.1 in
     let ready : StepsAreReady s.present t =
     ready_same s.present s.journal t kept.0 kept.1 c.self.invariant.1 in
     elim c.match-begin.branch [
@@ -33,7 +32,7 @@ invariant_of-self c =
           (future_of delta_of t)
           s.journal.floor t.floor (w.in-Ok.ensures.grouped s.present.state) past future in
           (IsGrouped-begun (grouped_at s.present.state s.cursor s.journal) (grouped_at s.present.state s.cursor t) c.self.invariant.0 step, ready)
-      | in-Err w ↦ (subst (λ (j : Journaled Change). IsGrouped (grouped_at s.present.state s.cursor j)) (sym w.in-Err.ensures.err.1) c.self.invariant.0, ready)
+      | in-Err w ↦ (subst (λ (j : Journaled Single). IsGrouped (grouped_at s.present.state s.cursor j)) (sym w.in-Err.ensures.err.1) c.self.invariant.0, ready)
     ]
 
 pub returns-clause-step : goal.returns-clause-step
@@ -45,7 +44,7 @@ returns-clause-step c =
       | in-Ok w ↦
           let step = grouped-began s.present.state s.cursor (past_of delta_of s.journal) (future_of delta_of s.journal) (past_of delta_of t)
           (future_of delta_of t)
-          s.journal.floor t.floor (w.in-Ok.ensures.grouped s.present.state) (ap (steps_of delta_of) kept.0) (ap (steps_of delta_of) kept.1) in
+          s.journal.floor t.floor (w.in-Ok.ensures.grouped s.present.state) (ap deltas_of kept.0) (ap deltas_of kept.1) in
           rw w.result-is (subst (λ (v : SessionView). Steps Begin (grouped_in v) (Ok tt) (grouped_at s.present.state s.cursor t)) c.self.view_is
           (Steps-begun (grouped_at s.present.state s.cursor s.journal) (grouped_at s.present.state s.cursor t) step))
       | in-Err w ↦
@@ -53,6 +52,6 @@ returns-clause-step c =
           let open_now = is_open-some (machine_at s.present.state s.cursor s.journal) s.journal.floor (c.begin.ensures.open.0 failed) in
           rw w.result-is (
             ap (λ (v : SessionView). refusal_of Begin (grouped_in v)) (sym c.self.view_is) ∙ ap (λ (test : Bool). first_of ((test, GroupOpen) ∷ [])) open_now,
-            ap (λ (j : Journaled Change). grouped_at s.present.state s.cursor j) w.in-Err.ensures.err.1 ∙ ap grouped_in c.self.view_is,
+            ap (λ (j : Journaled Single). grouped_at s.present.state s.cursor j) w.in-Err.ensures.err.1 ∙ ap grouped_in c.self.view_is,
           )
     ]

@@ -1,12 +1,12 @@
 use Rattle.std.proofs.Common.{◌≡◌, Ok, ◌≤◌, length, ap, sym, ◌∙◌, subst, ℕ, ◌-◌, arith}
 use Rattle.irig_journal.specs.Groups.{Grouped, recorded_over}
-use Rattle.irig_journal.specs.History.{steps_of}
 use Rattle.irig_journal.specs.Journal.{past_of, future_of}
 use Rattle.irig_journal.specs.Machine.{Machine}
 use Rattle.irig_journal.specs.Machine as journal
 use Rattle.irig_edit.specs.Changes.Delta.{Fits, turned}
 use Rattle.irig_edit.specs.Changes.Laws.Delta.{IsState-turned}
-use Rattle.irig_edit.specs.Changes.Held.{delta_of}
+use Rattle.irig_edit.specs.Changes.Delta.Delta.{Alone}
+use Rattle.irig_edit.specs.Changes.Held.{delta_of, deltas_of, single_of}
 use Rattle.irig_edit.specs.Session.Keeping.{exchange_of, machine, machine_at}
 use Rattle.irig_edit.specs.Session.Kept.{Kept, kept}
 use Rattle.irig_edit.specs.Session.Limits.{IsGrouped}
@@ -22,12 +22,12 @@ use Rattle.irig_edit.proofs.session.session.Session.change.Goals as goal
 pub record-requires-clause-applies : goal.record-requires-clause-applies
 record-requires-clause-applies c =
     let same = ap (λ (m : SessionView). m.present.state) c.self.view_is in
-    subst (λ (s : State). Fits s (delta_of c.args.change)) (sym same) c.requires.fits
+    subst (λ (s : State). Fits s (Alone (single_of c.args.single))) (sym same) c.requires.fits
 
 pub invariant_of-self : goal.invariant_of-self
 invariant_of-self c =
     let s = c.self.inside.present.state in
-    let d = delta_of c.args.change in
+    let d = Alone (single_of c.args.single) in
     let same = ap (λ (m : SessionView). m.present.state) c.self.view_is in
     let fits = subst (λ (x : State). Fits x d) (sym same) c.requires.fits in
     let within = subst (λ (x : State). c.args.cursor ≤ length (turned x d).0.pulses) (sym same) c.requires.cursor in
@@ -50,14 +50,14 @@ invariant_of-self-in-Err c =
     (future_of delta_of c.record.new.self)))
     ≡ over_opening c.self.inside.journal.floor (machine (history c.self.inside.present.state c.self.inside.cursor (past_of delta_of c.self.inside.journal)
     (future_of delta_of c.self.inside.journal))) =
-    (λ k. over_opening (unmoved.5 k) (machine (history (unmoved.1 k) c.self.inside.cursor (steps_of delta_of (unmoved.3 k))
-    (steps_of delta_of (unmoved.4 k))))) in
+    (λ k. over_opening (unmoved.5 k) (machine (history (unmoved.1 k) c.self.inside.cursor (deltas_of (unmoved.3 k))
+    (deltas_of (unmoved.4 k))))) in
     (subst P (sym is) c.self.invariant.0, c.record.ensures.ready)
 
 pub returns-in-Ok-clause-ok : goal.returns-in-Ok-clause-ok
 returns-in-Ok-clause-ok c =
     let s = c.self.inside.present.state in
-    let d = delta_of c.args.change in
+    let d = Alone (single_of c.args.single) in
     let same = ap (λ (m : SessionView). m.present.state) c.self.view_is in
     let fits = subst (λ (x : State). Fits x d) (sym same) c.requires.fits in
     let stands = ap (λ (m : Machine (journal.Kept State)). m.present.state) (c.in-Ok.ensures.machine 0) in
@@ -74,7 +74,7 @@ returns-in-Ok-clause-ok c =
 pub returns-in-Ok-clause-step : goal.returns-in-Ok-clause-step
 returns-in-Ok-clause-step c =
     let s = c.self.inside.present.state in
-    let d = delta_of c.args.change in
+    let d = Alone (single_of c.args.single) in
     let same = ap (λ (m : SessionView). m.present.state) c.self.view_is in
     let fits = subst (λ (x : State). Fits x d) (sym same) c.requires.fits in
     let stands = ap (λ (m : Machine (journal.Kept State)). m.present.state) (c.in-Ok.ensures.machine 0) in
@@ -94,7 +94,7 @@ returns-in-Ok-clause-step c =
 pub returns-in-Ok-clause-looks : goal.returns-in-Ok-clause-looks
 returns-in-Ok-clause-looks c =
     let s = c.self.inside.present.state in
-    let d = delta_of c.args.change in
+    let d = Alone (single_of c.args.single) in
     let same = ap (λ (m : SessionView). m.present.state) c.self.view_is in
     let fits = subst (λ (x : State). Fits x d) (sym same) c.requires.fits in
     let stands = ap (λ (m : Machine (journal.Kept State)). m.present.state) (c.in-Ok.ensures.machine 0) in

@@ -1,13 +1,15 @@
-use Rattle.std.proofs.Common.{◌≡◌, ◌++◌, ℕ, List, [], ◌∷◌, codes, length, map, reverse, ap, ap₂, sym, ◌∙◌, append_assoc}
+use Rattle.std.proofs.Common.{◌≡◌, ◌++◌, ℕ, List, [], ◌∷◌, codes, length, map, reverse, ap, ap₂, sym, subst, ◌∙◌, append_assoc}
 use Rattle.std.proofs.lemmas.List.{length-map, length-reverse}
-use Rattle.irig_journal.specs.Journal.{future_of, past_of}
+use Rattle.irig_journal.specs.History as history
+use Rattle.irig_journal.specs.Journal.{future_of, past_of, told}
 use Rattle.irig_saved.specs.Lines.{numbered, text_of}
 use Rattle.irig_saved.specs.SavedText.{counted_lines, steps_lines}
 use Rattle.irig_saved.specs.declared.step.Step.{Step}
 use Rattle.irig_vcd.specs.FileText.{file_text}
-use Rattle.irig_edit.specs.Changes.Held.{delta_of}
+use Rattle.irig_edit.specs.Changes.Delta.{Delta}
+use Rattle.irig_edit.specs.Changes.Held.{delta_of, deltas_of}
 use Rattle.irig_edit.specs.Session.Keeping.{machine_at}
-use Rattle.irig_edit.specs.Saved.Saved.{saved_step}
+use Rattle.irig_edit.specs.Saved.Saved.{StepsCanBeNamed, saved_step}
 use Rattle.irig_edit.specs.Saved.SavedParts.{present_lines}
 use Rattle.irig_edit.specs.Saved.SavedSession.{saved_text, steps_back, steps_on}
 use Rattle.irig_edit.specs.Session.Session.{SessionView, machine_in}
@@ -21,7 +23,8 @@ pub new-requires-clause-back : goal.new-requires-clause-back
 new-requires-clause-back c =
     let s = c.self.inside in
     let back = past_of delta_of s.journal in
-    named_reversed back (steps_named s.present.state back c.self.invariant.0.machine.present.state c.self.invariant.1.0.0)
+    subst StepsCanBeNamed (sym (map-reverse (told delta_of) s.journal.past))
+    (named_reversed back (steps_named s.present.state back c.self.invariant.0.machine.present.state c.self.invariant.1.0.0))
 
 pub new-requires-clause-on : goal.new-requires-clause-on
 new-requires-clause-on c =
@@ -37,14 +40,16 @@ returns c =
     let on = future_of delta_of s.journal in
     let body = file_text (recording_of t) in
     let head = present_lines t s.cursor in
-    let ps = map saved_step (reverse back) in
+    let turned_over : deltas_of (reverse s.journal.past) ≡ reverse back = map-reverse (told delta_of) s.journal.past in
+    let ps = map saved_step (deltas_of (reverse s.journal.past)) in
     let fs = map saved_step on in
     let past : ps ≡ reverse (steps_back m.present m.past) =
-    map-reverse saved_step back ∙ ap (λ (xs : List Step). reverse xs) (sym (steps_back-kept t s.cursor back)) in
+    ap (map saved_step) turned_over ∙ map-reverse saved_step back ∙ ap (λ (xs : List Step). reverse xs) (sym (steps_back-kept t s.cursor back)) in
     let future : fs ≡ steps_on m.future = sym (steps_on-kept t on) in
     let p : ℕ → List ℕ = λ n. numbered (codes "past") (n ∷ []) in
     let f : ℕ → List ℕ = λ n. numbered (codes "future") (n ∷ []) in
-    let count : length back ≡ length ps = sym (length-map (reverse back) saved_step ∙ length-reverse back) in
+    let count : length back ≡ length ps =
+    sym (ap (λ (l : List (history.Step Delta)). length (map saved_step l)) turned_over ∙ length-map (reverse back) saved_step ∙ length-reverse back) in
     let number : length on ≡ length fs = sym (length-map on saved_step) in
     let joined = section body (codes "$comment\n") (codes "$end\n") (p (length back)) (f (length on)) head (steps_lines ps) (steps_lines fs) in
     let tail : List Step → List Step → List (List ℕ) = λ xs ys. counted_lines (codes "past") xs ++ counted_lines (codes "future") ys in

@@ -5,8 +5,7 @@ use Rattle.irig_edit.specs.State.Places.{places_in}
 use Rattle.irig_edit.specs.State.Present.{PresentView, present_view, state_in}
 use Rattle.irig_edit.specs.Changes.Single.{FitsSingle, SingleDelta}
 use Rattle.irig_edit.specs.State.State.{State, state}
-use Rattle.irig_edit.proofs.ChangeLemmas.GroupTurns.{on_ok}
-use Rattle.irig_edit.proofs.ChangeLemmas.Rooms.{ample_enough, puts_wider}
+use Rattle.irig_edit.proofs.ChangeLemmas.Rooms.{ample_enough, on_ok, puts_wider}
 use Rattle.irig_edit.proofs.state.present.Present.room_for.Goals as goal
 
 pub returns-clause-room : goal.returns-clause-room

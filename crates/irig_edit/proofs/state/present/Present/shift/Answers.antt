@@ -2,7 +2,7 @@ use Rattle.std.proofs.Common.{rules, ◌≡◌, List, ap, length, sym, subst, �
 use Rattle.irig_index.specs.Frames.{frames}
 use Rattle.irig_track.specs.Looks.{LensView}
 use Rattle.irig_track.specs.Shifts.{shifted}
-use Rattle.irig_track.specs.declared.pulse.Pulse.{Pulse}
+use Rattle.irig_vcd.specs.declared.pulse.Pulse.{Pulse}
 use Rattle.irig_edit.specs.State.Marks.{marks_moved}
 use Rattle.irig_edit.specs.State.Places.{HoldsState, places_in}
 use Rattle.irig_edit.specs.State.Present.{PresentView, state_in}

@@ -1,0 +1,33 @@
+//! How many changes a step has.
+
+ghost use Rattle.std.specs.Prelude.{◌≡◌};
+ghost use Rattle.irig_journal.specs.Sizes.{count_of, is_group};
+
+/// How many changes a step has: one alone, or several in a group. A group may have none, or one.
+#[derive(Clone, Copy, PartialEq, Eq)]
+pub enum Size {
+    Alone,
+    Group(usize),
+}
+
+impl Size {
+    /// How many changes that are.
+    pub(crate) fn count(self) -> usize
+        ensures { result ≡ count_of self }
+    {
+        match self {
+            Size::Alone => 1,
+            Size::Group(count) => count,
+        }
+    }
+
+    /// Whether it is a group.
+    pub(crate) fn is_group(self) -> bool
+        ensures { result ≡ is_group self }
+    {
+        match self {
+            Size::Alone => false,
+            Size::Group(_) => true,
+        }
+    }
+}

@@ -1,0 +1,84 @@
+//! The steps of one side of a journal, one after another.
+
+ghost use Rattle.std.specs.Prelude.{◌≡◌, ◌∷◌, [], IfSome, MatchOption, false, length};
+ghost use Rattle.std.specs.List.{sum_by};
+ghost use Rattle.irig_journal.specs.Held.{held_of};
+ghost use Rattle.irig_journal.specs.Sizes.{is_group};
+
+use crate::Reversible;
+use crate::entry::Entry;
+use crate::step::{Step, weight_of};
+use std::marker::Model;
+
+/// The steps of one side that are left to be shown, one after another. This takes no memory.
+#[derive(Drop)]
+pub struct StepsLeft<'j, C> {
+    pub(crate) changes: &'j [C],
+    pub(crate) entries: &'j [Entry],
+    pub(crate) from_oldest: bool,
+}
+
+impl<'j, C> Model for StepsLeft<'j, C> {
+    ghost use Rattle.std.specs.Prelude.{List};
+    ghost use Rattle.irig_journal.specs.Held.{HaveAll, Held, shown_in};
+
+    ghost Value = { List (Held C) };
+
+    ghost view = { λ s. shown_in s.from_oldest s.changes.now s.entries.now };
+
+    ghost invariant = { λ s. HaveAll s.changes.now s.entries.now };
+}
+
+impl<'j, C> StepsLeft<'j, C> {
+    /// How many are left.
+    pub fn len(&self) -> usize
+        ensures { result ≡ length self.now }
+    {
+        self.entries.len()
+    }
+
+    /// The next step, if one is left.
+    pub fn next(&mut self) -> Option<Step<'j, C>>
+        ensures next { MatchOption result (self.old ≡ []) (λ s. self.old ≡ held_of s ∷ self.new) }
+        ensures alone { IfSome result (λ s. s.is_group ≡ false → length s.changes.now ≡ 1) }
+    {
+        if self.from_oldest {
+            let (entry, entries) = self.entries.split_first()?;
+            let (changes, left) = self.changes.split_at(entry.size.count());
+            self.entries = entries;
+            self.changes = left;
+            Some(step_with(*entry, changes))
+        } else {
+            let (entry, entries) = self.entries.split_last()?;
+            let at = self.changes.len() - entry.size.count();
+            let (left, changes) = self.changes.split_at(at);
+            self.entries = entries;
+            self.changes = left;
+            Some(step_with(*entry, changes))
+        }
+    }
+}
+
+/// The step with these changes.
+fn step_with<'j, C>(entry: Entry, changes: &'j [C]) -> Step<'j, C>
+    ensures { (result.changes.now ≡ changes.now) × (result.is_group ≡ is_group entry.size)
+        × (result.cursor ≡ entry.cursor) }
+{
+    Step {
+        changes,
+        is_group: entry.size.is_group(),
+        cursor: entry.cursor,
+    }
+}
+
+/// How much the changes of steps hold, all together.
+pub(crate) fn weight_of_all<R: Reversible>(mut steps: StepsLeft<'_, R::Change>) -> u128
+    ensures { result ≡ sum_by (λ h. R.weighs (R.delta h.parts)) steps.entry }
+{
+    let _len = steps.len();
+    let mut sum = 0;
+    while let Some(step) = steps.next() {
+        sum += u128::from(weight_of::<R>(&step));
+    }
+    sum
+}
