@@ -10,6 +10,6 @@ module _ (so_far part left rest all : List ℕ) (whole : so_far ++ left ≡ all)
   pub whole_text : rest ≡ [] → so_far ++ part ≡ all
   whole_text ended = sym (append-nil (so_far ++ part)) ∙ ap (λ l. (so_far ++ part) ++ l) (sym ended) ∙ more_text
 
--- its bytes are counted
-pub more_count : (so_far part : List ℕ) (old new : ℕ) → old ≡ length so_far → new ≡ old + length part → new ≡ length (so_far ++ part)
-more_count so_far part old new counted more = omega (arith, counted, more, length-append so_far part)
+-- its bytes are counted, from a count on
+pub more_count : (so_far part : List ℕ) (start old new : ℕ) → old ≡ start + length so_far → new ≡ old + length part → new ≡ start + length (so_far ++ part)
+more_count so_far part start old new counted more = omega (arith, counted, more, length-append so_far part)

@@ -1,15 +1,16 @@
 -- What each call makes of a new file next to its target.
 use Rattle.std.proofs.Common.{◌≡◌, ◌≢◌, ◌⊎◌, inl, inr, ⊎_elim, refl, sym, ◌∙◌, ap, subst, ℕ, List, [], ◌++◌, Option, Some, None, Result, Ok, Err, OnOk, OnErr}
-use Rattle.std.proofs.Common.{IfErr, IsErrOf}
+use Rattle.std.proofs.Common.{IfErr, IsErrOf, MatchOption}
 use Rattle.irig_disk.specs.declared.fault.PutFault.{PutFault}
 use Rattle.irig_disk.specs.declared.fault.PutFault.TheVariants.{Memory, NamesTaken, Failed, LeftBehind, Remains, NotKept}
-use Rattle.std.proofs.lemmas.Result.{IfErr-at_err}
+use Rattle.std.proofs.lemmas.Result.{IfErr-at_err, IfErr-weaker}
 use Rattle.irig_disk.specs.Disk.{Disk, Held, seen_under, MayLeave, Elapses, LeavesOnly}
 use Rattle.irig_disk.specs.Stays.{NamesStay, OtherFilesStay, Stays}
-use Rattle.irig_disk.specs.Calls.{Made, Wrote, TookMode, MaySpoil, SyncedFile, SyncedNames}
+use Rattle.irig_disk.specs.Calls.{Made, IsTaken, Wrote, TookMode, MaySpoil, SyncedFile, SyncedNames}
 use Rattle.irig_disk.specs.Moves.{MayMove, Moved, NotMoved, MayRemove, Removed, NotRemoved}
 use Rattle.irig_disk.specs.Put.{OldOrNew, OldOrNewIfThere, OldIfThere, SeenSame, SeenSameIfThere, AfterFault, left_by, IsPut, IsKept}
 use Rattle.irig_disk.specs.Writing.{IsUnchanged, NotBegun, NotFinished, IsBeside, IsWriting, IsPlaced, IsStuck}
+use Rattle.irig_disk.specs.Parts.{IsPassed, ComesTo}
 use Rattle.irig_disk.proofs.Moments.{started, goes_on, weaker}
 use Rattle.irig_disk.proofs.Names.{same_or_not}
 
@@ -84,6 +85,20 @@ begins start a b beside target file mode apart same made time =
             (weaker start a (MayLeave start) (λ n c. n ≢ beside → MayLeave start n c) (λ n c l ne. l) same.moments) time (λ n c l ne. left n c ne l);
       };
     }
+
+-- a new file is made under a name, or it is taken
+pub tried : {X : Type 0} (number : X → ℕ) (start a b : Disk) (name stated target : List ℕ) (mode : ℕ) (made : Option X) → name ≡ stated → name ≢ target
+    → IsUnchanged start a → MatchOption made (IsTaken a b name) (λ file. Made a b name (number file) mode) → Elapses a b
+    → MatchOption made (IsPassed start b stated target) (λ file. IsWriting start b name target (number file) [] mode)
+tried number start a b name stated target mode None is apart same taken time = record {
+  same = unchanged_goes_on start a b same taken.stays time;
+  taken = λ ne none. taken.taken (same.stays.names.seen name ∙ (ap (λ n. start.leads n) is ∙ none));
+}
+tried number start a b name stated target mode (Some file) is apart same made time = begins start a b name target (number file) mode apart same made time
+
+-- a name that is the target's own is not tried
+pub not_tried : (start a : Disk) (name stated target : List ℕ) → name ≡ stated → (name ≢ target → ⊥) → IsUnchanged start a → IsPassed start a stated target
+not_tried start a name stated target is at same = record { same = same; taken = λ ne none. at (λ e. ne (sym is ∙ e)) }
 
 -- a call that changes the new file alone
 pub touched : (start a b : Disk) (beside target : List ℕ) (file : ℕ) → IsBeside start a beside target file → NamesStay a b → OtherFilesStay a b file
@@ -347,6 +362,33 @@ after_giving_up start now target text (Ok _) None result same but is = subst (λ
 after_giving_up start now target text (Ok _) (Some fault) result same but is = subst (λ r. AfterFault start now target text r) (sym is) same
 after_giving_up start now target text (Err other) None result same but is = subst (λ r. AfterFault start now target text r) (sym is) but
 after_giving_up start now target text (Err other) (Some fault) result same but is = subst (λ r. AfterFault start now target text r) (sym is) but
+
+left_untaken : {T X : Type 0} (fault : Option X) (removal : Result T X) → left_by fault removal ≡ NamesTaken → ⊥
+left_untaken None (Ok _) is = cc is
+left_untaken None (Err other) is = cc is
+left_untaken (Some fault) (Ok _) is = cc is
+left_untaken (Some fault) (Err other) is = cc is
+
+-- what a write comes to that has begun: it is finished, or given up
+pub comes_to_its_end : {T X : Type 0} (start now : Disk) (target : List ℕ) (text : Held) (result : Result T (PutFault X))
+    → LeavesOnly start now (OldOrNewIfThere start target text) → OnOk result (IsKept start now target text)
+    → IfErr result (NotFinished start now target text) → ComesTo start now target text result
+comes_to_its_end start now target text result moments kept left = record {
+  any_moment = moments;
+  ok = kept;
+  err = IfErr-weaker result _ _ (not_finished start now target text) left;
+  untaken = λ is. not_taken start now target text result left is;
+}
+
+pub comes_to_nothing : {K T X : Type 0} (start now : Disk) (target : List ℕ) (text : Held) (removal : Result T X) (fault : Option X) (left : PutFault X)
+    → LeavesOnly start now (OldIfThere start target) → OnOk removal (SeenSame start now) → OnErr removal (SeenSameIfThere start now target)
+    → left ≡ left_by fault removal → ComesTo {T = K} start now target text (Err left)
+comes_to_nothing start now target text removal fault left moments same but by = record {
+  any_moment = old_moments start now target text moments;
+  ok = tt;
+  err = after_giving_up start now target text removal fault left same but by;
+  untaken = λ is. let taken : left ≡ NamesTaken = cc is in left_untaken fault removal (sym by ∙ taken);
+}
 
 -- the same under equal names
 pub called : (start a : Disk) (b b' t t' : List ℕ) (f f' : ℕ) (text : List ℕ) (mode mode' : ℕ) → b' ≡ b → t' ≡ t → f' ≡ f → mode' ≡ mode

@@ -1,8 +1,10 @@
 pub mod Calls
 pub mod Disk
+pub mod Led
 pub mod Log
 pub mod LogLaws
 pub mod Moves
+pub mod Parts
 pub mod Put
 pub mod Stays
 pub mod System

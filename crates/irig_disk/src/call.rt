@@ -1,7 +1,7 @@
 //! A call that was done on a folder in memory.
 
 /// A call that was done. A file's number is how many calls were done before it was made.
-#[derive(Debug, Drop)]
+#[derive(Drop)]
 pub enum Call {
     /// A new file of this name, with this mode.
     Make(Vec<u8>, u32),

@@ -1,9 +1,11 @@
 //! A folder in memory, for tests. It is the log of the calls that were done on it, the newest
 //! first.
 
-ghost use Rattle.std.specs.Prelude.{◌≡◌, ◌∷◌, [], OnOk, OnErr};
+ghost use Rattle.std.specs.Prelude.{◌≡◌, ◌∷◌, [], List, false, None, OnOk, OnErr, MatchOption};
+ghost use Rattle.irig_disk.specs.Led.{makes};
 ghost use Rattle.irig_disk.specs.Log.{leads_in, disk_of};
 ghost use Rattle.irig_disk.specs.LogLaws.{log_counts_now, log_only_now};
+ghost use Rattle.irig_disk.specs.declared.call.Call.{Call};
 ghost use Rattle.irig_disk.specs.declared.memory.TheConstants.{USUAL};
 
 use crate::call::Call;
@@ -11,7 +13,7 @@ use crate::folder::Folder;
 use std::alloc::{AllocError, AllocFailed, Global};
 
 /// Why a call on a folder in memory failed.
-#[derive(Clone, Copy, Debug, PartialEq, Eq)]
+#[derive(Clone, Copy)]
 pub enum MemoryFault {
     /// A growth of the log was refused.
     NoMemory,
@@ -60,12 +62,32 @@ pub fn file_at(calls: &[Call], name: &[u8]) -> Option<usize>
     ensures { result ≡ leads_in calls.now name.now }
 {
     let (call, older) = calls.split_first()?;
+    if is_made(call, name) {
+        return Some(older.len());
+    }
+    file_at(older, name_before(call, name)?)
+}
+
+/// Whether a call makes a file of a name.
+fn is_made(call: &Call, name: &[u8]) -> bool
+    ensures { result ≡ makes call.now name.now }
+{
     match call {
-        Call::Make(made, _) if made.as_slice() == name => Some(older.len()),
-        Call::Rename(from, to) if to.as_slice() == name => file_at(older, from.as_slice()),
-        Call::Rename(from, _) if from.as_slice() == name => None,
-        Call::Remove(gone) if gone.as_slice() == name => None,
-        _ => file_at(older, name),
+        Call::Make(made, _) => made.as_slice() == name,
+        _ => false,
+    }
+}
+
+/// The name that led, before a call that does not make it, to the file of a name. `None`: no file.
+fn name_before<'n>(call: &'n Call, name: &'n [u8]) -> Option<&'n [u8]>
+    ensures { (older : List Call) → makes call.now name.now ≡ false → MatchOption result
+        (leads_in (call.now ∷ older) name.now ≡ None)
+        (λ before. leads_in (call.now ∷ older) name.now ≡ leads_in older before.now) }
+{
+    match call {
+        Call::Rename(from, to) if to.as_slice() == name => Some(from.as_slice()),
+        Call::Rename(gone, _) | Call::Remove(gone) if gone.as_slice() == name => None,
+        _ => Some(name),
     }
 }
 

@@ -1,13 +1,15 @@
 //! A text of a target, in parts, written whole.
 
 ghost use Rattle.std.specs.Prelude.{◌≡◌, ◌≢◌, ◌++◌, ◌+◌, ◌-◌, ◌^◌, ℕ, List, [], length, min, take};
-ghost use Rattle.std.specs.Prelude.{string_bytes, IfOk, IfErr, OnOk, OnErr, IsErrOf};
+ghost use Rattle.std.specs.Prelude.{string_bytes, IfOk, IfErr, MatchOption, OnOk, OnErr};
+ghost use Rattle.std.specs.Prelude.{IsErrOf, IsTrue, ◌↔◌};
 ghost use Rattle.irig_disk.specs.Disk.{LeavesOnly};
 ghost use Rattle.irig_disk.specs.declared.fault.PutFault.TheVariants.{NamesTaken};
 ghost use Rattle.irig_disk.specs.Put.{OldIfThere, OldOrNewIfThere, SeenSame, SeenSameIfThere};
 ghost use Rattle.irig_disk.specs.Put.{IsKept, AllTaken, name_after, held, first_mode, last_mode};
 ghost use Rattle.irig_disk.specs.Writing.{NotFinished, IsBeside, IsWriting, IsPlaced, IsStuck};
-ghost use Rattle.irig_disk.specs.Writing.{NotBegun, WhileWriting};
+ghost use Rattle.irig_disk.specs.Writing.{NotBegun, WhileWriting, IsUnchanged};
+ghost use Rattle.irig_disk.specs.Parts.{IsPassed, WhilePlaced, WhileStuck};
 ghost use Rattle.irig_disk.specs.Calls.{mode_made};
 
 use crate::fault::{PutFault, fault_after};
@@ -49,14 +51,16 @@ impl<'n, F: Folder> NewText<'n, F> {
         ensures taken { F.is_told → IsErrOf result NamesTaken
             → AllTaken (F.disk folder.old) stem.now target.now NAMES }
     {
-        let file = make_beside(folder, name, target, stem, mode.is_some())?;
-        Ok(NewText {
-            file,
-            beside: name.as_str(),
-            target,
-            mode,
-            count: 0,
-        })
+        match make_beside(folder, name, target, stem, mode.is_some()) {
+            Ok(file) => Ok(NewText {
+                file,
+                beside: name.as_str(),
+                target,
+                mode,
+                count: 0,
+            }),
+            Err(fault) => Err(fault),
+        }
     }
 
     /// Writes a part, and counts its bytes, up to 2^64 - 1 in all. After a fault, give the text up.
@@ -102,11 +106,8 @@ impl<'n, F: Folder> NewText<'n, F> {
         ensures count { IfOk result (λ kept. kept.count ≡ self.entry.count) }
     {
         match place(folder, &self.file, self.beside, self.target, self.mode) {
-            Ok(_) => match folder.sync_names() {
-                Ok(_) => Ok(Kept { count: self.count }),
-                Err(fault) => Err(PutFault::NotKept(fault)),
-            },
-            Err(fault) => Err(fault_after(Some(fault), folder.remove(self.beside))),
+            Ok(_) => keep(folder, self.count),
+            Err(fault) => Err(clear(folder, self.beside, fault)),
         }
     }
 
@@ -128,12 +129,17 @@ impl<'n, F: Folder> NewText<'n, F> {
     }
 }
 
-/// The name of a new file: the stem, and how many others were tried before it.
-fn put_name(name: &mut String, stem: &str, number: u32) -> Result<(), AllocError>
-    ensures { OnOk result (string_bytes name.new ≡ name_after stem.now number) }
+/// Writes the name of a new file: the stem, and how many others were tried before it. Returns
+/// whether it is not the target's own.
+fn put_name(name: &mut String, target: &str, stem: &str, number: u32) -> Result<bool, AllocError>
+    ensures name { OnOk result (string_bytes name.new ≡ name_after stem.now number) }
+    ensures apart { IfOk result (λ apart. IsTrue apart ↔ string_bytes name.new ≢ target.now) }
 {
     name.clear();
-    write!(name, "{stem}{number}")
+    match write!(name, "{stem}{number}") {
+        Ok(()) => Ok(name.as_str() != target),
+        Err(error) => Err(error),
+    }
 }
 
 /// Makes a new file, under the first name that is free and is not the target's.
@@ -152,16 +158,41 @@ fn make_beside<F: Folder>(
         → AllTaken (F.disk folder.old) stem.now target.now NAMES }
 {
     for number in 0..NAMES {
-        put_name(name, stem, number)?;
-        if name.as_str() != target {
-            match folder.make(name.as_str(), hidden) {
-                Ok(Some(file)) => return Ok(file),
-                Ok(None) => {}
-                Err(fault) => return Err(PutFault::Failed(fault)),
-            }
+        match make_at(folder, name, target, stem, number, hidden) {
+            Ok(None) => {}
+            Ok(Some(file)) => return Ok(file),
+            Err(fault) => return Err(fault),
         }
     }
     Err(PutFault::NamesTaken)
+}
+
+/// Makes a new file, under the name with a number, if that is free and is not the target's.
+fn make_at<F: Folder>(
+    folder: &mut F,
+    name: &mut String,
+    target: &str,
+    stem: &str,
+    number: u32,
+    hidden: bool,
+) -> Result<Option<F::File>, PutFault<F::Fault>>
+    ensures ok { F.is_told → (start : F) → IsUnchanged (F.disk start) (F.disk folder.old)
+        → IfOk result (λ made. MatchOption made (IsPassed (F.disk start) (F.disk folder.new)
+        (name_after stem.now number) target.now) (λ file. IsWriting (F.disk start)
+        (F.disk folder.new) (string_bytes name.new) target.now (F.number file) []
+        (mode_made F.usual_mode hidden))) }
+    ensures err { F.is_told → (start : F) → IsUnchanged (F.disk start) (F.disk folder.old)
+        → IfErr result (NotBegun (F.disk start) (F.disk folder.new)) }
+    ensures untaken { IsErrOf result NamesTaken → ⊥ }
+{
+    match put_name(name, target, stem, number) {
+        Ok(true) => match folder.make(name.as_str(), hidden) {
+            Ok(made) => Ok(made),
+            Err(fault) => Err(PutFault::Failed(fault)),
+        },
+        Ok(false) => Ok(None),
+        Err(_) => Err(PutFault::Memory),
+    }
 }
 
 /// Gives a new file the mode, syncs it and renames it.
@@ -203,4 +234,31 @@ fn give_mode<F: Folder>(folder: &mut F, file: &F::File, mode: Option<u32>) -> Re
             Err(fault) => Err(fault),
         },
     }
+}
+
+/// Keeps the names of a text that has its place, with a count of its bytes.
+fn keep<F: Folder>(folder: &mut F, count: u64) -> Result<Kept, PutFault<F::Fault>>
+    ensures ok { F.is_told → WhilePlaced F.disk folder.old (λ start target text. OnOk result
+        (IsKept start (F.disk folder.new) target text)) }
+    ensures err { F.is_told → WhilePlaced F.disk folder.old (λ start target text. IfErr result
+        (NotFinished start (F.disk folder.new) target text)) }
+    ensures any_moment { F.is_told → WhilePlaced F.disk folder.old (λ start target text.
+        LeavesOnly start (F.disk folder.new) (OldOrNewIfThere start target text)) }
+    ensures count { IfOk result (λ kept. kept.count ≡ count) }
+{
+    match folder.sync_names() {
+        Ok(_) => Ok(Kept { count }),
+        Err(fault) => Err(PutFault::NotKept(fault)),
+    }
+}
+
+/// Removes the new file of a text that did not come to its place, after a fault.
+fn clear<F: Folder>(folder: &mut F, beside: &str, fault: F::Fault) -> PutFault<F::Fault>
+    ensures left { F.is_told → WhileStuck F.disk folder.old beside.now (λ start target text.
+        NotFinished start (F.disk folder.new) target text result) }
+    ensures any_moment { F.is_told → WhileStuck F.disk folder.old beside.now
+        (λ start target text. LeavesOnly start (F.disk folder.new)
+        (OldOrNewIfThere start target text)) }
+{
+    fault_after(Some(fault), folder.remove(beside))
 }

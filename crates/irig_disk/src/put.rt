@@ -1,12 +1,14 @@
 //! A text written whole, in one call.
 
-ghost use Rattle.std.specs.Prelude.{◌≡◌, ◌++◌, ◌+◌, ℕ, List, [], true, length, IfOk, IfErr, OnOk};
-ghost use Rattle.std.specs.Prelude.{OnErr, IsErrOf};
+ghost use Rattle.std.specs.Prelude.{◌≡◌, ◌<◌, ◌++◌, ◌+◌, ◌^◌, ℕ, List, [], true, length, IfOk};
+ghost use Rattle.std.specs.Prelude.{IfErr, IfSome, OnOk, OnErr, OnSome, IsErrOf};
 ghost use Rattle.irig_disk.specs.Disk.{LeavesOnly};
 ghost use Rattle.irig_disk.specs.declared.fault.PutFault.TheVariants.{NamesTaken};
 ghost use Rattle.irig_disk.specs.declared.new_text.TheConstants.{NAMES};
-ghost use Rattle.irig_disk.specs.Put.{OldOrNewIfThere, AfterFault, IsKept, AllTaken, held};
-ghost use Rattle.irig_disk.specs.Writing.{IsWriting, WhileWriting};
+ghost use Rattle.irig_disk.specs.Put.{OldOrNewIfThere, AfterFault, IsKept, AllTaken, first_mode};
+ghost use Rattle.irig_disk.specs.Put.{held};
+ghost use Rattle.irig_disk.specs.Parts.{Adds, Spoils, ComesTo};
+ghost use Rattle.irig_disk.specs.Writing.{WhileWriting};
 
 use crate::fault::{PutFault, fault_after};
 use crate::folder::Folder;
@@ -40,16 +42,58 @@ pub fn put_text<F: Folder, T: Text>(
         → AllTaken (F.disk folder.old) stem.now target.now NAMES }
     ensures count { IfOk result (λ kept. kept.count ≡ length (T.rest text.old)) }
 {
-    let mut new = NewText::begin(folder, name, target, stem, mode)?;
+    match NewText::begin(folder, name, target, stem, mode) {
+        Ok(new) => put_rest(folder, new, text, block),
+        Err(fault) => Err(fault),
+    }
+}
+
+/// Writes the rest of a text to its new file, and keeps the file, or gives it up after a fault.
+fn put_rest<F: Folder, T: Text>(
+    folder: &mut F,
+    mut new: NewText<'_, F>,
+    text: &mut T,
+    block: &mut Vec<u8>,
+) -> Result<Kept, PutFault<F::Fault>>
+    ensures put { F.is_told → WhileWriting F.disk folder.old new.entry.beside.now
+        new.entry.target.now (F.number new.entry.file) (first_mode F.usual_mode new.entry.mode)
+        (λ start so_far. ComesTo start (F.disk folder.new) new.entry.target.now
+        (held F.usual_mode new.entry.mode (so_far ++ T.rest text.old)) result) }
+    ensures count { IfOk result
+        (λ kept. kept.count ≡ new.entry.count + length (T.rest text.old)) }
+{
+    match append_all(folder, &mut new, text, block) {
+        Ok(()) => new.finish(folder),
+        Err(fault) => Err(fault_after(fault, new.give_up(folder))),
+    }
+}
+
+/// Writes all of a text. `None` is a fault of no call.
+fn append_all<F: Folder, T: Text>(
+    folder: &mut F,
+    new: &mut NewText<'_, F>,
+    text: &mut T,
+    block: &mut Vec<u8>,
+) -> Result<(), Option<F::Fault>>
+    ensures beside { new.new.beside.now ≡ new.old.beside.now }
+    ensures target { new.new.target.now ≡ new.old.target.now }
+    ensures mode { new.new.mode ≡ new.old.mode }
+    ensures file { F.number new.new.file ≡ F.number new.old.file }
+    ensures count { OnOk result (new.new.count ≡ new.old.count + length (T.rest text.old)) }
+    ensures ok { F.is_told → OnOk result (Adds F.disk folder.old folder.new
+        new.old.beside.now (F.number new.old.file) (T.rest text.old)) }
+    ensures err { F.is_told → OnErr result (Spoils F.disk folder.old folder.new
+        new.old.beside.now (F.number new.old.file)) }
+{
     for _ in 0..u64::MAX {
-        match append_next(folder, &mut new, text, block) {
+        match append_next(folder, new, text, block) {
             Ok(false) => {}
-            Ok(true) => return new.finish(folder),
-            Err(fault) => return Err(fault_after(fault, new.give_up(folder))),
+            Ok(true) => return Ok(()),
+            Err(fault) => return Err(fault),
         }
     }
     // no text has that many parts
-    Err(fault_after(None, new.give_up(folder)))
+    Err(None)
 }
 
 /// Writes the next block of a text, and returns whether it was the last one. `None` is a fault of
@@ -67,25 +111,31 @@ fn append_next<F: Folder, T: Text>(
     ensures ok { IfOk result (λ ended. (part : List ℕ)
         × (T.rest text.old ≡ part ++ T.rest text.new)
         × (new.new.count ≡ new.old.count + length part)
-        × (F.is_told → (target : List ℕ) (mode : ℕ) → WhileWriting F.disk folder.old
-        new.old.beside.now target (F.number new.old.file) mode (λ start so_far.
-        IsWriting start (F.disk folder.new) new.old.beside.now target
-        (F.number new.old.file) (so_far ++ part) mode))) }
+        × (F.is_told → Adds F.disk folder.old folder.new new.old.beside.now
+        (F.number new.old.file) part)) }
     ensures end { IfOk result (λ ended. ended ≡ true → T.rest text.new ≡ []) }
-    ensures err { F.is_told → (target : List ℕ) (mode : ℕ) → WhileWriting F.disk folder.old
-        new.old.beside.now target (F.number new.old.file) mode (λ start so_far.
-        OnErr result ((some : List ℕ) × IsWriting start (F.disk folder.new)
-        new.old.beside.now target (F.number new.old.file) some mode)) }
+    ensures err { F.is_told → OnErr result (Spoils F.disk folder.old folder.new
+        new.old.beside.now (F.number new.old.file)) }
 {
-    block.clear();
-    let Ok(ended) = text.fill(block, ENOUGH) else {
+    let Some(ended) = fill_next(text, block, new.count) else {
         return Err(None);
     };
-    if new.count.checked_add(block.len() as u64).is_none() {
-        return Err(None);
-    }
     match new.append(folder, block) {
         Ok(_) => Ok(ended),
         Err(fault) => Err(Some(fault)),
+    }
+}
+
+/// Fills the block with the next bytes of a text, and returns whether they are its last ones.
+/// `None`: memory ran out, or with those before them they are more than 2^64 - 1.
+fn fill_next<T: Text>(text: &mut T, block: &mut Vec<u8>, before: u64) -> Option<bool>
+    ensures bytes { OnSome result (T.rest text.old ≡ block.new.items ++ T.rest text.new) }
+    ensures end { IfSome result (λ ended. ended ≡ true → T.rest text.new ≡ []) }
+    ensures fits { OnSome result (before + length block.new.items < 2 ^ 64) }
+{
+    block.clear();
+    match text.fill(block, ENOUGH) {
+        Ok(ended) if before.checked_add(block.len() as u64).is_some() => Some(ended),
+        _ => None,
     }
 }

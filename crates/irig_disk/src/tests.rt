@@ -8,29 +8,26 @@ use crate::kept::Kept;
 use crate::left::{bytes_of, is_kept};
 use crate::memory::{Memory, MemoryFault, file_at};
 use crate::put::put_text;
-use irig_text::Text;
+use irig_text::{Bytes, ENOUGH, Text};
 use std::alloc::{AllocError, Global};
 
-/// A text that gives one byte at a time. It finds no memory if this many are left.
+/// A text that finds no memory for one of its parts, told by its number from 0.
 #[derive(Drop)]
-struct Letters<'a> {
-    left: &'a [u8],
-    fails_at: Option<usize>,
+struct Failing<T: Text> {
+    text: T,
+    given: u64,
+    fails_at: Option<u64>,
 }
 
-impl Text for Letters<'_> {
-    ghost rest = { λ text. text.left.now };
+impl<T: Text> Text for Failing<T> {
+    ghost rest = { λ f. T.rest f.text };
 
-    fn fill(&mut self, block: &mut Vec<u8>, _enough: usize) -> Result<bool, AllocError> {
-        if self.fails_at == Some(self.left.len()) {
+    fn fill(&mut self, block: &mut Vec<u8>, enough: usize) -> Result<bool, AllocError> {
+        if self.fails_at == Some(self.given) {
             return Err(AllocError);
         }
-        let Some((letter, left)) = self.left.split_first() else {
-            return Ok(true);
-        };
-        block.push(*letter)?;
-        self.left = left;
-        Ok(left.is_empty())
+        self.given = self.given.saturating_add(1);
+        self.text.fill(block, enough)
     }
 }
 
@@ -39,15 +36,23 @@ fn write(
     alloc: Global,
     folder: &mut Memory,
     bytes: &[u8],
-    fails_at: Option<usize>,
+    fails_at: Option<u64>,
 ) -> Result<Kept, PutFault<MemoryFault>> {
-    let mut text = Letters {
-        left: bytes,
+    let mut text = Failing {
+        text: Bytes::new(bytes),
+        given: 0,
         fails_at,
     };
     let mut name = String::new(alloc);
     let mut block = Vec::new(alloc);
     put_text(folder, &mut name, "t", "next", None, &mut text, &mut block)
+}
+
+/// A text of three blocks.
+fn new_text(alloc: Global) -> Result<Vec<u8>, AllocError> {
+    let mut text = Vec::new(alloc);
+    text.resize(2 * ENOUGH + 1, b'n')?;
+    Ok(text)
 }
 
 /// A folder with the text `old` at the name `t`.
@@ -71,56 +76,56 @@ fn holds(alloc: Global, calls: &[Call], bytes: &[u8]) -> bool {
 }
 
 /// Whether the old text or the new one is there, whole, if the last calls are left out.
-fn is_whole_at_each_stop(alloc: Global) -> bool {
+fn is_whole_at_each_stop(alloc: Global, new: &[u8]) -> bool {
     let Some(mut folder) = old_folder(alloc) else {
         return false;
     };
     let before = folder.calls().len();
-    let Ok(kept) = write(alloc, &mut folder, b"new", None) else {
+    let Ok(kept) = write(alloc, &mut folder, new, None) else {
         return false;
     };
-    for (left_out, text) in STOPS {
+    for (left_out, is_new) in STOPS {
         let Some(calls) = folder.calls().get(left_out..) else {
             return false;
         };
-        if !holds(alloc, calls, text) {
+        if !holds(alloc, calls, if is_new { new } else { b"old" }) {
             return false;
         }
     }
-    kept.count() == 3 && folder.calls().len() == before + 7
+    kept.count() == new.len() as u64 && folder.calls().len() == before + 7
 }
 
-/// How many of the last calls are left out, and the text that is there then. The calls are: make,
-/// append three times, sync the file, rename, sync the folder.
-const STOPS: [(usize, &[u8]); 8] = [
-    (0, b"new"),
-    (1, b"new"),
-    (2, b"old"),
-    (3, b"old"),
-    (4, b"old"),
-    (5, b"old"),
-    (6, b"old"),
-    (7, b"old"),
+/// How many of the last calls are left out, and whether the new text is there then. The calls are:
+/// make, append three times, sync the file, rename, sync the folder.
+const STOPS: [(usize, bool); 8] = [
+    (0, true),
+    (1, true),
+    (2, false),
+    (3, false),
+    (4, false),
+    (5, false),
+    (6, false),
+    (7, false),
 ];
 
-/// Which calls fail, from one to before another, with how many bytes left the text finds no memory,
-/// the answer, the text that is there then, and whether the new file is.
-const FAULTS: [(u64, u64, Option<usize>, &str, &[u8], bool); 15] = [
-    (0, 1, None, "Failed", b"old", false),
-    (1, 2, None, "Failed", b"old", false),
-    (2, 3, None, "Failed", b"old", false),
-    (3, 4, None, "Failed", b"old", false),
-    (4, 5, None, "Failed", b"old", false),
-    (5, 6, None, "Failed", b"old", false),
-    (6, 7, None, "NotKept", b"new", false),
-    (1, 3, None, "LeftBehind", b"old", true),
-    (2, 4, None, "LeftBehind", b"old", true),
-    (3, 5, None, "LeftBehind", b"old", true),
-    (4, 6, None, "LeftBehind", b"old", true),
-    (5, 7, None, "LeftBehind", b"old", true),
-    (7, 8, Some(2), "Memory", b"old", false),
-    (2, 3, Some(2), "Remains", b"old", true),
-    (7, 8, None, "Kept", b"new", false),
+/// Which calls fail, from one to before another, for which part the text finds no memory, the
+/// answer, whether the new text is there then, and whether the new file is.
+const FAULTS: [(u64, u64, Option<u64>, &str, bool, bool); 15] = [
+    (0, 1, None, "Failed", false, false),
+    (1, 2, None, "Failed", false, false),
+    (2, 3, None, "Failed", false, false),
+    (3, 4, None, "Failed", false, false),
+    (4, 5, None, "Failed", false, false),
+    (5, 6, None, "Failed", false, false),
+    (6, 7, None, "NotKept", true, false),
+    (1, 3, None, "LeftBehind", false, true),
+    (2, 4, None, "LeftBehind", false, true),
+    (3, 5, None, "LeftBehind", false, true),
+    (4, 6, None, "LeftBehind", false, true),
+    (5, 7, None, "LeftBehind", false, true),
+    (7, 8, Some(1), "Memory", false, false),
+    (2, 3, Some(1), "Remains", false, true),
+    (7, 8, None, "Kept", true, false),
 ];
 
 /// The name of an answer.
@@ -139,30 +144,39 @@ fn name_of(answer: &Result<Kept, PutFault<MemoryFault>>) -> &'static str {
 /// Whether a write that fails so leaves what its row says.
 fn is_left(
     alloc: Global,
-    row: (u64, u64, Option<usize>, &'static str, &'static [u8], bool),
+    new: &[u8],
+    row: (u64, u64, Option<u64>, &'static str, bool, bool),
 ) -> bool {
-    let (from, to, fails_at, answer, text, remains) = row;
+    let (from, to, fails_at, answer, is_new, remains) = row;
     let Some(mut folder) = old_folder(alloc) else {
         return false;
     };
     folder.fail(from, to);
-    let answered = write(alloc, &mut folder, b"new", fails_at);
+    let answered = write(alloc, &mut folder, new, fails_at);
     name_of(&answered) == answer
-        && holds(alloc, folder.calls(), text)
+        && holds(alloc, folder.calls(), if is_new { new } else { b"old" })
         && file_at(folder.calls(), b"next0").is_some() == remains
 }
 
 // A crash at each call leaves the old text or the new one.
 #[test]
 fn a_text_of_three_blocks_is_whole_at_each_stop(rt: HostRuntime) {
-    assert!(rt; is_whole_at_each_stop(rt.alloc()));
+    let Ok(new) = new_text(rt.alloc()) else {
+        assert!(rt; false);
+        return;
+    };
+    assert!(rt; is_whole_at_each_stop(rt.alloc(), &new));
 }
 
 // A call that fails, and memory that runs out, leave the old text, and the fault says whether the
 // new file remains.
 #[test]
 fn a_text_of_three_blocks_fails_at_each_call(rt: HostRuntime) {
+    let Ok(new) = new_text(rt.alloc()) else {
+        assert!(rt; false);
+        return;
+    };
     for row in FAULTS {
-        assert!(rt; is_left(rt.alloc(), row));
+        assert!(rt; is_left(rt.alloc(), &new, row));
     }
 }

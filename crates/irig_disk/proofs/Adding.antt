@@ -1,0 +1,30 @@
+-- What one more call makes of a text that is being written.
+use Rattle.std.proofs.Common.{◌≡◌, ◌++◌, ℕ, List, [], append_assoc, append-nil}
+use Rattle.irig_disk.specs.Disk.{Disk}
+use Rattle.irig_disk.specs.Parts.{Adds, Spoils}
+
+pub adds_nothing : {F : Type 0} (disk : F → Disk) (now : F) (beside : List ℕ) (file : ℕ) → Adds disk now now beside file []
+adds_nothing disk now beside file = record {
+  still = λ target mode start text w. rw (append-nil text) w;
+}
+
+-- the same names and the same file, by other words for them
+pub adds_more : {F : Type 0} (disk : F → Disk) (a b c : F) (beside beside' : List ℕ) (file file' : ℕ) (bytes more : List ℕ) → beside' ≡ beside → file' ≡ file
+    → Adds disk a b beside file bytes → Adds disk b c beside' file' more → Adds disk a c beside file (bytes ++ more)
+adds_more disk a b c beside beside' file file' bytes more eb ef one two = record {
+  still = λ target mode start text w.
+      rw (append_assoc text bytes more) at ((rw (eb, ef) at two).still target mode start (text ++ bytes) (one.still target mode start text w));
+}
+
+pub spoils_later : {F : Type 0} (disk : F → Disk) (a b c : F) (beside beside' : List ℕ) (file file' : ℕ) (bytes : List ℕ) → beside' ≡ beside → file' ≡ file
+    → Adds disk a b beside file bytes → Spoils disk b c beside' file' → Spoils disk a c beside file
+spoils_later disk a b c beside beside' file file' bytes eb ef one two = record {
+  still = λ target mode start text w. (rw (eb, ef) at two).still target mode start (text ++ bytes) (one.still target mode start text w);
+}
+
+-- a text to which bytes came is spoilt too, if it is given up
+pub spoils_so_far : {F : Type 0} (disk : F → Disk) (a b : F) (beside : List ℕ) (file : ℕ) (bytes : List ℕ) → Adds disk a b beside file bytes
+    → Spoils disk a b beside file
+spoils_so_far disk a b beside file bytes one = record {
+  still = λ target mode start text w. (text ++ bytes, one.still target mode start text w);
+}
