@@ -2,6 +2,7 @@
 
 ghost use Rattle.std.specs.Prelude.{◌≤◌, ◌^◌, length};
 
+mod cuts;
 mod journals;
 mod pieces;
 mod plain;
@@ -10,6 +11,8 @@ mod texts;
 mod units;
 mod whole;
 
+use crate::dumps::cuts::cuts_agree;
+use crate::edges::have_edges;
 use irig_vcd::{Recording, VcdFault, read, read_parts};
 use std::alloc::{AllocError, Global};
 use std::process::Abort;
@@ -31,7 +34,7 @@ type Row = (&'static str, Wanted);
 fn is_recording(recording: &Recording, want: &Wanted) -> bool {
     match want {
         Wanted::Edges(length, edges) => {
-            recording.length() == *length && recording.edges() == *edges
+            recording.length() == *length && have_edges(recording.pulses(), edges)
         }
         Wanted::Fault(_) => false,
     }
@@ -65,11 +68,12 @@ fn is_read_alone(alloc: Global, dump: &[u8], wire: Option<&[u8]>, want: &Wanted)
     }
 }
 
-/// A dump without a journal is read as is wanted, with its parts too.
+/// A dump without a journal is read as is wanted, with its parts too, and wherever it is cut.
 fn check(rt: &impl Abort, alloc: Global, dump: &[u8], wire: Option<&[u8]>, want: &Wanted) {
     assert!(rt; dump.len() <= 1 << 28);
     assert!(rt; is_read(alloc, dump, wire, want));
     assert!(rt; is_read_alone(alloc, dump, wire, want));
+    assert!(rt; cuts_agree(alloc, dump, wire));
 }
 
 /// The dump of these changes after the header.

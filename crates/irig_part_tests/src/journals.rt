@@ -1,12 +1,12 @@
 //! Calls of a journal over the stack, with what each answers and leaves, worked out by hand.
 
-ghost use Rattle.std.specs.Prelude.{vec_capacity};
+ghost use Rattle.std.specs.Prelude.{◌≡◌, None, vec_capacity};
 ghost use Rattle.irig_journal.specs.Journal.{AreReady};
-ghost use Rattle.irig_journal.specs.Stack.{CanEdit, HasPlace, edited};
+ghost use Rattle.irig_journal.specs.Stack.{CanEdit, HasPlaceFor, edited};
 
 mod sides;
 
-use irig_journal::stack::{Edit, Single, Stack};
+use irig_journal::stack::{Single, Stack};
 use irig_journal::{
     Journal, JournalFault, Reversible, gathered_is_all, groups_give_back, machine_gives_back,
     turn_gives_back,
@@ -112,14 +112,14 @@ fn reply_to(answer: Result<(), JournalFault>) -> Reply {
 
 /// Obeys a call.
 fn obey(journal: &mut Journal<Stack>, stack: &mut Stack, cursor: &mut usize, call: Call) -> Reply
-    requires { AreReady CanEdit edited (λ d. d) (HasPlace (vec_capacity stack.old.items))
+    requires { AreReady CanEdit edited (λ d. d) (HasPlaceFor (vec_capacity stack.old.items))
         stack.old.items.items journal.old }
-    ensures { AreReady CanEdit edited (λ d. d) (HasPlace (vec_capacity stack.new.items))
+    ensures { AreReady CanEdit edited (λ d. d) (HasPlaceFor (vec_capacity stack.new.items))
         stack.new.items.items journal.new }
 {
     match call {
-        Call::Push(x, after) => make(journal, stack, cursor, Edit::One(Single::Push(x)), after),
-        Call::Pop(after) => make(journal, stack, cursor, Edit::One(Single::Pop), after),
+        Call::Push(x, after) => make(journal, stack, cursor, Single::Push(x), after),
+        Call::Pop(after) => make(journal, stack, cursor, Single::Pop, after),
         Call::Go(place) => {
             *cursor = place;
             Reply::Done
@@ -128,13 +128,22 @@ fn obey(journal: &mut Journal<Stack>, stack: &mut Stack, cursor: &mut usize, cal
     }
 }
 
+/// A journal with no steps, which is ready at the stack. Only the contract reads the stack.
+fn fresh(alloc: Global, _stack: &Stack) -> Journal<Stack>
+    ensures ready { AreReady CanEdit edited (λ d. d) (HasPlaceFor (vec_capacity _stack.now.items))
+        _stack.now.items.items result }
+    ensures floor { result.floor ≡ None }
+{
+    Journal::new(alloc)
+}
+
 /// Obeys calls from an empty stack on, and compares what each answers and leaves.
 fn check(rt: &impl Abort, alloc: Global, rows: &[Row<'_>]) {
     let mut stack = Stack {
         items: Vec::new(alloc),
         turns: 0,
     };
-    let mut journal = Journal::new(alloc);
+    let mut journal = fresh(alloc, &stack);
     let mut cursor = 0;
     for (call, reply, bytes, place, back, forward, turns, held) in rows {
         let answer = obey(&mut journal, &mut stack, &mut cursor, *call);
@@ -197,24 +206,25 @@ fn a_group_is_taken_back_whole(rt: HostRuntime) -> Result<(), Fail> {
         (Call::Go(7), Reply::Done, b"b", 7, 3, 0, 3, (1, 0)),
         // The joined step keeps the cursor of its oldest state.
         (Call::End, Reply::Done, b"b", 7, 2, 0, 3, (1, 0)),
-        (Call::Undo, Reply::Done, b"a", 1, 1, 1, 4, (0, 1)),
-        (Call::Redo, Reply::Done, b"b", 7, 2, 0, 5, (1, 0)),
-        (Call::Undo, Reply::Done, b"a", 1, 1, 1, 6, (0, 1)),
-        // A group with no step makes none, and keeps what can be redone.
-        (Call::Begin, Reply::Done, b"a", 1, 1, 1, 6, (0, 1)),
-        (Call::End, Reply::Done, b"a", 1, 1, 1, 6, (0, 1)),
-        // A group redone in a group gives its changes singly.
-        (Call::Begin, Reply::Done, b"a", 1, 1, 1, 6, (0, 1)),
+        // A group turns each of its changes.
+        (Call::Undo, Reply::Done, b"a", 1, 1, 1, 5, (0, 1)),
         (Call::Redo, Reply::Done, b"b", 7, 2, 0, 7, (1, 0)),
-        (Call::Push(b'c', 3), Reply::Done, b"bc", 3, 3, 0, 8, (1, 0)),
-        (Call::End, Reply::Done, b"bc", 3, 2, 0, 8, (1, 0)),
-        (Call::Undo, Reply::Done, b"a", 1, 1, 1, 9, (0, 2)),
-        (Call::Redo, Reply::Done, b"bc", 3, 2, 0, 10, (1, 0)),
+        (Call::Undo, Reply::Done, b"a", 1, 1, 1, 9, (0, 1)),
+        // A group with no step makes none, and keeps what can be redone.
+        (Call::Begin, Reply::Done, b"a", 1, 1, 1, 9, (0, 1)),
+        (Call::End, Reply::Done, b"a", 1, 1, 1, 9, (0, 1)),
+        // A group redone in a group gives its changes singly.
+        (Call::Begin, Reply::Done, b"a", 1, 1, 1, 9, (0, 1)),
+        (Call::Redo, Reply::Done, b"b", 7, 2, 0, 11, (1, 0)),
+        (Call::Push(b'c', 3), Reply::Done, b"bc", 3, 3, 0, 12, (1, 0)),
+        (Call::End, Reply::Done, b"bc", 3, 2, 0, 12, (1, 0)),
+        (Call::Undo, Reply::Done, b"a", 1, 1, 1, 15, (0, 2)),
+        (Call::Redo, Reply::Done, b"bc", 3, 2, 0, 18, (1, 0)),
         // One step alone stays as it is.
-        (Call::Begin, Reply::Done, b"bc", 3, 2, 0, 10, (1, 0)),
-        (Call::Pop(8), Reply::Done, b"b", 8, 3, 0, 11, (2, 0)),
-        (Call::End, Reply::Done, b"b", 8, 3, 0, 11, (2, 0)),
-        (Call::Undo, Reply::Done, b"bc", 3, 2, 1, 12, (1, 0)),
+        (Call::Begin, Reply::Done, b"bc", 3, 2, 0, 18, (1, 0)),
+        (Call::Pop(8), Reply::Done, b"b", 8, 3, 0, 19, (2, 0)),
+        (Call::End, Reply::Done, b"b", 8, 3, 0, 19, (2, 0)),
+        (Call::Undo, Reply::Done, b"bc", 3, 2, 1, 20, (1, 0)),
     ];
     check(&rt, rt.alloc(), &rows);
     Ok(())

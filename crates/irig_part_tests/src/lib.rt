@@ -6,6 +6,8 @@ mod codes;
 #[cfg(test)]
 mod dumps;
 #[cfg(test)]
+mod edges;
+#[cfg(test)]
 mod gaps;
 #[cfg(test)]
 mod indexes;

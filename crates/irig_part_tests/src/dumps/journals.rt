@@ -3,6 +3,7 @@
 ghost use Rattle.std.specs.Prelude.{◌≤◌, ◌^◌, length};
 
 use super::Wanted::{Edges, Fault};
+use super::cuts::cuts_agree;
 use super::{Row, check, check_rows, dump_of};
 use irig_vcd::{VcdFault, read_parts};
 use std::alloc::Global;
@@ -18,11 +19,12 @@ fn gives(alloc: Global, dump: &[u8], want: Result<&[u8], VcdFault>) -> bool
     }
 }
 
-/// The journal of the dump of these changes, or the fault, is what is wanted.
+/// The journal of the dump of these changes, or the fault, is what is wanted, wherever it is cut.
 fn check_journal(rt: &impl Abort, alloc: Global, changes: &str, want: Result<&[u8], VcdFault>) {
     let dump = dump_of(alloc, changes).expect(rt, "a dump");
     assert!(rt; dump.len() <= 1 << 28);
     assert!(rt; gives(alloc, dump.as_slice(), want));
+    assert!(rt; cuts_agree(alloc, dump.as_slice(), None));
 }
 
 /// Changes with a comment, and the journal in it.

@@ -2,6 +2,7 @@
 
 use super::HEADER;
 use crate::dumps::plain::plain_edges;
+use crate::edges::have_edges;
 use irig_vcd::read;
 use std::alloc::{AllocError, Global};
 
@@ -67,7 +68,7 @@ fn has_edges(alloc: Global, dump: &Dump, edges: &[u64]) -> bool {
         return false;
     }
     match read(alloc, dump.text.as_slice(), None) {
-        Ok(recording) => recording.length() == dump.time && recording.edges() == edges,
+        Ok(recording) => recording.length() == dump.time && have_edges(recording.pulses(), edges),
         Err(_) => false,
     }
 }

@@ -7,9 +7,9 @@ use std::alloc::{AllocError, Global};
 
 /// The text of a length and edges.
 fn lines_of(alloc: Global, length: u64, edges: &[u64]) -> Result<Vec<u8>, AllocError> {
-    match Recording::new(length, edges.to_vec(alloc)?) {
-        Ok(recording) => text(alloc, &recording),
-        Err(_) => Err(AllocError),
+    match Recording::new(alloc, length, edges)? {
+        Some(recording) => text(alloc, &recording),
+        None => Err(AllocError),
     }
 }
 
@@ -70,19 +70,16 @@ fn full_dump(alloc: Global) -> Result<Vec<u8>, AllocError> {
     for edge in 0..1u64 << 23 {
         edges.push(edge)?;
     }
-    match Recording::new(1 << 23, edges) {
-        Ok(recording) => text(alloc, &recording),
-        Err(_) => Err(AllocError),
-    }
+    lines_of(alloc, 1 << 23, edges.as_slice())
 }
 
-/// How many edges are read, or the fault.
+/// How many pulses are read, or the fault.
 fn count_of(alloc: Global, dump: &[u8]) -> Result<usize, VcdFault> {
     if dump.len() > 1 << 28 {
         return Err(VcdFault::Unclosed);
     }
     match read(alloc, dump, None) {
-        Ok(recording) => Ok(recording.edges().len()),
+        Ok(recording) => Ok(recording.pulses().len()),
         Err(fault) => Err(fault),
     }
 }
@@ -93,7 +90,7 @@ const MORE: &[u8] = b"1!\n#8388609\n0!\n";
 #[test]
 fn a_pulse_above_the_limit_is_told(rt: HostRuntime) {
     let mut dump = full_dump(rt.alloc()).expect(&rt, "a dump");
-    assert!(rt; count_of(rt.alloc(), dump.as_slice()) == Ok(1 << 23));
+    assert!(rt; count_of(rt.alloc(), dump.as_slice()) == Ok(1 << 22));
     assert!(rt; dump.extend_from_slice(MORE).is_ok());
     assert!(rt; count_of(rt.alloc(), dump.as_slice()) == Err(VcdFault::TooManyPulses));
 }

@@ -38,9 +38,9 @@ fn width(hundredths: u64, element: u64) -> u64
 
 /// The track of these edges.
 fn track_of(alloc: Global, length: u64, edges: Vec<u64>) -> Result<Track, AllocError> {
-    match Recording::new(length, edges) {
-        Ok(recording) => Track::new(alloc, recording),
-        Err(_) => Err(AllocError),
+    match Recording::new(alloc, length, edges.as_slice())? {
+        Some(recording) => Track::new(recording),
+        None => Err(AllocError),
     }
 }
 

@@ -5,6 +5,7 @@
 ghost use Rattle.std.specs.Prelude.{◌<◌};
 
 use super::helpers::{check_edges, pulses_of, shift, splice, toggle, track_of};
+use crate::edges::edges_of;
 use irig_track::{Span, Track};
 use std::alloc::{AllocError, Global};
 use std::process::Abort;
@@ -170,7 +171,8 @@ fn check_splice(
     let mut track = track_in(alloc, length, bits)?.expect(rt, "a track");
     let there = at.saturating_add(count) <= edges.len() / 2;
     let come = put.recording(alloc)?;
-    let times = spliced(alloc, edges.as_slice(), at, count, come.edges())?;
+    let come = edges_of(alloc, come.pulses())?;
+    let times = spliced(alloc, edges.as_slice(), at, count, come.as_slice())?;
     let mut pulses = pulses_of(alloc, put)?;
     let answer = splice(rt, alloc, &mut track, at, count, &mut pulses)?;
     if there && may_be_edges(times.as_slice(), length) {

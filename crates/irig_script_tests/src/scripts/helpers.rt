@@ -8,7 +8,6 @@ use std::alloc::Global;
 /// A session in format G 2 with pulses 100 to 120 and 200 to 280 in a track of 1,000 microseconds.
 pub fn two_pulses(alloc: Global) -> Option<Session> {
     let format = Format::new(Kind::G, 2).ok()?;
-    let edges = Vec::from_slice(alloc, &[100, 120, 200, 280]).ok()?;
-    let recording = Recording::new(1_000, edges).ok()?;
+    let recording = Recording::new(alloc, 1_000, &[100, 120, 200, 280]).ok()??;
     Session::open(alloc, recording, format).ok()
 }

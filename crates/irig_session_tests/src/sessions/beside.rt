@@ -20,7 +20,7 @@ impl Beside {
     /// Both in format G 2 on a track of this length with these edges, if they are those of a track.
     pub fn open(alloc: Global, length: u64, edges: Vec<u64>) -> Option<Beside> {
         let format = Format::new(Kind::G, 2).ok()?;
-        let recording = Recording::new(length, edges.clone().ok()?).ok()?;
+        let recording = Recording::new(alloc, length, edges.as_slice()).ok()??;
         let session = Session::open(alloc, recording, format).ok()?;
         let machine = Machine::new(alloc, Plain::new(length, edges, format));
         Some(Beside { session, machine })

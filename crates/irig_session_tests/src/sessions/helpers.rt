@@ -30,8 +30,7 @@ pub enum Call {
 /// A session in format G 2 on a track with these edges, if they are those of a track.
 pub fn open(alloc: Global, length: u64, edges: &[u64]) -> Option<Session> {
     let format = Format::new(Kind::G, 2).ok()?;
-    let edges = Vec::from_slice(alloc, edges).ok()?;
-    let recording = Recording::new(length, edges).ok()?;
+    let recording = Recording::new(alloc, length, edges).ok()??;
     Session::open(alloc, recording, format).ok()
 }
 
