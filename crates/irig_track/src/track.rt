@@ -51,6 +51,7 @@ impl Track {
         ensures length { IfOk result (λ t. t.micros ≡ recording.micros) }
         ensures edges { IfOk result (λ t. edges_of t.pulses ≡ recording.edges) }
         ensures spare { IfOk result (λ t. 1024 ≤ t.spare) }
+        ensures bounded { IfOk result (λ t. t.spare ≤ length t.pulses + 1536) }
     {
         let micros = recording.length();
         let mut pulses = Gap::from_vec(recording.into_pulses());
@@ -64,11 +65,22 @@ impl Track {
             r ≡ recording_view self.now.micros (edges_of self.now.pulses)) }
         ensures refused { OnErr result (0 < length self.now.pulses) }
     {
-        let mut pulses = Vec::with_capacity(alloc, self.pulses.len())?;
+        let edges = self.edges(alloc)?;
+        Ok(Recording::new(alloc, self.micros, edges.as_slice())?.unwrap())
+    }
+
+    /// The times at which the level rises and falls in turn.
+    fn edges(&self, alloc: Global) -> Result<Vec<u64>, AllocError>
+        ensures exact { IfOk result (λ edges. edges.items ≡ edges_of self.now.pulses) }
+        ensures refused { OnErr result (0 < length self.now.pulses) }
+    {
+        let mut edges = Vec::with_capacity(alloc, 2 * self.pulses.len())?;
         for index in 0..self.pulses.len() {
-            pulses.push(self.pulses.get(index))?;
+            let pulse = self.pulses.get(index);
+            edges.push_reserved(pulse.rise);
+            edges.push_reserved(pulse.fall);
         }
-        Ok(Recording::from_parts(self.micros, pulses))
+        Ok(edges)
     }
 
     /// The text of the recording with the track's length and edges, as `irig_vcd::text` writes it.

@@ -1,7 +1,7 @@
 //! Edges that are kept as pulses.
 
 ghost use Rattle.std.specs.Prelude.{◌≡◌, ◌≤◌, ◌<◌, ◌+◌, ◌^◌, ◌↔◌, ◌∷◌, [], ◌++◌, true, false, not};
-ghost use Rattle.std.specs.Prelude.{length, IsTrue, OnOk};
+ghost use Rattle.std.specs.Prelude.{◌*◌, length, vec_capacity, vec_len, IsTrue, OnErr, OnOk};
 ghost use Rattle.irig_vcd.specs.Code.Edges.{edges_kept};
 ghost use Rattle.irig_vcd.specs.Pulses.{edges_of};
 ghost use Rattle.irig_vcd.specs.Recording.{is_even_long};
@@ -13,6 +13,9 @@ use std::marker::Model;
 /// The most pulses of a recording.
 const PULSES_LIMIT: usize = 1 << 22;
 
+/// How many pulses a first block has room for.
+const FIRST_ROOM: usize = 1024;
+
 /// The times at which a level rises and falls in turn, in microseconds. At most one more is kept
 /// than a recording may have.
 #[derive(Drop)]
@@ -23,14 +26,16 @@ pub struct Edges {
 }
 
 impl Model for Edges {
-    ghost use Rattle.std.specs.Prelude.{ℕ, List, length, ◌≤◌, ◌^◌};
+    ghost use Rattle.std.specs.Prelude.{ℕ, List, length, vec_capacity, vec_len, ◌≤◌, ◌^◌, ◌*◌};
+    ghost use Rattle.std.specs.Prelude.{◌+◌};
     ghost use Rattle.irig_vcd.specs.Code.Edges.{kept_edges};
 
     ghost Value = { List ℕ };
 
     ghost view = { λ e. kept_edges e.pulses.items e.is_open e.rise };
 
-    ghost invariant = { λ e. length e.pulses.items ≤ 2 ^ 22 };
+    ghost invariant = { λ e. (length e.pulses.items ≤ 2 ^ 22)
+        × (vec_capacity e.pulses ≤ 2 * vec_len e.pulses + 1024) };
 }
 
 impl Edges {
@@ -74,7 +79,7 @@ impl Edges {
     {
         if self.is_open {
             let rise = self.rise;
-            self.pulses.push(Pulse { rise, fall: edge })?;
+            put(&mut self.pulses, Pulse { rise, fall: edge })?;
             self.is_open = false;
         } else {
             self.rise = edge;
@@ -91,7 +96,7 @@ impl Edges {
         ensures { OnOk result (self.new ≡ self.old ++ fall ∷ rise ∷ []) }
     {
         let last = self.rise;
-        self.pulses.push(Pulse { rise: last, fall })?;
+        put(&mut self.pulses, Pulse { rise: last, fall })?;
         self.rise = rise;
         Ok(())
     }
@@ -99,8 +104,38 @@ impl Edges {
     /// The pulses of the edges, none of which is copied.
     pub fn into_pulses(self) -> Vec<Pulse>
         requires { is_even_long self ≡ true }
-        ensures { edges_of result.items ≡ self }
+        ensures edges { edges_of result.items ≡ self }
+        ensures room { vec_capacity result ≤ 2 * vec_len result + 1024 }
     {
         self.pulses
     }
+}
+
+/// Adds a pulse after the others.
+#[inline(always)]
+fn put(pulses: &mut Vec<Pulse>, pulse: Pulse) -> Result<(), AllocError>
+    requires few { vec_len pulses.old ≤ 2 ^ 22 }
+    requires room { vec_capacity pulses.old ≤ 2 * vec_len pulses.old + 1024 }
+    ensures put { OnOk result (pulses.new.items ≡ pulses.old.items ++ pulse ∷ []) }
+    ensures refused { OnErr result (pulses.new.items ≡ pulses.old.items) }
+    ensures room { vec_capacity pulses.new ≤ 2 * vec_len pulses.new + 1024 }
+{
+    if pulses.len() == pulses.capacity() {
+        grow(pulses)?;
+    }
+    pulses.push_reserved(pulse);
+    Ok(())
+}
+
+/// Makes a full block twice as large.
+#[inline(never)]
+fn grow(pulses: &mut Vec<Pulse>) -> Result<(), AllocError>
+    requires few { vec_len pulses.old ≤ 2 ^ 22 }
+    requires full { vec_capacity pulses.old ≡ vec_len pulses.old }
+    ensures items { pulses.new.items ≡ pulses.old.items }
+    ensures grown { OnOk result (vec_len pulses.new < vec_capacity pulses.new) }
+    ensures room { vec_capacity pulses.new ≤ 2 * vec_len pulses.new + 1024 }
+{
+    let more = pulses.len().max(FIRST_ROOM);
+    pulses.reserve_exact(more)
 }

@@ -15,7 +15,8 @@ from_parts-requires c =
     let few : length c.args.edges ≤ 8388608 = not_full (length c.args.edges) c.is_full.result c.is_full.ensures.1 c.if-is_full.false in
     let kept = c.requires.kept in
     record {
-      lawful = subst (IsRecording c.args.end) (sym c.into_pulses.ensures)
+      room = c.into_pulses.ensures.room;
+      lawful = subst (IsRecording c.args.end) (sym c.into_pulses.ensures.edges)
           (is_lawful kept.0 c.args.end c.args.edges (few_edges kept.0 c.args.end c.args.edges kept.1 few) c.requires.short few);
     }
 
@@ -23,4 +24,4 @@ pub returns-clause-exact : goal.returns-clause-exact
 returns-clause-exact c = λ changes is.
     let few : length c.args.edges ≤ 8388608 = not_full (length c.args.edges) c.is_full.result c.is_full.ensures.1 c.if-is_full.false in
     few_enough changes c.args.end c.args.edges (few_edges changes c.args.end c.args.edges is few) few
-    ∙ ap Ok (ap (recording_view c.args.end) (sym c.into_pulses.ensures) ∙ sym c.from_parts.ensures)
+    ∙ ap Ok (ap (recording_view c.args.end) (sym c.into_pulses.ensures.edges) ∙ sym c.from_parts.ensures)

@@ -1,4 +1,4 @@
-use Rattle.std.proofs.Common.{◌≡◌, ◌∙◌, ◌∷◌, ◌++◌, [], arith, rules, sym, ap, length, length-append}
+use Rattle.std.proofs.Common.{◌≡◌, ◌∙◌, ◌∷◌, ◌++◌, [], arith, sym, ap, length, length-append}
 use Rattle.irig_vcd.specs.Code.Edges.{edges_kept, kept_edges}
 use Rattle.irig_vcd.specs.Pulses.{pulse}
 use Rattle.irig_vcd.proofs.PulseEdges.{count_open, closed_and_opened, open_odd}
@@ -8,15 +8,15 @@ pub invariant_of-self-2 : goal.invariant_of-self-2
 unfolding edges_kept
 invariant_of-self-2 c =
     let ps = c.self.inside.pulses.items in
-    let pushed : c.push.new.self.items ≡ ps ++ pulse c.self.inside.rise c.args.fall ∷ [] = search rules in
+    let pushed : c.put.new.pulses.items ≡ ps ++ pulse c.self.inside.rise c.args.fall ∷ [] = c.in_ok-put.ensures.put in
     let up = open_odd ps c.self.inside.is_open c.self.inside.rise c.args.self.now c.self.view_is c.requires.risen in
     let count = count_open ps c.self.inside.is_open c.self.inside.rise c.args.self.now c.self.view_is up in
-    omega (arith, count, c.requires.room, ap length pushed, length-append ps (pulse c.self.inside.rise c.args.fall ∷ []))
+    (omega (arith, count, c.requires.room, ap length pushed, length-append ps (pulse c.self.inside.rise c.args.fall ∷ [])), c.put.ensures.room)
 
 pub returns : goal.returns
 returns c =
     let ps = c.self.inside.pulses.items in
-    let pushed : c.push.new.self.items ≡ ps ++ pulse c.self.inside.rise c.args.fall ∷ [] = search rules in
+    let pushed : c.put.new.pulses.items ≡ ps ++ pulse c.self.inside.rise c.args.fall ∷ [] = c.in_ok-put.ensures.put in
     let up = open_odd ps c.self.inside.is_open c.self.inside.rise c.args.self.now c.self.view_is c.requires.risen in
     ap (λ ps. kept_edges ps c.self.inside.is_open c.args.rise) pushed
     ∙ ap (λ b. kept_edges (ps ++ pulse c.self.inside.rise c.args.fall ∷ []) b c.args.rise) up
