@@ -49,11 +49,11 @@ unfolding journals_in
 journals_behind wire bytes s ws h = ap journals_among (words_after wire (words_of bytes) s ws h)
 
 -- the words of a text are in their order, from a place on and before another
-abbrev Ordered : ℕ → ℕ → List Word → Type 0
+abbrev pub Ordered : ℕ → ℕ → List Word → Type 0
 Ordered low top [] = Unit {0}
 Ordered low top (w ∷ ws) = (low ≤ w.offset) × (w.offset < top) × Ordered w.offset top ws
 
-from_before : (low first top : ℕ) (ws : List Word) → low ≤ first → Ordered first top ws → Ordered low top ws
+pub from_before : (low first top : ℕ) (ws : List Word) → low ≤ first → Ordered first top ws → Ordered low top ws
 from_before low first top [] le o = tt
 from_before low first top (w ∷ ws) le o = (omega (arith, le, o.0), o.1, o.2)
 
@@ -63,7 +63,7 @@ one_more true inside low at top w x y is le lt h k = h
 one_more false true low at top w x y is le lt h k = from_before low at top y le k
 one_more false false low at top w x y is le lt h k = (omega (arith, le, is), omega (arith, lt, is), from_before w.offset at top y (omega (arith, is)) k)
 
-words_ordered : (bytes : List ℕ) (low at top : ℕ) (inside : Bool) → low ≤ at → at + length bytes ≡ top → Ordered low top (words_from at inside bytes)
+pub words_ordered : (bytes : List ℕ) (low at top : ℕ) (inside : Bool) → low ≤ at → at + length bytes ≡ top → Ordered low top (words_from at inside bytes)
 words_ordered [] low at top inside le is = tt
 words_ordered (b ∷ bs) low at top inside le is =
     let rest : at + 1 + length bs ≡ top = omega (arith, is) in

@@ -33,6 +33,7 @@ pub mod RecordingLemmas
 pub mod PulseEdges
 -- The whole of a dump.
 pub mod WholeDump
+pub mod Gathered
 pub mod PartSteps
 -- The text of a recording, its words and its changes: what is written is read back.
 pub mod TextParts

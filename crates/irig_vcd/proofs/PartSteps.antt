@@ -2,11 +2,13 @@
 use Rattle.std.proofs.Common.{◌≡◌, ◌++◌, ◌+◌, [], ℕ, false, List, Option, Some, None, Result, Ok, Err, OnOk, IfOk, IfErr, length, take, refl, ap, sym, subst, ◌∙◌}
 use Rattle.std.proofs.Common.{append_assoc, drop, ◌≤◌, arith, length-append}
 use Rattle.std.proofs.lemmas.List.{append-nil, length-take-le, take-append-drop}
-use Rattle.irig_vcd.specs.Answer.{◌>>=◌, IsFaultOf}
+use Rattle.irig_vcd.specs.Answer.{◌>>=◌, IsFaultOf, bytes_of}
 use Rattle.irig_vcd.specs.Changes.{changes_from}
 use Rattle.irig_vcd.specs.Code.Along.{Total}
-use Rattle.irig_vcd.specs.Code.DumpReader.{HasRead, HasReadWords, IsNew, Stage, kept_name, read_words, told_words}
+use Rattle.irig_vcd.specs.Code.DumpReader.{HasRead, HasReadWords, IsNew, Stage, read_words, told_words}
+use Rattle.irig_vcd.specs.Code.Gathered.{gathered, part_at, so_far}
 use Rattle.irig_vcd.specs.Code.Joins.{ends_inside}
+use Rattle.irig_vcd.specs.Code.Journals.{place_view}
 use Rattle.irig_vcd.specs.Code.Reached.{HasReached, HasReachedFrom, Told}
 use Rattle.irig_vcd.specs.Declarations.{declarations_of}
 use Rattle.irig_vcd.specs.Dump.{dump, recorded}
@@ -15,9 +17,10 @@ use Rattle.irig_vcd.specs.Journals.{journals_among, journals_in}
 use Rattle.irig_vcd.specs.Level.{Change}
 use Rattle.irig_vcd.specs.Parts.{dump_parts}
 use Rattle.irig_vcd.specs.Words.{Word, words_from, words_of}
-use Rattle.irig_vcd.specs.declared.dump_reader.DumpReader.{DumpReader}
+use Rattle.irig_vcd.specs.declared.progress.Progress.{Progress}
 use Rattle.irig_vcd.specs.declared.fault.VcdFault.{VcdFault}
 use Rattle.irig_vcd.specs.declared.reading.Reading.{Reading}
+use Rattle.irig_vcd.proofs.Gathered.{more_gathered}
 use Rattle.irig_vcd.proofs.JournalPlaces.{words_after}
 use Rattle.irig_vcd.proofs.Joins.{ends_inside-append, words_from-apart}
 use Rattle.irig_vcd.proofs.MoreWords.{declared_more}
@@ -171,22 +174,24 @@ put_fault wire front held more n gone e place closed cut fails =
     (subst (λ (l : List Word). IsFaultOf e (read_words wire l)) (sym words) (fails (words_from (length x) false y)))
 
 -- a part is read
-pub put_read : (wire : Option (List ℕ)) (bytes part : List ℕ) (old mid new : DumpReader) (held : List ℕ) (n unit : ℕ)
+pub put_read : (wire : Option (List ℕ)) (bytes part : List ℕ) (old mid new : Progress) (held : List ℕ) (n unit : ℕ)
     → held ≡ old.held.items ++ part → n ≤ length held → ends_inside false (take n held) ≡ false
     → mid.held.items ≡ held → mid.gone ≡ old.gone → mid.wire ≡ old.wire
     → new.held.items ≡ drop n mid.held.items → new.gone ≡ mid.gone + n → new.wire ≡ mid.wire → new.unit ≡ mid.unit → new.code ≡ mid.code
     → new.reading ≡ mid.reading
-    → ((words : List Word) → Stage (kept_name old.wire) words old.unit old.code.items old.reading → (old.unit ≡ None → old.gone ≡ 0)
-    → (mid.unit ≡ Some unit) × HasReadWords (kept_name old.wire) (words ++ words_from old.gone false (take n held)) unit mid.code.items mid.reading)
+    → new.journal.items ≡ old.journal.items
+    ++ part_at (so_far (place_view mid.reading.journals.first) mid.reading.pending (old.gone + n)) old.gone (take n held)
+    → ((words : List Word) → Stage (bytes_of old.wire) words old.unit old.code.items old.reading → (old.unit ≡ None → old.gone ≡ 0)
+    → (mid.unit ≡ Some unit) × HasReadWords (bytes_of old.wire) (words ++ words_from old.gone false (take n held)) unit mid.code.items mid.reading)
     → HasRead wire bytes old → HasRead wire (bytes ++ part) new
-put_read wire bytes part old mid new held n unit is within cut mheld mgone mwire nheld ngone nwire nunit ncode nreading reads r =
+put_read wire bytes part old mid new held n unit is within cut mheld mgone mwire nheld ngone nwire nunit ncode nreading njournal reads r =
     let front = r.front ++ take n held in
     let got = reads (words_of r.front) (subst (λ (w : Option (List ℕ)). Stage w (words_of r.front) old.unit old.code.items old.reading) (sym r.name) r.stage)
     r.none in
     let words : words_of front ≡ words_of r.front ++ words_from old.gone false (take n held) = front_words r.front (take n held) old.gone r.place r.closed in
     let some : new.unit ≡ Some unit = nunit ∙ got.0 in
     record {
-      name = ap kept_name (nwire ∙ mwire) ∙ r.name;
+      name = ap bytes_of (nwire ∙ mwire) ∙ r.name;
       front = front;
       whole = ap (λ (l : List ℕ). l ++ part) r.whole ∙ (append_assoc r.front old.held.items part
           ∙ (ap (λ (l : List ℕ). r.front ++ l) (sym is ∙ sym (take-append-drop n held)) ∙ (sym (append_assoc r.front (take n held) (drop n held))
@@ -197,8 +202,17 @@ put_read wire bytes part old mid new held n unit is within cut mheld mgone mwire
           omega (arith, sum, long, r.place, mgone, ngone);
       closed = outside_both r.front (take n held) r.closed cut;
       stage = rw (some, ncode, nreading) (subst (λ (w : Option (List ℕ)). HasReadWords w (words_of front) unit mid.code.items mid.reading) r.name
-          (subst (λ (l : List Word). HasReadWords (kept_name old.wire) l unit mid.code.items mid.reading) (sym words) got.1));
+          (subst (λ (l : List Word). HasReadWords (bytes_of old.wire) l unit mid.code.items mid.reading) (sym words) got.1));
       none = λ no. let both : Some unit ≡ None = sym some ∙ no in absurd (cc both);
+      journal =
+          let long : length (take n held) ≡ n = length-take-le n held within in
+          let words = words_of r.front ++ words_from old.gone false (take n held) in
+          let more = more_gathered wire r.front (take n held) old.unit old.code.items mid.code.items unit old.gone (old.gone + n) old.reading mid.reading
+          r.place (omega (arith, long)) r.stage r.none
+          (subst (λ (w : Option (List ℕ)). HasReadWords w words unit mid.code.items mid.reading) r.name got.1) in
+          let there = njournal ∙ (ap (λ (l : List ℕ). l ++ part_at (so_far (place_view mid.reading.journals.first) mid.reading.pending (old.gone + n)) old.gone
+          (take n held)) r.journal ∙ more) in
+          rw nreading there;
     }
 
 -- what the dump is, after all words are read
@@ -217,36 +231,52 @@ unfolding journals_in
 told_in bytes = ap told_words (append-nil (words_of bytes))
 
 -- the words of all bytes
-pub all_words : (wire : Option (List ℕ)) (bytes : List ℕ) (s : DumpReader) (whole : ℕ) → take whole s.held.items ≡ s.held.items → HasRead wire bytes s
+pub all_words : (wire : Option (List ℕ)) (bytes : List ℕ) (s : Progress) (whole : ℕ) → take whole s.held.items ≡ s.held.items → HasRead wire bytes s
     → (r : HasRead wire bytes s) → words_of bytes ≡ words_of r.front ++ words_from s.gone false (take whole s.held.items)
 all_words wire bytes s whole all h r =
     ap words_of r.whole ∙ (front_words r.front s.held.items s.gone r.place r.closed
     ∙ ap (λ (l : List ℕ). words_of r.front ++ words_from s.gone false l) (sym all))
 
-pub last_fault : (wire : Option (List ℕ)) (bytes : List ℕ) (s : DumpReader) (whole : ℕ) (e : VcdFault) → take whole s.held.items ≡ s.held.items
-    → ((words more : List Word) → Stage (kept_name s.wire) words s.unit s.code.items s.reading → (s.unit ≡ None → s.gone ≡ 0)
-    → IsFaultOf e (read_words (kept_name s.wire) ((words ++ words_from s.gone false (take whole s.held.items)) ++ more)))
+pub last_fault : (wire : Option (List ℕ)) (bytes : List ℕ) (s : Progress) (whole : ℕ) (e : VcdFault) → take whole s.held.items ≡ s.held.items
+    → ((words more : List Word) → Stage (bytes_of s.wire) words s.unit s.code.items s.reading → (s.unit ≡ None → s.gone ≡ 0)
+    → IsFaultOf e (read_words (bytes_of s.wire) ((words ++ words_from s.gone false (take whole s.held.items)) ++ more)))
     → HasRead wire bytes s → IsFaultOf e (dump_parts wire bytes)
 last_fault wire bytes s whole e all fails r =
     let stage = subst (λ (w : Option (List ℕ)). Stage w (words_of r.front) s.unit s.code.items s.reading) (sym r.name) r.stage in
     end_fault wire bytes e (subst (λ (w : Option (List ℕ)). IsFaultOf e (read_words w (words_of bytes ++ []))) r.name
-    (subst (λ (l : List Word). IsFaultOf e (read_words (kept_name s.wire) (l ++ []))) (sym (all_words wire bytes s whole all r r))
+    (subst (λ (l : List Word). IsFaultOf e (read_words (bytes_of s.wire) (l ++ []))) (sym (all_words wire bytes s whole all r r))
     (fails (words_of r.front) [] stage r.none)))
 
-pub last_read : (wire : Option (List ℕ)) (bytes : List ℕ) (s : DumpReader) (whole unit : ℕ) (mid : Option ℕ) (code : List ℕ) (reading : Reading)
+pub last_read : (wire : Option (List ℕ)) (bytes : List ℕ) (s : Progress) (whole unit : ℕ) (mid : Option ℕ) (code : List ℕ) (reading : Reading)
     → take whole s.held.items ≡ s.held.items
-    → ((words : List Word) → Stage (kept_name s.wire) words s.unit s.code.items s.reading → (s.unit ≡ None → s.gone ≡ 0)
-    → (mid ≡ Some unit) × HasReadWords (kept_name s.wire) (words ++ words_from s.gone false (take whole s.held.items)) unit code reading)
+    → ((words : List Word) → Stage (bytes_of s.wire) words s.unit s.code.items s.reading → (s.unit ≡ None → s.gone ≡ 0)
+    → (mid ≡ Some unit) × HasReadWords (bytes_of s.wire) (words ++ words_from s.gone false (take whole s.held.items)) unit code reading)
     → HasRead wire bytes s → HasReadWords wire (words_of bytes) unit code reading
 last_read wire bytes s whole unit mid code reading all reads r =
     let stage = subst (λ (w : Option (List ℕ)). Stage w (words_of r.front) s.unit s.code.items s.reading) (sym r.name) r.stage in
     subst (λ (w : Option (List ℕ)). HasReadWords w (words_of bytes) unit code reading) r.name
-    (subst (λ (l : List Word). HasReadWords (kept_name s.wire) l unit code reading) (sym (all_words wire bytes s whole all r r))
+    (subst (λ (l : List Word). HasReadWords (bytes_of s.wire) l unit code reading) (sym (all_words wire bytes s whole all r r))
     (reads (words_of r.front) stage r.none).1)
 
+-- the bytes that are left are gathered
+pub last_gathered : (wire : Option (List ℕ)) (bytes : List ℕ) (s : Progress) (whole unit : ℕ) (mid : Option ℕ) (code journal : List ℕ) (reading : Reading)
+    → whole ≡ length s.held.items → take whole s.held.items ≡ s.held.items
+    → journal ≡ s.journal.items ++ part_at (so_far (place_view reading.journals.first) reading.pending (s.gone + whole)) s.gone (take whole s.held.items)
+    → ((words : List Word) → Stage (bytes_of s.wire) words s.unit s.code.items s.reading → (s.unit ≡ None → s.gone ≡ 0)
+    → (mid ≡ Some unit) × HasReadWords (bytes_of s.wire) (words ++ words_from s.gone false (take whole s.held.items)) unit code reading)
+    → HasRead wire bytes s → journal ≡ gathered reading bytes
+last_gathered wire bytes s whole unit mid code journal reading long all is reads r =
+    let stage = subst (λ (w : Option (List ℕ)). Stage w (words_of r.front) s.unit s.code.items s.reading) (sym r.name) r.stage in
+    let part = take whole s.held.items in
+    let same : length part ≡ length s.held.items = ap length all in
+    let more = more_gathered (bytes_of s.wire) r.front part s.unit s.code.items code unit s.gone (s.gone + whole) s.reading reading r.place
+    (omega (arith, long, same)) stage r.none (reads (words_of r.front) stage r.none).1 in
+    is ∙ (ap (λ (l : List ℕ). l ++ part_at (so_far (place_view reading.journals.first) reading.pending (s.gone + whole)) s.gone part) r.journal
+    ∙ (more ∙ ap (gathered reading) (ap (λ (l : List ℕ). r.front ++ l) all ∙ sym r.whole)))
+
 -- the declarations of all bytes are at fault
-pub last_early : (wire : Option (List ℕ)) (bytes : List ℕ) (s : DumpReader) (whole : ℕ) (e : VcdFault) → take whole s.held.items ≡ s.held.items
-    → s.unit ≡ None → declarations_of (kept_name s.wire) (words_of (take whole s.held.items)) ≡ Err e
+pub last_early : (wire : Option (List ℕ)) (bytes : List ℕ) (s : Progress) (whole : ℕ) (e : VcdFault) → take whole s.held.items ≡ s.held.items
+    → s.unit ≡ None → declarations_of (bytes_of s.wire) (words_of (take whole s.held.items)) ≡ Err e
     → HasRead wire bytes s → IsFaultOf e (dump_parts wire bytes)
 last_early wire bytes s whole e all none h r =
     let stage = subst (λ (u : Option ℕ). Stage wire (words_of r.front) u s.code.items s.reading) none r.stage in

@@ -17,4 +17,5 @@ pub mod Trace
 pub mod Along
 pub mod Reached
 pub mod Part
+pub mod Gathered
 pub mod DumpReader

@@ -2,10 +2,11 @@
 
 ghost use Rattle.std.specs.Prelude.{◌≡◌, ◌≤◌, ◌++◌, ◌∷◌, [], ℕ, List, None, Some, IfErr, IfOk};
 ghost use Rattle.irig_vcd.specs.declared.fault.VcdFault.TheVariants.{BadJournal};
-ghost use Rattle.std.specs.Prelude.{IfSome, codes, length, map};
+ghost use Rattle.std.specs.Prelude.{IfSome, codes, length, map, vec_len};
 ghost use Rattle.std.specs.Str.{bytes_eq};
-ghost use Rattle.irig_vcd.specs.Answer.{Gives, name_of};
-ghost use Rattle.irig_vcd.specs.Code.Journals.{Holds, LiesIn, text_at};
+ghost use Rattle.irig_vcd.specs.Answer.{Gives, bytes_of, name_of};
+ghost use Rattle.irig_vcd.specs.Code.Gathered.{part_at, so_far};
+ghost use Rattle.irig_vcd.specs.Code.Journals.{Holds, LiesIn, place_view, text_at};
 ghost use Rattle.irig_vcd.specs.Code.Pending.{Begins, ReadsTo};
 ghost use Rattle.irig_vcd.specs.Code.Token.{word_of};
 ghost use Rattle.irig_vcd.specs.Events.{comment_word};
@@ -23,6 +24,18 @@ use crate::token::{Token, Tokens};
 pub struct Place {
     pub start: usize,
     pub end: usize,
+}
+
+impl Place {
+    /// The bytes at it that a part has, which comes after that many bytes.
+    pub fn within<'a>(self, part: &'a [u8], gone: usize) -> &'a [u8]
+        ensures bytes { result.now ≡ part_at (Some (self.start, self.end)) gone part.now }
+        ensures short { length result.now ≤ length part.now }
+    {
+        let end = self.end.saturating_sub(gone).min(part.len());
+        let start = self.start.saturating_sub(gone).min(end);
+        &part[start..end]
+    }
 }
 
 /// The journals so far: the place of the first, and whether there are more.
@@ -88,15 +101,36 @@ impl Journals {
         self.take_rest(journal_at(first), tokens)
     }
 
-    /// The place of the one journal, if there is one. A second one is a fault, at line 1.
-    pub fn place(self) -> Result<Option<Place>, VcdFault>
-        ensures { (all : List Comment) (bytes : List ℕ) → Holds all self
-            → Gives (text_at bytes) result (one_journal (map (text_of bytes) all)) }
+    /// The place of the first journal so far, if there is one. If it is open by what is pending, it
+    /// goes up to `top`.
+    pub fn so_far(self, pending: Pending, top: usize) -> Option<Place>
+        ensures { place_view result ≡ so_far (place_view self.first) pending top }
+    {
+        match self.first {
+            Some(place) => Some(place),
+            None => match pending {
+                Pending::Rest(Some(start)) => Some(Place { start, end: top }),
+                _ => None,
+            },
+        }
+    }
+
+    /// The bytes that were gathered of the first journal, if there is one. A second one is a fault,
+    /// at line 1.
+    pub fn one(self, bytes: Vec<u8>) -> Result<Option<Vec<u8>>, VcdFault>
+        ensures one { (all : List Comment) (dump : List ℕ) → Holds all self
+            → IfSome self.first (λ p. text_at dump (Some p) ≡ Some bytes.items)
+            → Gives bytes_of result (one_journal (map (text_of dump) all)) }
+        ensures within { IfOk result
+            (λ journal. IfSome journal (λ kept. vec_len kept ≤ vec_len bytes)) }
     {
         if self.many {
             return Err(VcdFault::BadJournal(1));
         }
-        Ok(self.first)
+        match self.first {
+            None => Ok(None),
+            Some(_) => Ok(Some(bytes)),
+        }
     }
 
     /// The text of the one journal, if there is one. A second one is a fault, at line 1.

@@ -14,6 +14,7 @@ mod lanes;
 mod law;
 mod part;
 mod pending;
+mod progress;
 mod pulse;
 mod pulses;
 mod reader;
@@ -31,7 +32,6 @@ mod writer;
 
 pub use dump_reader::DumpReader;
 pub use fault::VcdFault;
-pub use journals::Place;
 pub use law::{edges_tell_levels, read_back, read_back_parts};
 pub use pulse::Pulse;
 pub use reader::{read, read_parts};

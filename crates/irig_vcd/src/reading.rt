@@ -4,7 +4,8 @@ ghost use Rattle.std.specs.Prelude.{◌≡◌, ◌≤◌, ◌++◌, ◌^◌, [],
 ghost use Rattle.irig_vcd.specs.Answer.{IsFaultOf};
 ghost use Rattle.irig_vcd.specs.Changes.{changes_from, IsStill};
 ghost use Rattle.irig_vcd.specs.Code.Along.{Total};
-ghost use Rattle.irig_vcd.specs.Code.Journals.{Holds};
+ghost use Rattle.irig_vcd.specs.Code.Gathered.{so_far};
+ghost use Rattle.irig_vcd.specs.Code.Journals.{Holds, place_view};
 ghost use Rattle.irig_vcd.specs.Code.Reached.{HasReached, HasReachedFrom, IsOn, Told};
 ghost use Rattle.irig_vcd.specs.Code.Trace.{IsKept, KeepsEdges};
 ghost use Rattle.irig_vcd.specs.Events.{any_word};
@@ -15,7 +16,7 @@ ghost use Rattle.irig_vcd.specs.declared.fault.VcdFault.TheVariants.{OutOfMemory
 
 use crate::changes::{Body, follow};
 use crate::fault::VcdFault;
-use crate::journals::Journals;
+use crate::journals::{Journals, Place};
 use crate::pending::{Pending, closed};
 use crate::time::{Clock, micros};
 use crate::token::Tokens;
@@ -76,6 +77,14 @@ impl Reading {
         Ok(())
     }
 
+    /// The place of the first journal so far, if there is one: up to `top`, if it is open.
+    pub fn first_journal(&self, top: usize) -> Option<Place>
+        ensures { place_view result
+            ≡ so_far (place_view self.now.journals.first) self.now.pending top }
+    {
+        self.journals.so_far(self.pending, top)
+    }
+
     /// What was read, if nothing comes after it.
     pub fn finish(self, unit: Unit) -> Result<Body, VcdFault>
         requires time { IsOn unit self.trace self.clock }
@@ -86,6 +95,7 @@ impl Reading {
         ensures kept { IfOk result (λ x. (changes : List Change)
             × IsKept changes x.end x.edges) }
         ensures short { IfOk result (λ x. x.end ≤ 2 ^ 40) }
+        ensures same { IfOk result (λ x. x.journals ≡ self.journals) }
         ensures memory { result ≡ Err OutOfMemory
             → (code : List ℕ) (total : Total) (told : Told)
             → HasReached code unit total told self [] → IsStill (total []) → ⊥ }

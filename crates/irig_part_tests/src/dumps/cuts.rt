@@ -1,9 +1,8 @@
 //! Dumps in parts, next to the whole.
 
-ghost use Rattle.std.specs.Prelude.{◌≤◌, ◌^◌, IfOk, length};
-ghost use Rattle.irig_vcd.specs.Code.DumpReader.{IsReady};
+ghost use Rattle.std.specs.Prelude.{◌≤◌, ◌^◌, length};
 
-use irig_vcd::{DumpReader, Place, Recording, VcdFault, read_parts};
+use irig_vcd::{DumpReader, Recording, VcdFault, read_parts};
 use std::alloc::Global;
 
 /// The sizes of parts that all are of one size, in bytes.
@@ -17,13 +16,13 @@ pub(super) fn cuts_agree(alloc: Global, dump: &[u8], wire: Option<&[u8]>) -> boo
     let whole = read_parts(alloc, dump, wire);
     for first in 0..=dump.len() {
         let parts = read_in_two(alloc, dump, wire, first);
-        if !is_same(dump, &whole, &parts) {
+        if !is_same(&whole, &parts) {
             return false;
         }
     }
     for size in SIZES.iter() {
         let parts = read_in_many(alloc, dump, wire, *size);
-        if !is_same(dump, &whole, &parts) {
+        if !is_same(&whole, &parts) {
             return false;
         }
     }
@@ -32,26 +31,25 @@ pub(super) fn cuts_agree(alloc: Global, dump: &[u8], wire: Option<&[u8]>) -> boo
 
 /// Whether the parts of a dump say what the whole says.
 fn is_same(
-    dump: &[u8],
     whole: &Result<(Recording, Option<&[u8]>), VcdFault>,
-    parts: &Result<(Recording, Option<Place>), VcdFault>,
+    parts: &Result<(Recording, Option<Vec<u8>>), VcdFault>,
 ) -> bool {
     match (whole, parts) {
-        (Ok((all, journal)), Ok((read, place))) => {
+        (Ok((all, journal)), Ok((read, gathered))) => {
             all.length() == read.length()
                 && all.pulses() == read.pulses()
-                && *journal == text_at(dump, place)
+                && *journal == bytes_of(gathered)
         }
         (Err(all), Err(read)) => *all == *read,
         _ => false,
     }
 }
 
-/// The bytes of a dump at a place, if there is one and it lies in the dump.
-fn text_at<'a>(dump: &'a [u8], place: &Option<Place>) -> Option<&'a [u8]> {
-    match place {
+/// The bytes of a vector, if there is one.
+fn bytes_of(bytes: &Option<Vec<u8>>) -> Option<&[u8]> {
+    match bytes {
         None => None,
-        Some(place) => dump.get(place.start..place.end),
+        Some(bytes) => Some(bytes.as_slice()),
     }
 }
 
@@ -61,11 +59,11 @@ fn read_in_two(
     dump: &[u8],
     wire: Option<&[u8]>,
     first: usize,
-) -> Result<(Recording, Option<Place>), VcdFault> {
+) -> Result<(Recording, Option<Vec<u8>>), VcdFault> {
     let (part, rest) = dump.split_at(first.min(dump.len()));
     let reader = DumpReader::new(alloc, wire)?;
     let reader = with_part(reader, part)?;
-    ended(with_part(reader, rest)?)
+    with_part(reader, rest)?.end()
 }
 
 /// What a dump says in parts of that many bytes, and a shorter one or an empty one at its end.
@@ -74,7 +72,7 @@ fn read_in_many(
     dump: &[u8],
     wire: Option<&[u8]>,
     size: usize,
-) -> Result<(Recording, Option<Place>), VcdFault> {
+) -> Result<(Recording, Option<Vec<u8>>), VcdFault> {
     let mut reader = DumpReader::new(alloc, wire)?;
     let mut left = dump;
     for _ in 0..=dump.len() / size.max(1) {
@@ -82,27 +80,13 @@ fn read_in_many(
         reader = with_part(reader, part)?;
         left = rest;
     }
-    ended(reader)
+    reader.end()
 }
 
 /// A reader after one part more. No dump of a test is too long for it.
-fn with_part(reader: DumpReader, part: &[u8]) -> Result<DumpReader, VcdFault>
-    requires ready { IsReady reader.unit reader.reading }
-    ensures ready { IfOk result (λ r. IsReady r.unit r.reading) }
-{
+fn with_part(reader: DumpReader, part: &[u8]) -> Result<DumpReader, VcdFault> {
     if reader.has_room(part.len()) {
         reader.put(part)
-    } else {
-        Err(VcdFault::OutOfMemory)
-    }
-}
-
-/// What a reader says if no part comes after those that it has read.
-fn ended(reader: DumpReader) -> Result<(Recording, Option<Place>), VcdFault>
-    requires ready { IsReady reader.unit reader.reading }
-{
-    if reader.has_room(0) {
-        reader.end()
     } else {
         Err(VcdFault::OutOfMemory)
     }

@@ -1,9 +1,9 @@
 -- What a reader of parts has read.
-use Rattle.std.specs.Prelude.{◌≡◌, ◌++◌, ℕ, false, List, [], Option, Some, None}
-use Rattle.std.specs.Prelude.{Result, length}
-use Rattle.std.specs.Global.{Vec}
-use Rattle.irig_vcd.specs.Answer.{◌>>=◌}
+use Rattle.std.specs.Prelude.{◌≡◌, ◌≤◌, ◌+◌, ◌++◌, ◌^◌, ℕ, false, List, [], Option, Some, None}
+use Rattle.std.specs.Prelude.{Result, length, vec_len}
+use Rattle.irig_vcd.specs.Answer.{◌>>=◌, bytes_of}
 use Rattle.irig_vcd.specs.Changes.{changes_from}
+use Rattle.irig_vcd.specs.Code.Gathered.{gathered}
 use Rattle.irig_vcd.specs.Code.Joins.{ends_inside}
 use Rattle.irig_vcd.specs.Code.Reached.{HasReached, HasReachedFrom, IsOn}
 use Rattle.irig_vcd.specs.Cut.{cut_from}
@@ -12,8 +12,8 @@ use Rattle.irig_vcd.specs.Events.{any_word}
 use Rattle.irig_vcd.specs.Journals.{Comment, journals_among, words_behind}
 use Rattle.irig_vcd.specs.Level.{Change}
 use Rattle.irig_vcd.specs.Words.{Word, words_of}
-use Rattle.irig_vcd.specs.declared.dump_reader.DumpReader.{DumpReader}
 use Rattle.irig_vcd.specs.declared.fault.VcdFault.{VcdFault}
+use Rattle.irig_vcd.specs.declared.progress.Progress.{Progress}
 use Rattle.irig_vcd.specs.declared.reading.Reading.{Reading}
 
 -- the changes that the words of a dump say of a wire, and the last time, or the first fault
@@ -49,17 +49,23 @@ abbrev pub IsReady : Option ℕ → Reading → Type 0
 IsReady None r = (unit : ℕ) → IsOn unit r.trace r.clock
 IsReady (Some unit) r = IsOn unit r.trace r.clock
 
--- the name of a wire, if there is one
-abbrev pub kept_name : Option (Vec ℕ) → Option (List ℕ)
-kept_name None = None
-kept_name (Some name) = Some name.items
+-- how many bytes came
+abbrev pub bytes_read : Progress → ℕ
+bytes_read r = r.gone + vec_len r.held
+
+-- what is true of each reader
+pub record IsReader (r : Progress) : Type 0 where
+  pub ready : IsReady r.unit r.reading
+  pub short : bytes_read r ≤ 2 ^ 48
+  pub within : vec_len r.journal ≤ r.gone
 
 -- a reader has read these bytes of a dump, of the wire of a name: all but those that it holds
-pub record HasRead (wire : Option (List ℕ)) (bytes : List ℕ) (r : DumpReader) : Type 0 where
-  pub name : kept_name r.wire ≡ wire
+pub record HasRead (wire : Option (List ℕ)) (bytes : List ℕ) (r : Progress) : Type 0 where
+  pub name : bytes_of r.wire ≡ wire
   pub front : List ℕ
   pub whole : bytes ≡ front ++ r.held.items
   pub place : length front ≡ r.gone
   pub closed : ends_inside false front ≡ false
   pub stage : Stage wire (words_of front) r.unit r.code.items r.reading
   pub none : r.unit ≡ None → r.gone ≡ 0
+  pub journal : r.journal.items ≡ gathered r.reading front

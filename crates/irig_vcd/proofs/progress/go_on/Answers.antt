@@ -3,7 +3,7 @@ use Rattle.irig_vcd.specs.Code.DumpReader.{read_words, told_words}
 use Rattle.irig_vcd.specs.Code.Reached.{HasReachedFrom}
 use Rattle.irig_vcd.specs.Words.{Word, words_from}
 use Rattle.irig_vcd.proofs.PartSteps.{if_err, on_ok, words_next}
-use Rattle.irig_vcd.proofs.dump_reader.go_on.Goals as goal
+use Rattle.irig_vcd.proofs.progress.go_on.Goals as goal
 
 pub returns-clause-read : goal.returns-clause-read
 returns-clause-read c =

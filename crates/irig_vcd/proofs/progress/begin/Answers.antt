@@ -5,7 +5,7 @@ use Rattle.irig_vcd.specs.Code.DumpReader.{HasReadWords, read_words, told_words}
 use Rattle.irig_vcd.specs.Declarations.{declarations_of}
 use Rattle.irig_vcd.specs.Words.{Word, words_of}
 use Rattle.irig_vcd.proofs.PartSteps.{words_begin}
-use Rattle.irig_vcd.proofs.dump_reader.begin.Goals as goal
+use Rattle.irig_vcd.proofs.progress.begin.Goals as goal
 
 pub returns-in_err-read-in-Ok-clause-fault : goal.returns-in_err-read-in-Ok-clause-fault
 returns-in_err-read-in-Ok-clause-fault c =

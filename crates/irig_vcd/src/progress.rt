@@ -1,0 +1,201 @@
+//! How far a dump that comes in parts is read.
+
+ghost use Rattle.std.specs.Prelude.{◌≡◌, ◌≤◌, ◌+◌, ◌++◌, ◌^◌, [], ℕ, List, Option, Some, None};
+ghost use Rattle.std.specs.Prelude.{Err, IfOk, IfErr, OnOk, false, length, take, drop, vec_len};
+ghost use Rattle.irig_vcd.specs.Answer.{IsFaultOf, bytes_of, name_of};
+ghost use Rattle.irig_vcd.specs.Code.DumpReader.{HasReadWords, IsNew, IsReady, Stage, read_words};
+ghost use Rattle.irig_vcd.specs.Code.Gathered.{part_at, so_far};
+ghost use Rattle.irig_vcd.specs.Code.Journals.{place_view};
+ghost use Rattle.irig_vcd.specs.Code.Reached.{IsOn};
+ghost use Rattle.irig_vcd.specs.Declarations.{declarations_of};
+ghost use Rattle.irig_vcd.specs.Words.{Word, words_from, words_of};
+
+use crate::fault::VcdFault;
+use crate::header::{Start, declarations};
+use crate::reading::Reading;
+use crate::token::Tokens;
+use crate::unit::Unit;
+use std::alloc::AllocError;
+
+/// What was read of a dump, the bytes of its first journal so far, and the bytes that are held: the
+/// declarations so far, or the last word if no white space is after it.
+#[derive(Drop)]
+pub struct Progress {
+    pub wire: Option<Vec<u8>>,
+    pub unit: Option<Unit>,
+    pub code: Vec<u8>,
+    pub reading: Reading,
+    pub gone: usize,
+    pub held: Vec<u8>,
+    pub wanted: usize,
+    pub journal: Vec<u8>,
+}
+
+impl Progress {
+    /// Reads the bytes that are held, up to a place. If the declarations are not whole it reads
+    /// nothing, and returns what is at fault if no more comes.
+    pub fn read_to(&mut self, whole: usize) -> Result<Result<Unit, VcdFault>, VcdFault>
+        requires within { whole ≤ vec_len self.old.held }
+        requires ready { IsReady self.old.unit self.old.reading }
+        requires short { self.old.gone + vec_len self.old.held ≤ 2 ^ 48 }
+        ensures kept { IfOk result (λ _. (self.new.held ≡ self.old.held)
+            × (self.new.gone ≡ self.old.gone) × (self.new.wire ≡ self.old.wire)
+            × (self.new.journal ≡ self.old.journal)
+            × IsReady self.new.unit self.new.reading) }
+        ensures time { IfOk result (λ read. IfOk read
+            (λ unit. IsOn unit self.new.reading.trace self.new.reading.clock)) }
+        ensures read { IfOk result (λ read. IfOk read (λ unit. (words : List Word)
+            → Stage (bytes_of self.old.wire) words self.old.unit self.old.code.items
+            self.old.reading → (self.old.unit ≡ None → self.old.gone ≡ 0)
+            → (self.new.unit ≡ Some unit) × HasReadWords (bytes_of self.old.wire)
+            (words ++ words_from self.old.gone false (take whole self.old.held.items)) unit
+            self.new.code.items self.new.reading)) }
+        ensures early { IfOk result (λ read. IfErr read (λ e. (self.old.unit ≡ None)
+            × (declarations_of (bytes_of self.old.wire)
+            (words_of (take whole self.old.held.items)) ≡ Err e)
+            × (self.new.unit ≡ self.old.unit) × (self.new.code ≡ self.old.code)
+            × (self.new.reading ≡ self.old.reading))) }
+        ensures fault { IfErr result (λ e. (words more : List Word)
+            → Stage (bytes_of self.old.wire) words self.old.unit self.old.code.items
+            self.old.reading → (self.old.unit ≡ None → self.old.gone ≡ 0)
+            → IsFaultOf e (read_words (bytes_of self.old.wire) ((words
+            ++ words_from self.old.gone false (take whole self.old.held.items)) ++ more))) }
+    {
+        match self.unit {
+            Some(unit) => {
+                let part = &self.held[..whole];
+                let code = self.code.as_slice();
+                go_on(unit, code, &mut self.reading, part, self.gone)?;
+                Ok(Ok(unit))
+            }
+            None => {
+                let part = &self.held[..whole];
+                let wire = name(&self.wire);
+                match begin(wire, &mut self.code, &mut self.reading, part)? {
+                    Ok(unit) => {
+                        self.unit = Some(unit);
+                        Ok(Ok(unit))
+                    }
+                    Err(fault) => Ok(Err(fault)),
+                }
+            }
+        }
+    }
+
+    /// Gathers the bytes of the first journal among those that are held, up to a place. They are
+    /// read, and not yet gathered.
+    pub fn gather(&mut self, whole: usize) -> Result<(), AllocError>
+        requires within { whole ≤ vec_len self.old.held }
+        requires short { self.old.gone + vec_len self.old.held ≤ 2 ^ 48 }
+        ensures bytes { OnOk result (self.new.journal.items ≡ self.old.journal.items
+            ++ part_at (so_far (place_view self.old.reading.journals.first)
+            self.old.reading.pending (self.old.gone + whole)) self.old.gone
+            (take whole self.old.held.items)) }
+        ensures within { OnOk result (vec_len self.new.journal ≤ vec_len self.old.journal + whole) }
+        ensures rest { (self.new.wire ≡ self.old.wire) × (self.new.unit ≡ self.old.unit)
+            × (self.new.code ≡ self.old.code) × (self.new.reading ≡ self.old.reading)
+            × (self.new.gone ≡ self.old.gone) × (self.new.held ≡ self.old.held) }
+    {
+        match self.reading.first_journal(self.gone + whole) {
+            None => Ok(()),
+            Some(place) => {
+                let read = &self.held[..whole];
+                self.journal
+                    .extend_from_slice(place.within(read, self.gone))
+            }
+        }
+    }
+
+    /// Lets bytes at the front go, which are read. It wants twice the others before it reads again.
+    pub fn without(mut self, count: usize) -> Progress
+        requires within { count ≤ vec_len self.held }
+        requires short { self.gone + vec_len self.held ≤ 2 ^ 48 }
+        ensures held { result.held.items ≡ drop count self.held.items }
+        ensures gone { result.gone ≡ self.gone + count }
+        ensures rest { (result.wire ≡ self.wire) × (result.unit ≡ self.unit)
+            × (result.code ≡ self.code) × (result.reading ≡ self.reading)
+            × (result.journal ≡ self.journal) }
+        ensures length { result.gone + vec_len result.held ≡ self.gone + vec_len self.held }
+    {
+        let gone = self.gone + count;
+        drop_front(&mut self.held, count);
+        let wanted = 2 * self.held.len();
+        self.gone = gone;
+        self.wanted = wanted;
+        self
+    }
+}
+
+/// A wire's name that is kept, as it is given to a call.
+fn name(wire: &Option<Vec<u8>>) -> Option<&[u8]>
+    ensures { name_of result ≡ bytes_of wire.now }
+{
+    match wire {
+        None => None,
+        Some(name) => Some(name.as_slice()),
+    }
+}
+
+/// Drops bytes from the front.
+fn drop_front(bytes: &mut Vec<u8>, count: usize)
+    requires { count ≤ vec_len bytes.old }
+    ensures { bytes.new.items ≡ drop count bytes.old.items }
+{
+    let left = bytes.len() - count;
+    bytes.copy_within(count.., 0);
+    bytes.truncate(left);
+}
+
+/// Reads the declarations and what is after them, and returns the unit. If the declarations are not
+/// whole it reads nothing, and returns what is at fault if no more comes.
+fn begin(
+    wire: Option<&[u8]>,
+    code: &mut Vec<u8>,
+    reading: &mut Reading,
+    part: &[u8],
+) -> Result<Result<Unit, VcdFault>, VcdFault>
+    requires new { (unit : ℕ) → IsOn unit reading.old.trace reading.old.clock }
+    ensures read { IfOk result (λ read. IfOk read (λ unit. code.old.items ≡ [] → IsNew reading.old
+        → HasReadWords (name_of wire.entry) (words_of part.now) unit code.new.items
+        reading.new)) }
+    ensures time { IfOk result (λ read. IfOk read
+        (λ unit. IsOn unit reading.new.trace reading.new.clock)) }
+    ensures early { IfOk result (λ read. IfErr read (λ e.
+        (declarations_of (name_of wire.entry) (words_of part.now) ≡ Err e)
+        × (code.new ≡ code.old) × (reading.new ≡ reading.old))) }
+    ensures fault { IfErr result (λ e. IsNew reading.old → (more : List Word)
+        → IsFaultOf e (read_words (name_of wire.entry) (words_of part.now ++ more))) }
+{
+    let mut tokens = Tokens::new(part);
+    match declarations(&mut tokens, wire) {
+        Err(fault) => Ok(Err(fault)),
+        Ok(start) => {
+            code.extend_from_slice(start.code)?;
+            reading.read(&mut tokens, start.unit, start.code)?;
+            Ok(Ok(start.unit))
+        }
+    }
+}
+
+/// Reads what is after the declarations in a part, after that many bytes.
+fn go_on(
+    unit: Unit,
+    code: &[u8],
+    reading: &mut Reading,
+    part: &[u8],
+    gone: usize,
+) -> Result<(), VcdFault>
+    requires time { IsOn unit reading.old.trace reading.old.clock }
+    requires short { gone + length part.now ≤ 2 ^ 48 }
+    ensures time { OnOk result (IsOn unit reading.new.trace reading.new.clock) }
+    ensures read { OnOk result ((wire : Option (List ℕ)) (words : List Word)
+        → HasReadWords wire words unit code.now reading.old
+        → HasReadWords wire (words ++ words_from gone false part.now) unit code.now
+        reading.new) }
+    ensures fault { IfErr result (λ e. (wire : Option (List ℕ)) (words more : List Word)
+        → HasReadWords wire words unit code.now reading.old
+        → IsFaultOf e (read_words wire ((words ++ words_from gone false part.now) ++ more))) }
+{
+    let mut tokens = Tokens::after(part, gone);
+    reading.read(&mut tokens, unit, code)
+}
