@@ -4,6 +4,7 @@ pub mod Walks
 pub mod TakenSteps
 pub mod TakenGroups
 pub mod Heads
+pub mod Parts
 pub mod OpenedMachines
 pub mod Numbers
 pub mod GoingOn

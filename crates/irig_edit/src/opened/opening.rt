@@ -1,10 +1,11 @@
 //! A session is opened from a dump, with the journal that it carries.
 
-ghost use Rattle.std.specs.Prelude.{◌≡◌, ◌≤◌, ◌^◌, Err, IfOk, IfErr, IfSome, IsTrue, length};
+ghost use Rattle.std.specs.Prelude.{◌≡◌, ◌≤◌, ◌^◌, ℕ, List, Option, Ok, Err, IfOk, IfErr, IfSome};
+ghost use Rattle.std.specs.Prelude.{IsTrue, length};
 ghost use Rattle.irig_codes.specs.Format.{is_permitted};
 ghost use Rattle.irig_saved.specs.Faults.{IsFault, ReachesSteps};
 ghost use Rattle.irig_saved.specs.SavedText.{saved_lines};
-ghost use Rattle.irig_vcd.specs.Answer.{name_of};
+ghost use Rattle.irig_vcd.specs.Answer.{bytes_of, name_of};
 ghost use Rattle.irig_vcd.specs.Changes.{IsStill};
 ghost use Rattle.irig_vcd.specs.Declarations.{declarations_of};
 ghost use Rattle.irig_vcd.specs.Dump.{changes_of};
@@ -16,6 +17,8 @@ ghost use Rattle.irig_edit.specs.Opened.Opened.{IsAccepted, IsLineAtFault, state
 ghost use Rattle.irig_edit.specs.Opened.Openings.{ArePartsOf, IsBad, IsOpened, IsTextOf};
 ghost use Rattle.irig_edit.specs.Opened.Openings.{IsUnopened};
 ghost use Rattle.irig_edit.specs.Opened.Openings.{MayBeShort};
+ghost use Rattle.irig_edit.specs.Opened.Parts.{HasBadText, HasNoSession, IsJournalOf, IsPermitted};
+ghost use Rattle.irig_edit.specs.Opened.Parts.{IsSessionOf};
 
 use crate::opened::head::start;
 use crate::session::session::Session;
@@ -46,13 +49,34 @@ impl Session {
             → result ≡ Err OutOfMemory → MayBeShort (dump_parts (name_of wire.entry) bytes.items) }
     {
         match parts_of(alloc, bytes, wire) {
-            Ok((recording, journal)) => match journal {
-                Some(saved) => session_of(alloc, recording, saved),
-                None => match Session::open(alloc, recording, format) {
-                    Ok(session) => Ok(session),
-                    Err(_) => Err(VcdFault::OutOfMemory),
-                },
-            },
+            Ok((recording, journal)) => session_with(alloc, recording, journal, format),
+            Err(fault) => Err(fault),
+        }
+    }
+
+    /// The session of a recording and the text of the journal, as `irig_vcd` reads them from a
+    /// dump: `open_dump` without its bytes. The text is dropped before the session takes its
+    /// memory.
+    ///
+    /// V13 with the number of the line at fault of the journal, from 1.
+    pub fn open_parts(
+        alloc: Global,
+        recording: Recording,
+        journal: Option<Vec<u8>>,
+        format: Format,
+    ) -> Result<Session, VcdFault>
+        requires short { IfSome journal (λ text. length text.items ≤ 2 ^ 28) }
+        ensures opened { IfOk result (λ s. (wire : Option (List ℕ)) (bytes : List ℕ)
+            → dump_parts wire bytes ≡ Ok (recording, bytes_of journal)
+            → IsOpened wire bytes format s) }
+        ensures fault { IfErr result (λ e. (wire : Option (List ℕ)) (bytes : List ℕ)
+            → dump_parts wire bytes ≡ Ok (recording, bytes_of journal)
+            → IsUnopened wire bytes e) }
+        ensures memory { result ≡ Err OutOfMemory
+            → MayBeShort (Ok (recording, bytes_of journal)) }
+    {
+        match saved_of(alloc, journal) {
+            Ok(journal) => session_with(alloc, recording, journal, format),
             Err(fault) => Err(fault),
         }
     }
@@ -97,6 +121,44 @@ fn journal_of(alloc: Global, text: &[u8]) -> Result<Saved, VcdFault>
         Ok(saved) => Ok(saved),
         Err(Fault::Line(line)) => Err(VcdFault::BadJournal(line)),
         Err(Fault::Memory) => Err(VcdFault::OutOfMemory),
+    }
+}
+
+/// The journal of a text, if there is one.
+fn saved_of(alloc: Global, text: Option<Vec<u8>>) -> Result<Option<Saved>, VcdFault>
+    requires short { IfSome text (λ text. length text.items ≤ 2 ^ 28) }
+    ensures saved { IfOk result (IsJournalOf (bytes_of text)) }
+    ensures lines { IfOk result (λ j. IfSome j (λ saved. length (saved_lines saved) ≤ 2 ^ 28)) }
+    ensures fault { IfErr result (HasBadText (bytes_of text)) }
+    ensures memory { result ≡ Err OutOfMemory → IfSome (bytes_of text) ReachesSteps }
+{
+    match text {
+        None => Ok(None),
+        Some(text) => match journal_of(alloc, text.as_slice()) {
+            Ok(saved) => Ok(Some(saved)),
+            Err(fault) => Err(fault),
+        },
+    }
+}
+
+/// The session of a recording with the journal, if there is one; else in the format.
+fn session_with(
+    alloc: Global,
+    recording: Recording,
+    journal: Option<Saved>,
+    format: Format,
+) -> Result<Session, VcdFault>
+    requires short { IfSome journal (λ saved. length (saved_lines saved) ≤ 2 ^ 28) }
+    ensures opened { IfOk result (IsSessionOf recording journal format) }
+    ensures fault { IfErr result (HasNoSession recording journal) }
+    ensures memory { result ≡ Err OutOfMemory → IsPermitted journal }
+{
+    match journal {
+        Some(saved) => session_of(alloc, recording, saved),
+        None => match Session::open(alloc, recording, format) {
+            Ok(session) => Ok(session),
+            Err(_) => Err(VcdFault::OutOfMemory),
+        },
     }
 }
 
