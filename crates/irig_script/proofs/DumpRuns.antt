@@ -1,8 +1,14 @@
 -- A run on a dump, by the run of its script.
-use Rattle.std.proofs.Common.{◌≡◌, ℕ, List, Option, Result, Ok, Err, MatchResult, subst, sym}
+use Rattle.std.proofs.Common.{◌≡◌, ℕ, List, Option, Result, Ok, Err, MatchResult, refl, subst, sym, ◌∙◌}
 use Rattle.irig_codes.specs.Format.{FormatView}
+use Rattle.irig_vcd.specs.Declarations.{declarations_of}
+use Rattle.irig_vcd.specs.Parts.{dump_parts}
+use Rattle.irig_vcd.specs.Recording.{RecordingView}
+use Rattle.irig_vcd.specs.Words.{words_of}
+use Rattle.irig_vcd.specs.declared.fault.VcdFault.{VcdFault}
+use Rattle.irig_vcd.proofs.WholeDump.{no_start}
 use Rattle.irig_script.specs.Obey.Desk.{Desk}
-use Rattle.irig_script.specs.Obey.DumpRun.{RanOnDump, RunsOnDump}
+use Rattle.irig_script.specs.Obey.DumpRun.{RanOnDump, RunsOnDump, TellsHeading}
 use Rattle.irig_script.specs.declared.obey.status.Status.{Status}
 use Rattle.irig_script.specs.declared.obey.status.RunFault.{RunFault}
 use Rattle.irig_script.specs.declared.obey.dump_run.DumpRunFault.{DumpRunFault}
@@ -17,3 +23,13 @@ ran_on_dump wire chosen source script left from to (Ok status) result e h =
     subst (λ (r : Result Status DumpRunFault). RunsOnDump wire chosen source script left from to r) (sym e) h
 ran_on_dump wire chosen source script left from to (Err fault) result e h =
     subst (λ (r : Result Status DumpRunFault). RunsOnDump wire chosen source script left from to r) (sym e) h
+
+-- a fault of the declarations is one of the dump
+no_parts : (wire : Option (List ℕ)) (bytes : List ℕ) (e : VcdFault) → declarations_of wire (words_of bytes) ≡ Err e → dump_parts wire bytes ≡ Err e
+unfolding dump_parts
+no_parts wire bytes e h = rw (no_start wire bytes e h) refl
+
+-- of a dump that can be read, the declarations have no fault
+pub read_heading : (wire : Option (List ℕ)) (bytes : List ℕ) (x : RecordingView × Option (List ℕ)) (fault : VcdFault)
+    → dump_parts wire bytes ≡ Ok x → TellsHeading wire bytes fault
+read_heading wire bytes x fault read e h = let bad : Ok x ≡ Err e = sym read ∙ no_parts wire bytes e h in cc

@@ -8,7 +8,7 @@ mod script;
 mod shelf;
 
 pub use law::{lines_ask_for_one_command, saved_sessions_run_on, scripts_have_one_run};
-pub use obey::dump_run::{DumpRunFault, run_on_dump};
+pub use obey::dump_run::{DumpRunFault, run_on_dump, run_on_parts};
 pub use obey::engine::run;
 pub use obey::status::{RunFault, Status};
 pub use script::address::{Address, Base};

@@ -1,7 +1,9 @@
 //! A script run on a dump.
 
-ghost use Rattle.std.specs.Prelude.{◌≡◌, ◌≤◌, ◌^◌, length, Ok, Err, MatchResult};
-ghost use Rattle.irig_vcd.specs.Answer.{name_of};
+ghost use Rattle.std.specs.Prelude.{◌≡◌, ◌≤◌, ◌^◌, ℕ, List, Option, length, Ok, Err, IfSome};
+ghost use Rattle.std.specs.Prelude.{MatchResult};
+ghost use Rattle.irig_vcd.specs.Answer.{bytes_of, name_of};
+ghost use Rattle.irig_vcd.specs.Parts.{dump_parts};
 ghost use Rattle.irig_script.specs.Obey.Desk.{desk};
 ghost use Rattle.irig_script.specs.Obey.DumpRun.{RunsOnDump};
 ghost use Rattle.irig_script.specs.Obey.Reading.{ReadsTo};
@@ -12,7 +14,7 @@ use crate::obey::status::{RunFault, Status};
 use crate::shelf::shelf::Shelf;
 use irig_codes::Format;
 use irig_edit::Session;
-use irig_vcd::VcdFault;
+use irig_vcd::{Recording, VcdFault};
 use std::alloc::Global;
 use std::io::{Read, Write};
 
@@ -51,6 +53,33 @@ pub fn run_on_dump<R: Read, W: Write, S: Shelf>(
         Err(fault) => return Err(DumpRunFault::Dump(fault)),
     };
     as_run(engine::run(&mut session, script, out, shelf))
+}
+
+/// Obeys a script on the session of a recording and the text of the journal, as `irig_vcd` reads
+/// them from a dump: `run_on_dump` without its bytes. The text is dropped before the script is
+/// read.
+pub fn run_on_parts<R: Read, W: Write, S: Shelf>(
+    alloc: Global,
+    recording: Recording,
+    journal: Option<Vec<u8>>,
+    format: Format,
+    script: &mut R,
+    out: &mut W,
+    shelf: &mut S,
+) -> Result<Status, DumpRunFault>
+    requires { IfSome journal (λ text. length text.items ≤ 2 ^ 28) }
+    ensures ends { (wire : Option (List ℕ)) (bytes : List ℕ)
+        → dump_parts wire bytes ≡ Ok (recording, bytes_of journal)
+        → RunsOnDump wire format bytes (R.remaining script.old) (R.remaining script.new)
+        (desk (W.contents out.old) (S.known shelf.old))
+        (desk (W.contents out.new) (S.known shelf.new)) result }
+    ensures reads { ReadsTo (R.remaining script.old) (R.remaining script.new) }
+    ensures label { (S.known shelf.new).label ≡ (S.known shelf.old).label }
+{
+    match Session::open_parts(alloc, recording, journal, format) {
+        Ok(mut session) => as_run(engine::run(&mut session, script, out, shelf)),
+        Err(fault) => Err(DumpRunFault::Dump(fault)),
+    }
 }
 
 /// How a run on a dump ended, by how the run of the script ended.

@@ -1,0 +1,15 @@
+use Rattle.std.proofs.Common.{refl}
+use Rattle.irig_script.proofs.Reading.{reads_none}
+use Rattle.irig_script.proofs.DumpRuns.{ran_on_dump, read_heading}
+use Rattle.irig_script.proofs.obey.dump_run.run_on_parts.Goals as goal
+
+pub returns-in-Err-clause-reads : goal.returns-in-Err-clause-reads
+returns-in-Err-clause-reads g c = reads_none _
+
+pub returns-in-Err-clause-ends : goal.returns-in-Err-clause-ends
+returns-in-Err-clause-ends g c wire bytes read =
+    (c.in-Err.ensures.fault wire bytes read, read_heading wire bytes _ _ read, refl, refl)
+
+pub returns-in-Ok-clause-ends : goal.returns-in-Ok-clause-ends
+returns-in-Ok-clause-ends g c wire bytes read =
+    ran_on_dump _ _ _ _ _ _ _ _ _ c.as_run.ensures record { first = _; last = _; opened = c.in-Ok.ensures.opened wire bytes read; ran = c.run.ensures.ends }
