@@ -1,6 +1,5 @@
-pub mod WholeReads
 pub mod PutsAt
 pub mod RunsBy
-pub mod Moves
 pub mod Commands
 pub mod Blocks
+pub mod Intakes

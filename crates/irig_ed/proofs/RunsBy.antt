@@ -1,33 +1,60 @@
 -- An edit on the shelf of a file, as one by the settings.
-use Rattle.std.proofs.Common.{◌≡◌, ◌∷◌, ℕ, List, Option, Result, subst}
+use Rattle.std.proofs.Common.{◌≡◌, ◌∷◌, ◌∙◌, [], ℕ, List, Option, Result, Err, inl, refl, subst, sym}
 use Rattle.std.specs.Prelude.{option_map}
+use Rattle.irig_vcd.specs.Declarations.{declarations_of}
+use Rattle.irig_vcd.specs.Parts.{dump_parts}
+use Rattle.irig_vcd.specs.Words.{words_of}
+use Rattle.irig_vcd.specs.declared.fault.VcdFault.{VcdFault}
+use Rattle.irig_vcd.proofs.WholeDump.{fails_now, no_start}
 use Rattle.irig_script.specs.Obey.Desk.{Desk, desk}
 use Rattle.irig_script.specs.Obey.DumpRun.{RunsOnDump}
 use Rattle.irig_script.specs.Shelf.Shelved.{shelved}
 use Rattle.irig_script.specs.declared.obey.status.Status.{Status}
 use Rattle.irig_script.specs.declared.obey.dump_run.DumpRunFault.{DumpRunFault}
-use Rattle.irig_ed.specs.Ending.{RunsBy, ends}
+use Rattle.irig_script.specs.declared.obey.dump_run.DumpRunFault.TheVariants.{Dump}
+use Rattle.irig_ed.specs.Ending.{Ends, RunsBy, ends}
 use Rattle.irig_ed.specs.Files.Puts.{Put, texts_at}
 use Rattle.irig_ed.specs.declared.command_line.chosen.Settings.{Settings}
+
+-- the wire of the settings
+abbrev wire_in : Settings → Option (List ℕ)
+wire_in chosen = option_map (λ w. w.now) chosen.wire
 
 -- labels that are the same name the same path
 pub same_path : (x y : ℕ) (xs ys : List ℕ) → x ∷ xs ≡ y ∷ ys → xs ≡ ys
 same_path x y xs ys e = cc
 
 -- the shelf was at the path of the settings, from the start to the end
-pub runs_by : (chosen : Settings) (source : List ℕ) (wire out out_new script left : Option (List ℕ)) (path path_new label label_new : List ℕ)
+pub runs_by : (chosen : Settings) (source : List ℕ) (out out_new script left : Option (List ℕ)) (path path_new label label_new : List ℕ)
     (puts mid new : Option (List Put)) (failures failures_new : ℕ) (result : Result Status DumpRunFault)
-    → wire ≡ option_map (λ w. w.now) chosen.wire → label_new ≡ label → path ≡ chosen.out.now → path_new ≡ chosen.out.now → mid ≡ puts → failures ≡ 0
-    → RunsOnDump wire chosen.format source script left (desk out (shelved (texts_at path mid) failures label))
+    → label_new ≡ label → path ≡ chosen.out.now → path_new ≡ chosen.out.now → mid ≡ puts → failures ≡ 0
+    → RunsOnDump (wire_in chosen) chosen.format source script left (desk out (shelved (texts_at path mid) failures label))
     (desk out_new (shelved (texts_at path_new new) failures_new label_new)) result
     → RunsBy chosen source (ends out puts script) (ends out_new new left) result
-runs_by chosen source wire out out_new script left path path_new label label_new puts mid new failures failures_new result w e p q m z h = record {
+runs_by chosen source out out_new script left path path_new label label_new puts mid new failures failures_new result e p q m z h = record {
   label = label;
   failures = failures_new;
-  ran = subst (λ (v : Option (List ℕ)). RunsOnDump v chosen.format source script left (desk out (shelved (texts_at chosen.out.now puts) 0 label))
-      (desk out_new (shelved (texts_at chosen.out.now new) failures_new label)) result) w
-      (subst (λ (d : Desk). RunsOnDump wire chosen.format source script left d (desk out_new (shelved (texts_at chosen.out.now new) failures_new label)) result)
+  ran = subst (λ (d : Desk). RunsOnDump (wire_in chosen) chosen.format source script left d
+      (desk out_new (shelved (texts_at chosen.out.now new) failures_new label)) result)
       (λ j. desk out (shelved (texts_at (p j) (m j)) (z j) label))
-      (subst (λ (d : Desk). RunsOnDump wire chosen.format source script left (desk out (shelved (texts_at path mid) failures label)) d result)
-      (λ j. desk out_new (shelved (texts_at (q j) new) failures_new (e j))) h));
+      (subst (λ (d : Desk). RunsOnDump (wire_in chosen) chosen.format source script left (desk out (shelved (texts_at path mid) failures label)) d result)
+      (λ j. desk out_new (shelved (texts_at (q j) new) failures_new (e j))) h);
+}
+
+-- a fault of the declarations is one of the dump
+no_parts : (wire : Option (List ℕ)) (bytes : List ℕ) (e : VcdFault) → declarations_of wire (words_of bytes) ≡ Err e → dump_parts wire bytes ≡ Err e
+unfolding dump_parts
+no_parts wire bytes e h = rw (no_start wire bytes e h) refl
+
+tells_heading : (wire : Option (List ℕ)) (bytes : List ℕ) (fault e : VcdFault) → dump_parts wire bytes ≡ Err fault
+    → declarations_of wire (words_of bytes) ≡ Err e → fault ≡ e
+tells_heading wire bytes fault e is h = let both = sym is ∙ no_parts wire bytes e h in cc
+
+-- of a dump with a fault nothing was run
+pub fails_by : (chosen : Settings) (source : List ℕ) (at : Ends) (fault : VcdFault) → dump_parts (wire_in chosen) source ≡ Err fault
+    → RunsBy chosen source at at (Err (Dump fault))
+fails_by chosen source at fault is = record {
+  label = [];
+  failures = 0;
+  ran = (inl (fails_now fault (dump_parts (wire_in chosen) source) is), (λ e h. tells_heading (wire_in chosen) source fault e is h), refl, refl);
 }

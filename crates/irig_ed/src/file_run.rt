@@ -1,8 +1,11 @@
 //! A script run on the file of a dump, as the words of a command line ask.
 
-ghost use Rattle.std.specs.Prelude.{◌≡◌, ◌≤◌, ◌^◌, map, option_map, string_bytes, vec_len};
+ghost use Rattle.std.specs.Prelude.{◌≡◌, ℕ, List, map, option_map, string_bytes};
+ghost use Rattle.irig_vcd.specs.Answer.{Gives, name_of};
+ghost use Rattle.irig_vcd.specs.Parts.{dump_parts};
 ghost use Rattle.irig_ed.specs.Ending.{RunsBy, EndsBy, Obeys, ends};
 ghost use Rattle.irig_ed.specs.Files.Keeps.{Keeps};
+ghost use Rattle.irig_ed.specs.Files.Reads.{HasFewBytes, parts_of};
 
 use crate::command_line::chosen::Settings;
 use crate::command_line::command_line::settings;
@@ -10,8 +13,10 @@ use crate::ending::Ending;
 use crate::files::disk::Disk;
 use crate::files::dump_file::DumpFileFault;
 use crate::files::file_shelf::FileShelf;
+use crate::files::intake::Parts;
 use crate::files::room::Room;
-use irig_script::{DumpRunFault, Status, run_on_dump};
+use irig_script::{DumpRunFault, Status, run_on_parts};
+use irig_vcd::VcdFault;
 use std::alloc::Global;
 use std::io::{Read, Write};
 
@@ -53,39 +58,52 @@ fn run_on_track<'a, D: Disk, R: Read, W: Write>(
     let Ok(mut room) = Room::new(alloc) else {
         return Ending::Unread(chosen.track, DumpFileFault::OutOfMemory);
     };
-    match disk.read(chosen.track) {
-        Ok(source) => {
-            let result = run_on_bytes(alloc, chosen, source, &mut room, disk, script, out);
+    match disk.read(alloc, chosen.track, wire_of(chosen)) {
+        Ok(read) => {
+            let result = run_on_read(alloc, chosen, read, &mut room, disk, script, out);
             Ending::Ran(chosen.track, result)
         }
         Err(fault) => Ending::Unread(chosen.track, fault),
     }
 }
 
-/// Runs a script on the bytes of a dump, by the wire, the format and the path of the settings. Each
-/// write uses the room.
-fn run_on_bytes<D: Disk, R: Read, W: Write>(
+/// Runs a script on what was read of a dump, by the format and the path of the settings. Each write
+/// uses the room.
+fn run_on_read<D: Disk, R: Read, W: Write>(
     alloc: Global,
     chosen: &Settings<'_>,
-    source: Vec<u8>,
+    read: Result<Parts, VcdFault>,
     room: &mut Room,
     disk: &mut D,
     script: &mut R,
     out: &mut W,
 ) -> Result<Status, DumpRunFault>
-    requires { vec_len source ≤ 2 ^ 28 }
-    ensures { RunsBy chosen.now source.items
+    requires { HasFewBytes read }
+    ensures { (source : List ℕ)
+        → Gives parts_of read (dump_parts (option_map (λ w. w.now) chosen.now.wire) source)
+        → RunsBy chosen.now source
         (ends (W.contents out.old) (D.puts disk.old) (R.remaining script.old))
         (ends (W.contents out.new) (D.puts disk.new) (R.remaining script.new)) result }
 {
-    let wire = wire_of(chosen);
+    let (recording, journal) = match read {
+        Ok(parts) => parts,
+        Err(fault) => return Err(DumpRunFault::Dump(fault)),
+    };
     let mut shelf = FileShelf::new(disk, chosen.out, room);
-    run_on_dump(alloc, source, wire, chosen.format, script, out, &mut shelf)
+    run_on_parts(
+        alloc,
+        recording,
+        journal,
+        chosen.format,
+        script,
+        out,
+        &mut shelf,
+    )
 }
 
 /// The bytes of the wire's name, if one is given.
 fn wire_of<'a>(chosen: &Settings<'a>) -> Option<&'a [u8]>
-    ensures { option_map (λ w. w.now) result ≡ option_map (λ w. w.now) chosen.now.wire }
+    ensures { name_of result ≡ option_map (λ w. w.now) chosen.now.wire }
 {
     match chosen.wire {
         Some(wire) => Some(wire.as_bytes()),

@@ -4,6 +4,7 @@ pub mod disk;
 pub mod dump_file;
 pub mod file_shelf;
 pub mod in_place;
+pub mod intake;
 mod put_file;
 pub mod room;
 pub mod system;

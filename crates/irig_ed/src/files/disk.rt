@@ -1,16 +1,21 @@
 //! What the program asks of files.
 
-ghost use Rattle.std.specs.Prelude.{◌≡◌, ◌≤◌, ◌<◌, ◌^◌, ◌∷◌, [], ℕ, List, Option, IfOk, IfSome};
-ghost use Rattle.std.specs.Prelude.{IsErrOf, OnOk, OnErr, length, vec_len};
+ghost use Rattle.std.specs.Prelude.{◌≡◌, ◌<◌, ◌^◌, ◌∷◌, [], ℕ, List, Option, IfOk, IfSome};
+ghost use Rattle.std.specs.Prelude.{IsErrOf, OnOk, OnErr, length};
+ghost use Rattle.irig_vcd.specs.Answer.{name_of};
 ghost use Rattle.irig_script.specs.Shelf.Shelved.{GrowsBy};
 ghost use Rattle.irig_ed.specs.Files.Keeps.{Keeps};
 ghost use Rattle.irig_ed.specs.Files.Puts.{Put, count_of, kept, not_kept};
+ghost use Rattle.irig_ed.specs.Files.Reads.{IsReadOf};
 
 use crate::files::dump_file::DumpFileFault;
+use crate::files::intake::Parts;
 use crate::files::room::Room;
 use crate::files::written::Written;
 use irig_script::ShelfFault;
 use irig_text::Text;
+use irig_vcd::VcdFault;
+use std::alloc::Global;
 
 /// Files by their paths. What a real file holds no contract can say; what is asked of one can.
 pub trait Disk {
@@ -26,11 +31,15 @@ pub trait Disk {
     /// What a crash might have left at a path since this many writes were tried, now included.
     ghost left_since: { Self → ℕ → List ℕ → Option (List ℕ) → Type 0 };
 
-    /// All bytes of the file at a path. At most one more byte than 2^28 is read.
-    fn read(&self, path: &str) -> Result<Vec<u8>, DumpFileFault>
-        ensures short { IfOk result (λ bytes. vec_len bytes ≤ 2 ^ 28) }
-        ensures whole { IfOk result (λ bytes.
-            IfSome (held self.now path.now) (λ all. bytes.items ≡ all)) }
+    /// Reads the dump in the file at a path, of the wire of a name, or of the one wire of one bit.
+    /// At most one more byte than 2^28 is read.
+    fn read(
+        &self,
+        alloc: Global,
+        path: &str,
+        wire: Option<&[u8]>,
+    ) -> Result<Result<Parts, VcdFault>, DumpFileFault>
+        ensures read { IfOk result (IsReadOf (held self.now path.now) (name_of wire.entry)) }
         ensures long { IsErrOf result DumpFileFault.TooLong
             → IfSome (held self.now path.now) (λ all. 2 ^ 28 < length all) };
 

@@ -4,11 +4,14 @@ ghost use Rattle.std.specs.Prelude.{None};
 
 use crate::files::disk::Disk;
 use crate::files::dump_file::{DumpFileFault, read_dump};
+use crate::files::intake::Parts;
 use crate::files::put_file::put_file;
 use crate::files::room::Room;
 use crate::files::written::Written;
 use irig_script::ShelfFault;
 use irig_text::Text;
+use irig_vcd::VcdFault;
+use std::alloc::Global;
 use std::rt::Files;
 
 /// The files of the system. Nothing is known of them. `docs/FORMATS.md` says how one is written.
@@ -35,8 +38,13 @@ impl<R: Files + Print + AllocGlobal> Disk for System<'_, R> {
 
     ghost keeps = { λ s. tt };
 
-    fn read(&self, path: &str) -> Result<Vec<u8>, DumpFileFault> {
-        read_dump(self.runtime, path)
+    fn read(
+        &self,
+        alloc: Global,
+        path: &str,
+        wire: Option<&[u8]>,
+    ) -> Result<Result<Parts, VcdFault>, DumpFileFault> {
+        read_dump(self.runtime, alloc, path, wire)
     }
 
     fn put<T: Text>(

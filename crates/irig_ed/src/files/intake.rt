@@ -1,0 +1,94 @@
+//! The dump in a file, as far as it is taken in.
+
+ghost use Rattle.std.specs.Prelude.{◌≡◌, ◌≢◌, ◌≤◌, ◌<◌, ◌++◌, [], ℕ, List, Option, Err, IfOk};
+ghost use Rattle.std.specs.Prelude.{IfErr, IsErrOf, length, min};
+ghost use Rattle.irig_vcd.specs.Answer.{Gives, name_of};
+ghost use Rattle.irig_vcd.specs.Parts.{dump_parts};
+ghost use Rattle.irig_vcd.specs.declared.fault.VcdFault.TheVariants.{OutOfMemory};
+ghost use Rattle.irig_ed.specs.Files.Reads.{HasFewBytes, HasTaken, IsCounted, parts_of};
+ghost use Rattle.irig_ed.specs.declared.files.dump_file.DumpFileFault.TheVariants as file;
+
+use crate::files::dump_file::DumpFileFault;
+use irig_vcd::{DumpReader, Recording, VcdFault};
+use std::alloc::{AllocError, Global};
+
+/// What a dump says of a wire, and the text of the journal that it carries.
+pub type Parts = (Recording, Option<Vec<u8>>);
+
+/// The most bytes of a dump.
+pub const DUMP_LIMIT: usize = 268_435_456;
+
+/// The dump in a file, as far as it is taken in.
+#[derive(Drop)]
+pub struct Intake {
+    /// What is read of it; or its fault, and then more bytes are only counted.
+    dump: Result<DumpReader, VcdFault>,
+    /// How many bytes are still taken: in all, one more than a dump has.
+    left: usize,
+}
+
+impl Intake {
+    /// No byte of a dump, for the wire of a name, or for the one wire of one bit.
+    pub fn new(alloc: Global, wire: Option<&[u8]>) -> Result<Intake, AllocError>
+        ensures taken { IfOk result (HasTaken (name_of wire.entry) []) }
+        ensures counted { IfOk result IsCounted }
+    {
+        Ok(Intake {
+            dump: Ok(DumpReader::new(alloc, wire)?),
+            left: DUMP_LIMIT + 1,
+        })
+    }
+
+    /// How many bytes are taken at once, if there is room for that many.
+    pub fn wanted(&self, room: usize) -> usize
+        ensures { result ≡ min self.now.left room }
+    {
+        self.left.min(room)
+    }
+
+    /// Takes the next part of the dump. It fails only if memory runs out.
+    pub fn put(self, part: &[u8]) -> Result<Intake, DumpFileFault>
+        requires wanted { length part.now ≤ self.left }
+        requires counted { IsCounted self }
+        ensures taken { IfOk result (λ t. (wire : Option (List ℕ)) (bytes : List ℕ)
+            → HasTaken wire bytes self → HasTaken wire (bytes ++ part.now) t) }
+        ensures counted { IfOk result IsCounted }
+        ensures memory { IfErr result (λ fault. fault ≡ file.OutOfMemory) }
+    {
+        let left = self.left - part.len();
+        let dump = match self.dump {
+            Ok(reader) => unless_short(reader.put(part))?,
+            Err(fault) => Err(fault),
+        };
+        Ok(Intake { dump, left })
+    }
+
+    /// What the dump says, if nothing comes after its parts.
+    pub fn end(self) -> Result<Result<Parts, VcdFault>, DumpFileFault>
+        requires counted { IsCounted self }
+        ensures read { IfOk result (λ read. (wire : Option (List ℕ)) (bytes : List ℕ)
+            → HasTaken wire bytes self → Gives parts_of read (dump_parts wire bytes)) }
+        ensures within { IfOk result HasFewBytes }
+        ensures short { IfOk result (λ _. 0 < self.left) }
+        ensures long { IsErrOf result file.TooLong → self.left ≡ 0 }
+    {
+        if self.left == 0 {
+            return Err(DumpFileFault::TooLong);
+        }
+        match self.dump {
+            Ok(reader) => unless_short(reader.end()),
+            Err(fault) => Ok(Err(fault)),
+        }
+    }
+}
+
+/// What reading gives, unless memory ran out.
+fn unless_short<T: Drop>(read: Result<T, VcdFault>) -> Result<Result<T, VcdFault>, DumpFileFault>
+    ensures same { IfOk result (λ given. (given ≡ read) × (given ≢ Err OutOfMemory)) }
+    ensures memory { IfErr result (λ fault. fault ≡ file.OutOfMemory) }
+{
+    match read {
+        Err(VcdFault::OutOfMemory) => Err(DumpFileFault::OutOfMemory),
+        read => Ok(read),
+    }
+}
