@@ -1,4 +1,4 @@
-use Rattle.irig_script.proofs.SameSavedRun.{runs_on}
+use Rattle.irig_script.proofs.LawLemmas.SameSavedRun.{runs_on}
 use Rattle.irig_script.proofs.law.saved_sessions_run_on.Goals as goal
 
 pub returns : goal.returns

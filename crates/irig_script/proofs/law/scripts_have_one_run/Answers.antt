@@ -1,5 +1,5 @@
-use Rattle.irig_script.proofs.SameDumpRun.{one_dump_run}
-use Rattle.irig_script.proofs.SameRun.{one_run}
+use Rattle.irig_script.proofs.LawLemmas.SameDumpRun.{one_dump_run}
+use Rattle.irig_script.proofs.LawLemmas.SameRun.{one_run}
 use Rattle.irig_script.proofs.law.scripts_have_one_run.Goals as goal
 
 pub returns-clause-same : goal.returns-clause-same

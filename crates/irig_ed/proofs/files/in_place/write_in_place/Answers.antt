@@ -1,6 +1,6 @@
 use Rattle.std.proofs.Common.{[], ◌++◌, ◌∙◌, ap, length, refl}
 use Rattle.irig_disk.proofs.Parts.{more_text, whole_text}
-use Rattle.irig_script.proofs.Known.{appends-appends}
+use Rattle.irig_script.proofs.ObeyLemmas.Known.{appends-appends}
 use Rattle.irig_ed.proofs.Blocks.{appends_none, one_block_more}
 use Rattle.irig_ed.proofs.files.in_place.write_in_place.Goals as goal
 

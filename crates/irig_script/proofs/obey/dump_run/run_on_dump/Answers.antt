@@ -1,6 +1,6 @@
 use Rattle.std.proofs.Common.{refl}
-use Rattle.irig_script.proofs.Reading.{reads_none}
-use Rattle.irig_script.proofs.DumpRuns.{ran_on_dump}
+use Rattle.irig_script.proofs.ObeyLemmas.Reading.{reads_none}
+use Rattle.irig_script.proofs.ObeyLemmas.DumpRuns.{ran_on_dump}
 use Rattle.irig_script.proofs.obey.dump_run.run_on_dump.Goals as goal
 
 pub returns-in-Err-clause-reads : goal.returns-in-Err-clause-reads

@@ -1,7 +1,7 @@
 use Rattle.std.proofs.Common.{refl, sym, ◌∙◌}
 use Rattle.std.proofs.lemmas.Result.{on_ok_weaker, on_err_weaker}
-use Rattle.irig_script.proofs.Desks.{tells_one, tells_front}
-use Rattle.irig_script.proofs.LastLines.{ran_nothing, ran_end, ran_line, broken_line}
+use Rattle.irig_script.proofs.ObeyLemmas.Desks.{tells_one, tells_front}
+use Rattle.irig_script.proofs.ObeyLemmas.LastLines.{ran_nothing, ran_end, ran_line, broken_line}
 use Rattle.irig_script.specs.Print.Printed.{answer_with}
 use Rattle.irig_script.proofs.obey.engine.finish.Goals as goal
 

@@ -1,8 +1,8 @@
 use Rattle.std.proofs.Common.{refl, List, ℕ, ◌++◌, ◌∷◌, []}
 use Rattle.irig_script.specs.Obey.Desk.{desk}
 use Rattle.irig_script.specs.Obey.Progress.{Holds, BrokeIn}
-use Rattle.irig_script.proofs.Desks.{tells_one, tells_front}
-use Rattle.irig_script.proofs.Lines.{obeyed_none, obeyed_line, obeyed_end, broke_line, given}
+use Rattle.irig_script.proofs.ObeyLemmas.Desks.{tells_one, tells_front}
+use Rattle.irig_script.proofs.ObeyLemmas.Lines.{obeyed_none, obeyed_line, obeyed_end, broke_line, given}
 use Rattle.irig_script.specs.Print.Printed.{answer_with}
 use Rattle.irig_script.proofs.obey.engine.obey_byte.Goals as goal
 

@@ -2,7 +2,7 @@ use Rattle.std.proofs.Common.{◌+◌, ◌++◌, ◌∷◌, [], ℕ, List, take,
 use Rattle.irig_script.specs.Obey.Desk.{desk}
 use Rattle.irig_script.specs.Obey.Progress.{Holds, BrokeIn}
 use Rattle.std.proofs.lemmas.List.{append-nil}
-use Rattle.irig_script.proofs.Lines.{obeyed_none, obeyed_more, obeyed_rest, broke_more, broke_rest, next_text, whole_text, all_taken, given}
+use Rattle.irig_script.proofs.ObeyLemmas.Lines.{obeyed_none, obeyed_more, obeyed_rest, broke_more, broke_rest, next_text, whole_text, all_taken, given}
 use Rattle.irig_script.proofs.obey.engine.obey_part.Goals as goal
 
 pub loop-byte-init : goal.loop-byte-init

@@ -1,9 +1,9 @@
 use Rattle.std.proofs.Common.{rules, ◌≡◌, ◌≤◌, ◌+◌, ◌^◌, ◌∙◌, ◌<◌, ◌++◌, [], take, true, false, length, arith, length-append, length-take}
 use Rattle.std.proofs.lemmas.List.{append-nil}
-use Rattle.irig_script.proofs.Lines.{obeyed_none, obeyed_more, broke_more}
-use Rattle.irig_script.proofs.Runs.{run_ended, run_quit, run_broke, run_broken}
-use Rattle.irig_script.proofs.Known.{consumes-consumes, consumes_none}
-use Rattle.irig_script.proofs.Reading.{consumes_kept, reads_to}
+use Rattle.irig_script.proofs.ObeyLemmas.Lines.{obeyed_none, obeyed_more, broke_more}
+use Rattle.irig_script.proofs.ObeyLemmas.Runs.{run_ended, run_quit, run_broke, run_broken}
+use Rattle.irig_script.proofs.ObeyLemmas.Known.{consumes-consumes, consumes_none}
+use Rattle.irig_script.proofs.ObeyLemmas.Reading.{consumes_kept, reads_to}
 use Rattle.irig_script.proofs.obey.engine.run.Goals as goal
 
 pub loop-reads-init : goal.loop-reads-init

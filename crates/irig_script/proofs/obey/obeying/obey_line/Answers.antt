@@ -2,8 +2,8 @@ use Rattle.std.proofs.Common.{rules, ◌≢◌, refl, List, ℕ, subst, inl, inr
 use Rattle.irig_script.specs.Script.Grammar.{Means}
 use Rattle.irig_script.specs.declared.script.command.Command.{Command}
 use Rattle.irig_script.specs.declared.script.command.Command.TheVariants as command
-use Rattle.irig_script.proofs.Quits.{bad_goes_on, long_goes_on, other_goes_on, quit_ends}
-use Rattle.irig_script.proofs.Steps.{quiet_puts}
+use Rattle.irig_script.proofs.ObeyLemmas.Quits.{bad_goes_on, long_goes_on, other_goes_on, quit_ends}
+use Rattle.irig_script.proofs.ObeyLemmas.Steps.{quiet_puts}
 use Rattle.irig_script.proofs.obey.obeying.obey_line.Goals as goal
 
 pub returns-in_default-clause-answer : goal.returns-in_default-clause-answer

@@ -4,9 +4,9 @@ use Rattle.std.proofs.lemmas.Result.{on_ok_weaker, on_err_weaker}
 use Rattle.irig_edit.specs.State.State.{frames_of}
 use Rattle.irig_script.specs.Print.Numbered.{numbered}
 use Rattle.irig_script.specs.Print.Printed.{record_line}
-use Rattle.irig_script.proofs.Blocks.{sends_all, sends_end}
-use Rattle.irig_script.proofs.FrameLines.{no_record, record_here}
-use Rattle.irig_script.proofs.Numbered.{listed_front, listed_more}
+use Rattle.irig_script.proofs.PrintLemmas.Blocks.{sends_all, sends_end}
+use Rattle.irig_script.proofs.PrintLemmas.FrameLines.{no_record, record_here}
+use Rattle.irig_script.proofs.PrintLemmas.Numbered.{listed_front, listed_more}
 use Rattle.irig_script.proofs.print.listing.print_frames.Goals as goal
 
 pub returns-in_err-put-clause-err : goal.returns-in_err-put-clause-err

@@ -3,7 +3,7 @@ use Rattle.std.proofs.lemmas.Option.{get_or_from_slice_get, slice_get-get_or}
 use Rattle.irig_track.specs.Edges.{pulse}
 use Rattle.irig_edit.specs.State.State.{frames_of}
 use Rattle.irig_script.specs.Print.FrameLine.{frame_line}
-use Rattle.irig_script.proofs.FrameLines.{marker_within, no_record}
+use Rattle.irig_script.proofs.PrintLemmas.FrameLines.{marker_within, no_record}
 use Rattle.irig_script.proofs.print.listing.put_record.Goals as goal
 
 pub pulse-rise-requires : goal.pulse-rise-requires

@@ -2,9 +2,9 @@ use Rattle.std.proofs.Common.{rules, ◌≡◌, ◌<◌, ◌+◌, ◌∙◌, Non
 use Rattle.std.proofs.lemmas.Result.{on_ok_weaker, on_err_weaker}
 use Rattle.irig_script.specs.Print.Listings.{mark_line}
 use Rattle.irig_script.specs.Print.Numbered.{numbered}
-use Rattle.irig_script.proofs.Blocks.{sends_all, sends_end}
-use Rattle.irig_script.proofs.MarkLines.{few_marks, mark_there, mark_within}
-use Rattle.irig_script.proofs.Numbered.{listed_front, listed_more}
+use Rattle.irig_script.proofs.PrintLemmas.Blocks.{sends_all, sends_end}
+use Rattle.irig_script.proofs.PrintLemmas.MarkLines.{few_marks, mark_there, mark_within}
+use Rattle.irig_script.proofs.PrintLemmas.Numbered.{listed_front, listed_more}
 use Rattle.irig_script.proofs.print.mark_lines.print_marks.Goals as goal
 
 pub returns-in_err-put-clause-err : goal.returns-in_err-put-clause-err

@@ -1,8 +1,8 @@
 use Rattle.std.proofs.Common.{rules, ◌≡◌, ◌≤◌, ◌+◌, ◌-◌, ℕ, List, length, take, drop, min, ap, subst, ◌∙◌, arith}
 use Rattle.std.specs.Io.KnownBytes.{Appends}
 use Rattle.irig_script.specs.Print.Listings.{list_text}
-use Rattle.irig_script.proofs.WordLemmas.{rest_whole}
-use Rattle.irig_script.proofs.Pieces.{listing_more, listing_front, listing_whole}
+use Rattle.irig_script.proofs.ScriptLemmas.WordLemmas.{rest_whole}
+use Rattle.irig_script.proofs.PrintLemmas.Pieces.{listing_more, listing_front, listing_whole}
 use Rattle.irig_script.proofs.print.pulse_lines.print_in_blocks.Goals as goal
 
 pub loop-done-preserved : goal.loop-done-preserved

@@ -1,8 +1,8 @@
 use Rattle.std.proofs.Common.{rules, ◌≡◌, ◌==◌, length, false}
 use Rattle.irig_script.specs.Script.Addresses.{IsAddress}
 use Rattle.irig_script.specs.declared.script.address.Address.{Address}
-use Rattle.irig_script.proofs.AddressCut.{address_of, address_parts}
-use Rattle.irig_script.proofs.Lines.{given}
+use Rattle.irig_script.proofs.ScriptLemmas.AddressCut.{address_of, address_parts}
+use Rattle.irig_script.proofs.ObeyLemmas.Lines.{given}
 use Rattle.irig_script.proofs.script.addresses.address.Goals as goal
 
 pub returns-in_err-base-clause-err : goal.returns-in_err-base-clause-err

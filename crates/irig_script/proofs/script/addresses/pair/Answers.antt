@@ -2,8 +2,8 @@ use Rattle.std.proofs.Common.{arith, ◌≡◌, [], length, ap}
 use Rattle.std.proofs.lemmas.Bool.Decides.{nat_tests}
 use Rattle.irig_script.specs.Script.Addresses.{IsPair}
 use Rattle.irig_script.specs.declared.script.address.Address.{Address}
-use Rattle.irig_script.proofs.AddressCut.{pair_addresses}
-use Rattle.irig_script.proofs.Lines.{given}
+use Rattle.irig_script.proofs.ScriptLemmas.AddressCut.{pair_addresses}
+use Rattle.irig_script.proofs.ObeyLemmas.Lines.{given}
 use Rattle.irig_script.proofs.script.addresses.pair.Goals as goal
 use Rattle.irig_script.proofs.script.addresses.pair.Goals.{else-is_empty-via-then-is_empty+else-is_empty-2, else-is_empty-via-else-is_empty}
 

@@ -1,8 +1,8 @@
 use Rattle.irig_script.specs.Script.Addresses.{IsRange}
 use Rattle.irig_script.specs.declared.script.range.Range.{Range}
-use Rattle.irig_script.proofs.AddressCut.{pair_range, pair_refused, uncut_range}
-use Rattle.irig_script.proofs.Lines.{given}
-use Rattle.irig_script.proofs.WordLemmas.{rest_whole}
+use Rattle.irig_script.proofs.ScriptLemmas.AddressCut.{pair_range, pair_refused, uncut_range}
+use Rattle.irig_script.proofs.ObeyLemmas.Lines.{given}
+use Rattle.irig_script.proofs.ScriptLemmas.WordLemmas.{rest_whole}
 use Rattle.irig_script.proofs.script.addresses.range.Goals as goal
 
 pub returns-in_err-address_or_cursor-in-empty-clause-err : goal.returns-in_err-address_or_cursor-in-empty-clause-err

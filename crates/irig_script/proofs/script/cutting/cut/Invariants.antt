@@ -1,5 +1,5 @@
 use Rattle.std.proofs.Common.{length, ◌-◌, ◌≤◌}
-use Rattle.irig_script.proofs.WordLemmas.{IsCut}
+use Rattle.irig_script.proofs.ScriptLemmas.WordLemmas.{IsCut}
 use Rattle.irig_script.proofs.script.cutting.cut.Given as goal
 
 abbrev pub invariant-loop-at : goal.invariant-loop-at

@@ -1,5 +1,5 @@
 use Rattle.std.proofs.Common.{arith, ◌<◌}
-use Rattle.irig_script.proofs.NumberLemmas.{small_control}
+use Rattle.irig_script.proofs.ScriptLemmas.NumberLemmas.{small_control}
 use Rattle.irig_script.proofs.script.numbers.control.Goals as goal
 
 pub overflow_mul-number : goal.overflow_mul-number

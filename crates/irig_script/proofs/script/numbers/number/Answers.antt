@@ -1,5 +1,5 @@
 use Rattle.std.proofs.Common.{arith, ◌<◌, get_or, sym, ◌∙◌}
-use Rattle.irig_script.proofs.NumberLemmas.{small_number, digit_most, within_limit}
+use Rattle.irig_script.proofs.ScriptLemmas.NumberLemmas.{small_number, digit_most, within_limit}
 use Rattle.irig_script.proofs.script.numbers.number.Goals as goal
 
 pub overflow_mul-number : goal.overflow_mul-number

@@ -1,7 +1,7 @@
 use Rattle.std.proofs.Common.{rules, ◌≡◌}
 use Rattle.irig_script.specs.Script.Words.{words_of}
 use Rattle.irig_script.specs.declared.script.keyword.Keyword.TheVariants as word
-use Rattle.irig_script.proofs.KnownWords.{refused}
+use Rattle.irig_script.proofs.ScriptLemmas.KnownWords.{refused}
 use Rattle.irig_script.proofs.script.parsing.asked.Goals as goal
 
 pub returns-in-Shift-clause-err : goal.returns-in-Shift-clause-err

@@ -1,5 +1,5 @@
 use Rattle.std.proofs.lemmas.Result.{IfOk-weaker, on_err_weaker}
-use Rattle.irig_script.proofs.LineReading.{no_order_of, order_read}
+use Rattle.irig_script.proofs.ScriptLemmas.LineReading.{no_order_of, order_read}
 use Rattle.irig_script.proofs.script.parsing.in_text.Goals as goal
 
 pub returns-clause-ok : goal.returns-clause-ok

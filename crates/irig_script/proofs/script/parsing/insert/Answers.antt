@@ -1,4 +1,4 @@
-use Rattle.irig_script.proofs.Lines.{given}
+use Rattle.irig_script.proofs.ObeyLemmas.Lines.{given}
 use Rattle.irig_script.proofs.script.parsing.insert.Goals as goal
 
 pub returns-in_err-a-clause-err : goal.returns-in_err-a-clause-err

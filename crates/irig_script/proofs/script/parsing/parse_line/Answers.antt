@@ -1,6 +1,6 @@
 use Rattle.std.proofs.Common.{sym, ◌∙◌}
 use Rattle.std.proofs.lemmas.Result.{IfOk-weaker, on_err_weaker}
-use Rattle.irig_script.proofs.LineReading.{line_orders, line_refused, line_rests}
+use Rattle.irig_script.proofs.ScriptLemmas.LineReading.{line_orders, line_refused, line_rests}
 use Rattle.irig_script.proofs.script.parsing.parse_line.Goals as goal
 
 pub returns-then-is_nothing-clause-meant : goal.returns-then-is_nothing-clause-meant

@@ -7,8 +7,8 @@ use Rattle.irig_script.specs.Script.Numbers.{IsNumber}
 use Rattle.irig_script.specs.Script.Words.{words_of}
 use Rattle.irig_script.specs.declared.script.command.Command.{Command}
 use Rattle.irig_script.specs.declared.script.keyword.Keyword.TheVariants as word
-use Rattle.irig_script.proofs.KnownWords.{full_word, moment_some, next_word, time_some}
-use Rattle.irig_script.proofs.Lines.{given}
+use Rattle.irig_script.proofs.ScriptLemmas.KnownWords.{full_word, moment_some, next_word, time_some}
+use Rattle.irig_script.proofs.ObeyLemmas.Lines.{given}
 use Rattle.irig_script.proofs.script.parsing.regen.Goals as goal
 
 pub returns-in_err-start-clause-err : goal.returns-in_err-start-clause-err

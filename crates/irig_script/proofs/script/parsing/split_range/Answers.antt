@@ -1,6 +1,6 @@
 use Rattle.std.proofs.Common.{arith, rules, ◌≡◌, ◌∙◌, drop, get_or, true, false}
-use Rattle.irig_script.proofs.RangeCut.{ends_range, range_done, range_found, range_length, range_stops}
-use Rattle.irig_script.proofs.WordLemmas.{rest_whole}
+use Rattle.irig_script.proofs.ScriptLemmas.RangeCut.{ends_range, range_done, range_found, range_length, range_stops}
+use Rattle.irig_script.proofs.ScriptLemmas.WordLemmas.{rest_whole}
 use Rattle.irig_script.proofs.script.parsing.split_range.Goals as goal
 use Rattle.irig_script.proofs.script.parsing.split_range.Goals.{then-loop-at-test+else-not-ends_range, else-loop-at-test}
 

@@ -1,5 +1,5 @@
 use Rattle.std.proofs.Common.{length, ◌-◌, ◌≡◌, ◌≤◌, ◌+◌, drop, false}
-use Rattle.irig_script.proofs.RangeCut.{range_length}
+use Rattle.irig_script.proofs.ScriptLemmas.RangeCut.{range_length}
 use Rattle.irig_script.proofs.script.parsing.split_range.Given as goal
 
 abbrev pub invariant-loop-at : goal.invariant-loop-at

@@ -1,5 +1,5 @@
 use Rattle.std.proofs.Common.{rules}
-use Rattle.irig_script.proofs.Blocks.{front_longer}
+use Rattle.irig_script.proofs.PrintLemmas.Blocks.{front_longer}
 use Rattle.irig_script.proofs.print.block.Block.put.Goals as goal
 
 pub returns-in_err-flush-clause-err : goal.returns-in_err-flush-clause-err

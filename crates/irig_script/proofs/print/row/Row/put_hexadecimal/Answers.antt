@@ -1,6 +1,6 @@
 use Rattle.std.proofs.Common.{rules, ◌≡◌, ◌<◌, ◌++◌, ◌-◌, refl, ap, sym, ◌∙◌, arith, length, take, drop, replicate, slice_set, length-drop, length-set}
 use Rattle.std.proofs.Common.{take_all}
-use Rattle.irig_script.proofs.RowLemmas.{written-start, written-more, written-last, power-less}
+use Rattle.irig_script.proofs.PrintLemmas.RowLemmas.{written-start, written-more, written-last, power-less}
 use Rattle.irig_script.proofs.print.row.Row.put_hexadecimal.Goals as goal
 
 pub loop-rest-init : goal.loop-rest-init

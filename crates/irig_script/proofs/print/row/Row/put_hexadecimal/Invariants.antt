@@ -1,6 +1,6 @@
 use Rattle.std.proofs.Common.{◌+◌, ◌≡◌, ◌<◌, ◌≤◌, ◌^◌, false, length}
 use Rattle.std.specs.Fmt.{digits}
-use Rattle.irig_script.proofs.RowLemmas.{written}
+use Rattle.irig_script.proofs.PrintLemmas.RowLemmas.{written}
 use Rattle.irig_script.proofs.print.row.Row.put_hexadecimal.Given as goal
 
 abbrev pub invariant-loop-rest : goal.invariant-loop-rest

@@ -12,11 +12,11 @@ use Rattle.irig_script.specs.declared.script.cutting.Stop.TheVariants.{Blank, Te
 use Rattle.irig_script.specs.declared.script.keyword.Keyword.{Keyword}
 use Rattle.irig_script.specs.declared.script.keyword.Keyword.TheVariants as word
 use Rattle.irig_script.specs.declared.script.range.Range.{Range}
-use Rattle.irig_script.proofs.KnownWords.{next_word}
-use Rattle.irig_script.proofs.Spacing.{arguments_behind, blank_before, word_before}
-use Rattle.irig_script.proofs.WordLemmas.{BeginsAt, before_on, cut_begins, cut_whole, onward_on}
-use Rattle.irig_script.proofs.OrderParts.{follows, found_words, ranged_in}
-use Rattle.irig_script.proofs.Orders.{means_onward, onward_means}
+use Rattle.irig_script.proofs.ScriptLemmas.KnownWords.{next_word}
+use Rattle.irig_script.proofs.ScriptLemmas.Spacing.{arguments_behind, blank_before, word_before}
+use Rattle.irig_script.proofs.ScriptLemmas.WordLemmas.{BeginsAt, before_on, cut_begins, cut_whole, onward_on}
+use Rattle.irig_script.proofs.ScriptLemmas.OrderParts.{follows, found_words, ranged_in}
+use Rattle.irig_script.proofs.ScriptLemmas.Orders.{means_onward, onward_means}
 
 -- the parts that the parser cuts are an order
 pub order_of : (text front rest : List ℕ) (c : Command) → text ≡ front ++ rest

@@ -4,7 +4,7 @@ use Rattle.std.proofs.Common.{arith}
 use Rattle.std.proofs.Math.Seq.{take-add}
 use Rattle.std.proofs.lemmas.List.{length-drop}
 use Rattle.std.specs.Io.KnownBytes.{Appends, Consumes, Keeps}
-use Rattle.irig_script.proofs.WordLemmas.{rest_whole}
+use Rattle.irig_script.proofs.ScriptLemmas.WordLemmas.{rest_whole}
 
 pub appends-appends : (a b c : Option (List ℕ)) (x y : List ℕ) → Appends a b x → Appends b c y → Appends a c (x ++ y)
 appends-appends None b c x y p q = tt

@@ -4,7 +4,7 @@ use Rattle.std.proofs.lemmas.List.{append-nil}
 use Rattle.std.specs.Io.KnownBytes.{Appends}
 use Rattle.irig_script.specs.Print.Blocks.{Sends}
 use Rattle.irig_script.specs.Print.Front.{AppendsFront}
-use Rattle.irig_script.proofs.Known.{appends-appends}
+use Rattle.irig_script.proofs.ObeyLemmas.Known.{appends-appends}
 
 -- what is missing of a text is missing of a longer one
 missing_longer : (x y : List ℕ) → x ≢ [] → x ++ y ≢ []

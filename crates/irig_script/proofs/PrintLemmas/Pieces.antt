@@ -12,8 +12,8 @@ use Rattle.irig_edit.specs.State.State.{State}
 use Rattle.irig_script.specs.Print.Front.{AppendsFront}
 use Rattle.irig_script.specs.Print.Listings.{list_text, pulse_line}
 use Rattle.irig_script.specs.Print.Numbered.{numbered}
-use Rattle.irig_script.proofs.Blocks.{front_behind, front_longer}
-use Rattle.irig_script.proofs.Known.{appends-appends}
+use Rattle.irig_script.proofs.PrintLemmas.Blocks.{front_behind, front_longer}
+use Rattle.irig_script.proofs.ObeyLemmas.Known.{appends-appends}
 
 -- the first line of a listing, and those after it
 listing_opened : (s : State) (m k : ℕ) (p : Pulse) → slice_get s.pulses m ≡ Some p → list_text m (suc k) s ≡ pulse_line s.format (m + 1) p

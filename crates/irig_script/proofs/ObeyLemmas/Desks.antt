@@ -9,7 +9,7 @@ use Rattle.irig_script.specs.Print.Printed.{Answer, printed}
 use Rattle.irig_script.specs.Shelf.Shelved.{Shelved, Puts, GrowsBy}
 use Rattle.irig_script.specs.Obey.Desk.{Desk, Tells, failures_in, failures_of, status_after}
 use Rattle.irig_script.specs.declared.obey.status.Status.{Status}
-use Rattle.irig_script.proofs.Known.{appends-appends}
+use Rattle.irig_script.proofs.ObeyLemmas.Known.{appends-appends}
 
 appends_none : (a : Option (List ℕ)) → Appends a a []
 appends_none None = tt

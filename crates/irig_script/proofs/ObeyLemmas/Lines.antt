@@ -16,7 +16,7 @@ use Rattle.irig_script.specs.Obey.Run.{Runs, Goes, IsPlain, IsObeyed, unlines}
 use Rattle.irig_script.specs.Obey.Progress.{Holds, Obeyed, BrokeIn}
 use Rattle.irig_script.specs.declared.obey.status.Status.{Status}
 use Rattle.irig_script.specs.declared.script.line.Line.{Line}
-use Rattle.irig_script.proofs.Desks.{status_after-append, tells_none, tells-tells, tells-answers}
+use Rattle.irig_script.proofs.ObeyLemmas.Desks.{status_after-append, tells_none, tells-tells, tells-answers}
 
 -- a byte before a text that has no newline
 plain_first : (b : ℕ) (text : List ℕ) → IsPlain (b ∷ text) → ((b == 10) ≡ false) × IsPlain text

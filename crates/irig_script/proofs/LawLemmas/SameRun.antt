@@ -20,8 +20,8 @@ use Rattle.irig_script.specs.Script.Lines.{script_lines}
 use Rattle.irig_script.specs.declared.print.reply.Reply.{Reply}
 use Rattle.irig_script.specs.declared.print.reply.Reply.TheVariants as told
 use Rattle.irig_script.specs.declared.script.command.Command.{Command}
-use Rattle.irig_script.proofs.Orders.{means_one}
-use Rattle.irig_script.proofs.SameReply.{bare, obeys_one}
+use Rattle.irig_script.proofs.ScriptLemmas.Orders.{means_one}
+use Rattle.irig_script.proofs.LawLemmas.SameReply.{bare, obeys_one}
 
 -- what a reply prints and writes does not depend on the looks
 text_same : (r : Reply) (a b : Machine) → grouped_in a ≡ grouped_in b → reply_text a r ≡ reply_text b r

@@ -14,7 +14,7 @@ use Rattle.irig_script.specs.declared.script.address.Base.TheVariants.{Number, C
 use Rattle.irig_script.specs.declared.script.cutting.Stop.TheVariants.{Comma, Sign}
 use Rattle.irig_script.specs.declared.script.range.Range.{Range}
 use Rattle.irig_script.specs.declared.script.range.Range.TheVariants.{One, Two}
-use Rattle.irig_script.proofs.WordLemmas.{BeginsAt, Lacks, before_front, cut_begins, cut_whole, joined, onward_back}
+use Rattle.irig_script.proofs.ScriptLemmas.WordLemmas.{BeginsAt, Lacks, before_front, cut_begins, cut_whole, joined, onward_back}
 
 -- the bytes of a base
 abbrev is_base_byte : ℕ → Bool

@@ -12,8 +12,8 @@ use Rattle.irig_script.specs.Obey.Run.{Runs, Ran, Broke, Stopped, unlines}
 use Rattle.irig_script.specs.Obey.Progress.{Holds, Obeyed, BrokeIn}
 use Rattle.irig_script.specs.declared.obey.status.Status.{Status}
 use Rattle.irig_script.specs.declared.script.line.Line.{Line}
-use Rattle.irig_script.proofs.Desks.{tells-tells, tells-answers, status_after-append}
-use Rattle.irig_script.proofs.Lines.{first_line, lines_and, until_ended, runs-runs, answers_assoc}
+use Rattle.irig_script.proofs.ObeyLemmas.Desks.{tells-tells, tells-answers, status_after-append}
+use Rattle.irig_script.proofs.ObeyLemmas.Lines.{first_line, lines_and, until_ended, runs-runs, answers_assoc}
 
 -- a script that was read to its end
 pub run_ended : (from to : Option (List ℕ)) (a b c : Desk) (st su sv : Status) (s t u : Machine) (read : List ℕ) (line : Line) → Consumes from to read

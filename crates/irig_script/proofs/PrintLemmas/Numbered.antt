@@ -4,7 +4,7 @@ use Rattle.std.proofs.lemmas.List.{append-nil}
 use Rattle.irig_script.specs.Print.Blocks.{Sends}
 use Rattle.irig_script.specs.Print.Front.{AppendsFront}
 use Rattle.irig_script.specs.Print.Numbered.{numbered}
-use Rattle.irig_script.proofs.Blocks.{front_longer, sends_front, sends_more}
+use Rattle.irig_script.proofs.PrintLemmas.Blocks.{front_longer, sends_front, sends_more}
 
 -- one more line
 numbered_push : {T : Type 0} (line : ℕ → T → List ℕ) (n : ℕ) (xs : List T) (k : ℕ) (d : T) → k < length xs

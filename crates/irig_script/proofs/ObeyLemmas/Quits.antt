@@ -11,12 +11,12 @@ use Rattle.irig_script.specs.declared.script.keyword.Keyword.{Keyword}
 use Rattle.irig_script.specs.declared.script.keyword.Keyword.TheVariants as word
 use Rattle.irig_script.specs.declared.script.command.Command.{Command}
 use Rattle.irig_script.specs.declared.script.command.Command.TheVariants as command
-use Rattle.irig_script.proofs.KnownWords.{next_word}
-use Rattle.irig_script.proofs.LineReading.{order_of}
-use Rattle.irig_script.proofs.OrderParts.{found_words}
-use Rattle.irig_script.proofs.Orders.{means_one, means_onward}
-use Rattle.irig_script.proofs.Spacing.{words_onward}
-use Rattle.irig_script.proofs.WordLemmas.{both, words_split}
+use Rattle.irig_script.proofs.ScriptLemmas.KnownWords.{next_word}
+use Rattle.irig_script.proofs.ScriptLemmas.LineReading.{order_of}
+use Rattle.irig_script.proofs.ScriptLemmas.OrderParts.{found_words}
+use Rattle.irig_script.proofs.ScriptLemmas.Orders.{means_one, means_onward}
+use Rattle.irig_script.proofs.ScriptLemmas.Spacing.{words_onward}
+use Rattle.irig_script.proofs.ScriptLemmas.WordLemmas.{both, words_split}
 
 -- no other word asks for the end of a script
 only_quit : (k : Keyword) (range : List ℕ) (args : List (List ℕ)) → Asks k range args command.Quit → k ≡ word.Quit

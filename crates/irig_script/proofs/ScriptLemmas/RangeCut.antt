@@ -14,7 +14,7 @@ use Rattle.irig_script.specs.declared.script.address.Base.{Base}
 use Rattle.irig_script.specs.declared.script.address.Base.TheVariants.{Number, Current, Last, Mark}
 use Rattle.irig_script.specs.declared.script.range.Range.{Range}
 use Rattle.irig_script.specs.declared.script.range.Range.TheVariants.{One, Two}
-use Rattle.irig_script.proofs.WordLemmas.{nothing_left, opened}
+use Rattle.irig_script.proofs.ScriptLemmas.WordLemmas.{nothing_left, opened}
 
 -- white space ends the range of a line, and so does the first letter of a word, which is one that
 -- is after no apostrophe

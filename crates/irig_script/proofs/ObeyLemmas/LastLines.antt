@@ -9,8 +9,8 @@ use Rattle.irig_script.specs.Obey.Desk.{Desk, desk, Tells, status_after}
 use Rattle.irig_script.specs.Shelf.Shelved.{Shelved}
 use Rattle.irig_script.specs.Obey.Run.{Ran, Broke, IsPlain}
 use Rattle.irig_script.specs.declared.obey.status.Status.{Status}
-use Rattle.irig_script.proofs.Desks.{tells_none}
-use Rattle.irig_script.proofs.Lines.{last_line, until_obeyed, until_ended, runs_one}
+use Rattle.irig_script.proofs.ObeyLemmas.Desks.{tells_none}
+use Rattle.irig_script.proofs.ObeyLemmas.Lines.{last_line, until_obeyed, until_ended, runs_one}
 
 -- the end of a script in a line
 at_nothing : (text : List ℕ) → (length text == 0) ≡ true → script_lines text ≡ []

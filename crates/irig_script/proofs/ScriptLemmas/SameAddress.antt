@@ -10,7 +10,7 @@ use Rattle.irig_script.specs.declared.script.address.Base.{Base}
 use Rattle.irig_script.specs.declared.script.address.Base.TheVariants.{Number, Current, Last, Mark}
 use Rattle.irig_script.specs.declared.script.range.Range.{Range}
 use Rattle.irig_script.specs.declared.script.range.Range.TheVariants.{One, Two}
-use Rattle.irig_script.proofs.AddressCut.{address_cut, pair_cut, place_uncut}
+use Rattle.irig_script.proofs.ScriptLemmas.AddressCut.{address_cut, pair_cut, place_uncut}
 
 -- numbers
 pub number_one : (text : List ℕ) (n m : ℕ) → IsNumber text n → IsNumber text m → n ≡ m

@@ -16,8 +16,8 @@ use Rattle.irig_script.specs.declared.script.keyword.Keyword.{Keyword}
 use Rattle.irig_script.specs.declared.script.keyword.Keyword.TheVariants as word
 use Rattle.irig_script.specs.declared.script.range.Range.{Range}
 use Rattle.irig_script.specs.declared.script.range.Range.TheVariants.{One}
-use Rattle.irig_script.proofs.Spacing.{words_behind, words_found}
-use Rattle.irig_script.proofs.WordLemmas.{both}
+use Rattle.irig_script.proofs.ScriptLemmas.Spacing.{words_behind, words_found}
+use Rattle.irig_script.proofs.ScriptLemmas.WordLemmas.{both}
 
 -- the words of the language are letters
 row_letters : (text : List ℕ) (rows : List (List ℕ × Keyword)) (k : Keyword) → list_all (λ row. list_all is_letter row.0) rows ≡ true

@@ -5,7 +5,7 @@ use Rattle.irig_script.specs.Shelf.Shelved.{Shelved, Puts}
 use Rattle.irig_script.specs.Obey.Machine.{Machine}
 use Rattle.irig_script.specs.declared.print.reply.Reply.{Reply}
 use Rattle.irig_script.specs.declared.print.reply.Reply.TheVariants as told
-use Rattle.irig_script.proofs.Desks.{puts_none}
+use Rattle.irig_script.proofs.ObeyLemmas.Desks.{puts_none}
 
 -- a quiet reply writes nothing
 pub quiet_puts : (shelf : Shelved) (m : Machine) (r : Reply) → IsQuiet r → Puts shelf shelf (texts_put m r) (failures_of r)

@@ -9,12 +9,12 @@ use Rattle.irig_script.specs.Script.Words.{before, is_space, onward, words_of}
 use Rattle.irig_script.specs.declared.script.command.Command.{Command}
 use Rattle.irig_script.specs.declared.script.cutting.Stop.TheVariants.{Text}
 use Rattle.irig_script.specs.declared.script.keyword.Keyword.TheVariants as word
-use Rattle.irig_script.proofs.AddressCut.{is_range_byte, range_first}
-use Rattle.irig_script.proofs.RangeCut.{range_found, range_length}
-use Rattle.irig_script.proofs.SameCommand.{asks_one}
-use Rattle.irig_script.proofs.Spacing.{blank_before, onward_blank}
-use Rattle.irig_script.proofs.WordLemmas.{both, cut_whole, onward_at}
-use Rattle.irig_script.proofs.OrderParts.{follows, found_words, known_letters, ranged_in}
+use Rattle.irig_script.proofs.ScriptLemmas.AddressCut.{is_range_byte, range_first}
+use Rattle.irig_script.proofs.ScriptLemmas.RangeCut.{range_found, range_length}
+use Rattle.irig_script.proofs.ScriptLemmas.SameCommand.{asks_one}
+use Rattle.irig_script.proofs.ScriptLemmas.Spacing.{blank_before, onward_blank}
+use Rattle.irig_script.proofs.ScriptLemmas.WordLemmas.{both, cut_whole, onward_at}
+use Rattle.irig_script.proofs.ScriptLemmas.OrderParts.{follows, found_words, known_letters, ranged_in}
 
 -- two orders of one text are of one range and of the same words
 asks_in_one : (range : List ℕ) (words : List (List ℕ)) (c d : Command) → AsksIn range words c → AsksIn range words d → c ≡ d

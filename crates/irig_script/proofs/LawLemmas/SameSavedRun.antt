@@ -6,7 +6,7 @@ use Rattle.irig_script.specs.Obey.Machine.{Machine}
 use Rattle.irig_script.specs.Obey.OneDumpRun.{run_in}
 use Rattle.irig_script.specs.Obey.OneRun.{BeginTheSame}
 use Rattle.irig_script.specs.Obey.SavedRun.{RunsOn}
-use Rattle.irig_script.proofs.SameRun.{one_run}
+use Rattle.irig_script.proofs.LawLemmas.SameRun.{one_run}
 
 pub runs_on : OneOutcome → (m : Machine) → GoesOn m → RunsOn m
 runs_on outcome m goes_on script chosen one other begun printed put met =

@@ -1,0 +1,10 @@
+-- Lines, what is left of a script, and the runs of scripts.
+pub mod Known
+pub mod Desks
+pub mod Lines
+pub mod LastLines
+pub mod Reading
+pub mod Runs
+pub mod Quits
+pub mod Steps
+pub mod DumpRuns
