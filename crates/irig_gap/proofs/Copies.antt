@@ -27,8 +27,23 @@ module _ {X : Type 0} where
       ∙ sym (append_assoc (take i run) (y ∷ []) (drop (to + (i + 1)) cs))
       ∙ ap (λ l. l ++ drop (to + (i + 1)) cs) (sym (take_more run i None lr ∙ ap (λ z. take i run ++ z ∷ []) item)))
 
+  -- k places are copied, and the row is as long as before
+  pub length-copied : (cs r ds : List (Option X)) (at to k : ℕ) → at + k ≤ length cs → to + k ≤ length r
+      → ds ≡ take to r ++ (take k (drop at cs) ++ drop (to + k) r) → length ds ≡ length r
+  length-copied cs r ds at to k p q e =
+      let run = take k (drop at cs) in let rest = drop (to + k) r in
+      ap length e ∙ omega (
+        arith,
+        length-append (take to r) (run ++ rest),
+        length-append run rest,
+        length-take to r,
+        length-take k (drop at cs),
+        length-drop at cs,
+        length-drop (to + k) r,
+      )
+
   -- the first g places and the last m, copied into n places
-  pub copied : (cs r c1 c2 : List (Option X)) (g a b m n : ℕ) → g ≤ a → a ≤ length cs → m ≡ length cs - a → b ≡ n - m → length cs < n → length r ≡ n
+  pub copied : (cs r c1 c2 : List (Option X)) (g a b m n : ℕ) → g ≤ a → a ≤ length cs → m ≡ length cs - a → b ≡ n - m → length cs ≤ n → length r ≡ n
       → c1 ≡ take 0 r ++ (take g (drop 0 cs) ++ drop (0 + g) r) → c2 ≡ take b c1 ++ (take m (drop a cs) ++ drop (b + m) c1)
       → (take g c2 ≡ take g cs) × (drop b c2 ≡ drop a cs) × (length c2 ≡ n)
   copied cs r c1 c2 g a b m n p q is at more long e1 e2 =

@@ -1,6 +1,6 @@
 -- The steps of a gap buffer, on the places of its block.
 use Rattle.std.proofs.Common.{◌≡◌, ℕ, suc, zero, ◌+◌, ◌-◌, ◌<◌, ◌≤◌, List, ◌++◌, map, length, take, drop, set, get_or, insert, remove, Option, Some, None}
-use Rattle.std.proofs.Common.{slice_get, replicate, refl, sym, ap, ◌∙◌, subst, ◌⊎◌, inl, inr, arith}
+use Rattle.std.proofs.Common.{slice_get, replicate, refl, sym, ap, ◌∙◌, ◌⊎◌, inl, inr, arith}
 use Rattle.std.proofs.lemmas.List.{map-set, take-map, drop-map, length-map, length-set, drop-take, length-append, length-replicate}
 use Rattle.irig_gap.specs.Cells.{IsFull, IsRun, moved}
 use Rattle.irig_gap.specs.Items.{GapView, gap_view}
@@ -8,7 +8,7 @@ use Rattle.irig_gap.specs.Slots.{somes, live, IsGap, view_of}
 use Rattle.irig_gap.proofs.Live.{somes-map, read_map, map-insert, map-remove, cut_at, length-live, live-put, live-left, live-right, live-set_left}
 use Rattle.irig_gap.proofs.Live.{live-set_right, read_left, read_right, live-of, live-none, live-up, live-down, length-moved, live-left_side, live-right_side}
 use Rattle.irig_gap.proofs.Live.{live-taken, live-taken_right, live-front}
-use Rattle.irig_gap.proofs.Copies.{copied}
+use Rattle.irig_gap.proofs.Copies.{copied, length-copied}
 
 below_or_not : (i n : ℕ) → (i < n) ⊎ (n ≤ i)
 below_or_not i zero = inr (omega arith)
@@ -169,18 +169,24 @@ module _ {X : Type 0} where
         let s = shows cs g a v e h in let t = cut_at v.items (g + k) (omega arith) in let same : a + k ≡ a + (g + k - g) = omega arith in
         (t.0, ap (λ j. get_or cs j None) same ∙ slot_right (g + k) (omega arith) (omega arith) ∙ t.1)
 
-    -- the places left of the gap and those right of it, copied to the front and to the end of ds
-    pub grown_step : (ds : List (Option X)) (b : ℕ) → g ≤ b → b ≤ length ds → take g ds ≡ take g cs → drop b ds ≡ drop a cs
-        → Holds ds g b (gap_view v.items v.place (length ds))
-    grown_step ds b p q front back = let s = shows cs g a v e h in
-        holds _ _ _ _ p q (live-of ds b cs g a front back ∙ s.items) (sym s.place) refl
+    -- the places left of the gap, copied to the front of n places, leave them as many
+    pub length-left : (r c1 : List (Option X)) (n : ℕ) → length r ≡ n → v.capacity ≤ n → c1 ≡ take 0 r ++ (take g (drop 0 cs) ++ drop (0 + g) r)
+        → length c1 ≡ n
+    length-left r c1 n all long is = let s = shows cs g a v e h in length-copied cs r c1 0 0 g (omega arith) (omega arith) is ∙ all
 
-    pub grown : (r c1 c2 : List (Option X)) (b m n : ℕ) → m ≡ length cs - a → b ≡ n - m → v.capacity < n → length r ≡ n
+    -- and those right of it to their end
+    pub copied_sides : (r c1 c2 : List (Option X)) (b m n : ℕ) → length r ≡ n → v.capacity ≤ n → m ≡ length cs - a → b ≡ n - m
         → c1 ≡ take 0 r ++ (take g (drop 0 cs) ++ drop (0 + g) r) → c2 ≡ take b c1 ++ (take m (drop a cs) ++ drop (b + m) c1)
-        → (length c2 ≡ n) × Holds c2 g b (gap_view v.items v.place n)
-    grown r c1 c2 b m n is at more long e1 e2 =
-        let s = shows cs g a v e h in let k = copied cs r c1 c2 g a b m n s.within.0 s.within.1 is at (omega arith) long e1 e2 in let end = k.2 in
-        (end, subst (λ j. Holds c2 g b (gap_view v.items v.place j)) end (grown_step c2 b (omega arith) (omega arith) k.0 k.1))
+        → (live c2 v.place b ≡ map Some v.items) × (length c2 ≡ n)
+    copied_sides r c1 c2 b m n all long is at e1 e2 =
+        let s = shows cs g a v e h in let k = copied cs r c1 c2 g a b m n s.within.0 s.within.1 is at (omega arith) all e1 e2 in
+        (ap (λ j. live c2 j b) s.place ∙ live-of c2 b cs g a k.0 k.1 ∙ s.items, k.2)
+
+    -- the same items in n places, with the gap up to b
+    pub grown : (ds : List (Option X)) (b n : ℕ) → b + length v.items ≡ v.place + n → v.capacity ≤ n → length ds ≡ n → live ds v.place b ≡ map Some v.items
+        → Holds ds g b (gap_view v.items v.place n)
+    grown ds b n end more long is = let s = shows cs g a v e h in
+        holds _ _ _ _ (omega arith) (omega arith) (ap (λ j. live ds j b) (sym s.place) ∙ is) (sym s.place) long
 
     -- if no place is free, the gap is anywhere
     pub anywhere_step : (p : ℕ) → g ≡ a → p ≤ length v.items → Holds cs p p (gap_view v.items p v.capacity)

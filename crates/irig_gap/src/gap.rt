@@ -5,8 +5,9 @@
 
 ghost use Rattle.std.specs.Prelude.{◌≡◌, ◌+◌, ◌-◌, ◌/◌, ◌^◌, ◌<◌, ◌≤◌, length, max, min};
 ghost use Rattle.std.specs.Prelude.{[], slice_get, slice_set, insert, remove, OnOk, OnErr};
-ghost use Rattle.std.specs.Prelude.{vec_capacity};
+ghost use Rattle.std.specs.Prelude.{vec_capacity, map, Some};
 ghost use Rattle.irig_gap.specs.Items.{gap_view};
+ghost use Rattle.irig_gap.specs.Slots.{live};
 
 use crate::block::{block, copy_items, free};
 use crate::cells::{Cells, Deed, block_of, nowhere};
@@ -206,17 +207,33 @@ impl<T: Copy> Gap<T> {
         ensures ok { OnOk result (self.new ≡ gap_view self.old.items self.old.place wanted) }
         ensures err { OnErr result (self.new ≡ self.old) }
     {
-        let (mut cells, deed) = block(&self.alloc, wanted)?;
-        let right = self.capacity - self.after;
-        let after = wanted - right;
-        copy_items(&self.cells, 0, &mut cells, 0, self.gap);
-        copy_items(&self.cells, self.after, &mut cells, after, right);
+        let Ok((mut cells, deed)) = block(&self.alloc, wanted) else {
+            return Err(AllocError);
+        };
+        let after = self.copy_to(&mut cells, wanted);
         mem::swap(&mut self.cells, &mut cells);
         let old = mem::replace(&mut self.deed, deed);
         free(&self.alloc, self.capacity, cells, old);
         self.after = after;
         self.capacity = wanted;
         Ok(())
+    }
+
+    /// Copies the items left of the place to the front of `len` places, and the others to their end.
+    /// The result is the first place of the others.
+    fn copy_to(&self, cells: &mut Cells<T>, len: usize) -> usize
+        requires len { length cells.old.slots ≡ len }
+        requires longer { self.now.capacity ≤ len }
+        ensures items { live cells.new.slots self.now.place result ≡ map Some self.now.items }
+        ensures end { result + length self.now.items ≡ self.now.place + len }
+        ensures len { length cells.new.slots ≡ len }
+        ensures start { cells.new.start ≡ cells.old.start }
+    {
+        let right = self.capacity - self.after;
+        let after = len - right;
+        copy_items(&self.cells, 0, cells, 0, self.gap);
+        copy_items(&self.cells, self.after, cells, after, right);
+        after
     }
 }
 
