@@ -1,6 +1,8 @@
 //! The fields of a frame, and what is noted of them.
 
-ghost use Rattle.std.specs.Prelude.{◌≡◌, List, length};
+ghost use Rattle.std.specs.Prelude.{◌≡◌, List, length, ◌||◌, ◌==◌, nat_lt};
+ghost use Rattle.irig_codes.specs.declared.layout.Digit.TheVariants.{DaysUnits, DaysTens};
+ghost use Rattle.irig_codes.specs.declared.layout.Digit.TheVariants.{DaysHundreds};
 ghost use Rattle.irig_codes.specs.Decoding.{decoded};
 ghost use Rattle.irig_codes.specs.Notes.{note_of, sbs_disagrees};
 ghost use Rattle.irig_codes.specs.declared.width.Element.{Element};
@@ -60,35 +62,39 @@ fn is_over(digits: &[u64; 15], number: Digit) -> bool
     digit(digits, number) > 9
 }
 
+/// Whether one of two decimal digits is above 9.
+fn are_over(digits: &[u64; 15], units: Digit, tens: Digit) -> bool
+    ensures { result ≡ (over digits.now units || over digits.now tens) }
+{
+    is_over(digits, units) || is_over(digits, tens)
+}
+
+/// Whether a digit of the day is above 9, or there is no such day.
+fn is_no_day(digits: &[u64; 15], day: u32) -> bool
+    ensures { result ≡ (over digits.now DaysUnits || (over digits.now DaysTens
+        || (over digits.now DaysHundreds || ((day == 0) || nat_lt 366 day)))) }
+{
+    are_over(digits, Digit::DaysUnits, Digit::DaysTens)
+        || is_over(digits, Digit::DaysHundreds)
+        || day == 0
+        || day > 366
+}
+
 /// The first field with a digit above 9, or out of its range.
 fn first_wrong(digits: &[u64; 15], fields: &Fields) -> Option<Name>
     ensures { result ≡ first_wrong_field digits.now fields.now }
 {
-    if is_over(digits, Digit::HundredthsUnits) || is_over(digits, Digit::HundredthsTens) {
+    if are_over(digits, Digit::HundredthsUnits, Digit::HundredthsTens) {
         Some(Name::Hundredths)
-    } else if is_over(digits, Digit::SecondsUnits)
-        || is_over(digits, Digit::SecondsTens)
-        || fields.seconds > 60
-    {
+    } else if are_over(digits, Digit::SecondsUnits, Digit::SecondsTens) || fields.seconds > 60 {
         Some(Name::Seconds)
-    } else if is_over(digits, Digit::MinutesUnits)
-        || is_over(digits, Digit::MinutesTens)
-        || fields.minutes > 59
-    {
+    } else if are_over(digits, Digit::MinutesUnits, Digit::MinutesTens) || fields.minutes > 59 {
         Some(Name::Minutes)
-    } else if is_over(digits, Digit::HoursUnits)
-        || is_over(digits, Digit::HoursTens)
-        || fields.hours > 23
-    {
+    } else if are_over(digits, Digit::HoursUnits, Digit::HoursTens) || fields.hours > 23 {
         Some(Name::Hours)
-    } else if is_over(digits, Digit::DaysUnits)
-        || is_over(digits, Digit::DaysTens)
-        || is_over(digits, Digit::DaysHundreds)
-        || fields.days == 0
-        || fields.days > 366
-    {
+    } else if is_no_day(digits, fields.days) {
         Some(Name::Days)
-    } else if is_over(digits, Digit::YearUnits) || is_over(digits, Digit::YearTens) {
+    } else if are_over(digits, Digit::YearUnits, Digit::YearTens) {
         Some(Name::Year)
     } else {
         None
