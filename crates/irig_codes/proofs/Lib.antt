@@ -1,9 +1,9 @@
--- values of the standard, computed
+-- values of the standard, computed, and two definitions that agree
+pub mod Presence
 pub mod StandardFacts
 pub mod StandardFrames
 pub mod WidthLemmas
 -- the table of rows and the slots of a frame, which say the same of every frame
-pub mod Presence
 pub mod RowSums
 pub mod Rows
 pub mod Shapes

@@ -1,6 +1,6 @@
 -- The bits of a frame grow by one element at either end.
 use Rattle.std.proofs.Common.{◌≡◌, ℕ, suc, ◌+◌, ◌-◌, ◌*◌, ◌/◌, ◌^◌, ◌<◌, ◌++◌, Bool, true, false, cond, List, [], ◌∷◌, get_or, drop, length, sym, ap, ap₂, ◌∙◌}
-use Rattle.std.proofs.Common.{arith, lit<}
+use Rattle.std.proofs.Common.{arith}
 use mir.Val.{bool_byte}
 use Rattle.std.proofs.Math.Nat.{pow-suc}
 use Rattle.std.proofs.lemmas.Nat.{pow-add}
@@ -26,13 +26,6 @@ ones-append (x ∷ xs) e =
 
       pow-two : (k : ℕ) → 2 * 2 ^ k ≡ 2 ^ suc k
       pow-two k = omega (arith, pow-suc 2 k)
-
-pub ones-below : (es : List Element) → ones_of es < 2 ^ length es
-ones-below [] = lit< tt
-ones-below (e ∷ es) = below (counts e) (ones_of es) (2 ^ length es) (2 ^ suc (length es)) (ones-below es) (pow-suc 2 (length es)) where
-  below : (b : Bool) (n w v : ℕ) → n < w → v ≡ w * 2 → cond b 1 0 + 2 * n < v
-  below true n w v h q = omega (arith, h, q)
-  below false n w v h q = omega (arith, h, q)
 
 -- one more element before those of a frame's end
 pub of-more : (es : List Element) (i n : ℕ) (b : Bool) → length es ≡ 100 → i < 100 → b ≡ counts (get_or es (99 - i) Zero) → n ≡ ones_of (drop (100 - i) es)

@@ -9,13 +9,6 @@ use Rattle.irig_codes.specs.declared.format.Kind.TheVariants.{A, B, E, G}
 use Rattle.irig_codes.specs.declared.width.Element.{Element}
 use Rattle.irig_codes.specs.declared.width.Element.TheVariants.{Zero, One, Position}
 
--- an interval is a tenth of a second at most
-pub interval_of-le : (k : Kind) → interval_of k ≤ 100000
-interval_of-le A = omega arith
-interval_of-le B = omega arith
-interval_of-le E = omega arith
-interval_of-le G = omega arith
-
 -- a frame takes ten seconds at most, in hundredths
 pub frame_period_of-le : (k : Kind) → frame_period_of k / 10000 ≤ 1000
 frame_period_of-le A = omega arith
