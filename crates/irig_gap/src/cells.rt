@@ -99,6 +99,7 @@ pub(crate) fn block_of<T, A: Allocator>(mut vec: Vec<T, A>) -> (Cells<T>, Deed<T
 {
     let start = vec.as_mut_ptr();
     let (cells, deed, husk) = take_over(vec, start);
+    // The block has another owner now, so the vector is not dropped.
     let _husk = unsafe { ManuallyDrop::new_unchecked(husk) };
     (cells, deed)
 }
