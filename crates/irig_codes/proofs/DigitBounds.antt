@@ -1,7 +1,9 @@
 -- All numbers but the control functions have at most 17 bits.
 use Rattle.std.proofs.Common.{ℕ, zero, suc, ◌<◌, ◌≤◌, Bool, true, false, List, [], ◌∷◌, get_or, arith}
 use Rattle.irig_codes.specs.Format.{FormatView, has_year, carries_sbs}
-use Rattle.irig_codes.specs.OnesDigits.{hundredths_units_in, hundredths_tens_in, seconds_units_in, year_units_in, year_tens_in, sbs_in, digits_in}
+use Rattle.irig_codes.specs.declared.note.Name.TheVariants.{Hundredths, Seconds, Year}
+use Rattle.irig_codes.specs.Layout.{runs}
+use Rattle.irig_codes.specs.OnesDigits.{digit_in, sbs_in, digits_in}
 use Rattle.irig_codes.specs.declared.format.Kind.{Kind}
 use Rattle.irig_codes.specs.declared.format.Kind.TheVariants.{A, B, E, G}
 
@@ -17,32 +19,38 @@ small-get (suc n) [] h d b = omega arith
 small-get (suc n) (x ∷ xs) h zero b = h.0
 small-get (suc n) (x ∷ xs) h (suc d) b = small-get n xs h.1 d (omega arith)
 
-small-hundredths-units : (k : Kind) (n : ℕ) → hundredths_units_in k n ≤ 131071
-small-hundredths-units A n = omega arith
-small-hundredths-units B n = omega arith
-small-hundredths-units E n = omega arith
-small-hundredths-units G n = omega arith
+small-hundredths-units : (k : Kind) (y : Bool) (n : ℕ) → digit_in n 1 (runs k y Hundredths) ≤ 131071
+small-hundredths-units A y n = omega arith
+small-hundredths-units B y n = omega arith
+small-hundredths-units E y n = omega arith
+small-hundredths-units G y n = omega arith
 
-small-hundredths-tens : (k : Kind) (n : ℕ) → hundredths_tens_in k n ≤ 131071
-small-hundredths-tens A n = omega arith
-small-hundredths-tens B n = omega arith
-small-hundredths-tens E n = omega arith
-small-hundredths-tens G n = omega arith
+small-hundredths-tens : (k : Kind) (y : Bool) (n : ℕ) → digit_in n 10 (runs k y Hundredths) ≤ 131071
+small-hundredths-tens A y n = omega arith
+small-hundredths-tens B y n = omega arith
+small-hundredths-tens E y n = omega arith
+small-hundredths-tens G y n = omega arith
 
-small-seconds-units : (k : Kind) (n : ℕ) → seconds_units_in k n ≤ 131071
-small-seconds-units A n = omega arith
-small-seconds-units B n = omega arith
-small-seconds-units E n = omega arith
-small-seconds-units G n = omega arith
+small-seconds-units : (k : Kind) (y : Bool) (n : ℕ) → digit_in n 1 (runs k y Seconds) ≤ 131071
+small-seconds-units A y n = omega arith
+small-seconds-units B y n = omega arith
+small-seconds-units E y n = omega arith
+small-seconds-units G y n = omega arith
 
-small-year-units : (k : Kind) (y : Bool) (n : ℕ) → year_units_in k y n ≤ 131071
+small-seconds-tens : (k : Kind) (y : Bool) (n : ℕ) → digit_in n 10 (runs k y Seconds) ≤ 131071
+small-seconds-tens A y n = omega arith
+small-seconds-tens B y n = omega arith
+small-seconds-tens E y n = omega arith
+small-seconds-tens G y n = omega arith
+
+small-year-units : (k : Kind) (y : Bool) (n : ℕ) → digit_in n 1 (runs k y Year) ≤ 131071
 small-year-units k false n = omega arith
 small-year-units A true n = omega arith
 small-year-units B true n = omega arith
 small-year-units E true n = omega arith
 small-year-units G true n = omega arith
 
-small-year-tens : (k : Kind) (y : Bool) (n : ℕ) → year_tens_in k y n ≤ 131071
+small-year-tens : (k : Kind) (y : Bool) (n : ℕ) → digit_in n 10 (runs k y Year) ≤ 131071
 small-year-tens k false n = omega arith
 small-year-tens A true n = omega arith
 small-year-tens B true n = omega arith
@@ -58,13 +66,13 @@ digits-small f n =
     let k = f.kind in
     let y = has_year f.expression in
     small-get 14 (digits_in f n) (
-      small-hundredths-units k n,
+      small-hundredths-units k y n,
       (
-        small-hundredths-tens k n,
+        small-hundredths-tens k y n,
         (
-          small-seconds-units k n,
+          small-seconds-units k y n,
           (
-            omega arith,
+            small-seconds-tens k y n,
             (
               omega arith,
               (

@@ -2,7 +2,8 @@
 use Rattle.std.proofs.Common.{ℕ, ◌+◌, ◌≤◌, ◌-◌, ◌^◌, Bool, true, false, cond, List, [], ◌∷◌, unwrap_or, arith}
 use Rattle.irig_codes.specs.Fields.{part}
 use Rattle.irig_codes.specs.Format.{FormatView, has_hundredths, has_control, has_sbs, has_year, carries_sbs}
-use Rattle.irig_codes.specs.Layout.{decimal, sbs, control, Row, rows_of, table}
+use Rattle.irig_codes.specs.Layout.{decimal, sbs, control, rows_of, table}
+use Rattle.irig_codes.specs.Runs.{Row}
 use Rattle.irig_codes.specs.Narrow.{AreNarrow}
 use Rattle.irig_codes.specs.Reading.{fields_read, is_one, sum_of, value_of}
 use Rattle.irig_codes.specs.declared.format.Kind.{Kind}

@@ -1,5 +1,5 @@
 -- The elements that are One as the bits of a number.
-use Rattle.std.proofs.Common.{◌≡◌, ℕ, zero, suc, ◌+◌, ◌*◌, ◌/◌, ◌%◌, ◌^◌, ◌<◌, ◌++◌, Bool, true, false, cond, List, [], ◌∷◌, get_or, length, refl, sym, ap, ap₂}
+use Rattle.std.proofs.Common.{◌≡◌, ℕ, zero, suc, ◌+◌, ◌*◌, ◌/◌, ◌%◌, ◌^◌, ◌<◌, Bool, true, false, cond, List, [], ◌∷◌, get_or, length, refl, sym, ap, ap₂}
 use Rattle.std.proofs.Common.{◌∙◌, arith, lit<}
 use Rattle.std.specs.Int.{bit_at}
 use Rattle.std.proofs.Math.Arith.{mod-mul}
@@ -7,10 +7,10 @@ use Rattle.std.proofs.Math.Nat.{mod-one, mul-zero, one-mul, div-div-eq-div-mul, 
 use Rattle.std.proofs.lemmas.Nat.{pow-add, pow_pos}
 use Rattle.std.proofs.lemmas.Nat.Bits.{bit_at-suc, bit_at-zero}
 use Rattle.irig_codes.specs.Format.{FormatView, has_control, has_sbs, has_year, carries_sbs}
-use Rattle.irig_codes.specs.Layout.{decimal, sbs, control, Row, table, doubling, control_rows, control_starts}
+use Rattle.irig_codes.specs.Layout.{decimal, sbs, control, table, runs, sbs_runs, control_rows, control_starts}
+use Rattle.irig_codes.specs.Runs.{Row, Run, doubling, rows}
 use Rattle.irig_codes.specs.Ones.{ones_of, bits_in}
-use Rattle.irig_codes.specs.OnesDigits.{control_number, hundredths_units_in, hundredths_tens_in, seconds_units_in, year_units_in, year_tens_in, sbs_in}
-use Rattle.irig_codes.specs.OnesDigits.{control_in, digits_in}
+use Rattle.irig_codes.specs.OnesDigits.{digit_in, whole_in, sbs_in, control_number, control_in, digits_in}
 use Rattle.irig_codes.specs.Reading.{counts, is_one, sum_of}
 use Rattle.irig_codes.specs.Slots.{slots_at}
 use Rattle.irig_codes.specs.Digits.{digits_read, value_at}
@@ -79,47 +79,51 @@ by-100 : (x y : ℕ) → 100 * x ≡ 100 * y → x ≡ y
 by-100 x y h = omega (arith, h)
 
 hundredths-units : (k : Kind) (c s y : Bool) (es : List Element) → sum_of es (of_unit 1 (table k c s y (decimal Hundredths)))
-    ≡ 1 * hundredths_units_in k (ones_of es)
+    ≡ 1 * digit_in (ones_of es) 1 (runs k y Hundredths)
 hundredths-units A c s y es = refl
 hundredths-units B c s y es = refl
 hundredths-units E c s y es = refl
 hundredths-units G c s y es = sum-doubling es 50 1 4
 
 hundredths-tens : (k : Kind) (c s y : Bool) (es : List Element) → sum_of es (of_unit 10 (table k c s y (decimal Hundredths)))
-    ≡ 10 * hundredths_tens_in k (ones_of es)
+    ≡ 10 * digit_in (ones_of es) 10 (runs k y Hundredths)
 hundredths-tens A c s y es = sum-doubling es 45 10 4
 hundredths-tens B c s y es = refl
 hundredths-tens E c s y es = refl
 hundredths-tens G c s y es = sum-doubling es 45 10 4
 
-seconds-units : (k : Kind) (c s y : Bool) (es : List Element) → sum_of es (of_unit 1 (table k c s y (decimal Seconds))) ≡ 1 * seconds_units_in k (ones_of es)
+seconds-units : (k : Kind) (c s y : Bool) (es : List Element) → sum_of es (of_unit 1 (table k c s y (decimal Seconds))) ≡ 1 * digit_in (ones_of es) 1 (runs k y Seconds)
 seconds-units A c s y es = sum-doubling es 1 1 4
 seconds-units B c s y es = sum-doubling es 1 1 4
 seconds-units E c s y es = refl
 seconds-units G c s y es = sum-doubling es 1 1 4
 
-seconds-tens : (k : Kind) (c s y : Bool) (es : List Element) → sum_of es (of_unit 10 (table k c s y (decimal Seconds))) ≡ 10 * bits_in (ones_of es) 6 3
+seconds-tens : (k : Kind) (c s y : Bool) (es : List Element) → sum_of es (of_unit 10 (table k c s y (decimal Seconds))) ≡ 10 * digit_in (ones_of es) 10 (runs k y Seconds)
 seconds-tens A c s y es = sum-doubling es 6 10 3
 seconds-tens B c s y es = sum-doubling es 6 10 3
 seconds-tens E c s y es = sum-doubling es 6 10 3
 seconds-tens G c s y es = sum-doubling es 6 10 3
 
-year-units : (k : Kind) (c s y : Bool) (es : List Element) → sum_of es (of_unit 1 (table k c s y (decimal Year))) ≡ 1 * year_units_in k y (ones_of es)
+year-units : (k : Kind) (c s y : Bool) (es : List Element) → sum_of es (of_unit 1 (table k c s y (decimal Year))) ≡ 1 * digit_in (ones_of es) 1 (runs k y Year)
 year-units k c s false es = refl
 year-units A c s true es = sum-doubling es 50 1 4
 year-units B c s true es = sum-doubling es 50 1 4
 year-units E c s true es = sum-doubling es 50 1 4
 year-units G c s true es = sum-doubling es 60 1 4
 
-year-tens : (k : Kind) (c s y : Bool) (es : List Element) → sum_of es (of_unit 10 (table k c s y (decimal Year))) ≡ 10 * year_tens_in k y (ones_of es)
+year-tens : (k : Kind) (c s y : Bool) (es : List Element) → sum_of es (of_unit 10 (table k c s y (decimal Year))) ≡ 10 * digit_in (ones_of es) 10 (runs k y Year)
 year-tens k c s false es = refl
 year-tens A c s true es = sum-doubling es 55 10 4
 year-tens B c s true es = sum-doubling es 55 10 4
 year-tens E c s true es = sum-doubling es 55 10 4
 year-tens G c s true es = sum-doubling es 65 10 4
 
-sbs-rows : (es : List Element) → sum_of es (doubling 80 1 9 ++ doubling 90 512 8) ≡ bits_in (ones_of es) 80 9 + 512 * bits_in (ones_of es) 90 8
-sbs-rows es = sum-append es (doubling 80 1 9) (doubling 90 512 8) ∙ ap₂ (λ x y. x + y) (sum-doubling es 80 1 9 ∙ one-mul _) (sum-doubling es 90 512 8)
+-- the sum of the rows of runs is the whole number in them
+rows-whole : (es : List Element) (rs : List Run) → sum_of es (rows rs) ≡ whole_in (ones_of es) rs
+rows-whole es [] = refl
+rows-whole es (r ∷ rs) =
+    sum-append es (doubling r.first r.weight r.count) (rows rs)
+    ∙ ap₂ (λ x y. x + y) (sum-doubling es r.first r.weight r.count) (rows-whole es rs)
 
 -- whether the straight binary seconds are there
 abbrev pub carried : Kind → Bool → Bool
@@ -129,9 +133,9 @@ carried E s = false
 carried G s = false
 
 sbs-flag : (k : Kind) (c s y : Bool) (es : List Element) → sum_of es (table k c s y sbs) ≡ sbs_in (carried k s) (ones_of es)
-sbs-flag A c true y es = sbs-rows es
+sbs-flag A c true y es = rows-whole es sbs_runs
 sbs-flag A c false y es = refl
-sbs-flag B c true y es = sbs-rows es
+sbs-flag B c true y es = rows-whole es sbs_runs
 sbs-flag B c false y es = refl
 sbs-flag E c true y es = refl
 sbs-flag E c false y es = refl

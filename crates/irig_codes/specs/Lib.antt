@@ -10,6 +10,7 @@ pub mod Ones
 pub mod Parts
 pub mod Reading
 pub mod OnesDigits
+pub mod Runs
 pub mod Slots
 pub mod Used
 pub mod Width

@@ -1,44 +1,28 @@
 -- The fifteen numbers that a frame carries, from its elements that are One as the bits of a
 -- number: element k is bit k. This project's own.
-use Rattle.std.specs.Prelude.{ℕ, ◌+◌, ◌*◌, Bool, true, false, List, [], ◌∷◌}
+use Rattle.std.specs.Prelude.{ℕ, ◌+◌, ◌*◌, ◌==◌, Bool, true, false, if◌then◌else◌, List, [], ◌∷◌}
 use Rattle.irig_codes.specs.declared.format.Kind.{Kind}
-use Rattle.irig_codes.specs.declared.format.Kind.TheVariants.{A, E, G}
+use Rattle.irig_codes.specs.declared.note.Name.TheVariants.{Hundredths, Seconds, Minutes, Hours}
+use Rattle.irig_codes.specs.declared.note.Name.TheVariants.{Days, Year}
 use Rattle.irig_codes.specs.Format.{FormatView, has_control, has_year, carries_sbs}
-use Rattle.irig_codes.specs.Layout.{control_starts}
+use Rattle.irig_codes.specs.Layout.{runs, sbs_runs, control_starts}
+use Rattle.irig_codes.specs.Runs.{Run}
 use Rattle.irig_codes.specs.Ones.{bits_in}
 
--- the units of the hundredths
-abbrev pub hundredths_units_in : Kind → ℕ → ℕ
-hundredths_units_in G n = bits_in n 50 4
-hundredths_units_in _ n = 0
+-- the number in the run whose first weight is w; 0 without one
+abbrev pub digit_in : ℕ → ℕ → List Run → ℕ
+digit_in n w [] = 0
+digit_in n w (r ∷ rs) =
+    if r.weight == w then bits_in n r.first r.count else digit_in n w rs
 
--- their tens
-abbrev pub hundredths_tens_in : Kind → ℕ → ℕ
-hundredths_tens_in A n = bits_in n 45 4
-hundredths_tens_in G n = bits_in n 45 4
-hundredths_tens_in _ n = 0
-
--- the units of the seconds
-abbrev pub seconds_units_in : Kind → ℕ → ℕ
-seconds_units_in E n = 0
-seconds_units_in _ n = bits_in n 1 4
-
--- the units of the year, if a format has one
-abbrev pub year_units_in : Kind → Bool → ℕ → ℕ
-year_units_in k false n = 0
-year_units_in G true n = bits_in n 60 4
-year_units_in _ true n = bits_in n 50 4
-
--- their tens
-abbrev pub year_tens_in : Kind → Bool → ℕ → ℕ
-year_tens_in k false n = 0
-year_tens_in G true n = bits_in n 65 4
-year_tens_in _ true n = bits_in n 55 4
+-- the whole number in some runs
+abbrev pub whole_in : ℕ → List Run → ℕ
+whole_in n [] = 0
+whole_in n (r ∷ rs) = r.weight * bits_in n r.first r.count + whole_in n rs
 
 -- the straight binary seconds, if a format has them
 abbrev pub sbs_in : Bool → ℕ → ℕ
-sbs_in true n = bits_in n 80 9 + 512 * bits_in n 90 8
-sbs_in false n = 0
+sbs_in there n = if there then whole_in n sbs_runs else 0
 
 -- the number of the control elements: nine bits from each of these places on
 abbrev pub control_number : ℕ → List ℕ → ℕ
@@ -53,12 +37,14 @@ control_in k true y n = control_number n (control_starts k y)
 -- the fifteen numbers
 abbrev pub digits_in : FormatView → ℕ → List ℕ
 digits_in f n =
-    hundredths_units_in f.kind n ∷ hundredths_tens_in f.kind n
-    ∷ seconds_units_in f.kind n ∷ bits_in n 6 3
-    ∷ bits_in n 10 4 ∷ bits_in n 15 3
-    ∷ bits_in n 20 4 ∷ bits_in n 25 2
-    ∷ bits_in n 30 4 ∷ bits_in n 35 4 ∷ bits_in n 40 2
-    ∷ year_units_in f.kind (has_year f.expression) n
-    ∷ year_tens_in f.kind (has_year f.expression) n
-    ∷ sbs_in (carries_sbs f.kind f.expression) n
-    ∷ control_in f.kind (has_control f.expression) (has_year f.expression) n ∷ []
+    let k = f.kind in
+    let y = has_year f.expression in
+    digit_in n 1 (runs k y Hundredths) ∷ digit_in n 10 (runs k y Hundredths)
+    ∷ digit_in n 1 (runs k y Seconds) ∷ digit_in n 10 (runs k y Seconds)
+    ∷ digit_in n 1 (runs k y Minutes) ∷ digit_in n 10 (runs k y Minutes)
+    ∷ digit_in n 1 (runs k y Hours) ∷ digit_in n 10 (runs k y Hours)
+    ∷ digit_in n 1 (runs k y Days) ∷ digit_in n 10 (runs k y Days)
+    ∷ digit_in n 100 (runs k y Days)
+    ∷ digit_in n 1 (runs k y Year) ∷ digit_in n 10 (runs k y Year)
+    ∷ sbs_in (carries_sbs k f.expression) n
+    ∷ control_in k (has_control f.expression) y n ∷ []

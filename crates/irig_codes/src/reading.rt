@@ -1,17 +1,18 @@
 //! The fifteen numbers that a frame carries, by its elements that are One.
 
-ghost use Rattle.std.specs.Prelude.{◌≡◌, ◌<◌, ◌+◌, ◌*◌, ◌^◌, [], ◌∷◌};
+ghost use Rattle.std.specs.Prelude.{◌≡◌, ◌<◌, ◌+◌, ◌*◌, ◌^◌, [], ◌∷◌, false};
 ghost use Rattle.irig_codes.specs.Ones.{bits_in};
-ghost use Rattle.irig_codes.specs.OnesDigits.{control_number, hundredths_units_in};
-ghost use Rattle.irig_codes.specs.OnesDigits.{hundredths_tens_in, seconds_units_in, year_units_in};
-ghost use Rattle.irig_codes.specs.OnesDigits.{year_tens_in, sbs_in, control_in, digits_in};
+ghost use Rattle.irig_codes.specs.OnesDigits.{control_number, digit_in, sbs_in, control_in};
+ghost use Rattle.irig_codes.specs.OnesDigits.{digits_in};
+ghost use Rattle.irig_codes.specs.Layout.{runs};
+ghost use Rattle.irig_codes.specs.declared.note.Name.TheVariants.{Hundredths, Seconds, Year};
 
 use crate::format::{Format, Kind};
 use crate::ones::Ones;
 
 /// The units of the hundredths: formats A, B and E have none.
 fn hundredths_units(kind: Kind, ones: Ones) -> u64
-    ensures { result ≡ hundredths_units_in kind ones }
+    ensures { result ≡ digit_in ones 1 (runs kind false Hundredths) }
 {
     match kind {
         Kind::G => ones.bits(50, 4),
@@ -21,7 +22,7 @@ fn hundredths_units(kind: Kind, ones: Ones) -> u64
 
 /// The tens of the hundredths: formats B and E have none.
 fn hundredths_tens(kind: Kind, ones: Ones) -> u64
-    ensures { result ≡ hundredths_tens_in kind ones }
+    ensures { result ≡ digit_in ones 10 (runs kind false Hundredths) }
 {
     match kind {
         Kind::A | Kind::G => ones.bits(45, 4),
@@ -31,7 +32,7 @@ fn hundredths_tens(kind: Kind, ones: Ones) -> u64
 
 /// The units of the seconds: format E has none.
 fn seconds_units(kind: Kind, ones: Ones) -> u64
-    ensures { result ≡ seconds_units_in kind ones }
+    ensures { result ≡ digit_in ones 1 (runs kind false Seconds) }
 {
     match kind {
         Kind::E => 0,
@@ -41,7 +42,7 @@ fn seconds_units(kind: Kind, ones: Ones) -> u64
 
 /// The units of the year, if the expression has one.
 fn year_units(kind: Kind, year: bool, ones: Ones) -> u64
-    ensures { result ≡ year_units_in kind year ones }
+    ensures { result ≡ digit_in ones 1 (runs kind year Year) }
 {
     match (kind, year) {
         (_, false) => 0,
@@ -52,7 +53,7 @@ fn year_units(kind: Kind, year: bool, ones: Ones) -> u64
 
 /// The tens of the year, if the expression has one.
 fn year_tens(kind: Kind, year: bool, ones: Ones) -> u64
-    ensures { result ≡ year_tens_in kind year ones }
+    ensures { result ≡ digit_in ones 10 (runs kind year Year) }
 {
     match (kind, year) {
         (_, false) => 0,
