@@ -92,13 +92,15 @@ hundredths-tens B c s y es = refl
 hundredths-tens E c s y es = refl
 hundredths-tens G c s y es = sum-doubling es 45 10 4
 
-seconds-units : (k : Kind) (c s y : Bool) (es : List Element) → sum_of es (of_unit 1 (table k c s y (decimal Seconds))) ≡ 1 * digit_in (ones_of es) 1 (runs k y Seconds)
+seconds-units : (k : Kind) (c s y : Bool) (es : List Element) → sum_of es (of_unit 1 (table k c s y (decimal Seconds)))
+    ≡ 1 * digit_in (ones_of es) 1 (runs k y Seconds)
 seconds-units A c s y es = sum-doubling es 1 1 4
 seconds-units B c s y es = sum-doubling es 1 1 4
 seconds-units E c s y es = refl
 seconds-units G c s y es = sum-doubling es 1 1 4
 
-seconds-tens : (k : Kind) (c s y : Bool) (es : List Element) → sum_of es (of_unit 10 (table k c s y (decimal Seconds))) ≡ 10 * digit_in (ones_of es) 10 (runs k y Seconds)
+seconds-tens : (k : Kind) (c s y : Bool) (es : List Element) → sum_of es (of_unit 10 (table k c s y (decimal Seconds)))
+    ≡ 10 * digit_in (ones_of es) 10 (runs k y Seconds)
 seconds-tens A c s y es = sum-doubling es 6 10 3
 seconds-tens B c s y es = sum-doubling es 6 10 3
 seconds-tens E c s y es = sum-doubling es 6 10 3
@@ -111,7 +113,8 @@ year-units B c s true es = sum-doubling es 50 1 4
 year-units E c s true es = sum-doubling es 50 1 4
 year-units G c s true es = sum-doubling es 60 1 4
 
-year-tens : (k : Kind) (c s y : Bool) (es : List Element) → sum_of es (of_unit 10 (table k c s y (decimal Year))) ≡ 10 * digit_in (ones_of es) 10 (runs k y Year)
+year-tens : (k : Kind) (c s y : Bool) (es : List Element) → sum_of es (of_unit 10 (table k c s y (decimal Year)))
+    ≡ 10 * digit_in (ones_of es) 10 (runs k y Year)
 year-tens k c s false es = refl
 year-tens A c s true es = sum-doubling es 55 10 4
 year-tens B c s true es = sum-doubling es 55 10 4

@@ -219,8 +219,8 @@ impl<T: Copy> Gap<T> {
         Ok(())
     }
 
-    /// Copies the items left of the place to the front of `len` places, and the others to their end.
-    /// The result is the first place of the others.
+    /// Copies the items left of the place to the front of `len` places, and the others to their
+    /// end. The result is the first place of the others.
     fn copy_to(&self, cells: &mut Cells<T>, len: usize) -> usize
         requires len { length cells.old.slots ≡ len }
         requires longer { self.now.capacity ≤ len }

@@ -20,13 +20,13 @@ copy_items-requires-2-clause-fits g c =
     (omega (arith, c.self.invariant.1, c.self.invariant.2), omega (arith, fits, c.requires.longer, c.self.invariant.1))
 
 pub returns-clause-items : goal.returns-clause-items
-returns-clause-items g c = (copied_sides _ _ _ _ c.self.view_is c.self.invariant.0 _ _ _ _ _ _ c.requires.len c.requires.longer (omega (arith, c.self.invariant.1))
-    refl c.copy_items.ensures.slots c.copy_items-2.ensures.slots).0
+returns-clause-items g c = (copied_sides _ _ _ _ c.self.view_is c.self.invariant.0 _ _ _ _ _ _ c.requires.len c.requires.longer
+    (omega (arith, c.self.invariant.1)) refl c.copy_items.ensures.slots c.copy_items-2.ensures.slots).0
 
 pub returns-clause-end : goal.returns-clause-end
 returns-clause-end g c =
     let s = shows _ _ _ _ c.self.view_is c.self.invariant.0 in omega (arith, c.requires.longer, c.self.invariant.1)
 
 pub returns-clause-len : goal.returns-clause-len
-returns-clause-len g c = (copied_sides _ _ _ _ c.self.view_is c.self.invariant.0 _ _ _ _ _ _ c.requires.len c.requires.longer (omega (arith, c.self.invariant.1))
-    refl c.copy_items.ensures.slots c.copy_items-2.ensures.slots).1
+returns-clause-len g c = (copied_sides _ _ _ _ c.self.view_is c.self.invariant.0 _ _ _ _ _ _ c.requires.len c.requires.longer
+    (omega (arith, c.self.invariant.1)) refl c.copy_items.ensures.slots c.copy_items-2.ensures.slots).1
