@@ -1,12 +1,12 @@
 -- The steps of a side and its places, as entries and changes are exchanged.
-use Rattle.std.proofs.Common.{◌≡◌, ◌≤◌, List, length, map, vec_capacity, vec_len, ap, ap₂, ◌∙◌, arith, inl, inr}
+use Rattle.std.proofs.Common.{◌≡◌, ◌≤◌, ◌+◌, List, length, map, vec_capacity, vec_len, ap, ap₂, ◌∙◌, arith, inl, inr}
 use Rattle.std.specs.Prelude.{◌⊎◌}
 use Rattle.std.proofs.lemmas.List.{length-map, length-reverse}
 use Rattle.irig_journal.specs.declared.entry.Entry.{Entry}
 use Rattle.irig_journal.specs.declared.side.Side.{Side}
 use Rattle.irig_journal.specs.Held.{Parts, held_in}
 use Rattle.irig_journal.specs.Journal.{LacksPlace, steps_in, told}
-use Rattle.irig_journal.specs.Sides.{AreSides, IsSameSide, steps_on}
+use Rattle.irig_journal.specs.Sides.{AreSides, IsSameSide, spare_of, steps_on}
 use Rattle.irig_journal.proofs.HeldLemmas.{flat-held_in, length-held_in}
 
 module _ {C D : Type 0} where
@@ -43,3 +43,11 @@ module _ {C : Type 0} where
         length-reverse past.changes.items,
         length-reverse future.changes.items,
       ))))
+
+  -- a side with no place next to the steps of both has places for those of the other alone
+  pub lacks_group : (past future : Side C)
+      → ((vec_capacity past.entries ≤ vec_len past.entries + vec_len future.entries)
+      ⊎ (vec_capacity future.entries ≤ vec_len past.entries + vec_len future.entries))
+      → ((spare_of past).steps ≤ length (steps_on future)) ⊎ ((spare_of future).steps ≤ length (steps_on past))
+  lacks_group past future (inl full) = inl (omega (arith, full, length-held_in future.changes.items future.entries.items))
+  lacks_group past future (inr full) = inr (omega (arith, full, length-held_in past.changes.items past.entries.items))

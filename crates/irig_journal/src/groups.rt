@@ -1,8 +1,8 @@
 //! Groups: several edits that one undo reverses.
 
-ghost use Rattle.std.specs.Prelude.{◌≡◌, ◌↔◌, ◌<◌, ◌≤◌, ◌∷◌, ◌^◌, [], ℕ, IsErr, IsErrOf, IsNone};
-ghost use Rattle.std.specs.Prelude.{IsSome, IfSome, OnErr, OnOk, None, Some, drop, length, take};
-ghost use Rattle.std.specs.Prelude.{vec_capacity, vec_len};
+ghost use Rattle.std.specs.Prelude.{◌≡◌, ◌↔◌, ◌<◌, ◌≤◌, ◌⊎◌, ◌∷◌, ◌^◌, [], ℕ, IsErr, IsErrOf};
+ghost use Rattle.std.specs.Prelude.{IsNone, IsSome, IfSome, OnErr, OnOk, None, Some, drop, length};
+ghost use Rattle.std.specs.Prelude.{take, vec_capacity, vec_len};
 ghost use Rattle.irig_journal.specs.Groups.{aborted, begun, ended};
 ghost use Rattle.irig_journal.specs.History.{step};
 ghost use Rattle.irig_journal.specs.Joining.{CountsAlong, beyond, changes_of, farthest};
@@ -86,6 +86,8 @@ impl<R: Reversible> Journal<R> {
         ensures err { OnErr result (IsErrOf result JournalFault.OutOfMemory × (count ≡ 0)
             × (self.new.past ≡ self.old.past) × (self.new.future ≡ self.old.future)
             × (self.new.floor ≡ None)) }
+        ensures memory { OnErr result ((self.old.past_spare.steps ≤ length self.old.future)
+            ⊎ (self.old.future_spare.steps ≤ length self.old.past)) }
         ensures ready { AreReady R.fits R.turned R.delta (R.has_room (R.places state.now))
             (R.content state.now) self.new }
     {

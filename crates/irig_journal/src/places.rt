@@ -61,6 +61,8 @@ pub(crate) fn reserve_group(
         (vec_len past.old + vec_len future.old < vec_capacity past.new + count)
         × (vec_len past.old + vec_len future.old < vec_capacity future.new + count)) }
     ensures none { OnErr result (count ≡ 0) }
+    ensures full { OnErr result ((vec_capacity past.old ≤ vec_len past.old + vec_len future.old)
+        ⊎ (vec_capacity future.old ≤ vec_len past.old + vec_len future.old)) }
 {
     if count > 0 {
         return Ok(());

@@ -1,4 +1,4 @@
-use Rattle.std.proofs.Common.{rules, ◌≡◌, ◌≤◌, ◌<◌, ◌+◌, ◌-◌, ◌∷◌, None, length, map, take, drop, vec_len, vec_capacity, ap, sym, subst, ◌∙◌, arith}
+use Rattle.std.proofs.Common.{rules, ◌≡◌, ◌⊎◌, ◌≤◌, ◌<◌, ◌+◌, ◌-◌, ◌∷◌, None, length, map, take, drop, vec_len, vec_capacity, ap, sym, subst, ◌∙◌, arith}
 use Rattle.std.proofs.lemmas.List.{take-append-drop}
 use Rattle.irig_journal.specs.Held.{HaveAll, flat, held_in}
 use Rattle.irig_journal.specs.History.{FitInTurn, step}
@@ -11,7 +11,7 @@ use Rattle.irig_journal.proofs.EntryLemmas.{joined_steps, whole_joined}
 use Rattle.irig_journal.proofs.FloorLemmas.{floor_in}
 use Rattle.irig_journal.proofs.HeldLemmas.{counts-append, flat-held_in}
 use Rattle.irig_journal.proofs.JoinLemmas.{fit_joined, fit_parts}
-use Rattle.irig_journal.proofs.SideLemmas.{length-told}
+use Rattle.irig_journal.proofs.SideLemmas.{lacks_group, length-told}
 use Rattle.irig_journal.proofs.journal.Journal.gather.Goals as goal
 
 pub overflow_sub-at : goal.overflow_sub-at
@@ -74,6 +74,11 @@ invariant_of-self-2 g c =
         changes = sides.changes;
       },
     )
+
+pub returns-then-is_err-clause-memory : goal.returns-then-is_err-clause-memory
+returns-then-is_err-clause-memory g c =
+    subst (λ j. (j.past_spare.steps ≤ length j.future) ⊎ (j.future_spare.steps ≤ length j.past)) c.self.view_is
+    (lacks_group c.self.inside.past c.self.inside.future (search rules))
 
 -- the steps after: the group, and those that it leaves
 after_group : (g : _) (c : goal.After-join_beyond g)
