@@ -8,7 +8,7 @@ use Rattle.irig_journal.specs.declared.entry.Entry.{Entry}
 use Rattle.irig_journal.specs.declared.size.Size.{Size}
 use Rattle.irig_journal.specs.declared.step.Step as shown
 use Rattle.irig_journal.specs.declared.size.Size.TheVariants as size
-use Rattle.irig_journal.specs.Held.{Alone, HaveAll, Held, held_of, shown_in, flat, held, held_by, held_in, parts_in, parts_of}
+use Rattle.irig_journal.specs.Held.{Alone, HaveAll, Held, held_of, shown_in, flat, held, held_by, held_in, parts_in, parts_of, with_end}
 use Rattle.irig_journal.specs.Sizes.{count_of, counts_of, is_group}
 
 -- an item more, the last, is the first of the reversed list
@@ -112,11 +112,11 @@ module _ {C : Type 0} where
   length-shown false cs es = length-held_in cs es
 
   -- of steps shown from the oldest the first
-  pub shown_oldest : (b : Bool) (cs near left : List C) (es rest : List Entry) (e : Entry) (s : shown.Step C)
-      → b ≡ true → es ≡ e ∷ rest → cs ≡ near ++ left → length near ≡ count_of e.size → HaveAll cs es
+  pub shown_oldest : (cs near left : List C) (es rest : List Entry) (e : Entry) (s : shown.Step C)
+      → es ≡ e ∷ rest → cs ≡ near ++ left → length near ≡ count_of e.size → HaveAll cs es
       → s.changes.now ≡ near → s.is_group ≡ is_group e.size → s.cursor ≡ e.cursor
-      → shown_in b cs es ≡ held_of s ∷ shown_in b left rest
-  shown_oldest b cs near left es rest e s oldest entries parts same all changes group cursor =
+      → shown_in true cs es ≡ held_of s ∷ shown_in true left rest
+  shown_oldest cs near left es rest e s entries parts same all changes group cursor =
       let first : List (Held C) = held (parts_of (is_group e.size) (reverse near)) e.cursor ∷ [] in
       let whole : counts_of (reverse rest) ≡ length (reverse left) =
       omega (arith, all, same, ap length parts, length-append near left, ap counts_of entries, counts-cons e rest, counts-reverse rest, length-reverse left) in
@@ -129,28 +129,28 @@ module _ {C : Type 0} where
       ∙ (held_by-append (reverse left) (reverse near) (reverse rest) (e ∷ []) whole
       ∙ ap (λ (l : List (Held C)). held_in left rest ++ l) alone)) in
       let told : held_of s ≡ held (parts_of (is_group e.size) (reverse near)) e.cursor = rw (changes, group, cursor) refl in
-      ap (λ (x : Bool). shown_in x cs es) oldest
-      ∙ (reverse-push (held_in cs es) (held_in left rest) (held (parts_of (is_group e.size) (reverse near)) e.cursor) apart
-      ∙ (ap (λ (h : Held C). h ∷ reverse (held_in left rest)) (sym told)
-      ∙ ap (λ (x : Bool). held_of s ∷ shown_in x left rest) (sym oldest)))
+      reverse-push (held_in cs es) (held_in left rest) (held (parts_of (is_group e.size) (reverse near)) e.cursor) apart
+      ∙ ap (λ (h : Held C). h ∷ reverse (held_in left rest)) (sym told)
 
   -- of steps shown from the nearest the first
-  pub shown_nearest : (b : Bool) (cs near left : List C) (es rest : List Entry) (e : Entry) (s : shown.Step C)
-      → b ≡ false → es ≡ rest ++ e ∷ [] → cs ≡ left ++ near → length near ≡ count_of e.size
+  pub shown_nearest : (cs near left : List C) (es rest : List Entry) (e : Entry) (s : shown.Step C)
+      → es ≡ rest ++ e ∷ [] → cs ≡ left ++ near → length near ≡ count_of e.size
+      → s.changes.now ≡ near → s.is_group ≡ is_group e.size → s.cursor ≡ e.cursor
+      → shown_in false cs es ≡ held_of s ∷ shown_in false left rest
+  shown_nearest cs near left es rest e s entries parts same changes group cursor =
+      let told : held_of s ≡ held (parts_of (is_group e.size) (reverse near)) e.cursor = rw (changes, group, cursor) refl in
+      held_in-nearest cs es rest e (reverse near) (reverse left) entries (ap reverse parts ∙ reverse-append left near) (length-reverse near ∙ same)
+      ∙ ap (λ (h : Held C). h ∷ held_in left rest) (sym told)
+
+  -- of steps shown from one end the first
+  pub shown_next : (b : Bool) (cs near left : List C) (es rest : List Entry) (e : Entry) (s : shown.Step C)
+      → es ≡ with_end b (e ∷ []) rest → cs ≡ with_end b near left → length near ≡ count_of e.size → HaveAll cs es
       → s.changes.now ≡ near → s.is_group ≡ is_group e.size → s.cursor ≡ e.cursor
       → shown_in b cs es ≡ held_of s ∷ shown_in b left rest
-  shown_nearest b cs near left es rest e s nearest entries parts same changes group cursor =
-      let told : held_of s ≡ held (parts_of (is_group e.size) (reverse near)) e.cursor = rw (changes, group, cursor) refl in
-      ap (λ (x : Bool). shown_in x cs es) nearest
-      ∙ (held_in-nearest cs es rest e (reverse near) (reverse left) entries (ap reverse parts ∙ reverse-append left near)
-      (length-reverse near ∙ same)
-      ∙ (ap (λ (h : Held C). h ∷ held_in left rest) (sym told)
-      ∙ ap (λ (x : Bool). held_of s ∷ shown_in x left rest) (sym nearest)))
-
-  -- the nearest step has no more than all changes
-  pub nearest_within : (cs : List C) (es rest : List Entry) (e : Entry) → es ≡ rest ++ e ∷ [] → HaveAll cs es → count_of e.size ≤ length cs
-  nearest_within cs es rest e parts all =
-      omega (arith, all, ap counts_of parts ∙ sum_by_push (λ (x : Entry). count_of x.size) rest e)
+  shown_next true cs near left es rest e s entries parts same all changes group cursor =
+      shown_oldest cs near left es rest e s entries parts same all changes group cursor
+  shown_next false cs near left es rest e s entries parts same all changes group cursor =
+      shown_nearest cs near left es rest e s entries parts same changes group cursor
 
   -- a change alone is the nearest of all
   pub flat-cons : (c : C) (n : ℕ) (hs : List (Held C)) → flat (held (Alone c) n ∷ hs) ≡ c ∷ flat hs

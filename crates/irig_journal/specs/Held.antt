@@ -1,9 +1,14 @@
 -- What a journal holds of its steps: their changes and their cursors. This project's own.
-use Rattle.std.specs.Prelude.{ℕ, ◌≡◌, Bool, true, false, List, [], ◌∷◌, drop, flat_map, length}
+use Rattle.std.specs.Prelude.{ℕ, ◌≡◌, ◌++◌, Bool, true, false, List, [], ◌∷◌, drop, flat_map, length}
 use Rattle.std.specs.Prelude.{reverse, take}
 use Rattle.irig_journal.specs.declared.entry.Entry.{Entry}
 use Rattle.irig_journal.specs.declared.step.Step as shown
 use Rattle.irig_journal.specs.Sizes.{count_of, counts_of, is_group}
+
+-- a list that has these items at one end, the front or the back
+abbrev pub with_end : {A : Type 0} → Bool → List A → List A → List A
+with_end true items others = items ++ others
+with_end false items others = others ++ items
 
 -- the changes of a step: one alone, or those of a group, the nearest first
 pub data Parts (C : Type 0) : Type 0 where

@@ -1,8 +1,8 @@
 //! The steps of one side of a journal, one after another.
 
-ghost use Rattle.std.specs.Prelude.{◌≡◌, ◌∷◌, [], IfSome, MatchOption, false, length};
+ghost use Rattle.std.specs.Prelude.{◌≡◌, ◌≤◌, ◌∷◌, [], IfSome, MatchOption, false, length};
 ghost use Rattle.std.specs.List.{sum_by};
-ghost use Rattle.irig_journal.specs.Held.{held_of};
+ghost use Rattle.irig_journal.specs.Held.{held_of, with_end};
 ghost use Rattle.irig_journal.specs.Sizes.{is_group};
 
 use crate::Reversible;
@@ -42,21 +42,38 @@ impl<'j, C> StepsLeft<'j, C> {
         ensures next { MatchOption result (self.old ≡ []) (λ s. self.old ≡ held_of s ∷ self.new) }
         ensures alone { IfSome result (λ s. s.is_group ≡ false → length s.changes.now ≡ 1) }
     {
-        if self.from_oldest {
-            let (entry, entries) = self.entries.split_first()?;
-            let (changes, left) = self.changes.split_at(entry.size.count());
-            self.entries = entries;
-            self.changes = left;
-            Some(step_with(*entry, changes))
-        } else {
-            let (entry, entries) = self.entries.split_last()?;
-            let at = self.changes.len() - entry.size.count();
-            let (left, changes) = self.changes.split_at(at);
-            self.entries = entries;
-            self.changes = left;
-            Some(step_with(*entry, changes))
-        }
+        let (entry, entries) = entry_at_end(self.entries, self.from_oldest)?;
+        let count = entry.size.count();
+        let (changes, left) = changes_at_end(self.changes, count, self.from_oldest);
+        self.entries = entries;
+        self.changes = left;
+        Some(step_with(*entry, changes))
     }
+}
+
+/// The first entry or the last one, if there is one, and the others.
+fn entry_at_end(entries: &[Entry], first: bool) -> Option<(&Entry, &[Entry])>
+    ensures { MatchOption result (entries.now ≡ [])
+        (λ p. entries.now ≡ with_end first (p.0.now ∷ []) p.1.now) }
+{
+    if first {
+        entries.split_first()
+    } else {
+        entries.split_last()
+    }
+}
+
+/// The first `count` changes or the last ones, and the others.
+fn changes_at_end<C>(changes: &[C], count: usize, first: bool) -> (&[C], &[C])
+    requires { count ≤ length changes.now }
+    ensures parts { changes.now ≡ with_end first result.0.now result.1.now }
+    ensures many { length result.0.now ≡ count }
+{
+    if first {
+        return changes.split_at(count);
+    }
+    let (left, last) = changes.split_at(changes.len() - count);
+    (last, left)
 }
 
 /// The step with these changes.
