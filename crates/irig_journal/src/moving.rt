@@ -1,17 +1,53 @@
 //! Steps turned, and moved from one side of the present to the other. Nothing here takes memory.
 
-ghost use Rattle.std.specs.Prelude.{◌≡◌, ◌+◌, ◌<◌, ◌≤◌, reverse, vec_capacity, vec_len};
-ghost use Rattle.irig_journal.specs.History.{stepped_back};
+ghost use Rattle.std.specs.Prelude.{◌≡◌, ◌+◌, ◌<◌, ◌≤◌, ◌∷◌, [], reverse, vec_capacity, vec_len};
+ghost use Rattle.irig_journal.specs.Held.{Alone};
+ghost use Rattle.irig_journal.specs.History.{step, stepped_back};
 ghost use Rattle.irig_journal.specs.Journal.{AreReady, ReadyInTurn, history_of, one_of, past_of};
 ghost use Rattle.irig_journal.specs.Journal.{steps_in};
 ghost use Rattle.irig_journal.specs.Machine.{undone};
 ghost use Rattle.irig_journal.specs.Moves.{Moved};
 ghost use Rattle.irig_journal.specs.OneTurn.{LedByOneTurn};
-ghost use Rattle.irig_journal.specs.Sides.{AreSides};
+ghost use Rattle.irig_journal.specs.Sides.{AreSides, HavePlacesForStep, steps_on};
 
 use crate::Reversible;
 use crate::side::Side;
 use std::mem;
+
+/// Turns a change that has its room, and adds it as the nearest step of the past. The future loses
+/// its steps.
+pub(crate) fn turn_new<R: Reversible>(
+    past: &mut Side<R::Change>,
+    future: &mut Side<R::Change>,
+    state: &mut R,
+    mut change: R::Change,
+    before: usize,
+)
+    requires applies { R.fits (R.content state.old) (R.delta (Alone change)) }
+    requires room { R.has_room (R.places state.old) (R.content state.old) change }
+    requires sides { AreSides past.old future.old }
+    requires places { HavePlacesForStep past.old future.old }
+    requires ready { AreReady R.fits R.turned R.delta (R.has_room (R.places state.old))
+        (R.content state.old) (steps_in past.old future.old) }
+
+    ensures known { R.is_state (R.content state.old) }
+    ensures state { R.content state.new
+        ≡ (R.turned (R.content state.old) (R.delta (Alone change))).0 }
+    ensures past { past_of R.delta (steps_in past.new future.new)
+        ≡ step (R.turned (R.content state.old) (R.delta (Alone change))).1 before
+        ∷ past_of R.delta (steps_in past.old future.old) }
+    ensures future { steps_on future.new ≡ [] }
+    ensures once { R.counted (R.content state.old) (R.delta (Alone change)) (R.tally state.old)
+        (R.tally state.new) }
+    ensures ready { AreReady R.fits R.turned R.delta (R.has_room (R.places state.new))
+        (R.content state.new) (steps_in past.new future.new) }
+    ensures sides { AreSides past.new future.new }
+    ensures longer { vec_len past.new.entries ≡ vec_len past.old.entries + 1 }
+{
+    state.turn(&mut change);
+    past.push(change, before);
+    future.clear();
+}
 
 /// Turns the nearest step of one side, and moves it to the other.
 pub(crate) fn turn_nearest<R: Reversible>(

@@ -1,15 +1,49 @@
 //! Places on both sides of a journal, for a step and for its way to the other side.
 
 ghost use Rattle.std.specs.Prelude.{◌≡◌, ◌⊎◌, ◌+◌, ◌<◌, ◌≤◌, OnErr, OnOk, vec_capacity, vec_len};
+ghost use Rattle.irig_journal.specs.Held.{Alone};
+ghost use Rattle.irig_journal.specs.Journal.{AreReady, LacksPlace, steps_in};
 ghost use Rattle.irig_journal.specs.Sides.{AreSides, HavePlacesForStep, IsSameSide};
 
+use crate::Reversible;
 use crate::entry::Entry;
 use crate::side::Side;
 use std::alloc::AllocError;
 
+/// Makes room for a change, its undo and its redo: on both sides, and in the state. What they hold
+/// stays, also on an error.
+pub(crate) fn reserve_change<R: Reversible>(
+    past: &mut Side<R::Change>,
+    future: &mut Side<R::Change>,
+    state: &mut R,
+    change: &mut R::Change,
+) -> Result<(), AllocError>
+    requires sides { AreSides past.old future.old }
+    requires applies { R.fits (R.content state.old) (R.delta (Alone change.old)) }
+    requires ready { AreReady R.fits R.turned R.delta (R.has_room (R.places state.old))
+        (R.content state.old) (steps_in past.old future.old) }
+
+    ensures past { IsSameSide past.old past.new }
+    ensures future { IsSameSide future.old future.new }
+    ensures state { (R.content state.new ≡ R.content state.old)
+        × (R.tally state.new ≡ R.tally state.old) }
+    ensures change { R.delta (Alone change.new) ≡ R.delta (Alone change.old) }
+    ensures places { OnOk result (HavePlacesForStep past.new future.new) }
+    ensures room { OnOk result (R.has_room (R.places state.new) (R.content state.new) change.new) }
+    ensures memory { OnErr result (LacksPlace (steps_in past.old future.old)
+        ⊎ (R.is_ample (R.places state.old) (R.content state.old) change.old → ⊥)) }
+    ensures ready { AreReady R.fits R.turned R.delta (R.has_room (R.places state.new))
+        (R.content state.new) (steps_in past.new future.new) }
+{
+    let Ok(()) = reserve_step(past, future) else {
+        return Err(AllocError);
+    };
+    state.prepare(change)
+}
+
 /// Makes a place in the past for a step of one change more, and places in the future for all that
 /// the past has then: the future is empty by then. The steps stay, also on an error.
-pub(crate) fn reserve_step<C>(past: &mut Side<C>, future: &mut Side<C>) -> Result<(), AllocError>
+fn reserve_step<C>(past: &mut Side<C>, future: &mut Side<C>) -> Result<(), AllocError>
     requires { AreSides past.old future.old }
     ensures past { IsSameSide past.old past.new }
     ensures future { IsSameSide future.old future.new }
