@@ -1,9 +1,7 @@
 -- Several entries made one: the steps that they are before, and the one step after.
-use Rattle.std.proofs.Common.{◌≡◌, ◌∷◌, ◌+◌, ◌<◌, ◌≤◌, ◌++◌, [], ℕ, suc, Bool, true, false, List, length, map, take, drop, get_or, reverse, refl, ap, ap₂, sym}
+use Rattle.std.proofs.Common.{◌≡◌, ◌∷◌, ◌+◌, ◌<◌, ◌≤◌, ◌++◌, [], ℕ, suc, List, length, map, take, drop, get_or, reverse, refl, ap, ap₂, sym}
 use Rattle.std.proofs.Common.{◌∙◌, arith}
-use Rattle.std.specs.Prelude.{nat_le, if◌then◌else◌}
 use Rattle.std.proofs.Math.Seq.{drop-cons}
-use Rattle.std.proofs.lemmas.Bool.{leb-true, leb-false}
 use Rattle.std.proofs.lemmas.List.{length-map, length-reverse, length-take-le, map-append, reverse-append, take-append-drop}
 use Rattle.std.proofs.lemmas.List.Folds.{flat_map-map}
 use Rattle.irig_journal.specs.declared.entry.Entry.{Entry}
@@ -15,7 +13,7 @@ use Rattle.irig_journal.specs.Journal.{told}
 use Rattle.irig_journal.specs.Sizes.{count_of, counts_of, ended_beyond, entry, joined_as}
 use Rattle.irig_journal.specs.Turns.{left_by}
 use Rattle.irig_journal.proofs.HeldLemmas.{counts-append, counts-cons, counts-reverse, flat-held, held_by-append, held_by-cons, length-held, reverse-push}
-use Rattle.irig_journal.proofs.JoinLemmas.{beyond_at, farthest_at, fit_joined}
+use Rattle.irig_journal.proofs.JoinLemmas.{at_most_cases, beyond_at, farthest_at, fit_joined}
 use Rattle.irig_journal.proofs.MoveLemmas.{Gathers}
 use Rattle.irig_journal.proofs.SideLemmas.{length-told}
 
@@ -58,18 +56,12 @@ module _ {C : Type 0} where
       omega (arith, all, counts-append (take n es) (one ∷ []), counts-cons one [], counts-append (take n es) (drop n es), ap counts_of (take-append-drop n es))
 
 -- what holds of the list as it is, and of the list with those after the farthest made one, holds after an end
-ended_by_test : (P : List Entry → Type 0) (n : ℕ) (es : List Entry) (b : Bool) → b ≡ nat_le (length es) (n + 1)
-    → (length es ≤ n + 1 → P es)
-    → (n + 1 < length es → P (joined_as n (get_or es n (entry size.Alone 0)).cursor es))
-    → P (if b then es else joined_as n (get_or es n (entry size.Alone 0)).cursor es)
-ended_by_test P n es true test few many = few (leb-true (length es) (n + 1) (sym test))
-ended_by_test P n es false test few many = many (leb-false (length es) (n + 1) (sym test))
-
 pub ended_cases : (P : List Entry → Type 0) (n : ℕ) (es : List Entry)
     → (length es ≤ n + 1 → P es)
     → (n + 1 < length es → P (joined_as n (get_or es n (entry size.Alone 0)).cursor es))
     → P (ended_beyond n es)
-ended_cases P n es few many = ended_by_test P n es (nat_le (length es) (n + 1)) refl few many
+ended_cases P n es few many =
+    at_most_cases P (length es) (n + 1) es (joined_as n (get_or es n (entry size.Alone 0)).cursor es) few many
 
 module _ {C D : Type 0} where
   -- a group of the changes of steps is what the steps are, gathered
@@ -128,29 +120,18 @@ module _ {C D : Type 0} where
       ∙ cursor_last delta 0 j.near (reverse (drop (suc n) es)) e))
 
 module _ {D : Type 0} where
-  joined_by_test : (gathered : List D → D) (n : ℕ) (steps : List (Step D)) (b : Bool) → b ≡ nat_le (length steps) (n + 1)
-      → n + 1 < length steps
-      → (if b then steps else joined gathered (beyond n steps) ∷ farthest n steps) ≡ joined gathered (beyond n steps) ∷ farthest n steps
-  joined_by_test gathered n steps true test many =
-      let few = leb-true (length steps) (n + 1) (sym test) in
-      absurd (omega (arith, few, many))
-  joined_by_test gathered n steps false test many = refl
-
-  kept_by_test : (gathered : List D → D) (n : ℕ) (steps : List (Step D)) (b : Bool) → b ≡ nat_le (length steps) (n + 1)
-      → length steps ≤ n + 1
-      → (if b then steps else joined gathered (beyond n steps) ∷ farthest n steps) ≡ steps
-  kept_by_test gathered n steps true test few = refl
-  kept_by_test gathered n steps false test few =
-      let many = leb-false (length steps) (n + 1) (sym test) in
-      absurd (omega (arith, few, many))
-
+  -- steps that are more than one become one, and others stay
   pub joined_many : (gathered : List D → D) (n : ℕ) (steps : List (Step D)) → n + 1 < length steps
       → joined_beyond gathered n steps ≡ joined gathered (beyond n steps) ∷ farthest n steps
-  joined_many gathered n steps many = joined_by_test gathered n steps (nat_le (length steps) (n + 1)) refl many
+  joined_many gathered n steps many =
+      let one = joined gathered (beyond n steps) ∷ farthest n steps in
+      at_most_cases (λ (l : List (Step D)). l ≡ one) (length steps) (n + 1) steps one (λ few. absurd (omega (arith, few, many))) (λ _. refl)
 
   pub joined_few : (gathered : List D → D) (n : ℕ) (steps : List (Step D)) → length steps ≤ n + 1
       → joined_beyond gathered n steps ≡ steps
-  joined_few gathered n steps few = kept_by_test gathered n steps (nat_le (length steps) (n + 1)) refl few
+  joined_few gathered n steps few =
+      let one = joined gathered (beyond n steps) ∷ farthest n steps in
+      at_most_cases (λ (l : List (Step D)). l ≡ steps) (length steps) (n + 1) steps one (λ _. refl) (λ many. absurd (omega (arith, few, many)))
 
 module _ {C D : Type 0} where
   -- the steps after an end
@@ -178,8 +159,5 @@ module _ {S D : Type 0} where
       → (turned s (gathered (changes_of (beyond n steps)))).0 ≡ left_by turned s (changes_of (beyond n steps))
       → FitInTurn fits turned s steps → FitInTurn fits turned s (joined_beyond gathered n steps)
   fit_ended fits turned gathered s n steps one same fit =
-      fit_by_test (nat_le (length steps) (n + 1)) where
-        fit_by_test : (b : Bool)
-            → FitInTurn fits turned s (if b then steps else joined gathered (beyond n steps) ∷ farthest n steps)
-        fit_by_test true = fit
-        fit_by_test false = fit_joined fits turned gathered s n steps one same fit
+      at_most_cases (FitInTurn fits turned s) (length steps) (n + 1) steps (joined gathered (beyond n steps) ∷ farthest n steps)
+      (λ _. fit) (λ _. fit_joined fits turned gathered s n steps one same fit)

@@ -1,9 +1,10 @@
 -- What the calls of a journal make of the machine with a floor.
-use Rattle.std.proofs.Common.{◌≡◌, ◌∷◌, ◌+◌, ◌-◌, ◌<◌, ◌≤◌, ◌++◌, [], ℕ, suc, Bool, true, false, List, Option, Some, None, length, take, drop, refl, ap, ap₂}
+use Rattle.std.proofs.Common.{◌≡◌, ◌∷◌, ◌+◌, ◌-◌, ◌<◌, ◌≤◌, ◌++◌, [], ℕ, suc, false, List, Option, Some, None, length, drop, refl, ap, ap₂}
 use Rattle.std.proofs.Common.{sym, ◌∙◌, arith}
-use Rattle.std.specs.Prelude.{nat_le, option_map, if◌then◌else◌}
-use Rattle.std.proofs.lemmas.Bool.{lt-leb, leb-true, leb-false}
+use Rattle.std.specs.Prelude.{option_map}
+use Rattle.std.proofs.lemmas.Bool.{lt-leb}
 use Rattle.std.proofs.lemmas.List.{drop_at, length-take-le}
+use Rattle.std.proofs.lemmas.Option.{none-some}
 use Rattle.irig_journal.specs.declared.opening.Opening.{Opening}
 use Rattle.irig_journal.specs.Groups.{Floor, Grouped, aborted, begun, ended, over, is_at_floor, undone_over, redone_over}
 use Rattle.irig_journal.specs.History.{History, Step, machine, states_along, step, stepped_back}
@@ -13,7 +14,7 @@ use Rattle.irig_journal.specs.Openings.{AtFloor, StandsOnFloor, floor_at}
 use Rattle.irig_journal.specs.Machine.{Kept, Machine, kept, undone, redone}
 use Rattle.irig_journal.specs.Turns.{left_by}
 use Rattle.irig_journal.proofs.StepLemmas.{history}
-use Rattle.irig_journal.proofs.JoinLemmas.{beyond-farthest, beyond_none}
+use Rattle.irig_journal.proofs.JoinLemmas.{at_most_cases, beyond-farthest, beyond_more, beyond_none}
 
 module _ {S : Type 0} where
   abbrev pub machine_of_states : List (Kept S) → Kept S → List (Kept S) → Machine (Kept S)
@@ -95,31 +96,23 @@ module _ {S D : Type 0} where
       ∙ ap (λ (t : S). kept t cursor ∷ states_along turned t rest) (sym same))
 
   -- after an end the oldest state of the group is left of it
-  past_ended_by : (turned : S → D → S × D) (gathered : List D → D) (s : S) (n : ℕ) (steps : List (Step D)) (b : Bool)
-      → b ≡ nat_le (length steps) (n + 1)
-      → (n + 1 < length steps
-      → (turned s (gathered (changes_of (beyond n steps)))).0 ≡ left_by turned s (changes_of (beyond n steps)))
-      → drop (length steps - n - 1) (states_along turned s steps)
-      ≡ states_along turned s (if b then steps else joined gathered (beyond n steps) ∷ farthest n steps)
-  past_ended_by turned gathered s n steps true test same =
-      let short : length steps ≤ n + 1 = leb-true (length steps) (n + 1) (sym test) in
-      let none : length steps - n - 1 ≡ 0 = omega arith in
-      ap (λ (k : ℕ). drop k (states_along turned s steps)) none
-  past_ended_by turned gathered s n steps false test same =
-      let long : n + 1 < length steps = leb-false (length steps) (n + 1) (sym test) in
-      let count : length (beyond n steps) ≡ suc (length steps - n - 1) =
-      length-take-le (length steps - n) steps (omega arith) ∙ omega arith in
-      ap (λ (l : List (Step D)). drop (length steps - n - 1) (states_along turned s l)) (sym (beyond-farthest n steps))
-      ∙ joined_past turned gathered s (beyond n steps) (farthest n steps) (length steps - n - 1) count (same long)
-
   pub past_ended : (turned : S → D → S × D) (gathered : List D → D) (s : S) (n : ℕ) (steps : List (Step D))
       → (n + 1 < length steps
       → (turned s (gathered (changes_of (beyond n steps)))).0 ≡ left_by turned s (changes_of (beyond n steps)))
       → drop (length (states_along turned s steps) - n - 1) (states_along turned s steps)
       ≡ states_along turned s (joined_beyond gathered n steps)
   past_ended turned gathered s n steps same =
-      ap (λ (k : ℕ). drop (k - n - 1) (states_along turned s steps)) (length-states turned s steps)
-      ∙ past_ended_by turned gathered s n steps (nat_le (length steps) (n + 1)) refl same
+      let states = states_along turned s steps in
+      let k = length steps - n - 1 in
+      let whole : length steps ≤ n + 1 → drop k states ≡ states = λ few.
+      let none : k ≡ 0 = omega (arith, few) in ap (λ (j : ℕ). drop j states) none in
+      let fewer : n + 1 < length steps → drop k states ≡ states_along turned s (joined gathered (beyond n steps) ∷ farthest n steps) = λ many.
+      let count : length (beyond n steps) ≡ suc k = length-take-le (length steps - n) steps (omega arith) ∙ omega (arith, many) in
+      ap (λ (l : List (Step D)). drop k (states_along turned s l)) (sym (beyond-farthest n steps))
+      ∙ joined_past turned gathered s (beyond n steps) (farthest n steps) k count (same many) in
+      ap (λ (j : ℕ). drop (j - n - 1) states) (length-states turned s steps)
+      ∙ at_most_cases (λ (l : List (Step D)). drop k states ≡ states_along turned s l) (length steps) (n + 1) steps
+      (joined gathered (beyond n steps) ∷ farthest n steps) whole fewer
 
   -- a step more does not move the floor, if it leads to the state of the others
   pub floor_kept : (turned : S → D → S × D) (o : Option Opening) (s after : S) (near : Step D)
@@ -129,9 +122,7 @@ module _ {S D : Type 0} where
   floor_kept turned None s after near past more longer back stands = refl
   floor_kept turned (Some o) s after near past more longer back stands =
       let n = o.steps in
-      let count : length (near ∷ past) - n ≡ suc (length past - n) = omega arith in
-      let deeper : beyond n more ≡ near ∷ beyond n past =
-      ap (beyond n) longer ∙ ap (λ (k : ℕ). take k (near ∷ past)) count in
+      let deeper : beyond n more ≡ near ∷ beyond n past = ap (beyond n) longer ∙ beyond_more n near past stands in
       let there : left_by turned after (changes_of (beyond n more)) ≡ left_by turned s (changes_of (beyond n past)) =
       ap (λ (l : List (Step D)). left_by turned after (changes_of l)) deeper
       ∙ ap (λ (t : S). left_by turned t (changes_of (beyond n past))) back in
@@ -146,9 +137,6 @@ module _ {S D : Type 0} where
       lt-leb (length (states_along turned s past)) o.steps
       (omega (arith, length-states turned s past, above))
 
-  None-Some : (n : History S D) → None ≡ Some n → ⊥
-  None-Some n e = cc
-
   -- what a step back did
   pub record SteppedBack (turned : S → D → S × D) (s after : S) (from left : List (Step D))
       (cursor : ℕ) (to more : List (Step D)) : Type 0 where
@@ -161,7 +149,7 @@ module _ {S D : Type 0} where
       (from left to more : List (Step D))
       → stepped_back turned (history s cursor from to) ≡ Some (history after place left more)
       → SteppedBack turned s after from left cursor to more
-  stepped_back-parts turned s after cursor place [] left to more went = absurd (None-Some _ went)
+  stepped_back-parts turned s after cursor place [] left to more went = absurd (none-some _ went)
   stepped_back-parts turned s after cursor place (near ∷ rest) left to more went =
       let same : history (turned s near.change).0 near.cursor rest (step (turned s near.change).1 cursor ∷ to)
       ≡ history after place left more = cc in

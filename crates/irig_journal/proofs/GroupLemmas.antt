@@ -4,21 +4,17 @@ use Rattle.std.proofs.Common.{length-append}
 use Rattle.std.specs.Option.{option_and_then}
 use Rattle.std.proofs.lemmas.Bool.{le-leb, lt-leb}
 use Rattle.std.proofs.lemmas.List.{drop_at}
+use Rattle.std.proofs.lemmas.Option.{none-some}
 use Rattle.irig_journal.specs.Groups.{Floor, Grouped, aborted, begun, ended, over, redone_over, undone_over}
 use Rattle.irig_journal.specs.GroupRuns.{Deed, Make, Back, Again, Go, Nothing, after_deed, after_deeds, AbortGivesBack, EndLeavesOneStep, IsAtMostOneMore}
 use Rattle.irig_journal.specs.Machine.{Kept, Machine}
+use Rattle.irig_journal.proofs.FloorLemmas.{machine_of_states}
 
 module _ {S : Type 0} where
-  abbrev pub machine_of_states : List (Kept S) → Kept S → List (Kept S) → Machine (Kept S)
-  machine_of_states past present future = record { past = past; present = present; future = future }
-
   -- the state of the oldest, or this one if there is none
   abbrev pub oldest_state : S → List (Kept S) → S
   oldest_state s [] = s
   oldest_state s (near ∷ past) = oldest_state near.state past
-
-  None-Some : (h : Grouped (Kept S)) → None ≡ Some h → ⊥
-  None-Some h e = cc
 
   pub same_inside : (g h : Grouped (Kept S)) → Some g ≡ Some h → g ≡ h
   same_inside g h e = cc
@@ -37,7 +33,7 @@ module _ {S : Type 0} where
   back_kept floor [] below present future h high oldest went =
       let test = le-leb (length below) floor.height (omega arith) in
       let none : undone_over (over (Some floor) (machine_of_states below present future)) ≡ None = rw test refl in
-      absurd (None-Some h (sym none ∙ went))
+      absurd (none-some h (sym none ∙ went))
   back_kept floor (n ∷ news) below present future h high oldest went =
       let test = lt-leb (length (n ∷ (news ++ below))) floor.height (omega (arith, length-append news below)) in
       let some : undone_over (over (Some floor) (machine_of_states (n ∷ (news ++ below)) present future))
@@ -49,7 +45,7 @@ module _ {S : Type 0} where
       → oldest_state present.state news ≡ floor.present.state
       → redone_over (over (Some floor) (machine_of_states (news ++ below) present future)) ≡ Some h
       → InGroup floor below h
-  again_kept floor news below present [] h oldest went = absurd (None-Some h went)
+  again_kept floor news below present [] h oldest went = absurd (none-some h went)
   again_kept floor news below present (next ∷ future) h oldest went =
       subst (λ (x : Grouped (Kept S)). InGroup floor below x) (same_inside _ h went)
       (record { open_at = refl; news = present ∷ news; past = refl; oldest = oldest })
@@ -84,7 +80,7 @@ module _ {S : Type 0} where
 
   passed : (f : Grouped (Kept S) → Option (Grouped (Kept S))) (o : Option (Grouped (Kept S))) (h : Grouped (Kept S))
       → option_and_then f o ≡ Some h → (n : Grouped (Kept S)) × (o ≡ Some n) × (f n ≡ Some h)
-  passed f None h went = absurd (None-Some h went)
+  passed f None h went = absurd (none-some h went)
   passed f (Some n) h went = (n, refl, went)
 
   deeds_kept : (floor : Floor (Kept S)) (below : List (Kept S)) (deeds : List (Deed S)) (g h : Grouped (Kept S))
@@ -101,7 +97,7 @@ module _ {S : Type 0} where
 
   begun_on : (f : Option (Floor (Kept S))) (m : Machine (Kept S)) (start : Grouped (Kept S)) → begun (over f m) ≡ Some start
       → InGroup (floor_here (over f m)) m.past start
-  begun_on (Some floor) m start went = absurd (None-Some start went)
+  begun_on (Some floor) m start went = absurd (none-some start went)
   begun_on None m start went =
       subst (λ (x : Grouped (Kept S)). InGroup (floor_here (over None m)) m.past x) (same_inside _ start went)
       (record { open_at = refl; news = []; past = refl; oldest = refl })

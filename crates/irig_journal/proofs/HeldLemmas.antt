@@ -3,6 +3,7 @@ use Rattle.std.proofs.Common.{◌≡◌, ◌∷◌, ◌+◌, ◌≤◌, ◌++◌
 use Rattle.std.proofs.Common.{length-append}
 use Rattle.std.proofs.lemmas.List.{append-nil, drop-append-le, drop_at, length-drop, length-reverse, reverse-append, take-append-drop, take-append-le, take_at}
 use Rattle.std.proofs.lemmas.List.Concat.{flat_map-cons}
+use Rattle.std.proofs.lemmas.List.Sorted.{IsPermutation-reverse, sum_by-IsPermutation}
 use Rattle.std.proofs.lemmas.List.Sums.{sum_by-append, sum_by-cons, sum_by_push}
 use Rattle.irig_journal.specs.declared.entry.Entry.{Entry}
 use Rattle.irig_journal.specs.declared.size.Size.{Size}
@@ -17,14 +18,7 @@ reverse-push xs ys y more = ap reverse more ∙ reverse-append ys (y ∷ [])
 
 -- how many changes steps have does not rest on their order
 pub counts-reverse : (es : List Entry) → counts_of (reverse es) ≡ counts_of es
-counts-reverse [] = refl
-counts-reverse (e ∷ es) =
-    ap counts_of (reverse-append (e ∷ []) es)
-    ∙ (sum_by_push (λ x. count_of x.size) (reverse es) e
-    ∙ (ap (λ n. n + count_of e.size) (counts-reverse es)
-    ∙ (swapped (counts_of es) (count_of e.size) ∙ sym (sum_by-cons (λ (x : Entry). count_of x.size) e es)))) where
-      swapped : (a b : ℕ) → a + b ≡ b + a
-      swapped a b = omega arith
+counts-reverse es = sum_by-IsPermutation (λ (x : Entry). count_of x.size) es (reverse es) (IsPermutation-reverse es)
 
 pub counts-cons : (e : Entry) (es : List Entry) → counts_of (e ∷ es) ≡ count_of e.size + counts_of es
 counts-cons e es = sum_by-cons (λ (x : Entry). count_of x.size) e es

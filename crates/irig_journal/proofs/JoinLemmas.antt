@@ -1,9 +1,21 @@
 -- What several steps do in turn, and what the one step does that they are joined to.
-use Rattle.std.proofs.Common.{◌≡◌, ◌∷◌, ◌-◌, ◌≤◌, ◌++◌, [], ℕ, List, length, map, refl, ap, sym, subst, ◌∙◌, arith, length-append}
+use Rattle.std.proofs.Common.{◌≡◌, ◌∷◌, ◌-◌, ◌<◌, ◌≤◌, ◌++◌, [], ℕ, suc, Bool, true, false, List, length, take, drop, map, refl, ap, sym, subst, ◌∙◌, arith, length-append}
+use Rattle.std.specs.Prelude.{nat_le, if◌then◌else◌}
+use Rattle.std.proofs.lemmas.Bool.{leb-true, leb-false}
 use Rattle.std.proofs.lemmas.List.{drop_at, map-append, take-append-drop, take_at}
 use Rattle.irig_journal.specs.History.{FitInTurn, Step}
 use Rattle.irig_journal.specs.Joining.{beyond, changes_of, farthest, joined}
 use Rattle.irig_journal.specs.Turns.{FitAll, left_by}
+
+-- what holds of what each answer of a test of two numbers gives holds of what the test gives
+given_by_test : {A : Type 0} (P : A → Type 0) (m n : ℕ) (few many : A) (b : Bool) → b ≡ nat_le m n
+    → (m ≤ n → P few) → (n < m → P many) → P (if b then few else many)
+given_by_test P m n few many true test low high = low (leb-true m n (sym test))
+given_by_test P m n few many false test low high = high (leb-false m n (sym test))
+
+pub at_most_cases : {A : Type 0} (P : A → Type 0) (m n : ℕ) (few many : A)
+    → (m ≤ n → P few) → (n < m → P many) → P (if nat_le m n then few else many)
+at_most_cases P m n few many low high = given_by_test P m n few many (nat_le m n) refl low high
 
 sub_none : (m n : ℕ) → m ≤ n → m - n ≡ 0
 sub_none m n short = omega arith
@@ -29,6 +41,19 @@ module _ {D : Type 0} where
 
   pub farthest_all : (n : ℕ) (steps : List (Step D)) → length steps ≤ n → farthest n steps ≡ steps
   farthest_all n steps short = rw (sub_none (length steps) n short) refl
+
+  -- a step more, the nearest, is none of the farthest
+  pub beyond_more : (n : ℕ) (near : Step D) (steps : List (Step D)) → n ≤ length steps
+      → beyond n (near ∷ steps) ≡ near ∷ beyond n steps
+  beyond_more n near steps low =
+      let count : length (near ∷ steps) - n ≡ suc (length steps - n) = omega arith in
+      ap (λ (k : ℕ). take k (near ∷ steps)) count
+
+  pub farthest_more : (n : ℕ) (near : Step D) (steps : List (Step D)) → n ≤ length steps
+      → farthest n (near ∷ steps) ≡ farthest n steps
+  farthest_more n near steps low =
+      let count : length (near ∷ steps) - n ≡ suc (length steps - n) = omega arith in
+      ap (λ (k : ℕ). drop k (near ∷ steps)) count
 
 module _ {S D : Type 0} where
   pub FitInTurn-parts : (fits : S → D → Type 0) (turned : S → D → S × D) (s : S) (near rest : List (Step D))

@@ -2,8 +2,9 @@
 use Rattle.std.proofs.Common.{◌≡◌, ◌∷◌, ◌+◌, ◌++◌, [], ℕ, Bool, true, false, List, length, map, reverse, refl, ap, ap₂, sym, subst, ◌∙◌, arith, append_assoc}
 use Rattle.std.proofs.Common.{length-append}
 use Rattle.std.specs.Prelude.{flat_map}
-use Rattle.std.proofs.lemmas.List.{map-append, reverse-append}
-use Rattle.std.proofs.lemmas.List.Concat.{flat_map-cons}
+use Rattle.std.proofs.lemmas.List.{map-append, map-id, reverse-append}
+use Rattle.std.proofs.lemmas.List.Concat.{flat_map_single}
+use Rattle.std.proofs.lemmas.List.Folds.{flat_map-map}
 use Rattle.irig_journal.specs.Held.{Alone, Group, Parts, parts_in, parts_of}
 use Rattle.irig_journal.specs.Journal.{one_of}
 use Rattle.irig_journal.specs.Moves.{Moved}
@@ -70,8 +71,7 @@ alone cs = map (λ c. Alone c) cs
 
 module _ {C : Type 0} where
   parts-alone : (cs : List C) → flat_map parts_in (alone cs) ≡ cs
-  parts-alone [] = refl
-  parts-alone (c ∷ cs) = flat_map-cons parts_in (Alone c) (alone cs) ∙ ap (λ (l : List C). c ∷ l) (parts-alone cs)
+  parts-alone cs = flat_map-map parts_in (λ c. Alone c) cs ∙ (flat_map_single (λ (c : C). c) cs ∙ map-id cs)
 
 module _ {C D : Type 0} where
   map-alone : (delta : Parts C → D) (cs : List C) → map delta (alone cs) ≡ map (one_of delta) cs

@@ -1,23 +1,9 @@
 -- What one turn more does of the turns of the steps after the farthest.
-use Rattle.std.proofs.Common.{◌≡◌, ◌∷◌, ◌-◌, ◌≤◌, ℕ, suc, List, length, take, drop, ap, refl, sym, subst, ◌∙◌, arith}
+use Rattle.std.proofs.Common.{◌≡◌, ◌∷◌, ◌≤◌, ℕ, List, length, ap, refl, sym, subst, ◌∙◌}
 use Rattle.irig_journal.specs.History.{Step}
 use Rattle.irig_journal.specs.Joining.{CountsAlong, beyond, changes_of, farthest}
 use Rattle.irig_journal.specs.Turns.{left_by}
-use Rattle.irig_journal.proofs.JoinLemmas.{beyond_none, farthest_all}
-
-module _ {D : Type 0} where
-  -- a step more, the nearest, is none of the farthest
-  beyond_more : (n : ℕ) (near : Step D) (steps : List (Step D)) → n ≤ length steps
-      → beyond n (near ∷ steps) ≡ near ∷ beyond n steps
-  beyond_more n near steps low =
-      let count : length (near ∷ steps) - n ≡ suc (length steps - n) = omega arith in
-      ap (λ (k : ℕ). take k (near ∷ steps)) count
-
-  farthest_more : (n : ℕ) (near : Step D) (steps : List (Step D)) → n ≤ length steps
-      → farthest n (near ∷ steps) ≡ farthest n steps
-  farthest_more n near steps low =
-      let count : length (near ∷ steps) - n ≡ suc (length steps - n) = omega arith in
-      ap (λ (k : ℕ). drop k (near ∷ steps)) count
+use Rattle.irig_journal.proofs.JoinLemmas.{beyond_more, beyond_none, farthest_all, farthest_more}
 
 module _ {S D T : Type 0} where
   -- turns led from one state, tally and list to another, on the way down to the farthest

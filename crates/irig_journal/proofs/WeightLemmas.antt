@@ -1,8 +1,9 @@
 -- How much the changes of steps hold.
 use Rattle.std.proofs.Common.{◌≡◌, ◌∷◌, ◌+◌, ◌-◌, ◌^◌, ◌≤◌, [], ℕ, Bool, true, false, List, length, map, min, take, drop, reverse, refl, ap, sym, ◌∙◌, arith}
 use Rattle.std.specs.List.{sum_by}
-use Rattle.std.proofs.lemmas.List.{length-reverse, reverse-append}
-use Rattle.std.proofs.lemmas.List.Sums.{sum_by-cons, sum_by-take-drop, sum_by_push}
+use Rattle.std.proofs.lemmas.List.{length-reverse}
+use Rattle.std.proofs.lemmas.List.Sorted.{IsPermutation-reverse, sum_by-IsPermutation}
+use Rattle.std.proofs.lemmas.List.Sums.{sum_by-cons, sum_by-take-drop}
 use Rattle.std.proofs.Math.ListN.{drop_of_length-le}
 use Rattle.irig_journal.specs.Held.{Group, Held, Parts, parts_of}
 use Rattle.irig_journal.specs.Journal.{one_of, told, weight_of}
@@ -11,14 +12,9 @@ use Rattle.irig_journal.proofs.MoveLemmas.{Gathers, gathers_alone}
 module _ {X : Type 0} where
   -- a sum does not rest on the order
   pub sum_by-reverse : (f : X → ℕ) (xs : List X) → sum_by f (reverse xs) ≡ sum_by f xs
-  sum_by-reverse f [] = refl
-  sum_by-reverse f (x ∷ xs) =
-      ap (sum_by f) (reverse-append (x ∷ []) xs)
-      ∙ (sum_by_push f (reverse xs) x
-      ∙ (ap (λ n. n + f x) (sum_by-reverse f xs) ∙ (swapped (sum_by f xs) (f x) ∙ sym (sum_by-cons f x xs)))) where
-        swapped : (a b : ℕ) → a + b ≡ b + a
-        swapped a b = omega arith
+  sum_by-reverse f xs = sum_by-IsPermutation f xs (reverse xs) (IsPermutation-reverse xs)
 
+  -- a sum over what a list is taken to is one over the list
   pub sum_by-of_map : {Y : Type 0} (g : X → Y) (f : Y → ℕ) (xs : List X) → sum_by f (map g xs) ≡ sum_by (λ x. f (g x)) xs
   sum_by-of_map g f [] = refl
   sum_by-of_map g f (x ∷ xs) =

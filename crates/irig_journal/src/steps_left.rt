@@ -92,6 +92,7 @@ fn step_with<'j, C>(entry: Entry, changes: &'j [C]) -> Step<'j, C>
 pub(crate) fn weight_of_all<R: Reversible>(mut steps: StepsLeft<'_, R::Change>) -> u128
     ensures { result ≡ sum_by (λ h. R.weighs (R.delta h.parts)) steps.entry }
 {
+    // Read for its bound alone.
     let _len = steps.len();
     let mut sum = 0;
     while let Some(step) = steps.next() {

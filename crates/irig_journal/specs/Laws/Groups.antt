@@ -3,6 +3,7 @@ use Rattle.std.proofs.Common.{◌≡◌, ◌-◌, ◌^◌, ◌∷◌, [], ℕ, L
 use Rattle.std.proofs.Common.{sym, arith, length-append}
 use Rattle.std.specs.Prelude.{flat_map}
 use Rattle.std.specs.List.{sum_by}
+use Rattle.std.proofs.lemmas.List.{map-id}
 use Rattle.std.proofs.lemmas.List.Sums.{sum_by-append, sum_by-cons}
 use Rattle.irig_journal.specs.Held.{Alone, Group, Parts, parts_in}
 use Rattle.irig_journal.specs.declared.stack.Single.{Single}
@@ -69,10 +70,6 @@ Counts-grouped xs (d ∷ ds) old new counts few =
     omega (arith, few, one, rest, length-append (parts_in d) (flat_map parts_in ds))
 
 -- a group of the pushes and pops of edits is these edits, grouped
-map_same : (ds : List (Parts Single)) → map (λ d. d) ds ≡ ds
-map_same [] = refl
-map_same (d ∷ ds) = ap (λ l. d ∷ l) (map_same ds)
-
 pub gathered-parts : (ps : List (Parts Single))
     → grouped ps ≡ grouped (map (λ d. d) ps)
-gathered-parts ps = ap grouped (sym (map_same ps))
+gathered-parts ps = ap grouped (sym (map-id ps))
