@@ -1,4 +1,4 @@
-//! Places on both sides of a journal, for a step and for its way to the other side.
+//! Room for a step and for its way to the other side: places on both sides, and in the state.
 
 ghost use Rattle.std.specs.Prelude.{◌≡◌, ◌⊎◌, ◌+◌, ◌<◌, ◌≤◌, OnErr, OnOk, vec_capacity, vec_len};
 ghost use Rattle.irig_journal.specs.Held.{Alone};
