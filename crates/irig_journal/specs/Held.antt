@@ -1,6 +1,6 @@
 -- What a journal holds of its steps: their changes and their cursors. This project's own.
-use Rattle.std.specs.Prelude.{ℕ, ◌≡◌, ◌++◌, Bool, true, false, List, [], ◌∷◌, drop, flat_map, length}
-use Rattle.std.specs.Prelude.{reverse, take}
+use Rattle.std.specs.Prelude.{ℕ, ◌≡◌, ◌++◌, Bool, true, false, List, [], ◌∷◌, drop, flat_map}
+use Rattle.std.specs.Prelude.{length, reverse, take}
 use Rattle.irig_journal.specs.declared.entry.Entry.{Entry}
 use Rattle.irig_journal.specs.declared.step.Step as shown
 use Rattle.irig_journal.specs.Sizes.{count_of, counts_of, is_group}
