@@ -173,18 +173,19 @@ put_fault wire front held more n gone e place closed cut fails =
     dump_fault wire ((front ++ held) ++ more) e
     (subst (λ (l : List Word). IsFaultOf e (read_words wire l)) (sym words) (fails (words_from (length x) false y)))
 
--- a part is read
-pub put_read : (wire : Option (List ℕ)) (bytes part : List ℕ) (old mid new : Progress) (held : List ℕ) (n unit : ℕ)
-    → held ≡ old.held.items ++ part → n ≤ length held → ends_inside false (take n held) ≡ false
-    → mid.held.items ≡ held → mid.gone ≡ old.gone → mid.wire ≡ old.wire
+-- held bytes are read
+pub put_read : (wire : Option (List ℕ)) (bytes : List ℕ) (old mid new : Progress) (n unit : ℕ)
+    → n ≤ length old.held.items → ends_inside false (take n old.held.items) ≡ false
+    → mid.held ≡ old.held → mid.gone ≡ old.gone → mid.wire ≡ old.wire
     → new.held.items ≡ drop n mid.held.items → new.gone ≡ mid.gone + n → new.wire ≡ mid.wire → new.unit ≡ mid.unit → new.code ≡ mid.code
     → new.reading ≡ mid.reading
     → new.journal.items ≡ old.journal.items
-    ++ part_at (so_far (place_view mid.reading.journals.first) mid.reading.pending (old.gone + n)) old.gone (take n held)
+    ++ part_at (so_far (place_view mid.reading.journals.first) mid.reading.pending (old.gone + n)) old.gone (take n old.held.items)
     → ((words : List Word) → Stage (bytes_of old.wire) words old.unit old.code.items old.reading → (old.unit ≡ None → old.gone ≡ 0)
-    → (mid.unit ≡ Some unit) × HasReadWords (bytes_of old.wire) (words ++ words_from old.gone false (take n held)) unit mid.code.items mid.reading)
-    → HasRead wire bytes old → HasRead wire (bytes ++ part) new
-put_read wire bytes part old mid new held n unit is within cut mheld mgone mwire nheld ngone nwire nunit ncode nreading njournal reads r =
+    → (mid.unit ≡ Some unit) × HasReadWords (bytes_of old.wire) (words ++ words_from old.gone false (take n old.held.items)) unit mid.code.items mid.reading)
+    → HasRead wire bytes old → HasRead wire bytes new
+put_read wire bytes old mid new n unit within cut mheld mgone mwire nheld ngone nwire nunit ncode nreading njournal reads r =
+    let held = old.held.items in
     let front = r.front ++ take n held in
     let got = reads (words_of r.front) (subst (λ (w : Option (List ℕ)). Stage w (words_of r.front) old.unit old.code.items old.reading) (sym r.name) r.stage)
     r.none in
@@ -193,9 +194,8 @@ put_read wire bytes part old mid new held n unit is within cut mheld mgone mwire
     record {
       name = ap bytes_of (nwire ∙ mwire) ∙ r.name;
       front = front;
-      whole = ap (λ (l : List ℕ). l ++ part) r.whole ∙ (append_assoc r.front old.held.items part
-          ∙ (ap (λ (l : List ℕ). r.front ++ l) (sym is ∙ sym (take-append-drop n held)) ∙ (sym (append_assoc r.front (take n held) (drop n held))
-          ∙ ap (λ (l : List ℕ). front ++ l) (sym (nheld ∙ ap (drop n) mheld)))));
+      whole = r.whole ∙ (ap (λ (l : List ℕ). r.front ++ l) (sym (take-append-drop n held)) ∙ (sym (append_assoc r.front (take n held) (drop n held))
+          ∙ ap (λ (l : List ℕ). front ++ l) (sym (nheld ∙ ap (λ v. drop n v.items) mheld))));
       place =
           let sum = length-append r.front (take n held) in
           let long : length (take n held) ≡ n = length-take-le n held within in

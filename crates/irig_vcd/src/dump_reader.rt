@@ -1,9 +1,9 @@
 //! A dump that comes in parts.
 
 ghost use Rattle.std.specs.Prelude.{◌≡◌, ◌≤◌, ◌+◌, ◌++◌, ◌^◌, ◌↔◌, [], ℕ, List, Option, Some};
-ghost use Rattle.std.specs.Prelude.{Ok, IfOk, IfErr, IfSome, IsTrue, length, vec_len};
+ghost use Rattle.std.specs.Prelude.{Ok, IfOk, IfErr, IfSome, IsTrue, OnOk, length, vec_len};
 ghost use Rattle.irig_vcd.specs.Answer.{IsFaultOf, bytes_of, name_of};
-ghost use Rattle.irig_vcd.specs.Code.DumpReader.{HasRead, HasReadWords, bytes_read};
+ghost use Rattle.irig_vcd.specs.Code.DumpReader.{HasRead, HasReadWords, IsReader, bytes_read};
 ghost use Rattle.irig_vcd.specs.Code.Gathered.{gathered};
 ghost use Rattle.irig_vcd.specs.Code.Reached.{IsOn};
 ghost use Rattle.irig_vcd.specs.Parts.{dump_parts};
@@ -83,21 +83,9 @@ impl DumpReader {
             → IsFaultOf e (dump_parts wire ((bytes ++ part.now) ++ more))) }
     {
         let mut progress = self.progress;
-        progress.held.extend_from_slice(part)?;
-        if progress.held.len() < progress.wanted {
-            return Ok(DumpReader { progress });
-        }
-        let whole = whole_len(progress.held.as_slice());
-        match progress.read_to(whole)? {
-            Ok(_) => {
-                progress.gather(whole)?;
-                Ok(DumpReader {
-                    progress: progress.without(whole),
-                })
-            }
-            Err(_) => Ok(DumpReader {
-                progress: progress.without(0),
-            }),
+        match put_part(&mut progress, part) {
+            Ok(()) => Ok(DumpReader { progress }),
+            Err(fault) => Err(fault),
         }
     }
 
@@ -112,14 +100,79 @@ impl DumpReader {
             (λ x. IfSome x.1 (λ journal. vec_len journal ≤ bytes_read self)) }
     {
         let mut progress = self.progress;
-        let all = progress.held.len();
-        match progress.read_to(all)? {
-            Ok(unit) => {
-                progress.gather(all)?;
-                finish(progress.reading, progress.journal, unit)
-            }
+        match read_rest(&mut progress) {
+            Ok(unit) => finish(progress.reading, progress.journal, unit),
             Err(fault) => Err(fault),
         }
+    }
+}
+
+/// Holds the next part of the dump, and reads what is held if it is enough.
+fn put_part(progress: &mut Progress, part: &[u8]) -> Result<(), VcdFault>
+    requires reader { IsReader progress.old }
+    requires short { bytes_read progress.old + length part.now ≤ 2 ^ 48 }
+    ensures reader { OnOk result (IsReader progress.new) }
+    ensures read { OnOk result ((wire : Option (List ℕ)) (bytes : List ℕ)
+        → HasRead wire bytes progress.old → HasRead wire (bytes ++ part.now) progress.new) }
+    ensures length { OnOk result
+        (bytes_read progress.new ≡ bytes_read progress.old + length part.now) }
+    ensures fault { IfErr result (λ e. (wire : Option (List ℕ)) (bytes more : List ℕ)
+        → HasRead wire bytes progress.old
+        → IsFaultOf e (dump_parts wire ((bytes ++ part.now) ++ more))) }
+{
+    progress.held.extend_from_slice(part)?;
+    if progress.held.len() < progress.wanted {
+        return Ok(());
+    }
+    read_held(progress)
+}
+
+/// Reads the bytes that are held up to the last white space, and lets them go.
+fn read_held(progress: &mut Progress) -> Result<(), VcdFault>
+    requires reader { IsReader progress.old }
+    ensures reader { OnOk result (IsReader progress.new) }
+    ensures read { OnOk result ((wire : Option (List ℕ)) (bytes : List ℕ)
+        → HasRead wire bytes progress.old → HasRead wire bytes progress.new) }
+    ensures length { OnOk result (bytes_read progress.new ≡ bytes_read progress.old) }
+    ensures fault { IfErr result (λ e. (wire : Option (List ℕ)) (bytes more : List ℕ)
+        → HasRead wire bytes progress.old → IsFaultOf e (dump_parts wire (bytes ++ more))) }
+{
+    let whole = whole_len(progress.held.as_slice());
+    match progress.read_to(whole) {
+        Ok(Ok(_)) => {
+            progress.gather(whole)?;
+            progress.let_go(whole);
+            Ok(())
+        }
+        Ok(Err(_)) => {
+            progress.let_go(0);
+            Ok(())
+        }
+        Err(fault) => Err(fault),
+    }
+}
+
+/// Reads all bytes that are held, which are the last ones of the dump, and returns the unit.
+fn read_rest(progress: &mut Progress) -> Result<Unit, VcdFault>
+    requires reader { IsReader progress.old }
+    ensures time { IfOk result
+        (λ unit. IsOn unit progress.new.reading.trace progress.new.reading.clock) }
+    ensures read { IfOk result (λ unit. (wire : Option (List ℕ)) (bytes : List ℕ)
+        → HasRead wire bytes progress.old
+        → HasReadWords wire (words_of bytes) unit progress.new.code.items progress.new.reading
+        × (progress.new.journal.items ≡ gathered progress.new.reading bytes)) }
+    ensures fault { IfErr result (λ e. (wire : Option (List ℕ)) (bytes : List ℕ)
+        → HasRead wire bytes progress.old → IsFaultOf e (dump_parts wire bytes)) }
+    ensures within { OnOk result (vec_len progress.new.journal ≤ bytes_read progress.old) }
+{
+    let all = progress.held.len();
+    match progress.read_to(all) {
+        Ok(Ok(unit)) => {
+            progress.gather(all)?;
+            Ok(unit)
+        }
+        Ok(Err(fault)) => Err(fault),
+        Err(fault) => Err(fault),
     }
 }
 

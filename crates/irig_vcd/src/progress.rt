@@ -107,22 +107,20 @@ impl Progress {
     }
 
     /// Lets bytes at the front go, which are read. It wants twice the others before it reads again.
-    pub fn without(mut self, count: usize) -> Progress
-        requires within { count ≤ vec_len self.held }
-        requires short { self.gone + vec_len self.held ≤ 2 ^ 48 }
-        ensures held { result.held.items ≡ drop count self.held.items }
-        ensures gone { result.gone ≡ self.gone + count }
-        ensures rest { (result.wire ≡ self.wire) × (result.unit ≡ self.unit)
-            × (result.code ≡ self.code) × (result.reading ≡ self.reading)
-            × (result.journal ≡ self.journal) }
-        ensures length { result.gone + vec_len result.held ≡ self.gone + vec_len self.held }
+    pub fn let_go(&mut self, count: usize)
+        requires within { count ≤ vec_len self.old.held }
+        requires short { self.old.gone + vec_len self.old.held ≤ 2 ^ 48 }
+        ensures held { self.new.held.items ≡ drop count self.old.held.items }
+        ensures gone { self.new.gone ≡ self.old.gone + count }
+        ensures rest { (self.new.wire ≡ self.old.wire) × (self.new.unit ≡ self.old.unit)
+            × (self.new.code ≡ self.old.code) × (self.new.reading ≡ self.old.reading)
+            × (self.new.journal ≡ self.old.journal) }
+        ensures length { self.new.gone + vec_len self.new.held
+            ≡ self.old.gone + vec_len self.old.held }
     {
-        let gone = self.gone + count;
         drop_front(&mut self.held, count);
-        let wanted = 2 * self.held.len();
-        self.gone = gone;
-        self.wanted = wanted;
-        self
+        self.gone += count;
+        self.wanted = 2 * self.held.len();
     }
 }
 

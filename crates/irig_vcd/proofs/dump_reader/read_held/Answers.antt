@@ -1,0 +1,45 @@
+use Rattle.std.proofs.Common.{◌≡◌, ◌≤◌, length, ◌++◌, ◌+◌, ◌∙◌, false, List, Option, ℕ, take, drop, ap, sym, subst}
+use Rattle.irig_vcd.specs.Answer.{IsFaultOf, bytes_of}
+use Rattle.irig_vcd.specs.Code.DumpReader.{Stage}
+use Rattle.irig_vcd.specs.Code.Gathered.{part_at, so_far}
+use Rattle.irig_vcd.specs.Code.Joins.{ends_inside}
+use Rattle.irig_vcd.specs.Code.Journals.{place_view}
+use Rattle.irig_vcd.specs.Parts.{dump_parts}
+use Rattle.irig_vcd.specs.Words.{words_of}
+use Rattle.irig_vcd.proofs.PartSteps.{put_fault, put_read}
+use Rattle.irig_vcd.proofs.dump_reader.read_held.Goals as goal
+
+pub returns-in-Err-clause-fault : goal.returns-in-Err-clause-fault
+returns-in-Err-clause-fault c = λ wire bytes more r.
+    let s = c.args.progress.now in
+    let e = c.in-Err.fault in
+    let n = c.whole_len-whole.result in
+    let cut : ends_inside false (take n s.held.items) ≡ false =
+    ap (λ (l : List ℕ). ends_inside false (take n l)) (sym c.as_slice.ensures.value) ∙ c.whole_len-whole.ensures.outside in
+    let stage = subst (λ (w : Option (List ℕ)). Stage w (words_of r.front) s.unit s.code.items s.reading) (sym r.name) r.stage in
+    subst (λ (l : List ℕ). IsFaultOf e (dump_parts wire (l ++ more))) (sym r.whole)
+    (subst (λ (w : Option (List ℕ)). IsFaultOf e (dump_parts w ((r.front ++ s.held.items) ++ more))) r.name
+    (put_fault (bytes_of s.wire) r.front s.held.items more n s.gone e r.place r.closed cut
+    (λ m. c.in-Err.ensures.fault (words_of r.front) m stage r.none)))
+
+pub returns-in_ok-gather-in-Ok-Ok-clause-read : goal.returns-in_ok-gather-in-Ok-Ok-clause-read
+returns-in_ok-gather-in-Ok-Ok-clause-read c = λ wire bytes r.
+    let n = c.whole_len-whole.result in
+    let s = c.args.progress.now in
+    let held = s.held.items in
+    let mid = c.read_to.new.self in
+    let cut : ends_inside false (take n held) ≡ false =
+    ap (λ (l : List ℕ). ends_inside false (take n l)) (sym c.as_slice.ensures.value) ∙ c.whole_len-whole.ensures.outside in
+    let within : n ≤ length held = subst (λ (l : List ℕ). n ≤ length l) c.as_slice.ensures.value c.whole_len-whole.ensures.within in
+    let kept = c.in-Ok-Ok.ensures.kept in
+    let g = c.in_ok-gather-in-Ok-Ok.ensures in
+    let place = so_far (place_view mid.reading.journals.first) mid.reading.pending in
+    let gathers : c.gather.new.self.journal.items ≡ s.journal.items ++ part_at (place (s.gone + n)) s.gone (take n held) =
+    g.bytes ∙ (ap (λ v. v.items ++ part_at (place (mid.gone + n)) mid.gone (take n mid.held.items)) kept.3
+    ∙ (ap (λ k. s.journal.items ++ part_at (place (k + n)) k (take n mid.held.items)) kept.1
+    ∙ ap (λ v. s.journal.items ++ part_at (place (s.gone + n)) s.gone (take n v.items)) kept.0)) in
+    let rest = c.let_go.ensures.rest in
+    put_read wire bytes s mid c.let_go.new.self n c.in-Ok-Ok.field-0-0 within cut kept.0 kept.1 kept.2
+    (c.let_go.ensures.held ∙ ap (λ v. drop n v.items) g.rest.5) (c.let_go.ensures.gone ∙ ap (λ k. k + n) g.rest.4)
+    (rest.0 ∙ g.rest.0) (rest.1 ∙ g.rest.1) (rest.2 ∙ g.rest.2) (rest.3 ∙ g.rest.3) (ap (λ v. v.items) rest.4 ∙ gathers)
+    (rw c.in-Ok-Ok.field-0-is at c.in-Ok-Ok.ensures.read) r
