@@ -1,5 +1,5 @@
 -- A dump that comes in parts: what is read of its words, part by part.
-use Rattle.std.proofs.Common.{◌≡◌, ◌++◌, ◌+◌, [], ℕ, false, List, Option, Some, None, Result, Ok, Err, OnOk, IfOk, IfErr, length, take, refl, ap, sym, subst, ◌∙◌}
+use Rattle.std.proofs.Common.{◌≡◌, ◌++◌, ◌+◌, [], ℕ, false, List, Option, Some, None, Result, Ok, Err, OnOk, OnErr, IfOk, IfErr, length, take, refl, ap, sym, subst, ◌∙◌}
 use Rattle.std.proofs.Common.{append_assoc, drop, ◌≤◌, arith, length-append}
 use Rattle.std.proofs.lemmas.List.{append-nil, length-take-le, take-append-drop}
 use Rattle.irig_vcd.specs.Answer.{◌>>=◌, IsFaultOf, bytes_of}
@@ -98,6 +98,10 @@ words_begin wire words rest s r h new =
 pub on_ok : {A P Q : Type 0} (r : Result A VcdFault) → (P → Q) → OnOk r P → OnOk r Q
 on_ok (Ok x) f h = f h
 on_ok (Err e) f h = tt
+
+pub on_err : {A B P Q : Type 0} (r : Result A B) → (P → Q) → OnErr r P → OnErr r Q
+on_err (Ok x) f h = tt
+on_err (Err e) f h = f h
 
 pub if_err : {A : Type 0} {P Q : VcdFault → Type 0} (r : Result A VcdFault) → ((e : VcdFault) → P e → Q e) → IfErr r P → IfErr r Q
 if_err (Ok x) f h = tt
@@ -287,6 +291,6 @@ last_early wire bytes s whole e all none h r =
     ∙ (ap (λ w. declarations_of w (words_of (take whole s.held.items))) (sym r.name) ∙ h) in
     dump_fault wire bytes e (fails_now e (read_words wire (words_of bytes)) (ap (λ r. r >>= λ x. changes_from any_word x.0.1 x.0.0 0 x.1) says))
 
-pub if_ok : {A : Type 0} {P Q : A → Type 0} (r : Result A VcdFault) → ((x : A) → P x → Q x) → IfOk r P → IfOk r Q
+pub if_ok : {A B : Type 0} {P Q : A → Type 0} (r : Result A B) → ((x : A) → P x → Q x) → IfOk r P → IfOk r Q
 if_ok (Ok x) f h = f x h
 if_ok (Err e) f h = tt

@@ -22,6 +22,7 @@ mod reading;
 mod recording;
 mod section;
 mod short;
+mod short_way;
 mod time;
 mod timescale;
 mod token;

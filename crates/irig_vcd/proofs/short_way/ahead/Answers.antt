@@ -1,7 +1,7 @@
 use Rattle.std.proofs.Common.{ℕ, List, subst}
 use Rattle.irig_vcd.specs.Code.Along.{Along, Total}
 use Rattle.irig_vcd.proofs.PulseSteps.{late_fine, one_byte}
-use Rattle.irig_vcd.proofs.changes.ahead.Goals as goal
+use Rattle.irig_vcd.proofs.short_way.ahead.Goals as goal
 
 pub pulses-requires-clause-late : goal.pulses-requires-clause-late
 pulses-requires-clause-late c = late_fine c.args.unit c.args.clock c.args.trace.now.time (c.requires.unit c.if-is_quick.true) c.requires.time c.requires.late

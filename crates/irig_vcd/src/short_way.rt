@@ -1,0 +1,164 @@
+//! The tokens of a wire's changes that are taken in one step.
+
+ghost use Rattle.std.specs.Prelude.{◌≡◌, ◌↔◌, ◌≤◌, ◌<◌, [], List, Err};
+ghost use Rattle.std.specs.Prelude.{true, length, slice_index, IfOk, IfErr, OnErr};
+ghost use Rattle.irig_vcd.specs.Answer.{IsFaultOf};
+ghost use Rattle.irig_vcd.specs.Changes.{IsStill};
+ghost use Rattle.irig_vcd.specs.Code.Along.{Along, SameJournals, Total};
+ghost use Rattle.irig_vcd.specs.Code.Reached.{IsOn, ReachedBy, Told};
+ghost use Rattle.irig_vcd.specs.Code.Short.{TakesBit};
+ghost use Rattle.irig_vcd.specs.Code.Time.{IsTime, units_of};
+ghost use Rattle.irig_vcd.specs.Code.Trace.{Follows};
+ghost use Rattle.irig_vcd.specs.Times.{micros_of};
+ghost use Rattle.irig_vcd.specs.Words.{Word, is_code};
+ghost use Rattle.irig_vcd.specs.declared.fault.VcdFault.TheVariants.{OutOfMemory};
+ghost use Rattle.irig_vcd.specs.declared.journals.Journals.{Journals};
+ghost use Rattle.irig_vcd.specs.declared.pending.Pending.{Pending};
+
+use crate::fault::VcdFault;
+use crate::pulses::pulses;
+use crate::short::{LONGEST_CODE, Short};
+use crate::time::{Clock, micros, number_time};
+use crate::token::Tokens;
+use crate::trace::Trace;
+use crate::unit::Unit;
+use crate::variable::is_code;
+use std::alloc::AllocError;
+
+/// Whether a code is of a few printable bytes.
+pub fn is_plain(code: &[u8]) -> bool
+    ensures some { result ≡ true → 0 < length code.now }
+    ensures few { result ≡ true → length code.now ≤ 18 }
+    ensures dark { result ≡ true → is_code code.now ≡ true }
+{
+    !code.is_empty() && code.len() <= LONGEST_CODE && is_code(code)
+}
+
+/// Whether pulses are taken in one step: in units of a microsecond or less, on a code of one byte.
+pub fn is_quick(is_plain: bool, unit: Unit, code: &[u8]) -> bool
+    ensures plain { result ≡ true → is_plain ≡ true }
+    ensures unit { result ≡ true → unit ≤ 9 }
+    ensures one { result ≡ true → length code.now ≡ 1 }
+{
+    is_plain && unit.divides_microsecond() && code.len() == 1
+}
+
+/// Takes the tokens here that are taken in one step, and gives the time then.
+#[inline(always)]
+pub fn follow_short(
+    is_plain: bool,
+    is_quick: bool,
+    tokens: &mut Tokens,
+    unit: Unit,
+    code: &[u8],
+    from: Clock,
+    trace: &mut Trace,
+) -> Result<Clock, VcdFault>
+    requires some { is_plain ≡ true → 0 < length code.now }
+    requires few { is_plain ≡ true → length code.now ≤ 18 }
+    requires dark { is_plain ≡ true → is_code code.now ≡ true }
+    requires plain { is_quick ≡ true → is_plain ≡ true }
+    requires unit { is_quick ≡ true → unit ≤ 9 }
+    requires one { is_quick ≡ true → length code.now ≡ 1 }
+    requires time { IsOn unit trace.old from }
+    ensures time { IfOk result (λ now. IsOn unit trace.new now) }
+    ensures reached { IfOk result (λ now. (total : Total) (told : Told) (journals : Journals)
+        (pending : Pending)
+        → ReachedBy code.now unit total told trace.old from journals pending tokens.old
+        → ReachedBy code.now unit total told trace.new now journals pending tokens.new) }
+    ensures fewer { length tokens.new ≤ length tokens.old }
+    ensures fault { IfErr result (λ e. (total : Total) (told : Told) (more : List Word)
+        (journals : Journals) (pending : Pending)
+        → ReachedBy code.now unit total told trace.old from journals pending tokens.old
+        → IsFaultOf e (total more)) }
+    ensures memory { result ≡ Err OutOfMemory → (total : Total) (told : Told) (more : List Word)
+        (journals : Journals) (pending : Pending)
+        → ReachedBy code.now unit total told trace.old from journals pending tokens.old
+        → IsStill (total more) → ⊥ }
+{
+    let mut clock = from;
+    'tokens: loop {
+        match tokens.next_short(code, is_plain) {
+            Short::Time(number) => match number_time(unit, clock, number.value, number.offset) {
+                Ok(now) => clock = now,
+                Err(fault) => return Err(fault),
+            },
+            Short::Bit(high) => match take_bit(high, is_quick, tokens, unit, code, clock, trace) {
+                Ok(now) => clock = now,
+                Err(_) => return Err(VcdFault::OutOfMemory),
+            },
+            Short::Apart => {}
+            Short::Other => return Ok(clock),
+        }
+    }
+}
+
+/// Whether a number sign is at a place.
+#[inline(always)]
+fn has_sign(source: &[u8], at: usize) -> bool
+    ensures { result ≡ true ↔ (at < length source.now) × (slice_index source.now at ≡ 35) }
+{
+    at < source.len() && source[at] == b'#'
+}
+
+/// Takes the pulses here, if they are taken in one step, and returns the time then.
+#[inline(always)]
+fn ahead(
+    is_quick: bool,
+    tokens: &mut Tokens,
+    unit: Unit,
+    code: &[u8],
+    clock: Clock,
+    trace: &mut Trace,
+) -> Result<Clock, AllocError>
+    requires unit { is_quick ≡ true → unit ≤ 9 }
+    requires one { is_quick ≡ true → length code.now ≡ 1 }
+    requires dark { is_quick ≡ true → is_code code.now ≡ true }
+    requires time { IsTime unit clock }
+    requires late { trace.old.time ≤ micros_of unit (units_of unit clock) }
+    ensures along { IfOk result (λ now. (total : Total)
+        → Along code.now unit total trace.old clock tokens.old
+        → Along code.now unit total trace.new now tokens.new) }
+    ensures fewer { length tokens.new ≤ length tokens.old }
+    ensures journals { SameJournals tokens.old tokens.new }
+    ensures memory { OnErr result (Follows [] trace.old → ⊥) }
+{
+    if is_quick && trace.has_fallen() && has_sign(tokens.source, tokens.at) {
+        let now = pulses(tokens, code[0], unit, clock, trace)?;
+        return Ok(now);
+    }
+    Ok(clock)
+}
+
+/// Takes a value that was read in one step, with the pulses after it, and gives the time then.
+#[inline(always)]
+fn take_bit(
+    high: bool,
+    is_quick: bool,
+    tokens: &mut Tokens,
+    unit: Unit,
+    code: &[u8],
+    clock: Clock,
+    trace: &mut Trace,
+) -> Result<Clock, AllocError>
+    requires unit { is_quick ≡ true → unit ≤ 9 }
+    requires one { is_quick ≡ true → length code.now ≡ 1 }
+    requires dark { is_quick ≡ true → is_code code.now ≡ true }
+    requires some { 0 < length code.now }
+    requires time { IsOn unit trace.old clock }
+    ensures time { IfOk result (λ now. IsOn unit trace.new now) }
+    ensures reached { IfOk result (λ now. (words : List Word) (total : Total) (told : Told)
+        (journals : Journals) (pending : Pending) → TakesBit words tokens.old code.now high
+        → ReachedBy code.now unit total told trace.old clock journals pending words
+        → ReachedBy code.now unit total told trace.new now journals pending tokens.new) }
+    ensures fewer { length tokens.new ≤ length tokens.old }
+    ensures memory { OnErr result ((words more : List Word) (total : Total) (told : Told)
+        (journals : Journals) (pending : Pending) → TakesBit words tokens.old code.now high
+        → ReachedBy code.now unit total told trace.old clock journals pending words
+        → IsStill (total more) → ⊥) }
+{
+    match trace.put(micros(unit, clock), high) {
+        Ok(()) => ahead(is_quick, tokens, unit, code, clock, trace),
+        Err(fault) => Err(fault),
+    }
+}
