@@ -25,6 +25,13 @@ abbrev pub word_at : List Word → Result (List ℕ × List Word) VcdFault
 word_at [] = Err Unclosed
 word_at (w ∷ ws) = if is_end w.bytes then Err BadVar else Ok (w.bytes, ws)
 
+-- the next two words of a variable
+abbrev pub two_words_at : List Word → Result ((List ℕ × List ℕ) × List Word) VcdFault
+two_words_at words = do
+  first ← word_at words
+  second ← word_at first.1
+  Ok ((first.0, second.0), second.1)
+
 -- the variable of a section, and the words after its end
 unfoldable pub var_read : List Word → Result (Declared × List Word) VcdFault
 var_read words = do
