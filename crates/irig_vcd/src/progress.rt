@@ -65,18 +65,20 @@ impl Progress {
             Some(unit) => {
                 let part = &self.held[..whole];
                 let code = self.code.as_slice();
-                go_on(unit, code, &mut self.reading, part, self.gone)?;
-                Ok(Ok(unit))
+                match go_on(unit, code, &mut self.reading, part, self.gone) {
+                    Ok(()) => Ok(Ok(unit)),
+                    Err(fault) => Err(fault),
+                }
             }
             None => {
                 let part = &self.held[..whole];
                 let wire = name(&self.wire);
-                match begin(wire, &mut self.code, &mut self.reading, part)? {
-                    Ok(unit) => {
+                match begin(wire, &mut self.code, &mut self.reading, part) {
+                    Ok(Ok(unit)) => {
                         self.unit = Some(unit);
                         Ok(Ok(unit))
                     }
-                    Err(fault) => Ok(Err(fault)),
+                    other => other,
                 }
             }
         }
