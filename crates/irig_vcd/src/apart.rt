@@ -1,7 +1,7 @@
 //! Values on other codes of one byte. They are skipped, with the newline after them.
 
 ghost use Rattle.std.specs.Prelude.{◌≡◌, ◌≤◌, ◌<◌, ◌+◌, ◌∷◌, ◌↔◌, [], true, false, length, drop};
-ghost use Rattle.std.specs.Prelude.{ℕ, map, slice_index, IfSome};
+ghost use Rattle.std.specs.Prelude.{◌⊎◌, ℕ, map, slice_index, IfSome};
 ghost use Rattle.std.specs.Simd.Lanes.{mask_l};
 ghost use Rattle.irig_vcd.specs.Code.Lanes.{is_low};
 ghost use Rattle.irig_vcd.specs.Words.{words_from, kind_of_byte};
@@ -22,7 +22,7 @@ fn is_byte(code: &[u8], byte: u8) -> bool
 
 /// Whether a 0 or a 1 on another code of one byte, with a newline after it, is at a place.
 #[inline(always)]
-pub fn is_apart(source: &[u8], start: usize, code: &[u8]) -> bool
+fn is_apart(source: &[u8], start: usize, code: &[u8]) -> bool
     requires room { start + 3 ≤ length source.now }
     ensures { result ≡ true → TakesApart (words_from start false (drop start source.now))
         (words_from (start + 3) false (drop (start + 3) source.now)) code.now }
@@ -94,7 +94,7 @@ fn begins_value(byte: u8) -> bool
 /// The place after the vector, the real or the text at a place, if another code of one byte and a
 /// newline are after it. Its bytes are not looked at.
 #[inline(always)]
-pub fn value_apart(source: &[u8], start: usize, code: &[u8]) -> Option<usize>
+fn value_apart(source: &[u8], start: usize, code: &[u8]) -> Option<usize>
     requires { start < length source.now }
     ensures taken { IfSome result (λ end. TakesValue
         (words_from start false (drop start source.now))
@@ -113,4 +113,22 @@ pub fn value_apart(source: &[u8], start: usize, code: &[u8]) -> Option<usize>
         return None;
     }
     Some(space + 3)
+}
+
+/// The place after the value at a place, if it gives the wire no level and a newline is after it:
+/// a 0 or a 1, or else a vector, a real or a text.
+#[inline(always)]
+pub fn end_apart(source: &[u8], start: usize, code: &[u8]) -> Option<usize>
+    requires room { start + 3 ≤ length source.now }
+    ensures taken { IfSome result (λ end. TakesApart
+        (words_from start false (drop start source.now))
+        (words_from end false (drop end source.now)) code.now
+        ⊎ TakesValue (words_from start false (drop start source.now))
+        (words_from end false (drop end source.now)) code.now) }
+    ensures within { IfSome result (λ end. end ≤ length source.now) }
+{
+    if is_apart(source, start, code) {
+        return Some(start + 3);
+    }
+    value_apart(source, start, code)
 }
