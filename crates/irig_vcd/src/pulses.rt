@@ -1,7 +1,7 @@
 //! Pulses that are read in one step: a rise and a fall, each a time line and a level line.
 
-ghost use Rattle.std.specs.Prelude.{◌≡◌, ◌≤◌, ◌+◌, ◌∷◌, [], ℕ, List, true, Result, length};
-ghost use Rattle.std.specs.Prelude.{slice_index, IfSome, IfOk};
+ghost use Rattle.std.specs.Prelude.{◌≡◌, ◌≤◌, ◌<◌, ◌+◌, ◌^◌, ◌∷◌, [], ℕ, List, true, Result, length};
+ghost use Rattle.std.specs.Prelude.{false, slice_index, IfSome, IfOk};
 ghost use Rattle.irig_vcd.specs.Code.Along.{Along, HasFallen, SameJournals, TakesEdge, Total};
 ghost use Rattle.irig_vcd.specs.Code.Along.{at_micros};
 ghost use Rattle.irig_vcd.specs.Code.Time.{IsTime};
@@ -68,6 +68,30 @@ fn edge_at(source: &[u8], at: usize, high: bool, code: u8, unit: Unit) -> Option
     })
 }
 
+/// The rise and the fall at a place, each in a later microsecond than what is before it.
+#[inline(always)]
+fn pulse_at(source: &[u8], at: usize, code: u8, unit: Unit, after: u64) -> Option<(Edge, Edge)>
+    requires back { 16 ≤ at }
+    requires room { at + 64 ≤ length source.now }
+    requires dark { is_code (code ∷ []) ≡ true }
+    ensures rise { IfSome result (λ p. TakesEdge source.now at true code unit p.0) }
+    ensures fall { IfSome result (λ p. TakesEdge source.now p.0.end false code unit p.1) }
+    ensures late { IfSome result (λ p. (after < p.0.time.whole)
+        × (p.0.time.whole < p.1.time.whole) × (p.1.time.whole ≤ 2 ^ 40)) }
+{
+    let Some(rise) = edge_at(source, at, true, code, unit) else {
+        return None;
+    };
+    let Some(fall) = edge_at(source, rise.end, false, code, unit) else {
+        return None;
+    };
+    let (up, down) = (rise.time.whole, fall.time.whole);
+    if up <= after || down <= up || down > LAST_TIME {
+        return None;
+    }
+    Some((rise, fall))
+}
+
 /// Takes the pulses here, after a time, and returns the time of the last fall. It stops at what is
 /// no pulse, and at an edge in the microsecond of the one before it.
 #[inline(always)]
@@ -96,20 +120,13 @@ fn pulses_in(
     }
     let mut clock = from;
     while source.len() - at >= LONGEST_PULSE {
-        let Some(rise) = edge_at(source, at, true, code, unit) else {
+        let Some((rise, fall)) = pulse_at(source, at, code, unit, clock.whole) else {
             break;
         };
-        let Some(fall) = edge_at(source, rise.end, false, code, unit) else {
-            break;
-        };
-        let (up, down) = (rise.time.whole, fall.time.whole);
-        if up <= clock.whole || down <= up || down > LAST_TIME {
-            break;
-        }
         if !trace.has_room() {
             break;
         }
-        trace.put_pulse(up, down)?;
+        trace.put_pulse(rise.time.whole, fall.time.whole)?;
         clock = fall.time;
         at = fall.end;
     }

@@ -1,4 +1,4 @@
-use Rattle.std.proofs.Common.{◌<◌, ◌≤◌, ◌∙◌, arith}
+use Rattle.std.proofs.Common.{◌∙◌, arith}
 use Rattle.irig_vcd.proofs.PulseSteps.{along_pulse, fewer_left, past_edge}
 use Rattle.irig_vcd.proofs.pulses.pulses_in.Goals as goal
 
@@ -7,13 +7,11 @@ loop-at-preserved c =
     let i = c.loop-at.invariant in
     let b = c.tokens.inside.base in
     let rise = c.in-Some.rise in
-    let fall = c.in-Some-edge_at.fall in
-    let up = c.in-Some.ensures in
-    let down = c.in-Some-edge_at.ensures in
+    let fall = c.in-Some.fall in
+    let up = c.in-Some.ensures.rise in
+    let down = c.in-Some.ensures.fall in
+    let late = c.in-Some.ensures.late in
     let put = c.in_ok-put_pulse.ensures in
-    let first : c.loop-at.clock.whole < rise.time.whole = omega (arith, c.if-up-clock.false) in
-    let second : rise.time.whole < fall.time.whole = omega (arith, c.if-down-up.false) in
-    let top : fall.time.whole ≤ 1099511627776 = omega (arith, c.if-down-gt-LAST_TIME.false) in
     record {
       back = omega (arith, up.after, down.after, i.back);
       within = omega (arith, up.near, down.near, c.loop-at-test.true);
@@ -23,5 +21,5 @@ loop-at-preserved c =
       journals = λ more. i.journals more ∙ (past_edge b _ c.loop-at.at _ _ _ rise up more ∙ past_edge b _ rise.end _ _ _ fall down more);
       along = λ total h.
           along_pulse b c.args.code c.args.unit c.loop-at.clock total c.loop-at.trace c.put_pulse.new.self _ c.loop-at.at
-          rise fall c.requires.unit up down first second top put.ok put.time (i.along total h);
+          rise fall c.requires.unit up down late.0 late.1 late.2 put.ok put.time (i.along total h);
     }
