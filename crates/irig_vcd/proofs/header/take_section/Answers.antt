@@ -3,14 +3,14 @@ use Rattle.irig_vcd.specs.Code.Section.{section_view}
 use Rattle.irig_vcd.specs.Code.Variable.{variable_view}
 use Rattle.irig_vcd.specs.Declarations.{with_scale, with_var}
 use Rattle.irig_vcd.proofs.Steps.{other_head, scale_fault, scale_next, skipped_fault, skipped_next, var_fault, var_next}
-use Rattle.irig_vcd.proofs.header.with_section.Goals as goal
+use Rattle.irig_vcd.proofs.header.take_section.Goals as goal
 
 pub returns-in-Ok-clause-read : goal.returns-in-Ok-clause-read
 returns-in-Ok-clause-read c = λ h w head scale keeps. (
-  with_scale h c.in-Ok.unit,
+  with_scale h c.in-Ok.found,
   refl,
   keeps,
-  scale_next h w c.args.tokens.now c.in-Ok.unit c.scale.new.tokens (head ∙ ap section_view c.in-Timescale.is) c.in-Ok.ensures.exact,
+  scale_next h w c.args.tokens.now c.in-Ok.found c.scale.new.tokens (head ∙ ap section_view c.in-Timescale.is) c.in-Ok.ensures.exact,
 )
 
 pub returns-in-Err-clause-fault : goal.returns-in-Err-clause-fault
