@@ -1,13 +1,16 @@
 //! Writes lines of changes.
 
-ghost use Rattle.std.specs.Prelude.{◌≡◌, ◌++◌, ◌<◌, ◌∷◌, [], OnOk, codes};
-ghost use Rattle.irig_saved.specs.Lines.{numbered};
-ghost use Rattle.irig_saved.specs.ChangeWords.{moved_word, single_line};
+ghost use Rattle.std.specs.Prelude.{◌≡◌, ◌++◌, ◌<◌, ◌∷◌, [], OnOk, codes, decimal};
+ghost use Rattle.std.specs.Fmt.{signed_decimal};
+ghost use Rattle.irig_saved.specs.Lines.{line, numbered};
+ghost use Rattle.irig_saved.specs.ChangeWords.{moved_word, single_line, time_word};
 ghost use Rattle.irig_saved.specs.SavedText.{pulse_line};
 ghost use Rattle.irig_saved.specs.declared.single.Single.TheVariants.{Toggle, Shift, SetFormat};
 ghost use Rattle.irig_saved.specs.declared.single.Single.TheVariants.{SetMark};
 
-use crate::word_writer::{put_formatted, put_number, put_numbered, put_numbers, put_word};
+use crate::word_writer::{
+    put_formatted, put_lettered, put_number, put_numbered, put_numbers, put_word,
+};
 use irig_codes::Kind;
 use irig_track::Pulse;
 use itoa::Buffer;
@@ -50,13 +53,21 @@ pub fn put_shift(
     ensures { OnOk result (text.new.items
         ≡ text.old.items ++ (single_line (Shift i j by marks.now) ++ 10 ∷ [])) }
 {
-    text.extend_from_slice(b"shift")?;
-    put_numbers(text, &[i, j])?;
-    let mut buffer = Buffer::new();
-    put_word(text, buffer.format(by).as_bytes())?;
+    put_shifted(text, i, j, by)?;
     put_moved(text, marks)?;
     text.push(b'\n')?;
     Ok(())
+}
+
+/// The line of a shift up to its distance.
+fn put_shifted(text: &mut Vec<u8>, i: u64, j: u64, by: i64) -> Result<(), AllocError>
+    ensures { OnOk result (text.new.items ≡ text.old.items
+        ++ line (codes "shift") (decimal i ∷ decimal j ∷ signed_decimal by ∷ [])) }
+{
+    text.extend_from_slice(b"shift")?;
+    put_numbers(text, &[i, j])?;
+    let mut buffer = Buffer::new();
+    put_word(text, buffer.format(by).as_bytes())
 }
 
 /// A space and the letters of the marks that move, or `-` if none does.
@@ -91,12 +102,18 @@ pub fn put_set_mark(text: &mut Vec<u8>, letter: u8, time: Option<u64>) -> Result
     ensures { OnOk result (text.new.items
         ≡ text.old.items ++ (single_line (SetMark letter time) ++ 10 ∷ [])) }
 {
-    text.extend_from_slice(b"setmark")?;
-    put_word(text, &[b'a' + letter])?;
-    match time {
-        Some(time) => put_number(text, time)?,
-        None => put_word(text, b"-")?,
-    }
+    put_lettered(text, b"setmark", letter)?;
+    put_time(text, time)?;
     text.push(b'\n')?;
     Ok(())
+}
+
+/// A space and a time in microseconds, or `-` if there is none.
+fn put_time(text: &mut Vec<u8>, time: Option<u64>) -> Result<(), AllocError>
+    ensures { OnOk result (text.new.items ≡ text.old.items ++ 32 ∷ time_word time) }
+{
+    match time {
+        Some(time) => put_number(text, time),
+        None => put_word(text, b"-"),
+    }
 }

@@ -1,6 +1,6 @@
 //! Writes words of a line.
 
-ghost use Rattle.std.specs.Prelude.{◌≡◌, ◌++◌, ◌∷◌, [], OnOk, map, decimal};
+ghost use Rattle.std.specs.Prelude.{◌≡◌, ◌+◌, ◌++◌, ◌<◌, ◌∷◌, [], OnOk, map, decimal};
 ghost use Rattle.irig_codes.specs.Words.{kind_word};
 ghost use Rattle.irig_saved.specs.Lines.{behind, line, numbered};
 
@@ -48,6 +48,16 @@ pub(crate) fn put_numbered(
     put_numbers(text, numbers)?;
     text.push(b'\n')?;
     Ok(())
+}
+
+/// A word that begins a line, and the letter of a mark, from 0.
+pub(crate) fn put_lettered(text: &mut Vec<u8>, head: &[u8], letter: u8) -> Result<(), AllocError>
+    requires { letter < 26 }
+    ensures { OnOk result (text.new.items
+        ≡ text.old.items ++ line head.now (((97 + letter) ∷ []) ∷ [])) }
+{
+    text.extend_from_slice(head)?;
+    put_word(text, &[b'a' + letter])
 }
 
 /// A line that begins with a word and names a format.

@@ -5,7 +5,7 @@ ghost use Rattle.irig_codes.specs.Words.{kind_word};
 ghost use Rattle.irig_saved.specs.Lines.{line, numbered, text_of};
 ghost use Rattle.irig_saved.specs.SavedText.{mark_lines};
 
-use crate::word_writer::{put_formatted, put_number, put_numbered, put_word};
+use crate::word_writer::{put_formatted, put_lettered, put_number, put_numbered};
 use irig_codes::Kind;
 use std::alloc::AllocError;
 
@@ -53,8 +53,7 @@ fn put_mark(text: &mut Vec<u8>, letter: u8, time: Option<u64>) -> Result<(), All
     let Some(time) = time else {
         return Ok(());
     };
-    text.extend_from_slice(b"mark")?;
-    put_word(text, &[b'a' + letter])?;
+    put_lettered(text, b"mark", letter)?;
     put_number(text, time)?;
     text.push(b'\n')?;
     Ok(())
