@@ -9,7 +9,7 @@ use Rattle.irig_saved.specs.SavedText.{change_lines, counted_lines, mark_lines, 
 use Rattle.irig_saved.specs.Ranges.{IsNumber, IsSaved, IsStep, AreSteps, ManySteps}
 use Rattle.irig_saved.specs.Values.{IsFormat}
 use Rattle.irig_saved.specs.Reading.{Reads}
-use Rattle.irig_saved.specs.Leading.{BeginsSome, BeginsStep, BeginsSteps, Leads}
+use Rattle.irig_saved.specs.Leading.{BeginsSome, BeginsStep, BeginsSteps, Leads, head_text}
 use Rattle.irig_saved.specs.Faults.{Begins, ReachesSteps}
 use Rattle.irig_saved.specs.declared.change.Change.TheVariants.{One}
 use Rattle.irig_saved.specs.declared.saved.Saved.{Saved}
@@ -19,7 +19,7 @@ use Rattle.irig_saved.proofs.Repeats.{so_many}
 use Rattle.irig_saved.proofs.SingleParts.{no_change, no_change_lawful}
 use Rattle.irig_saved.proofs.ChangeParts.{no_steps_lawful, onward, step_family}
 use Rattle.irig_saved.proofs.MarkParts.{lead_same, lead_times}
-use Rattle.irig_saved.proofs.SavedParts.{cursor_line, format_line}
+use Rattle.irig_saved.proofs.SavedParts.{cursor_line, format_line, head_same}
 
 -- the first line of a step
 
@@ -82,17 +82,13 @@ begins_by n ls others bytes rest few e = record {
 }
 
 -- the head, and what is after it
-reached : (text named formatted placed rest : List ℕ) (s : Saved) (ls others : List (List ℕ)) → IsSaved s → 0 < length s.past + length s.future
-    → text ≡ codes "irig-journal-1" ++ 10 ∷ named → named ≡ format_line (s.kind, s.expression) ++ 10 ∷ formatted
-    → formatted ≡ cursor_line s.cursor ++ 10 ∷ placed
+reached : (text placed rest : List ℕ) (s : Saved) (ls others : List (List ℕ)) → IsSaved s → 0 < length s.past + length s.future
+    → text ≡ head_text (s.kind, s.expression) s.cursor placed
     → mark_lines 97 s.marks ++ counted_lines (codes "past") s.past ++ counted_lines (codes "future") s.future ≡ ls ++ others
     → placed ≡ text_of ls ++ rest → 2 + length (mark_lines 97 s.marks) ≤ length ls → ReachesSteps text
-reached text named formatted placed rest s ls others lawful some name format cursor lines same long =
+reached text placed rest s ls others lawful some head lines same long =
     let whole = codes "irig-journal-1" ∷ format_line (s.kind, s.expression) ∷ cursor_line s.cursor ∷ ls in
-    let stands : text ≡ text_of whole ++ rest =
-    onward text (codes "irig-journal-1") named (codes "irig-journal-1") rest (format_line (s.kind, s.expression) ∷ cursor_line s.cursor ∷ ls) name refl
-    (onward named (format_line (s.kind, s.expression)) formatted (format_line (s.kind, s.expression)) rest (cursor_line s.cursor ∷ ls) format refl
-    (onward formatted (cursor_line s.cursor) placed (cursor_line s.cursor) rest ls cursor refl same)) in
+    let stands : text ≡ text_of whole ++ rest = head_same text placed rest (s.kind, s.expression) s.cursor ls head same in
     let all : whole ++ others ≡ saved_lines s =
     ap (λ (l : List (List ℕ)). codes "irig-journal-1" ∷ format_line (s.kind, s.expression) ∷ cursor_line s.cursor ∷ l) (sym lines) in
     let n = 5 + length (mark_lines 97 s.marks) in
@@ -109,11 +105,10 @@ counted_same head text b ss long =
     (b.some.1.same ∙ sym (append_assoc (at_line b.some.1.cursor) (10 ∷ []) b.some.1.more))
 
 -- the steps back are reached
-pub past_reached : (text named formatted placed marked : List ℕ) (kind : Kind) (expression cursor : ℕ) (ms : List (Option ℕ))
-    → text ≡ codes "irig-journal-1" ++ 10 ∷ named → named ≡ format_line (kind, expression) ++ 10 ∷ formatted → IsFormat (kind, expression)
-    → formatted ≡ cursor_line cursor ++ 10 ∷ placed → IsNumber cursor → length ms ≡ 26 → Leads 97 ms placed marked
+pub past_reached : (text placed marked : List ℕ) (kind : Kind) (expression cursor : ℕ) (ms : List (Option ℕ))
+    → text ≡ head_text (kind, expression) cursor placed → IsFormat (kind, expression) → IsNumber cursor → length ms ≡ 26 → Leads 97 ms placed marked
     → BeginsSteps (codes "past") marked → ReachesSteps text
-past_reached text named formatted placed marked kind expression cursor ms name format small place number letters leads b =
+past_reached text placed marked kind expression cursor ms head small number letters leads b =
     let steps = many b.some.1.cursor b.count b.some.1.number b.some.0 in
     let s : Saved = record { kind = kind; expression = expression; cursor = cursor; marks = ms; past = steps.steps; future = [] } in
     let marks = mark_lines 97 ms in
@@ -131,20 +126,18 @@ past_reached text named formatted placed marked kind expression cursor ms name f
     ap (λ (l : List (List ℕ)). marks ++ (numbered (codes "past") (length steps.steps ∷ []) ∷ l) ++ future) steps.lines
     ∙ (append_assoc marks (first ++ steps.others) future
     ∙ (sym (append_assoc marks first (steps.others ++ future)))) in
-    reached text named formatted placed b.some.1.more s (marks ++ first) (steps.others ++ future) lawful (omega (arith, steps.long, b.some.0)) name format place
-    lines
+    reached text placed b.some.1.more s (marks ++ first) (steps.others ++ future) lawful (omega (arith, steps.long, b.some.0)) head lines
     (lead_same 97 ms placed marked leads ∙ (ap (λ (l : List ℕ). text_of marks ++ l) (counted_same (codes "past") marked b steps.steps steps.long)
     ∙ sym (regroup marks first b.some.1.more)))
     (omega (arith, length-append marks first))
 
 -- the steps forward are reached
-pub future_reached : (text named formatted placed marked : List ℕ) (kind : Kind) (expression cursor : ℕ) (ms : List (Option ℕ)) (undone : List ℕ)
+pub future_reached : (text placed marked : List ℕ) (kind : Kind) (expression cursor : ℕ) (ms : List (Option ℕ)) (undone : List ℕ)
     (past : List Step)
-    → text ≡ codes "irig-journal-1" ++ 10 ∷ named → named ≡ format_line (kind, expression) ++ 10 ∷ formatted → IsFormat (kind, expression)
-    → formatted ≡ cursor_line cursor ++ 10 ∷ placed → IsNumber cursor → length ms ≡ 26 → Leads 97 ms placed marked
+    → text ≡ head_text (kind, expression) cursor placed → IsFormat (kind, expression) → IsNumber cursor → length ms ≡ 26 → Leads 97 ms placed marked
     → Reads AreSteps (counted_lines (codes "past")) marked past undone
     → BeginsSteps (codes "future") undone → ReachesSteps text
-future_reached text named formatted placed marked kind expression cursor ms undone past name format small place number letters leads r b =
+future_reached text placed marked kind expression cursor ms undone past head small number letters leads r b =
     let steps = many b.some.1.cursor b.count b.some.1.number b.some.0 in
     let s : Saved = record { kind = kind; expression = expression; cursor = cursor; marks = ms; past = past; future = steps.steps } in
     let marks = mark_lines 97 ms in
@@ -161,8 +154,7 @@ future_reached text named formatted placed marked kind expression cursor ms undo
     let lines : marks ++ before ++ counted_lines (codes "future") steps.steps ≡ (marks ++ before ++ first) ++ steps.others =
     ap (λ (l : List (List ℕ)). marks ++ before ++ (numbered (codes "future") (length steps.steps ∷ []) ∷ l)) steps.lines
     ∙ sym (append_assoc (marks ++ before) first steps.others) in
-    reached text named formatted placed b.some.1.more s (marks ++ before ++ first) steps.others lawful (omega (arith, steps.long, b.some.0)) name format place
-    lines
+    reached text placed b.some.1.more s (marks ++ before ++ first) steps.others lawful (omega (arith, steps.long, b.some.0)) head lines
     (lead_same 97 ms placed marked leads
     ∙ (ap (λ (l : List ℕ). text_of marks ++ l) (r.same ∙ ap (λ (l : List ℕ). text_of before ++ l)
     (counted_same (codes "future") undone b steps.steps steps.long))

@@ -9,7 +9,7 @@ use Rattle.irig_saved.specs.SavedText.{mark_lines, counted_lines, saved_lines}
 use Rattle.irig_saved.specs.Ranges.{IsNumber, IsTime, AreSteps, IsSaved}
 use Rattle.irig_saved.specs.Values.{IsFormat, words_of_format}
 use Rattle.irig_saved.specs.Reading.{Reads, Stops, Lacks}
-use Rattle.irig_saved.specs.Leading.{Leads}
+use Rattle.irig_saved.specs.Leading.{Leads, head_text}
 use Rattle.irig_saved.specs.declared.step.Step.{Step}
 use Rattle.irig_saved.specs.declared.saved.Saved.{Saved}
 use Rattle.irig_saved.proofs.Cuts.{AreWords}
@@ -218,23 +218,37 @@ no_saved_lawful = record {
       no_steps_lawful;
 }
 
+-- a journal stops at the line at which what is after its cursor stops
+pub head_stops : (text mid rest : List ℕ) (f : Kind × ℕ) (n : ℕ) → text ≡ head_text f n mid → IsFormat f → IsNumber n
+    → Stops IsTail tail_lines mid rest → Stops IsSaved saved_lines text rest
+head_stops text mid rest f n same hf hn s =
+    let formatted = cursor_line n ++ 10 ∷ mid in
+    let named = format_line f ++ 10 ∷ formatted in
+    saved_stops text named rest same (whole_stops named formatted rest f refl hf (body_stops formatted mid rest n refl hn s))
+
 pub name_stops : (text : List ℕ) → ((more : List ℕ) → text ≡ codes "irig-journal-1" ++ 10 ∷ more → ⊥) → Stops IsSaved saved_lines text text
 name_stops text none =
     first_line_stops IsSaved saved_lines text (saved A 0 0 (nones 26) [] []) no_saved_lawful
     (λ s h. record { first = name_line tt; others = _; lines = refl; apart = λ more e. none more e })
 
--- what was read, line by line
+-- the lines of the head, and those after it
+pub head_same : (text mid rest : List ℕ) (f : Kind × ℕ) (n : ℕ) (ls : List (List ℕ)) → text ≡ head_text f n mid → mid ≡ text_of ls ++ rest
+    → text ≡ text_of (codes "irig-journal-1" ∷ format_line f ∷ cursor_line n ∷ ls) ++ rest
+head_same text mid rest f n ls same behind =
+    let formatted = cursor_line n ++ 10 ∷ mid in
+    let named = format_line f ++ 10 ∷ formatted in
+    onward text (name_line tt) named (name_line tt) rest (format_line f ∷ cursor_line n ∷ ls) same refl
+    (onward named (format_line f) formatted (format_line f) rest (cursor_line n ∷ ls) refl refl
+    (onward formatted (cursor_line n) mid (cursor_line n) rest ls refl refl behind))
+
+-- what was read, part by part
 pub record Sections (s : Saved) (text rest : List ℕ) : Type 0 where
-  pub named : List ℕ
-  pub formatted : List ℕ
   pub placed : List ℕ
   pub marked : List ℕ
   pub undone : List ℕ
-  pub name : text ≡ codes "irig-journal-1" ++ 10 ∷ named
+  pub head : text ≡ head_text (s.kind, s.expression) s.cursor placed
   pub expression : s.expression ≤ 7
-  pub format : named ≡ format_line (s.kind, s.expression) ++ 10 ∷ formatted
   pub number : IsNumber s.cursor
-  pub cursor : formatted ≡ cursor_line s.cursor ++ 10 ∷ placed
   pub letters : length s.marks ≡ 26
   pub marks : Leads 97 s.marks placed marked
   pub past : Reads AreSteps (counted_lines (codes "past")) marked s.past undone
@@ -251,9 +265,7 @@ saved_reads s text rest h = record {
         h.past.lawful;
     future = h.future.lawful;
   };
-  same = onward text (name_line tt) h.named (name_line tt) rest (format_line (s.kind, s.expression) ∷ cursor_line s.cursor ∷ tail) h.name refl
-      (onward h.named (format_line (s.kind, s.expression)) h.formatted (format_line (s.kind, s.expression)) rest (cursor_line s.cursor ∷ tail) h.format refl
-      (onward h.formatted (cursor_line s.cursor) h.placed (cursor_line s.cursor) rest tail h.cursor refl behind));
+  same = head_same text h.placed rest (s.kind, s.expression) s.cursor tail h.head behind;
 } where
   past : List (List ℕ)
   past = counted_lines (codes "past") s.past

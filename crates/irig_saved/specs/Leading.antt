@@ -3,7 +3,9 @@ use Rattle.std.specs.Prelude.{◌≡◌, ◌+◌, ◌<◌, ℕ, List, [], ◌∷
 use Rattle.std.specs.Prelude.{MatchOption, decimal, codes}
 use Rattle.std.specs.Borrow.{Bor}
 use Rattle.irig_saved.specs.Lines.{line, numbered}
+use Rattle.irig_codes.specs.declared.format.Kind.{Kind}
 use Rattle.irig_saved.specs.Ranges.{IsNumber}
+use Rattle.irig_saved.specs.Values.{words_of_format}
 
 -- the first line is read, with what is after it; else the text begins with no such line
 abbrev pub FirstLine : {X : Type 0} → (X → Type 0) → (X → List ℕ) → List ℕ
@@ -11,6 +13,12 @@ abbrev pub FirstLine : {X : Type 0} → (X → Type 0) → (X → List ℕ) → 
 FirstLine {X} Is write text r = MatchOption r
     ((x : X) (more : List ℕ) → Is x → text ≡ write x ++ 10 ∷ more → ⊥)
     (λ p. Is p.0 × (text ≡ write p.0 ++ 10 ∷ p.1.now))
+
+-- the lines of the name, a format and a cursor, and what is after them
+abbrev pub head_text : Kind × ℕ → ℕ → List ℕ → List ℕ
+head_text f cursor rest =
+    codes "irig-journal-1" ++ 10 ∷ (line (codes "format") (words_of_format f)
+    ++ 10 ∷ (numbered (codes "cursor") (cursor ∷ []) ++ 10 ∷ rest))
 
 -- mark x TIME, of a letter's byte x
 abbrev pub mark_line : ℕ → ℕ → List ℕ

@@ -6,8 +6,8 @@ ghost use Rattle.irig_saved.specs.Lines.{line, numbered};
 ghost use Rattle.irig_saved.specs.SavedText.{journal_text, saved_lines};
 ghost use Rattle.irig_saved.specs.Ranges.{IsNumber, IsSaved};
 ghost use Rattle.irig_saved.specs.Values.{IsFormat, words_of_format};
-ghost use Rattle.irig_saved.specs.Reading.{Parses};
-ghost use Rattle.irig_saved.specs.Leading.{FirstLine};
+ghost use Rattle.irig_saved.specs.Reading.{Parses, Stops};
+ghost use Rattle.irig_saved.specs.Leading.{FirstLine, head_text};
 ghost use Rattle.irig_saved.specs.Faults.{IsRefused, ReachesSteps};
 
 use crate::cut::line_of;
@@ -65,14 +65,9 @@ fn line_at(text: &[u8], rest: &[u8]) -> usize
 fn saved(alloc: Global, text: &[u8]) -> Result<(Saved, &[u8]), Stop<'_>>
     ensures { Parses IsSaved saved_lines ReachesSteps text.now result }
 {
-    let Some(rest) = named(text) else {
-        return Err(Stop::At(text));
-    };
-    let Some(((kind, expression), behind)) = format_line(rest) else {
-        return Err(Stop::At(rest));
-    };
-    let Some((cursor, rest)) = cursor_line(behind) else {
-        return Err(Stop::At(behind));
+    let ((kind, expression), cursor, rest) = match head(text) {
+        Ok(head) => head,
+        Err(rest) => return Err(Stop::At(rest)),
     };
     let (marks, rest) = marks(rest);
     let (past, rest) = match counted_steps(alloc, b"past", rest) {
@@ -92,6 +87,25 @@ fn saved(alloc: Global, text: &[u8]) -> Result<(Saved, &[u8]), Stop<'_>>
         future,
     };
     Ok((saved, rest))
+}
+
+/// The format and the cursor in the first lines of a text, and what is after them. An error has
+/// the rest from the first line with which the text begins no journal.
+fn head(text: &[u8]) -> Result<((Kind, u8), u64, &[u8]), &[u8]>
+    ensures { MatchResult result
+        (λ r. IsFormat r.0 × IsNumber r.1 × (text.now ≡ head_text r.0 r.1 r.2.now))
+        (λ rest. Stops IsSaved saved_lines text.now rest.now) }
+{
+    let Some(rest) = named(text) else {
+        return Err(text);
+    };
+    let Some((format, behind)) = format_line(rest) else {
+        return Err(rest);
+    };
+    match cursor_line(behind) {
+        Some((cursor, rest)) => Ok((format, cursor, rest)),
+        None => Err(behind),
+    }
 }
 
 /// What is after the line that names the journal.
