@@ -2,11 +2,16 @@
 
 ghost use Rattle.std.specs.Prelude.{◌≡◌, ℕ, ◌+◌, ◌-◌, ◌==◌, ◌<◌, ◌≤◌, [], true, false};
 ghost use Rattle.std.specs.Prelude.{if◌then◌else◌, slice_get, unwrap_or, Some, MatchOption};
+ghost use Rattle.std.specs.Prelude.{List, length};
+ghost use Rattle.irig_codes.specs.declared.width.Element.{Element};
 ghost use Rattle.irig_codes.specs.declared.width.Element.TheVariants.{Position, Zero};
+ghost use Rattle.irig_codes.specs.Decoding.{decoded};
+ghost use Rattle.irig_codes.specs.Ones.{raised};
 ghost use Rattle.irig_codes.specs.Reading.{counts};
 ghost use Rattle.irig_codes.specs.Width.{HasTwentieths, class_in};
 ghost use Rattle.irig_track.specs.Looks.{lens_view};
 ghost use Rattle.irig_track.specs.Track.{IsTrack};
+ghost use Rattle.irig_index.specs.declared.record.Verdict.TheVariants.{Read};
 ghost use Rattle.irig_index.specs.Checked.{Checked, looks_of};
 ghost use Rattle.irig_index.specs.Frames.{frame_at, record_after};
 ghost use Rattle.irig_index.specs.Looked.{after_looks};
@@ -85,7 +90,16 @@ fn check(lens: &mut Lens<'_>, format: Format, at: usize, first: Pulse) -> Verdic
     if count < 100 {
         return Verdict::Broken(count as u8, Cause::Ended);
     }
-    let (fields, note) = decode_ones(format, ones.ones());
+    read(format, ones)
+}
+
+/// The verdict on a frame in which no pulse fails, by which of its elements are One.
+fn read(format: Format, gathered: Gathering) -> Verdict
+    ensures verdict { (frame : List Element) → length frame ≡ 100 → raised frame ≡ gathered
+        → result ≡ Read (decoded format frame).0 (decoded format frame).1 }
+    ensures looks { looks_of result ≡ 99 }
+{
+    let (fields, note) = decode_ones(format, gathered.ones());
     Verdict::Read(fields, note)
 }
 

@@ -134,11 +134,10 @@ returns-clause-verdict c =
     let whole : k ≡ 100 = omega arith in
     let all : elements_of f (take k w) ≡ elements_of f w = ap (elements_of f)
     (take-all w k (omega (arith, length-take 100 (drop c.args.at c.args.lens.now.track.pulses)))) in
-    let read = c.decode_ones-note.ensures (elements_of f (take k w)) (c.loop-k.invariant.long ∙ whole)
-    (c.ones.ensures (elements_of f (take k w)) (c.loop-k.invariant.long ∙ whole) c.loop-k.invariant.ones) in
-    ap (λ d. Read d.0 d.1) (read ∙ ap (decoded f) all) ∙ sym (ap (judged f w) none)
+    let read = c.read.ensures.verdict (elements_of f (take k w)) (c.loop-k.invariant.long ∙ whole) c.loop-k.invariant.ones in
+    read ∙ (ap (λ (xs : List Element). Read (decoded f xs).0 (decoded f xs).1) all ∙ sym (ap (judged f w) none))
 
 pub returns-clause-looked : goal.returns-clause-looked
 returns-clause-looked c =
     let made : c.loop-k.k - 1 ≡ 99 = omega arith in
-    c.loop-k.invariant.lens ∙ ap (λ n. lens_view c.args.lens.now.track (after_looks c.args.lens.now.looks n)) made
+    c.loop-k.invariant.lens ∙ ap (λ n. lens_view c.args.lens.now.track (after_looks c.args.lens.now.looks n)) (made ∙ sym c.read.ensures.looks)
