@@ -12,12 +12,12 @@ use Rattle.irig_index.specs.declared.record.Record.{Record}
 use Rattle.irig_index.specs.Frames.{frames, record_after, records_in}
 use Rattle.irig_index.specs.Index.{IndexView, WereFrames, index_view}
 use Rattle.irig_index.specs.Laws.{moved}
-use Rattle.irig_index.specs.Cuts.{Cut}
-use Rattle.irig_index.specs.Sides.{from_other_end, turned, left_of, kept_right, right_of, shown, EndsUpTo, BeginsAfter, AllUpTo, AllAfter, Dropped}
+use Rattle.irig_index.specs.Cuts.{Parts}
+use Rattle.irig_index.specs.Sides.{from_other_end, turned, left_of, kept_right, right_of, shown, EndsUpTo, BeginsAfter, AllUpTo, AllAfter}
 use Rattle.irig_index.specs.Stale.{LastMayBeStale, last_retold}
 use Rattle.irig_index.proofs.FrameLemmas.{record_after-last, records_in-none, window_same}
 use Rattle.irig_index.proofs.PlaceLemmas.{window_none}
-use Rattle.irig_index.proofs.MarkerBounds.{AllAfter-append, AllAfter-less, AllAfter-moved, AllUpTo-ends}
+use Rattle.irig_index.proofs.MarkerBounds.{AllAfter-append, AllAfter-less, AllAfter-moved}
 use Rattle.irig_index.proofs.MarkerBounds.{AllUpTo-more, parted_same, records_in-after, records_in-up_to}
 use Rattle.irig_index.proofs.SideLemmas.{from_other_end-moved, length-shown, length-sides}
 use Rattle.irig_index.proofs.StaleLemmas.{start_retold}
@@ -64,56 +64,6 @@ turned_moved pulses at gone come bound few fits (k ∷ ks) (s ∷ ss) up e =
     let words : k.verdict ≡ s.verdict = ap (λ r. r.verdict) first in
     let later = turned_moved pulses at gone come bound few fits ks ss up.1 rest in
     λ i. record { marker = place i; verdict = words i } ∷ later i
-
--- if records up to a number go from records after it, nothing goes
-none_cut : (last : ℕ) (left gone right rest : List Record) → left ++ (gone ++ right) ≡ rest → AllUpTo last gone → AllAfter last rest
-    → left ++ right ≡ rest
-none_cut last [] [] right rest e up after = e
-none_cut last [] (g ∷ gone) right [] e up after = cc
-none_cut last [] (g ∷ gone) right (r ∷ rest) e up after =
-    let same : g ≡ r = cc in
-    absurd (omega (arith, ap (λ s. s.marker) same, up.0, after.0))
-none_cut last (l ∷ left) gone right [] e up after = cc
-none_cut last (l ∷ left) gone right (r ∷ rest) e up after =
-    let same : l ≡ r = cc in
-    let others : left ++ (gone ++ right) ≡ rest = cc in
-    λ i. same i ∷ none_cut last left gone right rest others up after.1 i
-
--- records in three parts. Some of the middle one have gone
-record Thinned (first last : ℕ) (all start rest : List Record) : Type 0 where
-  left : List Record
-  whole : all ≡ start ++ (left ++ rest)
-  after : AllAfter first left
-  up_to : AllUpTo last left
-
-thinned : (first last : ℕ) (start left gone right touched rest : List Record)
-    → left ++ (gone ++ right) ≡ start ++ (touched ++ rest) → AllAfter first gone → AllUpTo last gone
-    → AllUpTo first start → AllAfter first touched → AllUpTo last touched → AllAfter last rest
-    → Thinned first last (left ++ right) start rest
-thinned first last [] [] [] right touched rest e ga gu su ta tu ra =
-    record { left = touched; whole = e; after = ta; up_to = tu }
-thinned first last [] [] (g ∷ gone) right [] rest e ga gu su ta tu ra =
-    record { left = []; whole = none_cut last [] (g ∷ gone) right rest e gu ra; after = tt; up_to = tt }
-thinned first last [] [] (g ∷ gone) right (t ∷ touched) rest e ga gu su ta tu ra =
-    let others : gone ++ right ≡ touched ++ rest = cc in
-    thinned first last [] [] gone right touched rest others ga.1 gu.1 su ta.1 tu.1 ra
-thinned first last [] (l ∷ left) gone right [] rest e ga gu su ta tu ra =
-    record { left = []; whole = none_cut last (l ∷ left) gone right rest e gu ra; after = tt; up_to = tt }
-thinned first last [] (l ∷ left) gone right (t ∷ touched) rest e ga gu su ta tu ra =
-    let same : l ≡ t = cc in
-    let others : left ++ (gone ++ right) ≡ touched ++ rest = cc in
-    let more = thinned first last [] left gone right touched rest others ga gu su ta.1 tu.1 ra in
-    record { left = t ∷ more.left; whole = (λ i. same i ∷ more.whole i); after = (ta.0, more.after); up_to = (tu.0, more.up_to) }
-thinned first last (s ∷ start) [] [] right touched rest e ga gu su ta tu ra =
-    record { left = touched; whole = e; after = ta; up_to = tu }
-thinned first last (s ∷ start) [] (g ∷ gone) right touched rest e ga gu su ta tu ra =
-    let same : g ≡ s = cc in
-    absurd (omega (arith, ap (λ r. r.marker) same, ga.0, su.0))
-thinned first last (s ∷ start) (l ∷ left) gone right touched rest e ga gu su ta tu ra =
-    let same : l ≡ s = cc in
-    let others : left ++ (gone ++ right) ≡ start ++ (touched ++ rest) = cc in
-    let more = thinned first last start left gone right touched rest others ga gu su.1 ta tu ra in
-    record { left = more.left; whole = (λ i. same i ∷ more.whole i); after = more.after; up_to = more.up_to }
 
 -- the parts of the track before and after an edit
 module _ (f : FormatView) (a x y b : List Pulse) (m count : ℕ) (order : m ≤ length a - 1) (all : List Record)
@@ -178,47 +128,27 @@ module _ (f : FormatView) (a x y b : List Pulse) (m count : ℕ) (order : m ≤ 
         ∙ ((λ i. records_in f (a ++ (y ++ b)) 0 m ++ ((none_went ∙ sym none) i ++ map (moved (length a + same i)) (frames f b)))
         ∙ sym (frames_parted f a y b m (omega (arith, order))))
 
-    module _ (pulses : ℕ) (g0 g1 g2 : GapView Record)
+    module _ (pulses : ℕ) (g : GapView Record)
         (few : length x < 2 ^ 64) (fits : length b + length a + length y < 2 ^ 64)
-        (cut : Cut m (length a + length x) told (left_of g0) (right_of pulses g0))
-        (same : shown pulses g1 ≡ shown pulses g0)
-        (ends_then : EndsUpTo m (left_of g1))
-        (begins_then : BeginsAfter m (right_of pulses g1))
-        (stays : left_of g2 ≡ left_of g1)
-        (dropped : Dropped (length a + length x) (right_of pulses g1) (right_of pulses g2)) where
-      -- what is left of the window if some of it has gone
-      stood : Thinned m (length a + length x) (shown pulses g0) (records_in f (a ++ (y ++ b)) 0 m) rest
-      stood =
-          thinned m (length a + length x) (records_in f (a ++ (y ++ b)) 0 m) (left_of g0) cut.gone (right_of pulses g0) touched rest
-          (sym cut.whole ∙ told_whole) cut.after cut.up_to (starts_up_to (a ++ (y ++ b))) touched_after touched_up_to rest_after
+        (sides : (s w r : List Record) → Parts m (length a + length x) told s w r → (left_of g ≡ s) × (right_of pulses g ≡ r)) where
+      -- the gap is in the place of the window
+      stood : (left_of g ≡ records_in f (a ++ (y ++ b)) 0 m) × (right_of pulses g ≡ rest)
+      stood = sides (records_in f (a ++ (y ++ b)) 0 m) touched rest
+          (record { whole = told_whole; early = starts_up_to (a ++ (y ++ b)); after = touched_after; up_to = touched_up_to; late = rest_after })
 
-      -- the gap is before the window
-      parted : (records_in f (a ++ (y ++ b)) 0 m ≡ left_of g1) × (stood.left ++ rest ≡ right_of pulses g1)
-      parted =
-          parted_same m (records_in f (a ++ (y ++ b)) 0 m) (stood.left ++ rest) (left_of g1) (right_of pulses g1)
-          (sym stood.whole ∙ sym same) (starts_up_to (a ++ (y ++ b)))
-          (AllAfter-append m stood.left rest stood.after
-          (AllAfter-less (length a + length x) m rest (omega (arith, order)) rest_after))
-          ends_then begins_then
-
-      -- and what is right of it then is after the window
-      behind : rest ≡ right_of pulses g2
-      behind = (parted_same (length a + length x) stood.left rest dropped.gone (right_of pulses g2) (parted.1 ∙ dropped.all)
-          stood.up_to rest_after (AllUpTo-ends (length a + length x) dropped.gone dropped.up_to) dropped.rest).1
-
-      module _ (g3 : GapView Record)
-          (left : left_of g3 ≡ left_of g2 ++ records_in f (a ++ (y ++ b)) m (length a + length y - m))
-          (kept : kept_right g3 ≡ kept_right g2) where
-        pub repaired_parts : shown (((pulses + (2 ^ 64 - length x)) % 2 ^ 64 + length y) % 2 ^ 64) g3 ≡ frames f (a ++ (y ++ b))
+      module _ (h : GapView Record)
+          (left : left_of h ≡ left_of g ++ records_in f (a ++ (y ++ b)) m (length a + length y - m))
+          (kept : kept_right h ≡ kept_right g) where
+        pub repaired_parts : shown (((pulses + (2 ^ 64 - length x)) % 2 ^ 64 + length y) % 2 ^ 64) h ≡ frames f (a ++ (y ++ b))
         unfolding rest
         repaired_parts =
             let number = ((pulses + (2 ^ 64 - length x)) % 2 ^ 64 + length y) % 2 ^ 64 in
             let window = records_in f (a ++ (y ++ b)) m (length a + length y - m) in
-            let front : left_of g3 ≡ records_in f (a ++ (y ++ b)) 0 m ++ window = left ∙ ap (λ rs. rs ++ window) (stays ∙ sym parted.0) in
-            let back : right_of number g3 ≡ map (moved (length a + length y)) (frames f b) =
+            let front : left_of h ≡ records_in f (a ++ (y ++ b)) 0 m ++ window = left ∙ ap (λ rs. rs ++ window) stood.0 in
+            let back : right_of number h ≡ map (moved (length a + length y)) (frames f b) =
             ap (map (turned number)) kept
-            ∙ turned_moved pulses (length a) (length x) (length y) (length b) few fits (kept_right g2) (frames f b)
-            (AllUpTo-more (0 + (length b - 1)) (length b) (frames f b) (omega arith) (records_in-up_to f b 0 (length b - 1))) (sym behind) in
+            ∙ turned_moved pulses (length a) (length x) (length y) (length b) few fits (kept_right g) (frames f b)
+            (AllUpTo-more (0 + (length b - 1)) (length b) (frames f b) (omega arith) (records_in-up_to f b 0 (length b - 1))) stood.1 in
             (λ i. front i ++ back i)
             ∙ (append_assoc (records_in f (a ++ (y ++ b)) 0 m) window (map (moved (length a + length y)) (frames f b))
             ∙ sym (frames_parted f a y b m (omega (arith, order))))
@@ -318,43 +248,35 @@ module _ (f : FormatView) (at gone come micros : ℕ) (records : List Record) (p
         (sym window ∙ (ap (records_in f ps place) empty ∙ records_in-none f ps place))
         ∙ ap (frames f) (sym whole)
 
-    module _ (pulses : ℕ) (g0 g1 g2 : GapView Record)
-        (shows : Cut from (at + gone) told (left_of g0) (right_of pulses g0))
-        (same_shown : shown pulses g1 ≡ shown pulses g0)
-        (ends_then : EndsUpTo from (left_of g1))
-        (begins_then : BeginsAfter from (right_of pulses g1))
-        (stays : left_of g2 ≡ left_of g1)
-        (dropped : Dropped (at + gone) (right_of pulses g1) (right_of pulses g2)) where
-      cut : Cut from (length before + length went) told (left_of g0) (right_of pulses g0)
-      cut = subst (λ (n : ℕ). Cut from n told (left_of g0) (right_of pulses g0)) last_gone shows
+    module _ (pulses : ℕ) (g : GapView Record)
+        (sides : (s w r : List Record) → Parts from (at + gone) told s w r → (left_of g ≡ s) × (right_of pulses g ≡ r)) where
+      sides_so : (s w r : List Record) → Parts from (length before + length went) told s w r → (left_of g ≡ s) × (right_of pulses g ≡ r)
+      sides_so = subst (λ (n : ℕ). (s w r : List Record) → Parts from n told s w r → (left_of g ≡ s) × (right_of pulses g ≡ r)) last_gone sides
 
-      thin : Dropped (length before + length went) (right_of pulses g1) (right_of pulses g2)
-      thin = subst (λ n. Dropped n (right_of pulses g1) (right_of pulses g2)) last_gone dropped
-
-      pub repaired : (number : ℕ) (g3 : GapView Record) → left_of g3 ≡ left_of g2 ++ records_in f ps place (to - place)
-          → kept_right g3 ≡ kept_right g2 → number ≡ ((pulses + (2 ^ 64 - gone)) % 2 ^ 64 + come) % 2 ^ 64 → shown number g3 ≡ frames f ps
-      repaired number g3 left kept is =
+      pub repaired : (number : ℕ) (h : GapView Record) → left_of h ≡ left_of g ++ records_in f ps place (to - place)
+          → kept_right h ≡ kept_right g → number ≡ ((pulses + (2 ^ 64 - gone)) % 2 ^ 64 + come) % 2 ^ 64 → shown number h ≡ frames f ps
+      repaired number h left kept is =
           let same : number ≡ ((pulses + (2 ^ 64 - length went)) % 2 ^ 64 + length came) % 2 ^ 64 =
           is ∙ λ i. ((pulses + (2 ^ 64 - sym went_long i)) % 2 ^ 64 + sym came_long i) % 2 ^ 64 in
-          ap (λ n. shown n g3) same
+          ap (λ n. shown n h) same
           ∙ (repaired_parts f before went came after from count order records stood_so ends begins told told_so
-          pulses g0 g1 g2 (omega (arith, went_long, small)) fits cut same_shown ends_then begins_then stays thin
-          g3 (left ∙ ap (λ rs. left_of g2 ++ rs) window) kept
+          pulses g (omega (arith, went_long, small)) fits sides_so
+          h (left ∙ ap (λ rs. left_of g ++ rs) window) kept
           ∙ ap (frames f) (sym whole))
 
       -- how many frames an edited track has: those that stay, and those of the window
-      pub frames_long : length (frames f ps) ≡ length g2.items + length (records_in f ps place (to - place))
+      pub frames_long : length (frames f ps) ≡ length g.items + length (records_in f ps place (to - place))
       frames_long =
-          let front = left_of g2 ++ records_in f ps place (to - place) in
-          let g3 = gap_view (front ++ kept_right g2) (length front) 0 in
-          let left : left_of g3 ≡ front = take-append_seam front (kept_right g2) in
-          let kept : kept_right g3 ≡ kept_right g2 = drop-append_seam front (kept_right g2) in
+          let front = left_of g ++ records_in f ps place (to - place) in
+          let h = gap_view (front ++ kept_right g) (length front) 0 in
+          let left : left_of h ≡ front = take-append_seam front (kept_right g) in
+          let kept : kept_right h ≡ kept_right g = drop-append_seam front (kept_right g) in
           let number = ((pulses + (2 ^ 64 - gone)) % 2 ^ 64 + come) % 2 ^ 64 in
           omega (
             arith,
-            ap length (repaired number g3 left kept refl),
-            length-shown number g3,
-            length-filled g2 g3 (records_in f ps place (to - place)) left kept,
+            ap length (repaired number h left kept refl),
+            length-shown number h,
+            length-filled g h (records_in f ps place (to - place)) left kept,
           )
 
 -- the room of an index

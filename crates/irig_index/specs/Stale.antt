@@ -1,12 +1,14 @@
 -- Which verdict an edit may make stale: that of the last marker before it, and no other, since the
 -- check of a frame ends at the next marker at the latest. This project's own.
-use Rattle.std.specs.Prelude.{◌≡◌, ℕ, ◌≤◌, List, [], ◌∷◌, slice_get, Some}
+use Rattle.std.specs.Prelude.{◌≡◌, ℕ, ◌≤◌, Bool, false, List, [], ◌∷◌, ◌++◌, take, drop, slice_get}
+use Rattle.std.specs.Prelude.{Some}
 use Rattle.irig_codes.specs.declared.width.Element.TheVariants.{Position}
 use Rattle.irig_codes.specs.Format.{FormatView}
 use Rattle.irig_vcd.specs.declared.pulse.Pulse.{Pulse}
 use Rattle.irig_index.specs.declared.record.Record.{Record}
 use Rattle.irig_index.specs.Frames.{frame_at}
 use Rattle.irig_index.specs.Marker.{class_at}
+use Rattle.irig_index.specs.Sides.{EndsUpTo, BeginsAfter}
 use Rattle.irig_index.specs.Verdict.{verdict_of}
 
 -- the record is of a pulse of the track that a frame may begin with, and has the verdict on that
@@ -34,3 +36,13 @@ abbrev pub last_retold : FormatView → List Pulse → List Record → List Reco
 last_retold f pulses [] = []
 last_retold f pulses (r ∷ []) = retold f pulses r ∷ []
 last_retold f pulses (r ∷ s ∷ rs) = r ∷ last_retold f pulses (s ∷ rs)
+
+-- the last of the records of markers up to `from` was read again; `more` is false only if the next
+-- record is of a marker after `last`
+pub record Retold (f : FormatView) (pulses : List Pulse) (from last : ℕ) (old new : List Record)
+    (more : Bool) : Type 0 where
+  pub count : ℕ
+  pub before : EndsUpTo from (take count old)
+  pub after : BeginsAfter from (drop count old)
+  pub told : new ≡ last_retold f pulses (take count old) ++ drop count old
+  pub none : more ≡ false → BeginsAfter last (drop count old)

@@ -1,24 +1,24 @@
 //! What is made of the markers of a part of a track: their records, or their number.
 
-ghost use Rattle.std.specs.Prelude.{◌≡◌, ℕ, ◌+◌, ◌-◌, ◌*◌, ◌<◌, ◌≤◌, ◌++◌, length, take, drop, max};
-ghost use Rattle.std.specs.Prelude.{min, OnOk, IsOk};
+ghost use Rattle.std.specs.Prelude.{◌≡◌, ℕ, ◌+◌, ◌-◌, ◌*◌, ◌^◌, ◌<◌, ◌≤◌, ◌++◌, length};
+ghost use Rattle.std.specs.Prelude.{take, drop, max, min, OnOk, IsOk};
 ghost use Rattle.irig_index.specs.Checked.{looks_of};
 ghost use Rattle.irig_index.specs.Frames.{frames, records_in};
 ghost use Rattle.irig_index.specs.Looked.{Looked};
 ghost use Rattle.irig_index.specs.Passed.{Passed};
-ghost use Rattle.irig_index.specs.Sides.{left_of, kept_right, shown};
-ghost use Rattle.irig_index.specs.Stale.{LastMayBeStale, last_retold};
+ghost use Rattle.irig_index.specs.Sides.{left_of, kept_right, shown, EndsUpTo, BeginsAfter};
+ghost use Rattle.irig_index.specs.Stale.{LastMayBeStale, Retold, last_retold};
 
 use crate::frame::{looks_of, verdict};
 use crate::look::add_looks;
 use crate::marker::next_marker;
-use crate::places::set_record;
+use crate::places::{count_up_to, is_up_to, set_record};
 use crate::record::Verdict;
 use crate::sides::{put, record_at};
 use crate::stored::Stored;
 use irig_codes::Format;
 use irig_gap::Gap;
-use irig_track::Lens;
+use irig_track::{Lens, Span};
 use std::alloc::AllocError;
 
 /// Counts the markers of the lens's track.
@@ -72,9 +72,63 @@ pub fn fill(
     Ok(())
 }
 
+/// As `fill`, into room that is there: the gap does not grow.
+pub fn refill(
+    records: &mut Gap<Stored>,
+    lens: &mut Lens<'_>,
+    looks: &mut u64,
+    format: Format,
+    from: usize,
+    to: usize,
+)
+    requires order { from ≤ to }
+    requires within { from < to → to < length lens.old.track.pulses }
+    requires room { length records.old.items
+        + length (records_in format lens.old.track.pulses from (to - from)) ≤ records.old.capacity }
+    ensures left { left_of records.new ≡ left_of records.old
+        ++ records_in format lens.old.track.pulses from (to - from) }
+    ensures right { kept_right records.new ≡ kept_right records.old }
+    ensures capacity { records.new.capacity ≡ records.old.capacity }
+    ensures looked { Looked lens.old lens.new looks.old looks.new
+        (min (101 * (to - from)) (3 * (to - from) + 98)) }
+{
+    fill(records, lens, looks, format, from, to).unwrap();
+}
+
+/// Checks the frame of the last marker up to the pulse `from` again, unless that frame ends there.
+/// Returns whether the next record is of a marker up to `last`.
+pub fn retell_up_to(
+    records: &mut Gap<Stored>,
+    pulses: usize,
+    lens: &mut Lens<'_>,
+    looks: &mut u64,
+    format: Format,
+    from: usize,
+    last: usize,
+) -> bool
+    requires { (count : ℕ) → EndsUpTo from (take count (shown pulses records.old))
+        → BeginsAfter from (drop count (shown pulses records.old))
+        → LastMayBeStale format lens.old.track.pulses (from - 99)
+        (take count (shown pulses records.old)) }
+    ensures told { Retold format lens.old.track.pulses from last
+        (shown pulses records.old) (shown pulses records.new) result }
+    ensures length { length records.new.items ≡ length records.old.items }
+    ensures within { length records.old.items ≤ records.old.capacity }
+    ensures capacity { records.new.capacity ≡ records.old.capacity }
+    ensures looked { Looked lens.old lens.new looks.old looks.new 100 }
+{
+    // Read for its bound alone.
+    let _count = records.len();
+    let count = count_up_to(records, pulses, from);
+    let more = is_up_to(records, pulses, count, last);
+    let settled = from.saturating_sub(99);
+    retell(records, pulses, count, lens, looks, format, settled);
+    more
+}
+
 /// Checks the frame of the last of the first `count` markers again, unless that marker is one up to
 /// `settled`.
-pub fn retell(
+fn retell(
     records: &mut Gap<Stored>,
     pulses: usize,
     count: usize,
@@ -106,6 +160,16 @@ pub fn retell(
     add_looks(looks, 1);
     let verdict = verdict(lens, looks, format, marker, first);
     set_record(records, pulses, count - 1, Stored::new(marker, verdict));
+}
+
+/// Up to which place a repair seeks markers: that of the pulse after the edit, or of the last one.
+pub fn last_place(lens: &Lens<'_>, edit: Span) -> usize
+    requires { edit.at + edit.new ≤ length lens.now.track.pulses }
+    ensures least { result ≡ min (length lens.now.track.pulses - 1) (edit.at + edit.new) }
+    ensures few { length lens.now.track.pulses ≤ 2 ^ 22 }
+{
+    let last = lens.len().saturating_sub(1);
+    last.min(edit.at + edit.new)
 }
 
 /// The first place from `from` to `to` with a marker after it, or `to`.

@@ -1,9 +1,10 @@
 //! The records on both sides of a gap.
 
 ghost use Rattle.std.specs.Prelude.{◌≡◌, ℕ, ◌+◌, ◌*◌, ◌^◌, ◌<◌, ◌≤◌, ◌∷◌, ◌++◌, [], true, false};
-ghost use Rattle.std.specs.Prelude.{length, max};
+ghost use Rattle.std.specs.Prelude.{List, length, max};
 ghost use Rattle.std.specs.Prelude.{slice_get, Some, IsOk, OnOk};
-ghost use Rattle.irig_index.specs.Cuts.{Cut, EndsWithin};
+ghost use Rattle.irig_index.specs.declared.record.Record.{Record};
+ghost use Rattle.irig_index.specs.Cuts.{Cut, EndsWithin, Parts};
 ghost use Rattle.irig_index.specs.Sides.{turned, left_of, kept_right, right_of, shown};
 ghost use Rattle.irig_index.specs.Sides.{EndsUpTo, BeginsAfter, BeginsUpTo, Dropped};
 
@@ -45,8 +46,22 @@ pub fn clear(records: &mut Gap<Stored>)
     }
 }
 
+/// Removes the records of the markers after `first`, up to `last`, and leaves the gap in their
+/// place. Those left of the gap go first, so that it does not have to pass them.
+pub fn cut_out(records: &mut Gap<Stored>, pulses: usize, first: usize, last: usize)
+    requires { first ≤ last }
+    ensures sides { (start middle rest : List Record)
+        → Parts first last (shown pulses records.old) start middle rest
+        → (left_of records.new ≡ start) × (right_of pulses records.new ≡ rest) }
+    ensures capacity { records.new.capacity ≡ records.old.capacity }
+{
+    drop_back_to(records, pulses, first, last);
+    part(records, pulses, first);
+    drop_up_to(records, pulses, last);
+}
+
 /// Moves the gap to the place after the records of the markers up to `last`.
-pub fn part(records: &mut Gap<Stored>, pulses: usize, last: usize)
+fn part(records: &mut Gap<Stored>, pulses: usize, last: usize)
     ensures shown { shown pulses records.new ≡ shown pulses records.old }
     ensures left { EndsUpTo last (left_of records.new) }
     ensures right { BeginsAfter last (right_of pulses records.new) }
@@ -64,7 +79,7 @@ pub fn part(records: &mut Gap<Stored>, pulses: usize, last: usize)
 /// Moves the gap left over the records of the markers after `last`, and then removes the records
 /// left of it that are of markers after `first`. If the records rise, those that are still to go
 /// are right of the gap then.
-pub fn drop_back_to(records: &mut Gap<Stored>, pulses: usize, first: usize, last: usize)
+fn drop_back_to(records: &mut Gap<Stored>, pulses: usize, first: usize, last: usize)
     ensures cut { Cut first last (shown pulses records.old)
         (left_of records.new) (right_of pulses records.new) }
     ensures length { length records.new.items ≤ length records.old.items }
@@ -79,7 +94,7 @@ pub fn drop_back_to(records: &mut Gap<Stored>, pulses: usize, first: usize, last
 }
 
 /// Removes the records right of the gap that are of markers up to `last`.
-pub fn drop_up_to(records: &mut Gap<Stored>, pulses: usize, last: usize)
+fn drop_up_to(records: &mut Gap<Stored>, pulses: usize, last: usize)
     ensures left { left_of records.new ≡ left_of records.old }
     ensures right { Dropped last (right_of pulses records.old) (right_of pulses records.new) }
     ensures length { length records.new.items ≤ length records.old.items }
