@@ -57,14 +57,35 @@ impl Text for TrackText<'_> {
     ghost rest = { λ t. t };
 
     fn fill(&mut self, block: &mut Vec<u8>, enough: usize) -> Result<bool, AllocError> {
-        if let Some(first) = put_header(&mut self.writer, block, self.track, self.next)? {
-            if let Some(next) = put_lines(&mut self.writer, block, self.track, first, enough)? {
-                self.next = Next::Lines(next);
-                return Ok(false);
+        match put_next(&mut self.writer, block, self.track, self.next, enough)? {
+            Some(first) => {
+                self.next = Next::Lines(first);
+                Ok(false)
+            }
+            None => {
+                self.next = Next::Nothing;
+                Ok(true)
             }
         }
-        self.next = Next::Nothing;
-        Ok(true)
+    }
+}
+
+/// Writes what comes next, until a text has `enough` bytes. Returns the number of the pulse that
+/// comes next, from 0; `None` if the text has ended.
+fn put_next(
+    writer: &mut TextWriter,
+    text: &mut Vec<u8>,
+    track: &Track,
+    next: Next,
+    enough: usize,
+) -> Result<Option<usize>, AllocError>
+    ensures bytes { IfOk result (λ first. text.new.items ++ still_to_come track.now writer.new.last
+        (coming first) ≡ text.old.items ++ still_to_come track.now writer.old.last next) }
+    ensures full { IfOk result (λ first. IsSome first → enough ≤ vec_len text.new) }
+{
+    match put_header(writer, text, track, next)? {
+        Some(first) => put_lines(writer, text, track, first, enough),
+        None => Ok(None),
     }
 }
 
