@@ -34,3 +34,13 @@ leading_number text u v n m one two at e =
 
 pub no_words : (text w z : List ℕ) → Lacks 32 text → text ≡ w ++ 32 ∷ z → ⊥
 no_words text w z lacks e = let P : List ℕ → Type 0 = λ l. Lacks 32 l in not_lacking 32 w z (subst P e lacks)
+
+-- a text of a head and two words determines both words
+pub headed_words : (text head body u v w z : List ℕ) → text ≡ head ++ 32 ∷ body → body ≡ u ++ 32 ∷ v → Lacks 32 u → Lacks 32 w
+    → text ≡ head ++ 32 ∷ (w ++ 32 ∷ (z ++ [])) → (u ≡ w) × (v ≡ z)
+headed_words text head body u v w z at cut lacks word e =
+    two_words body u v w z cut lacks word (behind_head text head body (w ++ 32 ∷ (z ++ [])) at e)
+
+-- a text of a head and one word is not one of a head and more
+pub headed_one : (text head body w z : List ℕ) → text ≡ head ++ 32 ∷ body → Lacks 32 body → text ≡ head ++ 32 ∷ (w ++ 32 ∷ z) → ⊥
+headed_one text head body w z at lacks e = no_words body w z lacks (behind_head text head body (w ++ 32 ∷ z) at e)

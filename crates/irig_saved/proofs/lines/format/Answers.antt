@@ -1,28 +1,23 @@
-use Rattle.std.proofs.Common.{◌++◌, ◌∷◌, [], decimal}
+use Rattle.std.proofs.Common.{◌++◌, [], decimal}
 use Rattle.irig_codes.specs.Words.{kind_word}
 use Rattle.irig_saved.proofs.Bytes.{wordy_lacks}
 use Rattle.irig_saved.proofs.SameWords.{kind_is_word}
-use Rattle.irig_saved.proofs.Decoding.{two_words, behind_head, no_words}
+use Rattle.irig_saved.proofs.Decoding.{headed_one, headed_words}
 use Rattle.irig_saved.proofs.lines.format.Goals as goal
 
 pub returns-in_err-name : goal.returns-in_err-name
 returns-in_err-name c =
     rw c.from_residual-in_err-name.ensures (λ f h e.
-    let rest = behind_head c.args.text.now c.args.head.now c.in_ok-behind.field-0.now (kind_word f.0 ++ 32 ∷ (decimal f.1 ++ [])) c.in_ok-behind.ensures e in
-    no_words c.in_ok-behind.field-0.now (kind_word f.0) (decimal f.1 ++ []) c.in_err-name.ensures rest)
+    headed_one c.args.text.now c.args.head.now c.in_ok-behind.field-0.now (kind_word f.0) (decimal f.1 ++ []) c.in_ok-behind.ensures c.in_err-name.ensures e)
 
 pub returns-in_err-kind : goal.returns-in_err-kind
 returns-in_err-kind c =
     rw c.from_residual-in_err-kind.ensures (λ f h e.
-    let rest = behind_head c.args.text.now c.args.head.now c.in_ok-behind.field-0.now (kind_word f.0 ++ 32 ∷ (decimal f.1 ++ [])) c.in_ok-behind.ensures e in
-    let t = two_words c.in_ok-behind.field-0.now c.in_ok-name.name.now c.in_ok-name.rest.now (kind_word f.0) (decimal f.1) c.in_ok-name.ensures.0
-    c.in_ok-name.ensures.1 (wordy_lacks (kind_word f.0) (kind_is_word f.0)) rest in
-    c.in_err-kind.ensures f.0 tt t.0)
+    c.in_err-kind.ensures f.0 tt (headed_words c.args.text.now c.args.head.now c.in_ok-behind.field-0.now c.in_ok-name.name.now c.in_ok-name.rest.now
+    (kind_word f.0) (decimal f.1) c.in_ok-behind.ensures c.in_ok-name.ensures.0 c.in_ok-name.ensures.1 (wordy_lacks (kind_word f.0) (kind_is_word f.0)) e).0)
 
 pub returns-in_err-expression : goal.returns-in_err-expression
 returns-in_err-expression c =
     rw c.from_residual-in_err-expression.ensures (λ f h e.
-    let rest = behind_head c.args.text.now c.args.head.now c.in_ok-behind.field-0.now (kind_word f.0 ++ 32 ∷ (decimal f.1 ++ [])) c.in_ok-behind.ensures e in
-    let t = two_words c.in_ok-behind.field-0.now c.in_ok-name.name.now c.in_ok-name.rest.now (kind_word f.0) (decimal f.1) c.in_ok-name.ensures.0
-    c.in_ok-name.ensures.1 (wordy_lacks (kind_word f.0) (kind_is_word f.0)) rest in
-    c.in_err-expression.ensures f.1 h t.1)
+    c.in_err-expression.ensures f.1 h (headed_words c.args.text.now c.args.head.now c.in_ok-behind.field-0.now c.in_ok-name.name.now c.in_ok-name.rest.now
+    (kind_word f.0) (decimal f.1) c.in_ok-behind.ensures c.in_ok-name.ensures.0 c.in_ok-name.ensures.1 (wordy_lacks (kind_word f.0) (kind_is_word f.0)) e).1)
