@@ -1,5 +1,6 @@
 -- A session that is opened from a dump with its journal.
 pub mod Opened
+pub mod Names
 pub mod Openings
 pub mod Parts
 pub mod Stops
