@@ -7,7 +7,7 @@ ghost use Rattle.irig_saved.specs.SavedText.{mark_lines};
 ghost use Rattle.irig_vcd.specs.declared.fault.VcdFault.TheVariants.{OutOfMemory};
 ghost use Rattle.irig_edit.specs.Opened.Opened.{head_fault, mark_beyond, state_of};
 ghost use Rattle.irig_edit.specs.Opened.Openings.{IsBad};
-ghost use Rattle.irig_edit.specs.State.State.{state};
+ghost use Rattle.irig_edit.specs.State.State.{recording_of, state};
 ghost use Rattle.irig_edit.specs.Opened.Walk.{walk};
 
 use crate::opened::walk::Walk;
@@ -35,22 +35,59 @@ pub(crate) fn start(
     ensures memory { result ≡ Err OutOfMemory
         → IsTrue (is_permitted saved.now.kind saved.now.expression) }
 {
-    let Ok(format) = Format::new(saved.kind, saved.expression) else {
-        return Err(VcdFault::BadJournal(2));
+    let mut present = match opened(alloc, recording, saved) {
+        Ok(present) => present,
+        Err(fault) => return Err(fault),
     };
-    let Ok(mut present) = Present::open(alloc, recording, format) else {
-        return Err(VcdFault::OutOfMemory);
-    };
-    if saved.cursor > present.len() as u64 {
-        return Err(VcdFault::BadJournal(3));
-    }
-    match present.put_marks(&saved.marks) {
+    match present.put_head(saved) {
         Ok(line) => Ok((Walk::new(alloc, present, saved.cursor as usize), line)),
         Err(line) => Err(VcdFault::BadJournal(line)),
     }
 }
 
+/// The state of a recording with the format of a journal.
+fn opened(alloc: Global, recording: Recording, saved: &Saved) -> Result<Present, VcdFault>
+    ensures opened { IfOk result (λ present. (recording_of present.state ≡ recording)
+        × ((present.state.format
+        ≡ record { kind = saved.now.kind; expression = saved.now.expression })
+        × IsTrue (is_permitted saved.now.kind saved.now.expression))) }
+    ensures fault { IfErr result
+        (IsBad (λ line. head_fault (state_of recording saved.now) saved.now ≡ Some line)) }
+    ensures memory { result ≡ Err OutOfMemory
+        → IsTrue (is_permitted saved.now.kind saved.now.expression) }
+{
+    match Format::new(saved.kind, saved.expression) {
+        Ok(format) => match Present::open(alloc, recording, format) {
+            Ok(present) => Ok(present),
+            Err(_) => Err(VcdFault::OutOfMemory),
+        },
+        Err(_) => Err(VcdFault::BadJournal(2)),
+    }
+}
+
 impl Present {
+    /// Replaces all marks by those of a journal, if its cursor is within the pulses and no mark is
+    /// beyond the length: the answer is the number of the line after the marks, from 1. Else it is
+    /// the number of the first line at fault.
+    fn put_head(&mut self, saved: &Saved) -> Result<usize, usize>
+        requires permitted { IsTrue (is_permitted saved.now.kind saved.now.expression) }
+        ensures { MatchResult result
+            (λ line. (head_fault self.old.state saved.now ≡ None)
+            × ((line ≡ 4 + length (mark_lines 97 saved.now.marks))
+            × ((saved.now.cursor ≤ length self.old.state.pulses)
+            × (self.new.state ≡ state self.old.state.micros self.old.state.pulses
+            self.old.state.format saved.now.marks))))
+            (λ line. head_fault self.old.state saved.now ≡ Some line) }
+    {
+        if saved.cursor > self.len() as u64 {
+            return Err(3);
+        }
+        match self.put_marks(&saved.marks) {
+            Ok(line) => Ok(line),
+            Err(line) => Err(line),
+        }
+    }
+
     /// Replaces all marks by these, if none is beyond the length: the answer is the
     /// number of the line after theirs, from 1, the first being line 4. Else it is the number of
     /// the line of the first that is.

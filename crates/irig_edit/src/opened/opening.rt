@@ -170,14 +170,8 @@ fn session_of(alloc: Global, recording: Recording, saved: Saved) -> Result<Sessi
     ensures memory { result ≡ Err OutOfMemory
         → IsTrue (is_permitted saved.kind saved.expression) }
 {
-    let (mut walk, marked) = match start(alloc, recording, &saved) {
-        Ok(start) => start,
-        Err(fault) => return Err(fault),
-    };
-    let Saved { past, future, .. } = saved;
-    let line = marked + past.lines() + 1;
-    match walk.follow_both(alloc, past, future, line) {
-        Ok(()) => Ok(walk.into_session(alloc)),
+    match start(alloc, recording, &saved) {
+        Ok((walk, line)) => walk.open(alloc, saved, line),
         Err(fault) => Err(fault),
     }
 }

@@ -1,24 +1,26 @@
 //! The steps of a saved journal, taken one after another.
 
-ghost use Rattle.std.specs.Prelude.{◌≡◌, ◌≤◌, ◌<◌, ◌^◌, ℕ, List, [], IfErr, IfOk, MatchResult};
-ghost use Rattle.std.specs.Prelude.{OnOk, length, map, reverse};
+ghost use Rattle.std.specs.Prelude.{◌≡◌, ◌+◌, ◌≤◌, ◌<◌, ◌^◌, ℕ, List, [], IfErr, IfOk, None};
+ghost use Rattle.std.specs.Prelude.{MatchResult, OnOk, length, map, reverse};
 ghost use Rattle.irig_journal.specs.History.{History, Step};
 ghost use Rattle.irig_journal.specs.Turns.{FitAll};
-ghost use Rattle.irig_saved.specs.SavedText.{steps_lines};
+ghost use Rattle.irig_saved.specs.SavedText.{mark_lines, saved_lines, steps_lines};
 ghost use Rattle.irig_edit.specs.Changes.Delta.{Delta, Fits};
 ghost use Rattle.irig_edit.specs.Changes.Delta.Delta.{Alone, Together};
 ghost use Rattle.irig_edit.specs.Changes.Single.{FitsSingle, SingleDelta, turned_single};
-ghost use Rattle.irig_edit.specs.Opened.Opened.{IsStepAtFault};
+ghost use Rattle.irig_edit.specs.Opened.Opened.{IsAccepted, IsLineAtFault, IsStepAtFault};
+ghost use Rattle.irig_edit.specs.Opened.Opened.{head_fault};
 ghost use Rattle.irig_edit.specs.Opened.Openings.{IsBad};
 ghost use Rattle.irig_edit.specs.Saved.Saved.{saved_change, saved_single, saved_step};
 ghost use Rattle.irig_edit.specs.State.State.{IsState, State};
 ghost use Rattle.irig_edit.specs.Opened.Stops.{HasTaken, IsStop, Told};
 ghost use Rattle.irig_edit.specs.Opened.Taken.{AreTaken, CanTake, CanTakeAll};
-ghost use Rattle.irig_edit.specs.Opened.Walk.{ahead_of, changed, gone_along, gone_on};
+ghost use Rattle.irig_edit.specs.Opened.Walk.{ahead_of, changed, gone_along, gone_on, walk};
 
 use crate::opened::naming::single_named;
 use crate::opened::walk::Walk;
-use irig_saved::Steps;
+use crate::session::session::Session;
+use irig_saved::{Saved, Steps};
 use irig_vcd::VcdFault;
 use std::alloc::{AllocError, Global};
 
@@ -48,9 +50,33 @@ impl Walk {
         Ok(())
     }
 
+    /// Takes the steps of a journal, and makes the session. The line after its marks has this
+    /// number, from 1.
+    pub(crate) fn open(
+        mut self,
+        alloc: Global,
+        saved: Saved,
+        line: usize,
+    ) -> Result<Session, VcdFault>
+        requires start { self ≡ walk self.state saved.cursor [] [] }
+        requires head { head_fault self.state saved ≡ None }
+        requires cursor { saved.cursor ≤ length self.state.pulses }
+        requires line { line ≡ 4 + length (mark_lines 97 saved.marks) }
+        requires short { length (saved_lines saved) ≤ 2 ^ 28 }
+        ensures opened { IfOk result (IsAccepted self.state saved) }
+        ensures fault { IfErr result (IsBad (IsLineAtFault self.state saved)) }
+    {
+        let Saved { past, future, .. } = saved;
+        let line = line + past.lines() + 1;
+        match self.follow_both(alloc, past, future, line) {
+            Ok(()) => Ok(self.into_session(alloc)),
+            Err(fault) => Err(fault),
+        }
+    }
+
     /// Takes the steps back of a journal, and goes back; then the steps forward, and goes back.
     /// The line that counts the steps forward has this number, from 1.
-    pub(crate) fn follow_both(
+    fn follow_both(
         &mut self,
         alloc: Global,
         past: Steps,
@@ -180,11 +206,15 @@ impl Walk {
         let count = names.len();
         names.reverse();
         while let Some(name) = names.pop() {
-            if !self.make_one(alloc, name)? {
-                return Ok(false);
+            match self.make_one(alloc, name) {
+                Ok(true) => {}
+                Ok(false) => return Ok(false),
+                Err(fault) => return Err(fault),
             }
         }
-        self.gather(count)?;
-        Ok(true)
+        match self.gather(count) {
+            Ok(()) => Ok(true),
+            Err(fault) => Err(fault),
+        }
     }
 }

@@ -1,4 +1,4 @@
-use Rattle.std.proofs.Common.{rules, ◌≡◌, ◌∷◌, [], List, true, false, reverse, ap, sym, subst, ◌∙◌, arith}
+use Rattle.std.proofs.Common.{rules, ◌≡◌, ◌∷◌, [], List, reverse, ap, sym, subst, ◌∙◌, arith}
 use Rattle.std.proofs.lemmas.List.{reverse-append, reverse-reverse}
 use Rattle.irig_saved.specs.declared.single.Single.{Single}
 use Rattle.irig_edit.proofs.OpenedLemmas.TakenGroups.{MadeSoFar, enough_made, group_made, made_more, made_none, made_stops}
@@ -12,16 +12,15 @@ loop-name-init c =
     let names = c.args.names.items in
     subst (λ (l : List Single). MadeSoFar h names h l) (sym (ap reverse c.reverse.ensures.items ∙ reverse-reverse names)) (made_none h names)
 
-pub returns-then-not-branch : goal.returns-then-not-branch
-returns-then-not-branch c =
+pub returns-in-Ok-false : goal.returns-in-Ok-false
+returns-in-Ok-false c =
     let h = c.args.self.now in
     let names = c.args.names.items in
     let left = c.pop.new.self.items in
     let x = c.in-Some.name in
     let over : reverse c.loop-name.names.items ≡ x ∷ reverse left = ap reverse c.in-Some.ensures.items ∙ reverse-append left (x ∷ []) in
     let so_far = subst (λ (l : List Single). MadeSoFar h names c.loop-name.self l) over c.loop-name.invariant in
-    let is : c.in_ok-make_one.field-0 ≡ false = search rules in
-    made_stops h c.loop-name.self names (reverse left) x so_far (told_no _ _ _ is c.in_ok-make_one.ensures)
+    made_stops h c.loop-name.self names (reverse left) x so_far (told_no _ _ _ c.in-Ok-false.field-0-test c.in-Ok-false.ensures)
 
 pub loop-name-preserved : goal.loop-name-preserved
 loop-name-preserved c =
@@ -31,8 +30,7 @@ loop-name-preserved c =
     let x = c.in-Some.name in
     let over : reverse c.loop-name.names.items ≡ x ∷ reverse left = ap reverse c.in-Some.ensures.items ∙ reverse-append left (x ∷ []) in
     let so_far = subst (λ (l : List Single). MadeSoFar h names c.loop-name.self l) over c.loop-name.invariant in
-    let is : c.in_ok-make_one.field-0 ≡ true = search rules in
-    let made = told_yes _ _ _ is c.in_ok-make_one.ensures in
+    let made = told_yes _ _ _ c.in-Ok-true.field-0-test c.in-Ok-true.ensures in
     made_more h c.loop-name.self c.make_one.new.self names (reverse left) x made.0 so_far made.1.0 made.1.1.0 made.1.1.1
 
 pub gather-requires : goal.gather-requires
@@ -43,10 +41,10 @@ gather-requires c =
     let so_far = subst (λ (l : List Single). MadeSoFar h names c.loop-name.self l) (ap reverse none) c.loop-name.invariant in
     omega (arith, enough_made h c.loop-name.self names c.requires.ahead so_far, c.len-count.ensures)
 
-pub returns : goal.returns
-returns c =
+pub returns-in-Ok : goal.returns-in-Ok
+returns-in-Ok c =
     let h = c.args.self.now in
     let names = c.args.names.items in
     let none : c.loop-name.names.items ≡ [] = search rules in
     let so_far = subst (λ (l : List Single). MadeSoFar h names c.loop-name.self l) (ap reverse none) c.loop-name.invariant in
-    group_made h c.loop-name.self c.gather.new.self names c.len-count.result c.requires.ahead (omega (arith, c.len-count.ensures)) so_far c.in_ok-gather.ensures
+    group_made h c.loop-name.self c.gather.new.self names c.len-count.result c.requires.ahead (omega (arith, c.len-count.ensures)) so_far c.in-Ok.ensures
