@@ -14,8 +14,10 @@ use Rattle.irig_edit.specs.Changes.Delta.{singles_of}
 use Rattle.irig_edit.specs.Changes.Held.{delta_of, deltas_of, single_of}
 use Rattle.irig_edit.specs.Changes.Laws.Parts.{singles_of-delta_of}
 use Rattle.irig_edit.specs.Saved.Saved.{CanBeNamed, saved_single, saved_step}
-use Rattle.irig_edit.specs.Saved.SavedParts.{changes_text, steps_text}
+use Rattle.irig_edit.specs.Saved.SavedParts.{changes_text, next_stage, parts_left, stage_left, steps_text, text_after}
 use Rattle.irig_edit.specs.declared.changes.single.Single.{Single}
+use Rattle.irig_edit.specs.declared.saved.stage.Stage.{Stage}
+use Rattle.irig_edit.specs.declared.saved.stage.Stage.TheVariants.{Dump, Back, On, Over}
 
 -- a part of the first of two was given
 pub in_row : (block new left after rest : List ℕ) → new ++ after ≡ block ++ left
@@ -28,12 +30,30 @@ pub ended : (block new left after rest : List ℕ) → new ++ after ≡ block ++
     → new ++ rest ≡ block ++ (left ++ rest)
 ended block new left after rest given none = ap (λ t. new ++ (t ++ rest)) (sym none) ∙ in_row block new left after rest given
 
+-- the next has begun with a part of it
+pub next_begun : (new more rest part begins behind : List ℕ) → more ++ begins ≡ new ++ part → rest ≡ part ++ behind
+    → more ++ (begins ++ behind) ≡ new ++ rest
+next_begun new more rest part begins behind begin split = in_row new more part begins behind begin ∙ ap (λ t. new ++ t) (sym split)
+
 -- the first has ended, and the second has begun with a part of it
 pub begun : (block new more left after rest part begins behind : List ℕ) → new ++ after ≡ block ++ left
     → after ≡ [] → more ++ begins ≡ new ++ part → rest ≡ part ++ behind
     → more ++ (begins ++ behind) ≡ block ++ (left ++ rest)
 begun block new more left after rest part begins behind given none begin split =
-    in_row new more part begins behind begin ∙ (ap (λ t. new ++ t) (sym split) ∙ ended block new left after rest given none)
+    next_begun new more rest part begins behind begin split ∙ ended block new left after rest given none
+
+-- what comes after a stage that has ended, and the stages after it
+pub stage-ended : (s n : Stage) (dump opening back middle on : List ℕ) → n ≡ next_stage s → stage_left s dump back on ≡ []
+    → parts_left s dump opening back middle on ≡ text_after s opening middle ++ parts_left n dump opening back middle on
+stage-ended Dump n dump opening back middle on is none = rw is (rw none (simp append_assoc refl))
+stage-ended Back n dump opening back middle on is none = rw is (rw none (simp append_assoc refl))
+stage-ended On n dump opening back middle on is none = rw is (rw none refl)
+stage-ended Over n dump opening back middle on is none = rw is refl
+
+-- a text that was left begins with one that is written
+pub written : (new more left text rest given : List ℕ) → new ++ left ≡ given → left ≡ text ++ rest → more ≡ new ++ text
+    → more ++ rest ≡ given
+written new more left text rest given is split put = rw put (append_assoc new text rest ∙ (ap (λ t. new ++ t) (sym split) ∙ is))
 
 -- a line was written, of several
 pub line_first : (old new l : List ℕ) (ls : List (List ℕ)) → new ≡ old ++ (l ++ 10 ∷ [])

@@ -1,6 +1,6 @@
 //! The lines of single changes, in parts.
 
-ghost use Rattle.std.specs.Prelude.{◌≡◌, ◌≤◌, ◌++◌, ◌∷◌, [], IfOk, OnOk, false, map, reverse};
+ghost use Rattle.std.specs.Prelude.{◌≡◌, ◌≤◌, ◌<◌, ◌++◌, ◌∷◌, [], IfOk, OnOk, false, map, reverse};
 ghost use Rattle.std.specs.Prelude.{true, vec_len};
 ghost use Rattle.std.specs.List.{AllByRecursion};
 ghost use Rattle.irig_saved.specs.ChangeWords.{single_line};
@@ -50,24 +50,29 @@ impl<'s> ChangeLines<'s> {
         }
     }
 
-    /// Adds lines to a block until it has `enough` bytes. Returns whether no line is left.
+    /// Adds lines to a block until it has `enough` bytes. Returns whether no line is left, and the
+    /// block has fewer.
     pub(crate) fn fill(&mut self, block: &mut Vec<u8>, enough: usize) -> Result<bool, AllocError>
         ensures bytes { OnOk result (block.new.items ++ self.new ≡ block.old.items ++ self.old) }
         ensures end { IfOk result (λ ended. ended ≡ true → self.new ≡ []) }
+        ensures room { IfOk result (λ ended. ended ≡ true → vec_len block.new < enough) }
         ensures full { IfOk result (λ ended. ended ≡ false → enough ≤ vec_len block.new) }
     {
-        while self.pulses.fill(block, enough)? {
-            if block.len() >= enough {
-                return Ok(false);
+        loop {
+            match self.pulses.fill(block, enough) {
+                Ok(true) => {}
+                ended => return ended,
             }
             let Some((single, others)) = self.left.split_last() else {
                 return Ok(true);
             };
-            put_first(block, single)?;
+            match put_first(block, single) {
+                Ok(()) => {}
+                Err(fault) => return Err(fault),
+            }
             self.pulses = PulseLines::of(single);
             self.left = others;
         }
-        Ok(false)
     }
 }
 

@@ -1,6 +1,6 @@
 //! The lines of a splice's pulses, in parts.
 
-ghost use Rattle.std.specs.Prelude.{◌≡◌, ◌≤◌, ◌++◌, [], IfOk, OnOk, false, true, vec_len};
+ghost use Rattle.std.specs.Prelude.{◌≡◌, ◌≤◌, ◌<◌, ◌++◌, [], IfOk, OnOk, false, true, vec_len};
 ghost use Rattle.irig_saved.specs.Lines.{text_of};
 ghost use Rattle.irig_saved.specs.SavedText.{pulse_lines, put_of};
 ghost use Rattle.irig_edit.specs.Changes.Held.{single_of};
@@ -54,14 +54,16 @@ impl<'s> PulseLines<'s> {
         }
     }
 
-    /// Adds lines to a block until it has `enough` bytes. Returns whether no line is left.
+    /// Adds lines to a block until it has `enough` bytes. Returns whether no line is left, and the
+    /// block has fewer.
     pub(crate) fn fill(&mut self, block: &mut Vec<u8>, enough: usize) -> Result<bool, AllocError>
         ensures bytes { OnOk result (block.new.items ++ self.new ≡ block.old.items ++ self.old) }
         ensures end { IfOk result (λ ended. ended ≡ true → self.new ≡ []) }
+        ensures room { IfOk result (λ ended. ended ≡ true → vec_len block.new < enough) }
         ensures full { IfOk result (λ ended. ended ≡ false → enough ≤ vec_len block.new) }
     {
         let Some(pulses) = self.pulses else {
-            return Ok(true);
+            return Ok(block.len() < enough);
         };
         let len = pulses.len();
         for place in self.next..len {
@@ -69,9 +71,12 @@ impl<'s> PulseLines<'s> {
                 self.next = place;
                 return Ok(false);
             }
-            put_pulse(block, pulses.get(place))?;
+            match put_pulse(block, pulses.get(place)) {
+                Ok(()) => {}
+                Err(fault) => return Err(fault),
+            }
         }
         self.next = len;
-        Ok(true)
+        Ok(block.len() < enough)
     }
 }

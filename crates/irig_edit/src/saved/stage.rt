@@ -1,5 +1,9 @@
 //! How far a saved session's text has come.
 
+ghost use Rattle.std.specs.Prelude.{◌≡◌, ◌↔◌, IsTrue};
+ghost use Rattle.irig_edit.specs.Saved.SavedParts.{next_stage};
+ghost use Rattle.irig_edit.specs.declared.saved.stage.Stage.TheVariants.{Over};
+
 /// What comes next of a saved session's text.
 #[derive(Clone, Copy)]
 pub(crate) enum Stage {
@@ -11,4 +15,24 @@ pub(crate) enum Stage {
     On,
     /// Nothing.
     Over,
+}
+
+impl Stage {
+    /// Whether nothing comes.
+    pub(crate) fn is_over(self) -> bool
+        ensures { IsTrue result ↔ self ≡ Over }
+    {
+        matches!(self, Stage::Over)
+    }
+
+    /// What comes after it.
+    pub(crate) fn next(self) -> Stage
+        ensures { result ≡ next_stage self }
+    {
+        match self {
+            Stage::Dump => Stage::Back,
+            Stage::Back => Stage::On,
+            Stage::On | Stage::Over => Stage::Over,
+        }
+    }
 }

@@ -1,6 +1,7 @@
 //! The lines of the steps on one side of the present, in parts.
 
-ghost use Rattle.std.specs.Prelude.{◌≡◌, ◌≤◌, ◌++◌, [], IfOk, OnOk, false, length, true, vec_len};
+ghost use Rattle.std.specs.Prelude.{◌≡◌, ◌≤◌, ◌<◌, ◌++◌, [], IfOk, OnOk, false, length};
+ghost use Rattle.std.specs.Prelude.{true, vec_len};
 ghost use Rattle.std.specs.List.{AllByRecursion};
 ghost use Rattle.irig_journal.specs.Held.{held_of};
 ghost use Rattle.irig_journal.specs.History.{step};
@@ -50,23 +51,48 @@ impl<'s> StepLines<'s> {
         }
     }
 
-    /// Adds lines to a block until it has `enough` bytes. Returns whether no line is left.
+    /// Adds lines to a block until it has `enough` bytes. Returns whether no line is left, and the
+    /// block has fewer.
     pub(crate) fn fill(&mut self, block: &mut Vec<u8>, enough: usize) -> Result<bool, AllocError>
         ensures bytes { OnOk result (block.new.items ++ self.new ≡ block.old.items ++ self.old) }
         ensures end { IfOk result (λ ended. ended ≡ true → self.new ≡ []) }
+        ensures room { IfOk result (λ ended. ended ≡ true → vec_len block.new < enough) }
         ensures full { IfOk result (λ ended. ended ≡ false → enough ≤ vec_len block.new) }
     {
-        while self.changes.fill(block, enough)? {
-            if block.len() >= enough {
-                return Ok(false);
+        loop {
+            match self.changes.fill(block, enough) {
+                Ok(true) => {}
+                ended => return ended,
             }
-            if self.left.len() == 0 {
-                return Ok(true);
+            match begin_next(&mut self.changes, &mut self.left, block) {
+                Ok(false) => {}
+                Ok(true) => return Ok(true),
+                Err(fault) => return Err(fault),
             }
-            self.changes = begin_step(block, self.left.next().unwrap())?;
         }
-        Ok(false)
     }
+}
+
+/// Begins the next step. Returns whether none is left.
+fn begin_next<'s>(
+    changes: &mut ChangeLines<'s>,
+    left: &mut StepsLeft<'s, Single>,
+    block: &mut Vec<u8>,
+) -> Result<bool, AllocError>
+    requires over { changes.old ≡ [] }
+    requires named { StepsCanBeNamed (deltas_of left.old) }
+    ensures bytes { OnOk result (block.new.items ++ (changes.new ++ steps_text (deltas_of left.new))
+        ≡ block.old.items ++ steps_text (deltas_of left.old)) }
+    ensures less { IfOk result (λ ended. ended ≡ false → length left.new < length left.old) }
+    ensures end { IfOk result (λ ended. ended ≡ true
+        → (changes.new ≡ []) × ((left.new ≡ []) × (vec_len block.new ≡ vec_len block.old))) }
+    ensures named { StepsCanBeNamed (deltas_of left.new) }
+{
+    if left.len() == 0 {
+        return Ok(true);
+    }
+    *changes = begin_step(block, left.next().unwrap())?;
+    Ok(false)
 }
 
 /// Writes the first line of a step, and of a group the second. Returns the lines of its changes.

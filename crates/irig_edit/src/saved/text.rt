@@ -1,10 +1,13 @@
 //! The text of a saved session, in parts.
 
-ghost use Rattle.std.specs.Prelude.{◌≡◌, ◌++◌, OnOk, reverse};
+ghost use Rattle.std.specs.Prelude.{◌≡◌, ◌≤◌, ◌++◌, ℕ, List, [], IfOk, OnOk, false, reverse};
+ghost use Rattle.std.specs.Prelude.{true, vec_len};
 ghost use Rattle.irig_saved.specs.Lines.{text_of};
 ghost use Rattle.irig_edit.specs.Saved.Saved.{StepsCanBeNamed};
 ghost use Rattle.irig_edit.specs.Changes.Held.{deltas_of};
-ghost use Rattle.irig_edit.specs.Saved.SavedParts.{opening_text, parts_text, present_lines};
+ghost use Rattle.irig_edit.specs.Saved.SavedParts.{middle_text, next_stage, opening_text};
+ghost use Rattle.irig_edit.specs.Saved.SavedParts.{parts_left, parts_text, present_lines};
+ghost use Rattle.irig_edit.specs.Saved.SavedParts.{stage_left, text_after};
 
 use crate::saved::stage::Stage;
 use crate::saved::step_lines::StepLines;
@@ -67,32 +70,78 @@ impl Text for SavedText<'_> {
 
     fn fill(&mut self, block: &mut Vec<u8>, enough: usize) -> Result<bool, AllocError> {
         // Each turn ends a stage, unless the block is full.
-        loop {
-            match self.stage {
-                Stage::Dump => {
-                    if !self.dump.fill(block, enough)? || block.len() >= enough {
-                        return Ok(false);
-                    }
-                    put_opening(block, self.present, self.cursor, self.journal)?;
-                    self.stage = Stage::Back;
-                }
-                Stage::Back => {
-                    if !self.back.fill(block, enough)? || block.len() >= enough {
-                        return Ok(false);
-                    }
-                    put_future(block, self.journal.steps_forward() as u64)?;
-                    self.stage = Stage::On;
-                }
-                Stage::On => {
-                    if !self.on.fill(block, enough)? || block.len() >= enough {
-                        return Ok(false);
-                    }
-                    block.extend_from_slice(b"$end\n")?;
-                    self.stage = Stage::Over;
-                }
-                Stage::Over => return Ok(true),
+        while !self.stage.is_over() {
+            let filled = fill_stage(
+                self.stage,
+                &mut self.dump,
+                &mut self.back,
+                &mut self.on,
+                block,
+                enough,
+            );
+            match filled {
+                Ok(true) => {}
+                ended => return ended,
+            }
+            match end_stage(
+                &mut self.stage,
+                block,
+                self.present,
+                self.cursor,
+                self.journal,
+            ) {
+                Ok(()) => {}
+                Err(fault) => return Err(fault),
             }
         }
+        Ok(true)
+    }
+}
+
+/// Adds the dump or the steps of a stage to a block until it has `enough` bytes. Returns whether
+/// none of it is left, and the block has fewer.
+fn fill_stage(
+    stage: Stage,
+    dump: &mut TrackText<'_>,
+    back: &mut StepLines<'_>,
+    on: &mut StepLines<'_>,
+    block: &mut Vec<u8>,
+    enough: usize,
+) -> Result<bool, AllocError>
+    ensures bytes { OnOk result ((opening : List ℕ) (middle : List ℕ) → block.new.items
+        ++ parts_left stage dump.new opening back.new middle on.new
+        ≡ block.old.items ++ parts_left stage dump.old opening back.old middle on.old) }
+    ensures end { IfOk result (λ ended. ended ≡ true
+        → stage_left stage dump.new back.new on.new ≡ []) }
+    ensures full { IfOk result (λ ended. ended ≡ false → enough ≤ vec_len block.new) }
+{
+    match stage {
+        Stage::Dump => Ok(dump.fill(block, enough)? && block.len() < enough),
+        Stage::Back => back.fill(block, enough),
+        Stage::On => on.fill(block, enough),
+        Stage::Over => Ok(true),
+    }
+}
+
+/// Writes what comes between a stage and the next, and goes on to that.
+fn end_stage(
+    stage: &mut Stage,
+    text: &mut Vec<u8>,
+    present: &Present,
+    cursor: usize,
+    journal: &Journal<Present>,
+) -> Result<(), AllocError>
+    ensures bytes { OnOk result (text.new.items ≡ text.old.items ++ text_after stage.old
+        (opening_text present.now.state cursor journal.now) (middle_text journal.now)) }
+    ensures next { stage.new ≡ next_stage stage.old }
+{
+    let ended = *stage;
+    *stage = ended.next();
+    match ended {
+        Stage::Dump => put_opening(text, present, cursor, journal),
+        Stage::Back => put_future(text, journal.steps_forward() as u64),
+        Stage::On => text.extend_from_slice(b"$end\n"),
+        Stage::Over => Ok(()),
     }
 }
 

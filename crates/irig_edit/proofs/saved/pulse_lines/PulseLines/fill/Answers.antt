@@ -24,7 +24,7 @@ loop-place-preserved c =
     record {
       given = ap (λ (t : List ℕ). c.put_pulse.new.text.items ++ t) (known (place + 1))
           ∙ (line_first c.loop-place.block.items c.put_pulse.new.text.items (pulse_line c.get.result) (pulse_lines (drop (place + 1) pulses))
-          c.in_ok-put_pulse.ensures
+          c.in-Ok.ensures
           ∙ (ap (λ (t : List ℕ). c.loop-place.block.items ++ t) (sym (known place ∙ pulses-next pulses place c.get.result c.get.ensures))
           ∙ c.loop-place.invariant.given));
       known = known;

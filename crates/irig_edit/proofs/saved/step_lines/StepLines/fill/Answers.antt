@@ -1,28 +1,24 @@
-use Rattle.std.proofs.Common.{rules, ◌≡◌, ◌∷◌, List, subst, ◌∙◌}
-use Rattle.irig_journal.specs.Held.{Held, held_of}
-use Rattle.irig_journal.specs.History.{step}
-use Rattle.irig_saved.specs.Lines.{text_of}
-use Rattle.irig_saved.specs.SavedText.{step_lines}
-use Rattle.irig_edit.specs.Changes.Held.{delta_of, deltas_of}
-use Rattle.irig_edit.specs.Saved.Saved.{StepsCanBeNamed, saved_step}
+use Rattle.std.proofs.Common.{◌∙◌}
+use Rattle.irig_edit.specs.Changes.Held.{deltas_of}
 use Rattle.irig_edit.specs.Saved.SavedParts.{steps_text}
-use Rattle.irig_edit.specs.declared.changes.single.Single.{Single}
-use Rattle.irig_edit.proofs.SavedLemmas.Rests.{begun, steps-next}
+use Rattle.irig_edit.proofs.SavedLemmas.Rests.{ended}
 use Rattle.irig_edit.proofs.saved.step_lines.StepLines.fill.Goals as goal
 
-pub loop-block-preserved : goal.loop-block-preserved
-loop-block-preserved c =
-    let left = c.loop-block.self-inside.left in
-    let others = c.next.new.self in
-    let kept = held_of c.unwrap.result in
-    let split : left ≡ kept ∷ others = search rules in
-    let there = step (delta_of kept.parts) kept.cursor in
-    let named = subst (λ (l : List (Held Single)). StepsCanBeNamed (deltas_of l)) split c.loop-block.invariant.named in
+pub loop-ended-preserved : goal.loop-ended-preserved
+loop-ended-preserved c =
+    let inside = c.loop-ended.self-inside in
     record {
-      given = begun c.loop-block.block.items c.fill.new.block.items c.begin_step.new.text.items c.loop-block.self-inside.changes c.fill.new.self
-          (steps_text (deltas_of left)) (text_of (step_lines (saved_step there))) c.in_ok-self-inside.field-0 (steps_text (deltas_of others))
-          c.in_ok-fill.ensures.bytes (c.in_ok-fill.ensures.end c.if-branch.true) c.in_ok-self-inside.ensures
-          (steps-next left others kept split)
-          ∙ c.loop-block.invariant.given;
-      named = named.1;
+      given = c.in-Ok-false.ensures.bytes
+          ∙ (ended c.loop-ended.block.items c.fill.new.block.items inside.changes c.fill.new.self (steps_text (deltas_of inside.left))
+          c.in-Ok-true.ensures.bytes (c.in-Ok-true.ensures.end c.in-Ok-true.field-0-test)
+          ∙ c.loop-ended.invariant.given);
+      named = c.in-Ok-false.ensures.named;
     }
+
+pub returns-in-Ok-true-begin_next-clause-bytes : goal.returns-in-Ok-true-begin_next-clause-bytes
+returns-in-Ok-true-begin_next-clause-bytes c =
+    let inside = c.loop-ended.self-inside in
+    c.in-Ok-true-begin_next.ensures.bytes
+    ∙ (ended c.loop-ended.block.items c.fill.new.block.items inside.changes c.fill.new.self (steps_text (deltas_of inside.left))
+    c.in-Ok-true.ensures.bytes (c.in-Ok-true.ensures.end c.in-Ok-true.field-0-test)
+    ∙ c.loop-ended.invariant.given)
