@@ -21,10 +21,3 @@ pub spoils_later : {F : Type 0} (disk : F → Disk) (a b c : F) (beside beside' 
 spoils_later disk a b c beside beside' file file' bytes eb ef one two = record {
   still = λ target mode start text w. (rw (eb, ef) at two).still target mode start (text ++ bytes) (one.still target mode start text w);
 }
-
--- a text to which bytes came is spoilt too, if it is given up
-pub spoils_so_far : {F : Type 0} (disk : F → Disk) (a b : F) (beside : List ℕ) (file : ℕ) (bytes : List ℕ) → Adds disk a b beside file bytes
-    → Spoils disk a b beside file
-spoils_so_far disk a b beside file bytes one = record {
-  still = λ target mode start text w. (text ++ bytes, one.still target mode start text w);
-}

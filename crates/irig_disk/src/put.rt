@@ -1,7 +1,8 @@
 //! A text written whole, in one call.
 
-ghost use Rattle.std.specs.Prelude.{◌≡◌, ◌<◌, ◌++◌, ◌+◌, ◌^◌, ℕ, List, [], true, length, IfOk};
-ghost use Rattle.std.specs.Prelude.{IfErr, IfSome, OnOk, OnErr, OnSome, IsErrOf};
+ghost use Rattle.std.specs.Prelude.{◌≡◌, ◌<◌, ◌≤◌, ◌++◌, ◌+◌, ◌^◌, ℕ, List, [], false, true};
+ghost use Rattle.std.specs.Prelude.{length, IfOk, IfErr, IfSome, OnOk, OnErr, OnSome, IsErrOf};
+ghost use Rattle.irig_text.specs.declared.block.TheConstants.{ENOUGH};
 ghost use Rattle.irig_disk.specs.Disk.{LeavesOnly};
 ghost use Rattle.irig_disk.specs.declared.fault.PutFault.TheVariants.{NamesTaken};
 ghost use Rattle.irig_disk.specs.declared.new_text.TheConstants.{NAMES};
@@ -85,15 +86,14 @@ fn append_all<F: Folder, T: Text>(
     ensures err { F.is_told → OnErr result (Spoils F.disk folder.old folder.new
         new.old.beside.now (F.number new.old.file)) }
 {
-    for _ in 0..u64::MAX {
+    // each part but the last makes the rest of the text shorter
+    'parts: loop {
         match append_next(folder, new, text, block) {
             Ok(false) => {}
             Ok(true) => return Ok(()),
             Err(fault) => return Err(fault),
         }
     }
-    // no text has that many parts
-    Err(None)
 }
 
 /// Writes the next block of a text, and returns whether it was the last one. `None` is a fault of
@@ -114,6 +114,9 @@ fn append_next<F: Folder, T: Text>(
         × (F.is_told → Adds F.disk folder.old folder.new new.old.beside.now
         (F.number new.old.file) part)) }
     ensures end { IfOk result (λ ended. ended ≡ true → T.rest text.new ≡ []) }
+    // at least 64 KiB go on, or the text has ended
+    ensures more { IfOk result (λ ended. ended ≡ false
+        → ENOUGH + length (T.rest text.new) ≤ length (T.rest text.old)) }
     ensures err { F.is_told → OnErr result (Spoils F.disk folder.old folder.new
         new.old.beside.now (F.number new.old.file)) }
 {
@@ -131,6 +134,7 @@ fn append_next<F: Folder, T: Text>(
 fn fill_next<T: Text>(text: &mut T, block: &mut Vec<u8>, before: u64) -> Option<bool>
     ensures bytes { OnSome result (T.rest text.old ≡ block.new.items ++ T.rest text.new) }
     ensures end { IfSome result (λ ended. ended ≡ true → T.rest text.new ≡ []) }
+    ensures full { IfSome result (λ ended. ended ≡ false → ENOUGH ≤ length block.new.items) }
     ensures fits { OnSome result (before + length block.new.items < 2 ^ 64) }
 {
     block.clear();

@@ -1,30 +1,30 @@
 use Rattle.std.proofs.Common.{◌+◌, ◌++◌, ◌∙◌, ap, length}
 use Rattle.irig_disk.proofs.Parts.{more_text, whole_text, more_count}
-use Rattle.irig_disk.proofs.Adding.{adds_more, spoils_later, spoils_so_far}
+use Rattle.irig_disk.proofs.Adding.{adds_more, spoils_later}
 use Rattle.irig_disk.proofs.put.append_all.Goals as goal
 
 pub returns-in-Ok-true-clause-count : goal.returns-in-Ok-true-clause-count
 returns-in-Ok-true-clause-count g c =
-    let inv = c.loop.invariant in
+    let inv = c.parts.invariant in
     let done = c.in-Ok-true.ensures.ok in
     let whole = whole_text inv.so_far done.0 _ _ _ inv.whole done.1 (c.in-Ok-true.ensures.end c.in-Ok-true.field-0-test) in
     more_count inv.so_far done.0 _ _ _ inv.count done.2 ∙ ap (λ all. c.args.new.now.count + length all) whole
 
 pub returns-in-Ok-true-clause-ok : goal.returns-in-Ok-true-clause-ok
 returns-in-Ok-true-clause-ok g c told =
-    let inv = c.loop.invariant in
+    let inv = c.parts.invariant in
     let done = c.in-Ok-true.ensures.ok in
     let whole = whole_text inv.so_far done.0 _ _ _ inv.whole done.1 (c.in-Ok-true.ensures.end c.in-Ok-true.field-0-test) in
     rw whole at (adds_more _ _ _ _ _ _ _ _ inv.so_far done.0 inv.beside inv.file (inv.adds told) (done.3 told))
 
 pub returns-in-Err-clause-err : goal.returns-in-Err-clause-err
 returns-in-Err-clause-err g c told =
-    let inv = c.loop.invariant in
+    let inv = c.parts.invariant in
     spoils_later _ _ _ _ _ _ _ _ inv.so_far inv.beside inv.file (inv.adds told) (c.in-Err.ensures.err told)
 
-pub loop-preserved : goal.loop-preserved
-loop-preserved g c =
-    let inv = c.loop.invariant in
+pub parts-preserved : goal.parts-preserved
+parts-preserved g c =
+    let inv = c.parts.invariant in
     let done = c.in-Ok-false.ensures.ok in
     record {
       beside = c.append_next.ensures.beside ∙ inv.beside;
@@ -36,6 +36,3 @@ loop-preserved g c =
       count = more_count inv.so_far done.0 _ _ _ inv.count done.2;
       adds = λ told. adds_more _ _ _ _ _ _ _ _ inv.so_far done.0 inv.beside inv.file (inv.adds told) (done.3 told);
     }
-
-pub returns-clause-err : goal.returns-clause-err
-returns-clause-err g c told = spoils_so_far _ _ _ _ _ c.loop.invariant.so_far (c.loop.invariant.adds told)

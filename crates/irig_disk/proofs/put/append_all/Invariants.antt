@@ -3,8 +3,8 @@ use Rattle.irig_disk.specs.Parts.{Adds}
 use Rattle.irig_disk.proofs.put.append_all.Given as goal
 
 -- the bytes that are written so far, with those that are still to come
-abbrev pub invariant-loop : goal.invariant-loop
-invariant-loop g l = record {
+abbrev pub invariant-parts : goal.invariant-parts
+invariant-parts g l = record {
   beside : l.new.beside.now ≡ l.fn.new.beside.now;
   target : l.new.target.now ≡ l.fn.new.target.now;
   mode : l.new.mode ≡ l.fn.new.mode;
@@ -14,3 +14,7 @@ invariant-loop g l = record {
   count : l.new.count ≡ l.fn.new.count + length so_far;
   adds : g.F.Folder.is_told → Adds g.F.Folder.disk l.fn.folder l.folder l.fn.new.beside.now (g.F.Folder.number l.fn.new.file) so_far;
 }
+
+-- the bytes that are still to come
+abbrev pub decreases-parts : goal.decreases-parts
+decreases-parts g l = length (g.T.Text.rest l.text)
