@@ -31,7 +31,7 @@ other_name a n ne = false_where (a ≡ n) (bytes_eq a n) (bytes_eq-Decides a n) 
 same_file : (i : ℕ) → nat_eq i i ≡ true
 same_file i = (Decides-eqb i i).1 refl
 
-other_file : (k i : ℕ) → i ≢ k → nat_eq k i ≡ false
+pub other_file : (k i : ℕ) → i ≢ k → nat_eq k i ≡ false
 other_file k i ne = false_where (k ≡ i) (nat_eq k i) (Decides-eqb k i) (λ is. ne (sym is))
 
 of_cond : {A R : Type 0} (b : Bool) (x y z : A) → cond b x y ≡ z → (x ≡ z → R) → (y ≡ z → R) → R

@@ -41,8 +41,10 @@ pub fn mode_of(calls: &[Call], number: usize) -> u32
 
 /// Whether a crash leaves a file as it is seen.
 pub fn is_kept(calls: &[Call], number: usize) -> bool
-    ensures { IsTrue result → (h : Held) → may_hold_in calls.now number h
+    ensures kept { IsTrue result → (h : Held) → may_hold_in calls.now number h
         → h ≡ holds_in calls.now number }
+    ensures only { ((h : Held) → may_hold_in calls.now number h → h ≡ holds_in calls.now number)
+        → IsTrue result }
 {
     let Some((call, older)) = calls.split_first() else {
         return true;

@@ -1,11 +1,14 @@
 //! A folder in memory, for tests. It is the log of the calls that were done on it, the newest
 //! first.
 
-ghost use Rattle.std.specs.Prelude.{◌≡◌, ◌∷◌, [], List, false, None, OnOk, OnErr, MatchOption};
+ghost use Rattle.std.specs.Prelude.{◌≡◌, ◌↔◌, ◌≤◌, ◌<◌, ◌∷◌, ◌+◌, ◌-◌, ◌^◌, [], List, false, None};
+ghost use Rattle.std.specs.Prelude.{OnOk, OnErr, IfErr, IsTrue, MatchOption, min, vec_len};
+ghost use Rattle.std.specs.Prelude.{vec_capacity};
 ghost use Rattle.irig_disk.specs.Led.{makes};
 ghost use Rattle.irig_disk.specs.Log.{leads_in, disk_of};
 ghost use Rattle.irig_disk.specs.LogLaws.{log_counts_now, log_only_now};
 ghost use Rattle.irig_disk.specs.declared.call.Call.{Call};
+ghost use Rattle.irig_disk.specs.declared.memory.MemoryFault.TheVariants.{NoMemory};
 ghost use Rattle.irig_disk.specs.declared.memory.TheConstants.{USUAL};
 
 use crate::call::Call;
@@ -24,12 +27,16 @@ pub enum MemoryFault {
 }
 
 impl From<AllocError> for MemoryFault {
+    ghost from_gives = { λ _ fault. fault ≡ NoMemory };
+
     fn from(_: AllocError) -> Self {
         MemoryFault::NoMemory
     }
 }
 
 impl<T: Drop> From<AllocFailed<T>> for MemoryFault {
+    ghost from_gives = { λ _ fault. fault ≡ NoMemory };
+
     fn from(_: AllocFailed<T>) -> Self {
         MemoryFault::NoMemory
     }
@@ -95,6 +102,8 @@ fn name_before<'n>(call: &'n Call, name: &'n [u8]) -> Option<&'n [u8]>
 fn add(calls: &mut Vec<Call>, call: Call) -> Result<(), MemoryFault>
     ensures ok { OnOk result (calls.new.items ≡ call ∷ calls.old.items) }
     ensures err { OnErr result (calls.new.items ≡ calls.old.items) }
+    ensures fault { IfErr result (λ fault. fault ≡ NoMemory) }
+    ensures full { OnErr result (vec_capacity calls.old ≤ vec_len calls.old) }
 {
     calls.insert(0, call)?;
     Ok(())
@@ -103,7 +112,8 @@ fn add(calls: &mut Vec<Call>, call: Call) -> Result<(), MemoryFault>
 impl Memory {
     /// An empty folder.
     pub fn new(alloc: Global) -> Self
-        ensures { result.calls.items ≡ [] }
+        ensures empty { result.calls.items ≡ [] }
+        ensures unplanned { result.fails_to ≡ 0 }
     {
         Memory {
             alloc,
@@ -123,16 +133,24 @@ impl Memory {
 
     /// Lets the calls from one on fail, up to but not including another, counted from here from 0.
     pub fn fail(&mut self, from: u64, to: u64)
-        ensures { self.new.calls ≡ self.old.calls }
+        ensures calls { self.new.calls ≡ self.old.calls }
+        ensures done { self.new.done ≡ 0 }
+        ensures from { self.new.fails_from ≡ from }
+        ensures to { self.new.fails_to ≡ to }
     {
         self.done = 0;
         self.fails_from = from;
         self.fails_to = to;
     }
 
-    /// Whether this call is to fail.
+    /// Whether this call is to fail. It counts the call.
     fn is_planned(&mut self) -> bool
-        ensures { self.new.calls ≡ self.old.calls }
+        ensures planned { IsTrue result
+            ↔ (self.old.fails_from ≤ self.old.done) × (self.old.done < self.old.fails_to) }
+        ensures calls { self.new.calls ≡ self.old.calls }
+        ensures done { self.new.done ≡ min (self.old.done + 1) (2 ^ 64 - 1) }
+        ensures from { self.new.fails_from ≡ self.old.fails_from }
+        ensures to { self.new.fails_to ≡ self.old.fails_to }
     {
         let now = self.done;
         self.done = now.saturating_add(1);

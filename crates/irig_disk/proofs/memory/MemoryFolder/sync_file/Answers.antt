@@ -3,4 +3,4 @@ use Rattle.irig_disk.proofs.LogSteps.{log_syncs}
 use Rattle.irig_disk.proofs.memory.MemoryFolder.sync_file.Goals as goal
 
 pub returns-clause-ok : goal.returns-clause-ok
-returns-clause-ok c told = on_ok_weaker c.add.result (λ grown. log_syncs _ _ _ (rw c.is_planned.ensures at grown)) c.add.ensures.ok
+returns-clause-ok c told = on_ok_weaker c.add.result (λ grown. log_syncs _ _ _ (rw c.is_planned.ensures.calls at grown)) c.add.ensures.ok
