@@ -8,3 +8,8 @@ on_err (Err e) p = p
 pub on_ok : {T E P : Type 0} (r : Result T E) → P → OnOk r P
 on_ok (Ok x) p = p
 on_ok (Err e) p = tt
+
+-- what a call's answer gives, with what was known of either
+pub either_way : {T E A B C D P : Type 0} (r : Result T E) → OnOk r A → OnErr r B → OnOk r C → OnErr r D → (A → C → P) → (B → D → P) → P
+either_way (Ok x) a b c d done failed = done a c
+either_way (Err e) a b c d done failed = failed b d

@@ -1,6 +1,6 @@
 //! What a crash may leave of a folder in memory, for tests.
 
-ghost use Rattle.std.specs.Prelude.{◌≡◌, IfOk, IsTrue};
+ghost use Rattle.std.specs.Prelude.{◌≡◌, ◌++◌, IfOk, IsTrue};
 ghost use Rattle.irig_disk.specs.Disk.{Held};
 ghost use Rattle.irig_disk.specs.Log.{holds_in, may_hold_in};
 
@@ -17,12 +17,19 @@ pub fn bytes_of(alloc: Global, calls: &[Call], number: usize) -> Result<Vec<u8>,
     match call {
         Call::Make(_, _) if older.len() == number => Ok(Vec::new(alloc)),
         Call::Append(file, part) if *file == number => {
-            let mut bytes = bytes_of(alloc, older, number)?;
-            bytes.extend_from_slice(part)?;
-            Ok(bytes)
+            let bytes = bytes_of(alloc, older, number)?;
+            with_part(bytes, part)
         }
         _ => bytes_of(alloc, older, number),
     }
+}
+
+/// Bytes with those of a part after them.
+fn with_part(mut bytes: Vec<u8>, part: &[u8]) -> Result<Vec<u8>, AllocError>
+    ensures { IfOk result (λ all. all.items ≡ bytes.items ++ part.now) }
+{
+    bytes.extend_from_slice(part)?;
+    Ok(bytes)
 }
 
 /// The mode of a file.

@@ -1,6 +1,7 @@
 //! A text written whole on a disk: a crash at any moment leaves the old one or the new one.
 #![tactic(auto)]
 
+mod beside;
 mod call;
 mod calls;
 mod fault;
@@ -8,6 +9,7 @@ mod folder;
 mod kept;
 mod left;
 mod memory;
+mod memory_fault;
 mod new_text;
 mod put;
 mod system;
@@ -19,7 +21,8 @@ pub use fault::PutFault;
 pub use folder::Folder;
 pub use kept::Kept;
 pub use left::{bytes_of, is_kept, mode_of};
-pub use memory::{Memory, MemoryFault, MemoryFile, file_at};
+pub use memory::{Memory, MemoryFile, file_at};
+pub use memory_fault::MemoryFault;
 pub use new_text::NewText;
 pub use put::put_text;
 pub use system::SystemFolder;

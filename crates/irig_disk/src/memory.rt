@@ -2,45 +2,21 @@
 //! first.
 
 ghost use Rattle.std.specs.Prelude.{◌≡◌, ◌↔◌, ◌≤◌, ◌<◌, ◌∷◌, ◌+◌, ◌-◌, ◌^◌, [], List, false, None};
-ghost use Rattle.std.specs.Prelude.{OnOk, OnErr, IfErr, IsTrue, MatchOption, min, vec_len};
+ghost use Rattle.std.specs.Prelude.{OnOk, OnErr, IfOk, IfErr, IsTrue, MatchOption, min, vec_len};
 ghost use Rattle.std.specs.Prelude.{vec_capacity};
+ghost use Rattle.irig_disk.specs.Calls.{Made};
+ghost use Rattle.irig_disk.specs.Disk.{Elapses};
 ghost use Rattle.irig_disk.specs.Led.{makes};
 ghost use Rattle.irig_disk.specs.Log.{leads_in, disk_of};
 ghost use Rattle.irig_disk.specs.LogLaws.{log_counts_now, log_only_now};
 ghost use Rattle.irig_disk.specs.declared.call.Call.{Call};
-ghost use Rattle.irig_disk.specs.declared.memory.MemoryFault.TheVariants.{NoMemory};
+ghost use Rattle.irig_disk.specs.declared.memory_fault.MemoryFault.TheVariants.{NoMemory};
 ghost use Rattle.irig_disk.specs.declared.memory.TheConstants.{USUAL};
 
 use crate::call::Call;
 use crate::folder::Folder;
-use std::alloc::{AllocError, AllocFailed, Global};
-
-/// Why a call on a folder in memory failed.
-#[derive(Clone, Copy)]
-pub enum MemoryFault {
-    /// A growth of the log was refused.
-    NoMemory,
-    /// The call was to fail.
-    Planned,
-    /// No file has the name.
-    NoSuchName,
-}
-
-impl From<AllocError> for MemoryFault {
-    ghost from_gives = { λ _ fault. fault ≡ NoMemory };
-
-    fn from(_: AllocError) -> Self {
-        MemoryFault::NoMemory
-    }
-}
-
-impl<T: Drop> From<AllocFailed<T>> for MemoryFault {
-    ghost from_gives = { λ _ fault. fault ≡ NoMemory };
-
-    fn from(_: AllocFailed<T>) -> Self {
-        MemoryFault::NoMemory
-    }
-}
+use crate::memory_fault::MemoryFault;
+use std::alloc::Global;
 
 /// The mode of a file that is its owner's alone.
 const OWNER_ONLY: u32 = 0o600;
@@ -158,6 +134,22 @@ impl Memory {
     }
 }
 
+impl Memory {
+    /// Adds a new file.
+    fn add_file(&mut self, name: &str, mode: u32) -> Result<MemoryFile, MemoryFault>
+        ensures ok { leads_in self.old.calls.items name.now ≡ None → IfOk result
+            (λ file. Made (disk_of self.old.calls.items) (disk_of self.new.calls.items)
+            name.now file.number mode) }
+        ensures err { OnErr result (self.new.calls.items ≡ self.old.calls.items) }
+        ensures time { Elapses (disk_of self.old.calls.items) (disk_of self.new.calls.items) }
+    {
+        let number = self.calls.len();
+        let name = name.as_bytes().to_vec(self.alloc)?;
+        add(&mut self.calls, Call::Make(name, mode))?;
+        Ok(MemoryFile { number })
+    }
+}
+
 impl Folder for Memory {
     type File = MemoryFile;
 
@@ -194,11 +186,8 @@ impl Folder for Memory {
         if file_at(&self.calls, name.as_bytes()).is_some() {
             return Ok(None);
         }
-        let number = self.calls.len();
-        let mode = if hidden { OWNER_ONLY } else { USUAL };
-        let name = name.as_bytes().to_vec(self.alloc)?;
-        add(&mut self.calls, Call::Make(name, mode))?;
-        Ok(Some(MemoryFile { number }))
+        let file = self.add_file(name, if hidden { OWNER_ONLY } else { USUAL })?;
+        Ok(Some(file))
     }
 
     fn append(&mut self, file: &mut MemoryFile, bytes: &[u8]) -> Result<(), MemoryFault> {

@@ -1,24 +1,22 @@
 //! A text of a target, in parts, written whole.
 
-ghost use Rattle.std.specs.Prelude.{◌≡◌, ◌≢◌, ◌++◌, ◌+◌, ◌-◌, ◌^◌, ℕ, List, [], length, min, take};
-ghost use Rattle.std.specs.Prelude.{string_bytes, IfOk, IfErr, MatchOption, OnOk, OnErr};
-ghost use Rattle.std.specs.Prelude.{IsErrOf, IsTrue, ◌↔◌};
+ghost use Rattle.std.specs.Prelude.{◌≡◌, ◌++◌, ◌+◌, ◌-◌, ◌^◌, ℕ, List, [], length, min, take};
+ghost use Rattle.std.specs.Prelude.{IfOk, IfErr, OnOk, OnErr, IsErrOf};
 ghost use Rattle.irig_disk.specs.Disk.{LeavesOnly};
 ghost use Rattle.irig_disk.specs.declared.fault.PutFault.TheVariants.{NamesTaken};
 ghost use Rattle.irig_disk.specs.Put.{OldIfThere, OldOrNewIfThere, SeenSame, SeenSameIfThere};
-ghost use Rattle.irig_disk.specs.Put.{IsKept, AllTaken, name_after, held, first_mode, last_mode};
+ghost use Rattle.irig_disk.specs.Put.{IsKept, AllTaken, held, first_mode, last_mode};
 ghost use Rattle.irig_disk.specs.Writing.{NotFinished, IsBeside, IsWriting, IsPlaced, IsStuck};
-ghost use Rattle.irig_disk.specs.Writing.{NotBegun, WhileWriting, IsUnchanged};
-ghost use Rattle.irig_disk.specs.Parts.{IsPassed, WhilePlaced, WhileStuck};
-ghost use Rattle.irig_disk.specs.Calls.{mode_made};
+ghost use Rattle.irig_disk.specs.Writing.{NotBegun, WhileWriting};
+ghost use Rattle.irig_disk.specs.Parts.{WhilePlaced, WhileStuck};
 
+use crate::beside::make_beside;
 use crate::fault::{PutFault, fault_after};
 use crate::folder::Folder;
 use crate::kept::Kept;
-use std::alloc::AllocError;
 
 /// How many names are tried for a new file. Other runs may hold that many, or have left them.
-const NAMES: u32 = 10_000;
+pub(crate) const NAMES: u32 = 10_000;
 
 /// A new file next to its target, whose name it takes in the end.
 #[derive(Drop)]
@@ -105,9 +103,9 @@ impl<'n, F: Folder> NewText<'n, F> {
             self.entry.target.now (held F.usual_mode self.entry.mode text))) }
         ensures count { IfOk result (λ kept. kept.count ≡ self.entry.count) }
     {
-        match place(folder, &self.file, self.beside, self.target, self.mode) {
-            Ok(_) => keep(folder, self.count),
-            Err(fault) => Err(clear(folder, self.beside, fault)),
+        match place_or_clear(folder, &self) {
+            Ok(()) => keep(folder, self.count),
+            Err(fault) => Err(fault),
         }
     }
 
@@ -129,92 +127,62 @@ impl<'n, F: Folder> NewText<'n, F> {
     }
 }
 
-/// Writes the name of a new file: the stem, and how many others were tried before it. Returns
-/// whether it is not the target's own.
-fn put_name(name: &mut String, target: &str, stem: &str, number: u32) -> Result<bool, AllocError>
-    ensures name { OnOk result (string_bytes name.new ≡ name_after stem.now number) }
-    ensures apart { IfOk result (λ apart. IsTrue apart ↔ string_bytes name.new ≢ target.now) }
+/// Gives a text its mode and its name, or removes its file.
+fn place_or_clear<F: Folder>(folder: &mut F, new: &NewText<'_, F>) -> Result<(), PutFault<F::Fault>>
+    ensures ok { F.is_told → WhileWriting F.disk folder.old new.now.beside.now new.now.target.now
+        (F.number new.now.file) (first_mode F.usual_mode new.now.mode) (λ start text.
+        OnOk result (IsPlaced start (F.disk folder.new) new.now.beside.now new.now.target.now
+        (held F.usual_mode new.now.mode text))) }
+    ensures err { F.is_told → WhileWriting F.disk folder.old new.now.beside.now new.now.target.now
+        (F.number new.now.file) (first_mode F.usual_mode new.now.mode) (λ start text.
+        IfErr result (NotFinished start (F.disk folder.new) new.now.target.now
+        (held F.usual_mode new.now.mode text))) }
+    ensures any_moment { F.is_told → WhileWriting F.disk folder.old new.now.beside.now
+        new.now.target.now (F.number new.now.file) (first_mode F.usual_mode new.now.mode)
+        (λ start text. OnErr result (LeavesOnly start (F.disk folder.new) (OldOrNewIfThere start
+        new.now.target.now (held F.usual_mode new.now.mode text)))) }
 {
-    name.clear();
-    match write!(name, "{stem}{number}") {
-        Ok(()) => Ok(name.as_str() != target),
-        Err(error) => Err(error),
-    }
-}
-
-/// Makes a new file, under the first name that is free and is not the target's.
-fn make_beside<F: Folder>(
-    folder: &mut F,
-    name: &mut String,
-    target: &str,
-    stem: &str,
-    hidden: bool,
-) -> Result<F::File, PutFault<F::Fault>>
-    ensures ok { F.is_told → IfOk result (λ file. IsWriting (F.disk folder.old)
-        (F.disk folder.new) (string_bytes name.new) target.now (F.number file) []
-        (mode_made F.usual_mode hidden)) }
-    ensures err { F.is_told → IfErr result (NotBegun (F.disk folder.old) (F.disk folder.new)) }
-    ensures taken { F.is_told → IsErrOf result NamesTaken
-        → AllTaken (F.disk folder.old) stem.now target.now NAMES }
-{
-    for number in 0..NAMES {
-        match make_at(folder, name, target, stem, number, hidden) {
-            Ok(None) => {}
-            Ok(Some(file)) => return Ok(file),
-            Err(fault) => return Err(fault),
-        }
-    }
-    Err(PutFault::NamesTaken)
-}
-
-/// Makes a new file, under the name with a number, if that is free and is not the target's.
-fn make_at<F: Folder>(
-    folder: &mut F,
-    name: &mut String,
-    target: &str,
-    stem: &str,
-    number: u32,
-    hidden: bool,
-) -> Result<Option<F::File>, PutFault<F::Fault>>
-    ensures ok { F.is_told → (start : F) → IsUnchanged (F.disk start) (F.disk folder.old)
-        → IfOk result (λ made. MatchOption made (IsPassed (F.disk start) (F.disk folder.new)
-        (name_after stem.now number) target.now) (λ file. IsWriting (F.disk start)
-        (F.disk folder.new) (string_bytes name.new) target.now (F.number file) []
-        (mode_made F.usual_mode hidden))) }
-    ensures err { F.is_told → (start : F) → IsUnchanged (F.disk start) (F.disk folder.old)
-        → IfErr result (NotBegun (F.disk start) (F.disk folder.new)) }
-    ensures untaken { IsErrOf result NamesTaken → ⊥ }
-{
-    match put_name(name, target, stem, number) {
-        Ok(true) => match folder.make(name.as_str(), hidden) {
-            Ok(made) => Ok(made),
-            Err(fault) => Err(PutFault::Failed(fault)),
-        },
-        Ok(false) => Ok(None),
-        Err(_) => Err(PutFault::Memory),
+    match place(folder, new) {
+        Ok(_) => Ok(()),
+        Err(fault) => Err(clear(folder, new.beside, fault)),
     }
 }
 
 /// Gives a new file the mode, syncs it and renames it.
-fn place<F: Folder>(
+fn place<F: Folder>(folder: &mut F, new: &NewText<'_, F>) -> Result<F::Renamed, F::Fault>
+    ensures ok { F.is_told → WhileWriting F.disk folder.old new.now.beside.now new.now.target.now
+        (F.number new.now.file) (first_mode F.usual_mode new.now.mode) (λ start text.
+        OnOk result (IsPlaced start (F.disk folder.new) new.now.beside.now new.now.target.now
+        (held F.usual_mode new.now.mode text))) }
+    ensures err { F.is_told → WhileWriting F.disk folder.old new.now.beside.now new.now.target.now
+        (F.number new.now.file) (first_mode F.usual_mode new.now.mode) (λ start text.
+        OnErr result (IsStuck start (F.disk folder.new) new.now.beside.now new.now.target.now
+        (held F.usual_mode new.now.mode text))) }
+{
+    match give_mode(folder, &new.file, new.mode) {
+        Ok(()) => rename_synced(folder, &new.file, new.beside, new.target),
+        Err(fault) => Err(fault),
+    }
+}
+
+/// Syncs a new file and renames it.
+fn rename_synced<F: Folder>(
     folder: &mut F,
     file: &F::File,
     beside: &str,
     target: &str,
-    mode: Option<u32>,
 ) -> Result<F::Renamed, F::Fault>
-    ensures ok { F.is_told → WhileWriting F.disk folder.old beside.now target.now
-        (F.number file.now) (first_mode F.usual_mode mode) (λ start text. OnOk result
-        (IsPlaced start (F.disk folder.new) beside.now target.now
-        (held F.usual_mode mode text))) }
-    ensures err { F.is_told → WhileWriting F.disk folder.old beside.now target.now
-        (F.number file.now) (first_mode F.usual_mode mode) (λ start text. OnErr result
-        (IsStuck start (F.disk folder.new) beside.now target.now
-        (held F.usual_mode mode text))) }
+    ensures ok { F.is_told → (mode : ℕ) → WhileWriting F.disk folder.old beside.now target.now
+        (F.number file.now) mode (λ start text. OnOk result (IsPlaced start (F.disk folder.new)
+        beside.now target.now (record { bytes = text; mode = mode }))) }
+    ensures err { F.is_told → (mode : ℕ) → WhileWriting F.disk folder.old beside.now target.now
+        (F.number file.now) mode (λ start text. OnErr result (IsStuck start (F.disk folder.new)
+        beside.now target.now (record { bytes = text; mode = mode }))) }
 {
-    give_mode(folder, file, mode)?;
-    folder.sync_file(file)?;
-    folder.rename(beside, target)
+    match folder.sync_file(file) {
+        Ok(_) => folder.rename(beside, target),
+        Err(fault) => Err(fault),
+    }
 }
 
 /// Gives a new file the mode, if there is one.

@@ -1,9 +1,10 @@
 //! A text written whole, in one call.
 
 ghost use Rattle.std.specs.Prelude.{◌≡◌, ◌<◌, ◌≤◌, ◌++◌, ◌+◌, ◌^◌, ℕ, List, [], false, true};
-ghost use Rattle.std.specs.Prelude.{length, IfOk, IfErr, IfSome, OnOk, OnErr, OnSome, IsErrOf};
+ghost use Rattle.std.specs.Prelude.{length, IfOk, IfErr, IfSome, OnOk, OnErr, OnSome, IsOk};
+ghost use Rattle.std.specs.Prelude.{IsErrOf};
 ghost use Rattle.irig_text.specs.declared.block.TheConstants.{ENOUGH};
-ghost use Rattle.irig_disk.specs.Disk.{LeavesOnly};
+ghost use Rattle.irig_disk.specs.Disk.{Held, LeavesOnly};
 ghost use Rattle.irig_disk.specs.declared.fault.PutFault.TheVariants.{NamesTaken};
 ghost use Rattle.irig_disk.specs.declared.new_text.TheConstants.{NAMES};
 ghost use Rattle.irig_disk.specs.Put.{OldOrNewIfThere, AfterFault, IsKept, AllTaken, first_mode};
@@ -63,7 +64,28 @@ fn put_rest<F: Folder, T: Text>(
     ensures count { IfOk result
         (λ kept. kept.count ≡ new.entry.count + length (T.rest text.old)) }
 {
-    match append_all(folder, &mut new, text, block) {
+    let written = append_all(folder, &mut new, text, block);
+    finish_or_give_up(folder, new, written)
+}
+
+/// Keeps the new file of a text that was written, or removes it after a fault. `None` is a fault
+/// of no call.
+fn finish_or_give_up<F: Folder>(
+    folder: &mut F,
+    new: NewText<'_, F>,
+    written: Result<(), Option<F::Fault>>,
+) -> Result<Kept, PutFault<F::Fault>>
+    ensures ok { OnOk written (F.is_told → WhileWriting F.disk folder.old new.entry.beside.now
+        new.entry.target.now (F.number new.entry.file) (first_mode F.usual_mode new.entry.mode)
+        (λ start text. ComesTo start (F.disk folder.new) new.entry.target.now
+        (held F.usual_mode new.entry.mode text) result)) }
+    ensures err { OnErr written (F.is_told → (mode : ℕ) (text : Held) → WhileWriting F.disk
+        folder.old new.entry.beside.now new.entry.target.now (F.number new.entry.file) mode
+        (λ start so_far. ComesTo start (F.disk folder.new) new.entry.target.now text result)) }
+    ensures written { IfOk result (λ _. IsOk written) }
+    ensures count { IfOk result (λ kept. kept.count ≡ new.entry.count) }
+{
+    match written {
         Ok(()) => new.finish(folder),
         Err(fault) => Err(fault_after(fault, new.give_up(folder))),
     }
@@ -120,9 +142,31 @@ fn append_next<F: Folder, T: Text>(
     ensures err { F.is_told → OnErr result (Spoils F.disk folder.old folder.new
         new.old.beside.now (F.number new.old.file)) }
 {
-    let Some(ended) = fill_next(text, block, new.count) else {
-        return Err(None);
-    };
+    match fill_next(text, block, new.count) {
+        Some(ended) => append_block(folder, new, block, ended),
+        None => Err(None),
+    }
+}
+
+/// Writes a block of a text, and passes on whether it is the last one. The fault is that of a call.
+fn append_block<F: Folder>(
+    folder: &mut F,
+    new: &mut NewText<'_, F>,
+    block: &[u8],
+    ended: bool,
+) -> Result<bool, Option<F::Fault>>
+    ensures beside { new.new.beside.now ≡ new.old.beside.now }
+    ensures target { new.new.target.now ≡ new.old.target.now }
+    ensures mode { new.new.mode ≡ new.old.mode }
+    ensures file { F.number new.new.file ≡ F.number new.old.file }
+    ensures ended { IfOk result (λ last. last ≡ ended) }
+    ensures count { new.old.count + length block.now < 2 ^ 64 → OnOk result
+        (new.new.count ≡ new.old.count + length block.now) }
+    ensures ok { F.is_told → OnOk result (Adds F.disk folder.old folder.new
+        new.old.beside.now (F.number new.old.file) block.now) }
+    ensures err { F.is_told → OnErr result (Spoils F.disk folder.old folder.new
+        new.old.beside.now (F.number new.old.file)) }
+{
     match new.append(folder, block) {
         Ok(_) => Ok(ended),
         Err(fault) => Err(Some(fault)),

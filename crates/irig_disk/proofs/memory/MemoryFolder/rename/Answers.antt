@@ -7,5 +7,6 @@ pub returns-clause-ok : goal.returns-clause-ok
 returns-clause-ok c told =
     let is_from : c.in_ok-old_name.old_name.items ≡ c.args.from.now = search rules in
     let is_to : c.in_ok-new_name.new_name.items ≡ c.args.to.now = search rules in
-    on_ok_weaker c.add.result (λ grown. log_moves _ _ c.in_ok-old_name.old_name c.in_ok-new_name.new_name _ _ is_from is_to (rw c.is_planned.ensures.calls at grown))
+    on_ok_weaker c.add.result
+    (λ grown. log_moves _ _ c.in_ok-old_name.old_name c.in_ok-new_name.new_name _ _ is_from is_to (rw c.is_planned.ensures.calls at grown))
     c.add.ensures.ok

@@ -8,9 +8,3 @@ returns-in-Ok-clause-err g c told start text w = c.keep.ensures.err told start _
 
 pub returns-in-Ok-clause-any_moment : goal.returns-in-Ok-clause-any_moment
 returns-in-Ok-clause-any_moment g c told start text w = c.keep.ensures.any_moment told start _ _ _ (c.in-Ok.ensures.ok told start text w)
-
-pub returns-clause-err : goal.returns-clause-err
-returns-clause-err g c told start text w = c.clear.ensures.left told start _ _ (c.in-Err.ensures.err told start text w)
-
-pub returns-clause-any_moment : goal.returns-clause-any_moment
-returns-clause-any_moment g c told start text w = c.clear.ensures.any_moment told start _ _ (c.in-Err.ensures.err told start text w)

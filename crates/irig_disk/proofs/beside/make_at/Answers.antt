@@ -1,6 +1,6 @@
 use Rattle.std.proofs.Common.{◌≡◌, ◌∙◌, sym, true, false}
 use Rattle.irig_disk.proofs.Steps.{tried, not_tried}
-use Rattle.irig_disk.proofs.new_text.make_at.Goals as goal
+use Rattle.irig_disk.proofs.beside.make_at.Goals as goal
 
 pub returns-in-Ok-clause-ok : goal.returns-in-Ok-clause-ok
 returns-in-Ok-clause-ok g c told start same =

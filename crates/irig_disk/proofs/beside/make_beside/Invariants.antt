@@ -1,6 +1,6 @@
 use Rattle.irig_disk.specs.Put.{AllTaken}
 use Rattle.irig_disk.specs.Writing.{IsUnchanged}
-use Rattle.irig_disk.proofs.new_text.make_beside.Given as goal
+use Rattle.irig_disk.proofs.beside.make_beside.Given as goal
 
 abbrev pub invariant-loop-number : goal.invariant-loop-number
 invariant-loop-number g l = record {
