@@ -1,6 +1,6 @@
 -- What each call makes of a new file next to its target.
 use Rattle.std.proofs.Common.{◌≡◌, ◌≢◌, ◌⊎◌, inl, inr, ⊎_elim, refl, sym, ◌∙◌, ap, subst, ℕ, List, [], ◌++◌, Option, Some, None, Result, Ok, Err, OnOk, OnErr}
-use Rattle.std.proofs.Common.{IfErr, IsErrOf, MatchOption}
+use Rattle.std.proofs.Common.{IfOk, IfErr, IsErrOf, MatchOption}
 use Rattle.irig_disk.specs.declared.fault.PutFault.{PutFault}
 use Rattle.irig_disk.specs.declared.fault.PutFault.TheVariants.{Memory, NamesTaken, Failed, LeftBehind, Remains, NotKept}
 use Rattle.std.proofs.lemmas.Result.{IfErr-at_err, IfErr-weaker}
@@ -394,3 +394,19 @@ comes_to_nothing start now target text removal fault left moments same but by = 
 pub called : (start a : Disk) (b b' t t' : List ℕ) (f f' : ℕ) (text : List ℕ) (mode mode' : ℕ) → b' ≡ b → t' ≡ t → f' ≡ f → mode' ≡ mode
     → IsWriting start a b t f text mode → IsWriting start a b' t' f' text mode'
 called start a b b' t t' f f' text mode mode' eb et ef em w = rw (eb, et, ef, em) w
+
+-- what a write comes to, if its new file was made or not
+pub comes_to_either : {N T X F : Type 0} (disk : F → Disk) (begun : Result N (PutFault X)) (result : Result T (PutFault X)) (start mid now : F)
+    (target : List ℕ) (text : Held) → IfOk begun (λ _. ComesTo (disk start) (disk now) target text result) → IfErr begun (NotBegun (disk start) (disk mid))
+    → IfErr begun (λ fault. result ≡ Err fault) → OnErr begun (now ≡ mid)
+    → LeavesOnly (disk start) (disk now) (OldOrNewIfThere (disk start) target text) × OnOk result (IsKept (disk start) (disk now) target text)
+    × IfErr result (AfterFault (disk start) (disk now) target text)
+comes_to_either disk (Ok _) result start mid now target text comes not is same = (comes.any_moment, comes.ok, comes.err)
+comes_to_either disk (Err fault) result start mid now target text comes not is same = rw (is, same)
+    (not_begun_moments (disk start) (disk mid) target text fault not, tt, not_begun (disk start) (disk mid) target text fault not)
+
+pub taken_at_first : {N T X P : Type 0} (begun : Result N (PutFault X)) (result : Result T (PutFault X)) (start now : Disk) (target : List ℕ) (text : Held)
+    → IfOk begun (λ _. ComesTo start now target text result) → (IsErrOf begun NamesTaken → P) → IfErr begun (λ fault. result ≡ Err fault)
+    → IsErrOf result NamesTaken → P
+taken_at_first (Ok _) result start now target text comes taken is e = absurd (comes.untaken e)
+taken_at_first (Err fault) result start now target text comes taken is e = taken (let same : fault ≡ NamesTaken = cc (is, e) in ap Err same)

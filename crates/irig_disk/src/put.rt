@@ -1,8 +1,8 @@
 //! A text written whole, in one call.
 
 ghost use Rattle.std.specs.Prelude.{◌≡◌, ◌<◌, ◌≤◌, ◌++◌, ◌+◌, ◌^◌, ℕ, List, [], false, true};
-ghost use Rattle.std.specs.Prelude.{length, IfOk, IfErr, IfSome, OnOk, OnErr, OnSome, IsOk};
-ghost use Rattle.std.specs.Prelude.{IsErrOf};
+ghost use Rattle.std.specs.Prelude.{length, IfOk, IfErr, IfSome, OnOk, OnErr, OnSome, IsOk, IsSome};
+ghost use Rattle.std.specs.Prelude.{Err, IsErrOf};
 ghost use Rattle.irig_text.specs.declared.block.TheConstants.{ENOUGH};
 ghost use Rattle.irig_disk.specs.Disk.{Held, LeavesOnly};
 ghost use Rattle.irig_disk.specs.declared.fault.PutFault.TheVariants.{NamesTaken};
@@ -44,28 +44,34 @@ pub fn put_text<F: Folder, T: Text>(
         → AllTaken (F.disk folder.old) stem.now target.now NAMES }
     ensures count { IfOk result (λ kept. kept.count ≡ length (T.rest text.old)) }
 {
-    match NewText::begin(folder, name, target, stem, mode) {
-        Ok(new) => put_rest(folder, new, text, block),
-        Err(fault) => Err(fault),
-    }
+    let begun = NewText::begin(folder, name, target, stem, mode);
+    put_begun(folder, begun, text, block)
 }
 
-/// Writes the rest of a text to its new file, and keeps the file, or gives it up after a fault.
-fn put_rest<F: Folder, T: Text>(
+/// Writes the rest of a text, if its new file was made, and keeps the file, or removes it after a
+/// fault.
+fn put_begun<F: Folder, T: Text>(
     folder: &mut F,
-    mut new: NewText<'_, F>,
+    begun: Result<NewText<'_, F>, PutFault<F::Fault>>,
     text: &mut T,
     block: &mut Vec<u8>,
 ) -> Result<Kept, PutFault<F::Fault>>
-    ensures put { F.is_told → WhileWriting F.disk folder.old new.entry.beside.now
-        new.entry.target.now (F.number new.entry.file) (first_mode F.usual_mode new.entry.mode)
-        (λ start so_far. ComesTo start (F.disk folder.new) new.entry.target.now
-        (held F.usual_mode new.entry.mode (so_far ++ T.rest text.old)) result) }
-    ensures count { IfOk result
-        (λ kept. kept.count ≡ new.entry.count + length (T.rest text.old)) }
+    ensures put { IfOk begun.entry (λ new. F.is_told → WhileWriting F.disk folder.old
+        new.beside.now new.target.now (F.number new.file) (first_mode F.usual_mode new.mode)
+        (λ start so_far. ComesTo start (F.disk folder.new) new.target.now
+        (held F.usual_mode new.mode (so_far ++ T.rest text.old)) result)) }
+    ensures count { IfOk begun.entry (λ new. IfOk result
+        (λ kept. kept.count ≡ new.count + length (T.rest text.old))) }
+    ensures err { IfErr begun.entry (λ fault. result ≡ Err fault) }
+    ensures same { OnErr begun.entry (folder.new ≡ folder.old) }
 {
-    let written = append_all(folder, &mut new, text, block);
-    finish_or_give_up(folder, new, written)
+    match begun {
+        Ok(mut new) => {
+            let written = append_all(folder, &mut new, text, block);
+            finish_or_give_up(folder, new, written)
+        }
+        Err(fault) => Err(fault),
+    }
 }
 
 /// Keeps the new file of a text that was written, or removes it after a fault. `None` is a fault
@@ -160,6 +166,7 @@ fn append_block<F: Folder>(
     ensures mode { new.new.mode ≡ new.old.mode }
     ensures file { F.number new.new.file ≡ F.number new.old.file }
     ensures ended { IfOk result (λ last. last ≡ ended) }
+    ensures call { IfErr result (λ fault. IsSome fault) }
     ensures count { new.old.count + length block.now < 2 ^ 64 → OnOk result
         (new.new.count ≡ new.old.count + length block.now) }
     ensures ok { F.is_told → OnOk result (Adds F.disk folder.old folder.new

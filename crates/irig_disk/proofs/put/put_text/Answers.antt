@@ -1,32 +1,57 @@
-use Rattle.std.proofs.Common.{[], refl, ap}
-use Rattle.irig_disk.specs.Put.{first_mode}
-use Rattle.irig_disk.proofs.Steps.{called}
+use Rattle.std.proofs.Common.{[], refl, ap, IfOk}
+use Rattle.irig_disk.specs.Parts.{ComesTo}
+use Rattle.irig_disk.specs.Put.{first_mode, held}
+use Rattle.irig_disk.proofs.Results.{if_ok_by}
+use Rattle.irig_disk.proofs.Steps.{called, comes_to_either, taken_at_first}
 use Rattle.irig_disk.proofs.put.put_text.Goals as goal
 
-pub returns-in-Ok-clause-any_moment : goal.returns-in-Ok-clause-any_moment
-returns-in-Ok-clause-any_moment g c told =
-    let new = c.in-Ok.ensures in
-    let w = called _ _ _ _ _ _ _ _ _ _ _ refl new.target refl (ap (first_mode g.F.Folder.usual_mode) new.mode) (new.ok told) in
-    let end = rw (new.target, new.mode) at (c.put_rest.ensures.put told c.args.folder.now [] w) in
-    end.any_moment
+pub returns-clause-any_moment : goal.returns-clause-any_moment
+returns-clause-any_moment g c told =
+    let new = c.begin-begun.ensures in
+    let text = held g.F.Folder.usual_mode c.args.mode (g.T.Text.rest c.args.text.now) in
+    let old = g.F.Folder.disk c.args.folder.now in
+    let now = g.F.Folder.disk c.put_begun.new.folder in
+    let comes : IfOk c.begin-begun.result (λ _. ComesTo old now c.args.target.now text c.put_begun.result) =
+    if_ok_by c.begin-begun.result new.target new.mode (new.ok told) c.put_begun.ensures.put
+    (λ x target mode w ends. rw (target, mode) at (ends told c.args.folder.now []
+    (called _ _ _ _ _ _ _ _ _ _ _ refl target refl (ap (first_mode g.F.Folder.usual_mode) mode) w))) in
+    (comes_to_either g.F.Folder.disk c.begin-begun.result c.put_begun.result _ _ _ _ text comes
+    (new.err told) c.put_begun.ensures.err c.put_begun.ensures.same).0
 
-pub returns-in-Ok-clause-ok : goal.returns-in-Ok-clause-ok
-returns-in-Ok-clause-ok g c told =
-    let new = c.in-Ok.ensures in
-    let w = called _ _ _ _ _ _ _ _ _ _ _ refl new.target refl (ap (first_mode g.F.Folder.usual_mode) new.mode) (new.ok told) in
-    let end = rw (new.target, new.mode) at (c.put_rest.ensures.put told c.args.folder.now [] w) in
-    end.ok
+pub returns-clause-ok : goal.returns-clause-ok
+returns-clause-ok g c told =
+    let new = c.begin-begun.ensures in
+    let text = held g.F.Folder.usual_mode c.args.mode (g.T.Text.rest c.args.text.now) in
+    let old = g.F.Folder.disk c.args.folder.now in
+    let now = g.F.Folder.disk c.put_begun.new.folder in
+    let comes : IfOk c.begin-begun.result (λ _. ComesTo old now c.args.target.now text c.put_begun.result) =
+    if_ok_by c.begin-begun.result new.target new.mode (new.ok told) c.put_begun.ensures.put
+    (λ x target mode w ends. rw (target, mode) at (ends told c.args.folder.now []
+    (called _ _ _ _ _ _ _ _ _ _ _ refl target refl (ap (first_mode g.F.Folder.usual_mode) mode) w))) in
+    (comes_to_either g.F.Folder.disk c.begin-begun.result c.put_begun.result _ _ _ _ text comes
+    (new.err told) c.put_begun.ensures.err c.put_begun.ensures.same).1
 
-pub returns-in-Ok-clause-err : goal.returns-in-Ok-clause-err
-returns-in-Ok-clause-err g c told =
-    let new = c.in-Ok.ensures in
-    let w = called _ _ _ _ _ _ _ _ _ _ _ refl new.target refl (ap (first_mode g.F.Folder.usual_mode) new.mode) (new.ok told) in
-    let end = rw (new.target, new.mode) at (c.put_rest.ensures.put told c.args.folder.now [] w) in
-    end.err
+pub returns-clause-err : goal.returns-clause-err
+returns-clause-err g c told =
+    let new = c.begin-begun.ensures in
+    let text = held g.F.Folder.usual_mode c.args.mode (g.T.Text.rest c.args.text.now) in
+    let old = g.F.Folder.disk c.args.folder.now in
+    let now = g.F.Folder.disk c.put_begun.new.folder in
+    let comes : IfOk c.begin-begun.result (λ _. ComesTo old now c.args.target.now text c.put_begun.result) =
+    if_ok_by c.begin-begun.result new.target new.mode (new.ok told) c.put_begun.ensures.put
+    (λ x target mode w ends. rw (target, mode) at (ends told c.args.folder.now []
+    (called _ _ _ _ _ _ _ _ _ _ _ refl target refl (ap (first_mode g.F.Folder.usual_mode) mode) w))) in
+    (comes_to_either g.F.Folder.disk c.begin-begun.result c.put_begun.result _ _ _ _ text comes
+    (new.err told) c.put_begun.ensures.err c.put_begun.ensures.same).2
 
-pub returns-in-Ok-clause-taken : goal.returns-in-Ok-clause-taken
-returns-in-Ok-clause-taken g c told is =
-    let new = c.in-Ok.ensures in
-    let w = called _ _ _ _ _ _ _ _ _ _ _ refl new.target refl (ap (first_mode g.F.Folder.usual_mode) new.mode) (new.ok told) in
-    let end = rw (new.target, new.mode) at (c.put_rest.ensures.put told c.args.folder.now [] w) in
-    absurd (end.untaken is)
+pub returns-clause-taken : goal.returns-clause-taken
+returns-clause-taken g c told =
+    let new = c.begin-begun.ensures in
+    let text = held g.F.Folder.usual_mode c.args.mode (g.T.Text.rest c.args.text.now) in
+    let old = g.F.Folder.disk c.args.folder.now in
+    let now = g.F.Folder.disk c.put_begun.new.folder in
+    let comes : IfOk c.begin-begun.result (λ _. ComesTo old now c.args.target.now text c.put_begun.result) =
+    if_ok_by c.begin-begun.result new.target new.mode (new.ok told) c.put_begun.ensures.put
+    (λ x target mode w ends. rw (target, mode) at (ends told c.args.folder.now []
+    (called _ _ _ _ _ _ _ _ _ _ _ refl target refl (ap (first_mode g.F.Folder.usual_mode) mode) w))) in
+    taken_at_first c.begin-begun.result c.put_begun.result _ _ _ text comes (new.taken told) c.put_begun.ensures.err

@@ -2,16 +2,16 @@ use Rattle.std.proofs.Common.{◌++◌, refl, ap}
 use Rattle.irig_disk.specs.Put.{first_mode, held}
 use Rattle.irig_disk.proofs.Results.{either_way}
 use Rattle.irig_disk.proofs.Steps.{called}
-use Rattle.irig_disk.proofs.put.put_rest.Goals as goal
+use Rattle.irig_disk.proofs.put.put_begun.Goals as goal
 
-pub returns-clause-put : goal.returns-clause-put
-returns-clause-put g c told start so_far w =
+pub returns-in-Ok-clause-put : goal.returns-in-Ok-clause-put
+returns-in-Ok-clause-put g c = rw c.in-Ok.is (λ told start so_far w.
     let same = c.append_all-written.ensures in
     let end = c.finish_or_give_up.ensures in
-    let text = held g.F.Folder.usual_mode c.args.new.mode (so_far ++ g.T.Text.rest c.args.text.now) in
+    let text = held g.F.Folder.usual_mode c.in-Ok.new.mode (so_far ++ g.T.Text.rest c.args.text.now) in
     let to_mode = ap (first_mode g.F.Folder.usual_mode) same.mode in
     either_way c.append_all-written.result (same.ok told) (same.err told) end.ok end.err
     (λ all ends. rw (same.target, same.mode) at
     (ends told start _ (called _ _ _ _ _ _ _ _ _ _ _ same.beside same.target same.file to_mode (all.still _ _ start so_far w))))
     (λ some ends. let spoilt = some.still _ _ start so_far w in
-    rw same.target at (ends told _ text start _ (called _ _ _ _ _ _ _ _ _ _ _ same.beside same.target same.file refl spoilt.1)))
+    rw same.target at (ends told _ text start _ (called _ _ _ _ _ _ _ _ _ _ _ same.beside same.target same.file refl spoilt.1))))
