@@ -141,6 +141,7 @@ impl Memory {
             (λ file. Made (disk_of self.old.calls.items) (disk_of self.new.calls.items)
             name.now file.number mode) }
         ensures err { OnErr result (self.new.calls.items ≡ self.old.calls.items) }
+        ensures fault { IfErr result (λ fault. fault ≡ NoMemory) }
         ensures time { Elapses (disk_of self.old.calls.items) (disk_of self.new.calls.items) }
     {
         let number = self.calls.len();
