@@ -2,3 +2,4 @@
 pub mod Saved
 pub mod SavedSession
 pub mod SavedParts
+pub mod Stages

@@ -14,7 +14,8 @@ use Rattle.irig_edit.specs.Changes.Delta.{singles_of}
 use Rattle.irig_edit.specs.Changes.Held.{delta_of, deltas_of, single_of}
 use Rattle.irig_edit.specs.Changes.Laws.Parts.{singles_of-delta_of}
 use Rattle.irig_edit.specs.Saved.Saved.{CanBeNamed, saved_single, saved_step}
-use Rattle.irig_edit.specs.Saved.SavedParts.{changes_text, next_stage, parts_left, stage_left, steps_text, text_after}
+use Rattle.irig_edit.specs.Saved.SavedParts.{changes_text, parts_left, steps_text}
+use Rattle.irig_edit.specs.Saved.Stages.{next_stage, stage_left, text_after}
 use Rattle.irig_edit.specs.declared.changes.single.Single.{Single}
 use Rattle.irig_edit.specs.declared.saved.stage.Stage.{Stage}
 use Rattle.irig_edit.specs.declared.saved.stage.Stage.TheVariants.{Dump, Back, On, Over}

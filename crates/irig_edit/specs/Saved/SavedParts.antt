@@ -51,28 +51,6 @@ opening_text s cursor j = codes "$comment\n" ++ text_of (present_lines s cursor)
 abbrev pub middle_text : Steps Single → List ℕ
 middle_text j = count_text (codes "future") (length (future_of delta_of j))
 
--- what is left of a stage itself: the dump, or steps
-abbrev pub stage_left : Stage → List ℕ → List ℕ → List ℕ → List ℕ
-stage_left Dump dump back on = dump
-stage_left Back dump back on = back
-stage_left On dump back on = on
-stage_left Over dump back on = []
-
--- what comes between a stage and the next: the beginning of the section, the count of the steps
--- on, and the end of the section
-abbrev pub text_after : Stage → List ℕ → List ℕ → List ℕ
-text_after Dump opening middle = opening
-text_after Back opening middle = middle
-text_after On opening middle = codes "$end\n"
-text_after Over opening middle = []
-
--- the stage after a stage
-abbrev pub next_stage : Stage → Stage
-next_stage Dump = Back
-next_stage Back = On
-next_stage On = Over
-next_stage Over = Over
-
 -- from a stage on: the dump, the beginning of the section, the steps back, the count of the steps
 -- on, those steps, and the end of the section
 abbrev pub parts_left : Stage → List ℕ → List ℕ → List ℕ → List ℕ → List ℕ → List ℕ

@@ -1,7 +1,7 @@
 //! How far a saved session's text has come.
 
 ghost use Rattle.std.specs.Prelude.{◌≡◌, ◌↔◌, IsTrue};
-ghost use Rattle.irig_edit.specs.Saved.SavedParts.{next_stage};
+ghost use Rattle.irig_edit.specs.Saved.Stages.{next_stage};
 ghost use Rattle.irig_edit.specs.declared.saved.stage.Stage.TheVariants.{Over};
 
 /// What comes next of a saved session's text.

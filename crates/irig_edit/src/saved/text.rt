@@ -5,9 +5,9 @@ ghost use Rattle.std.specs.Prelude.{true, vec_len};
 ghost use Rattle.irig_saved.specs.Lines.{text_of};
 ghost use Rattle.irig_edit.specs.Saved.Saved.{StepsCanBeNamed};
 ghost use Rattle.irig_edit.specs.Changes.Held.{deltas_of};
-ghost use Rattle.irig_edit.specs.Saved.SavedParts.{middle_text, next_stage, opening_text};
-ghost use Rattle.irig_edit.specs.Saved.SavedParts.{parts_left, parts_text, present_lines};
-ghost use Rattle.irig_edit.specs.Saved.SavedParts.{stage_left, text_after};
+ghost use Rattle.irig_edit.specs.Saved.SavedParts.{middle_text, opening_text, parts_left};
+ghost use Rattle.irig_edit.specs.Saved.SavedParts.{parts_text, present_lines};
+ghost use Rattle.irig_edit.specs.Saved.Stages.{next_stage, stage_left, text_after};
 
 use crate::saved::stage::Stage;
 use crate::saved::step_lines::StepLines;
