@@ -72,6 +72,7 @@ impl Text for TrackText<'_> {
 
 /// Writes what comes next, until a text has `enough` bytes. Returns the number of the pulse that
 /// comes next, from 0; `None` if the text has ended.
+#[inline(always)]
 fn put_next(
     writer: &mut TextWriter,
     text: &mut Vec<u8>,
