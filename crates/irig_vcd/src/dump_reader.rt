@@ -1,13 +1,15 @@
 //! A dump that comes in parts.
 
-ghost use Rattle.std.specs.Prelude.{◌≡◌, ◌≤◌, ◌+◌, ◌++◌, ◌^◌, ◌↔◌, [], ℕ, List, Option, Some};
+ghost use Rattle.std.specs.List.{list_all};
+ghost use Rattle.std.specs.Prelude.{◌≡◌, ◌≤◌, ◌+◌, ◌*◌, ◌++◌, ◌^◌, ◌⊎◌, ◌↔◌, [], ℕ, List, Option};
+ghost use Rattle.std.specs.Prelude.{Some, None, true, not};
 ghost use Rattle.std.specs.Prelude.{Ok, IfOk, IfErr, IfSome, IsTrue, OnOk, length, vec_len};
 ghost use Rattle.irig_vcd.specs.Answer.{IsFaultOf, bytes_of, name_of};
 ghost use Rattle.irig_vcd.specs.Code.DumpReader.{HasRead, HasReadWords, IsReader, bytes_read};
 ghost use Rattle.irig_vcd.specs.Code.Gathered.{gathered};
 ghost use Rattle.irig_vcd.specs.Code.Reached.{IsOn};
 ghost use Rattle.irig_vcd.specs.Parts.{dump_parts};
-ghost use Rattle.irig_vcd.specs.Words.{words_of};
+ghost use Rattle.irig_vcd.specs.Words.{is_space, words_of};
 
 use crate::changes::Body;
 use crate::fault::VcdFault;
@@ -127,13 +129,17 @@ fn put_part(progress: &mut Progress, part: &[u8]) -> Result<(), VcdFault>
     read_held(progress)
 }
 
-/// Reads the bytes that are held up to the last white space, and lets them go.
+/// Reads the bytes that are held up to the last white space, and lets them go. It reads nothing while
+/// the declarations are not whole.
 fn read_held(progress: &mut Progress) -> Result<(), VcdFault>
     requires reader { IsReader progress.old }
     ensures reader { OnOk result (IsReader progress.new) }
     ensures read { OnOk result ((wire : Option (List ℕ)) (bytes : List ℕ)
         → HasRead wire bytes progress.old → HasRead wire bytes progress.new) }
     ensures length { OnOk result (bytes_read progress.new ≡ bytes_read progress.old) }
+    ensures held { OnOk result ((progress.new.unit ≡ None)
+        ⊎ (list_all (λ b. not (is_space b)) progress.new.held.items ≡ true)) }
+    ensures wanted { OnOk result (progress.new.wanted ≡ 2 * vec_len progress.new.held) }
     ensures fault { IfErr result (λ e. (wire : Option (List ℕ)) (bytes more : List ℕ)
         → HasRead wire bytes progress.old → IsFaultOf e (dump_parts wire (bytes ++ more))) }
 {

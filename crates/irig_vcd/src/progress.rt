@@ -1,6 +1,6 @@
 //! How far a dump that comes in parts is read.
 
-ghost use Rattle.std.specs.Prelude.{◌≡◌, ◌≤◌, ◌+◌, ◌++◌, ◌^◌, [], ℕ, List, Option, Some, None};
+ghost use Rattle.std.specs.Prelude.{◌≡◌, ◌≤◌, ◌+◌, ◌*◌, ◌++◌, ◌^◌, [], ℕ, List, Option, Some, None};
 ghost use Rattle.std.specs.Prelude.{Err, IfOk, IfErr, OnOk, false, length, take, drop, vec_len};
 ghost use Rattle.irig_vcd.specs.Answer.{IsFaultOf, bytes_of, name_of};
 ghost use Rattle.irig_vcd.specs.Code.DumpReader.{HasReadWords, IsNew, IsReady, Stage, read_words};
@@ -119,6 +119,7 @@ impl Progress {
             × (self.new.journal ≡ self.old.journal) }
         ensures length { self.new.gone + vec_len self.new.held
             ≡ self.old.gone + vec_len self.old.held }
+        ensures wanted { self.new.wanted ≡ 2 * vec_len self.new.held }
     {
         drop_front(&mut self.held, count);
         self.gone += count;
