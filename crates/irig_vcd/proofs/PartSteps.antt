@@ -1,6 +1,6 @@
 -- A dump that comes in parts: what is read of its words, part by part.
-use Rattle.std.proofs.Common.{◌≡◌, ◌++◌, ◌+◌, [], ℕ, false, List, Option, Some, None, Result, Ok, Err, OnOk, OnErr, IfOk, IfErr, length, take, refl, ap, sym, subst, ◌∙◌}
-use Rattle.std.proofs.Common.{append_assoc, drop, ◌≤◌, arith, length-append}
+use Rattle.std.proofs.Common.{◌≡◌, ◌++◌, ◌+◌, [], ℕ, false, List, Option, Some, None, Result, Ok, Err, OnOk, OnErr, IfOk, IfErr, length, take, refl, ap}
+use Rattle.std.proofs.Common.{◌∙◌, sym, subst, append_assoc, drop, ◌≤◌, arith, length-append}
 use Rattle.std.proofs.lemmas.List.{append-nil, length-take-le, take-append-drop}
 use Rattle.irig_vcd.specs.Answer.{◌>>=◌, IsFaultOf, bytes_of}
 use Rattle.irig_vcd.specs.Changes.{changes_from}

@@ -129,8 +129,8 @@ fn put_part(progress: &mut Progress, part: &[u8]) -> Result<(), VcdFault>
     read_held(progress)
 }
 
-/// Reads the bytes that are held up to the last white space, and lets them go. It reads nothing while
-/// the declarations are not whole.
+/// Reads the bytes that are held up to the last white space, and lets them go. It reads nothing
+/// while the declarations are not whole.
 fn read_held(progress: &mut Progress) -> Result<(), VcdFault>
     requires reader { IsReader progress.old }
     ensures reader { OnOk result (IsReader progress.new) }

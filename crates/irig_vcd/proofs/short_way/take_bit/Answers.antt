@@ -11,14 +11,16 @@ returns-in-Err-clause-memory c = λ words more total told j p takes r still.
 pub returns-in-Ok-clause-time : goal.returns-in-Ok-clause-time
 returns-in-Ok-clause-time c =
     let put = c.in-Ok.ensures in
-    let on = on_put c.args.unit c.args.trace.now c.put.new.self c.args.clock c.micros.result c.args.high c.requires.time c.micros.ensures.value put.time put.ok in
+    let on = on_put c.args.unit c.args.trace.now c.put.new.self c.args.clock c.micros.result c.args.high c.requires.time
+    c.micros.ensures.value put.time put.ok in
     if_ok c.ahead.result (λ at along. on_pulses c.args.code.now c.args.unit c.put.new.self c.ahead.new.trace c.args.clock at c.args.tokens.now
     c.ahead.new.tokens on along) c.ahead.ensures.along
 
 pub returns-in-Ok-clause-reached : goal.returns-in-Ok-clause-reached
 returns-in-Ok-clause-reached c =
     let put = c.in-Ok.ensures in
-    let on = on_put c.args.unit c.args.trace.now c.put.new.self c.args.clock c.micros.result c.args.high c.requires.time c.micros.ensures.value put.time put.ok in
+    let on = on_put c.args.unit c.args.trace.now c.put.new.self c.args.clock c.micros.result c.args.high c.requires.time
+    c.micros.ensures.value put.time put.ok in
     if_ok c.ahead.result (λ at along words total told j p takes r.
     let q = reached_bit c.args.code.now c.args.unit total told c.args.trace.now c.put.new.self c.args.clock j p words c.args.tokens.now c.args.high
     c.micros.result c.requires.some takes c.micros.ensures.value put.ok r in
