@@ -264,16 +264,20 @@ module _ (f : FormatView) (at gone come micros : ℕ) (records : List Record) (p
           h (left ∙ ap (λ rs. left_of g ++ rs) window) kept
           ∙ ap (frames f) (sym whole))
 
--- how many frames an edited track has: those that stay, and those of the window
-pub frames_long : (f : FormatView) (ps : List Pulse) (g : GapView Record) (window : List Record) (number : ℕ)
-    → ((h : GapView Record) → left_of h ≡ left_of g ++ window → kept_right h ≡ kept_right g → shown number h ≡ frames f ps)
-    → length (frames f ps) ≡ length g.items + length window
-frames_long f ps g window number told =
-    let front = left_of g ++ window in
-    let h = gap_view (front ++ kept_right g) (length front) 0 in
-    let left : left_of h ≡ front = take-append_seam front (kept_right g) in
-    let kept : kept_right h ≡ kept_right g = drop-append_seam front (kept_right g) in
-    omega (arith, ap length (told h left kept), length-shown number h, length-filled g h window left kept)
+      -- how many frames an edited track has: those that stay, and those of the window
+      pub frames_long : length (frames f ps) ≡ length g.items + length (records_in f ps place (to - place))
+      frames_long =
+          let front = left_of g ++ records_in f ps place (to - place) in
+          let h = gap_view (front ++ kept_right g) (length front) 0 in
+          let left : left_of h ≡ front = take-append_seam front (kept_right g) in
+          let kept : kept_right h ≡ kept_right g = drop-append_seam front (kept_right g) in
+          let number = ((pulses + (2 ^ 64 - gone)) % 2 ^ 64 + come) % 2 ^ 64 in
+          omega (
+            arith,
+            ap length (repaired number h left kept refl),
+            length-shown number h,
+            length-filled g h (records_in f ps place (to - place)) left kept,
+          )
 
 -- the room of an index
 pub all_room : (g : GapView Record) (pulses looks : ℕ) (v : IndexView) → index_view g pulses looks ≡ v → length g.items ≤ g.capacity

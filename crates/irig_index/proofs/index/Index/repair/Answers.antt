@@ -1,16 +1,13 @@
-use Rattle.std.proofs.Common.{◌≡◌, ℕ, ◌-◌, ◌+◌, ◌*◌, ◌%◌, ◌^◌, ◌≤◌, ◌<◌, ◌++◌, List, [], min, take, refl, ap, subst, ◌∙◌, sym, arith}
-use Rattle.irig_gap.specs.Items.{GapView}
-use Rattle.irig_index.specs.declared.record.Record.{Record}
-use Rattle.irig_index.specs.Frames.{frames, record_after, records_in}
+use Rattle.std.proofs.Common.{◌≡◌, ℕ, ◌-◌, ◌+◌, ◌*◌, ◌%◌, ◌^◌, ◌≤◌, ◌<◌, ◌++◌, [], length, min, take, refl, ap, subst, ◌∙◌, sym, arith}
+use Rattle.irig_index.specs.Frames.{record_after, records_in}
 use Rattle.irig_index.specs.Index.{WereFrames}
 use Rattle.irig_index.specs.Looked.{Looked}
-use Rattle.irig_index.specs.Sides.{kept_right, left_of, shown}
+use Rattle.irig_index.specs.Sides.{left_of, shown}
 use Rattle.irig_index.specs.Stale.{LastMayBeStale}
 use Rattle.irig_index.proofs.LookLemmas.{looked_more}
 use Rattle.irig_index.proofs.RepairLemmas.{all_room, frames_long, kept_in_place, length-filled, repaired, stale}
 use Rattle.irig_index.proofs.SideLemmas.{length-shown}
 use Rattle.irig_index.proofs.index.Index.repair.Goals as goal
-use Rattle.irig_index.proofs.index.Index.repair.Goals.{After-cut_out}
 
 pub retell_up_to-some_go-requires : goal.retell_up_to-some_go-requires
 retell_up_to-some_go-requires c = λ count before after.
@@ -51,18 +48,8 @@ returns-then-not-some_go-clause-looked c =
     (looked_more _ _ _ _ _ _ 100 sought most c.retell_up_to-some_go.ensures.looked c.next_marked-place.ensures.passed.looked
     (omega (arith, c.last_place-to.ensures.least, c.saturating_sub-from.ensures, c.next_marked-place.ensures.within)))
 
--- the number of pulses from which records right of the gap count now
-abbrev number : After-cut_out → ℕ
-number c = ((c.self.inside.pulses + (2 ^ 64 - c.args.edit.old)) % 2 ^ 64 + c.args.edit.new) % 2 ^ 64
-
--- the records of the window
-abbrev window : After-cut_out → List Record
-window c = records_in c.args.format c.next_marked-place.new.lens.track.pulses c.next_marked-place.result (c.last_place-to.result - c.next_marked-place.result)
-
--- with those left of the gap, the records are the frames of the edited track
-filled : (c : After-cut_out) (h : GapView Record) → left_of h ≡ left_of c.cut_out.new.records ++ window c
-    → kept_right h ≡ kept_right c.cut_out.new.records → shown (number c) h ≡ frames c.args.format c.args.lens.now.track.pulses
-filled c h left kept =
+pub refill-requires-clause-room : goal.refill-requires-clause-room
+refill-requires-clause-room c =
     let f = c.args.format in
     let e = c.args.edit in
     let ps = c.args.lens.now.track.pulses in
@@ -75,20 +62,17 @@ filled c h left kept =
     let none : (k : ℕ) → from ≤ k → k < place → record_after f ps k ≡ [] =
     λ k le lt. sym (ap (λ v. record_after f v.track.pulses k) c.retell_up_to-some_go.ensures.looked.lens) ∙ c.next_marked-place.ensures.passed.none k le lt in
     let seen = ap (λ v. v.track.pulses) c.next_marked-place.ensures.passed.looked.lens ∙ ap (λ v. v.track.pulses) c.retell_up_to-some_go.ensures.looked.lens in
-    repaired f e.at e.old e.new c.args.lens.now.track.micros all ps were c.last_place-to.ensures.few (omega arith) from told.count
+    let room = all_room c.self.inside.records c.self.inside.pulses c.self.inside.looks c.args.self.now c.self.view_is c.retell_up_to-some_go.ensures.within in
+    let long = frames_long f e.at e.old e.new c.args.lens.now.track.micros all ps were c.last_place-to.ensures.few (omega arith) from told.count
     c.saturating_sub-from.ensures told.before told.after
     to place c.last_place-to.ensures.least c.next_marked-place.ensures.passed.order c.next_marked-place.ensures.within none
     (shown c.self.inside.pulses c.retell_up_to-some_go.new.records) told.told
-    c.self.inside.pulses c.cut_out.new.records c.cut_out.ensures.sides
-    (number c) h (left ∙ ap (λ qs. left_of c.cut_out.new.records ++ records_in f qs place (to - place)) seen) kept refl
-
-pub refill-requires-clause-room : goal.refill-requires-clause-room
-refill-requires-clause-room c =
-    let cut = c.before.before.before.before.before.before in
+    c.self.inside.pulses c.cut_out.new.records c.cut_out.ensures.sides in
     omega (
       arith,
-      frames_long c.args.format c.args.lens.now.track.pulses c.cut_out.new.records (window cut) (number cut) (filled cut),
-      all_room c.self.inside.records c.self.inside.pulses c.self.inside.looks c.args.self.now c.self.view_is c.retell_up_to-some_go.ensures.within,
+      long,
+      room,
+      ap (λ qs. length (records_in f qs place (to - place))) seen,
       c.requires.room,
       c.retell_up_to-some_go.ensures.length,
       c.retell_up_to-some_go.ensures.capacity,
@@ -96,18 +80,41 @@ refill-requires-clause-room c =
     )
 
 pub returns-clause-frames : goal.returns-clause-frames
-returns-clause-frames c = filled c.before.before.before.before.before.before.before c.refill.new.records c.refill.ensures.left c.refill.ensures.right
+returns-clause-frames c =
+    let f = c.args.format in
+    let e = c.args.edit in
+    let ps = c.args.lens.now.track.pulses in
+    let all = shown c.self.inside.pulses c.self.inside.records in
+    let were = subst (λ rs. WereFrames f e.at e.old e.new rs c.args.lens.now.track.micros ps) (sym (ap (λ v. v.records) c.self.view_is)) c.requires.were in
+    let from = c.saturating_sub-from.result in
+    let told = c.retell_up_to-some_go.ensures.told in
+    let to = c.last_place-to.result in
+    let place = c.next_marked-place.result in
+    let none : (k : ℕ) → from ≤ k → k < place → record_after f ps k ≡ [] =
+    λ k le lt. sym (ap (λ v. record_after f v.track.pulses k) c.retell_up_to-some_go.ensures.looked.lens) ∙ c.next_marked-place.ensures.passed.none k le lt in
+    let seen = ap (λ v. v.track.pulses) c.next_marked-place.ensures.passed.looked.lens ∙ ap (λ v. v.track.pulses) c.retell_up_to-some_go.ensures.looked.lens in
+    let left : left_of c.refill.new.records ≡ left_of c.cut_out.new.records ++ records_in f ps place (to - place) =
+    c.refill.ensures.left ∙ ap (λ qs. left_of c.cut_out.new.records ++ records_in f qs place (to - place)) seen in
+    repaired f e.at e.old e.new c.args.lens.now.track.micros all ps were c.last_place-to.ensures.few (omega arith) from told.count
+    c.saturating_sub-from.ensures told.before told.after
+    to place c.last_place-to.ensures.least c.next_marked-place.ensures.passed.order c.next_marked-place.ensures.within none
+    (shown c.self.inside.pulses c.retell_up_to-some_go.new.records) told.told
+    c.self.inside.pulses c.cut_out.new.records c.cut_out.ensures.sides
+    _ c.refill.new.records left c.refill.ensures.right refl
 
 pub returns-clause-room : goal.returns-clause-room
 returns-clause-room c =
-    let cut = c.before.before.before.before.before.before.before in
+    let window = records_in c.args.format c.next_marked-place.new.lens.track.pulses c.next_marked-place.result
+    (c.last_place-to.result - c.next_marked-place.result) in
+    let room = all_room c.self.inside.records c.self.inside.pulses c.self.inside.looks c.args.self.now c.self.view_is c.retell_up_to-some_go.ensures.within in
     omega (
       arith,
-      length-shown (number cut) c.refill.new.records,
-      length-filled c.cut_out.new.records c.refill.new.records (window cut) c.refill.ensures.left c.refill.ensures.right,
-      all_room c.self.inside.records c.self.inside.pulses c.self.inside.looks c.args.self.now c.self.view_is c.retell_up_to-some_go.ensures.within,
+      length-shown (((c.self.inside.pulses + (2 ^ 64 - c.args.edit.old)) % 2 ^ 64 + c.args.edit.new) % 2 ^ 64) c.refill.new.records,
+      length-filled c.cut_out.new.records c.refill.new.records window c.refill.ensures.left c.refill.ensures.right,
+      room,
       c.refill.ensures.capacity,
-      refill-requires-clause-room c.before,
+      ap length (returns-clause-frames c),
+      c.requires.room,
       c.retell_up_to-some_go.ensures.length,
       c.retell_up_to-some_go.ensures.capacity,
       c.cut_out.ensures.capacity,
