@@ -8,8 +8,10 @@ ghost use Rattle.irig_vcd.specs.Answer.{IsFaultOf, bytes_of, name_of};
 ghost use Rattle.irig_vcd.specs.Code.DumpReader.{HasRead, HasReadWords, IsReader, bytes_read};
 ghost use Rattle.irig_vcd.specs.Code.Gathered.{gathered};
 ghost use Rattle.irig_vcd.specs.Code.Reached.{IsOn};
+ghost use Rattle.irig_vcd.specs.Declarations.{declarations_of};
 ghost use Rattle.irig_vcd.specs.Parts.{dump_parts};
 ghost use Rattle.irig_vcd.specs.Words.{is_space, words_of};
+ghost use Rattle.irig_vcd.specs.declared.fault.VcdFault.{VcdFault};
 
 use crate::changes::Body;
 use crate::fault::VcdFault;
@@ -98,6 +100,9 @@ impl DumpReader {
             → HasRead wire bytes self → dump_parts wire bytes ≡ Ok (x.0, bytes_of x.1)) }
         ensures fault { IfErr result (λ e. (wire : Option (List ℕ)) (bytes : List ℕ)
             → HasRead wire bytes self → IsFaultOf e (dump_parts wire bytes)) }
+        ensures heading { (wire : Option (List ℕ)) (bytes : List ℕ) (e : VcdFault)
+            → HasRead wire bytes self → self.unit ≡ None
+            → declarations_of wire (words_of bytes) ≡ Err e → result ≡ Err e }
         ensures within { IfOk result
             (λ x. IfSome x.1 (λ journal. vec_len journal ≤ bytes_read self)) }
     {
@@ -169,6 +174,9 @@ fn read_rest(progress: &mut Progress) -> Result<Unit, VcdFault>
         × (progress.new.journal.items ≡ gathered progress.new.reading bytes)) }
     ensures fault { IfErr result (λ e. (wire : Option (List ℕ)) (bytes : List ℕ)
         → HasRead wire bytes progress.old → IsFaultOf e (dump_parts wire bytes)) }
+    ensures heading { (wire : Option (List ℕ)) (bytes : List ℕ) (e : VcdFault)
+        → HasRead wire bytes progress.old → progress.old.unit ≡ None
+        → declarations_of wire (words_of bytes) ≡ Err e → result ≡ Err e }
     ensures within { OnOk result (vec_len progress.new.journal ≤ bytes_read progress.old) }
 {
     let all = progress.held.len();

@@ -1,7 +1,7 @@
 //! How far a dump that comes in parts is read.
 
 ghost use Rattle.std.specs.Prelude.{◌≡◌, ◌≤◌, ◌+◌, ◌*◌, ◌++◌, ◌^◌, [], ℕ, List, Option, Some, None};
-ghost use Rattle.std.specs.Prelude.{Err, IfOk, IfErr, OnOk, false, length, take, drop, vec_len};
+ghost use Rattle.std.specs.Prelude.{Ok, Err, IfOk, IfErr, OnOk, false, length, take, drop, vec_len};
 ghost use Rattle.irig_vcd.specs.Answer.{IsFaultOf, bytes_of, name_of};
 ghost use Rattle.irig_vcd.specs.Code.DumpReader.{HasReadWords, IsNew, IsReady, Stage, read_words};
 ghost use Rattle.irig_vcd.specs.Code.Gathered.{part_at, so_far};
@@ -9,6 +9,7 @@ ghost use Rattle.irig_vcd.specs.Code.Journals.{place_view};
 ghost use Rattle.irig_vcd.specs.Code.Reached.{IsOn};
 ghost use Rattle.irig_vcd.specs.Declarations.{declarations_of};
 ghost use Rattle.irig_vcd.specs.Words.{Word, words_from, words_of};
+ghost use Rattle.irig_vcd.specs.declared.fault.VcdFault.{VcdFault};
 
 use crate::fault::VcdFault;
 use crate::header::{Start, declarations};
@@ -55,6 +56,9 @@ impl Progress {
             (words_of (take whole self.old.held.items)) ≡ Err e)
             × (self.new.unit ≡ self.old.unit) × (self.new.code ≡ self.old.code)
             × (self.new.reading ≡ self.old.reading))) }
+        ensures heading { self.old.unit ≡ None → (e : VcdFault)
+            → declarations_of (bytes_of self.old.wire) (words_of (take whole self.old.held.items))
+            ≡ Err e → result ≡ Ok (Err e) }
         ensures fault { IfErr result (λ e. (words more : List Word)
             → Stage (bytes_of self.old.wire) words self.old.unit self.old.code.items
             self.old.reading → (self.old.unit ≡ None → self.old.gone ≡ 0)
@@ -164,6 +168,9 @@ fn begin(
     ensures early { IfOk result (λ read. IfErr read (λ e.
         (declarations_of (name_of wire.entry) (words_of part.now) ≡ Err e)
         × (code.new ≡ code.old) × (reading.new ≡ reading.old))) }
+    ensures heading { (e : VcdFault)
+        → declarations_of (name_of wire.entry) (words_of part.now) ≡ Err e
+        → result ≡ Ok (Err e) }
     ensures fault { IfErr result (λ e. IsNew reading.old → (more : List Word)
         → IsFaultOf e (read_words (name_of wire.entry) (words_of part.now ++ more))) }
 {
