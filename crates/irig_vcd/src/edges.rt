@@ -127,7 +127,7 @@ fn put(pulses: &mut Vec<Pulse>, pulse: Pulse) -> Result<(), AllocError>
     Ok(())
 }
 
-/// Makes a full block twice as large.
+/// Makes a full block twice as large, and adds the room of a first block.
 #[inline(never)]
 fn grow(pulses: &mut Vec<Pulse>) -> Result<(), AllocError>
     requires few { vec_len pulses.old ≤ 2 ^ 22 }
@@ -136,6 +136,6 @@ fn grow(pulses: &mut Vec<Pulse>) -> Result<(), AllocError>
     ensures grown { OnOk result (vec_len pulses.new < vec_capacity pulses.new) }
     ensures room { vec_capacity pulses.new ≤ 2 * vec_len pulses.new + 1024 }
 {
-    let more = pulses.len().max(FIRST_ROOM);
+    let more = pulses.len() + FIRST_ROOM;
     pulses.reserve_exact(more)
 }
