@@ -35,6 +35,7 @@ pub mod PulseEdges
 pub mod WholeDump
 pub mod Gathered
 pub mod PartSteps
+pub mod IdleParts
 -- The text of a recording, its words and its changes: what is written is read back.
 pub mod TextParts
 pub mod WrittenWords

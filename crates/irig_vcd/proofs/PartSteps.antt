@@ -3,7 +3,7 @@ use Rattle.std.proofs.Common.{◌≡◌, ◌++◌, ◌+◌, [], ℕ, false, List
 use Rattle.std.proofs.Common.{◌∙◌, sym, subst, append_assoc, drop, ◌≤◌, arith, length-append}
 use Rattle.std.proofs.lemmas.List.{append-nil, length-take-le, take-append-drop}
 use Rattle.irig_vcd.specs.Answer.{◌>>=◌, IsFaultOf, bytes_of}
-use Rattle.irig_vcd.specs.Changes.{changes_from}
+use Rattle.irig_vcd.specs.Changes.{IsStill, changes_from}
 use Rattle.irig_vcd.specs.Code.Along.{Total}
 use Rattle.irig_vcd.specs.Code.DumpReader.{HasRead, HasReadWords, IsNew, Stage, read_words, told_words}
 use Rattle.irig_vcd.specs.Code.Gathered.{gathered, part_at, so_far}
@@ -141,6 +141,16 @@ next_fault wire words more gone whole held bytes unit code kept old e same is fa
     subst (λ (l : List ℕ). IsFaultOf e (read_words wire ((words ++ words_from gone false (take whole l)) ++ more))) same
     (fails words more (subst (λ (k : List ℕ). HasReadWords wire words unit k old) (sym is) h))
 
+pub next_still : (wire : Option (List ℕ)) (words more : List Word) (gone whole : ℕ) (held bytes : List ℕ) (unit known : ℕ) (code kept : List ℕ) (old : Reading)
+    → ◌≡◌ {A = Option ℕ} (Some unit) (Some known) → held ≡ bytes → code ≡ kept
+    → ((words more : List Word) → HasReadWords wire words unit code old
+    → IsStill (read_words wire ((words ++ words_from gone false (take whole held)) ++ more)) → ⊥)
+    → HasReadWords wire words known kept old → IsStill (read_words wire ((words ++ words_from gone false (take whole bytes)) ++ more)) → ⊥
+next_still wire words more gone whole held bytes unit known code kept old one same is takes h still =
+    let that : unit ≡ known = cc one in
+    takes words more (subst (λ n. HasReadWords wire words n code old) (sym that) (subst (λ (k : List ℕ). HasReadWords wire words known k old) (sym is) h))
+    (subst (λ (l : List ℕ). IsStill (read_words wire ((words ++ words_from gone false (take whole l)) ++ more))) (sym same) still)
+
 -- no word goes on after two parts
 outside_both : (x y : List ℕ) → ends_inside false x ≡ false → ends_inside false y ≡ false → ends_inside false (x ++ y) ≡ false
 outside_both x y h k = ends_inside-append x y false ∙ (ap (λ i. ends_inside i y) h ∙ k)
@@ -163,19 +173,25 @@ pub dump_fault : (wire : Option (List ℕ)) (bytes : List ℕ) (e : VcdFault) �
 unfolding dump
 dump_fault wire bytes e h = no_dump wire bytes e (fails_behind e (read_words wire (words_of bytes)) (λ x. recorded x.0 x.1) h)
 
+-- the words of all bytes, as those that are read, those of the part that is read next, and others
+pub part_words : (front held more : List ℕ) (n gone : ℕ) → length front ≡ gone → ends_inside false front ≡ false → ends_inside false (take n held) ≡ false
+    → words_of ((front ++ held) ++ more)
+    ≡ (words_of front ++ words_from gone false (take n held)) ++ words_from (length (front ++ take n held)) false (drop n held ++ more)
+part_words front held more n gone place closed cut =
+    let x = front ++ take n held in
+    let y = drop n held ++ more in
+    ap words_of (split front held more n) ∙ (front_words x y (length x) refl (outside_both front (take n held) closed cut)
+    ∙ ap (λ (l : List Word). l ++ words_from (length x) false y) (front_words front (take n held) gone place closed))
+
 -- a fault of a part is one of the dump, whatever comes
 pub put_fault : (wire : Option (List ℕ)) (front held more : List ℕ) (n gone : ℕ) (e : VcdFault) → length front ≡ gone → ends_inside false front ≡ false
     → ends_inside false (take n held) ≡ false
     → ((m : List Word) → IsFaultOf e (read_words wire ((words_of front ++ words_from gone false (take n held)) ++ m)))
     → IsFaultOf e (dump_parts wire ((front ++ held) ++ more))
 put_fault wire front held more n gone e place closed cut fails =
-    let x = front ++ take n held in
-    let y = drop n held ++ more in
-    let words : words_of ((front ++ held) ++ more) ≡ (words_of front ++ words_from gone false (take n held)) ++ words_from (length x) false y =
-    ap words_of (split front held more n) ∙ (front_words x y (length x) refl (outside_both front (take n held) closed cut)
-    ∙ ap (λ (l : List Word). l ++ words_from (length x) false y) (front_words front (take n held) gone place closed)) in
     dump_fault wire ((front ++ held) ++ more) e
-    (subst (λ (l : List Word). IsFaultOf e (read_words wire l)) (sym words) (fails (words_from (length x) false y)))
+    (subst (λ (l : List Word). IsFaultOf e (read_words wire l)) (sym (part_words front held more n gone place closed cut))
+    (fails (words_from (length (front ++ take n held)) false (drop n held ++ more))))
 
 -- held bytes are read
 pub put_read : (wire : Option (List ℕ)) (bytes : List ℕ) (old mid new : Progress) (n unit : ℕ)
@@ -185,16 +201,17 @@ pub put_read : (wire : Option (List ℕ)) (bytes : List ℕ) (old mid new : Prog
     → new.reading ≡ mid.reading
     → new.journal.items ≡ old.journal.items
     ++ part_at (so_far (place_view mid.reading.journals.first) mid.reading.pending (old.gone + n)) old.gone (take n old.held.items)
+    → mid.unit ≡ Some unit
     → ((words : List Word) → Stage (bytes_of old.wire) words old.unit old.code.items old.reading → (old.unit ≡ None → old.gone ≡ 0)
-    → (mid.unit ≡ Some unit) × HasReadWords (bytes_of old.wire) (words ++ words_from old.gone false (take n old.held.items)) unit mid.code.items mid.reading)
+    → HasReadWords (bytes_of old.wire) (words ++ words_from old.gone false (take n old.held.items)) unit mid.code.items mid.reading)
     → HasRead wire bytes old → HasRead wire bytes new
-put_read wire bytes old mid new n unit within cut mheld mgone mwire nheld ngone nwire nunit ncode nreading njournal reads r =
+put_read wire bytes old mid new n unit within cut mheld mgone mwire nheld ngone nwire nunit ncode nreading njournal known reads r =
     let held = old.held.items in
     let front = r.front ++ take n held in
     let got = reads (words_of r.front) (subst (λ (w : Option (List ℕ)). Stage w (words_of r.front) old.unit old.code.items old.reading) (sym r.name) r.stage)
     r.none in
     let words : words_of front ≡ words_of r.front ++ words_from old.gone false (take n held) = front_words r.front (take n held) old.gone r.place r.closed in
-    let some : new.unit ≡ Some unit = nunit ∙ got.0 in
+    let some : new.unit ≡ Some unit = nunit ∙ known in
     record {
       name = ap bytes_of (nwire ∙ mwire) ∙ r.name;
       front = front;
@@ -206,14 +223,14 @@ put_read wire bytes old mid new n unit within cut mheld mgone mwire nheld ngone 
           omega (arith, sum, long, r.place, mgone, ngone);
       closed = outside_both r.front (take n held) r.closed cut;
       stage = rw (some, ncode, nreading) (subst (λ (w : Option (List ℕ)). HasReadWords w (words_of front) unit mid.code.items mid.reading) r.name
-          (subst (λ (l : List Word). HasReadWords (bytes_of old.wire) l unit mid.code.items mid.reading) (sym words) got.1));
+          (subst (λ (l : List Word). HasReadWords (bytes_of old.wire) l unit mid.code.items mid.reading) (sym words) got));
       none = λ no. let both : Some unit ≡ None = sym some ∙ no in absurd (cc both);
       journal =
           let long : length (take n held) ≡ n = length-take-le n held within in
           let words = words_of r.front ++ words_from old.gone false (take n held) in
           let more = more_gathered wire r.front (take n held) old.unit old.code.items mid.code.items unit old.gone (old.gone + n) old.reading mid.reading
           r.place (omega (arith, long)) r.stage r.none
-          (subst (λ (w : Option (List ℕ)). HasReadWords w words unit mid.code.items mid.reading) r.name got.1) in
+          (subst (λ (w : Option (List ℕ)). HasReadWords w words unit mid.code.items mid.reading) r.name got) in
           let there = njournal ∙ (ap (λ (l : List ℕ). l ++ part_at (so_far (place_view mid.reading.journals.first) mid.reading.pending (old.gone + n)) old.gone
           (take n held)) r.journal ∙ more) in
           rw nreading there;
@@ -251,30 +268,30 @@ last_fault wire bytes s whole e all fails r =
     (subst (λ (l : List Word). IsFaultOf e (read_words (bytes_of s.wire) (l ++ []))) (sym (all_words wire bytes s whole all r r))
     (fails (words_of r.front) [] stage r.none)))
 
-pub last_read : (wire : Option (List ℕ)) (bytes : List ℕ) (s : Progress) (whole unit : ℕ) (mid : Option ℕ) (code : List ℕ) (reading : Reading)
+pub last_read : (wire : Option (List ℕ)) (bytes : List ℕ) (s : Progress) (whole unit : ℕ) (code : List ℕ) (reading : Reading)
     → take whole s.held.items ≡ s.held.items
     → ((words : List Word) → Stage (bytes_of s.wire) words s.unit s.code.items s.reading → (s.unit ≡ None → s.gone ≡ 0)
-    → (mid ≡ Some unit) × HasReadWords (bytes_of s.wire) (words ++ words_from s.gone false (take whole s.held.items)) unit code reading)
+    → HasReadWords (bytes_of s.wire) (words ++ words_from s.gone false (take whole s.held.items)) unit code reading)
     → HasRead wire bytes s → HasReadWords wire (words_of bytes) unit code reading
-last_read wire bytes s whole unit mid code reading all reads r =
+last_read wire bytes s whole unit code reading all reads r =
     let stage = subst (λ (w : Option (List ℕ)). Stage w (words_of r.front) s.unit s.code.items s.reading) (sym r.name) r.stage in
     subst (λ (w : Option (List ℕ)). HasReadWords w (words_of bytes) unit code reading) r.name
     (subst (λ (l : List Word). HasReadWords (bytes_of s.wire) l unit code reading) (sym (all_words wire bytes s whole all r r))
-    (reads (words_of r.front) stage r.none).1)
+    (reads (words_of r.front) stage r.none))
 
 -- the bytes that are left are gathered
-pub last_gathered : (wire : Option (List ℕ)) (bytes : List ℕ) (s : Progress) (whole unit : ℕ) (mid : Option ℕ) (code journal : List ℕ) (reading : Reading)
+pub last_gathered : (wire : Option (List ℕ)) (bytes : List ℕ) (s : Progress) (whole unit : ℕ) (code journal : List ℕ) (reading : Reading)
     → whole ≡ length s.held.items → take whole s.held.items ≡ s.held.items
     → journal ≡ s.journal.items ++ part_at (so_far (place_view reading.journals.first) reading.pending (s.gone + whole)) s.gone (take whole s.held.items)
     → ((words : List Word) → Stage (bytes_of s.wire) words s.unit s.code.items s.reading → (s.unit ≡ None → s.gone ≡ 0)
-    → (mid ≡ Some unit) × HasReadWords (bytes_of s.wire) (words ++ words_from s.gone false (take whole s.held.items)) unit code reading)
+    → HasReadWords (bytes_of s.wire) (words ++ words_from s.gone false (take whole s.held.items)) unit code reading)
     → HasRead wire bytes s → journal ≡ gathered reading bytes
-last_gathered wire bytes s whole unit mid code journal reading long all is reads r =
+last_gathered wire bytes s whole unit code journal reading long all is reads r =
     let stage = subst (λ (w : Option (List ℕ)). Stage w (words_of r.front) s.unit s.code.items s.reading) (sym r.name) r.stage in
     let part = take whole s.held.items in
     let same : length part ≡ length s.held.items = ap length all in
     let more = more_gathered (bytes_of s.wire) r.front part s.unit s.code.items code unit s.gone (s.gone + whole) s.reading reading r.place
-    (omega (arith, long, same)) stage r.none (reads (words_of r.front) stage r.none).1 in
+    (omega (arith, long, same)) stage r.none (reads (words_of r.front) stage r.none) in
     is ∙ (ap (λ (l : List ℕ). l ++ part_at (so_far (place_view reading.journals.first) reading.pending (s.gone + whole)) s.gone part) r.journal
     ∙ (more ∙ ap (gathered reading) (ap (λ (l : List ℕ). r.front ++ l) all ∙ sym r.whole)))
 

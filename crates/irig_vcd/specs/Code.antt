@@ -19,3 +19,4 @@ pub mod Reached
 pub mod Part
 pub mod Gathered
 pub mod DumpReader
+pub mod NextPart

@@ -1,17 +1,18 @@
 //! A dump that comes in parts.
 
-ghost use Rattle.std.specs.List.{list_all};
-ghost use Rattle.std.specs.Prelude.{◌≡◌, ◌≤◌, ◌+◌, ◌*◌, ◌++◌, ◌^◌, ◌⊎◌, ◌↔◌, [], ℕ, List, Option};
-ghost use Rattle.std.specs.Prelude.{Some, None, true, not};
-ghost use Rattle.std.specs.Prelude.{Ok, IfOk, IfErr, IfSome, IsTrue, OnOk, length, vec_len};
+ghost use Rattle.std.specs.Prelude.{◌≡◌, ◌≤◌, ◌<◌, ◌+◌, ◌*◌, ◌++◌, ◌^◌, ◌↔◌, [], ℕ, List, Option};
+ghost use Rattle.std.specs.Prelude.{Some, None, Ok, IfOk, IfErr, IfSome, IsTrue, OnOk};
+ghost use Rattle.std.specs.Prelude.{length, vec_capacity, vec_len};
 ghost use Rattle.irig_vcd.specs.Answer.{IsFaultOf, bytes_of, name_of};
 ghost use Rattle.irig_vcd.specs.Code.DumpReader.{HasRead, HasReadWords, IsReader, bytes_read};
 ghost use Rattle.irig_vcd.specs.Code.Gathered.{gathered};
 ghost use Rattle.irig_vcd.specs.Code.Reached.{IsOn};
+ghost use Rattle.irig_vcd.specs.Code.NextPart.{HasReadEnough, IsIdle, IsReadUp};
 ghost use Rattle.irig_vcd.specs.Declarations.{declarations_of};
 ghost use Rattle.irig_vcd.specs.Parts.{dump_parts};
-ghost use Rattle.irig_vcd.specs.Words.{is_space, words_of};
+ghost use Rattle.irig_vcd.specs.Words.{words_of};
 ghost use Rattle.irig_vcd.specs.declared.fault.VcdFault.{VcdFault};
+ghost use Rattle.irig_vcd.specs.declared.fault.VcdFault.TheVariants.{OutOfMemory};
 
 use crate::changes::Body;
 use crate::fault::VcdFault;
@@ -76,7 +77,9 @@ impl DumpReader {
             && count <= LIMIT - progress.gone - progress.held.len()
     }
 
-    /// Reads the next part of the dump. A fault is one of the dump, whatever comes after the part.
+    /// Reads the next part of the dump, or holds it until there is enough to read. A fault is one
+    /// of the dump, whatever comes after the part. After the declarations, if the wire never
+    /// changes and there is no journal, only the bytes that are held take memory.
     pub fn put(self, part: &[u8]) -> Result<DumpReader, VcdFault>
         requires short { bytes_read self + length part.now ≤ 2 ^ 48 }
         ensures read { IfOk result (λ r. (wire : Option (List ℕ)) (bytes : List ℕ)
@@ -85,6 +88,11 @@ impl DumpReader {
         ensures fault { IfErr result (λ e. (wire : Option (List ℕ)) (bytes more : List ℕ)
             → HasRead wire bytes self
             → IsFaultOf e (dump_parts wire ((bytes ++ part.now) ++ more))) }
+        ensures memory { result ≡ Err OutOfMemory
+            → (wire : Option (List ℕ)) (bytes more : List ℕ) → HasRead wire bytes self
+            → IsIdle wire self.unit (bytes ++ part.now) more
+            → vec_capacity self.held < vec_len self.held + length part.now }
+        ensures enough { IfOk result (HasReadEnough self.wanted) }
     {
         let mut progress = self.progress;
         match put_part(&mut progress, part) {
@@ -126,6 +134,11 @@ fn put_part(progress: &mut Progress, part: &[u8]) -> Result<(), VcdFault>
     ensures fault { IfErr result (λ e. (wire : Option (List ℕ)) (bytes more : List ℕ)
         → HasRead wire bytes progress.old
         → IsFaultOf e (dump_parts wire ((bytes ++ part.now) ++ more))) }
+    ensures memory { result ≡ Err OutOfMemory
+        → (wire : Option (List ℕ)) (bytes more : List ℕ) → HasRead wire bytes progress.old
+        → IsIdle wire progress.old.unit (bytes ++ part.now) more
+        → vec_capacity progress.old.held < vec_len progress.old.held + length part.now }
+    ensures enough { OnOk result (HasReadEnough progress.old.wanted progress.new) }
 {
     progress.held.extend_from_slice(part)?;
     if progress.held.len() < progress.wanted {
@@ -142,11 +155,13 @@ fn read_held(progress: &mut Progress) -> Result<(), VcdFault>
     ensures read { OnOk result ((wire : Option (List ℕ)) (bytes : List ℕ)
         → HasRead wire bytes progress.old → HasRead wire bytes progress.new) }
     ensures length { OnOk result (bytes_read progress.new ≡ bytes_read progress.old) }
-    ensures held { OnOk result ((progress.new.unit ≡ None)
-        ⊎ (list_all (λ b. not (is_space b)) progress.new.held.items ≡ true)) }
+    ensures held { OnOk result (IsReadUp progress.new.unit progress.new) }
     ensures wanted { OnOk result (progress.new.wanted ≡ 2 * vec_len progress.new.held) }
     ensures fault { IfErr result (λ e. (wire : Option (List ℕ)) (bytes more : List ℕ)
         → HasRead wire bytes progress.old → IsFaultOf e (dump_parts wire (bytes ++ more))) }
+    ensures memory { result ≡ Err OutOfMemory
+        → (wire : Option (List ℕ)) (bytes more : List ℕ) → HasRead wire bytes progress.old
+        → IsIdle wire progress.old.unit bytes more → ⊥ }
 {
     let whole = whole_len(progress.held.as_slice());
     match progress.read_to(whole) {

@@ -1,8 +1,10 @@
 //! How far a dump that comes in parts is read.
 
-ghost use Rattle.std.specs.Prelude.{◌≡◌, ◌≤◌, ◌+◌, ◌*◌, ◌++◌, ◌^◌, [], ℕ, List, Option, Some, None};
-ghost use Rattle.std.specs.Prelude.{Ok, Err, IfOk, IfErr, OnOk, false, length, take, drop, vec_len};
+ghost use Rattle.std.specs.Prelude.{◌≡◌, ◌≢◌, ◌≤◌, ◌+◌, ◌*◌, ◌++◌, ◌^◌, [], ℕ, List, Option, Some};
+ghost use Rattle.std.specs.Prelude.{None, Ok, Err, IfOk, IfErr, OnErr, OnOk, false};
+ghost use Rattle.std.specs.Prelude.{length, take, drop, vec_len};
 ghost use Rattle.irig_vcd.specs.Answer.{IsFaultOf, bytes_of, name_of};
+ghost use Rattle.irig_vcd.specs.Changes.{IsStill};
 ghost use Rattle.irig_vcd.specs.Code.DumpReader.{HasReadWords, IsNew, IsReady, Stage, read_words};
 ghost use Rattle.irig_vcd.specs.Code.Gathered.{part_at, so_far};
 ghost use Rattle.irig_vcd.specs.Code.Journals.{place_view};
@@ -10,6 +12,7 @@ ghost use Rattle.irig_vcd.specs.Code.Reached.{IsOn};
 ghost use Rattle.irig_vcd.specs.Declarations.{declarations_of};
 ghost use Rattle.irig_vcd.specs.Words.{Word, words_from, words_of};
 ghost use Rattle.irig_vcd.specs.declared.fault.VcdFault.{VcdFault};
+ghost use Rattle.irig_vcd.specs.declared.fault.VcdFault.TheVariants.{OutOfMemory};
 
 use crate::fault::VcdFault;
 use crate::header::{Start, declarations};
@@ -45,10 +48,11 @@ impl Progress {
             × IsReady self.new.unit self.new.reading) }
         ensures time { IfOk result (λ read. IfOk read
             (λ unit. IsOn unit self.new.reading.trace self.new.reading.clock)) }
+        ensures unit { IfOk result (λ read. IfOk read (λ unit. self.new.unit ≡ Some unit)) }
         ensures read { IfOk result (λ read. IfOk read (λ unit. (words : List Word)
             → Stage (bytes_of self.old.wire) words self.old.unit self.old.code.items
             self.old.reading → (self.old.unit ≡ None → self.old.gone ≡ 0)
-            → (self.new.unit ≡ Some unit) × HasReadWords (bytes_of self.old.wire)
+            → HasReadWords (bytes_of self.old.wire)
             (words ++ words_from self.old.gone false (take whole self.old.held.items)) unit
             self.new.code.items self.new.reading)) }
         ensures early { IfOk result (λ read. IfErr read (λ e. (self.old.unit ≡ None)
@@ -64,6 +68,11 @@ impl Progress {
             self.old.reading → (self.old.unit ≡ None → self.old.gone ≡ 0)
             → IsFaultOf e (read_words (bytes_of self.old.wire) ((words
             ++ words_from self.old.gone false (take whole self.old.held.items)) ++ more))) }
+        ensures memory { result ≡ Err OutOfMemory → (unit : ℕ) → self.old.unit ≡ Some unit
+            → (words more : List Word) → HasReadWords (bytes_of self.old.wire) words unit
+            self.old.code.items self.old.reading
+            → IsStill (read_words (bytes_of self.old.wire) ((words
+            ++ words_from self.old.gone false (take whole self.old.held.items)) ++ more)) → ⊥ }
     {
         match self.unit {
             Some(unit) => {
@@ -97,6 +106,8 @@ impl Progress {
             ++ part_at (so_far (place_view self.old.reading.journals.first)
             self.old.reading.pending (self.old.gone + whole)) self.old.gone
             (take whole self.old.held.items)) }
+        ensures memory { OnErr result (so_far (place_view self.old.reading.journals.first)
+            self.old.reading.pending (self.old.gone + whole) ≢ None) }
         ensures within { OnOk result (vec_len self.new.journal ≤ vec_len self.old.journal + whole) }
         ensures rest { (self.new.wire ≡ self.old.wire) × (self.new.unit ≡ self.old.unit)
             × (self.new.code ≡ self.old.code) × (self.new.reading ≡ self.old.reading)
@@ -203,6 +214,10 @@ fn go_on(
     ensures fault { IfErr result (λ e. (wire : Option (List ℕ)) (words more : List Word)
         → HasReadWords wire words unit code.now reading.old
         → IsFaultOf e (read_words wire ((words ++ words_from gone false part.now) ++ more))) }
+    ensures memory { result ≡ Err OutOfMemory
+        → (wire : Option (List ℕ)) (words more : List Word)
+        → HasReadWords wire words unit code.now reading.old
+        → IsStill (read_words wire ((words ++ words_from gone false part.now) ++ more)) → ⊥ }
 {
     let mut tokens = Tokens::after(part, gone);
     reading.read(&mut tokens, unit, code)

@@ -1,5 +1,5 @@
 -- What a reader of parts has read.
-use Rattle.std.specs.Prelude.{◌≡◌, ◌≤◌, ◌+◌, ◌++◌, ◌^◌, ℕ, false, List, [], Option, Some, None}
+use Rattle.std.specs.Prelude.{◌≡◌, ◌≤◌, ◌+◌, ◌*◌, ◌++◌, ◌^◌, ℕ, false, List, [], Option, Some, None}
 use Rattle.std.specs.Prelude.{Result, length, vec_len}
 use Rattle.irig_vcd.specs.Answer.{◌>>=◌, bytes_of}
 use Rattle.irig_vcd.specs.Changes.{changes_from}
@@ -58,6 +58,7 @@ pub record IsReader (r : Progress) : Type 0 where
   pub ready : IsReady r.unit r.reading
   pub short : bytes_read r ≤ 2 ^ 48
   pub within : vec_len r.journal ≤ r.gone
+  pub wanted : r.wanted ≤ 2 * vec_len r.held
 
 -- a reader has read these bytes of a dump, of the wire of a name: all but those that it holds
 pub record HasRead (wire : Option (List ℕ)) (bytes : List ℕ) (r : Progress) : Type 0 where

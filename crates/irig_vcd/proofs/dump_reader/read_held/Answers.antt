@@ -1,11 +1,13 @@
-use Rattle.std.proofs.Common.{◌≡◌, ◌≤◌, length, ◌++◌, ◌+◌, ◌∙◌, false, List, Option, ℕ, take, drop, ap, sym, subst}
+use Rattle.std.proofs.Common.{◌≡◌, ◌≤◌, ◌++◌, ◌+◌, ◌∙◌, false, Err, List, None, Option, Some, ℕ, length, take, drop, ap, sym, subst}
 use Rattle.irig_vcd.specs.Answer.{IsFaultOf, bytes_of}
 use Rattle.irig_vcd.specs.Code.DumpReader.{Stage}
 use Rattle.irig_vcd.specs.Code.Gathered.{part_at, so_far}
 use Rattle.irig_vcd.specs.Code.Joins.{ends_inside}
 use Rattle.irig_vcd.specs.Code.Journals.{place_view}
+use Rattle.irig_vcd.specs.Code.NextPart.{IsDark, IsReadUp}
 use Rattle.irig_vcd.specs.Parts.{dump_parts}
-use Rattle.irig_vcd.specs.Words.{words_of}
+use Rattle.irig_vcd.specs.Words.{words_from, words_of}
+use Rattle.irig_vcd.proofs.IdleParts.{no_place, not_idle}
 use Rattle.irig_vcd.proofs.PartSteps.{put_fault, put_read}
 use Rattle.irig_vcd.proofs.dump_reader.read_held.Goals as goal
 
@@ -42,4 +44,37 @@ returns-in_ok-gather-in-Ok-Ok-clause-read c = λ wire bytes r.
     put_read wire bytes s mid c.let_go.new.self n c.in-Ok-Ok.field-0-0 within cut kept.0 kept.1 kept.2
     (c.let_go.ensures.held ∙ ap (λ v. drop n v.items) g.rest.5) (c.let_go.ensures.gone ∙ ap (λ k. k + n) g.rest.4)
     (rest.0 ∙ g.rest.0) (rest.1 ∙ g.rest.1) (rest.2 ∙ g.rest.2) (rest.3 ∙ g.rest.3) (ap (λ v. v.items) rest.4 ∙ gathers)
-    (rw c.in-Ok-Ok.field-0-is at c.in-Ok-Ok.ensures.read) r
+    (rw c.in-Ok-Ok.field-0-is at c.in-Ok-Ok.ensures.unit) (rw c.in-Ok-Ok.field-0-is at c.in-Ok-Ok.ensures.read) r
+
+pub returns-in_ok-gather-in-Ok-Ok-clause-held : goal.returns-in_ok-gather-in-Ok-Ok-clause-held
+returns-in_ok-gather-in-Ok-Ok-clause-held c =
+    let n = c.whole_len-whole.result in
+    let now = c.let_go.new.self in
+    let g = c.in_ok-gather-in-Ok-Ok.ensures in
+    let known : now.unit ≡ Some c.in-Ok-Ok.field-0-0 = c.let_go.ensures.rest.1 ∙ (g.rest.1 ∙ (rw c.in-Ok-Ok.field-0-is at c.in-Ok-Ok.ensures.unit)) in
+    let held : now.held.items ≡ drop n c.as_slice.result.now =
+    c.let_go.ensures.held ∙ (ap (λ v. drop n v.items) (g.rest.5 ∙ c.in-Ok-Ok.ensures.kept.0) ∙ ap (λ (l : List ℕ). drop n l) (sym c.as_slice.ensures.value)) in
+    subst (λ (u : Option ℕ). IsReadUp u now) (sym known) (subst IsDark (sym held) c.whole_len-whole.ensures.dark)
+
+pub returns-in-Err-clause-memory : goal.returns-in-Err-clause-memory
+returns-in-Err-clause-memory c = λ memory wire bytes more r.
+    let s = c.args.progress.now in
+    let n = c.whole_len-whole.result in
+    let cut : ends_inside false (take n s.held.items) ≡ false =
+    ap (λ (l : List ℕ). ends_inside false (take n l)) (sym c.as_slice.ensures.value) ∙ c.whole_len-whole.ensures.outside in
+    not_idle wire bytes more s n cut r (λ none e is. let no = c.in-Err.ensures.heading none e is in absurd (cc no))
+    (λ unit known words m h still none. c.in-Err.ensures.memory (ap Err (cc memory)) unit known words m h still)
+
+pub returns-in_err-gather-in-Ok-Ok-clause-memory : goal.returns-in_err-gather-in-Ok-Ok-clause-memory
+returns-in_err-gather-in-Ok-Ok-clause-memory c = λ memory wire bytes more r.
+    let s = c.args.progress.now in
+    let mid = c.read_to.new.self in
+    let n = c.whole_len-whole.result in
+    let cut : ends_inside false (take n s.held.items) ≡ false =
+    ap (λ (l : List ℕ). ends_inside false (take n l)) (sym c.as_slice.ensures.value) ∙ c.whole_len-whole.ensures.outside in
+    let reads = rw c.in-Ok-Ok.field-0-is at c.in-Ok-Ok.ensures.read in
+    not_idle wire bytes more s n cut r (λ none e is. let no = c.in-Ok-Ok.ensures.heading none e is in absurd (cc no))
+    (λ unit known words m h still none. c.in_err-gather-in-Ok-Ok.ensures.memory
+    (no_place (bytes_of s.wire) (words ++ words_from s.gone false (take n s.held.items)) m c.in-Ok-Ok.field-0-0 (mid.gone + n) mid.code.items mid.reading
+    (reads words (subst (λ (u : Option ℕ). Stage (bytes_of s.wire) words u s.code.items s.reading) (sym known) h)
+    (λ empty. let no : Some unit ≡ None = sym known ∙ empty in absurd (cc no))) still none))

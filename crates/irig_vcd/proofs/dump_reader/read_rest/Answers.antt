@@ -38,6 +38,6 @@ returns-in_ok-gather-in-Ok-Ok-clause-read c = λ wire bytes r.
     ∙ (ap (λ k. s.journal.items ++ part_at (place (k + n)) k (take n mid.held.items)) kept.1
     ∙ ap (λ v. s.journal.items ++ part_at (place (s.gone + n)) s.gone (take n v.items)) kept.0)) in
     rw (g.rest.2, g.rest.3) (
-      last_read wire bytes s n unit mid.unit mid.code.items mid.reading all reads r,
-      last_gathered wire bytes s n unit mid.unit mid.code.items journal mid.reading long all gathers reads r,
+      last_read wire bytes s n unit mid.code.items mid.reading all reads r,
+      last_gathered wire bytes s n unit mid.code.items journal mid.reading long all gathers reads r,
     )

@@ -22,3 +22,11 @@ returns-clause-fault c =
     let told = λ (m : List Word). told_words ((words ++ ws) ++ m) in
     fails total told more (subst (λ (l : List Word). HasReachedFrom c.args.code.now c.args.unit total told c.args.reading.now l) (sym c.after-tokens.ensures)
     (words_next wire words ws c.args.unit c.args.code.now c.args.reading.now h))) c.read.ensures.fault
+
+pub returns-clause-memory : goal.returns-clause-memory
+returns-clause-memory c = λ memory wire words more h still.
+    let ws = words_from c.args.gone false c.args.part.now in
+    let total = λ (m : List Word). read_words wire ((words ++ ws) ++ m) in
+    let told = λ (m : List Word). told_words ((words ++ ws) ++ m) in
+    c.read.ensures.memory memory total told more (subst (λ (l : List Word). HasReachedFrom c.args.code.now c.args.unit total told c.args.reading.now l)
+    (sym c.after-tokens.ensures) (words_next wire words ws c.args.unit c.args.code.now c.args.reading.now h)) still
