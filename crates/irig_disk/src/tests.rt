@@ -78,27 +78,46 @@ fn holds(alloc: Global, calls: &[Call], bytes: &[u8]) -> bool {
 
 /// Whether the old text or the new one is there, whole, if the last calls are left out.
 fn is_whole_at_each_stop(alloc: Global, new: &[u8]) -> bool {
-    let Some(mut folder) = old_folder(alloc) else {
-        return false;
-    };
+    match old_folder(alloc) {
+        Some(mut folder) => is_written(alloc, &mut folder, new),
+        None => false,
+    }
+}
+
+/// Whether a text is written by seven calls, and is there, whole, at each stop.
+fn is_written(alloc: Global, folder: &mut Memory, new: &[u8]) -> bool {
     let before = folder.calls().len();
-    let Ok(kept) = write(alloc, &mut folder, new, None) else {
-        return false;
-    };
-    for (left_out, is_new) in STOPS {
-        let Some(calls) = folder.calls().get(left_out..) else {
-            return false;
-        };
-        if !holds(alloc, calls, if is_new { new } else { b"old" }) {
+    match write(alloc, folder, new, None) {
+        Ok(kept) => {
+            kept.count() == new.len() as u64
+                && folder.calls().len() == before + 7
+                && is_whole(alloc, folder.calls(), new)
+        }
+        Err(_) => false,
+    }
+}
+
+/// Whether the old text or the new one is there after each stop, whole.
+fn is_whole(alloc: Global, calls: &[Call], new: &[u8]) -> bool {
+    for (left_out, is_new) in STOPS.iter() {
+        if !holds_without(alloc, calls, *left_out, if *is_new { new } else { b"old" }) {
             return false;
         }
     }
-    kept.count() == new.len() as u64 && folder.calls().len() == before + 7
+    true
+}
+
+/// Whether these bytes are there if the last calls are left out.
+fn holds_without(alloc: Global, calls: &[Call], left_out: usize, bytes: &[u8]) -> bool {
+    match calls.get(left_out..) {
+        Some(calls) => holds(alloc, calls, bytes),
+        None => false,
+    }
 }
 
 /// How many of the last calls are left out, and whether the new text is there then. The calls are:
 /// make, append three times, sync the file, rename, sync the folder.
-const STOPS: [(usize, bool); 8] = [
+static STOPS: [(usize, bool); 8] = [
     (0, true),
     (1, true),
     (2, false),
@@ -111,7 +130,10 @@ const STOPS: [(usize, bool); 8] = [
 
 /// Which calls fail, from one to before another, for which part the text finds no memory, the
 /// answer, whether the new text is there then, and whether the new file is.
-const FAULTS: [(u64, u64, Option<u64>, &str, bool, bool); 15] = [
+type Fault = (u64, u64, Option<u64>, &'static str, bool, bool);
+
+/// Each write that fails, and what it leaves.
+static FAULTS: [Fault; 15] = [
     (0, 1, None, "Failed", false, false),
     (1, 2, None, "Failed", false, false),
     (2, 3, None, "Failed", false, false),
@@ -142,18 +164,29 @@ fn name_of(answer: &Result<Kept, PutFault<MemoryFault>>) -> &'static str {
     }
 }
 
+/// Whether each write that fails leaves what its row says.
+fn are_left(alloc: Global, new: &[u8]) -> bool {
+    for row in FAULTS.iter() {
+        if !is_left(alloc, new, *row) {
+            return false;
+        }
+    }
+    true
+}
+
 /// Whether a write that fails so leaves what its row says.
-fn is_left(
-    alloc: Global,
-    new: &[u8],
-    row: (u64, u64, Option<u64>, &'static str, bool, bool),
-) -> bool {
+fn is_left(alloc: Global, new: &[u8], row: Fault) -> bool {
+    match old_folder(alloc) {
+        Some(mut folder) => leaves(alloc, &mut folder, new, row),
+        None => false,
+    }
+}
+
+/// Whether a write in this folder that fails so leaves what its row says.
+fn leaves(alloc: Global, folder: &mut Memory, new: &[u8], row: Fault) -> bool {
     let (from, to, fails_at, answer, is_new, remains) = row;
-    let Some(mut folder) = old_folder(alloc) else {
-        return false;
-    };
     folder.fail(from, to);
-    let answered = write(alloc, &mut folder, new, fails_at);
+    let answered = write(alloc, folder, new, fails_at);
     name_of(&answered) == answer
         && holds(alloc, folder.calls(), if is_new { new } else { b"old" })
         && file_at(folder.calls(), b"next0").is_some() == remains
@@ -177,7 +210,5 @@ fn a_text_of_three_blocks_fails_at_each_call(rt: HostRuntime) {
         assert!(rt; false);
         return;
     };
-    for row in FAULTS {
-        assert!(rt; is_left(rt.alloc(), &new, row));
-    }
+    assert!(rt; are_left(rt.alloc(), &new));
 }
