@@ -9,9 +9,10 @@ mod saved;
 mod session;
 mod state;
 
-pub use irig_index::{Cause, Record, Verdict};
+pub use irig_index::{Cause, Verdict};
 pub use irig_track::Pulse;
 pub use law::{calls_give_back, generated_frames_read_back, groups_give_back, saved_goes_on};
 pub use saved::SavedText;
+pub use session::frame::Frame;
 pub use session::refusal::Refusal;
 pub use session::session::Session;

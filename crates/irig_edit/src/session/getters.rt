@@ -7,9 +7,9 @@ ghost use Rattle.irig_edit.specs.Session.Kept.{put_for, taken_for};
 ghost use Rattle.irig_edit.specs.State.State.{frames_of, recording_of};
 ghost use Rattle.irig_track.specs.Splices.{risen_by};
 
+use crate::session::frame::Frame;
 use crate::session::session::Session;
 use irig_codes::Format;
-use irig_index::Record;
 use irig_text::whole;
 use irig_track::{Pulse, TrackText};
 use std::alloc::AllocError;
@@ -105,14 +105,14 @@ impl Session {
         self.present.frames()
     }
 
-    /// A frame, from 1: its marker's pulse, from 1, and its verdict.
-    pub fn frame(&self, number: usize) -> Record
+    /// The frame with a number, from 1.
+    pub fn frame(&self, number: usize) -> Frame
         requires { (1 ≤ number) × (number ≤ length (frames_of self.now.present.state)) }
         ensures { IfSome (slice_get (frames_of self.now.present.state) (number - 1))
             (λ r. (result.marker ≡ r.marker + 1) × (result.verdict ≡ r.verdict)) }
     {
         let record = self.present.frame(number - 1);
-        Record {
+        Frame {
             marker: record.marker + 1,
             verdict: record.verdict,
         }

@@ -1,0 +1,12 @@
+//! A frame of a session's track.
+
+use irig_index::Verdict;
+
+/// A frame of the present track.
+#[derive(Clone, Copy)]
+pub struct Frame {
+    /// The number of the pulse with which it begins, from 1.
+    pub marker: usize,
+    /// What it says, or where and why it is broken.
+    pub verdict: Verdict,
+}
