@@ -14,7 +14,8 @@ use std::alloc::{AllocError, Global};
 use std::process::Abort;
 
 const WORKED: &[u8] =
-    b"irig-journal-1\nformat G 2\ncursor 1\npast 1\nat 2\nsplice 1 0 1\n100 120\nfuture 1\nat 1\nsetmark a 110\n";
+    b"irig-journal-1\nformat G 2\ncursor 1\npast 1\nat 2\nsplice 1 0 1\n100 120\nfuture 1\nat 1\n\
+    setmark a 110\n";
 
 /// The number of the wrong line; 0 if there is none.
 fn fault(alloc: Global, text: &[u8]) -> usize
@@ -80,7 +81,8 @@ fn the_first_line_at_fault_in_a_step_is_told(rt: HostRuntime) {
                 6,
             ),
             (
-                b"irig-journal-1\nformat G 2\ncursor 1\npast 1\nat 0\nshift 1 1 9223372036854775808 -\n",
+                b"irig-journal-1\nformat G 2\ncursor 1\npast 1\nat 0\n\
+                shift 1 1 9223372036854775808 -\n",
                 6,
             ),
             (
@@ -92,11 +94,13 @@ fn the_first_line_at_fault_in_a_step_is_told(rt: HostRuntime) {
                 7,
             ),
             (
-                b"irig-journal-1\nformat G 2\ncursor 1\npast 1\nat 2\nsplice 1 0 1\n100 120\nfuture 1\nat 1\nsetmark a 0110\n",
+                b"irig-journal-1\nformat G 2\ncursor 1\npast 1\nat 2\nsplice 1 0 1\n100 120\n\
+                future 1\nat 1\nsetmark a 0110\n",
                 10,
             ),
             (
-                b"irig-journal-1\nformat G 2\ncursor 1\npast 1\nat 2\nsplice 1 0 1\n100 120\nfuture 2\nat 1\nsetmark a 110\n",
+                b"irig-journal-1\nformat G 2\ncursor 1\npast 1\nat 2\nsplice 1 0 1\n100 120\n\
+                future 2\nat 1\nsetmark a 110\n",
                 11,
             ),
             (b"irig-journal-1\nformat G 2\ncursor 1\npast 0\nfuture 0", 5),
@@ -109,7 +113,8 @@ fn the_first_line_at_fault_in_a_step_is_told(rt: HostRuntime) {
                 6,
             ),
             (
-                b"irig-journal-1\nformat A 7\ncursor 0\nmark a 0\nmark z 5\npast 2\nat 0\ngroup 0\nat 5\ngroup 2\nshift 1 2 -20 az\nsetmark c -\nfuture 1\nat 0\nshift 0 0 0 -\n",
+                b"irig-journal-1\nformat A 7\ncursor 0\nmark a 0\nmark z 5\npast 2\nat 0\ngroup 0\n\
+                at 5\ngroup 2\nshift 1 2 -20 az\nsetmark c -\nfuture 1\nat 0\nshift 0 0 0 -\n",
                 0,
             ),
         ],

@@ -67,7 +67,8 @@ static OTHERS: [Row; 7] = [
 
 /// A comment before the declarations.
 const BEFORE: &[u8] =
-    b"$comment irig-journal-1 $end $timescale 1 us $end $var wire 1 ! c $end $enddefinitions $end #5";
+    b"$comment irig-journal-1 $end $timescale 1 us $end $var wire 1 ! c $end $enddefinitions $end \
+    #5";
 
 #[test]
 fn other_comments_are_no_journal(rt: HostRuntime) {

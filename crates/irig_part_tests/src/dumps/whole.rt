@@ -68,7 +68,8 @@ static WHOLE: [(&str, Option<&[u8]>, Wanted); 17] = [
         Edges(0, &[]),
     ),
     (
-        "$timescale 1 ns $end $var wire 1 ! c $end $enddefinitions $end #1999 1! #2000 0! #2500 1! #9000 0!",
+        "$timescale 1 ns $end $var wire 1 ! c $end $enddefinitions $end #1999 1! #2000 0! #2500 1! \
+        #9000 0!",
         None,
         Edges(9, &[1, 9]),
     ),
@@ -126,7 +127,8 @@ fn changes_behind_a_header(rt: HostRuntime) {
 
 /// A dump of three wires. One has a code that is the reference of another.
 const THREE_WIRES: &[u8] =
-    b"$timescale 1 us $end $var wire 1 ! c $end $var wire 1 \" d $end $var wire 1 # ! $end $enddefinitions $end #1 1! #2 1\" #3 1# #4";
+    b"$timescale 1 us $end $var wire 1 ! c $end $var wire 1 \" d $end $var wire 1 # ! $end \
+    $enddefinitions $end #1 1! #2 1\" #3 1# #4";
 
 /// The wire that is asked for, and what that dump is to be read as.
 static WIRES: [(Option<&[u8]>, Wanted); 6] = [

@@ -40,7 +40,8 @@ pub static EDIT_ROWS: [Row<'static>; 26] = [
         kind: Kind::G,
         expression: 2,
         script: b"invert 110 250\n,list\nwrite\nundo\n,list\nwrite\n",
-        printed: b"1 100 110 zero\n2 120 200 position\n3 250 280 zero\n179\n1 100 120 zero\n2 200 280 position\n163\n",
+        printed: b"1 100 110 zero\n2 120 200 position\n3 250 280 zero\n179\n1 100 120 zero\n\
+            2 200 280 position\n163\n",
         status: Status::AllAccepted,
     },
     Row {
@@ -49,7 +50,8 @@ pub static EDIT_ROWS: [Row<'static>; 26] = [
         kind: Kind::G,
         expression: 2,
         script: b"invert 100 120\n,list\ninfo\n",
-        printed: b"1 200 280 position\nlength 1000 pulses 1 frames 0 format G 2 cursor 0 past 1 future 0\n",
+        printed: b"1 200 280 position\n\
+            length 1000 pulses 1 frames 0 format G 2 cursor 0 past 1 future 0\n",
         status: Status::AllAccepted,
     },
     Row {
@@ -76,7 +78,9 @@ pub static EDIT_ROWS: [Row<'static>; 26] = [
         kind: Kind::G,
         expression: 2,
         script: b"insert 400 450\ninfo\n1\nundo\ninfo\nredo\ninfo\n",
-        printed: b"length 1000 pulses 3 frames 0 format G 2 cursor 3 past 1 future 0\n1 100 120 zero\nlength 1000 pulses 2 frames 0 format G 2 cursor 2 past 0 future 1\nlength 1000 pulses 3 frames 0 format G 2 cursor 1 past 1 future 0\n",
+        printed: b"length 1000 pulses 3 frames 0 format G 2 cursor 3 past 1 future 0\n\
+            1 100 120 zero\nlength 1000 pulses 2 frames 0 format G 2 cursor 2 past 0 future 1\n\
+            length 1000 pulses 3 frames 0 format G 2 cursor 1 past 1 future 0\n",
         status: Status::AllAccepted,
     },
     Row {
@@ -103,7 +107,8 @@ pub static EDIT_ROWS: [Row<'static>; 26] = [
         kind: Kind::B,
         expression: 4,
         script: b"regen 0 2 2024-061T12:34:55\nframes\n101,103 list\n",
-        printed: b"1 101 1000000 061 12:34:56 year 24 sbs 45296 control 0 fine\n101 1000000 1008000 position\n102 1010000 1012000 zero\n103 1020000 1025000 one\n",
+        printed: b"1 101 1000000 061 12:34:56 year 24 sbs 45296 control 0 fine\n\
+            101 1000000 1008000 position\n102 1010000 1012000 zero\n103 1020000 1025000 one\n",
         status: Status::AllAccepted,
     },
     Row {
@@ -139,7 +144,8 @@ pub static EDIT_ROWS: [Row<'static>; 26] = [
         kind: Kind::B,
         expression: 4,
         script: b"regen 0 2 2024-061T12:34:55\nformat E 4\nformat E 5\nframes\nundo\nframes\n",
-        printed: b"? E6 BadExpression\n1 101 1000000 061 12:34:56 year 24 sbs 45296 control 0 fine\n",
+        printed: b"? E6 BadExpression\n\
+            1 101 1000000 061 12:34:56 year 24 sbs 45296 control 0 fine\n",
         status: Status::SomeRefused,
     },
     Row {
@@ -148,7 +154,9 @@ pub static EDIT_ROWS: [Row<'static>; 26] = [
         kind: Kind::G,
         expression: 2,
         script: b"undo\nredo\n1 delete\nundo\nundo\nredo\nredo\ninfo\n",
-        printed: b"? E9 NothingToUndo\n? E10 NothingToRedo\n? E9 NothingToUndo\n? E10 NothingToRedo\nlength 1000 pulses 1 frames 0 format G 2 cursor 1 past 1 future 0\n",
+        printed: b"? E9 NothingToUndo\n? E10 NothingToRedo\n? E9 NothingToUndo\n\
+            ? E10 NothingToRedo\n\
+            length 1000 pulses 1 frames 0 format G 2 cursor 1 past 1 future 0\n",
         status: Status::SomeRefused,
     },
     Row {
@@ -156,8 +164,10 @@ pub static EDIT_ROWS: [Row<'static>; 26] = [
         dump: PULSES,
         kind: Kind::G,
         expression: 2,
-        script: b"1 shift 80\n1 shift 79\nundo\n2 shift 721\n2 shift 720\n2\n1 shift -100\n1\n1 shift -1\n",
-        printed: b"? E3 Touching\n? E1 OutOfRange\n2 920 1000 position\n1 0 20 zero\n? E1 OutOfRange\n",
+        script: b"1 shift 80\n1 shift 79\nundo\n2 shift 721\n2 shift 720\n2\n1 shift -100\n1\n\
+            1 shift -1\n",
+        printed: b"? E3 Touching\n? E1 OutOfRange\n2 920 1000 position\n1 0 20 zero\n\
+            ? E1 OutOfRange\n",
         status: Status::SomeRefused,
     },
     Row {
@@ -165,8 +175,10 @@ pub static EDIT_ROWS: [Row<'static>; 26] = [
         dump: PULSES,
         kind: Kind::G,
         expression: 2,
-        script: b"2 split 220 230\n,list\n2,3 join\n2 split 200 230\n1 force position\n1\n9 split 5 5\n9 split 5 6\n",
-        printed: b"1 100 120 zero\n2 200 220 zero\n3 230 280 one\n? E4 NotInside\n1 100 180 position\n? E1 OutOfRange\n? E2 NoPulse\n",
+        script: b"2 split 220 230\n,list\n2,3 join\n2 split 200 230\n1 force position\n1\n\
+            9 split 5 5\n9 split 5 6\n",
+        printed: b"1 100 120 zero\n2 200 220 zero\n3 230 280 one\n? E4 NotInside\n\
+            1 100 180 position\n? E1 OutOfRange\n? E2 NoPulse\n",
         status: Status::SomeRefused,
     },
     Row {
@@ -238,7 +250,8 @@ pub static EDIT_ROWS: [Row<'static>; 26] = [
         kind: Kind::A,
         expression: 5,
         script: b"info\nredo\nmarks\nundo\nundo\n,list\n",
-        printed: b"length 1000 pulses 1 frames 0 format G 2 cursor 1 past 1 future 1\na 110\n1 100 120 zero\n2 200 280 position\n",
+        printed: b"length 1000 pulses 1 frames 0 format G 2 cursor 1 past 1 future 1\na 110\n\
+            1 100 120 zero\n2 200 280 position\n",
         status: Status::AllAccepted,
     },
 ];

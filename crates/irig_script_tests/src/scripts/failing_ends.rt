@@ -149,11 +149,13 @@ fn a_failed_write_ends_the_run(rt: HostRuntime) {
 static REFUSED: [(u64, &[u8]); 2] = [
     (
         1,
-        b"1 100 110 zero\n2 120 200 position\n3 250 280 zero\n? S3 WriteFailed\n1 100 120 zero\n2 200 280 position\n163\n",
+        b"1 100 110 zero\n2 120 200 position\n3 250 280 zero\n? S3 WriteFailed\n1 100 120 zero\n\
+        2 200 280 position\n163\n",
     ),
     (
         2,
-        b"1 100 110 zero\n2 120 200 position\n3 250 280 zero\n179\n1 100 120 zero\n2 200 280 position\n? S3 WriteFailed\n",
+        b"1 100 110 zero\n2 120 200 position\n3 250 280 zero\n179\n1 100 120 zero\n\
+        2 200 280 position\n? S3 WriteFailed\n",
     ),
 ];
 

@@ -13,7 +13,8 @@ pub static LINE_ROWS: [Row<'static>; 16] = [
         kind: Kind::G,
         expression: 2,
         script: b"'a list\ninsert 'a 5\n5 list\nlist 3\n1,2 split 1 2\n,\n",
-        printed: b"? E2 NoPulse\n? E1 OutOfRange\n? E2 NoPulse\n? S1 BadLine\n? S1 BadLine\n? S1 BadLine\n",
+        printed: b"? E2 NoPulse\n? E1 OutOfRange\n? E2 NoPulse\n? S1 BadLine\n? S1 BadLine\n\
+            ? S1 BadLine\n",
         status: Status::SomeRefused,
     },
     Row {
@@ -22,7 +23,9 @@ pub static LINE_ROWS: [Row<'static>; 16] = [
         kind: Kind::G,
         expression: 2,
         script: b"mark c 150\n'clist\n'c+list\n$-list\n$\n.-1\n.,+list\n 'c , $\n'c,$list\n-9\n",
-        printed: b"1 100 120 zero\n2 200 280 position\n1 100 120 zero\n2 200 280 position\n1 100 120 zero\n1 100 120 zero\n2 200 280 position\n? S1 BadLine\n1 100 120 zero\n2 200 280 position\n? E2 NoPulse\n",
+        printed: b"1 100 120 zero\n2 200 280 position\n1 100 120 zero\n2 200 280 position\n\
+            1 100 120 zero\n1 100 120 zero\n2 200 280 position\n? S1 BadLine\n1 100 120 zero\n\
+            2 200 280 position\n? E2 NoPulse\n",
         status: Status::SomeRefused,
     },
     Row {
@@ -39,8 +42,10 @@ pub static LINE_ROWS: [Row<'static>; 16] = [
         dump: PULSES,
         kind: Kind::G,
         expression: 2,
-        script: b"mark a 110\nmark b 250\ninvert 'a 'b\n,list\nmark c 'b\nmarks\nmark d 1001\nmark e 'z\n",
-        printed: b"1 100 110 zero\n2 120 200 position\n3 250 280 zero\na 110\nb 250\nc 250\n? E1 OutOfRange\n? E1 OutOfRange\n",
+        script: b"mark a 110\nmark b 250\ninvert 'a 'b\n,list\nmark c 'b\nmarks\nmark d 1001\n\
+            mark e 'z\n",
+        printed: b"1 100 110 zero\n2 120 200 position\n3 250 280 zero\na 110\nb 250\nc 250\n\
+            ? E1 OutOfRange\n? E1 OutOfRange\n",
         status: Status::SomeRefused,
     },
     Row {
@@ -138,8 +143,13 @@ pub static LINE_ROWS: [Row<'static>; 16] = [
         dump: PULSES,
         kind: Kind::G,
         expression: 2,
-        script: b"invert\ninvert 1\ninvert 1 2 3\ninvert 1 b\nundo 1\nwrite x\nquit 1\nWRITE\n1 undo\nformat B\nformat C 2\nformat B 8\nformat B 12\nmark A 5\nmark a\nunmark ab\n1 force two\n1 shift 5x\n1 shift --5\n1,list\n,1 list\nregen 0 2\n",
-        printed: b"? S1 BadLine\n? S1 BadLine\n? S1 BadLine\n? S1 BadLine\n? S1 BadLine\n? S1 BadLine\n? S1 BadLine\n? S1 BadLine\n? S1 BadLine\n? S1 BadLine\n? S1 BadLine\n? S1 BadLine\n? S1 BadLine\n? S1 BadLine\n? S1 BadLine\n? S1 BadLine\n? S1 BadLine\n? S1 BadLine\n? S1 BadLine\n? S1 BadLine\n? S1 BadLine\n? S1 BadLine\n",
+        script: b"invert\ninvert 1\ninvert 1 2 3\ninvert 1 b\nundo 1\nwrite x\nquit 1\nWRITE\n\
+            1 undo\nformat B\nformat C 2\nformat B 8\nformat B 12\nmark A 5\nmark a\nunmark ab\n\
+            1 force two\n1 shift 5x\n1 shift --5\n1,list\n,1 list\nregen 0 2\n",
+        printed: b"? S1 BadLine\n? S1 BadLine\n? S1 BadLine\n? S1 BadLine\n? S1 BadLine\n\
+            ? S1 BadLine\n? S1 BadLine\n? S1 BadLine\n? S1 BadLine\n? S1 BadLine\n? S1 BadLine\n\
+            ? S1 BadLine\n? S1 BadLine\n? S1 BadLine\n? S1 BadLine\n? S1 BadLine\n? S1 BadLine\n\
+            ? S1 BadLine\n? S1 BadLine\n? S1 BadLine\n? S1 BadLine\n? S1 BadLine\n",
         status: Status::SomeRefused,
     },
     Row {

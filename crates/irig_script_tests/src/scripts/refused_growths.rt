@@ -1,4 +1,4 @@
-//! What a growth that is refused leaves: run with each growth refused in turn, by `tests/no_memory`.
+//! What a refused growth leaves: `tests/no_memory` runs it with each growth refused in turn.
 
 use crate::scripts::helpers::two_pulses;
 use irig_codes::{Format, Kind};
@@ -9,7 +9,8 @@ use std::alloc::Global;
 
 /// A dump of 1,000 microseconds with pulses 100-120 and 200-280.
 const DUMP: &[u8] =
-    b"$timescale 1 us $end $var wire 1 ! c $end $enddefinitions $end #100 1! #120 0! #200 1! #280 0! #1000";
+    b"$timescale 1 us $end $var wire 1 ! c $end $enddefinitions $end #100 1! #120 0! #200 1! #280 \
+    0! #1000";
 
 /// Whether a pulse is inserted; an error leaves pulses and steps, and the next call succeeds.
 fn inserts(session: &mut Session) -> bool {

@@ -24,7 +24,8 @@ pub struct Worked<'a> {
 
 pub static INVERTED: Worked<'static> = Worked {
     script: b"invert 110 250\n,list\nwrite\nundo\n,list\nwrite\n",
-    printed: b"1 100 110 zero\n2 120 200 position\n3 250 280 zero\n179\n1 100 120 zero\n2 200 280 position\n163\n",
+    printed: b"1 100 110 zero\n2 120 200 position\n3 250 280 zero\n179\n1 100 120 zero\n\
+        2 200 280 position\n163\n",
     stops: &[
         Stop {
             read: 0,

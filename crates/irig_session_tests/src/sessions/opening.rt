@@ -12,7 +12,9 @@ type Row = (&'static [u8], Option<usize>);
 
 /// A pulse from 200 to 280 in a track of 1,000 microseconds, and the begin of its journal.
 const BEGIN: &[u8] =
-    b"$timescale 1 us $end\n$scope module irig $end\n$var wire 1 ! code $end\n$upscope $end\n$enddefinitions $end\n#0\n$dumpvars\n0!\n$end\n#200\n1!\n#280\n0!\n#1000\n$comment\nirig-journal-1\n";
+    b"$timescale 1 us $end\n$scope module irig $end\n$var wire 1 ! code $end\n$upscope $end\n\
+    $enddefinitions $end\n#0\n$dumpvars\n0!\n$end\n#200\n1!\n#280\n0!\n#1000\n$comment\n\
+    irig-journal-1\n";
 
 /// The dump with a journal of these lines, after its name.
 fn dump(alloc: Global, lines: &[u8]) -> Result<Vec<u8>, AllocError> {
@@ -60,27 +62,33 @@ fn check(rt: &impl Abort, alloc: Global, rows: &[Row]) {
 /// Lines of journals, each with its wrong line.
 static ROWS: [Row; 12] = [
     (
-        b"format G 2\ncursor 1\npast 1\nat 2\nsplice 1 0 1\n100 120\nfuture 1\nat 1\nsetmark a 110\n",
+        b"format G 2\ncursor 1\npast 1\nat 2\nsplice 1 0 1\n100 120\nfuture 1\nat 1\n\
+        setmark a 110\n",
         None,
     ),
     (
-        b"format G 2\ncursor 2\npast 1\nat 2\nsplice 1 0 1\n100 120\nfuture 1\nat 1\nsetmark a 110\n",
+        b"format G 2\ncursor 2\npast 1\nat 2\nsplice 1 0 1\n100 120\nfuture 1\nat 1\n\
+        setmark a 110\n",
         Some(3),
     ),
     (
-        b"format G 2\ncursor 1\npast 1\nat 2\nsplice 1 0 1\n100 220\nfuture 1\nat 1\nsetmark a 110\n",
+        b"format G 2\ncursor 1\npast 1\nat 2\nsplice 1 0 1\n100 220\nfuture 1\nat 1\n\
+        setmark a 110\n",
         Some(5),
     ),
     (
-        b"format G 2\ncursor 1\npast 1\nat 2\nsplice 1 0 1\n100 120\nfuture 1\nat 9\nsetmark a 110\n",
+        b"format G 2\ncursor 1\npast 1\nat 2\nsplice 1 0 1\n100 120\nfuture 1\nat 9\n\
+        setmark a 110\n",
         Some(9),
     ),
     (
-        b"format G 2\ncursor 1\npast 1\nat 2\nsplice 1 0 1\n100 120\nfuture 1\nat 1\nsetmark a 0110\n",
+        b"format G 2\ncursor 1\npast 1\nat 2\nsplice 1 0 1\n100 120\nfuture 1\nat 1\n\
+        setmark a 0110\n",
         Some(10),
     ),
     (
-        b"format G 2\ncursor 1\npast 1\nat 2\nsplice 1 0 1\n100 120\nfuture 2\nat 1\nsetmark a 110\n",
+        b"format G 2\ncursor 1\npast 1\nat 2\nsplice 1 0 1\n100 120\nfuture 2\nat 1\n\
+        setmark a 110\n",
         Some(11),
     ),
     (b"format E 4\ncursor 9\npast 0\nfuture 0\n", Some(2)),
@@ -97,7 +105,8 @@ static ROWS: [Row; 12] = [
         Some(6),
     ),
     (
-        b"format G 2\ncursor 1\npast 2\nat 0\nsplice 1 0 1\n100 120\nat 0\nsplice 1 1 0\nfuture 0\n",
+        b"format G 2\ncursor 1\npast 2\nat 0\nsplice 1 0 1\n100 120\nat 0\nsplice 1 1 0\n\
+        future 0\n",
         None,
     ),
     (

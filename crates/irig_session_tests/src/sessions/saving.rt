@@ -45,7 +45,8 @@ fn check(rt: &impl Abort, alloc: Global, rows: &[Row]) {
 static STEPS: [Row; 4] = [
     (
         &[Call::Delete(1, 1), Call::Mark(0, Some(110)), Call::Undo],
-        b"format G 2\ncursor 1\npast 1\nat 2\nsplice 1 0 1\n100 120\nfuture 1\nat 1\nsetmark a 110\n",
+        b"format G 2\ncursor 1\npast 1\nat 2\nsplice 1 0 1\n100 120\nfuture 1\nat 1\n\
+        setmark a 110\n",
     ),
     (
         &[Call::Insert(300, 350), Call::Go(1), Call::Invert(110, 210)],
@@ -57,11 +58,13 @@ static STEPS: [Row; 4] = [
             Call::Shift(1, 1, -20),
             Call::Undo,
         ],
-        b"format G 2\ncursor 2\nmark z 110\npast 1\nat 2\nsetmark z -\nfuture 1\nat 1\nshift 1 1 -20 z\n",
+        b"format G 2\ncursor 2\nmark z 110\npast 1\nat 2\nsetmark z -\nfuture 1\nat 1\n\
+        shift 1 1 -20 z\n",
     ),
     (
         &[Call::Split(2, 220, 240), Call::Join(2, 3), Call::Undo],
-        b"format G 2\ncursor 3\npast 1\nat 2\nsplice 2 2 1\n200 280\nfuture 1\nat 2\nsplice 2 2 1\n200 280\n",
+        b"format G 2\ncursor 3\npast 1\nat 2\nsplice 2 2 1\n200 280\nfuture 1\nat 2\nsplice 2 2 1\n\
+        200 280\n",
     ),
 ];
 
@@ -80,7 +83,8 @@ static GROUPS: [Row; 3] = [
             Call::End,
             Call::Go(1),
         ],
-        b"format G 2\ncursor 1\npast 1\nat 2\ngroup 2\nsplice 2 1 0\nsplice 1 0 1\n100 120\nfuture 0\n",
+        b"format G 2\ncursor 1\npast 1\nat 2\ngroup 2\nsplice 2 1 0\nsplice 1 0 1\n100 120\n\
+        future 0\n",
     ),
     (
         &[
@@ -90,7 +94,8 @@ static GROUPS: [Row; 3] = [
             Call::End,
             Call::Undo,
         ],
-        b"format G 2\ncursor 2\npast 0\nfuture 1\nat 2\ngroup 2\nsplice 1 1 0\nsplice 2 0 1\n300 350\n",
+        b"format G 2\ncursor 2\npast 0\nfuture 1\nat 2\ngroup 2\nsplice 1 1 0\nsplice 2 0 1\n\
+        300 350\n",
     ),
     (
         &[
@@ -100,7 +105,8 @@ static GROUPS: [Row; 3] = [
             Call::Undo,
             Call::Redo,
         ],
-        b"format G 2\ncursor 2\npast 2\nat 2\nsplice 1 0 1\n100 120\nat 1\nsplice 2 1 0\nfuture 0\n",
+        b"format G 2\ncursor 2\npast 2\nat 2\nsplice 1 0 1\n100 120\nat 1\nsplice 2 1 0\n\
+        future 0\n",
     ),
 ];
 
