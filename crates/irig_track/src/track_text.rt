@@ -147,7 +147,8 @@ fn put_pulses(
         text.new.items ++ lines_after writer.new.last (drop next track.now.pulses) track.now.micros
         ≡ text.old.items
         ++ lines_after writer.old.last (drop first track.now.pulses) track.now.micros) }
-    ensures full { IfOk result (λ next. next < length track.now.pulses → enough ≤ vec_len text.new) }
+    ensures full { IfOk result
+        (λ next. next < length track.now.pulses → enough ≤ vec_len text.new) }
 {
     let mut next = first;
     let count = track.len();

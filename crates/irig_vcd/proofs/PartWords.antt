@@ -1,5 +1,6 @@
 -- The words of a part of a dump, at their places.
-use Rattle.std.proofs.Common.{◌≡◌, ◌<◌, ◌≤◌, ◌+◌, ◌-◌, ◌∷◌, [], ℕ, zero, suc, Bool, true, false, cond, List, length, take, get_or, map, refl, ap, sym, ◌∙◌, arith}
+use Rattle.std.proofs.Common.{◌≡◌, ◌<◌, ◌≤◌, ◌+◌, ◌-◌, ◌∷◌, [], ℕ, zero, suc, Bool, true, false, cond, List, length}
+use Rattle.std.proofs.Common.{take, get_or, map, refl, ap, sym, ◌∙◌, arith}
 use Rattle.std.proofs.Math.Seq.{take-suc}
 use Rattle.irig_vcd.specs.Code.Joins.{ends_inside}
 use Rattle.irig_vcd.specs.Code.Part.{moved, words_at}

@@ -59,7 +59,8 @@ impl Reading {
             → HasReachedFrom code.now unit total told self.old tokens.old
             → HasReached code.now unit total told self.new []) }
         ensures fault { IfErr result (λ e. (total : Total) (told : Told) (more : List Word)
-            → HasReachedFrom code.now unit total told self.old tokens.old → IsFaultOf e (total more)) }
+            → HasReachedFrom code.now unit total told self.old tokens.old
+            → IsFaultOf e (total more)) }
         ensures memory { result ≡ Err OutOfMemory
             → (total : Total) (told : Told) (more : List Word)
             → HasReachedFrom code.now unit total told self.old tokens.old

@@ -41,7 +41,8 @@ pub record Reads (code : List ℕ) (next : Next) (first : Option Word) (words : 
     (rest : List Word) : Type 0 where
   pub changes : (unit last : ℕ) (more : List Word)
       → changes_from next code unit last (words ++ more)
-      ≡ with_level level (micros_of unit last) (changes_from then_next code unit last (rest ++ more))
+      ≡ with_level level (micros_of unit last)
+      (changes_from then_next code unit last (rest ++ more))
   pub comments : (more : List Word)
       → comments_from next first (words ++ more)
       ≡ found ++ comments_from then_next then_first (rest ++ more)

@@ -14,7 +14,8 @@ pub returns-in_err-end-clause-fault : goal.returns-in_err-end-clause-fault
 returns-in_err-end-clause-fault c =
     let p = err_from_is_err_and c.from_residual.result c.from_residual.ensures.1 in
     let e = c.in_err-end.field-0.0 in
-    rw (p.1, p.2) (λ wire bytes code h gathers. end_fault wire bytes e (c.in_err-end.ensures.exact code (λ (m : List Word). read_words wire (words_of bytes ++ m))
+    rw (p.1, p.2) (λ wire bytes code h gathers. end_fault wire bytes e
+    (c.in_err-end.ensures.exact code (λ (m : List Word). read_words wire (words_of bytes ++ m))
     (λ (m : List Word). told_words (words_of bytes ++ m)) h))
 
 pub kept-requires-clause-kept : goal.kept-requires-clause-kept

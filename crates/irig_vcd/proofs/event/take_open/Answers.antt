@@ -11,8 +11,10 @@ returns-in-Code-clause-read c =
 
 pub returns-in-Comment-clause-read : goal.returns-in-Comment-clause-read
 returns-in-Comment-clause-read c = λ n first means.
-    let m = subst (λ p. Means p n first) c.in-Comment.is means in reads_as _ n comment_word first None _ _ None _ _ _ m.0 m.1 (c.take_comment.ensures.read c.args.code.now)
+    let m = subst (λ p. Means p n first) c.in-Comment.is means in
+    reads_as _ n comment_word first None _ _ None _ _ _ m.0 m.1 (c.take_comment.ensures.read c.args.code.now)
 
 pub returns-in-Rest-clause-read : goal.returns-in-Rest-clause-read
 returns-in-Rest-clause-read c = λ n first means.
-    let m = subst (λ p. Means p n first) c.in-Rest.is means in reads_as _ n comment_word first (Some m.0) _ _ None _ _ _ m.1 m.2 (c.take_rest.ensures.read c.args.code.now m.0 m.3)
+    let m = subst (λ p. Means p n first) c.in-Rest.is means in
+    reads_as _ n comment_word first (Some m.0) _ _ None _ _ _ m.1 m.2 (c.take_rest.ensures.read c.args.code.now m.0 m.3)

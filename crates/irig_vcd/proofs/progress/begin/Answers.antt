@@ -13,7 +13,8 @@ returns-in_err-read-in-Ok-clause-fault c =
     let wire = name_of c.args.wire in
     let words = words_of c.args.part.now in
     let says = ap (declarations_of wire) (sym c.new-tokens.ensures) ∙ c.in-Ok.ensures in
-    rw (p.1, p.2) (λ new more. c.in_err-read-in-Ok.ensures.fault (λ (m : List Word). read_words wire (words ++ m)) (λ (m : List Word). told_words (words ++ m)) more
+    rw (p.1, p.2) (λ new more. c.in_err-read-in-Ok.ensures.fault (λ (m : List Word). read_words wire (words ++ m))
+    (λ (m : List Word). told_words (words ++ m)) more
     (words_begin wire words c.declarations.new.tokens (c.in-Ok.start.unit, c.in-Ok.start.code.now) c.args.reading.now says new))
 
 pub returns-in_ok-read-in-Ok-clause-read : goal.returns-in_ok-read-in-Ok-clause-read

@@ -26,7 +26,8 @@ loop-index-preserved c =
     let p = c.get-pulse.result in
     let one : take (i + 1) ps ≡ take i ps ++ p ∷ [] =
     take_more ps i p (slice_get_within ps i p c.get-pulse.ensures) ∙ ap (λ q. take i ps ++ q ∷ []) (get_or_from_slice_get ps i p p c.get-pulse.ensures) in (
-      c.push_reserved-in-loop-index.ensures.items ∙ ap (λ xs. xs ++ p.fall ∷ []) (c.push_reserved.ensures.items ∙ ap (λ xs. xs ++ p.rise ∷ []) c.loop-index.invariant.0)
+      c.push_reserved-in-loop-index.ensures.items ∙ ap (λ xs. xs ++ p.fall ∷ [])
+          (c.push_reserved.ensures.items ∙ ap (λ xs. xs ++ p.rise ∷ []) c.loop-index.invariant.0)
           ∙ append_assoc (edges_of (take i ps)) (p.rise ∷ []) (p.fall ∷ [])
           ∙ sym (ap edges_of one ∙ edges_of-append (take i ps) (p ∷ [])),
       c.push_reserved-in-loop-index.ensures.capacity ∙ c.push_reserved.ensures.capacity ∙ c.loop-index.invariant.1,

@@ -7,8 +7,16 @@ use Rattle.irig_vcd.proofs.edges.Edges.push.Goals as goal
 pub invariant_of-self-then-self : goal.invariant_of-self-then-self
 invariant_of-self-then-self c =
     let pushed : c.put.new.pulses.items ≡ c.self.inside.pulses.items ++ pulse c.self.inside.rise c.args.edge ∷ [] = c.in_ok-put.ensures.put in
-    let count = count_open c.self.inside.pulses.items c.self.inside.is_open c.self.inside.rise c.args.self.now c.self.view_is c.if-self.true in
-    (omega (arith, count, c.requires, ap length pushed, length-append c.self.inside.pulses.items (pulse c.self.inside.rise c.args.edge ∷ [])), c.put.ensures.room)
+    let count = count_open c.self.inside.pulses.items c.self.inside.is_open c.self.inside.rise c.args.self.now c.self.view_is c.if-self.true in (
+      omega (
+        arith,
+        count,
+        c.requires,
+        ap length pushed,
+        length-append c.self.inside.pulses.items (pulse c.self.inside.rise c.args.edge ∷ []),
+      ),
+      c.put.ensures.room,
+    )
 
 pub returns-in_ok-put : goal.returns-in_ok-put
 returns-in_ok-put c =
