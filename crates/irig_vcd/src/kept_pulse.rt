@@ -82,11 +82,12 @@ impl KeptPulse {
         ensures holds { HoldsPulse self.new }
     {
         let (up, down) = (rise - self.base, fall - self.base);
-        put_four(&mut self.bytes, self.long - 8, up);
-        put_four(&mut self.bytes, 2 * self.long - 8, down);
+        let long = self.long;
+        put_four(&mut self.bytes, long - 8, up);
+        put_four(&mut self.bytes, 2 * long - 8, down);
         let len = text.len();
         text.extend_from_slice(&self.bytes[..48])?;
-        text.truncate(len + 2 * self.long);
+        text.truncate(len + 2 * long);
         Ok(())
     }
 
