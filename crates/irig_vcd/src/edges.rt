@@ -127,7 +127,8 @@ fn put(pulses: &mut Vec<Pulse>, pulse: Pulse) -> Result<(), AllocError>
     Ok(())
 }
 
-/// Makes a full block twice as large, and adds the room of a first block.
+/// Makes a full block twice as large, and adds the room of a first block. It never has more room
+/// than the most pulses and a first block.
 #[inline(never)]
 fn grow(pulses: &mut Vec<Pulse>) -> Result<(), AllocError>
     requires few { vec_len pulses.old ≤ 2 ^ 22 }
@@ -137,5 +138,6 @@ fn grow(pulses: &mut Vec<Pulse>) -> Result<(), AllocError>
     ensures room { vec_capacity pulses.new ≤ 2 * vec_len pulses.new + 1024 }
 {
     let more = pulses.len() + FIRST_ROOM;
-    pulses.reserve_exact(more)
+    let left = PULSES_LIMIT + FIRST_ROOM - pulses.len();
+    pulses.reserve_exact(more.min(left))
 }
