@@ -10,8 +10,8 @@ use Rattle.irig_vcd.specs.Code.DumpReader.{HasRead, HasReadWords, Stage, read_wo
 use Rattle.irig_vcd.specs.Code.Gathered.{so_far}
 use Rattle.irig_vcd.specs.Code.Joins.{ends_inside}
 use Rattle.irig_vcd.specs.Code.Journals.{first_place, place_view}
-use Rattle.irig_vcd.specs.Code.Pending.{Means}
 use Rattle.irig_vcd.specs.Code.NextPart.{IsIdle}
+use Rattle.irig_vcd.specs.Code.Pending.{Means}
 use Rattle.irig_vcd.specs.Code.Time.{units_of}
 use Rattle.irig_vcd.specs.Declarations.{declarations_of}
 use Rattle.irig_vcd.specs.Events.{Next, any_word, comment_word}
