@@ -6,7 +6,8 @@ use Rattle.std.specs.Bool.{IsTrue}
 use Rattle.irig_codes.specs.Format.{FormatView, is_permitted}
 use Rattle.irig_codes.specs.Slots.{slots_at}
 use Rattle.irig_codes.specs.Used.{masks_of, used_in, used_of}
-use Rattle.irig_codes.proofs.Shapes.{from-list, same_list}
+use Rattle.std.proofs.lemmas.Slice.Eq.{bytes_eq-Decides}
+use Rattle.std.specs.Str.{bytes_eq}
 use Rattle.irig_codes.specs.declared.format.Kind.{Kind}
 use Rattle.irig_codes.specs.declared.format.Kind.TheVariants.{A, B, E, G}
 
@@ -27,5 +28,5 @@ mask-of f k n masks kind expression permitted same =
     ∙ get_or-map-range_with_len (used_in f.kind) 0 8 f.expression f.expression 0 few (omega arith)
 
 -- the masks of a kind, by a test that computes
-pub masks-are : (k j : Kind) (masks : List ℕ) → j ≡ k → same_list masks (masks_of k) ≡ true → masks ≡ masks_of j
-masks-are k j masks kind same = from-list masks (masks_of k) same ∙ ap masks_of (sym kind)
+pub masks-are : (k j : Kind) (masks : List ℕ) → j ≡ k → bytes_eq masks (masks_of k) ≡ true → masks ≡ masks_of j
+masks-are k j masks kind same = (bytes_eq-Decides masks (masks_of k)).0 same ∙ ap masks_of (sym kind)
