@@ -1,8 +1,7 @@
 -- Years and days by their numbers.
 use Rattle.std.proofs.Common.{◌≡◌, ℕ, zero, suc, ◌+◌, ◌-◌, ◌<◌, ◌≤◌, ◌⊎◌, inl, inr, nat_le, Bool, true, false, cond, pos, ◌+ℤ◌, ◌≤ℤ◌, neg_ℤ, unsigned_abs, Some}
 use Rattle.std.proofs.Common.{refl, sym, ap, subst, ◌∙◌, arith}
-use Rattle.std.proofs.lemmas.Bool.{leb-true}
-use Rattle.std.proofs.lemmas.Bool.Decides.{nat_tests}
+use Rattle.std.proofs.lemmas.Bool.{le-leb, leb-false, leb-true, lt-leb}
 use Rattle.std.proofs.Math.Nat.{eq-or-lt_of_le}
 use Rattle.std.proofs.lemmas.Int.{by_lt_z}
 use Rattle.std.specs.Prelude.{ℤ, negsuc}
@@ -37,19 +36,13 @@ same-or-later y z b (inr l) = omega (arith, later-year y z l b)
 pub no-earlier : (y z : ℕ) → y ≤ z → z ≤ 9999 → new_year_of y ≤ new_year_of z
 no-earlier y z h b = same-or-later y z b (eq-or-lt_of_le h)
 
-is-at-most : (a b : ℕ) → a ≤ b → nat_le a b ≡ true
-is-at-most a b h = grind (arith, nat_tests)
-
-is-above : (a b : ℕ) → b < a → nat_le a b ≡ false
-is-above a b h = grind (arith, nat_tests)
-
 -- one step of the search
 found : (n day y : ℕ) → new_year_of y ≤ day → day < new_year_of y + days_in_year (pos y) → suc n ≤ 9999 → (y < suc n → last_year n day ≡ y) →
     (y ≡ suc n) ⊎ (y < suc n) → cond (nat_le (new_year_of (suc n)) day) (suc n) (last_year n day) ≡ y
 found n day y low high b rest (inl e) =
-    ap (λ b. cond b (suc n) (last_year n day)) (is-at-most (new_year_of (suc n)) day (subst (λ v. new_year_of v ≤ day) e low)) ∙ sym e
+    ap (λ b. cond b (suc n) (last_year n day)) (le-leb (new_year_of (suc n)) day (subst (λ v. new_year_of v ≤ day) e low)) ∙ sym e
 found n day y low high b rest (inr l) =
-    ap (λ b. cond b (suc n) (last_year n day)) (is-above (new_year_of (suc n)) day (omega (arith, later-year y (suc n) l b, high))) ∙ rest l
+    ap (λ b. cond b (suc n) (last_year n day)) (lt-leb (new_year_of (suc n)) day (omega (arith, later-year y (suc n) l b, high))) ∙ rest l
 
 -- the search finds the year
 pub last-year : (n day y : ℕ) → 1 ≤ y → y ≤ n → n ≤ 9999 → new_year_of y ≤ day → day < new_year_of y + days_in_year (pos y) → last_year n day ≡ y
@@ -143,7 +136,7 @@ civil-in-years y m k n y1 y2 m1 m2 k1 k2 h =
 
 pub civil-there : (y m k n : ℕ) → 1 ≤ y → y ≤ 9998 → 1 ≤ m → m ≤ 12 → 1 ≤ k → k ≤ days_in_month (pos y) m → n ≡ day_number y m k → Some n ≡ civil_day_of y m k
 civil-there y m k n y1 y2 m1 m2 k1 k2 h =
-    rw (is-at-most 1 y y1, is-at-most y 9998 y2, is-at-most 1 m m1, is-at-most m 12 m2, is-at-most 1 k k1, is-at-most k (days_in_month (pos y) m) k2)
+    rw (le-leb 1 y y1, le-leb y 9998 y2, le-leb 1 m m1, le-leb m 12 m2, le-leb 1 k k1, le-leb k (days_in_month (pos y) m) k2)
     (ap Some h)
 
 -- the year of a day is the greatest whose 1 January is at or before the day
@@ -170,7 +163,7 @@ last-year-step n day false t low rest first = record {
   some (suc n) h = omega arith
 
   above : day < new_year_of (suc n)
-  above = grind (arith, nat_tests, t)
+  above = leb-false (new_year_of (suc n)) day t
 
   later : (z : ℕ) → last_year n day < z → z ≤ suc n → (z ≡ suc n) ⊎ (z < suc n) → day < new_year_of z
   later z h k (inl e) = subst (λ v. day < new_year_of v) (sym e) above
@@ -181,7 +174,7 @@ unfolding last_year
 last-year-law zero day h low = absurd (omega arith)
 last-year-law (suc n) day h low =
     last-year-step n day (nat_le (new_year_of (suc n)) day) refl low (λ k. last-year-law n day k low)
-    (λ e. ap (λ v. nat_le (new_year_of (suc v)) day) e ∙ is-at-most (new_year_of 1) day low)
+    (λ e. ap (λ v. nat_le (new_year_of (suc v)) day) e ∙ le-leb (new_year_of 1) day low)
 
 pub year-law : (day : ℕ) → new_year_of 1 ≤ day → IsLastYear 9999 day (year_of day)
 unfolding year_of

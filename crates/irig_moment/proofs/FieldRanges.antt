@@ -1,6 +1,6 @@
 -- The fields of a generated frame fit its format.
-use Rattle.std.proofs.Common.{◌≡◌, ℕ, ◌+◌, ◌*◌, ◌/◌, ◌%◌, ◌^◌, ◌<◌, ◌≤◌, ◌==◌, ◌&&◌, nat_le, nat_lt, Bool, true, Option, refl, ap, mul-le-mul, arith}
-use Rattle.std.proofs.lemmas.Bool.Decides.{nat_tests}
+use Rattle.std.proofs.Common.{◌≡◌, ℕ, ◌+◌, ◌*◌, ◌/◌, ◌%◌, ◌^◌, ◌<◌, ◌≤◌, nat_le, nat_lt, true, Option, refl, mul-le-mul, arith}
+use Rattle.std.proofs.lemmas.Bool.{and_from, eq-eqb, le-leb, lt-ltb}
 use Rattle.irig_codes.specs.Format.{FormatView, frame_period_of, has_hundredths, has_control, has_year, carries_sbs, control_count_of}
 use Rattle.irig_codes.specs.Fields.{fits_in, fits_part, is_in_range, part}
 use Rattle.irig_codes.proofs.FieldLemmas.{fits_part-part}
@@ -10,30 +10,18 @@ use Rattle.irig_codes.specs.declared.note.Name.TheVariants.{Hundredths, Seconds}
 use Rattle.irig_codes.specs.declared.fields.Fields.{Fields}
 use Rattle.irig_moment.specs.Generated.{period_of}
 
-at-most : (a b : ℕ) → a ≤ b → nat_le a b ≡ true
-at-most a b h = grind (arith, nat_tests)
-
-under : (a b : ℕ) → a < b → nat_lt a b ≡ true
-under a b h = grind (arith, nat_tests)
-
-is-zero : (v : ℕ) → v ≡ 0 → (v == 0) ≡ true
-is-zero v h = ap (λ n. n == 0) h
-
-pub both-true : (a b : Bool) → a ≡ true → b ≡ true → (a && b) ≡ true
-both-true a b p q = rw (p, q) refl
-
 hundredths-fit : (k : Kind) (t : ℕ) → t % 6000 % (frame_period_of k / 10000) ≡ 0
     → fits_part (has_hundredths k) (is_in_range k Hundredths) (part (has_hundredths k) (t % 100)) ≡ true
-hundredths-fit A t h = both-true _ _ (at-most (t % 100) 99 (omega arith)) (is-zero (t % 100 % 10) (omega arith))
+hundredths-fit A t h = and_from _ _ (le-leb (t % 100) 99 (omega arith)) (eq-eqb (t % 100 % 10) 0 (omega arith))
 hundredths-fit B t h = refl
 hundredths-fit E t h = refl
-hundredths-fit G t h = both-true _ _ (at-most (t % 100) 99 (omega arith)) (is-zero (t % 100 % 1) (omega arith))
+hundredths-fit G t h = and_from _ _ (le-leb (t % 100) 99 (omega arith)) (eq-eqb (t % 100 % 1) 0 (omega arith))
 
 seconds-fit : (k : Kind) (t : ℕ) → t % 6000 % (frame_period_of k / 10000) ≡ 0 → is_in_range k Seconds (t / 100 % 60) ≡ true
-seconds-fit A t h = both-true _ _ (at-most (t / 100 % 60) 60 (omega arith)) (is-zero (t / 100 % 60 % 1) (omega arith))
-seconds-fit B t h = both-true _ _ (at-most (t / 100 % 60) 60 (omega arith)) (is-zero (t / 100 % 60 % 1) (omega arith))
-seconds-fit E t h = both-true _ _ (at-most (t / 100 % 60) 60 (omega arith)) (is-zero (t / 100 % 60 % 10) (omega arith))
-seconds-fit G t h = both-true _ _ (at-most (t / 100 % 60) 60 (omega arith)) (is-zero (t / 100 % 60 % 1) (omega arith))
+seconds-fit A t h = and_from _ _ (le-leb (t / 100 % 60) 60 (omega arith)) (eq-eqb (t / 100 % 60 % 1) 0 (omega arith))
+seconds-fit B t h = and_from _ _ (le-leb (t / 100 % 60) 60 (omega arith)) (eq-eqb (t / 100 % 60 % 1) 0 (omega arith))
+seconds-fit E t h = and_from _ _ (le-leb (t / 100 % 60) 60 (omega arith)) (eq-eqb (t / 100 % 60 % 10) 0 (omega arith))
+seconds-fit G t h = and_from _ _ (le-leb (t / 100 % 60) 60 (omega arith)) (eq-eqb (t / 100 % 60 % 1) 0 (omega arith))
 
 pub fields-fit : (f : FormatView) (t place year control : ℕ) → t < 8640000 → t % 6000 % period_of f ≡ 0 → 1 ≤ place → place ≤ 366
     → control < 2 ^ control_count_of f →
@@ -50,14 +38,14 @@ pub fields-fit : (f : FormatView) (t place year control : ℕ) → t < 8640000 �
           part (has_control f.expression) control;
     } in fits_in f g ≡ true)
 fields-fit f t place year control h s p q c =
-    both-true _ _ (hundredths-fit f.kind t s)
-    (both-true _ _ (seconds-fit f.kind t s)
-    (both-true _ _ (at-most (t / 6000 % 60) 59 (omega arith))
-    (both-true _ _ (at-most (t / 360000) 23 (omega arith))
-    (both-true _ _ (both-true _ _ (at-most 1 place p) (at-most place 366 q))
-    (both-true _ _ (fits_part-part (has_year f.expression) (λ v. nat_le v 99) (year % 100) (at-most (year % 100) 99 (omega arith)))
-    (both-true _ _ (fits_part-part (carries_sbs f.kind f.expression) (λ v. nat_le v 86400) (t / 100) (at-most (t / 100) 86400 (omega arith)))
-    (fits_part-part (has_control f.expression) (λ v. nat_lt v (2 ^ control_count_of f)) control (under control (2 ^ control_count_of f) c))))))))
+    and_from _ _ (hundredths-fit f.kind t s)
+    (and_from _ _ (seconds-fit f.kind t s)
+    (and_from _ _ (le-leb (t / 6000 % 60) 59 (omega arith))
+    (and_from _ _ (le-leb (t / 360000) 23 (omega arith))
+    (and_from _ _ (and_from _ _ (le-leb 1 place p) (le-leb place 366 q))
+    (and_from _ _ (fits_part-part (has_year f.expression) (λ v. nat_le v 99) (year % 100) (le-leb (year % 100) 99 (omega arith)))
+    (and_from _ _ (fits_part-part (carries_sbs f.kind f.expression) (λ v. nat_le v 86400) (t / 100) (le-leb (t / 100) 86400 (omega arith)))
+    (fits_part-part (has_control f.expression) (λ v. nat_lt v (2 ^ control_count_of f)) control (lt-ltb control (2 ^ control_count_of f) c))))))))
 
 pub parts-fit : (f : FormatView) (t place year control : ℕ) (h y b o : Option ℕ) → t < 8640000 → t % 6000 % period_of f ≡ 0 → 1 ≤ place → place ≤ 366
     → control < 2 ^ control_count_of f →
