@@ -1,9 +1,10 @@
 -- The text that is written pulse by pulse is the text of the recording.
-use Rattle.std.proofs.Common.{◌≡◌, ◌≤◌, ◌+◌, ◌==◌, ◌++◌, ◌∷◌, ◌&&◌, ◌||◌, [], ℕ, Bool, true, false, not, List, length, drop, nat_lt, inl, inr, subst, refl, ap}
+use Rattle.std.proofs.Common.{◌≡◌, ◌≤◌, ◌+◌, ◌==◌, ◌++◌, ◌∷◌, ◌&&◌, [], ℕ, Bool, true, false, not, List, length, drop, nat_lt, inl, inr, subst, refl, ap}
 use Rattle.std.proofs.Common.{sym, ◌∙◌, arith, append_assoc, if◌then◌else◌}
 use Rattle.std.specs.List.{list_any}
 use Rattle.std.proofs.lemmas.List.{drop_all, append-nil}
 use Rattle.std.proofs.lemmas.Bool.{ne_eqb, eq-eqb, lt-ltb, cases_eq}
+use Rattle.std.proofs.Math.Bool.{or-false}
 use Rattle.irig_vcd.specs.FileText.{file_text, header_text, time_line, level_line, edge_lines, begins_high, later_edges, end_line, lines_at, length_line}
 use Rattle.irig_vcd.specs.Pulses.{edges_of}
 use Rattle.irig_vcd.specs.Recording.{recording_view, RisesFrom, UpTo}
@@ -29,14 +30,10 @@ lines (edge ∷ edges) r = elim (cases_eq edge 0) [
   | inr apart ↦ rw (ne_eqb edge 0 apart) (ap (λ (rest : List ℕ). time_line edge ++ level_line true ++ rest) (above (edge + 1) false edges (omega arith) r.1))
 ]
 
-only : (b : Bool) → (b || false) ≡ b
-only true = refl
-only false = refl
-
 -- among rising edges only the last is as great as the length
 last_stands : (top low edge : ℕ) (edges : List ℕ) → RisesFrom low (edge ∷ edges) → UpTo top (edge ∷ edges)
     → list_any (λ e. e == top) (edge ∷ edges) ≡ (last_or edge edges == top)
-last_stands top low edge [] r u = only (edge == top)
+last_stands top low edge [] r u = or-false (edge == top)
 last_stands top low edge (next ∷ edges) r u =
     let apart : (edge == top) ≡ false = ne_eqb edge top (λ e. omega (arith, r.1.0, u.1.0)) in
     rw apart (last_stands top (edge + 1) next edges r.1 u.1)
