@@ -1,5 +1,6 @@
 -- How many edges lie below a time, which a toggle from that time on leaves.
 use Rattle.std.proofs.Common.{◌≡◌, ℕ, ◌+◌, ◌*◌, ◌<◌, ◌≤◌, nat_lt, cond, List, [], ◌∷◌, refl, sym, ap, ◌∙◌, arith, inl, inr}
+use Rattle.std.proofs.lemmas.Bool.{cases_lt}
 use Rattle.std.proofs.lemmas.Bool.Decides.{nat_tests}
 use Rattle.irig_vcd.specs.Recording.{RisesFrom}
 use Rattle.irig_vcd.specs.declared.pulse.Pulse.{Pulse}
@@ -7,7 +8,7 @@ use Rattle.irig_track.specs.Edges.{edges_of}
 use Rattle.irig_track.specs.Toggles.{flipped, toggled}
 use Rattle.irig_track.specs.Splices.{ended_before}
 use Rattle.irig_track.proofs.RisingLists.{three, flip_low, flip_same, flip_high, RisesFrom-flipped}
-use Rattle.irig_track.proofs.Searches.{below_or_not, ended_yes, ended_no, ended_none}
+use Rattle.irig_track.proofs.Searches.{ended_yes, ended_no, ended_none}
 
 -- how many numbers are below t
 abbrev below : ℕ → List ℕ → ℕ
@@ -38,7 +39,7 @@ below-flipped t u (x ∷ xs) le = elim (three u x) [
 halves : (t low : ℕ) (ps : List Pulse) → RisesFrom low (edges_of ps)
     → (2 * ended_before t ps ≤ below t (edges_of ps)) × (below t (edges_of ps) ≤ 2 * ended_before t ps + 1)
 halves t low [] h = (omega arith, omega arith)
-halves t low (p ∷ ps) h = elim (below_or_not p.fall t) [
+halves t low (p ∷ ps) h = elim (cases_lt p.fall t) [
   | inl lt ↦ (
       let rest = halves t (p.fall + 1) ps h.1.1 in
       let here = below_yes t p.rise (p.fall ∷ edges_of ps) (omega (arith, h.1.0)) in
@@ -50,7 +51,7 @@ halves t low (p ∷ ps) h = elim (below_or_not p.fall t) [
       let next = below_no t p.fall (edges_of ps) ge in
       let count = ended_no t p ps ge in
       let rest = ended_none t (p.fall + 1) ps (omega arith) h.1.1 in
-      elim (below_or_not p.rise t) [
+      elim (cases_lt p.rise t) [
         | inl lt ↦ (let here = below_yes t p.rise (p.fall ∷ edges_of ps) lt in (omega arith, omega arith))
         | inr le ↦ (let here = below_no t p.rise (p.fall ∷ edges_of ps) le in (omega arith, omega arith))
       ])

@@ -1,17 +1,17 @@
 -- What edits on pulses do to the set of edges.
 use Rattle.std.proofs.Common.{◌≡◌, ℕ, ◌+◌, ◌<◌, ◌≤◌, ◌==◌, nat_le, Bool, true, false, cond, not, ◌&&◌, ◌||◌, List, [], ◌∷◌, ◌++◌, take, drop, refl, sym, ap}
-use Rattle.std.proofs.Common.{◌∙◌, subst, ◌⊎◌, inl, inr, arith, append_assoc}
-use Rattle.std.proofs.lemmas.Bool.Decides.{nat_tests}
+use Rattle.std.proofs.Common.{◌∙◌, subst, inl, inr, arith, append_assoc}
+use Rattle.std.proofs.lemmas.Bool.{and_from, and_left, and_right, cases_Bool, cases_eq, eq-eqb, le-leb, lt-leb, ne_eqb}
 use Rattle.std.proofs.lemmas.List.{take-append-drop, drop-drop}
+use Rattle.std.proofs.Math.Bool.{or-false}
 use Rattle.irig_vcd.specs.declared.pulse.Pulse.{Pulse}
 use Rattle.irig_vcd.specs.Recording.{RisesFrom, UpTo}
 use Rattle.irig_track.specs.Edges.{Under, has, edges_of, is_edge, with_both, replaced, without, without_between, inverted, pulse}
 use Rattle.irig_track.specs.Toggles.{flipped, toggled}
 use Rattle.irig_track.specs.Splices.{spliced, piece}
 use Rattle.irig_vcd.proofs.PulseEdges.{edges_of-append}
-use Rattle.irig_track.proofs.RisingLists.{rises_left, rises_right, has_there, has-flipped_same, has-flipped_other, RisesFrom-flipped, test_eq}
-use Rattle.irig_track.proofs.RisingLists.{test_ne, under_next}
-use Rattle.irig_track.proofs.Sets.{has-append, has-splice, same_or_not}
+use Rattle.irig_track.proofs.RisingLists.{rises_left, rises_right, has_there, has-flipped_same, has-flipped_other, RisesFrom-flipped, under_next}
+use Rattle.irig_track.proofs.Sets.{has-append, has-splice}
 
 pub parts : (at count : ℕ) (ps : List Pulse) → take at ps ++ (piece at count ps ++ drop (at + count) ps) ≡ ps
 parts at count ps =
@@ -37,10 +37,6 @@ keep_or : (v w : Bool) → ((v && not false) || w) ≡ (v || w)
 keep_or true w = refl
 keep_or false w = refl
 
-pub or_none : (v : Bool) → (v || false) ≡ v
-or_none true = refl
-or_none false = refl
-
 pub two : (a b t : ℕ) → has t (a ∷ b ∷ []) ≡ ((a == t) || (b == t))
 two a b t = elim (a == t) as (λ v. cond v true (cond (b == t) true false) ≡ (v || (b == t)))
     [ true ↦ refl | false ↦ elim (b == t) as (λ v. cond v true false ≡ v) [ true ↦ refl | false ↦ refl ] ]
@@ -54,42 +50,29 @@ is_edge-inserted t at a b ps h = is_edge-spliced t at 0 (pulse a b ∷ []) ps h 
 -- pulses removed
 pub is_edge-deleted : (t at count : ℕ) (ps : List Pulse) → RisesFrom 0 (edges_of ps)
     → is_edge t (spliced at count [] ps) ≡ without (edges_of (piece at count ps)) t (is_edge t ps)
-is_edge-deleted t at count ps h = is_edge-spliced t at count [] ps h ∙ or_none _
+is_edge-deleted t at count ps h = is_edge-spliced t at count [] ps h ∙ or-false _
 
 -- the bounds of a part between two others
 has_low : (t low : ℕ) (xs : List ℕ) → RisesFrom low xs → has t xs ≡ true → low ≤ t
 has_low t low [] h e = absurd (cc)
-has_low t low (x ∷ xs) h e = elim (same_or_not x t) [
+has_low t low (x ∷ xs) h e = elim (cases_eq x t) [
   | inl s ↦ omega (arith, h.0)
   | inr n ↦ omega (arith, h.0, has_low t (x + 1) xs h.1 (sym (has_there x t xs n) ∙ e))
 ]
 
 has_under : (t high : ℕ) (xs : List ℕ) → Under high xs → has t xs ≡ true → t < high
 has_under t high [] h e = absurd (cc)
-has_under t high (x ∷ xs) h e = elim (same_or_not x t) [
+has_under t high (x ∷ xs) h e = elim (cases_eq x t) [
   | inl s ↦ omega (arith, h.0)
   | inr n ↦ has_under t high xs h.1 (sym (has_there x t xs n) ∙ e)
 ]
 
 has_upto : (t high : ℕ) (xs : List ℕ) → UpTo high xs → has t xs ≡ true → t ≤ high
 has_upto t high [] h e = absurd (cc)
-has_upto t high (x ∷ xs) h e = elim (same_or_not x t) [
+has_upto t high (x ∷ xs) h e = elim (cases_eq x t) [
   | inl s ↦ omega (arith, h.0)
   | inr n ↦ has_upto t high xs h.1 (sym (has_there x t xs n) ∙ e)
 ]
-
-pub true_or_false : (b : Bool) → (b ≡ true) ⊎ (b ≡ false)
-true_or_false true = inl refl
-true_or_false false = inr refl
-
-window_true : (low high t : ℕ) → low ≤ t → t ≤ high → (nat_le low t && nat_le t high) ≡ true
-window_true low high t p q = grind (arith, nat_tests)
-
-window_below : (low high t : ℕ) → t < low → (nat_le low t && nat_le t high) ≡ false
-window_below low high t p = grind (arith, nat_tests)
-
-window_above : (low high t : ℕ) → high < t → (nat_le low t && nat_le t high) ≡ false
-window_above low high t p = elim (nat_le low t) as (λ v. (v && nat_le t high) ≡ false) [ true ↦ grind (arith, nat_tests) | false ↦ refl ]
 
 -- in a rising list, what is in the part is between its bounds
 in_window : (t low high : ℕ) (before ms after : List ℕ) (v : Bool)
@@ -97,16 +80,16 @@ in_window : (t low high : ℕ) (before ms after : List ℕ) (v : Bool)
     → has t (before ++ ((low ∷ ms) ++ after)) ≡ true → has t (low ∷ ms) ≡ (nat_le low t && nat_le t high)
 in_window t low high before ms after v h u w r e =
     let middle : RisesFrom 0 ((low ∷ ms) ++ after) = rises_right 0 before ((low ∷ ms) ++ after) h in
-    elim (true_or_false (has t (low ∷ ms))) [
-      | inl m ↦ m ∙ sym (window_true low high t (has_low t low (low ∷ ms) (omega arith, rises_left (low + 1) ms after middle.1) m)
-          (has_upto t high (low ∷ ms) w m))
-      | inr m ↦ elim (true_or_false (has t before)) [
-        | inl l ↦ m ∙ sym (window_below low high t (has_under t low before u l))
+    elim (cases_Bool (has t (low ∷ ms))) [
+      | inl m ↦ m ∙ sym (and_from _ _ (le-leb low t (has_low t low (low ∷ ms) (omega arith, rises_left (low + 1) ms after middle.1) m))
+          (le-leb t high (has_upto t high (low ∷ ms) w m)))
+      | inr m ↦ elim (cases_Bool (has t before)) [
+        | inl l ↦ m ∙ sym (and_left _ _ (lt-leb low t (has_under t low before u l)))
         | inr l ↦ (
             let last : has t ((low ∷ ms) ++ after) ≡ true = sym (ap (λ z. z || has t ((low ∷ ms) ++ after)) l) ∙ sym (has-append t before ((low ∷ ms) ++ after))
             ∙ e in
             let last2 : has t after ≡ true = sym (ap (λ z. z || has t after) m) ∙ sym (has-append t (low ∷ ms) after) ∙ last in
-            (let more : high < t = omega (arith, has_low t (high + 1) after r last2) in m ∙ sym (window_above low high t more)))
+            (let more : high < t = omega (arith, has_low t (high + 1) after r last2) in m ∙ sym (and_right _ _ (lt-leb t high more))))
       ]
     ]
 
@@ -115,7 +98,7 @@ upto_last low y [] ys h = (omega arith, tt)
 upto_last low y (x ∷ xs) ys h = (omega (arith, (rises_right (x + 1) xs (y ∷ ys) h.1).0), upto_last (x + 1) y xs ys h.1)
 
 same_kept : (v k w : Bool) → (v ≡ true → k ≡ w) → ((v && not k) || false) ≡ (v && not w)
-same_kept true k w h = or_none (not k) ∙ ap not (h refl)
+same_kept true k w h = or-false (not k) ∙ ap not (h refl)
 same_kept false k w h = refl
 
 regroup_gone : (r f x y : ℕ) (b m a : List ℕ) → b ++ ((r ∷ f ∷ (m ++ (x ∷ y ∷ []))) ++ a) ≡ (b ++ (r ∷ [])) ++ ((f ∷ (m ++ (x ∷ []))) ++ (y ∷ a))
@@ -147,18 +130,18 @@ is_edge-joined t at count p q mid ps is h =
 
 -- a symmetric difference
 pub has-toggled : (t a b : ℕ) (xs : List ℕ) → a < b → RisesFrom 0 xs → has t (toggled a b xs) ≡ inverted a b t (has t xs)
-has-toggled t a b xs lt h = elim (same_or_not b t) [
+has-toggled t a b xs lt h = elim (cases_eq b t) [
   | inl e ↦ (
-      let none : (a == t) ≡ false = test_ne a t (omega arith) in let one : (b == t) ≡ true = test_eq b t e in
+      let none : (a == t) ≡ false = ne_eqb a t (omega arith) in let one : (b == t) ≡ true = eq-eqb b t e in
       subst (λ k. has k (toggled a b xs) ≡ not (has k xs)) e
       (has-flipped_same 0 b (flipped a xs) (RisesFrom-flipped 0 a xs (omega arith) h) ∙ ap not (has-flipped_other a b xs (omega arith)))
       ∙ sym (λ j. cond (none j || one j) (not (has t xs)) (has t xs)))
   | inr n ↦ (
-      let none : (b == t) ≡ false = test_ne b t n in
-      has-flipped_other b t (flipped a xs) n ∙ elim (same_or_not a t) [
-        | inl e ↦ (let one : (a == t) ≡ true = test_eq a t e in subst (λ k. has k (flipped a xs) ≡ not (has k xs)) e (has-flipped_same 0 a xs h)
+      let none : (b == t) ≡ false = ne_eqb b t n in
+      has-flipped_other b t (flipped a xs) n ∙ elim (cases_eq a t) [
+        | inl e ↦ (let one : (a == t) ≡ true = eq-eqb a t e in subst (λ k. has k (flipped a xs) ≡ not (has k xs)) e (has-flipped_same 0 a xs h)
             ∙ sym (λ j. cond (one j || none j) (not (has t xs)) (has t xs)))
-        | inr m ↦ (let one : (a == t) ≡ false = test_ne a t m in has-flipped_other a t xs m ∙ sym (λ j. cond (one j || none j) (not (has t xs)) (has t xs)))
+        | inr m ↦ (let one : (a == t) ≡ false = ne_eqb a t m in has-flipped_other a t xs m ∙ sym (λ j. cond (one j || none j) (not (has t xs)) (has t xs)))
       ])
 ]
 

@@ -1,5 +1,7 @@
 -- What one pulse of a track says of the edges round it.
 use Rattle.std.proofs.Common.{◌≡◌, ℕ, suc, zero, ◌+◌, ◌<◌, ◌≤◌, ◌==◌, false, ◌||◌, List, [], ◌∷◌, drop, slice_get, Some, refl, ap, ◌∙◌, subst, arith, inl, inr}
+use Rattle.std.proofs.lemmas.Bool.{cases_lt}
+use Rattle.std.proofs.Math.Bool.{or-false}
 use Rattle.irig_vcd.specs.Recording.{RisesFrom, UpTo}
 use Rattle.irig_vcd.specs.declared.pulse.Pulse.{Pulse}
 use Rattle.irig_track.specs.Edges.{edges_of, has, is_edge}
@@ -7,8 +9,8 @@ use Rattle.irig_track.specs.Splices.{risen_by}
 use Rattle.irig_track.specs.Free.{first_or}
 use Rattle.irig_track.proofs.RisingLists.{has_there, has_none}
 use Rattle.irig_track.proofs.Sets.{has-append}
-use Rattle.irig_track.proofs.Laws.{two, or_none}
-use Rattle.irig_track.proofs.Searches.{below_or_not, risen_yes, risen_none, risen_ends}
+use Rattle.irig_track.proofs.Laws.{two}
+use Rattle.irig_track.proofs.Searches.{risen_yes, risen_none, risen_ends}
 
 -- a pulse rises before it falls
 pub pulse_order : (low i : ℕ) (p : Pulse) (ps : List Pulse) → RisesFrom low (edges_of ps) → slice_get ps i ≡ Some p → p.rise < p.fall
@@ -40,7 +42,7 @@ first_or-drop d (suc i) p (q ∷ ps) is = first_or-drop d i p ps is
 -- if no pulse has risen there is no edge yet
 pub is_edge_none : (t low : ℕ) (ps : List Pulse) → RisesFrom low (edges_of ps) → risen_by t ps ≡ 0 → is_edge t ps ≡ false
 is_edge_none t low [] h none = refl
-is_edge_none t low (p ∷ ps) h none = elim (below_or_not t p.rise) [
+is_edge_none t low (p ∷ ps) h none = elim (cases_lt t p.rise) [
   | inl lt ↦ has_none p.rise t (edges_of (p ∷ ps)) (omega arith, h.1) lt
   | inr le ↦ absurd (omega (arith, risen_yes t p ps le))
 ]
@@ -50,15 +52,15 @@ pub is_edge_last : (t low n : ℕ) (p : Pulse) (ps : List Pulse) → RisesFrom l
     → is_edge t ps ≡ ((p.rise == t) || (p.fall == t))
 is_edge_last t low zero p [] h count is = absurd (cc)
 is_edge_last t low (suc n) p [] h count is = absurd (cc)
-is_edge_last t low zero p (q ∷ ps) h count is = elim (below_or_not t q.rise) [
+is_edge_last t low zero p (q ∷ ps) h count is = elim (cases_lt t q.rise) [
   | inl lt ↦ absurd (omega (arith, risen_none t q.rise (q ∷ ps) lt (omega arith, h.1)))
   | inr le ↦ (
       let none : risen_by t ps ≡ 0 = omega (arith, risen_yes t q ps le) in
       let e : q ≡ p = cc in
       has-append t (q.rise ∷ q.fall ∷ []) (edges_of ps) ∙ ap (λ v. has t (q.rise ∷ q.fall ∷ []) || v) (is_edge_none t (q.fall + 1) ps h.1.1 none)
-      ∙ or_none (has t (q.rise ∷ q.fall ∷ [])) ∙ two q.rise q.fall t ∙ ap (λ (r : Pulse). (r.rise == t) || (r.fall == t)) e)
+      ∙ or-false (has t (q.rise ∷ q.fall ∷ [])) ∙ two q.rise q.fall t ∙ ap (λ (r : Pulse). (r.rise == t) || (r.fall == t)) e)
 ]
-is_edge_last t low (suc n) p (q ∷ ps) h count is = elim (below_or_not t q.rise) [
+is_edge_last t low (suc n) p (q ∷ ps) h count is = elim (cases_lt t q.rise) [
   | inl lt ↦ absurd (omega (arith, risen_none t q.rise (q ∷ ps) lt (omega arith, h.1)))
   | inr le ↦ (
       let ends : q.fall < t = risen_ends t q ps n h.1 count in

@@ -1,5 +1,5 @@
 -- Laws of a rising list of edges.
-use Rattle.std.proofs.Common.{◌≡◌, ℕ, suc, zero, ◌+◌, ◌<◌, ◌≤◌, ◌≢◌, ◌==◌, nat_lt, true, false, cond}
+use Rattle.std.proofs.Common.{◌≡◌, ℕ, suc, zero, ◌+◌, ◌<◌, ◌≤◌, ◌≢◌, ◌==◌, true, false, cond}
 use Rattle.std.proofs.Common.{not, List, [], ◌∷◌, ◌++◌, length, get_or, refl, sym, ap, ◌∙◌, subst, ◌⊎◌, inl}
 use Rattle.std.proofs.Common.{inr, arith}
 use Rattle.std.proofs.lemmas.Bool.Decides.{nat_tests}
@@ -113,15 +113,6 @@ rises_strict low [] h i j le lt = absurd (omega arith)
 rises_strict low (x ∷ xs) h i zero le lt = absurd (omega arith)
 rises_strict low (x ∷ xs) h zero (suc j) le lt = omega (arith, rises_low (x + 1) xs j h.1 (omega arith))
 rises_strict low (x ∷ xs) h (suc i) (suc j) le lt = rises_strict (x + 1) xs h.1 i j (omega arith) (omega arith)
-
-pub test_lt : (x y : ℕ) → x < y → nat_lt x y ≡ true
-test_lt x y h = grind (arith, nat_tests)
-
-pub test_eq : (x y : ℕ) → x ≡ y → (x == y) ≡ true
-test_eq x y h = grind (arith, nat_tests)
-
-pub test_ne : (x y : ℕ) → x ≢ y → (x == y) ≡ false
-test_ne x y h = grind (arith, nat_tests)
 
 pub UpTo-flipped : (high t : ℕ) (xs : List ℕ) → t ≤ high → UpTo high xs → UpTo high (flipped t xs)
 UpTo-flipped high t [] le h = (le, tt)

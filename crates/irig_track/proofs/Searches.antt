@@ -1,28 +1,19 @@
 -- How many pulses rise at or before a time.
-use Rattle.std.proofs.Common.{◌≡◌, ℕ, suc, zero, ◌+◌, ◌-◌, ◌<◌, ◌≤◌, nat_le, nat_lt, Bool, true, false, cond, List, [], ◌∷◌, length, slice_get, Some, refl, ap}
-use Rattle.std.proofs.Common.{subst, arith, ◌⊎◌, inl, inr}
-use Rattle.std.proofs.lemmas.Bool.Decides.{nat_tests}
+use Rattle.std.proofs.Common.{◌≡◌, ℕ, suc, zero, ◌+◌, ◌-◌, ◌<◌, ◌≤◌, nat_le, Bool, true, false, cond, List, [], ◌∷◌, length, slice_get, Some, refl, ap}
+use Rattle.std.proofs.Common.{subst, arith, inl, inr}
+use Rattle.std.proofs.lemmas.Bool.{cases_lt, le-leb, le-ltb, lt-leb, lt-ltb}
+-- as irig_edit names it
+pub use Rattle.std.proofs.lemmas.Bool.{cases_lt as below_or_not}
 use Rattle.irig_vcd.specs.declared.pulse.Pulse.{Pulse}
 use Rattle.irig_vcd.specs.Recording.{RisesFrom}
 use Rattle.irig_track.specs.Edges.{edges_of}
 use Rattle.irig_track.specs.Splices.{risen_by, ended_before}
 
-pub below_or_not : (i n : ℕ) → (i < n) ⊎ (n ≤ i)
-below_or_not i zero = inr (omega arith)
-below_or_not zero (suc n) = inl (omega arith)
-below_or_not (suc i) (suc n) = elim (below_or_not i n) [ inl lt ↦ inl (omega arith) | inr le ↦ inr (omega arith) ]
-
-le_true : (a b : ℕ) → a ≤ b → nat_le a b ≡ true
-le_true a b h = grind (arith, nat_tests)
-
-le_false : (a b : ℕ) → b < a → nat_le a b ≡ false
-le_false a b h = grind (arith, nat_tests)
-
 pub risen_yes : (t : ℕ) (p : Pulse) (ps : List Pulse) → p.rise ≤ t → risen_by t (p ∷ ps) ≡ 1 + risen_by t ps
-risen_yes t p ps h = ap (λ v. cond v 1 0 + risen_by t ps) (le_true p.rise t h)
+risen_yes t p ps h = ap (λ v. cond v 1 0 + risen_by t ps) (le-leb p.rise t h)
 
 risen_no : (t : ℕ) (p : Pulse) (ps : List Pulse) → t < p.rise → risen_by t (p ∷ ps) ≡ 0 + risen_by t ps
-risen_no t p ps h = ap (λ v. cond v 1 0 + risen_by t ps) (le_false p.rise t h)
+risen_no t p ps h = ap (λ v. cond v 1 0 + risen_by t ps) (lt-leb p.rise t h)
 
 at_most_one : (v : Bool) (n : ℕ) → cond v 1 0 + n ≤ 1 + n
 at_most_one true n = omega arith
@@ -30,12 +21,6 @@ at_most_one false n = omega arith
 
 risen_most : (t : ℕ) (p : Pulse) (ps : List Pulse) → risen_by t (p ∷ ps) ≤ 1 + risen_by t ps
 risen_most t p ps = at_most_one (nat_le p.rise t) (risen_by t ps)
-
-lt_true : (a b : ℕ) → a < b → nat_lt a b ≡ true
-lt_true a b h = grind (arith, nat_tests)
-
-lt_false : (a b : ℕ) → b ≤ a → nat_lt a b ≡ false
-lt_false a b h = grind (arith, nat_tests)
 
 -- if all rise later
 pub risen_none : (t low : ℕ) (ps : List Pulse) → t < low → RisesFrom low (edges_of ps) → risen_by t ps ≡ 0
@@ -69,10 +54,10 @@ risen_by-le t [] = omega arith
 risen_by-le t (p ∷ ps) = omega (arith, risen_most t p ps, risen_by-le t ps)
 
 pub ended_yes : (t : ℕ) (p : Pulse) (ps : List Pulse) → p.fall < t → ended_before t (p ∷ ps) ≡ 1 + ended_before t ps
-ended_yes t p ps h = ap (λ v. cond v 1 0 + ended_before t ps) (lt_true p.fall t h)
+ended_yes t p ps h = ap (λ v. cond v 1 0 + ended_before t ps) (lt-ltb p.fall t h)
 
 pub ended_no : (t : ℕ) (p : Pulse) (ps : List Pulse) → t ≤ p.fall → ended_before t (p ∷ ps) ≡ 0 + ended_before t ps
-ended_no t p ps h = ap (λ v. cond v 1 0 + ended_before t ps) (lt_false p.fall t h)
+ended_no t p ps h = ap (λ v. cond v 1 0 + ended_before t ps) (le-ltb p.fall t h)
 
 -- if none ends before
 pub ended_none : (t low : ℕ) (ps : List Pulse) → t ≤ low → RisesFrom low (edges_of ps) → ended_before t ps ≡ 0
@@ -81,7 +66,7 @@ ended_none t low (p ∷ ps) lt h = omega (arith, ended_no t p ps (omega (arith, 
 
 -- if a later pulse has risen, this one has ended
 pub risen_ends : (t : ℕ) (q : Pulse) (ps : List Pulse) (n : ℕ) → RisesFrom (q.rise + 1) (q.fall ∷ edges_of ps) → risen_by t (q ∷ ps) ≡ suc n + 1 → q.fall < t
-risen_ends t q ps n h e = elim (below_or_not q.fall t) [
+risen_ends t q ps n h e = elim (cases_lt q.fall t) [
   | inl lt ↦ lt
   | inr le ↦ absurd (omega (arith, risen_most t q ps, risen_none t (q.fall + 1) ps (omega arith) h.1))
 ]
@@ -103,12 +88,12 @@ ended_at_last t low (suc n) p (q ∷ ps) h e is le =
 pub ended_all : (t low : ℕ) (ps : List Pulse) → RisesFrom low (edges_of ps)
     → ((n : ℕ) (p : Pulse) → risen_by t ps ≡ n + 1 → slice_get ps n ≡ Some p → p.fall < t) → ended_before t ps ≡ risen_by t ps
 ended_all t low [] h last = refl
-ended_all t low (q ∷ ps) h last = elim (below_or_not t q.rise) [
+ended_all t low (q ∷ ps) h last = elim (cases_lt t q.rise) [
   | inl lt ↦ omega (arith, risen_none t q.rise (q ∷ ps) lt (omega arith, h.1), ended_none t q.rise (q ∷ ps) (omega arith) (omega arith, h.1))
   | inr le ↦ (
       let r = risen_yes t q ps le in
       let rest : ended_before t ps ≡ risen_by t ps = ended_all t (q.fall + 1) ps h.1.1 (λ n p e is. last (suc n) p (omega (arith, e)) is) in
-      let ends : q.fall < t = elim (below_or_not 0 (risen_by t ps)) [
+      let ends : q.fall < t = elim (cases_lt 0 (risen_by t ps)) [
         | inl some ↦ risen_ends t q ps (risen_by t ps - 1) h.1 (omega arith)
         | inr none ↦ last 0 q (omega arith) refl
       ] in

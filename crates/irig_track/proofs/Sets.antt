@@ -1,6 +1,9 @@
 -- Rising lists as sets.
-use Rattle.std.proofs.Common.{◌≡◌, ℕ, ◌+◌, ◌≢◌, ◌==◌, Bool, true, false, cond, not, ◌&&◌, ◌||◌, List, [], ◌∷◌, ◌++◌, refl, sym, ap, ◌∙◌, subst, ◌⊎◌, inl, inr}
+use Rattle.std.proofs.Common.{◌≡◌, ℕ, ◌+◌, ◌≢◌, ◌==◌, Bool, true, false, cond, not, ◌&&◌, ◌||◌, List, [], ◌∷◌, ◌++◌, refl, sym, ap, ◌∙◌, subst, inl, inr}
 use Rattle.std.proofs.Common.{arith}
+use Rattle.std.proofs.lemmas.Bool.{cases_eq, or_parts}
+-- as irig_edit names it
+pub use Rattle.std.proofs.lemmas.Bool.{or_parts as or_false}
 use Rattle.irig_vcd.specs.declared.pulse.Pulse.{Pulse}
 use Rattle.irig_vcd.specs.Recording.{RisesFrom}
 use Rattle.irig_track.specs.Edges.{has, edges_of, is_edge, pulse}
@@ -11,13 +14,10 @@ has-append t [] ys = refl
 has-append t (x ∷ xs) ys = elim (x == t) as (λ v. cond v true (has t (xs ++ ys)) ≡ (cond v true (has t xs) || has t ys))
     [ true ↦ refl | false ↦ has-append t xs ys ]
 
-pub same_or_not : (x t : ℕ) → (x ≡ t) ⊎ (x ≢ t)
-same_or_not x t = elim (three x t) [ inl lt ↦ inr (omega arith) | inr r ↦ elim r [ inl e ↦ inl e | inr gt ↦ inr (omega arith) ] ]
-
 -- what is on the left is not on the right
 pub has_once : (low t : ℕ) (xs ys : List ℕ) → RisesFrom low (xs ++ ys) → has t xs ≡ true → has t ys ≡ false
 has_once low t [] ys h e = absurd (cc)
-has_once low t (x ∷ xs) ys h e = elim (same_or_not x t) [
+has_once low t (x ∷ xs) ys h e = elim (cases_eq x t) [
   | inl s ↦ has_none (x + 1) t ys (rises_right (x + 1) xs ys h.1) (omega arith)
   | inr n ↦ has_once (x + 1) t xs ys h.1 (sym (has_there x t xs n) ∙ e)
 ]
@@ -37,10 +37,6 @@ or_out false false true false h i = refl
 or_out false false false true h i = refl
 or_out false false false false h i = refl
 
-pub or_false : (b a : Bool) → (b || a) ≡ false → (b ≡ false) × (a ≡ false)
-or_false true a e = absurd (cc)
-or_false false a e = (refl, e)
-
 -- a splice removes the one part and inserts the other
 pub has-splice : (t : ℕ) (before gone come after : List ℕ) → RisesFrom 0 (before ++ (gone ++ after))
     → has t (before ++ (come ++ after)) ≡ ((has t (before ++ (gone ++ after)) && not (has t gone)) || has t come)
@@ -50,7 +46,7 @@ has-splice t before gone come after h =
     has-append t before (come ++ after) ∙ ap (λ v. has t before || v) (has-append t come after)
     ∙ or_out (has t before) (has t gone) (has t come) (has t after)
     (λ e. has_once 0 t gone after (rises_right 0 before (gone ++ after) h) e)
-    (λ e. (or_false _ _ (sym (has-append t gone after) ∙ has_once 0 t before (gone ++ after) h e)).0)
+    (λ e. (or_parts _ _ (sym (has-append t gone after) ∙ has_once 0 t before (gone ++ after) h e)).0)
     ∙ ap (λ v. (v && not (has t gone)) || has t come) (sym all)
 
 -- a set has one rising list
@@ -62,7 +58,7 @@ only_list low (x ∷ xs) (y ∷ ys) h i e = elim (three x y) [
   | inl lt ↦ absurd (let bad : true ≡ false = sym (has_here x x xs refl) ∙ e x ∙ has_none y x (y ∷ ys) (omega arith, i.1) lt in cc)
   | inr r ↦ elim r [
     | inl s ↦ (
-        let rest : (t : ℕ) → has t xs ≡ has t ys = λ t. elim (same_or_not x t) [
+        let rest : (t : ℕ) → has t xs ≡ has t ys = λ t. elim (cases_eq x t) [
           | inl u ↦ has_none (x + 1) t xs h.1 (omega arith) ∙ sym (has_none (y + 1) t ys i.1 (omega arith))
           | inr n ↦ sym (has_there x t xs n) ∙ e t ∙ has_there y t ys (subst (λ k. k ≢ t) s n)
         ] in

@@ -1,6 +1,7 @@
 -- Spans, and where a toggle begins and ends.
 use Rattle.std.proofs.Common.{◌≡◌, ℕ, suc, ◌+◌, ◌-◌, ◌<◌, ◌≤◌, List, [], ◌∷◌, ◌++◌, length, take, drop, refl, sym, ap, ◌∙◌, subst, arith, inl, inr}
 use Rattle.std.proofs.Common.{append_assoc, length-append}
+use Rattle.std.proofs.lemmas.Bool.{cases_lt}
 use Rattle.std.proofs.lemmas.List.{take-append-drop, length-take-le}
 use Rattle.std.proofs.Math.Seq.{take-append_seam, drop-append_seam, drop-append-add}
 use Rattle.irig_gap.specs.Items.{GapView, gap_view}
@@ -14,7 +15,7 @@ use Rattle.irig_track.proofs.Laws.{parts}
 use Rattle.irig_track.proofs.Turns.{RiseUpTo-append}
 use Rattle.irig_track.proofs.Below.{same_below-ended}
 use Rattle.irig_track.proofs.Carried.{length-piece}
-use Rattle.irig_track.proofs.Searches.{below_or_not, risen_yes, risen_none, risen_by-le, ended_yes, ended_no, ended_none}
+use Rattle.irig_track.proofs.Searches.{risen_yes, risen_none, risen_by-le, ended_yes, ended_no, ended_none}
 
 span_parts : (xs gone made ys : List Pulse) → IsSpan (length xs) (length gone) (length made) (xs ++ (gone ++ ys)) (xs ++ (made ++ ys))
 span_parts xs gone made ys = record {
@@ -57,21 +58,21 @@ ended_zero t low p ps h le = omega (arith, ended_no t p ps le, ended_none t (p.f
 
 pub under_ended : (a low : ℕ) (ps : List Pulse) → RisesFrom low (edges_of ps) → Under a (edges_of (take (ended_before a ps) ps))
 under_ended a low [] h = tt
-under_ended a low (p ∷ ps) h = elim (below_or_not p.fall a) [
+under_ended a low (p ∷ ps) h = elim (cases_lt p.fall a) [
   | inl lt ↦ subst (λ k. Under a (edges_of (take k (p ∷ ps)))) (sym (ended_suc a p ps lt)) (omega (arith, h.1.0), (lt, under_ended a (p.fall + 1) ps h.1.1))
   | inr le ↦ subst (λ k. Under a (edges_of (take k (p ∷ ps)))) (sym (ended_zero a low p ps h le)) tt
 ]
 
 pub reaches_ended : (a low : ℕ) (ps : List Pulse) → RisesFrom low (edges_of ps) → ReachesFrom a (drop (ended_before a ps) ps)
 reaches_ended a low [] h = tt
-reaches_ended a low (p ∷ ps) h = elim (below_or_not p.fall a) [
+reaches_ended a low (p ∷ ps) h = elim (cases_lt p.fall a) [
   | inl lt ↦ subst (λ k. ReachesFrom a (drop k (p ∷ ps))) (sym (ended_suc a p ps lt)) (reaches_ended a (p.fall + 1) ps h.1.1)
   | inr le ↦ subst (λ k. ReachesFrom a (drop k (p ∷ ps))) (sym (ended_zero a low p ps h le)) le
 ]
 
 pub ended_before-le-risen_by : (a b low : ℕ) (ps : List Pulse) → a ≤ b → RisesFrom low (edges_of ps) → ended_before a ps ≤ risen_by b ps
 ended_before-le-risen_by a b low [] le h = omega arith
-ended_before-le-risen_by a b low (p ∷ ps) le h = elim (below_or_not p.fall a) [
+ended_before-le-risen_by a b low (p ∷ ps) le h = elim (cases_lt p.fall a) [
   | inl lt ↦ omega (arith, ended_suc a p ps lt, risen_yes b p ps (omega (arith, h.1.0)), ended_before-le-risen_by a b (p.fall + 1) ps le h.1.1)
   | inr ge ↦ omega (arith, ended_zero a low p ps h ge)
 ]

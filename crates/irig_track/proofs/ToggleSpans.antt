@@ -1,7 +1,8 @@
 -- Where a toggle takes place, by the lists of pulses alone.
 use Rattle.std.proofs.Common.{◌≡◌, ℕ, suc, ◌+◌, ◌-◌, ◌<◌, ◌≤◌, nat_le, Bool, true, false, not, cond, List, [], ◌∷◌, take, drop, refl, sym, ap, ◌∙◌, arith, inl}
 use Rattle.std.proofs.Common.{inr}
-use Rattle.std.proofs.lemmas.Bool.Decides.{nat_tests}
+use Rattle.std.proofs.lemmas.Bool.{cases_lt, le-leb, lt-leb}
+use Rattle.std.proofs.Math.Bool.{not-not}
 use Rattle.irig_vcd.specs.Recording.{RisesFrom}
 use Rattle.irig_vcd.specs.declared.pulse.Pulse.{Pulse}
 use Rattle.irig_track.specs.Edges.{edges_of, pulse}
@@ -9,7 +10,7 @@ use Rattle.irig_track.specs.Splices.{IsSpan, ended_before, risen_by}
 use Rattle.irig_track.specs.Toggles.{flipped, toggled}
 use Rattle.irig_track.proofs.Below.{same_below-ended}
 use Rattle.irig_track.proofs.RisingLists.{three, flip_low, flip_same, flip_high}
-use Rattle.irig_track.proofs.Searches.{below_or_not, ended_no, ended_none, ended_yes, risen_by-le, risen_none, risen_yes}
+use Rattle.irig_track.proofs.Searches.{ended_no, ended_none, ended_yes, risen_by-le, risen_none, risen_yes}
 use Rattle.irig_track.proofs.Sets.{edges_of-inj}
 use Rattle.irig_track.proofs.Spans.{ended_before-le-risen_by}
 
@@ -18,23 +19,13 @@ abbrev later : Bool → ℕ → List ℕ → List ℕ
 later inside b [] = []
 later inside b (x ∷ xs) = cond (nat_le x b) (later (not inside) b xs) (cond inside xs (x ∷ xs))
 
-le_true : (a b : ℕ) → a ≤ b → nat_le a b ≡ true
-le_true a b h = grind (arith, nat_tests)
-
-le_false : (a b : ℕ) → b < a → nat_le a b ≡ false
-le_false a b h = grind (arith, nat_tests)
-
-not-not : (v : Bool) → not (not v) ≡ v
-not-not true = refl
-not-not false = refl
-
 later_early : (inside : Bool) (b x : ℕ) (xs : List ℕ) → x ≤ b → later inside b (x ∷ xs) ≡ later (not inside) b xs
 later_early inside b x xs h =
-    ap (λ (v : Bool). cond v (later (not inside) b xs) (cond inside xs (x ∷ xs))) (le_true x b h)
+    ap (λ (v : Bool). cond v (later (not inside) b xs) (cond inside xs (x ∷ xs))) (le-leb x b h)
 
 later_late : (inside : Bool) (b x : ℕ) (xs : List ℕ) → b < x → later inside b (x ∷ xs) ≡ cond inside xs (x ∷ xs)
 later_late inside b x xs h =
-    ap (λ (v : Bool). cond v (later (not inside) b xs) (cond inside xs (x ∷ xs))) (le_false x b h)
+    ap (λ (v : Bool). cond v (later (not inside) b xs) (cond inside xs (x ∷ xs))) (lt-leb x b h)
 
 -- a time flipped by b turns inside and outside
 later-flipped : (inside : Bool) (t b : ℕ) (xs : List ℕ) → t ≤ b → later inside b (flipped t xs) ≡ later (not inside) b xs
@@ -56,13 +47,13 @@ risen_suc b p ps h = omega (arith, risen_yes b p ps h)
 -- the pulses that rise after b have these edges
 drop-risen : (b low : ℕ) (ps : List Pulse) → RisesFrom low (edges_of ps) → edges_of (drop (risen_by b ps) ps) ≡ later false b (edges_of ps)
 drop-risen b low [] rises = refl
-drop-risen b low (p ∷ ps) rises = elim (below_or_not b p.rise) [
+drop-risen b low (p ∷ ps) rises = elim (cases_lt b p.rise) [
   | inl lt ↦
       let none : risen_by b (p ∷ ps) ≡ 0 = risen_none b p.rise (p ∷ ps) lt (omega arith, rises.1) in
       ap (λ n. edges_of (drop n (p ∷ ps))) none ∙ sym (later_late false b p.rise (p.fall ∷ edges_of ps) lt)
   | inr up ↦
       ap (λ n. edges_of (drop n (p ∷ ps))) (risen_suc b p ps up)
-      ∙ (elim (below_or_not b p.fall) [
+      ∙ (elim (cases_lt b p.fall) [
         | inl lt ↦
             ap (λ n. edges_of (drop n ps)) (risen_none b (p.fall + 1) ps (omega (arith, lt)) rises.1.1)
             ∙ sym (later_early false b p.rise (p.fall ∷ edges_of ps) up ∙ later_late true b p.fall (edges_of ps) lt)
@@ -99,7 +90,7 @@ take_none (p ∷ ps) = refl
 pub same_earlier : (a b low : ℕ) (old new : List Pulse) → a < b → RisesFrom low (edges_of old)
     → edges_of new ≡ toggled a b (edges_of old) → take (ended_before a old) new ≡ take (ended_before a old) old
 same_earlier a b low [] new lt rises made = take_none new
-same_earlier a b low (p ∷ ps) new lt rises made = elim (below_or_not p.fall a) [
+same_earlier a b low (p ∷ ps) new lt rises made = elim (cases_lt p.fall a) [
   | inl below ↦
       let count : ended_before a (p ∷ ps) ≡ suc (ended_before a ps) = omega (arith, ended_yes a p ps below) in
       ap (λ n. take n new) count

@@ -1,19 +1,11 @@
-use Rattle.std.proofs.Common.{arith, ◌≡◌, ◌+◌, ◌<◌, ◌≤◌, ◌∙◌, ℕ, ap, length, nat_lt, true, w64, drop, refl}
-use Rattle.std.proofs.lemmas.Bool.Decides.{nat_tests}
+use Rattle.std.proofs.Common.{arith, ◌≡◌, ◌+◌, ◌<◌, ◌≤◌, ◌∙◌, ap, length, w64, drop, refl}
+use Rattle.std.proofs.lemmas.Bool.{leb-true, lt-ltb, ltb-true}
 use Rattle.std.proofs.lemmas.Int.{to_z-of_z}
-use lib.Dec.{leb}
 use Rattle.irig_track.specs.Edges.{edges_of}
 use Rattle.irig_track.specs.Free.{first_or}
 use Rattle.irig_track.specs.Shifts.{ahead, back}
 use Rattle.irig_track.proofs.Allowed.{shift_stands, stands_shift}
-use Rattle.irig_track.proofs.RisingLists.{test_lt}
 use Rattle.irig_track.proofs.track.Track.can_shift.Goals as goal
-
-below : (x y : ℕ) → nat_lt x y ≡ true → x < y
-below x y h = grind (arith, nat_tests)
-
-not_up_to : (x y : ℕ) → y < x → leb x y ≡ true → ⊥
-not_up_to x y lt h = grind (arith, nat_tests)
 
 pub returns-then-free_from-back : goal.returns-then-free_from-back
 returns-then-free_from-back c =
@@ -22,14 +14,14 @@ returns-then-free_from-back c =
     let off : c.back_of-back.result ≡ back c.args.by = c.back_of-back.ensures.distance ∙ ap back (to_z-of_z w64 c.args.by c.ranges.by) in
     let ps = c.args.self.now.pulses in let micros = c.args.self.now.micros in
     let order : c.args.i ≤ c.args.j = omega arith in let there : c.args.j < length ps = omega arith in (
-      λ e. let late = below _ _ e in
+      λ e. let late = ltb-true _ _ e in
           stands_shift c.args.i c.args.j c.pulse.result c.pulse-2.result ps order c.pulse.ensures.value c.pulse-2.ensures.value micros c.free_from.result
           c.free_to.result c.args.by there c.len.ensures.track
           c.free_from.ensures.time c.free_to.ensures.time (omega arith) (omega arith),
       λ can. let both = shift_stands c.args.i c.args.j c.pulse.result c.pulse-2.result ps order c.pulse.ensures.value c.pulse-2.ensures.value micros
           c.free_from.result c.free_to.result c.args.by there c.len.ensures.track
           c.free_from.ensures.time c.free_to.ensures.time can in
-          test_lt _ _ (omega arith),
+          lt-ltb _ _ (omega arith),
     )
 
 pub returns-else-free_from-back : goal.returns-else-free_from-back
@@ -39,7 +31,7 @@ returns-else-free_from-back c =
     let off : c.back_of-back.result ≡ back c.args.by = c.back_of-back.ensures.distance ∙ ap back (to_z-of_z w64 c.args.by c.ranges.by) in
     let ps = c.args.self.now.pulses in let micros = c.args.self.now.micros in
     let order : c.args.i ≤ c.args.j = omega arith in let there : c.args.j < length ps = omega arith in (
-      λ e. absurd (not_up_to _ _ c.if-free_from-back.false e),
+      λ e. absurd (omega (arith, leb-true _ _ e)),
       λ can. let both = shift_stands c.args.i c.args.j c.pulse.result c.pulse-2.result ps order c.pulse.ensures.value c.pulse-2.ensures.value micros
           c.free_from.result
           (first_or (micros + 1) (edges_of (drop (c.args.j + 1) ps))) c.args.by there c.len.ensures.track c.free_from.ensures.time refl can in
