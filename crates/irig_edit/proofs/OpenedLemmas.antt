@@ -1,10 +1,8 @@
 -- A session that is opened from a dump with its journal.
-pub mod Names
 pub mod Walks
 pub mod TakenSteps
 pub mod TakenGroups
 pub mod Heads
 pub mod Parts
 pub mod OpenedMachines
-pub mod Numbers
 pub mod GoingOn

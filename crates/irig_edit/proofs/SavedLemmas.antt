@@ -1,4 +1,5 @@
 -- The text that a session is saved as.
+pub mod Numbers
 pub mod Rests
 pub mod SavedSteps
 pub mod SavedSections

@@ -1,6 +1,5 @@
 -- A session that is opened from a dump with its journal.
 pub mod Opened
-pub mod Names
 pub mod Openings
 pub mod Parts
 pub mod Stops

@@ -13,7 +13,7 @@ use Rattle.irig_saved.specs.Reading.{Lacks}
 use Rattle.irig_vcd.specs.declared.pulse.Pulse.{Pulse}
 use Rattle.irig_codes.specs.declared.format.Kind.{Kind}
 use Rattle.irig_saved.specs.declared.single.Single.{Single}
-use Rattle.irig_saved.specs.declared.single.Single.TheVariants.{Splice, Toggle, Shift, SetFormat, SetMark}
+use Rattle.irig_saved.specs.declared.single.Single.TheVariants.{Splice}
 use Rattle.irig_saved.specs.declared.change.Change.{Change}
 use Rattle.irig_saved.specs.declared.change.Change.TheVariants.{One, Group}
 use Rattle.irig_saved.specs.declared.step.Step.{Step}
@@ -100,10 +100,7 @@ pulses_clean a (p ∷ ps) h = (pulse_lacks a p h.0, pulses_clean a ps h.1)
 
 put_are_pulses : (x : Single) → IsSingle x → AllByRecursion IsPulse (put_of x)
 put_are_pulses (Splice at count put) h = h.3
-put_are_pulses (Toggle a b) h = tt
-put_are_pulses (Shift i j by marks) h = tt
-put_are_pulses (SetFormat kind expression) h = tt
-put_are_pulses (SetMark letter time) h = tt
+put_are_pulses _ h = tt
 
 pub single_clean : {b : ℕ} → IsAside b → (x : Single) → IsSingle x → AllLack b (single_lines x)
 single_clean a x h = (first_lacks a x h, pulses_clean a (put_of x) (put_are_pulses x h))

@@ -2,9 +2,10 @@
 use Rattle.std.proofs.Common.{◌≡◌, ◌<◌, ◌≤◌, ◌^◌, ◌++◌, ◌∷◌, [], List, length, codes, arith, length-append}
 use Rattle.std.specs.List.{AllByRecursion}
 use Rattle.irig_saved.specs.SavedText.{single_lines, singles_lines, change_lines, step_lines, steps_lines, mark_lines, counted_lines, saved_lines, journal_text}
-use Rattle.irig_saved.specs.Ranges.{IsNumber, IsTime, IsPulse, IsSingle, IsChange, IsStep, AreSteps, IsSaved}
+use Rattle.irig_saved.specs.Numbers.{NumbersOfChange, NumbersOfSingle, NumbersOfStep}
+use Rattle.irig_saved.specs.Ranges.{IsNumber, IsTime, IsSingle, IsChange, IsStep, AreSteps, IsSaved}
 use Rattle.irig_saved.specs.declared.single.Single.{Single}
-use Rattle.irig_saved.specs.declared.single.Single.TheVariants.{Splice, Toggle, Shift, SetFormat, SetMark}
+use Rattle.irig_saved.specs.declared.single.Single.TheVariants.{Splice}
 use Rattle.irig_saved.specs.declared.change.Change.{Change}
 use Rattle.irig_saved.specs.declared.change.Change.TheVariants.{One, Group}
 use Rattle.irig_saved.specs.declared.step.Step.{Step}
@@ -12,30 +13,11 @@ use Rattle.irig_saved.specs.declared.saved.Saved.{Saved}
 use Rattle.irig_saved.proofs.Texts.{length-pulse_lines}
 use Rattle.irig_saved.proofs.FaultLines.{lines_fit}
 
--- what a journal may hold, but for how many pulses a splice inserts
-abbrev pub NumbersOfSingle : Single → Type 0
-NumbersOfSingle (Splice at count put) = IsNumber at × IsNumber count × AllByRecursion IsPulse put
-NumbersOfSingle (Toggle a b) = IsSingle (Toggle a b)
-NumbersOfSingle (Shift i j by marks) = IsSingle (Shift i j by marks)
-NumbersOfSingle (SetFormat kind expression) = IsSingle (SetFormat kind expression)
-NumbersOfSingle (SetMark letter time) = IsSingle (SetMark letter time)
-
--- and for how many changes are in a group
-abbrev pub NumbersOfChange : Change → Type 0
-NumbersOfChange (One x) = NumbersOfSingle x
-NumbersOfChange (Group xs) = AllByRecursion NumbersOfSingle xs
-
-abbrev pub NumbersOfStep : Step → Type 0
-NumbersOfStep t = IsNumber t.cursor × NumbersOfChange t.change
-
 -- changes
 
 pub single_of_numbers : (x : Single) → IsNumber (length (single_lines x)) → NumbersOfSingle x → IsSingle x
 single_of_numbers (Splice at count put) few h = (h.0, h.1, omega (arith, few, length-pulse_lines put), h.2)
-single_of_numbers (Toggle a b) few h = h
-single_of_numbers (Shift i j by marks) few h = h
-single_of_numbers (SetFormat kind expression) few h = h
-single_of_numbers (SetMark letter time) few h = h
+single_of_numbers _ few h = h
 
 singles_fit : (xs : List Single) → length xs ≤ length (singles_lines xs)
 singles_fit [] = omega arith

@@ -2,6 +2,7 @@ pub mod Lines
 pub mod ChangeWords
 pub mod SavedText
 pub mod Ranges
+pub mod Numbers
 pub mod Reading
 pub mod Values
 pub mod Leading

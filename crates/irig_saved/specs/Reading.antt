@@ -6,8 +6,7 @@ use Rattle.std.specs.Borrow.{Bor}
 use Rattle.irig_saved.specs.Lines.{text_of}
 use Rattle.irig_saved.specs.Ranges.{IsSingle}
 use Rattle.irig_saved.specs.declared.single.Single.{Single}
-use Rattle.irig_saved.specs.declared.single.Single.TheVariants.{Splice, Toggle, Shift, SetFormat}
-use Rattle.irig_saved.specs.declared.single.Single.TheVariants.{SetMark}
+use Rattle.irig_saved.specs.declared.single.Single.TheVariants.{Splice}
 use Rattle.irig_saved.specs.declared.stop.Stop.{Stop}
 use Rattle.irig_saved.specs.declared.stop.Stop.TheVariants.{At, Memory}
 
@@ -40,10 +39,7 @@ Decodes {X} Is write bytes r =
 -- a change of one line
 abbrev pub IsShort : Single → Type 0
 IsShort (Splice at count put) = ⊥
-IsShort (Toggle a b) = IsSingle (Toggle a b)
-IsShort (Shift i j by marks) = IsSingle (Shift i j by marks)
-IsShort (SetFormat kind expression) = IsSingle (SetFormat kind expression)
-IsShort (SetMark letter time) = IsSingle (SetMark letter time)
+IsShort single = IsSingle single
 
 -- the text begins with the lines of a part
 pub record Reads {X : Type 0} (Is : X → Type 0) (lines : X → List (List ℕ))

@@ -6,8 +6,7 @@ use Rattle.irig_saved.specs.ChangeWords.{single_line}
 use Rattle.irig_codes.specs.Words.{kind_word}
 use Rattle.irig_vcd.specs.declared.pulse.Pulse.{Pulse}
 use Rattle.irig_saved.specs.declared.single.Single.{Single}
-use Rattle.irig_saved.specs.declared.single.Single.TheVariants.{Splice, Toggle, Shift, SetFormat}
-use Rattle.irig_saved.specs.declared.single.Single.TheVariants.{SetMark}
+use Rattle.irig_saved.specs.declared.single.Single.TheVariants.{Splice}
 use Rattle.irig_saved.specs.declared.change.Change.{Change}
 use Rattle.irig_saved.specs.declared.change.Change.TheVariants.{One, Group}
 use Rattle.irig_saved.specs.declared.step.Step.{Step}
@@ -24,10 +23,7 @@ pulse_lines ps = map pulse_line ps
 -- the pulses that it inserts
 abbrev pub put_of : Single → List Pulse
 put_of (Splice at count put) = put
-put_of (Toggle a b) = []
-put_of (Shift i j by marks) = []
-put_of (SetFormat kind expression) = []
-put_of (SetMark letter time) = []
+put_of single = []
 
 -- the first line of a change, and those of its pulses
 abbrev pub single_lines : Single → List (List ℕ)

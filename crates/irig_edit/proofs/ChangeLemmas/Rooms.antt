@@ -1,5 +1,5 @@
 -- The room of changes: what an edit asks for is enough, and a turn leaves room for its way back.
-use Rattle.std.proofs.Common.{◌≡◌, ◌≤◌, ◌+◌, ◌-◌, ℕ, List, Result, Ok, Err, OnOk, length, take, drop, refl, ap, sym, subst, ◌∙◌, arith}
+use Rattle.std.proofs.Common.{suc, ◌≡◌, ◌≤◌, ◌+◌, ◌-◌, ℕ, List, Result, Ok, Err, OnOk, length, take, drop, refl, ap, sym, subst, ◌∙◌, arith}
 use Rattle.irig_index.specs.Frames.{frames}
 use Rattle.irig_index.specs.Index.{WereFrames}
 use Rattle.irig_index.proofs.FewFrames.{frames_few, frames_few_after, frames_moved}
@@ -18,8 +18,10 @@ use Rattle.irig_edit.specs.Changes.Laws.State.{IsState-turned_single}
 use Rattle.irig_edit.specs.State.Places.{HoldsState, IsWithin, KeepsPlaces, Places, places_in}
 use Rattle.irig_edit.specs.State.Present.{PresentView}
 use Rattle.irig_edit.specs.Changes.Room.{HasRoomFor, TakesIn, passing}
-use Rattle.irig_edit.specs.Changes.Single.{FitsSingle, SingleDelta, turned_single}
-use Rattle.irig_edit.specs.Changes.Single.SingleDelta.{Spliced, Toggled, Shifted, Formatted, Marked}
+use Rattle.irig_saved.specs.declared.single.Single as saved
+use Rattle.irig_edit.specs.Changes.Single.{FitsSingle, turned_single}
+use Rattle.irig_saved.specs.declared.single.Single.TheVariants.{Splice, Toggle, Shift, SetFormat}
+use Rattle.irig_saved.specs.declared.single.Single.TheVariants.{SetMark}
 use Rattle.irig_edit.specs.State.State.{State, IsState, frames_of}
 use Rattle.irig_edit.specs.declared.changes.single.Single.{Single}
 use Rattle.irig_edit.proofs.EditLemmas.ShiftedStates.{length-shifted}
@@ -44,13 +46,13 @@ parted_few s at count put =
     omega (arith, frames_few s.format a x put b, ap (λ qs. length (frames s.format qs)) (parts s.pulses at count))
 
 -- a turn brings no more records than it may
-pub frames_after : (s : State) (d : SingleDelta) → IsState s → FitsSingle s d
+pub frames_after : (s : State) (d : saved.Single) → IsState s → FitsSingle s d
     → length (frames_of (turned_single s d).0) ≤ length (frames_of s) + records_for s d
-frames_after s (Spliced at count put) is can = omega (arith, parted_few s at count put)
-frames_after s (Toggled a b) is can =
-    let new = (turned_single s (Toggled a b)).0.pulses in
+frames_after s (Splice (suc at) count put) is can = omega (arith, parted_few s at count put)
+frames_after s (Toggle a b) is can =
+    let new = (turned_single s (Toggle a b)).0.pulses in
     let edges = edges_of-toggled s.micros a b s.pulses can in
-    let after = (IsState-turned_single s (Toggled a b) is can).track in
+    let after = (IsState-turned_single s (Toggle a b) is can).track in
     let at = ended_before a s.pulses in
     let gone = risen_by b s.pulses - at in
     let come = risen_by b new - at in
@@ -63,19 +65,18 @@ frames_after s (Toggled a b) is can =
       risen_few a 0 s.pulses is.track.rises,
       span.came,
     )
-frames_after s (Shifted i j d named) is can =
+frames_after s (Shift (suc i) (suc j) d named) is can =
     let part = piece i (count_to i j) s.pulses in
     omega (arith, parted_few s i (count_to i j) (moved d part), frames_moved s.format d part can.0.from_zero)
-frames_after s (Formatted f) is can = omega arith
-frames_after s (Marked letter time) is can = omega arith
+frames_after s (SetFormat kind expression) is can = omega arith
+frames_after s (SetMark letter time) is can = omega arith
+frames_after s _ is can = absurd can
 
 -- places for what a change inserts are among more
-pub puts_wider : (p q : Places) (s : State) (d : SingleDelta) → p.pulses ≤ q.pulses → PutsIn p s d → PutsIn q s d
-puts_wider p q s (Spliced at count put) more puts = omega (arith, more, puts)
-puts_wider p q s (Toggled a b) more puts = omega (arith, more, puts)
-puts_wider p q s (Shifted i j d named) more puts = tt
-puts_wider p q s (Formatted f) more puts = tt
-puts_wider p q s (Marked letter time) more puts = tt
+pub puts_wider : (p q : Places) (s : State) (d : saved.Single) → p.pulses ≤ q.pulses → PutsIn p s d → PutsIn q s d
+puts_wider p q s (Splice at count put) more puts = omega (arith, more, puts)
+puts_wider p q s (Toggle a b) more puts = omega (arith, more, puts)
+puts_wider p q s _ more puts = tt
 
 -- what a single change asks for is enough
 pub ample_enough : (p : Places) (s : State) (x : Single) → IsState s → FitsSingle s (single_of x) → length s.pulses ≤ p.pulses
@@ -88,34 +89,36 @@ ample_enough p s x is can held ample =
       before = record { pulses = both.0; records = omega (arith, ample.records) };
       after = record { pulses = both.1; records = omega (arith, ample.records, few) };
     } where
-      by_kind : (d : SingleDelta) → FitsSingle s d → PutsIn p s d
+      by_kind : (d : saved.Single) → FitsSingle s d → PutsIn p s d
           → (length s.pulses + passing d ≤ p.pulses) × (length (turned_single s d).0.pulses + passing d ≤ p.pulses)
-      by_kind (Spliced at count put) can puts =
+      by_kind (Splice (suc at) count put) can puts =
           (omega (arith, held), omega (arith, puts, length-spliced s.pulses put at count can.there))
-      by_kind (Toggled a b) can puts = (omega (arith, puts), omega (arith, puts, length-toggled s a b can))
-      by_kind (Shifted i j d named) can puts =
+      by_kind (Toggle a b) can puts = (omega (arith, puts), omega (arith, puts, length-toggled s a b can))
+      by_kind (Shift (suc i) (suc j) d named) can puts =
           (omega (arith, held), omega (arith, held, length-shifted i j d s.pulses can.0.order can.0.there))
-      by_kind (Formatted f) can puts = (omega (arith, held), omega (arith, held))
-      by_kind (Marked letter time) can puts = (omega (arith, held), omega (arith, held))
+      by_kind (SetFormat kind expression) can puts = (omega (arith, held), omega (arith, held))
+      by_kind (SetMark letter time) can puts = (omega (arith, held), omega (arith, held))
+      by_kind _ can puts = absurd can
 
 -- places that are kept are within each other
 pub kept_within : (p q : PresentView) → KeepsPlaces p q → IsWithin (places_in p) (places_in q)
 kept_within p q keeps = record { pulses = omega (arith, keeps.pulses); records = omega (arith, keeps.records) }
 
 -- the way back passes as many pulses
-passing-turned : (s : State) (d : SingleDelta) → passing (turned_single s d).1 ≡ passing d
-passing-turned s (Spliced at count put) = refl
-passing-turned s (Toggled a b) = refl
-passing-turned s (Shifted i j d named) = refl
-passing-turned s (Formatted f) = refl
-passing-turned s (Marked letter time) = refl
+passing-turned : (s : State) (d : saved.Single) → passing (turned_single s d).1 ≡ passing d
+passing-turned s (Toggle a b) = refl
+passing-turned s (Splice (suc at) count put) = refl
+passing-turned s (Shift (suc i) (suc j) d named) = refl
+passing-turned s (SetFormat kind expression) = refl
+passing-turned s (SetMark letter time) = refl
+passing-turned s _ = refl
 
 -- the way back leads to the state before
-pub back_there : (s t : State) (d e : SingleDelta) → IsState s → FitsSingle s d → (t, e) ≡ turned_single s d
+pub back_there : (s t : State) (d e : saved.Single) → IsState s → FitsSingle s d → (t, e) ≡ turned_single s d
     → (turned_single t e).0 ≡ s
 back_there s t d e is can turn =
-    ap (λ (p : State × SingleDelta). (turned_single p.0 p.1).0) turn
-    ∙ ap (λ (p : State × SingleDelta). p.0) (turned_single-turned s d is can)
+    ap (λ (p : State × saved.Single). (turned_single p.0 p.1).0) turn
+    ∙ ap (λ (p : State × saved.Single). p.0) (turned_single-turned s d is can)
 
 -- a turn that keeps the places leaves its way back with room
 pub room_back : (p q : PresentView) (x y : Single) → IsState p.state → FitsSingle p.state (single_of x)
@@ -123,10 +126,10 @@ pub room_back : (p q : PresentView) (x y : Single) → IsState p.state → FitsS
     → KeepsPlaces p q → TakesIn y → HasRoomFor (places_in q) q.state y
 room_back p q x y is can room turn keeps takes =
     let within = kept_within p q keeps in
-    let there : (turned_single p.state (single_of x)).0 ≡ q.state = ap (λ (r : State × SingleDelta). r.0) (sym turn) in
+    let there : (turned_single p.state (single_of x)).0 ≡ q.state = ap (λ (r : State × saved.Single). r.0) (sym turn) in
     let first : p.state ≡ (turned_single q.state (single_of y)).0 = sym (back_there p.state q.state (single_of x) (single_of y) is can turn) in
     let as_many : passing (single_of x) ≡ passing (single_of y) =
-    sym (ap (λ (r : State × SingleDelta). passing r.1) turn ∙ passing-turned p.state (single_of x)) in
+    sym (ap (λ (r : State × saved.Single). passing r.1) turn ∙ passing-turned p.state (single_of x)) in
     let n = passing (single_of x) in
     let before = holds_wider (places_in p) (places_in q) n (turned_single p.state (single_of x)).0 within room.after in
     let after = holds_wider (places_in p) (places_in q) n p.state within room.before in

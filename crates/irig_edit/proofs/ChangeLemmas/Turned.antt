@@ -1,34 +1,34 @@
 -- What a turn leaves is what the change says.
-use Rattle.std.proofs.Common.{◌≡◌, ℕ, ℤ, Bool, List, Option, ap, sym, subst, ◌∙◌}
+use Rattle.std.proofs.Common.{suc, ◌≡◌, ℕ, ℤ, Bool, List, Option, ap, sym, subst, ◌∙◌}
 use Rattle.irig_vcd.specs.declared.pulse.Pulse.{Pulse}
 use Rattle.irig_track.specs.Edges.{edges_of}
 use Rattle.irig_track.specs.Shifts.{shifted}
 use Rattle.irig_track.specs.Toggles.{toggled}
 use Rattle.irig_edit.specs.Changes.Single.{FitsSingle, turned_single, pulses_of}
 use Rattle.irig_edit.specs.State.Marks.{marks_moved}
-use Rattle.irig_edit.specs.Changes.Single.SingleDelta.{Toggled, Shifted}
+use Rattle.irig_saved.specs.declared.single.Single.TheVariants.{Toggle, Shift}
 use Rattle.irig_edit.specs.Changes.Laws.State.{IsState-turned_single}
 use Rattle.irig_edit.specs.Changes.Laws.Edges.{pulses_of-edges_of}
 use Rattle.irig_edit.specs.State.State.{State, IsState, state}
 
 -- a toggle of the track
-pub toggle_turned : (s t : State) (a b micros : ℕ) (ps : List Pulse) → s ≡ t → IsState s → FitsSingle t (Toggled a b)
+pub toggle_turned : (s t : State) (a b micros : ℕ) (ps : List Pulse) → s ≡ t → IsState s → FitsSingle t (Toggle a b)
     → micros ≡ s.micros → edges_of ps ≡ toggled a b (edges_of s.pulses)
-    → IsState (state micros ps s.format s.marks) × (state micros ps s.format s.marks ≡ (turned_single t (Toggled a b)).0)
+    → IsState (state micros ps s.format s.marks) × (state micros ps s.format s.marks ≡ (turned_single t (Toggle a b)).0)
 toggle_turned s t a b micros ps view is fits long edges =
-    let there : FitsSingle s (Toggled a b) = subst (λ (x : State). FitsSingle x (Toggled a b)) (sym view) fits in
+    let there : FitsSingle s (Toggle a b) = subst (λ (x : State). FitsSingle x (Toggle a b)) (sym view) fits in
     let pulses : ps ≡ pulses_of (toggled a b (edges_of s.pulses)) = sym (pulses_of-edges_of ps) ∙ ap pulses_of edges in
-    let made : state micros ps s.format s.marks ≡ (turned_single s (Toggled a b)).0 = (λ k. state (long k) (pulses k) s.format s.marks) in (
-      subst (λ (x : State). IsState x) (sym made) (IsState-turned_single s (Toggled a b) is there),
+    let made : state micros ps s.format s.marks ≡ (turned_single s (Toggle a b)).0 = (λ k. state (long k) (pulses k) s.format s.marks) in (
+      subst (λ (x : State). IsState x) (sym made) (IsState-turned_single s (Toggle a b) is there),
       made
-          ∙ ap (λ (x : State). (turned_single x (Toggled a b)).0) view,
+          ∙ ap (λ (x : State). (turned_single x (Toggle a b)).0) view,
     )
 
 -- a shift of track and marks
 pub shift_turned : (s t : State) (i j : ℕ) (by : ℤ) (letters : List Bool) (micros : ℕ) (ps : List Pulse) (marks : List (Option ℕ))
-    → s ≡ t → IsState s → FitsSingle t (Shifted i j by letters)
+    → s ≡ t → IsState s → FitsSingle t (Shift (suc i) (suc j) by letters)
     → micros ≡ s.micros → ps ≡ shifted i j by s.pulses → marks ≡ marks_moved by letters s.marks → IsState (state micros ps s.format marks)
 shift_turned s t i j by letters micros ps marks view is fits long pulses moves =
-    let there : FitsSingle s (Shifted i j by letters) = subst (λ (x : State). FitsSingle x (Shifted i j by letters)) (sym view) fits in
-    let made : state micros ps s.format marks ≡ (turned_single s (Shifted i j by letters)).0 = (λ k. state (long k) (pulses k) s.format (moves k)) in
-    subst (λ (x : State). IsState x) (sym made) (IsState-turned_single s (Shifted i j by letters) is there)
+    let there : FitsSingle s (Shift (suc i) (suc j) by letters) = subst (λ (x : State). FitsSingle x (Shift (suc i) (suc j) by letters)) (sym view) fits in
+    let made : state micros ps s.format marks ≡ (turned_single s (Shift (suc i) (suc j) by letters)).0 = (λ k. state (long k) (pulses k) s.format (moves k)) in
+    subst (λ (x : State). IsState x) (sym made) (IsState-turned_single s (Shift (suc i) (suc j) by letters) is there)

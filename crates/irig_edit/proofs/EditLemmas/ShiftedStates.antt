@@ -17,7 +17,7 @@ use Rattle.irig_edit.specs.Session.Calls.Edit.{Shift}
 use Rattle.irig_edit.specs.Edits.Becoming.{Becomes}
 use Rattle.irig_edit.specs.Changes.Single.{turned_single}
 use Rattle.irig_edit.specs.State.Marks.{AllMayMove, marks_moved, stands}
-use Rattle.irig_edit.specs.Changes.Single.SingleDelta.{Shifted}
+use Rattle.irig_saved.specs.declared.single.Single.TheVariants.{Shift as Shifted}
 use Rattle.irig_edit.proofs.StateLemmas.MovedMarks.{may_between, moved_between}
 use Rattle.irig_edit.proofs.EditLemmas.Shifts.{pulse_there}
 
@@ -97,7 +97,7 @@ marks_may i j d s lawful first order last can =
 
 -- the state after a shift of pulses, and of the marks that are on them, is that after the call
 pub shifted_becomes : (i j : ℕ) (d : ℤ) (s : State) → IsState s → 1 ≤ i → i ≤ j → j ≤ length s.pulses → CanShift s.micros (i - 1) (j - 1) d s.pulses
-    → Becomes (Shift i j d) s (turned_single s (Shifted (i - 1) (j - 1) d (map (stands (pulse_of i s).rise (pulse_of j s).fall) s.marks))).0 j
+    → Becomes (Shift i j d) s (turned_single s (Shifted (suc (i - 1)) (suc (j - 1)) d (map (stands (pulse_of i s).rise (pulse_of j s).fall) s.marks))).0 j
 shifted_becomes i j d s lawful first order last can =
     record {
       after = shifted_after i j d s (shifted (i - 1) (j - 1) d s.pulses) (marks_moved d (map (stands (pulse_of i s).rise (pulse_of j s).fall) s.marks) s.marks)

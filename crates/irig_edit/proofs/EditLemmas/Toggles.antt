@@ -10,7 +10,7 @@ use Rattle.irig_track.proofs.Recordings.{can_toggle_room, can_toggle_first, can_
 use Rattle.irig_edit.specs.Edits.Becoming.{Becomes}
 use Rattle.irig_edit.specs.Session.Calls.Edit.{Invert}
 use Rattle.irig_edit.specs.Changes.Single.{turned_single}
-use Rattle.irig_edit.specs.Changes.Single.SingleDelta.{Toggled}
+use Rattle.irig_saved.specs.declared.single.Single.TheVariants.{Toggle}
 use Rattle.irig_edit.specs.Changes.Laws.State.{IsState-turned_single}
 use Rattle.irig_edit.specs.Changes.Laws.Edges.{edges_of-toggled}
 use Rattle.irig_edit.specs.State.State.{State, IsState}
@@ -41,14 +41,14 @@ overfull a b s lawful order within cannot = by_case (is_full s) refl (is_edge a 
   by_case true is false f false g = rw is (rw f (rw g refl))
 
 -- the state after a toggle is that after an inversion
-pub toggled_becomes : (a b place : ℕ) (s : State) → IsState s → CanToggle s.micros a b s.pulses → place ≡ risen_by b (turned_single s (Toggled a b)).0.pulses
-    → place ≤ length (turned_single s (Toggled a b)).0.pulses → Becomes (Invert a b) s (turned_single s (Toggled a b)).0 place
+pub toggled_becomes : (a b place : ℕ) (s : State) → IsState s → CanToggle s.micros a b s.pulses → place ≡ risen_by b (turned_single s (Toggle a b)).0.pulses
+    → place ≤ length (turned_single s (Toggle a b)).0.pulses → Becomes (Invert a b) s (turned_single s (Toggle a b)).0 place
 toggled_becomes a b place s is can count within =
     let edges = edges_of-toggled s.micros a b s.pulses can in
     record {
       after = record {
         length = refl;
-        track = (IsState-turned_single s (Toggled a b) is can).track;
+        track = (IsState-turned_single s (Toggle a b) is can).track;
         edges = λ t. ap (has t) edges ∙ has-toggled t a b (edges_of s.pulses) can.order is.track.rises;
         format = refl;
         marks = refl;
@@ -67,10 +67,10 @@ length-flipped t (x ∷ xs) = by_tests (nat_lt t x) (x == t) (length-flipped t x
   by_tests false false rest = omega arith
 
 -- at most one more pulse
-pub length-toggled : (s : State) (a b : ℕ) → CanToggle s.micros a b s.pulses → length (turned_single s (Toggled a b)).0.pulses ≤ length s.pulses + 1
+pub length-toggled : (s : State) (a b : ℕ) → CanToggle s.micros a b s.pulses → length (turned_single s (Toggle a b)).0.pulses ≤ length s.pulses + 1
 length-toggled s a b can =
     let edges = edges_of-toggled s.micros a b s.pulses can in
     let first = length-flipped a (edges_of s.pulses) in
     let both = length-flipped b (flipped a (edges_of s.pulses)) in
     let long = ap length edges in
-    omega (arith, length-edges_of s.pulses, length-edges_of (turned_single s (Toggled a b)).0.pulses)
+    omega (arith, length-edges_of s.pulses, length-edges_of (turned_single s (Toggle a b)).0.pulses)

@@ -1,6 +1,6 @@
 -- What a session is saved as, opened again.
 use Rattle.std.proofs.Common.{◌≡◌, ◌≤◌, ◌<◌, ◌+◌, ◌^◌, ◌++◌, ℕ, suc, zero, false, List, [], ◌∷◌, Option, Some, None, Result, Ok, length, map, take, reverse}
-use Rattle.std.proofs.Common.{nat_lt, codes, inl, inr, refl, ap, ap₂, sym, ◌∙◌, subst, arith}
+use Rattle.std.proofs.Common.{nat_lt, codes, inl, inr, refl, ap, sym, ◌∙◌, subst, arith}
 use Rattle.std.specs.List.{AllByRecursion}
 use Rattle.std.proofs.lemmas.Bool.Decides.{nat_tests}
 use Rattle.std.proofs.lemmas.List.{length-append, reverse-append, reverse-reverse, take-map}
@@ -12,7 +12,8 @@ use Rattle.irig_saved.specs.Ranges.{IsSaved}
 use Rattle.irig_saved.specs.SavedText.{journal_text}
 use Rattle.irig_saved.specs.declared.saved.Saved.{Saved}
 use Rattle.irig_saved.specs.declared.step.Step.{Step as SavedStep}
-use Rattle.irig_saved.proofs.Counts.{NumbersOfStep, saved_of_parts}
+use Rattle.irig_saved.specs.Numbers.{NumbersOfStep}
+use Rattle.irig_saved.proofs.Counts.{saved_of_parts}
 use Rattle.irig_saved.proofs.FaultFacts.{journal_not_at_fault}
 use Rattle.irig_saved.proofs.JournalTexts.{journal_is_text, section_is_comment}
 use Rattle.irig_saved.proofs.Unique.{same_journal}
@@ -24,7 +25,8 @@ use Rattle.irig_vcd.specs.Recording.{RecordingView}
 use Rattle.irig_vcd.specs.declared.fault.VcdFault.{VcdFault}
 use Rattle.irig_vcd.specs.declared.fault.VcdFault.TheVariants as fault
 use Rattle.irig_vcd.proofs.WrittenJournal.{journal_back}
-use Rattle.irig_edit.specs.Changes.Delta.{Delta, Fits, turned}
+use Rattle.irig_saved.specs.declared.change.Change.{Change}
+use Rattle.irig_edit.specs.Changes.Delta.{Fits, turned}
 use Rattle.irig_edit.specs.Session.Keeping.{kept_back, kept_forward, machine}
 use Rattle.irig_edit.specs.Changes.Laws.Edges.{pulses_of-edges_of}
 use Rattle.irig_edit.specs.Session.Limits.{IsKept}
@@ -34,22 +36,17 @@ use Rattle.irig_edit.specs.Saved.Saved.{saved_step}
 use Rattle.irig_edit.specs.Saved.SavedSession.{saved_of, saved_text}
 use Rattle.irig_edit.specs.Session.Session.{SessionView, grouped_in}
 use Rattle.irig_edit.specs.State.State.{IsMark, IsState, State, recording_of, state}
-use Rattle.irig_edit.specs.Opened.Taken.{AreTaken, CanTakeAll, StopsAfter}
+use Rattle.irig_edit.specs.Opened.Taken.{CanTakeAll, StopsAfter, steps_of}
 use Rattle.irig_edit.specs.Opened.Walk.{walk}
 use Rattle.irig_edit.proofs.OpenedLemmas.Heads.{head_marks}
-use Rattle.irig_edit.proofs.OpenedLemmas.Names.{same_step}
-use Rattle.irig_edit.proofs.OpenedLemmas.Numbers.{digit_permitted, steps_small, times_small}
+use Rattle.irig_edit.specs.Changes.Laws.Delta.{IsState-turned}
+use Rattle.irig_edit.proofs.SavedLemmas.Numbers.{change_small, digit_permitted, times_small}
 use Rattle.irig_edit.proofs.SavedLemmas.SavedSteps.{steps_back-kept, steps_on-kept}
 
--- steps of the same names are the same
-same_steps : (ds es : List (Step Delta)) → map saved_step ds ≡ map saved_step es → ds ≡ es
-same_steps [] [] same = refl
-same_steps [] (e ∷ es) same = cc
-same_steps (d ∷ ds) [] same = cc
-same_steps (d ∷ ds) (e ∷ es) same =
-    let first : saved_step d ≡ saved_step e = cc in
-    let rest : map saved_step ds ≡ map saved_step es = cc in
-    ap₂ (λ (x : Step Delta) (xs : List (Step Delta)). x ∷ xs) (same_step d e first) (same_steps ds es rest)
+-- saved steps are the steps that were saved
+steps_of-saved : (ds : List (Step Change)) → steps_of (map saved_step ds) ≡ ds
+steps_of-saved [] = refl
+steps_of-saved (d ∷ ds) = ap (λ (l : List (Step Change)). d ∷ l) (steps_of-saved ds)
 
 -- what holds of each of two lists holds of each of both
 all-append : {X : Type 0} (P : X → Type 0) (xs ys : List X) → AllByRecursion P xs → AllByRecursion P ys
@@ -64,35 +61,42 @@ all-reverse P (x ∷ xs) all =
     subst (AllByRecursion P) (sym (reverse-append (x ∷ []) xs)) (all-append P (reverse xs) (x ∷ []) (all-reverse P xs all.1) (all.0, tt))
 
 -- the steps of a machine within its limits can be taken, back and on
-pub can_go_back : (s : State) (ds : List (Step Delta)) → FitInTurn Fits turned s ds → AllByRecursion IsKept (kept_back s ds)
+pub can_go_back : (s : State) (ds : List (Step Change)) → FitInTurn Fits turned s ds → AllByRecursion IsKept (kept_back s ds)
     → CanTakeAll s ds
 can_go_back s [] fit all = tt
 can_go_back s (d ∷ ds) fit all =
     (record { fits = fit.0; cursor = all.0.cursor }, can_go_back (turned s d.change).0 ds fit.1 all.1)
 
-pub can_go_on : (s : State) (ds : List (Step Delta)) → FitInTurn Fits turned s ds → AllByRecursion IsKept (kept_forward s ds)
+pub can_go_on : (s : State) (ds : List (Step Change)) → FitInTurn Fits turned s ds → AllByRecursion IsKept (kept_forward s ds)
     → CanTakeAll s ds
 can_go_on s [] fit all = tt
 can_go_on s (d ∷ ds) fit all =
     (record { fits = fit.0; cursor = all.0.cursor }, can_go_on (turned s d.change).0 ds fit.1 all.1)
 
--- so can the first of them, by their names
-first_taken : (s : State) (ds : List (Step Delta)) (n : ℕ) → CanTakeAll s ds → AreTaken s (take n (map saved_step ds)) (take n ds)
-first_taken s ds n can = record {
-  named = take-map saved_step n ds;
-  can = first s ds n can;
-} where
-  first : (s : State) (ds : List (Step Delta)) (n : ℕ) → CanTakeAll s ds → CanTakeAll s (take n ds)
-  first s [] zero can = tt
-  first s [] (suc n) can = tt
-  first s (d ∷ ds) zero can = tt
-  first s (d ∷ ds) (suc n) can = (can.0, first (turned s d.change).0 ds n can.1)
+-- so can the first of them
+first_taken : (s : State) (ds : List (Step Change)) (n : ℕ) → CanTakeAll s ds → CanTakeAll s (take n ds)
+first_taken s [] zero can = tt
+first_taken s [] (suc n) can = tt
+first_taken s (d ∷ ds) zero can = tt
+first_taken s (d ∷ ds) (suc n) can = (can.0, first_taken (turned s d.change).0 ds n can.1)
+
+-- the numbers of steps that can be taken
+steps_small : (s : State) (ds : List (Step Change)) → IsState s → CanTakeAll s ds → AllByRecursion NumbersOfStep (map saved_step ds)
+steps_small s [] is can = tt
+steps_small s (d ∷ ds) is can =
+    let there = IsState-turned s d.change is can.0.fits in (
+      (omega (arith, there.track.few, can.0.cursor), change_small s d.change is can.0.fits),
+      steps_small (turned s d.change).0 ds there can.1,
+    )
 
 -- nowhere it stops
-never_stops : (s : State) (ds : List (Step Delta)) (saves : List SavedStep) (n : ℕ) → saves ≡ map saved_step ds → CanTakeAll s ds
+never_stops : (s : State) (ds : List (Step Change)) (saves : List SavedStep) (n : ℕ) → saves ≡ map saved_step ds → CanTakeAll s ds
     → StopsAfter s saves n → ⊥
 never_stops s ds saves n named can stops =
-    stops.refused (take (n + 1) ds) (subst (λ (l : List SavedStep). AreTaken s (take (n + 1) l) (take (n + 1) ds)) (sym named) (first_taken s ds (n + 1) can))
+    let these : steps_of (take (n + 1) saves) ≡ take (n + 1) ds =
+    ap (λ (l : List SavedStep). steps_of (take (n + 1) l)) named
+    ∙ (ap steps_of (take-map saved_step (n + 1) ds) ∙ steps_of-saved (take (n + 1) ds)) in
+    stops.refused (subst (λ (l : List (Step Change)). CanTakeAll s l) (sym these) (first_taken s ds (n + 1) can))
 
 -- no mark within a length is beyond it
 none_beyond : (micros line : ℕ) (marks : List (Option ℕ)) → AllByRecursion (IsMark micros) marks → mark_beyond micros line marks ≡ None
@@ -140,7 +144,7 @@ one_journal {R} {T} read r s t told none =
     let bad : Some t ≡ None = ap (λ (p : R × Option T). p.1) both in cc
 
 -- a machine, whose text is short
-module _ (h : History State Delta) (is : IsState h.state) (within : h.cursor ≤ length h.state.pulses)
+module _ (h : History State Change) (is : IsState h.state) (within : h.cursor ≤ length h.state.pulses)
     (back : CanTakeAll h.state h.past) (on : CanTakeAll h.state h.future) (short : length (saved_text (machine h)) ≤ 2 ^ 28) where
   abbrev saved : Saved
   saved = saved_of (machine h)
@@ -201,9 +205,9 @@ module _ (h : History State Delta) (is : IsState h.state) (within : h.cursor ≤
   -- the machine that it makes
   accepted : (w : SessionView) → IsAccepted (state_of recorded saved) saved w → grouped_in w ≡ over None (machine h)
   accepted w made =
-      let past : made.past ≡ h.past =
-      same_steps made.past h.past (sym made.back.named ∙ (ap reverse past_named ∙ reverse-reverse (map saved_step h.past))) in
-      let future : made.future ≡ h.future = same_steps made.future h.future (sym made.on.named ∙ future_named) in
+      let past : steps_of (reverse saved.past) ≡ h.past =
+      ap steps_of (ap reverse past_named ∙ reverse-reverse (map saved_step h.past)) ∙ steps_of-saved h.past in
+      let future : steps_of saved.future ≡ h.future = ap steps_of future_named ∙ steps_of-saved h.future in
       ap grouped_in made.session ∙ (λ k. over None (machine (walk (state_is k) h.cursor (past k) (future k))))
 
   pub goes_on : (format : FormatView) (w : SessionView) → IsOpened None (saved_text (machine h)) format w → grouped_in w ≡ over None (machine h)

@@ -13,7 +13,8 @@ use Rattle.irig_vcd.specs.declared.pulse.Pulse.{Pulse}
 use Rattle.irig_edit.specs.Changes.Delta.{singles_of}
 use Rattle.irig_edit.specs.Changes.Held.{delta_of, deltas_of, single_of}
 use Rattle.irig_edit.specs.Changes.Laws.Parts.{singles_of-delta_of}
-use Rattle.irig_edit.specs.Saved.Saved.{CanBeNamed, saved_single, saved_step}
+use Rattle.irig_saved.specs.Numbers.{NumbersOfSingle}
+use Rattle.irig_edit.specs.Saved.Saved.{saved_step}
 use Rattle.irig_edit.specs.Saved.SavedParts.{changes_text, parts_left, steps_text}
 use Rattle.irig_edit.specs.Saved.Stages.{next_stage, stage_left, text_after}
 use Rattle.irig_edit.specs.declared.changes.single.Single.{Single}
@@ -72,16 +73,16 @@ pulses-next ps i p there = ap (λ xs. text_of (pulse_lines xs)) (drop-item ps i 
 
 -- the lines of the last change, and those of the changes before it
 pub changes-next : (xs others : List Single) (x : Single) → xs ≡ others ++ x ∷ []
-    → changes_text (reverse xs) ≡ text_of (single_lines (saved_single (single_of x))) ++ changes_text (reverse others)
+    → changes_text (reverse xs) ≡ text_of (single_lines (single_of x)) ++ changes_text (reverse others)
 changes-next xs others x split =
     ap (λ (l : List Single). changes_text l) (ap reverse split ∙ reverse-append others (x ∷ []))
-    ∙ text_of_append (single_lines (saved_single (single_of x))) (singles_lines (map saved_single (map single_of (reverse others))))
+    ∙ text_of_append (single_lines (single_of x)) (singles_lines (map single_of (reverse others)))
 
 -- the last of changes that can be named can be, and so can the others
-pub named-next : (xs others : List Single) (x : Single) → xs ≡ others ++ x ∷ [] → AllByRecursion CanBeNamed (map single_of (reverse xs))
-    → CanBeNamed (single_of x) × AllByRecursion CanBeNamed (map single_of (reverse others))
+pub named-next : (xs others : List Single) (x : Single) → xs ≡ others ++ x ∷ [] → AllByRecursion NumbersOfSingle (map single_of (reverse xs))
+    → NumbersOfSingle (single_of x) × AllByRecursion NumbersOfSingle (map single_of (reverse others))
 named-next xs others x split named =
-    subst (λ (l : List Single). AllByRecursion CanBeNamed (map single_of l)) (ap reverse split ∙ reverse-append others (x ∷ [])) named
+    subst (λ (l : List Single). AllByRecursion NumbersOfSingle (map single_of l)) (ap reverse split ∙ reverse-append others (x ∷ [])) named
 
 -- the lines of a step, and those after it
 pub steps-next : (hs others : List (Held Single)) (h : Held Single) → hs ≡ h ∷ others
@@ -98,8 +99,8 @@ parts_in-parts_of false (c ∷ []) = refl
 parts_in-parts_of false (c ∷ (d ∷ cs)) = refl
 
 -- they can be named
-pub shown_named : (is_group : Bool) (cs : List Single) → AllByRecursion CanBeNamed (singles_of (delta_of (parts_of is_group cs)))
-    → AllByRecursion CanBeNamed (map single_of cs)
+pub shown_named : (is_group : Bool) (cs : List Single) → AllByRecursion NumbersOfSingle (singles_of (delta_of (parts_of is_group cs)))
+    → AllByRecursion NumbersOfSingle (map single_of cs)
 shown_named is_group cs named =
-    subst (AllByRecursion CanBeNamed) (ap (map single_of) (parts_in-parts_of is_group cs))
-    (subst (AllByRecursion CanBeNamed) (sym (singles_of-delta_of (parts_of is_group cs))) named)
+    subst (AllByRecursion NumbersOfSingle) (ap (map single_of) (parts_in-parts_of is_group cs))
+    (subst (AllByRecursion NumbersOfSingle) (sym (singles_of-delta_of (parts_of is_group cs))) named)

@@ -12,7 +12,8 @@ use Rattle.irig_journal.specs.Machine.{undone}
 use Rattle.irig_journal.specs.Machine as states
 use Rattle.irig_journal.specs.Openings as openings
 use Rattle.irig_journal.specs.Turns.{left_by}
-use Rattle.irig_edit.specs.Changes.Delta.{Delta, gathered, singles_of, turned}
+use Rattle.irig_saved.specs.declared.change.Change.{Change}
+use Rattle.irig_edit.specs.Changes.Delta.{gathered, singles_of, turned}
 use Rattle.irig_edit.specs.Session.Keeping.{behind, exchange_back, floor_at, floor_of, kept_back, machine}
 use Rattle.irig_edit.specs.Session.Kept.{Kept, kept, looks_back}
 use Rattle.irig_edit.specs.Session.Limits.{IsFloor, IsGrouped, IsKept}
@@ -27,14 +28,14 @@ use Rattle.irig_edit.proofs.SessionLemmas.MachineSteps.{allowed_some}
 use Rattle.irig_edit.proofs.SessionLemmas.Sums.{looks_first}
 
 -- the states after this many steps
-drop-kept_back : (n : ℕ) (s : State) (steps : List (Step Delta))
+drop-kept_back : (n : ℕ) (s : State) (steps : List (Step Change))
     → drop n (kept_back s steps) ≡ kept_back (left_by turned s (changes_of (take n steps))) (drop n steps)
 drop-kept_back zero s steps = refl
 drop-kept_back (suc n) s [] = refl
 drop-kept_back (suc n) s (near ∷ steps) = drop-kept_back n (turned s near.change).0 steps
 
 -- and the one that is there, at the cursor of an opening
-floor-kept_back : (n : ℕ) (s : State) (cursor : ℕ) (steps : List (Step Delta)) (o : Opening)
+floor-kept_back : (n : ℕ) (s : State) (cursor : ℕ) (steps : List (Step Change)) (o : Opening)
     → floor_at o (behind n (kept s cursor (exchange_back s steps)) (kept_back s steps))
     ≡ record {
       height = o.steps;
@@ -46,16 +47,16 @@ floor-kept_back (suc n) s cursor [] o = refl
 floor-kept_back (suc n) s cursor (near ∷ steps) o = floor-kept_back n (turned s near.change).0 near.cursor steps o
 
 -- what the journal says of a machine with its floor
-abbrev pub grouped_states : State → ℕ → List (Step Delta) → List (Step Delta) → Option Opening → Grouped (states.Kept State)
+abbrev pub grouped_states : State → ℕ → List (Step Change) → List (Step Change) → Option Opening → Grouped (states.Kept State)
 grouped_states s cursor past future opening =
     over (option_map (openings.floor_at turned s past) opening) (journal.machine turned (history s cursor past future))
 
-pub length-states_along : (s : State) (steps : List (Step Delta)) → length (journal.states_along turned s steps) ≡ length steps
+pub length-states_along : (s : State) (steps : List (Step Change)) → length (journal.states_along turned s steps) ≡ length steps
 length-states_along s [] = refl
 length-states_along s (near ∷ steps) = ap suc (length-states_along (turned s near.change).0 steps)
 
 -- an undo that was made goes no further than the floor
-pub above_floor : (s : State) (cursor : ℕ) (past future : List (Step Delta)) (opening : Option Opening) (g : Grouped (states.Kept State))
+pub above_floor : (s : State) (cursor : ℕ) (past future : List (Step Change)) (opening : Option Opening) (g : Grouped (states.Kept State))
     → undone_over (grouped_states s cursor past future opening) ≡ Some g
     → is_at_floor (option_map (floor_of (machine (history s cursor past future))) opening) (kept_back s past) ≡ false
 above_floor s cursor past future None g back = refl
@@ -70,7 +71,7 @@ no_opening f None is = refl
 no_opening f (Some o) is = absurd (cc)
 
 -- an abort drops the steps beyond the floor
-pub grouped-aborted : (s t : State) (cursor place : ℕ) (past future all none : List (Step Delta)) (old new : Option Opening)
+pub grouped-aborted : (s t : State) (cursor place : ℕ) (past future all none : List (Step Change)) (old new : Option Opening)
     → aborted (grouped_states s cursor past future old) ≡ Some (grouped_states t place all none new)
     → IfSome old (λ o. all ≡ farthest o.steps past) → none ≡ []
     → aborted (over_opening old (machine (history s cursor past future))) ≡ Some (over_opening new (machine (history t place all none)))
@@ -119,7 +120,7 @@ IsGrouped-aborted g h is fell = by_floor g.floor is.floor fell where
       subst (λ (x : Grouped Kept). IsGrouped x) there new
 
 -- the most looks of a turn back of all the steps beyond the floor
-looks_back-along : (n : ℕ) (s : State) (cursor : ℕ) (steps : List (Step Delta))
+looks_back-along : (n : ℕ) (s : State) (cursor : ℕ) (steps : List (Step Change))
     → looks_back (take n (kept s cursor (exchange_back s steps) ∷ kept_back s steps)) ≡ looks_of s (gathered (changes_of (take n steps)))
 looks_back-along zero s cursor steps = refl
 looks_back-along (suc zero) s cursor [] = refl
@@ -130,7 +131,7 @@ looks_back-along (suc n) s cursor (near ∷ steps) =
     ∙ looks_first s near.change (flat_map singles_of (changes_of (take n steps)))
 
 -- turns one after another look as often as a turn of them all may
-rose_along : (s : State) (steps : List (Step Delta)) (old new : ℕ) → CountsAlong counted turned s steps old new
+rose_along : (s : State) (steps : List (Step Change)) (old new : ℕ) → CountsAlong counted turned s steps old new
     → RoseWithin (looks_of s (gathered (changes_of steps))) old new
 rose_along s [] old new same = (omega (arith, same), omega (arith, same))
 rose_along s (near ∷ steps) old new counts =
@@ -139,7 +140,7 @@ rose_along s (near ∷ steps) old new counts =
     subst (λ (most : Option ℕ). RoseWithin most old new) (looks_first s near.change (flat_map singles_of (changes_of steps)))
     (rose_then (looks_of s near.change) rest old counts.0 new counts.1 (rose_along after steps counts.0 new counts.2))
 
-pub aborted_rose : (s : State) (cursor : ℕ) (past future : List (Step Delta)) (opening : Option Opening) (old new : ℕ)
+pub aborted_rose : (s : State) (cursor : ℕ) (past future : List (Step Change)) (opening : Option Opening) (old new : ℕ)
     → IfSome opening (λ o. CountsAlong counted turned s (beyond o.steps past) old new)
     → (opening ≡ None → ⊥)
     → RoseWithin (looks_back (made_since (option_map (floor_of (machine (history s cursor past future))) opening) (machine (history s cursor past future)))) old

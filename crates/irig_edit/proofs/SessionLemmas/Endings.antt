@@ -13,7 +13,8 @@ use Rattle.irig_journal.specs.Machine.{Machine}
 use Rattle.irig_journal.specs.Machine as states
 use Rattle.irig_journal.specs.Openings as openings
 use Rattle.irig_journal.specs.Turns.{left_by}
-use Rattle.irig_edit.specs.Changes.Delta.{Delta, Fits, gathered, turned}
+use Rattle.irig_saved.specs.declared.change.Change.{Change}
+use Rattle.irig_edit.specs.Changes.Delta.{Fits, gathered, turned}
 use Rattle.irig_edit.specs.Session.Keeping.{exchange_back, floor_of, kept_back, kept_forward, machine}
 use Rattle.irig_edit.specs.Session.Kept.{Kept, kept, together}
 use Rattle.irig_edit.specs.Changes.Laws.Groups.{turned-gathered}
@@ -27,7 +28,7 @@ use Rattle.irig_edit.proofs.SessionLemmas.Sums.{together-gathered}
 use Rattle.irig_edit.proofs.SessionLemmas.Aborts.{all-drop, grouped_states, length-states_along, no_opening}
 
 -- the state after this many steps, and those before it
-drop-joined : (k : ℕ) (s : State) (cursor : ℕ) (steps : List (Step Delta)) → k < length steps
+drop-joined : (k : ℕ) (s : State) (cursor : ℕ) (steps : List (Step Change)) → k < length steps
     → drop k (kept_back s steps) ≡ kept (left_by turned s (changes_of (take (suc k) steps))) (cursor_of_farthest cursor (take (suc k) steps))
     (exchange_back (left_by turned s (changes_of (take (suc k) steps))) (drop (suc k) steps))
     ∷ kept_back (left_by turned s (changes_of (take (suc k) steps))) (drop (suc k) steps)
@@ -36,7 +37,7 @@ drop-joined zero s cursor (near ∷ steps) there = refl
 drop-joined (suc k) s cursor (near ∷ steps) there = drop-joined k (turned s near.change).0 near.cursor steps (omega (arith, there))
 
 -- the machine with the steps beyond a height joined to one
-machine-joined : (s : State) (cursor height : ℕ) (past future : List (Step Delta)) → IsState s → FitInTurn Fits turned s past
+machine-joined : (s : State) (cursor height : ℕ) (past future : List (Step Change)) → IsState s → FitInTurn Fits turned s past
     → machine (history s cursor (joined_beyond gathered height past) future) ≡ record {
       past = drop (length past - height - 1) (kept_back s past);
       present = kept s cursor (together (exchange_back s past) (take (length past - height - 1) (kept_back s past)));
@@ -55,7 +56,7 @@ machine-joined s cursor height past future is fit = by_test (nat_le (length past
       let ds = changes_of (take (suc (suc k)) past) in
       let g = gathered ds in
       let far = drop (suc (suc k)) past in
-      let turn = ap (λ (p : State × Delta). p.0) (turned-gathered s ds) in
+      let turn = ap (λ (p : State × Change). p.0) (turned-gathered s ds) in
       (λ i. machine (history s cursor (joined gathered (take (all i) past) ∷ drop (all i) past) future))
       ∙ (λ i. record {
         past = kept (turn i) (cursor_of_farthest 0 (take (suc (suc k)) past)) (exchange_back (turn i) far) ∷ kept_back (turn i) far;
@@ -99,7 +100,7 @@ machine-joined s cursor height past future is fit = by_test (nat_le (length past
   by_test false many = by_many (length past - height - 1) refl (leb-false (length past) (height + 1) many)
 
 -- an end joins the steps beyond the floor
-pub grouped-ended : (s t : State) (cursor : ℕ) (past future all more : List (Step Delta)) (old new : Option Opening)
+pub grouped-ended : (s t : State) (cursor : ℕ) (past future all more : List (Step Change)) (old new : Option Opening)
     → ended (grouped_states s cursor past future old) ≡ Some (grouped_states t cursor all more new)
     → IfSome old (λ o. all ≡ joined_beyond gathered o.steps past) → t ≡ s → more ≡ future → IsState s → FitInTurn Fits turned s past
     → ended (over (option_map (floor_of (machine (history s cursor past future))) old)
@@ -141,7 +142,7 @@ IsGrouped-ended g h is closes = by_floor g.floor closes where
       subst (λ (x : Grouped Kept). IsGrouped x) there new
 
 -- a begin sets the floor to the place of the machine
-pub grouped-began : (s : State) (cursor : ℕ) (past future all more : List (Step Delta)) (old new : Option Opening)
+pub grouped-began : (s : State) (cursor : ℕ) (past future all more : List (Step Change)) (old new : Option Opening)
     → begun (grouped_states s cursor past future old) ≡ Some (grouped_states s cursor all more new) → all ≡ past → more ≡ future
     → begun (over_opening old (machine (history s cursor past future))) ≡ Some (over_opening new (machine (history s cursor all more)))
 grouped-began s cursor past future all more (Some o) new opens same later = absurd (cc)

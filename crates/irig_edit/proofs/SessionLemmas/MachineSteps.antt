@@ -13,7 +13,7 @@ use Rattle.irig_edit.specs.Edits.Becoming.{Becomes, judgement_of}
 use Rattle.irig_edit.specs.Edits.Refusals.{first_of, is_empty, is_open, refusal_of}
 use Rattle.irig_edit.specs.declared.session.refusal.Refusal.{Refusal}
 use Rattle.irig_edit.specs.declared.session.refusal.Refusal.TheVariants.{GroupFloor, GroupOpen, NoGroup, NothingToRedo, NothingToUndo, OutOfMemory}
-use Rattle.irig_edit.specs.Changes.Delta.{Delta}
+use Rattle.irig_saved.specs.declared.change.Change.{Change}
 use Rattle.irig_edit.specs.Edits.Exchanges.{exchange_by}
 use Rattle.irig_edit.specs.Session.Keeping.{kept_back, kept_forward}
 use Rattle.irig_edit.specs.Session.Kept.{Exchange, Kept, kept}
@@ -86,12 +86,12 @@ Steps-redone g h step = (by_future g.machine.future (over_some g.floor (redone g
   by_future (after ∷ future) step = refl
 
 -- if there are no steps forward, a redo is refused
-pub refusal_forward : (s : State) (steps : List (Step Delta)) → steps ≡ []
+pub refusal_forward : (s : State) (steps : List (Step Change)) → steps ≡ []
     → first_of ((is_empty (kept_forward s steps), NothingToRedo) ∷ []) ≡ Some NothingToRedo
-refusal_forward s steps none = ap (λ (l : List (Step Delta)). first_of ((is_empty (kept_forward s l), NothingToRedo) ∷ [])) none
+refusal_forward s steps none = ap (λ (l : List (Step Change)). first_of ((is_empty (kept_forward s l), NothingToRedo) ∷ [])) none
 
 -- if there are steps back, an undo on the floor is refused
-pub floor_refusal : (s : State) (steps : List (Step Delta)) (test : Bool) → (steps ≡ [] → ⊥) → test ≡ true
+pub floor_refusal : (s : State) (steps : List (Step Change)) (test : Bool) → (steps ≡ [] → ⊥) → test ≡ true
     → first_of ((is_empty (kept_back s steps), NothingToUndo) ∷ (test, GroupFloor) ∷ []) ≡ Some GroupFloor
 floor_refusal s [] test some low = absurd (some refl)
 floor_refusal s (near ∷ steps) true some low = refl

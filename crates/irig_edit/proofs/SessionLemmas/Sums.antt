@@ -11,14 +11,16 @@ use Rattle.irig_journal.specs.Joining.{changes_of}
 use Rattle.irig_journal.specs.Laws.Backs.{LeadsBack, lead_all_back}
 use Rattle.irig_journal.specs.Laws.Turns.{ways_back-cons}
 use Rattle.irig_journal.specs.Turns.{FitAll, backs, left_by, ways_back}
-use Rattle.irig_edit.specs.Changes.Delta.{Delta, Fits, gathered, singles_of, turned, weight_of}
-use Rattle.irig_edit.specs.Changes.Delta.Delta.{Alone, Together}
+use Rattle.irig_saved.specs.declared.change.Change.{Change}
+use Rattle.irig_edit.specs.Changes.Delta.{Fits, gathered, singles_of, turned, weight_of}
+use Rattle.irig_saved.specs.declared.change.Change.TheVariants.{One, Group}
 use Rattle.irig_edit.specs.Session.Keeping.{exchange_across, exchange_back, kept_back}
 use Rattle.irig_edit.specs.Session.Kept.{Exchange, together}
 use Rattle.irig_edit.specs.Changes.Laws.Delta.{Fits-turned, IsState-turned, turned-turned}
 use Rattle.irig_edit.specs.Changes.Laws.Groups.{turned-gathered, weight_of-gathered}
 use Rattle.irig_edit.specs.Changes.Looks.{both, looks_along, looks_by, looks_of}
-use Rattle.irig_edit.specs.Changes.Single.{SingleDelta, turned_single}
+use Rattle.irig_saved.specs.declared.single.Single.{Single}
+use Rattle.irig_edit.specs.Changes.Single.{turned_single}
 use Rattle.irig_edit.specs.State.State.{State, IsState}
 
 -- sums of bounds
@@ -43,7 +45,7 @@ both-both (Some l) (Some m) None = refl
 both-both (Some l) (Some m) (Some n) = let same : l + m + n ≡ l + (m + n) = omega arith in ap (λ k. Some k) same
 
 -- the bounds of single changes, first the one and then the others
-looks_along-append : (s : State) (ds es : List SingleDelta)
+looks_along-append : (s : State) (ds es : List Single)
     → looks_along s (ds ++ es) ≡ both (looks_along s ds) (looks_along (left_by turned_single s ds) es)
 looks_along-append s [] es = sym (zero-both (looks_along s es))
 looks_along-append s (d ∷ ds) es =
@@ -51,22 +53,22 @@ looks_along-append s (d ∷ ds) es =
     ap (both (looks_by d after.pulses)) (looks_along-append after ds es)
     ∙ sym (both-both (looks_by d after.pulses) (looks_along after ds) (looks_along (left_by turned_single after ds) es))
 
-abbrev all_singles : List Delta → List SingleDelta
+abbrev all_singles : List Change → List Single
 all_singles ds = flat_map singles_of ds
 
-singles_state : (s : State) (d : Delta) → (turned s d).0 ≡ left_by turned_single s (singles_of d)
-singles_state s (Alone d) = refl
-singles_state s (Together ds) = refl
+singles_state : (s : State) (d : Change) → (turned s d).0 ≡ left_by turned_single s (singles_of d)
+singles_state s (One d) = refl
+singles_state s (Group ds) = refl
 
-looks_singles : (s : State) (d : Delta) → looks_of s d ≡ looks_along s (singles_of d)
-looks_singles s (Alone d) = sym (both-zero (looks_of s (Alone d)))
-looks_singles s (Together ds) = refl
+looks_singles : (s : State) (d : Change) → looks_of s d ≡ looks_along s (singles_of d)
+looks_singles s (One d) = sym (both-zero (looks_of s (One d)))
+looks_singles s (Group ds) = refl
 
-looks_alone : (s : State) (d : Delta) → looks_of s d ≡ looks_along s (singles_of d ++ [])
+looks_alone : (s : State) (d : Change) → looks_of s d ≡ looks_along s (singles_of d ++ [])
 looks_alone s d = looks_singles s d ∙ ap (looks_along s) (sym (append-nil (singles_of d)))
 
 -- the bound of a change, and of others after it
-pub looks_first : (s : State) (d : Delta) (rest : List SingleDelta)
+pub looks_first : (s : State) (d : Change) (rest : List Single)
     → both (looks_of s d) (looks_along (turned s d).0 rest) ≡ looks_along s (singles_of d ++ rest)
 looks_first s d rest =
     ap₂ (λ (x : Option ℕ) (t : State). both x (looks_along t rest)) (looks_singles s d) (singles_state s d)
@@ -76,13 +78,13 @@ changes_lead_back : LeadsBack IsState Fits turned
 changes_lead_back = record { keeps = IsState-turned; back_fits = Fits-turned; back = turned-turned }
 
 -- what leads back from a change and from others after it
-parts_back : (s : State) (d : Delta) (ds : List Delta)
+parts_back : (s : State) (d : Change) (ds : List Change)
     → all_singles (ways_back turned s (d ∷ ds)) ≡ all_singles (ways_back turned (turned s d).0 ds) ++ (singles_of (turned s d).1 ++ [])
 parts_back s d ds =
     ap all_singles (ways_back-cons turned s d ds) ∙ flat_map-append singles_of (ways_back turned (turned s d).0 ds) ((turned s d).1 ∷ [])
 
 -- the bound of what leads back from a change, and from others after it
-forth_along : (s : State) (d : Delta) (ds : List Delta) → IsState s → Fits s d → FitAll Fits turned (turned s d).0 ds
+forth_along : (s : State) (d : Change) (ds : List Change) → IsState s → Fits s d → FitAll Fits turned (turned s d).0 ds
     → both (looks_of (turned s d).0 (turned s d).1)
     (looks_along (left_by turned (turned s d).0 ds) (all_singles (ways_back turned (turned s d).0 ds)))
     ≡ looks_along (left_by turned (turned s d).0 ds) (all_singles (ways_back turned s (d ∷ ds)))
@@ -92,7 +94,7 @@ forth_along s d ds is can fit =
     let t = left_by turned after ds in
     let w = ways_back turned after ds in
     let there : left_by turned_single t (all_singles w) ≡ after =
-    ap (λ (p : State × Delta). p.0) (turned-gathered t w)
+    ap (λ (p : State × Change). p.0) (turned-gathered t w)
     ∙ (lead_all_back IsState Fits turned changes_lead_back after ds (IsState-turned s d is can) fit).state in
     let parts = parts_back s d ds in
     both-swap (looks_of after b) (looks_along t (all_singles w))
@@ -100,16 +102,16 @@ forth_along s d ds is can fit =
     ∙ (ap (λ (x : State). both (looks_along t (all_singles w)) (looks_along x (singles_of b ++ []))) (sym there)
     ∙ (sym (looks_along-append t (all_singles w) (singles_of b ++ [])) ∙ ap (looks_along t) (sym parts))))
 
-pub fit-take : (n : ℕ) (s : State) (steps : List (Step Delta)) → FitInTurn Fits turned s steps → FitAll Fits turned s (changes_of (take n steps))
+pub fit-take : (n : ℕ) (s : State) (steps : List (Step Change)) → FitInTurn Fits turned s steps → FitAll Fits turned s (changes_of (take n steps))
 fit-take zero s steps fit = tt
 fit-take (suc n) s [] fit = tt
 fit-take (suc n) s (near ∷ steps) fit = (fit.0, fit-take n (turned s near.change).0 steps fit.1)
 
 -- what the edits exchanged that made a state and this many before it
-abbrev sum_of : ℕ → State → List (Step Delta) → Exchange
+abbrev sum_of : ℕ → State → List (Step Change) → Exchange
 sum_of k s steps = together (exchange_back s steps) (take k (kept_back s steps))
 
-sum_taken : (k : ℕ) (s : State) (steps : List (Step Delta)) → k < length steps
+sum_taken : (k : ℕ) (s : State) (steps : List (Step Change)) → k < length steps
     → min (sum_of k s steps).taken (2 ^ 64 - 1) ≡ min (sum_by weight_of (changes_of (take (suc k) steps))) (2 ^ 64 - 1)
 sum_taken k s [] there = absurd (omega (arith, there))
 sum_taken zero s (near ∷ steps) there =
@@ -119,7 +121,7 @@ sum_taken (suc k) s (near ∷ steps) there =
     let rest = sum_taken k (turned s near.change).0 steps (omega (arith, there)) in
     omega (arith, rest, sum_by-cons weight_of near.change (changes_of (take (suc k) steps)))
 
-sum_put : (k : ℕ) (s : State) (steps : List (Step Delta)) → k < length steps
+sum_put : (k : ℕ) (s : State) (steps : List (Step Change)) → k < length steps
     → min (sum_of k s steps).put (2 ^ 64 - 1) ≡ min (sum_by weight_of (backs turned s (changes_of (take (suc k) steps)))) (2 ^ 64 - 1)
 sum_put k s [] there = absurd (omega (arith, there))
 sum_put zero s (near ∷ steps) there =
@@ -130,7 +132,7 @@ sum_put (suc k) s (near ∷ steps) there =
     let rest = sum_put k after steps (omega (arith, there)) in
     omega (arith, rest, sum_by-cons weight_of (turned s near.change).1 (backs turned after (changes_of (take (suc k) steps))))
 
-sum_back : (k : ℕ) (s : State) (steps : List (Step Delta)) → k < length steps
+sum_back : (k : ℕ) (s : State) (steps : List (Step Change)) → k < length steps
     → (sum_of k s steps).back ≡ looks_along s (all_singles (changes_of (take (suc k) steps)))
 sum_back k s [] there = absurd (omega (arith, there))
 sum_back zero s (near ∷ steps) there = looks_alone s near.change
@@ -139,7 +141,7 @@ sum_back (suc k) s (near ∷ steps) there =
     ap (both (looks_of s near.change)) (sum_back k after steps (omega (arith, there)))
     ∙ looks_first s near.change (all_singles (changes_of (take (suc k) steps)))
 
-sum_forth : (k : ℕ) (s : State) (steps : List (Step Delta)) → k < length steps → IsState s → FitInTurn Fits turned s steps
+sum_forth : (k : ℕ) (s : State) (steps : List (Step Change)) → k < length steps → IsState s → FitInTurn Fits turned s steps
     → (sum_of k s steps).forth ≡ looks_along (left_by turned s (changes_of (take (suc k) steps)))
     (all_singles (ways_back turned s (changes_of (take (suc k) steps))))
 sum_forth k s [] there is fit = absurd (omega (arith, there))
@@ -151,33 +153,33 @@ sum_forth (suc k) s (near ∷ steps) there is fit =
     ∙ forth_along s near.change (changes_of (take (suc k) steps)) is fit.0 (fit-take (suc k) after steps fit.1)
 
 -- the singles of the change that undoes them, and of the one that makes them
-singles_way_back : (k : ℕ) (s : State) (steps : List (Step Delta)) → k < length steps
+singles_way_back : (k : ℕ) (s : State) (steps : List (Step Change)) → k < length steps
     → singles_of (sum_of k s steps).way_back ≡ all_singles (changes_of (take (suc k) steps))
 singles_way_back k s [] there = absurd (omega (arith, there))
 singles_way_back zero s (near ∷ steps) there = sym (append-nil (singles_of near.change))
 singles_way_back (suc k) s (near ∷ steps) there =
     let after = (turned s near.change).0 in
-    ap (λ (xs : List SingleDelta). singles_of near.change ++ xs)
+    ap (λ (xs : List Single). singles_of near.change ++ xs)
     (append-nil (singles_of (sum_of k after steps).way_back) ∙ singles_way_back k after steps (omega (arith, there)))
 
-singles_way_on : (k : ℕ) (s : State) (steps : List (Step Delta)) → k < length steps
+singles_way_on : (k : ℕ) (s : State) (steps : List (Step Change)) → k < length steps
     → singles_of (sum_of k s steps).way_on ≡ all_singles (ways_back turned s (changes_of (take (suc k) steps)))
 singles_way_on k s [] there = absurd (omega (arith, there))
 singles_way_on zero s (near ∷ steps) there =
     sym (append-nil (singles_of (turned s near.change).1)) ∙ sym (parts_back s near.change [])
 singles_way_on (suc k) s (near ∷ steps) there =
     let after = (turned s near.change).0 in
-    ap (λ (xs : List SingleDelta). xs ++ (singles_of (turned s near.change).1 ++ [])) (singles_way_on k after steps (omega (arith, there)))
+    ap (λ (xs : List Single). xs ++ (singles_of (turned s near.change).1 ++ [])) (singles_way_on k after steps (omega (arith, there)))
     ∙ sym (parts_back s near.change (changes_of (take (suc k) steps)))
 
-sum_by-reverse : (f : Delta → ℕ) (ds : List Delta) → sum_by f (reverse ds) ≡ sum_by f ds
+sum_by-reverse : (f : Change → ℕ) (ds : List Change) → sum_by f (reverse ds) ≡ sum_by f ds
 sum_by-reverse f [] = refl
 sum_by-reverse f (d ∷ ds) =
     ap (sum_by f) (reverse-append (d ∷ []) ds)
     ∙ omega (arith, sum_by_push f (reverse ds) d, sum_by-cons f d ds, sum_by-reverse f ds)
 
 -- several together, as one group
-pub together-gathered : (k : ℕ) (s : State) (steps : List (Step Delta)) → suc k < length steps → IsState s → FitInTurn Fits turned s steps
+pub together-gathered : (k : ℕ) (s : State) (steps : List (Step Change)) → suc k < length steps → IsState s → FitInTurn Fits turned s steps
     → sum_of (suc k) s steps ≡ exchange_across (gathered (changes_of (take (suc (suc k)) steps)))
     (turned s (gathered (changes_of (take (suc (suc k)) steps)))).1
     (turned s (gathered (changes_of (take (suc (suc k)) steps)))).0 s
@@ -191,8 +193,8 @@ together-gathered k s (near ∷ steps) there is fit =
     omega (arith, sum_put (suc k) s (near ∷ steps) there, weight_of-gathered (ways_back turned s ds), sum_by-reverse weight_of (backs turned s ds)) in
     let back : sum.back ≡ looks_of s (gathered ds) = sum_back (suc k) s (near ∷ steps) there in
     let forth : sum.forth ≡ looks_of (left_by turned s ds) (gathered (ways_back turned s ds)) = sum_forth (suc k) s (near ∷ steps) there is fit in
-    let way_back : sum.way_back ≡ gathered ds = ap (λ (xs : List SingleDelta). Together xs) (singles_way_back (suc k) s (near ∷ steps) there) in
-    let way_on : sum.way_on ≡ gathered (ways_back turned s ds) = ap (λ (xs : List SingleDelta). Together xs) (singles_way_on (suc k) s (near ∷ steps) there) in
+    let way_back : sum.way_back ≡ gathered ds = ap (λ (xs : List Single). Group xs) (singles_way_back (suc k) s (near ∷ steps) there) in
+    let way_on : sum.way_on ≡ gathered (ways_back turned s ds) = ap (λ (xs : List Single). Group xs) (singles_way_on (suc k) s (near ∷ steps) there) in
     let whole : sum ≡ exchange_across (gathered ds) (gathered (ways_back turned s ds)) (left_by turned s ds) s =
     (λ i. record { taken = taken i; put = put i; back = back i; forth = forth i; way_back = way_back i; way_on = way_on i }) in
-    whole ∙ ap (λ (p : State × Delta). exchange_across (gathered ds) p.1 p.0 s) (sym turn)
+    whole ∙ ap (λ (p : State × Change). exchange_across (gathered ds) p.1 p.0 s) (sym turn)

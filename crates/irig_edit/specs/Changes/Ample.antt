@@ -5,27 +5,30 @@ use Rattle.irig_track.specs.Splices.{risen_by}
 use Rattle.irig_edit.specs.Changes.Held.{single_of}
 use Rattle.irig_edit.specs.State.Places.{Places}
 use Rattle.irig_edit.specs.Changes.Room.{TakesIn}
-use Rattle.irig_edit.specs.Changes.Single.{SingleDelta}
-use Rattle.irig_edit.specs.Changes.Single.SingleDelta.{Spliced, Toggled, Shifted, Formatted, Marked}
+use Rattle.irig_saved.specs.declared.single.Single as saved
+use Rattle.irig_saved.specs.declared.single.Single.TheVariants.{Splice, Toggle, Shift, SetFormat}
+use Rattle.irig_saved.specs.declared.single.Single.TheVariants.{SetMark}
 use Rattle.irig_edit.specs.State.State.{State, frames_of}
 use Rattle.irig_edit.specs.declared.changes.single.Single.{Single}
 
 -- there are places for the pulses that a change inserts; of a toggle, that it may insert, and then
 -- one that its way back needs
-abbrev pub PutsIn : Places → State → SingleDelta → Type 0
-PutsIn p s (Spliced at count put) = length s.pulses + length put ≤ p.pulses + count
-PutsIn p s (Toggled a b) = length s.pulses + 2 ≤ p.pulses
+abbrev pub PutsIn : Places → State → saved.Single → Type 0
+PutsIn p s (Splice at count put) = length s.pulses + length put ≤ p.pulses + count
+PutsIn p s (Toggle a b) = length s.pulses + 2 ≤ p.pulses
 PutsIn p s single = Unit {0}
 
 -- how many records a turn may bring, in addition to those there are: the frames that the pulses of
 -- a splice have alone, and two, of the pulses on either side
-abbrev pub records_for : State → SingleDelta → ℕ
-records_for s (Spliced at count put) = length (frames s.format put) + 2
-records_for s (Toggled a b) =
+abbrev pub records_for : State → saved.Single → ℕ
+records_for s (Splice at count put) = length (frames s.format put) + 2
+records_for s (Toggle a b) =
     min (risen_by b s.pulses - risen_by a s.pulses + 4) (length s.pulses + 3)
-records_for s (Shifted i j d named) = 2
-records_for s (Formatted f) = length (frames f s.pulses) - length (frames_of s)
-records_for s (Marked letter time) = 0
+records_for s (Shift i j d named) = 2
+records_for s (SetFormat kind expression) =
+    length (frames (record { kind = kind; expression = expression }) s.pulses)
+    - length (frames_of s)
+records_for s (SetMark letter time) = 0
 
 -- there is as much room as an edit asks for: for all records that its turn may bring
 pub record IsAmpleFor (p : Places) (s : State) (single : Single) : Type 0 where

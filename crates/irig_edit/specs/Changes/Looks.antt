@@ -1,12 +1,13 @@
 -- How many looks at pulses a turn of a change may take. This project's own.
 use Rattle.std.specs.Prelude.{◌≤◌, ℕ, ◌+◌, ◌-◌, ◌*◌, ◌^◌, List, [], ◌∷◌, Option, Some, None, length}
-use Rattle.std.specs.Prelude.{min, nat_le, ◌&&◌, cond}
+use Rattle.std.specs.Prelude.{suc, min, nat_le, ◌&&◌, cond}
 use Rattle.irig_track.specs.Shifts.{count_to}
 use Rattle.irig_vcd.specs.declared.pulse.Pulse.{Pulse}
-use Rattle.irig_edit.specs.Changes.Delta.{Delta}
-use Rattle.irig_edit.specs.Changes.Delta.Delta.{Alone, Together}
-use Rattle.irig_edit.specs.Changes.Single.{SingleDelta, turned_single}
-use Rattle.irig_edit.specs.Changes.Single.SingleDelta.{Spliced, Toggled, Shifted, Formatted, Marked}
+use Rattle.irig_saved.specs.declared.change.Change.{Change}
+use Rattle.irig_saved.specs.declared.change.Change.TheVariants.{One, Group}
+use Rattle.irig_saved.specs.declared.single.Single.{Single}
+use Rattle.irig_edit.specs.Changes.Single.{turned_single}
+use Rattle.irig_saved.specs.declared.single.Single.TheVariants.{Splice, Toggle, Shift, SetFormat}
 use Rattle.irig_edit.specs.State.State.{State}
 
 -- how many pulses are there from a to b: they rise at or before b and fall at or after a
@@ -20,12 +21,12 @@ window size = Some (3 * (size + 200))
 
 -- the most looks of a turn of a single change that leaves these pulses: a change of the format may
 -- look at them all, one of a mark looks at none
-abbrev pub looks_by : SingleDelta → List Pulse → Option ℕ
-looks_by (Spliced at count put) after = window (length put)
-looks_by (Toggled a b) after = window (standing_in a b after)
-looks_by (Shifted i j d named) after = window (count_to i j)
-looks_by (Formatted f) after = None
-looks_by (Marked letter time) after = Some 0
+abbrev pub looks_by : Single → List Pulse → Option ℕ
+looks_by (Splice at count put) after = window (length put)
+looks_by (Toggle a b) after = window (standing_in a b after)
+looks_by (Shift (suc i) (suc j) d named) after = window (count_to i j)
+looks_by (SetFormat kind expression) after = None
+looks_by _ after = Some 0
 
 -- the sum of two bounds, if there are both
 abbrev pub both : Option ℕ → Option ℕ → Option ℕ
@@ -34,16 +35,16 @@ both (Some most) None = None
 both (Some most) (Some more) = Some (most + more)
 
 -- the most looks of the turns of single changes, one after another
-abbrev pub looks_along : State → List SingleDelta → Option ℕ
+abbrev pub looks_along : State → List Single → Option ℕ
 looks_along s [] = Some 0
 looks_along s (single ∷ singles) =
     both (looks_by single (turned_single s single).0.pulses)
     (looks_along (turned_single s single).0 singles)
 
 -- the most looks of a turn of a change
-abbrev pub looks_of : State → Delta → Option ℕ
-looks_of s (Alone single) = looks_by single (turned_single s single).0.pulses
-looks_of s (Together singles) = looks_along s singles
+abbrev pub looks_of : State → Change → Option ℕ
+looks_of s (One single) = looks_by single (turned_single s single).0.pulses
+looks_of s (Group singles) = looks_along s singles
 
 -- a number is within a bound, if there is one
 abbrev pub Within : Option ℕ → ℕ → Type 0

@@ -3,8 +3,9 @@
 use Rattle.std.specs.Prelude.{ℕ, ◌≤◌}
 use Rattle.irig_edit.specs.Changes.Held.{single_of}
 use Rattle.irig_edit.specs.State.Places.{HoldsState, Places}
-use Rattle.irig_edit.specs.Changes.Single.{SingleDelta, turned_single}
-use Rattle.irig_edit.specs.Changes.Single.SingleDelta.{Toggled}
+use Rattle.irig_saved.specs.declared.single.Single as saved
+use Rattle.irig_edit.specs.Changes.Single.{turned_single}
+use Rattle.irig_saved.specs.declared.single.Single.TheVariants.{Toggle}
 use Rattle.irig_edit.specs.State.State.{State}
 use Rattle.irig_edit.specs.declared.changes.single.Single.{Single}
 use Rattle.irig_edit.specs.declared.changes.single.Single.TheVariants.{Splice}
@@ -15,8 +16,8 @@ TakesIn (Splice s) = s.count ≤ s.taken.capacity
 TakesIn single = Unit {0}
 
 -- how many places for pulses a turn needs on its way, in addition
-abbrev pub passing : SingleDelta → ℕ
-passing (Toggled a b) = 1
+abbrev pub passing : saved.Single → ℕ
+passing (Toggle a b) = 1
 passing d = 0
 
 -- there is room for a turn of a single change, and for a turn of the one that leads back: places

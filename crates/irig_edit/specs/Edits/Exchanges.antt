@@ -6,7 +6,8 @@ use Rattle.irig_edit.specs.Session.Calls.Edit.{Insert, Delete, Split, Join, Shif
 use Rattle.irig_edit.specs.Session.Calls.Edit.{Regen}
 use Rattle.irig_edit.specs.Session.Calls.Edit.{SetFormat}
 use Rattle.irig_edit.specs.Edits.Changes.{change_by}
-use Rattle.irig_edit.specs.Changes.Delta.{Delta, turned}
+use Rattle.irig_saved.specs.declared.change.Change.{Change}
+use Rattle.irig_edit.specs.Changes.Delta.{turned}
 use Rattle.irig_track.specs.Edges.{edges_of}
 use Rattle.irig_track.specs.Toggles.{toggled}
 use Rattle.irig_edit.specs.Changes.Single.{pulses_of}
@@ -16,7 +17,7 @@ use Rattle.irig_edit.specs.Edits.Regenerated.{frames_end, rising_in}
 use Rattle.irig_edit.specs.State.State.{State}
 
 -- what an edit of a state exchanges, by a change that leads back and one that leads on
-abbrev pub exchange_with : Edit → State → Delta → Delta → Exchange
+abbrev pub exchange_with : Edit → State → Change → Change → Exchange
 exchange_with (Insert a b) s back on = exchange 0 1 back on
 exchange_with (Delete i j) s back on = exchange (j + 1 - i) 0 back on
 exchange_with (Split i a b) s back on = exchange 1 2 back on

@@ -2,18 +2,16 @@
 use Rattle.std.specs.Prelude.{◌≡◌, ◌⊎◌, ◌+◌, ◌-◌, ℕ, List, [], ◌∷◌, Option, Some, None, length}
 use Rattle.std.specs.Prelude.{nat_lt, not, if◌then◌else◌, reverse, take}
 use Rattle.irig_codes.specs.Format.{is_permitted}
-use Rattle.irig_journal.specs.History.{Step}
 use Rattle.irig_journal.specs.Groups.{over}
 use Rattle.irig_saved.specs.SavedText.{mark_lines, steps_lines}
 use Rattle.irig_saved.specs.declared.saved.Saved.{Saved}
 use Rattle.irig_saved.specs.declared.step.Step.{Step as SavedStep}
 use Rattle.irig_vcd.specs.Recording.{RecordingView}
-use Rattle.irig_edit.specs.Changes.Delta.{Delta}
 use Rattle.irig_edit.specs.Session.Keeping.{machine}
 use Rattle.irig_edit.specs.Session.Session.{SessionView, session_view}
 use Rattle.irig_edit.specs.Changes.Single.{pulses_of}
 use Rattle.irig_edit.specs.State.State.{State, state}
-use Rattle.irig_edit.specs.Opened.Taken.{AreTaken, StopsAfter}
+use Rattle.irig_edit.specs.Opened.Taken.{CanTakeAll, StopsAfter, steps_of}
 
 -- the state of a recording with the format and the marks of its journal
 abbrev pub state_of : RecordingView → Saved → State
@@ -46,8 +44,7 @@ abbrev pub IsStepAtFault : State → List SavedStep → List SavedStep → ℕ �
 IsStepAtFault s past future line fault =
     ((count : ℕ) × (StopsAfter s (reverse past) count
     × (fault ≡ line - length (steps_lines (take (count + 1) (reverse past))))))
-    ⊎ (((steps : List (Step Delta)) × AreTaken s (reverse past) steps)
-    × ((count : ℕ) × (StopsAfter s future count
+    ⊎ (CanTakeAll s (steps_of (reverse past)) × ((count : ℕ) × (StopsAfter s future count
     × (fault ≡ line + 1 + length (steps_lines (take count future))))))
 
 -- the first line at fault: above the steps, or else that of a step
@@ -57,17 +54,15 @@ IsLineAtFault s saved fault =
     ⊎ ((head_fault s saved ≡ None)
     × IsStepAtFault s saved.past saved.future (line_of_future saved) fault)
 
--- steps back and forward that a journal names can be taken, back the newest first, forward the next
+-- the steps back and forward of a journal can be taken, back the newest first, forward the next
 -- first: they make the session
 pub record IsAccepted (s : State) (saved : Saved) (v : SessionView) : Type 0 where
   pub head : head_fault s saved ≡ None
-  pub past : List (Step Delta)
-  pub back : AreTaken s (reverse saved.past) past
-  pub future : List (Step Delta)
-  pub on : AreTaken s saved.future future
+  pub back : CanTakeAll s (steps_of (reverse saved.past))
+  pub on : CanTakeAll s (steps_of saved.future)
   pub session : v ≡ session_view (over None (machine (record {
     state = s;
     cursor = saved.cursor;
-    past = past;
-    future = future;
+    past = steps_of (reverse saved.past);
+    future = steps_of saved.future;
   }))) v.looks 0

@@ -2,10 +2,10 @@
 use Rattle.std.specs.Prelude.{◌≡◌, ◌<◌, ◌^◌, ◌+◌, ℕ, Bool, true, false, List, length, reverse, take}
 use Rattle.irig_saved.specs.SavedText.{steps_lines}
 use Rattle.irig_saved.specs.declared.step.Step.{Step as SavedStep}
-use Rattle.irig_journal.specs.History.{History, Step}
-use Rattle.irig_edit.specs.Changes.Delta.{Delta}
+use Rattle.irig_journal.specs.History.{History}
+use Rattle.irig_saved.specs.declared.change.Change.{Change}
 use Rattle.irig_edit.specs.State.State.{State}
-use Rattle.irig_edit.specs.Opened.Taken.{AreTaken, StopsAfter}
+use Rattle.irig_edit.specs.Opened.Taken.{CanTakeAll, StopsAfter, steps_of}
 use Rattle.irig_edit.specs.Opened.Walk.{walk}
 use Rattle.irig_edit.specs.declared.opened.taking.Stop.{Stop}
 use Rattle.irig_edit.specs.declared.opened.taking.Stop.TheVariants.{At, Memory}
@@ -28,11 +28,9 @@ abbrev pub IsStop : State → List SavedStep → Stop → Type 0
 IsStop s saves (At before behind) = StopsAt s saves before behind
 IsStop s saves Memory = Unit {0}
 
--- steps back and forward that are named can be taken, and are the past and the future of the state
-pub record HasTaken (old : History State Delta) (past future : List SavedStep)
-    (new : History State Delta) : Type 0 where
-  pub behind : List (Step Delta)
-  pub ahead : List (Step Delta)
-  pub back : AreTaken old.state (reverse past) behind
-  pub on : AreTaken old.state future ahead
-  pub stands : new ≡ walk old.state old.cursor behind ahead
+-- saved steps back and forward can be taken, and are the past and the future of the state
+pub record HasTaken (old : History State Change) (past future : List SavedStep)
+    (new : History State Change) : Type 0 where
+  pub back : CanTakeAll old.state (steps_of (reverse past))
+  pub on : CanTakeAll old.state (steps_of future)
+  pub stands : new ≡ walk old.state old.cursor (steps_of (reverse past)) (steps_of future)

@@ -11,9 +11,9 @@ use Rattle.irig_saved.specs.Lines.{line, numbered, text_of}
 use Rattle.irig_saved.specs.SavedText.{mark_lines, pulse_lines, singles_lines, steps_lines}
 use Rattle.irig_vcd.specs.declared.pulse.Pulse.{Pulse}
 use Rattle.irig_vcd.specs.FileText.{file_text}
-use Rattle.irig_edit.specs.Changes.Delta.{Delta}
+use Rattle.irig_saved.specs.declared.change.Change.{Change}
 use Rattle.irig_edit.specs.Changes.Held.{delta_of, deltas_of, single_of}
-use Rattle.irig_edit.specs.Saved.Saved.{saved_single, saved_step}
+use Rattle.irig_edit.specs.Saved.Saved.{saved_step}
 use Rattle.irig_edit.specs.State.State.{State, recording_of}
 use Rattle.irig_edit.specs.declared.changes.single.Single.{Single}
 use Rattle.irig_edit.specs.declared.saved.stage.Stage.{Stage}
@@ -26,10 +26,10 @@ pulses_left (Some pulses) next = text_of (pulse_lines (drop next pulses.now.item
 
 -- the lines of changes
 abbrev pub changes_text : List Single → List ℕ
-changes_text singles = text_of (singles_lines (map saved_single (map single_of singles)))
+changes_text singles = text_of (singles_lines (map single_of singles))
 
 -- the lines of steps
-abbrev pub steps_text : List (Step Delta) → List ℕ
+abbrev pub steps_text : List (Step Change) → List ℕ
 steps_text steps = text_of (steps_lines (map saved_step steps))
 
 -- the line of a word and a count

@@ -5,7 +5,8 @@ use Rattle.irig_journal.specs.Groups.{Floor, Grouped, over}
 use Rattle.irig_journal.specs.History.{History, Step}
 use Rattle.irig_journal.specs.Journal.{Steps, history_of}
 use Rattle.irig_journal.specs.Machine.{Machine}
-use Rattle.irig_edit.specs.Changes.Delta.{Delta, turned, weight_of}
+use Rattle.irig_saved.specs.declared.change.Change.{Change}
+use Rattle.irig_edit.specs.Changes.Delta.{turned, weight_of}
 use Rattle.irig_edit.specs.Changes.Held.{delta_of}
 use Rattle.irig_edit.specs.Session.Kept.{Exchange, Kept, exchanging, kept, nothing}
 use Rattle.irig_edit.specs.Changes.Looks.{looks_of}
@@ -14,37 +15,37 @@ use Rattle.irig_edit.specs.declared.changes.single.Single.{Single}
 
 -- what two changes exchange: one leads from this state to that and one leads back, and the
 -- change that leads back holds what was removed
-abbrev pub exchange_across : Delta → Delta → State → State → Exchange
+abbrev pub exchange_across : Change → Change → State → State → Exchange
 exchange_across back forth before after =
     exchanging (weight_of back) (weight_of forth) (looks_of after back) (looks_of before forth)
     back forth
 
 -- what a change of a state exchanges
-abbrev pub exchange_of : State → Delta → Exchange
+abbrev pub exchange_of : State → Change → Exchange
 exchange_of s d = exchange_across (turned s d).1 d s (turned s d).0
 
 -- what the edit exchanged that made a state, the nearest of its steps back leading before it
-abbrev pub exchange_back : State → List (Step Delta) → Exchange
+abbrev pub exchange_back : State → List (Step Change) → Exchange
 exchange_back s [] = nothing
 exchange_back s (near ∷ past) =
     exchange_across near.change (turned s near.change).1 (turned s near.change).0 s
 
 -- the states that the steps back lead to, one after another
-abbrev pub kept_back : State → List (Step Delta) → List Kept
+abbrev pub kept_back : State → List (Step Change) → List Kept
 kept_back s [] = []
 kept_back s (near ∷ past) =
     kept (turned s near.change).0 near.cursor (exchange_back (turned s near.change).0 past)
     ∷ kept_back (turned s near.change).0 past
 
 -- the states that the steps forward lead to, one after another
-abbrev pub kept_forward : State → List (Step Delta) → List Kept
+abbrev pub kept_forward : State → List (Step Change) → List Kept
 kept_forward s [] = []
 kept_forward s (near ∷ future) =
     kept (turned s near.change).0 near.cursor (exchange_of s near.change)
     ∷ kept_forward (turned s near.change).0 future
 
 -- the machine that a history means
-abbrev pub machine : History State Delta → Machine Kept
+abbrev pub machine : History State Change → Machine Kept
 machine h = record {
   past = kept_back h.state h.past;
   present = kept h.state h.cursor (exchange_back h.state h.past);

@@ -1,6 +1,7 @@
 -- What the machine of whole states keeps of each. This project's own.
 use Rattle.std.specs.Prelude.{ℕ, ◌+◌, ◌-◌, ◌^◌, List, [], ◌∷◌, Option, Some, min}
-use Rattle.irig_edit.specs.Changes.Delta.{Delta, gathered}
+use Rattle.irig_saved.specs.declared.change.Change.{Change}
+use Rattle.irig_edit.specs.Changes.Delta.{gathered}
 use Rattle.irig_edit.specs.Changes.Looks.{both, window}
 use Rattle.irig_edit.specs.State.State.{State}
 
@@ -12,11 +13,11 @@ pub record Exchange : Type 0 where
   pub put : ℕ
   pub back : Option ℕ
   pub forth : Option ℕ
-  pub way_back : Delta
-  pub way_on : Delta
+  pub way_back : Change
+  pub way_on : Change
 
 -- what is exchanged, of its parts
-abbrev pub exchanging : ℕ → ℕ → Option ℕ → Option ℕ → Delta → Delta → Exchange
+abbrev pub exchanging : ℕ → ℕ → Option ℕ → Option ℕ → Change → Change → Exchange
 exchanging taken put back forth way_back way_on = record {
   taken = taken;
   put = put;
@@ -27,11 +28,11 @@ exchanging taken put back forth way_back way_on = record {
 }
 
 -- an edit that replaces pulses by others
-abbrev pub exchange : ℕ → ℕ → Delta → Delta → Exchange
+abbrev pub exchange : ℕ → ℕ → Change → Change → Exchange
 exchange taken put = exchanging taken put (window taken) (window put)
 
 -- any other holds no pulse
-abbrev pub holding_none : Option ℕ → Option ℕ → Delta → Delta → Exchange
+abbrev pub holding_none : Option ℕ → Option ℕ → Change → Change → Exchange
 holding_none = exchanging 0 0
 
 -- nothing held, nothing looked at, and nothing to be changed

@@ -2,7 +2,8 @@
 
 ghost use Rattle.std.specs.Prelude.{ℕ};
 ghost use Rattle.irig_edit.specs.Changes.Ample.{IsAmpleFor};
-ghost use Rattle.irig_edit.specs.Changes.Delta.{Delta, Fits, gathered, turned, weight_of};
+ghost use Rattle.irig_saved.specs.declared.change.Change.{Change};
+ghost use Rattle.irig_edit.specs.Changes.Delta.{Fits, gathered, turned, weight_of};
 ghost use Rattle.irig_edit.specs.Changes.Held.{delta_of};
 ghost use Rattle.irig_edit.specs.Changes.Laws.Delta.{Fits-turned, IsState-turned, turned-turned};
 ghost use Rattle.irig_edit.specs.Changes.Laws.Groups.{Fits-gathered, turned-gathered};
@@ -26,7 +27,7 @@ impl Reversible for Present {
 
     ghost Content = { State };
 
-    ghost Delta = { Delta };
+    ghost Delta = { Change };
 
     ghost Tally = { ℕ };
 

@@ -1,16 +1,17 @@
 //! A pulse gets the width of an element.
 
-ghost use Rattle.std.specs.Prelude.{◌≡◌, ◌+◌, ◌-◌, ◌≤◌, [], ◌∷◌, None, Some, IfOk, IfErr, OnOk};
+ghost use Rattle.std.specs.Prelude.{suc, ◌≡◌, ◌+◌, ◌-◌, ◌≤◌, [], ◌∷◌, None, Some, IfOk, IfErr};
+ghost use Rattle.std.specs.Prelude.{OnOk};
 ghost use Rattle.std.specs.Prelude.{length};
 ghost use Rattle.irig_track.specs.Splices.{spliced, CanSplice};
 ghost use Rattle.irig_edit.specs.Edits.Becoming.{Becomes, judgement_of};
 ghost use Rattle.irig_edit.specs.Session.Calls.Call.{Make};
 ghost use Rattle.irig_edit.specs.Session.Calls.Edit.{Force};
 ghost use Rattle.irig_edit.specs.Edits.Changes.{change_by};
-ghost use Rattle.irig_edit.specs.Changes.Delta.Delta.{Alone};
+ghost use Rattle.irig_saved.specs.declared.change.Change.TheVariants.{One};
 ghost use Rattle.irig_edit.specs.Session.Session.{LooksAfter, Steps};
 ghost use Rattle.irig_edit.specs.Edits.Conditions.{meets_next};
-ghost use Rattle.irig_edit.specs.Changes.Single.SingleDelta.{Spliced};
+ghost use Rattle.irig_saved.specs.declared.single.Single.TheVariants.{Splice};
 ghost use Rattle.irig_edit.specs.State.State.{with_pulses};
 
 use super::one;
@@ -30,7 +31,7 @@ fn plan(present: &Present, i: usize, element: Element) -> Result<Pulse, Refusal>
         CanSplice present.now.state.micros (i - 1) 1 (p ∷ []) present.now.state.pulses) }
     ensures becomes { IfOk result (λ p. Becomes (Force i element) present.now.state
         (with_pulses (spliced (i - 1) 1 (p ∷ []) present.now.state.pulses) present.now.state) i) }
-    ensures change { IfOk result (λ p. Alone (Spliced (i - 1) 1 (p ∷ []))
+    ensures change { IfOk result (λ p. One (Splice (suc (i - 1)) 1 (p ∷ []))
         ≡ change_by (Force i element) present.now.state) }
 {
     if i == 0 || i > present.len() {

@@ -1,15 +1,15 @@
 //! Inserts a pulse.
 
-ghost use Rattle.std.specs.Prelude.{◌≡◌, ◌+◌, [], ◌∷◌, None, Some, IfOk, IfErr, OnOk};
+ghost use Rattle.std.specs.Prelude.{suc, ◌≡◌, ◌+◌, [], ◌∷◌, None, Some, IfOk, IfErr, OnOk};
 ghost use Rattle.irig_track.specs.Edges.{pulse};
 ghost use Rattle.irig_track.specs.Splices.{spliced, CanSplice};
 ghost use Rattle.irig_edit.specs.Session.Calls.Call.{Make};
 ghost use Rattle.irig_edit.specs.Session.Calls.Edit.{Insert};
 ghost use Rattle.irig_edit.specs.Edits.Becoming.{Becomes, judgement_of};
 ghost use Rattle.irig_edit.specs.Edits.Changes.{change_by};
-ghost use Rattle.irig_edit.specs.Changes.Delta.Delta.{Alone};
+ghost use Rattle.irig_saved.specs.declared.change.Change.TheVariants.{One};
 ghost use Rattle.irig_edit.specs.Session.Session.{LooksAfter, Steps};
-ghost use Rattle.irig_edit.specs.Changes.Single.SingleDelta.{Spliced};
+ghost use Rattle.irig_saved.specs.declared.single.Single.TheVariants.{Splice};
 ghost use Rattle.irig_edit.specs.State.State.{with_pulses};
 
 use super::one;
@@ -27,7 +27,7 @@ fn plan(present: &Present, a: u64, b: u64) -> Result<usize, Refusal>
     ensures becomes { IfOk result (λ at. Becomes (Insert a b) present.now.state
         (with_pulses (spliced at 0 (pulse a b ∷ []) present.now.state.pulses)
         present.now.state) (at + 1)) }
-    ensures change { IfOk result (λ at. Alone (Spliced at 0 (pulse a b ∷ []))
+    ensures change { IfOk result (λ at. One (Splice (suc at) 0 (pulse a b ∷ []))
         ≡ change_by (Insert a b) present.now.state) }
 {
     if a >= b || b > present.length() {

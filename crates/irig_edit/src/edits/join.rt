@@ -1,15 +1,15 @@
 //! Joins pulses into one.
 
-ghost use Rattle.std.specs.Prelude.{◌≡◌, ◌+◌, ◌-◌, ◌≤◌, ◌<◌, [], ◌∷◌, None, Some, IfOk, IfErr};
+ghost use Rattle.std.specs.Prelude.{suc, ◌≡◌, ◌+◌, ◌-◌, ◌≤◌, ◌<◌, [], ◌∷◌, None, Some, IfOk, IfErr};
 ghost use Rattle.std.specs.Prelude.{OnOk};
 ghost use Rattle.irig_track.specs.Splices.{spliced, CanSplice};
 ghost use Rattle.irig_edit.specs.Edits.Becoming.{Becomes, judgement_of};
 ghost use Rattle.irig_edit.specs.Session.Calls.Call.{Make};
 ghost use Rattle.irig_edit.specs.Session.Calls.Edit.{Join};
 ghost use Rattle.irig_edit.specs.Edits.Changes.{change_by};
-ghost use Rattle.irig_edit.specs.Changes.Delta.Delta.{Alone};
+ghost use Rattle.irig_saved.specs.declared.change.Change.TheVariants.{One};
 ghost use Rattle.irig_edit.specs.Session.Session.{LooksAfter, Steps};
-ghost use Rattle.irig_edit.specs.Changes.Single.SingleDelta.{Spliced};
+ghost use Rattle.irig_saved.specs.declared.single.Single.TheVariants.{Splice};
 ghost use Rattle.irig_edit.specs.State.State.{with_pulses};
 
 use super::one;
@@ -28,7 +28,7 @@ fn plan(present: &Present, i: usize, j: usize) -> Result<Pulse, Refusal>
     ensures becomes { IfOk result (λ p. Becomes (Join i j) present.now.state
         (with_pulses (spliced (i - 1) (j + 1 - i) (p ∷ []) present.now.state.pulses)
         present.now.state) i) }
-    ensures change { IfOk result (λ p. Alone (Spliced (i - 1) (j + 1 - i) (p ∷ []))
+    ensures change { IfOk result (λ p. One (Splice (suc (i - 1)) (j + 1 - i) (p ∷ []))
         ≡ change_by (Join i j) present.now.state) }
 {
     if i == 0 || i >= j || j > present.len() {

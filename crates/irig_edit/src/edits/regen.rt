@@ -1,6 +1,7 @@
 //! Fills a stretch of time with frames.
 
-ghost use Rattle.std.specs.Prelude.{◌≡◌, ◌+◌, ◌*◌, ◌^◌, ◌<◌, ◌≤◌, None, Some, IfOk, IfErr, OnOk};
+ghost use Rattle.std.specs.Prelude.{suc, ◌≡◌, ◌+◌, ◌*◌, ◌^◌, ◌<◌, ◌≤◌, None, Some, IfOk, IfErr};
+ghost use Rattle.std.specs.Prelude.{OnOk};
 ghost use Rattle.std.specs.Prelude.{IsTrue, length, if◌then◌else◌};
 ghost use Rattle.irig_codes.specs.Format.{control_count_of};
 ghost use Rattle.irig_moment.specs.Generated.{starts_in};
@@ -10,10 +11,10 @@ ghost use Rattle.irig_edit.specs.Session.Calls.Call.{Make};
 ghost use Rattle.irig_edit.specs.Session.Calls.Edit.{Regen};
 ghost use Rattle.irig_edit.specs.Edits.Conditions.{are_frames, is_met};
 ghost use Rattle.irig_edit.specs.Edits.Changes.{change_by};
-ghost use Rattle.irig_edit.specs.Changes.Delta.Delta.{Alone};
+ghost use Rattle.irig_saved.specs.declared.change.Change.TheVariants.{One};
 ghost use Rattle.irig_edit.specs.Session.Session.{LooksAfter, Steps};
 ghost use Rattle.irig_edit.specs.Edits.Regenerated.{frames_end, frames_pulses, rising_before};
-ghost use Rattle.irig_edit.specs.Changes.Single.SingleDelta.{Spliced};
+ghost use Rattle.irig_saved.specs.declared.single.Single.TheVariants.{Splice};
 ghost use Rattle.irig_edit.specs.State.State.{IsState, with_pulses};
 
 use crate::edits::frames::{pulses_of, span};
@@ -93,7 +94,7 @@ fn plan(
         present.now.state.pulses) present.now.state)
         (p.at + 100 * frames)) }
     ensures few { IfOk result (λ p. p.at ≤ 2 ^ 22) }
-    ensures change { IfOk result (λ p. Alone (Spliced p.at p.count
+    ensures change { IfOk result (λ p. One (Splice (suc p.at) p.count
         (frames_pulses present.now.state.format start frames moment control))
         ≡ change_by (Regen start frames moment control) present.now.state) }
     ensures many { OnOk result (100 * frames

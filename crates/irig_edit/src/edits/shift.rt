@@ -1,17 +1,17 @@
 //! Moves pulses in time.
 
-ghost use Rattle.std.specs.Prelude.{◌≡◌, ◌-◌, ◌≤◌, None, Some, IfOk, IfErr, OnOk, length};
+ghost use Rattle.std.specs.Prelude.{suc, ◌≡◌, ◌-◌, ◌≤◌, None, Some, IfOk, IfErr, OnOk, length};
 ghost use Rattle.irig_track.specs.Shifts.{CanShift};
 ghost use Rattle.irig_edit.specs.Edits.Becoming.{Becomes, judgement_of};
 ghost use Rattle.irig_edit.specs.Session.Calls.Call.{Make};
 ghost use Rattle.irig_edit.specs.Session.Calls.Edit.{Shift};
 ghost use Rattle.irig_edit.specs.Edits.Conditions.{leaves};
 ghost use Rattle.irig_edit.specs.Changes.Delta.{Fits, turned};
-ghost use Rattle.irig_edit.specs.Changes.Delta.Delta.{Alone};
+ghost use Rattle.irig_saved.specs.declared.change.Change.TheVariants.{One};
 ghost use Rattle.irig_edit.specs.Edits.Exchanges.{exchange_by};
 ghost use Rattle.irig_edit.specs.Session.Keeping.{exchange_of};
 ghost use Rattle.irig_edit.specs.Session.Session.{LooksAfter, Steps};
-ghost use Rattle.irig_edit.specs.Changes.Single.SingleDelta.{Shifted};
+ghost use Rattle.irig_saved.specs.declared.single.Single.TheVariants.{Shift as Shifted};
 
 use crate::changes::single::{Shift as Move, Single};
 use crate::session::refusal::Refusal;
@@ -62,11 +62,11 @@ fn plan(present: &Present, i: usize, j: usize, by: i64) -> Result<Move, Refusal>
     ensures allowed { OnOk result (judgement_of (Shift i j by) present.now.state ≡ None) }
     ensures there { OnOk result (j ≤ length present.now.state.pulses) }
     ensures fits { IfOk result (λ m.
-        Fits present.now.state (Alone (Shifted m.i m.j m.by m.letters))) }
+        Fits present.now.state (One (Shifted (suc m.i) (suc m.j) m.by m.letters))) }
     ensures becomes { IfOk result (λ m. Becomes (Shift i j by) present.now.state
-        (turned present.now.state (Alone (Shifted m.i m.j m.by m.letters))).0 j) }
+        (turned present.now.state (One (Shifted (suc m.i) (suc m.j) m.by m.letters))).0 j) }
     ensures exchange { IfOk result (λ m.
-        exchange_of present.now.state (Alone (Shifted m.i m.j m.by m.letters))
+        exchange_of present.now.state (One (Shifted (suc m.i) (suc m.j) m.by m.letters))
         ≡ exchange_by (Shift i j by) present.now.state) }
 {
     judge(present, i, j, by)?;

@@ -1,15 +1,16 @@
 //! Splits a pulse in two.
 
-ghost use Rattle.std.specs.Prelude.{◌≡◌, ◌+◌, ◌-◌, ◌≤◌, [], ◌∷◌, None, Some, IfOk, IfErr, OnOk};
+ghost use Rattle.std.specs.Prelude.{suc, ◌≡◌, ◌+◌, ◌-◌, ◌≤◌, [], ◌∷◌, None, Some, IfOk, IfErr};
+ghost use Rattle.std.specs.Prelude.{OnOk};
 ghost use Rattle.irig_track.specs.Edges.{pulse};
 ghost use Rattle.irig_track.specs.Splices.{spliced, CanSplice};
 ghost use Rattle.irig_edit.specs.Edits.Becoming.{Becomes, judgement_of};
 ghost use Rattle.irig_edit.specs.Session.Calls.Call.{Make};
 ghost use Rattle.irig_edit.specs.Session.Calls.Edit.{Split};
 ghost use Rattle.irig_edit.specs.Edits.Changes.{change_by};
-ghost use Rattle.irig_edit.specs.Changes.Delta.Delta.{Alone};
+ghost use Rattle.irig_saved.specs.declared.change.Change.TheVariants.{One};
 ghost use Rattle.irig_edit.specs.Session.Session.{LooksAfter, Steps};
-ghost use Rattle.irig_edit.specs.Changes.Single.SingleDelta.{Spliced};
+ghost use Rattle.irig_saved.specs.declared.single.Single.TheVariants.{Splice};
 ghost use Rattle.irig_edit.specs.State.State.{with_pulses};
 
 use super::two;
@@ -29,7 +30,7 @@ fn plan(present: &Present, i: usize, a: u64, b: u64) -> Result<Pulse, Refusal>
         (with_pulses (spliced (i - 1) 1
         (pulse p.rise a ∷ pulse b p.fall ∷ []) present.now.state.pulses)
         present.now.state) (i + 1)) }
-    ensures change { IfOk result (λ p. Alone (Spliced (i - 1) 1
+    ensures change { IfOk result (λ p. One (Splice (suc (i - 1)) 1
         (pulse p.rise a ∷ pulse b p.fall ∷ [])) ≡ change_by (Split i a b) present.now.state) }
 {
     if a >= b || b > present.length() {

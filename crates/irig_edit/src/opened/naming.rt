@@ -1,8 +1,10 @@
 //! The single changes that a saved journal names.
 
-ghost use Rattle.std.specs.Prelude.{MatchOption};
+ghost use Rattle.std.specs.Prelude.{◌≡◌, MatchOption};
 ghost use Rattle.irig_saved.specs.declared.single.Single.TheVariants.{SetFormat, Shift, Splice};
-ghost use Rattle.irig_edit.specs.Opened.Names.{Names, NamesNone};
+ghost use Rattle.irig_edit.specs.Changes.Held.{single_of};
+ghost use Rattle.irig_edit.specs.Changes.Single.{FitsSingle};
+ghost use Rattle.irig_edit.specs.State.State.{State};
 
 use crate::changes::single::Single;
 use crate::changes::{single, splice};
@@ -12,7 +14,8 @@ use std::alloc::Global;
 
 /// The single change that is named; `None` if there is none that any state allows.
 pub(crate) fn single_named(alloc: Global, name: irig_saved::Single) -> Option<Single>
-    ensures { MatchOption result (NamesNone name) (Names name) }
+    ensures { MatchOption result ((s : State) → FitsSingle s name → ⊥)
+        (λ single. name ≡ single_of single) }
 {
     match name {
         irig_saved::Single::Splice { at, count, put } => splice_named(alloc, at, count, put),
@@ -28,7 +31,8 @@ pub(crate) fn single_named(alloc: Global, name: irig_saved::Single) -> Option<Si
 
 /// The splice at a pulse, from 1.
 fn splice_named(alloc: Global, at: u64, count: u64, put: Pulses) -> Option<Single>
-    ensures { MatchOption result (NamesNone (Splice at count put)) (Names (Splice at count put)) }
+    ensures { MatchOption result ((s : State) → FitsSingle s (Splice at count put) → ⊥)
+        (λ single. Splice at count put ≡ single_of single) }
 {
     let at = at.checked_sub(1)?;
     let put = put.into_gap();
@@ -37,7 +41,8 @@ fn splice_named(alloc: Global, at: u64, count: u64, put: Pulses) -> Option<Singl
 
 /// The shift of pulses, from 1.
 fn shift_named(i: u64, j: u64, by: i64, letters: [bool; 26]) -> Option<Single>
-    ensures { MatchOption result (NamesNone (Shift i j by letters)) (Names (Shift i j by letters)) }
+    ensures { MatchOption result ((s : State) → FitsSingle s (Shift i j by letters) → ⊥)
+        (λ single. Shift i j by letters ≡ single_of single) }
 {
     let i = i.checked_sub(1)? as usize;
     let j = j.checked_sub(1)? as usize;
@@ -46,8 +51,8 @@ fn shift_named(i: u64, j: u64, by: i64, letters: [bool; 26]) -> Option<Single>
 
 /// The setting of a format.
 fn format_named(kind: Kind, expression: u8) -> Option<Single>
-    ensures { MatchOption result (NamesNone (SetFormat kind expression))
-        (Names (SetFormat kind expression)) }
+    ensures { MatchOption result ((s : State) → FitsSingle s (SetFormat kind expression) → ⊥)
+        (λ single. SetFormat kind expression ≡ single_of single) }
 {
     match Format::new(kind, expression) {
         Ok(format) => Some(Single::SetFormat(format)),

@@ -1,20 +1,20 @@
 //! The steps of a saved journal, taken one after another.
 
-ghost use Rattle.std.specs.Prelude.{◌≡◌, ◌+◌, ◌≤◌, ◌<◌, ◌^◌, ℕ, List, [], IfErr, IfOk, None};
-ghost use Rattle.std.specs.Prelude.{MatchResult, OnOk, length, map, reverse};
+ghost use Rattle.std.specs.Prelude.{◌≡◌, ◌+◌, ◌≤◌, ◌<◌, ◌^◌, List, [], IfErr, IfOk, None};
+ghost use Rattle.std.specs.Prelude.{MatchResult, OnOk, length, reverse};
 ghost use Rattle.irig_journal.specs.History.{History, Step};
 ghost use Rattle.irig_journal.specs.Turns.{FitAll};
 ghost use Rattle.irig_saved.specs.SavedText.{mark_lines, saved_lines, steps_lines};
-ghost use Rattle.irig_edit.specs.Changes.Delta.{Delta, Fits};
-ghost use Rattle.irig_edit.specs.Changes.Delta.Delta.{Alone, Together};
-ghost use Rattle.irig_edit.specs.Changes.Single.{FitsSingle, SingleDelta, turned_single};
+ghost use Rattle.irig_saved.specs.declared.change.Change.{Change};
+ghost use Rattle.irig_edit.specs.Changes.Delta.{Fits};
+ghost use Rattle.irig_saved.specs.declared.change.Change.TheVariants.{One, Group};
+ghost use Rattle.irig_edit.specs.Changes.Single.{FitsSingle, turned_single};
 ghost use Rattle.irig_edit.specs.Opened.Opened.{IsAccepted, IsLineAtFault, IsStepAtFault};
 ghost use Rattle.irig_edit.specs.Opened.Opened.{head_fault};
 ghost use Rattle.irig_edit.specs.Opened.Openings.{IsBad};
-ghost use Rattle.irig_edit.specs.Saved.Saved.{saved_change, saved_single, saved_step};
 ghost use Rattle.irig_edit.specs.State.State.{IsState, State};
 ghost use Rattle.irig_edit.specs.Opened.Stops.{HasTaken, IsStop, Told};
-ghost use Rattle.irig_edit.specs.Opened.Taken.{AreTaken, CanTake, CanTakeAll};
+ghost use Rattle.irig_edit.specs.Opened.Taken.{CanTake, CanTakeAll, step_of, steps_of};
 ghost use Rattle.irig_edit.specs.Opened.Walk.{ahead_of, changed, gone_along, gone_on, walk};
 
 use crate::opened::naming::single_named;
@@ -39,8 +39,8 @@ impl Walk {
         requires ahead { self.old.future ≡ [] }
         requires lines { length (steps_lines (reverse steps)) < 2 ^ 63 }
         ensures { MatchResult result
-            (λ _. (ds : List (Step Delta)) × (AreTaken self.old.state (reverse steps) ds
-            × (self.new ≡ ahead_of self.old ds)))
+            (λ _. CanTakeAll self.old.state (steps_of (reverse steps))
+            × (self.new ≡ ahead_of self.old (steps_of (reverse steps))))
             (λ stop. IsStop self.old.state (reverse steps) stop) }
     {
         let _len = self.len();
@@ -111,8 +111,8 @@ impl Walk {
         requires ahead { self.old.future ≡ [] }
         requires lines { length (steps_lines (reverse steps)) < 2 ^ 63 }
         ensures { MatchResult result
-            (λ _. (ds : List (Step Delta)) × (AreTaken self.old.state (reverse steps) ds
-            × (self.new ≡ gone_along self.old ds)))
+            (λ _. CanTakeAll self.old.state (steps_of (reverse steps))
+            × (self.new ≡ gone_along self.old (steps_of (reverse steps))))
             (λ stop. IsStop self.old.state (reverse steps) stop) }
     {
         let mut before = 0;
@@ -129,7 +129,7 @@ impl Walk {
 
     /// Takes this many steps back.
     fn go_back(&mut self, count: usize)
-        ensures { (h : History State Delta) → (ds : List (Step Delta))
+        ensures { (h : History State Change) → (ds : List (Step Change))
             → IsState h.state → CanTakeAll h.state ds → self.old ≡ gone_along h ds
             → h.future ≡ [] → length ds ≡ count
             → self.new ≡ ahead_of h ds }
@@ -139,13 +139,13 @@ impl Walk {
         }
     }
 
-    /// Takes a step, and returns whether it can be taken. If not, nothing is said of what it leaves.
+    /// Takes a step, and returns whether it can be taken. If not, nothing is said of what it
+    /// leaves.
     fn take(&mut self, alloc: Global, step: irig_saved::Step) -> Result<bool, AllocError>
         requires ahead { self.old.future ≡ [] }
         ensures { IfOk result (λ taken. Told taken
-            ((d : Step Delta) × ((step ≡ saved_step d) × (CanTake self.old.state d
-            × (self.new ≡ gone_on self.old d))))
-            ((d : Step Delta) → step ≡ saved_step d → CanTake self.old.state d → ⊥)) }
+            (CanTake self.old.state (step_of step) × (self.new ≡ gone_on self.old (step_of step)))
+            (CanTake self.old.state (step_of step) → ⊥)) }
     {
         let irig_saved::Step { cursor, change } = step;
         if !self.make(alloc, change)? {
@@ -162,9 +162,8 @@ impl Walk {
     fn make(&mut self, alloc: Global, change: irig_saved::Change) -> Result<bool, AllocError>
         requires ahead { self.old.future ≡ [] }
         ensures { IfOk result (λ made. Told made
-            ((d : Delta) × ((change ≡ saved_change d) × (Fits self.old.state d
-            × (self.new ≡ changed self.old d))))
-            ((d : Delta) → change ≡ saved_change d → Fits self.old.state d → ⊥)) }
+            (Fits self.old.state change × (self.new ≡ changed self.old change))
+            (Fits self.old.state change → ⊥)) }
     {
         match change {
             irig_saved::Change::One(single) => self.make_one(alloc, single),
@@ -175,9 +174,8 @@ impl Walk {
     /// Makes a single change.
     fn make_one(&mut self, alloc: Global, name: irig_saved::Single) -> Result<bool, AllocError>
         ensures { IfOk result (λ made. Told made
-            ((d : SingleDelta) × ((name ≡ saved_single d) × (FitsSingle self.old.state d
-            × (self.new ≡ changed self.old (Alone d)))))
-            ((d : SingleDelta) → name ≡ saved_single d → FitsSingle self.old.state d → ⊥)) }
+            (FitsSingle self.old.state name × (self.new ≡ changed self.old (One name)))
+            (FitsSingle self.old.state name → ⊥)) }
     {
         let Some(single) = single_named(alloc, name) else {
             return Ok(false);
@@ -197,11 +195,9 @@ impl Walk {
     ) -> Result<bool, AllocError>
         requires ahead { self.old.future ≡ [] }
         ensures { IfOk result (λ made. Told made
-            ((ds : List SingleDelta) × ((names.items ≡ map saved_single ds)
-            × (FitAll FitsSingle turned_single self.old.state ds
-            × (self.new ≡ changed self.old (Together ds)))))
-            ((ds : List SingleDelta) → names.items ≡ map saved_single ds
-            → FitAll FitsSingle turned_single self.old.state ds → ⊥)) }
+            (FitAll FitsSingle turned_single self.old.state names.items
+            × (self.new ≡ changed self.old (Group names.items)))
+            (FitAll FitsSingle turned_single self.old.state names.items → ⊥)) }
     {
         let count = names.len();
         names.reverse();

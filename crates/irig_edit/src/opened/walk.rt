@@ -6,7 +6,7 @@ ghost use Rattle.irig_journal.specs.Groups.{over};
 ghost use Rattle.irig_journal.specs.History.{step, stepped_back, turned_round};
 ghost use Rattle.irig_journal.specs.Joining.{changes_of};
 ghost use Rattle.irig_edit.specs.Changes.Delta.{gathered, turned};
-ghost use Rattle.irig_edit.specs.Changes.Delta.Delta.{Alone};
+ghost use Rattle.irig_saved.specs.declared.change.Change.TheVariants.{One};
 ghost use Rattle.irig_edit.specs.Changes.Held.{single_of};
 ghost use Rattle.irig_edit.specs.Changes.Single.{FitsSingle};
 ghost use Rattle.irig_edit.specs.Session.Keeping.{machine};
@@ -36,12 +36,12 @@ impl Model for Walk {
     ghost use Rattle.std.specs.Prelude.{◌≡◌, None};
     ghost use Rattle.irig_journal.specs.History.{History};
     ghost use Rattle.irig_journal.specs.Journal.{history_of};
-    ghost use Rattle.irig_edit.specs.Changes.Delta.{Delta};
+    ghost use Rattle.irig_saved.specs.declared.change.Change.{Change};
     ghost use Rattle.irig_edit.specs.Changes.Held.{delta_of};
     ghost use Rattle.irig_edit.specs.Changes.Ready.{StepsAreReady};
     ghost use Rattle.irig_edit.specs.State.State.{State};
 
-    ghost Value = { History State Delta };
+    ghost Value = { History State Change };
 
     ghost view = { λ w. history_of delta_of w.present.state w.cursor w.journal };
 
@@ -78,7 +78,7 @@ impl Walk {
     /// Makes a single change, and stays at its cursor.
     pub(crate) fn change(&mut self, single: Single) -> Result<(), AllocError>
         requires { FitsSingle self.old.state (single_of single) }
-        ensures { OnOk result (self.new ≡ changed self.old (Alone (single_of single))) }
+        ensures { OnOk result (self.new ≡ changed self.old (One (single_of single))) }
     {
         match self.journal.record(&mut self.present, single, self.cursor) {
             Ok(()) => Ok(()),
@@ -86,8 +86,8 @@ impl Walk {
         }
     }
 
-    /// Makes one group of the newest steps, which leads to its cursor. It takes memory only if there
-    /// are none.
+    /// Makes one group of the newest steps, which leads to its cursor. It takes memory only if
+    /// there are none.
     pub(crate) fn gather(&mut self, count: usize) -> Result<(), AllocError>
         requires { count ≤ length self.old.past }
         ensures { OnOk result (self.new ≡ walk self.old.state self.old.cursor

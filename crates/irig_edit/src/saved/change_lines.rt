@@ -1,12 +1,14 @@
 //! The lines of single changes, in parts.
 
-ghost use Rattle.std.specs.Prelude.{◌≡◌, ◌≤◌, ◌<◌, ◌++◌, ◌∷◌, [], IfOk, OnOk, false, map, reverse};
+ghost use Rattle.std.specs.Prelude.{suc, ◌≡◌, ◌≤◌, ◌<◌, ◌++◌, ◌∷◌, [], IfOk, OnOk, false, map};
+ghost use Rattle.std.specs.Prelude.{reverse};
 ghost use Rattle.std.specs.Prelude.{true, vec_len};
 ghost use Rattle.std.specs.List.{AllByRecursion};
 ghost use Rattle.irig_saved.specs.ChangeWords.{single_line};
 ghost use Rattle.irig_edit.specs.Changes.Held.{single_of};
-ghost use Rattle.irig_edit.specs.Changes.Single.SingleDelta.{Spliced};
-ghost use Rattle.irig_edit.specs.Saved.Saved.{CanBeNamed, saved_single};
+ghost use Rattle.irig_saved.specs.declared.single.Single.TheVariants.{Splice as Spliced};
+ghost use Rattle.irig_saved.specs.Numbers.{NumbersOfSingle};
+ghost use Rattle.irig_saved.specs.Ranges.{IsNumber};
 ghost use Rattle.irig_edit.specs.Saved.SavedParts.{changes_text};
 
 use crate::changes::single::Single;
@@ -28,20 +30,20 @@ impl<'s> Model for ChangeLines<'s> {
     ghost use Rattle.std.specs.Prelude.{◌++◌, List, ℕ, map, reverse};
     ghost use Rattle.std.specs.List.{AllByRecursion};
     ghost use Rattle.irig_edit.specs.Changes.Held.{single_of};
-    ghost use Rattle.irig_edit.specs.Saved.Saved.{CanBeNamed};
+    ghost use Rattle.irig_saved.specs.Numbers.{NumbersOfSingle};
     ghost use Rattle.irig_edit.specs.Saved.SavedParts.{changes_text};
 
     ghost Value = { List ℕ };
 
     ghost view = { λ c. c.pulses ++ changes_text (reverse c.left.now) };
 
-    ghost invariant = { λ c. AllByRecursion CanBeNamed (map single_of (reverse c.left.now)) };
+    ghost invariant = { λ c. AllByRecursion NumbersOfSingle (map single_of (reverse c.left.now)) };
 }
 
 impl<'s> ChangeLines<'s> {
     /// The lines of all of them, the last first.
     pub(crate) fn new(singles: &'s [Single]) -> ChangeLines<'s>
-        requires { AllByRecursion CanBeNamed (map single_of (reverse singles.now)) }
+        requires { AllByRecursion NumbersOfSingle (map single_of (reverse singles.now)) }
         ensures { result ≡ changes_text (reverse singles.now) }
     {
         ChangeLines {
@@ -78,9 +80,9 @@ impl<'s> ChangeLines<'s> {
 
 /// Writes the first line of a change.
 fn put_first(text: &mut Vec<u8>, single: &Single) -> Result<(), AllocError>
-    requires named { CanBeNamed (single_of single.now) }
+    requires named { NumbersOfSingle (single_of single.now) }
     ensures { OnOk result (text.new.items ≡ text.old.items
-        ++ (single_line (saved_single (single_of single.now)) ++ 10 ∷ [])) }
+        ++ (single_line (single_of single.now) ++ 10 ∷ [])) }
 {
     match single {
         Single::Splice(splice) => put_first_of_splice(text, splice),
@@ -96,9 +98,9 @@ fn put_first(text: &mut Vec<u8>, single: &Single) -> Result<(), AllocError>
 
 /// Writes the first line of a splice.
 fn put_first_of_splice(text: &mut Vec<u8>, splice: &Splice) -> Result<(), AllocError>
-    requires named { CanBeNamed (Spliced splice.now.at splice.now.count splice.now.put.items) }
+    requires { IsNumber (suc splice.now.at) }
     ensures { OnOk result (text.new.items ≡ text.old.items ++ (single_line
-        (saved_single (Spliced splice.now.at splice.now.count splice.now.put.items)) ++ 10 ∷ [])) }
+        (Spliced (suc splice.now.at) splice.now.count splice.now.put.items) ++ 10 ∷ [])) }
 {
     let put = splice.put.len() as u64;
     put_splice(text, splice.at as u64 + 1, splice.count as u64, put)

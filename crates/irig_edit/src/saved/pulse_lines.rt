@@ -4,7 +4,6 @@ ghost use Rattle.std.specs.Prelude.{◌≡◌, ◌≤◌, ◌<◌, ◌++◌, [],
 ghost use Rattle.irig_saved.specs.Lines.{text_of};
 ghost use Rattle.irig_saved.specs.SavedText.{pulse_lines, put_of};
 ghost use Rattle.irig_edit.specs.Changes.Held.{single_of};
-ghost use Rattle.irig_edit.specs.Saved.Saved.{saved_single};
 
 use crate::changes::single::Single;
 use irig_gap::Gap;
@@ -42,8 +41,7 @@ impl<'s> PulseLines<'s> {
 
     /// A line for each pulse that a change inserts.
     pub(crate) fn of(single: &'s Single) -> PulseLines<'s>
-        ensures { result ≡ text_of (pulse_lines (put_of (saved_single
-            (single_of single.now)))) }
+        ensures { result ≡ text_of (pulse_lines (put_of (single_of single.now))) }
     {
         match single {
             Single::Splice(splice) => PulseLines {

@@ -9,7 +9,8 @@ ghost use Rattle.irig_saved.specs.Lines.{text_of};
 ghost use Rattle.irig_saved.specs.SavedText.{step_lines};
 ghost use Rattle.irig_edit.specs.Changes.Delta.{singles_of};
 ghost use Rattle.irig_edit.specs.Changes.Held.{delta_of, deltas_of};
-ghost use Rattle.irig_edit.specs.Saved.Saved.{CanBeNamed, StepsCanBeNamed, saved_step};
+ghost use Rattle.irig_saved.specs.Numbers.{NumbersOfSingle};
+ghost use Rattle.irig_edit.specs.Saved.Saved.{StepsCanBeNamed, saved_step};
 ghost use Rattle.irig_edit.specs.Saved.SavedParts.{steps_text};
 
 use crate::changes::single::Single;
@@ -98,7 +99,7 @@ fn begin_next<'s>(
 /// Writes the first line of a step, and of a group the second. Returns the lines of its changes.
 fn begin_step<'s>(text: &mut Vec<u8>, kept: Step<'s, Single>) -> Result<ChangeLines<'s>, AllocError>
     requires alone { kept.is_group ≡ false → length kept.changes.now ≡ 1 }
-    requires named { AllByRecursion CanBeNamed (singles_of (delta_of (held_of kept).parts)) }
+    requires named { AllByRecursion NumbersOfSingle (singles_of (delta_of (held_of kept).parts)) }
     ensures { IfOk result (λ left. text.new.items ++ left ≡ text.old.items ++ text_of (step_lines
         (saved_step (step (delta_of (held_of kept.entry).parts) kept.entry.cursor)))) }
 {

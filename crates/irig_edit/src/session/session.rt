@@ -1,6 +1,7 @@
 //! A track under edit.
 
-ghost use Rattle.std.specs.Prelude.{◌≡◌, ◌≤◌, ◌<◌, ◌-◌, length, IfOk, OnOk, OnErr, IsErrOf, None};
+ghost use Rattle.std.specs.Prelude.{suc, ◌≡◌, ◌≤◌, ◌<◌, ◌-◌, length, IfOk, OnOk, OnErr, IsErrOf};
+ghost use Rattle.std.specs.Prelude.{None};
 ghost use Rattle.std.specs.Prelude.{Ok};
 ghost use Rattle.irig_journal.specs.Groups.{recorded_over};
 ghost use Rattle.irig_edit.specs.State.State.{recording_of, with_pulses};
@@ -13,11 +14,11 @@ ghost use Rattle.irig_edit.specs.Session.Keeping.{exchange_of};
 ghost use Rattle.irig_edit.specs.Edits.Becoming.{Becomes, judgement_of};
 ghost use Rattle.irig_edit.specs.Session.Calls.{Edit};
 ghost use Rattle.irig_edit.specs.Changes.Delta.{Fits, turned};
-ghost use Rattle.irig_edit.specs.Changes.Delta.Delta.{Alone};
+ghost use Rattle.irig_saved.specs.declared.change.Change.TheVariants.{One};
 ghost use Rattle.irig_edit.specs.Changes.Held.{single_of};
 ghost use Rattle.irig_edit.specs.Session.Calls.Call.{Make, Undo, Redo, Go};
 ghost use Rattle.irig_edit.specs.Session.Calls.Edit.{SetFormat, SetMark};
-ghost use Rattle.irig_edit.specs.Changes.Single.SingleDelta.{Spliced};
+ghost use Rattle.irig_saved.specs.declared.single.Single.TheVariants.{Splice as Spliced};
 ghost use Rattle.irig_track.specs.Splices.{spliced, CanSplice};
 
 use crate::changes::single::Single;
@@ -169,7 +170,7 @@ impl Session {
             (spliced at count put.items self.old.present.state.pulses)
             self.old.present.state) cursor
             → exchange count (length put.items) (turned self.old.present.state
-            (Alone (Spliced at count put.items))).1 (Alone (Spliced at count put.items))
+            (One (Spliced (suc at) count put.items))).1 (One (Spliced (suc at) count put.items))
             ≡ exchange_by edit self.old.present.state
             → Steps (Make edit) self.old result self.new }
         ensures looks { LooksWithin self.new.present.made.forth self.old result self.new }
@@ -181,19 +182,19 @@ impl Session {
     /// Makes a change, as a step that leaves the cursor at a place. The memory that its undo and
     /// its redo take is asked for here.
     pub(crate) fn change(&mut self, single: Single, cursor: usize) -> Result<(), Refusal>
-        requires fits { Fits self.old.present.state (Alone (single_of single)) }
+        requires fits { Fits self.old.present.state (One (single_of single)) }
         requires cursor { cursor ≤
-            length (turned self.old.present.state (Alone (single_of single))).0.pulses }
+            length (turned self.old.present.state (One (single_of single))).0.pulses }
         ensures step { (edit : Edit) → judgement_of edit self.old.present.state ≡ None
             → Becomes edit self.old.present.state
-            (turned self.old.present.state (Alone (single_of single))).0 cursor
-            → exchange_of self.old.present.state (Alone (single_of single))
+            (turned self.old.present.state (One (single_of single))).0 cursor
+            → exchange_of self.old.present.state (One (single_of single))
             ≡ exchange_by edit self.old.present.state
             → Steps (Make edit) self.old result self.new }
         ensures looks { LooksWithin self.new.present.made.forth self.old result self.new }
         ensures ok { OnOk result (grouped_in self.new ≡ recorded_over (grouped_in self.old)
-            (kept (turned self.old.present.state (Alone (single_of single))).0 cursor
-            (exchange_of self.old.present.state (Alone (single_of single))))) }
+            (kept (turned self.old.present.state (One (single_of single))).0 cursor
+            (exchange_of self.old.present.state (One (single_of single))))) }
         ensures err { OnErr result ((self.new ≡ self.old) × IsErrOf result Refusal.OutOfMemory) }
     {
         let before = self.present.looks();

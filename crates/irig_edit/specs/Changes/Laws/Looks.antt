@@ -3,11 +3,13 @@ use Rattle.std.proofs.Common.{◌≡◌, ◌++◌, [], ◌∷◌, ℕ, List, Opt
 use Rattle.std.proofs.Common.{sym, subst, ◌∙◌, arith}
 use Rattle.std.specs.Prelude.{flat_map}
 use Rattle.irig_journal.specs.Turns.{CountsAll, left_by}
-use Rattle.irig_edit.specs.Changes.Delta.{Delta, gathered, singles_of, turned}
-use Rattle.irig_edit.specs.Changes.Delta.Delta.{Alone, Together}
+use Rattle.irig_saved.specs.declared.change.Change.{Change}
+use Rattle.irig_edit.specs.Changes.Delta.{gathered, singles_of, turned}
+use Rattle.irig_saved.specs.declared.change.Change.TheVariants.{One, Group}
 use Rattle.irig_edit.specs.Changes.Looks.{RoseWithin, both, looks_along, looks_by, looks_of}
 use Rattle.irig_edit.specs.Changes.Laws.Groups.{singles_state}
-use Rattle.irig_edit.specs.Changes.Single.{SingleDelta, turned_single}
+use Rattle.irig_saved.specs.declared.single.Single.{Single}
+use Rattle.irig_edit.specs.Changes.Single.{turned_single}
 use Rattle.irig_edit.specs.State.State.{State}
 
 -- bounds are added in any order of the sums
@@ -27,7 +29,7 @@ none-both None = refl
 none-both (Some a) = ap Some (omega arith)
 
 -- the looks of some, and then of others
-looks_along-append : (s : State) (xs ys : List SingleDelta) → looks_along s (xs ++ ys)
+looks_along-append : (s : State) (xs ys : List Single) → looks_along s (xs ++ ys)
     ≡ both (looks_along s xs) (looks_along (left_by turned_single s xs) ys)
 looks_along-append s [] ys = none-both (looks_along s ys)
 looks_along-append s (x ∷ xs) ys =
@@ -37,9 +39,9 @@ looks_along-append s (x ∷ xs) ys =
     ∙ both-both one (looks_along after xs) (looks_along (left_by turned_single after xs) ys)
 
 -- a change takes the looks of its singles
-looks_along-singles : (s : State) (d : Delta) → looks_along s (singles_of d) ≡ looks_of s d
-looks_along-singles s (Alone single) = both-none (looks_by single (turned_single s single).0.pulses)
-looks_along-singles s (Together singles) = refl
+looks_along-singles : (s : State) (d : Change) → looks_along s (singles_of d) ≡ looks_of s d
+looks_along-singles s (One single) = both-none (looks_by single (turned_single s single).0.pulses)
+looks_along-singles s (Group singles) = refl
 
 -- a rise within one bound, and then within another
 pub rose_then : (most more : Option ℕ) (old between new : ℕ) → RoseWithin most old between
@@ -51,7 +53,7 @@ rose_then (Some most) (Some more) old between new one other =
     (omega (arith, one.0, other.0), omega (arith, one.1, other.1))
 
 -- the looks of a group are within the bound of its changes together
-pub looks_of-gathered : (s : State) (ds : List Delta) (old new : ℕ)
+pub looks_of-gathered : (s : State) (ds : List Change) (old new : ℕ)
     → CountsAll (λ t d n m. RoseWithin (looks_of t d) n m) turned s ds old new
     → RoseWithin (looks_of s (gathered ds)) old new
 looks_of-gathered s [] old new same = (omega (arith, same), omega (arith, same))

@@ -3,16 +3,16 @@ use Rattle.std.proofs.Common.{◌≡◌, ◌++◌, [], ◌∷◌, List, map, ref
 use Rattle.std.specs.Prelude.{flat_map}
 use Rattle.std.proofs.lemmas.List.{map-append}
 use Rattle.irig_journal.specs.Held.{Parts, parts_in}
-use Rattle.irig_journal.specs.Held.Parts.{Alone as One, Group}
+use Rattle.irig_journal.specs.Held.Parts.{Alone, Group}
 use Rattle.irig_edit.specs.Changes.Delta.{gathered, singles_of}
-use Rattle.irig_edit.specs.Changes.Delta.Delta.{Together}
+use Rattle.irig_saved.specs.declared.change.Change.TheVariants as change
 use Rattle.irig_edit.specs.Changes.Held.{delta_of, single_of}
-use Rattle.irig_edit.specs.Changes.Single.{SingleDelta}
+use Rattle.irig_saved.specs.declared.single.Single as saved
 use Rattle.irig_edit.specs.declared.changes.single.Single.{Single}
 
 -- the single changes of a step
 pub singles_of-delta_of : (p : Parts Single) → map single_of (parts_in p) ≡ singles_of (delta_of p)
-singles_of-delta_of (One single) = refl
+singles_of-delta_of (Alone single) = refl
 singles_of-delta_of (Group singles) = refl
 
 -- and of several
@@ -21,9 +21,9 @@ parts_of_all : (ps : List (Parts Single))
 parts_of_all [] = refl
 parts_of_all (p ∷ ps) =
     map-append single_of (parts_in p) (flat_map parts_in ps)
-    ∙ ap₂ (λ (xs ys : List SingleDelta). xs ++ ys) (singles_of-delta_of p) (parts_of_all ps)
+    ∙ ap₂ (λ (xs ys : List saved.Single). xs ++ ys) (singles_of-delta_of p) (parts_of_all ps)
 
 -- the group of the changes of several steps is what their changes are gathered to
 pub delta_of-group : (ps : List (Parts Single))
     → delta_of (Group (flat_map parts_in ps)) ≡ gathered (map delta_of ps)
-delta_of-group ps = ap Together (parts_of_all ps)
+delta_of-group ps = ap change.Group (parts_of_all ps)

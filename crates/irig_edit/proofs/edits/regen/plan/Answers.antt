@@ -1,10 +1,10 @@
-use Rattle.std.proofs.Common.{◌≡◌, ◌≤◌, ◌+◌, ◌-◌, ◌*◌, ◌^◌, true, false, length, refl, ap, sym, ◌∙◌, arith}
+use Rattle.std.proofs.Common.{suc, ◌≡◌, ◌≤◌, ◌+◌, ◌-◌, ◌*◌, ◌^◌, true, false, length, refl, ap, sym, ◌∙◌, arith}
 use Rattle.irig_codes.specs.Format.{FormatView, control_count_of}
 use Rattle.irig_moment.specs.Generated.{starts_in}
 use Rattle.irig_edit.specs.Edits.Conditions.{are_frames, is_met, are_too_many, is_wide}
 use Rattle.irig_edit.specs.Edits.Regenerated.{frame_elements, frames_end, frames_pulses, rising_before, rising_in}
-use Rattle.irig_edit.specs.Changes.Delta.Delta.{Alone}
-use Rattle.irig_edit.specs.Changes.Single.SingleDelta.{Spliced}
+use Rattle.irig_saved.specs.declared.change.Change.TheVariants.{One}
+use Rattle.irig_saved.specs.declared.single.Single.TheVariants.{Splice}
 use Rattle.irig_edit.proofs.EditLemmas.GeneratedPulses.{frames_many}
 use Rattle.irig_edit.proofs.EditLemmas.GenerationTests.{end_said, frames_said, too_many_yes, too_many_no, is_wide_yes, is_wide_no}
 use Rattle.irig_edit.proofs.EditLemmas.Regenerations.{regenerated}
@@ -137,7 +137,7 @@ returns-clause-change c =
     let is_at = c.rising_before-at.ensures.count in
     let gone : c.rising_before.result - c.rising_before-at.result ≡ length (rising_in c.args.start (frames_end s.format c.args.start c.args.frames) s.pulses) =
     omega arith in
-    (λ k. Alone (Spliced (is_at k) (gone k) (frames_pulses s.format c.args.start c.args.frames c.args.moment c.args.control)))
+    (λ k. One (Splice (suc (is_at k)) (gone k) (frames_pulses s.format c.args.start c.args.frames c.args.moment c.args.control)))
 
 pub returns-clause-many : goal.returns-clause-many
 returns-clause-many c =

@@ -1,12 +1,12 @@
-use Rattle.std.proofs.Common.{rules, ◌≡◌, ◌+◌, ◌-◌, ℤ, neg_ℤ, List, Bool, length, map, ap, sym, ◌∙◌, subst, w64, arith}
+use Rattle.std.proofs.Common.{suc, rules, ◌≡◌, ◌+◌, ◌-◌, ℤ, neg_ℤ, List, Bool, length, map, ap, sym, ◌∙◌, subst, w64, arith}
 use Rattle.std.proofs.lemmas.Int.{to_z-of_z}
 use Rattle.irig_vcd.specs.declared.pulse.Pulse.{Pulse}
 use Rattle.irig_track.specs.Shifts.{CanShift, count_to}
 use Rattle.irig_edit.specs.Edits.Becoming.{Becomes}
 use Rattle.irig_edit.specs.Session.Calls.Edit.{Shift}
-use Rattle.irig_edit.specs.Changes.Delta.Delta.{Alone}
+use Rattle.irig_saved.specs.declared.change.Change.TheVariants.{One}
 use Rattle.irig_edit.specs.Changes.Single.{turned_single}
-use Rattle.irig_edit.specs.Changes.Single.SingleDelta.{Shifted}
+use Rattle.irig_saved.specs.declared.single.Single.TheVariants.{Shift as Shifted}
 use Rattle.irig_edit.specs.Edits.Edits.{pulse_of}
 use Rattle.irig_edit.specs.Session.Kept.{holding_none}
 use Rattle.irig_edit.specs.Changes.Looks.{window}
@@ -47,8 +47,8 @@ returns-clause-becomes c =
     let letters : c.letters_from-letters.result ≡ map (stands (pulse_of i s).rise (pulse_of j s).fall) s.marks =
     c.letters_from-letters.ensures ∙ (λ k. map (stands (rise k) (fall k)) s.marks) in
     let becomes = shifted_becomes i j d s c.pulse-low.ensures.state there.0 there.1 there.2 can in
-    let named = subst (λ (ls : List Bool). Becomes (Shift i j d) s (turned_single s (Shifted (i - 1) (j - 1) d ls)).0 j) (sym letters) becomes in
-    subst (λ (e : ℤ). Becomes (Shift i j d) s (turned_single s (Shifted (i - 1) (j - 1) e c.letters_from-letters.result)).0 j) (sym passed) named
+    let named = subst (λ (ls : List Bool). Becomes (Shift i j d) s (turned_single s (Shifted (suc (i - 1)) (suc (j - 1)) d ls)).0 j) (sym letters) becomes in
+    subst (λ (e : ℤ). Becomes (Shift i j d) s (turned_single s (Shifted (suc (i - 1)) (suc (j - 1)) e c.letters_from-letters.result)).0 j) (sym passed) named
 
 pub returns-clause-exchange : goal.returns-clause-exchange
 returns-clause-exchange c =
@@ -62,5 +62,5 @@ returns-clause-exchange c =
     let letters : c.letters_from-letters.result ≡ map (stands (pulse_of i s).rise (pulse_of j s).fall) s.marks =
     c.letters_from-letters.ensures ∙ (λ k. map (stands (rise k) (fall k)) s.marks) in
     let size : count_to (i - 1) (j - 1) ≡ j + 1 - i = omega (arith, there.0, there.1) in
-    (λ k. holding_none (window (size k)) (window (size k)) (Alone (Shifted (i - 1) (j - 1) (neg_ℤ (passed k)) (letters k)))
-    (Alone (Shifted (i - 1) (j - 1) (passed k) (letters k))))
+    (λ k. holding_none (window (size k)) (window (size k)) (One (Shifted (suc (i - 1)) (suc (j - 1)) (neg_ℤ (passed k)) (letters k)))
+    (One (Shifted (suc (i - 1)) (suc (j - 1)) (passed k) (letters k))))

@@ -1,6 +1,6 @@
 use Rattle.std.proofs.Common.{◌≡◌, ◌-◌, List, [], length, take, drop}
 use Rattle.irig_journal.specs.History.{History, Step}
-use Rattle.irig_edit.specs.Changes.Delta.{Delta}
+use Rattle.irig_saved.specs.declared.change.Change.{Change}
 use Rattle.irig_edit.specs.State.State.{State, IsState}
 use Rattle.irig_edit.specs.Opened.Taken.{CanTakeAll}
 use Rattle.irig_edit.specs.Opened.Walk.{ahead_of, gone_along}
@@ -9,6 +9,6 @@ use Rattle.irig_edit.proofs.opened.walk.Walk.go_back.Given as goal
 -- those that were undone are ahead
 abbrev pub invariant-loop : goal.invariant-loop
 invariant-loop l =
-    (h : History State Delta) → (ds : List (Step Delta)) → IsState h.state → CanTakeAll h.state ds
+    (h : History State Change) → (ds : List (Step Change)) → IsState h.state → CanTakeAll h.state ds
     → l.fn.self ≡ gone_along h ds → h.future ≡ [] → length ds ≡ l.fn.count
     → l.self ≡ ahead_of (gone_along h (take (l.fn.count - l.counter) ds)) (drop (l.fn.count - l.counter) ds)

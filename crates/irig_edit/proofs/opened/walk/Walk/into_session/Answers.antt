@@ -2,7 +2,7 @@ use Rattle.std.proofs.Common.{Option, option_map, sym, subst}
 use Rattle.irig_journal.specs.declared.opening.Opening.{Opening}
 use Rattle.irig_journal.specs.Groups.{over}
 use Rattle.irig_journal.specs.History.{History}
-use Rattle.irig_edit.specs.Changes.Delta.{Delta}
+use Rattle.irig_saved.specs.declared.change.Change.{Change}
 use Rattle.irig_edit.specs.Session.Keeping.{floor_of, machine, machine_at}
 use Rattle.irig_edit.specs.Session.Limits.{IsGrouped, IsMachine}
 use Rattle.irig_edit.specs.State.State.{State}
@@ -15,7 +15,7 @@ invariant_of-result c =
     let m = machine_at c.self.inside.present.state c.self.inside.cursor c.self.inside.journal in
     let is : IsMachine (machine h) =
     IsMachine-walk h.state h.cursor h.past h.future c.len-len.ensures.state c.requires.cursor c.requires.steps.0 c.requires.steps.1 in
-    let there : IsMachine m = subst (λ (x : History State Delta). IsMachine (machine x)) (sym c.self.view_is) is in (
+    let there : IsMachine m = subst (λ (x : History State Change). IsMachine (machine x)) (sym c.self.view_is) is in (
       subst (λ (f : Option Opening). IsGrouped (over (option_map (floor_of m) f) m)) (sym c.self.invariant.0) (record { machine = there; floor = tt }),
       c.self.invariant.1,
     )

@@ -31,7 +31,7 @@ loop-name-preserved c =
     let over : reverse c.loop-name.names.items ≡ x ∷ reverse left = ap reverse c.in-Some.ensures.items ∙ reverse-append left (x ∷ []) in
     let so_far = subst (λ (l : List Single). MadeSoFar h names c.loop-name.self l) over c.loop-name.invariant in
     let made = told_yes _ _ _ c.in-Ok-true.field-0-test c.in-Ok-true.ensures in
-    made_more h c.loop-name.self c.make_one.new.self names (reverse left) x made.0 so_far made.1.0 made.1.1.0 made.1.1.1
+    made_more h c.loop-name.self c.make_one.new.self names (reverse left) x so_far made.0 made.1
 
 pub gather-requires : goal.gather-requires
 gather-requires c =

@@ -1,6 +1,7 @@
 use Rattle.std.proofs.Common.{rules, ◌≡◌, ◌+◌, ◌<◌, ◌^◌, ◌∙◌, true, false, reverse, ap, arith}
 use Rattle.irig_journal.specs.History.{History}
-use Rattle.irig_edit.specs.Changes.Delta.{Delta}
+use Rattle.irig_saved.specs.declared.change.Change.{Change}
+use Rattle.irig_edit.specs.Opened.Taken.{steps_of}
 use Rattle.irig_edit.specs.State.State.{State}
 use Rattle.irig_edit.proofs.OpenedLemmas.TakenSteps.{lines_short, taken_more, taken_next, taken_stops, told_no, told_yes}
 use Rattle.irig_edit.proofs.OpenedLemmas.Walks.{future_gone}
@@ -9,7 +10,7 @@ use Rattle.irig_edit.proofs.opened.walk.Walk.take_all.Goals as goal
 pub take-requires : goal.take-requires
 take-requires c =
     let so_far = c.loop-step.invariant in
-    record { ahead = ap (λ (h : History State Delta). h.future) so_far.stands ∙ future_gone c.args.self.now so_far.steps c.requires.ahead }
+    record { ahead = ap (λ (h : History State Change). h.future) so_far.stands ∙ future_gone c.args.self.now (steps_of so_far.done) c.requires.ahead }
 
 pub lines-requires : goal.lines-requires
 lines-requires c =
@@ -36,7 +37,7 @@ loop-step-preserved c =
     let took = told_yes c.in-Ok-true.field-0 _ _ is c.in-Ok-true.ensures in
     taken_more c.args.self.now c.loop-step.self c.take.new.self (reverse c.args.steps) (reverse c.pop.new.self) c.loop-step.before
     (c.loop-step.before + c.lines.result)
-    c.in-Some.step took.0 so_far took.1.0 took.1.1.0 took.1.1.1 (ap (λ n. c.loop-step.before + n) c.lines.ensures)
+    c.in-Some.step so_far took.0 took.1 (ap (λ n. c.loop-step.before + n) c.lines.ensures)
 
 pub returns-in-Ok-false : goal.returns-in-Ok-false
 returns-in-Ok-false c =

@@ -3,7 +3,6 @@ use Rattle.irig_saved.specs.ChangeWords.{single_line}
 use Rattle.irig_saved.specs.Lines.{text_of}
 use Rattle.irig_saved.specs.SavedText.{pulse_lines, put_of, single_lines}
 use Rattle.irig_edit.specs.Changes.Held.{single_of}
-use Rattle.irig_edit.specs.Saved.Saved.{saved_single}
 use Rattle.irig_edit.specs.Saved.SavedParts.{changes_text}
 use Rattle.irig_edit.proofs.SavedLemmas.Rests.{begun, changes-next, line_first, named-next}
 use Rattle.irig_edit.proofs.saved.change_lines.ChangeLines.fill.Goals as goal
@@ -13,7 +12,7 @@ loop-ended-preserved c =
     let left = c.loop-ended.self-inside.left.now in
     let others = c.in-Some.others.now in
     let single = c.in-Some.single.now in
-    let named = saved_single (single_of single) in
+    let named = single_of single in
     let split : left ≡ others ++ single ∷ [] = c.in-Some.ensures.cases.0 in
     let first : c.put_first.new.text.items ++ text_of (pulse_lines (put_of named)) ≡ c.fill.new.block.items ++ text_of (single_lines named) =
     line_first c.fill.new.block.items c.put_first.new.text.items (single_line named) (pulse_lines (put_of named)) c.in-Ok.ensures in

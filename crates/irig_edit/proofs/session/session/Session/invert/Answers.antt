@@ -4,11 +4,12 @@ use Rattle.irig_track.specs.Splices.{risen_by}
 use Rattle.irig_track.specs.Toggles.{CanToggle}
 use Rattle.irig_edit.specs.Edits.Becoming.{judgement_of}
 use Rattle.irig_edit.specs.Session.Calls.Edit.{Invert}
-use Rattle.irig_edit.specs.Changes.Delta.{Delta, turned}
+use Rattle.irig_saved.specs.declared.change.Change.{Change}
+use Rattle.irig_edit.specs.Changes.Delta.{turned}
 use Rattle.irig_edit.specs.Edits.Exchanges.{exchange_by}
 use Rattle.irig_edit.specs.Changes.Laws.Delta.{turned-turned}
-use Rattle.irig_edit.specs.Changes.Delta.Delta.{Alone}
-use Rattle.irig_edit.specs.Changes.Single.SingleDelta.{Toggled}
+use Rattle.irig_saved.specs.declared.change.Change.TheVariants.{One}
+use Rattle.irig_saved.specs.declared.single.Single.TheVariants.{Toggle}
 use Rattle.irig_edit.specs.Session.Machine.{with_cursor}
 use Rattle.irig_edit.specs.State.State.{State, IsState}
 use Rattle.irig_edit.proofs.SessionLemmas.Floors.{IsGrouped-moved, grouped-moved}
@@ -45,12 +46,12 @@ returns-clause-step c =
     let count = c.find-self-inside.ensures.count ∙ ap (λ (x : State). risen_by b x.pulses) stands in
     let within = subst (λ (x : State). place ≤ length x.pulses) stands c.find-self-inside.ensures.within in
     let becomes = toggled_becomes a b place s is can count within in
-    let law = turned-turned s (Alone (Toggled a b)) is can in
-    let exchanged : exchange_of s (Alone (Toggled a b)) ≡ exchange_by (Invert a b) s =
-    ap (λ (p : State × Delta). holding_none (window (standing_in a b p.0.pulses)) (window (standing_in a b (turned s (Alone (Toggled a b))).0.pulses))
-    (Alone (Toggled a b)) (Alone (Toggled a b))) law in (
+    let law = turned-turned s (One (Toggle a b)) is can in
+    let exchanged : exchange_of s (One (Toggle a b)) ≡ exchange_by (Invert a b) s =
+    ap (λ (p : State × Change). holding_none (window (standing_in a b p.0.pulses)) (window (standing_in a b (turned s (One (Toggle a b))).0.pulses))
+    (One (Toggle a b)) (One (Toggle a b))) law in (
       none,
-      accepts_becomes (Invert a b) (grouped_in c.args.self.now) _ (turned s (Alone (Toggled a b))).0 place (exchange_of s (Alone (Toggled a b))) becomes
+      accepts_becomes (Invert a b) (grouped_in c.args.self.now) _ (turned s (One (Toggle a b))).0 place (exchange_of s (One (Toggle a b))) becomes
           exchanged new,
     )
 

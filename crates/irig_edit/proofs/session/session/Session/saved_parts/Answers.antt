@@ -6,7 +6,7 @@ use Rattle.irig_saved.specs.Lines.{numbered, text_of}
 use Rattle.irig_saved.specs.SavedText.{counted_lines, steps_lines}
 use Rattle.irig_saved.specs.declared.step.Step.{Step}
 use Rattle.irig_vcd.specs.FileText.{file_text}
-use Rattle.irig_edit.specs.Changes.Delta.{Delta}
+use Rattle.irig_saved.specs.declared.change.Change.{Change}
 use Rattle.irig_edit.specs.Changes.Held.{delta_of, deltas_of}
 use Rattle.irig_edit.specs.Session.Keeping.{machine_at}
 use Rattle.irig_edit.specs.Saved.Saved.{StepsCanBeNamed, saved_step}
@@ -49,7 +49,7 @@ returns c =
     let p : ℕ → List ℕ = λ n. numbered (codes "past") (n ∷ []) in
     let f : ℕ → List ℕ = λ n. numbered (codes "future") (n ∷ []) in
     let count : length back ≡ length ps =
-    sym (ap (λ (l : List (history.Step Delta)). length (map saved_step l)) turned_over ∙ length-map (reverse back) saved_step ∙ length-reverse back) in
+    sym (ap (λ (l : List (history.Step Change)). length (map saved_step l)) turned_over ∙ length-map (reverse back) saved_step ∙ length-reverse back) in
     let number : length on ≡ length fs = sym (length-map on saved_step) in
     let joined = section body (codes "$comment\n") (codes "$end\n") (p (length back)) (f (length on)) head (steps_lines ps) (steps_lines fs) in
     let tail : List Step → List Step → List (List ℕ) = λ xs ys. counted_lines (codes "past") xs ++ counted_lines (codes "future") ys in

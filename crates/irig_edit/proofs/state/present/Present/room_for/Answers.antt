@@ -3,7 +3,8 @@ use Rattle.irig_edit.specs.Changes.Ample.{PutsIn, records_for}
 use Rattle.irig_edit.specs.Changes.Held.{single_of}
 use Rattle.irig_edit.specs.State.Places.{places_in}
 use Rattle.irig_edit.specs.State.Present.{PresentView, present_view, state_in}
-use Rattle.irig_edit.specs.Changes.Single.{FitsSingle, SingleDelta}
+use Rattle.irig_saved.specs.declared.single.Single.{Single}
+use Rattle.irig_edit.specs.Changes.Single.{FitsSingle}
 use Rattle.irig_edit.specs.State.State.{State, state}
 use Rattle.irig_edit.proofs.ChangeLemmas.Rooms.{ample_enough, on_ok, puts_wider}
 use Rattle.irig_edit.proofs.state.present.Present.room_for.Goals as goal
@@ -19,12 +20,12 @@ returns-clause-room c =
     let same : s ≡ c.args.self.now.state = ap state_in c.self.view_is ∙ c.in_ok-reserve_put.ensures.state in
     let fits : FitsSingle s (single_of x) =
     subst (λ (t : State). FitsSingle t (single_of x)) (sym same)
-    (subst (λ (d : SingleDelta). FitsSingle c.args.self.now.state d) (sym one) c.requires.fits) in
+    (subst (λ (d : Single). FitsSingle c.args.self.now.state d) (sym one) c.requires.fits) in
     let put : PutsIn (places_in was) s (single_of x) =
     subst (λ (v : PresentView). PutsIn (places_in v) v.state (single_of x)) (sym c.self.view_is)
-    (subst (λ (d : SingleDelta). PutsIn (places_in c.reserve_put.new.self) c.reserve_put.new.self.state d) (sym one) c.in_ok-reserve_put.ensures.puts) in
+    (subst (λ (d : Single). PutsIn (places_in c.reserve_put.new.self) c.reserve_put.new.self.state d) (sym one) c.in_ok-reserve_put.ensures.puts) in
     let few : records_for s (single_of x) ≡ c.records_for-records.result =
-    ap₂ (λ (t : State) (d : SingleDelta). records_for t d) same one ∙ sym c.records_for-records.ensures.records in
+    ap₂ (λ (t : State) (d : Single). records_for t d) same one ∙ sym c.records_for-records.ensures.records in
     on_ok c.reserve.result
     (λ more. ample_enough (places_in now) s x c.self.invariant.0 fits (omega arith) (record {
       takes = c.in_ok-reserve_taken.ensures.takes;

@@ -1,5 +1,5 @@
 -- The numbers of the changes of a session, as a saved journal holds them.
-use Rattle.std.proofs.Common.{◌≡◌, ◌≤◌, ◌+◌, ◌-◌, ◌^◌, ◌++◌, ℕ, ℤ, pos, negsuc, List, [], ◌∷◌, Option, Some, None, IsTrue, length, map, take, drop, subst}
+use Rattle.std.proofs.Common.{suc, ◌≡◌, ◌≤◌, ◌+◌, ◌-◌, ◌^◌, ◌++◌, ℕ, ℤ, pos, negsuc, List, [], ◌∷◌, Option, Some, None, IsTrue, length, take, drop, subst}
 use Rattle.std.proofs.Common.{arith}
 use Rattle.std.specs.List.{AllByRecursion}
 use Rattle.std.proofs.lemmas.Bool.Decides.{nat_tests}
@@ -12,20 +12,19 @@ use Rattle.irig_track.specs.Shifts.{CanShift, ahead, back}
 use Rattle.irig_track.proofs.Places.{pulse_within}
 use Rattle.irig_vcd.proofs.PulseEdges.{edges_of-append}
 use Rattle.irig_vcd.specs.Recording.{UpTo}
-use Rattle.irig_journal.specs.History.{Step}
 use Rattle.irig_journal.specs.Turns.{FitAll}
 use Rattle.irig_saved.specs.Ranges.{IsDistance, IsPulse, IsTime}
-use Rattle.irig_saved.proofs.Counts.{NumbersOfChange, NumbersOfSingle, NumbersOfStep}
-use Rattle.irig_edit.specs.Changes.Delta.{Delta, Fits, turned}
-use Rattle.irig_edit.specs.Changes.Delta.Delta.{Alone, Together}
+use Rattle.irig_saved.specs.Numbers.{NumbersOfChange, NumbersOfSingle}
+use Rattle.irig_saved.specs.declared.change.Change.{Change}
+use Rattle.irig_edit.specs.Changes.Delta.{Fits}
+use Rattle.irig_saved.specs.declared.change.Change.TheVariants.{One, Group}
 use Rattle.irig_edit.specs.Edits.Edits.{pulse_of}
-use Rattle.irig_edit.specs.Changes.Laws.Delta.{IsState-turned}
 use Rattle.irig_edit.specs.Changes.Laws.State.{IsState-turned_single}
-use Rattle.irig_edit.specs.Saved.Saved.{saved_change, saved_single, saved_step}
-use Rattle.irig_edit.specs.Changes.Single.{FitsSingle, SingleDelta, turned_single}
-use Rattle.irig_edit.specs.Changes.Single.SingleDelta.{Spliced, Toggled, Shifted, Formatted, Marked}
+use Rattle.irig_saved.specs.declared.single.Single.{Single}
+use Rattle.irig_edit.specs.Changes.Single.{FitsSingle, turned_single}
+use Rattle.irig_saved.specs.declared.single.Single.TheVariants.{Splice, Toggle, Shift, SetFormat}
+use Rattle.irig_saved.specs.declared.single.Single.TheVariants.{SetMark}
 use Rattle.irig_edit.specs.State.State.{IsMark, IsState, State}
-use Rattle.irig_edit.specs.Opened.Taken.{CanTakeAll}
 use Rattle.irig_edit.proofs.EditLemmas.Replacements.{upto_left, upto_right}
 use Rattle.irig_edit.proofs.EditLemmas.ShiftedStates.{moved_from_zero, moved_within}
 use Rattle.irig_edit.proofs.EditLemmas.Shifts.{pulse_there, rise_before}
@@ -80,38 +79,30 @@ distance_small s i j d is can =
     (moved_from_zero (i + 1) (j + 1) d s is first order last there) (moved_within (i + 1) (j + 1) d s is first order last there)
 
 -- the numbers of a single change that can be made
-single_small : (s : State) (d : SingleDelta) → IsState s → FitsSingle s d → NumbersOfSingle (saved_single d)
-single_small s (Spliced at count put) is can = (
+pub single_small : (s : State) (d : Single) → IsState s → FitsSingle s d → NumbersOfSingle d
+single_small s (Splice (suc at) count put) is can = (
   omega (arith, is.track.few, can.there),
   omega (arith, is.track.few, can.there),
   pulses_between s.micros (take at s.pulses) put (drop (at + count) s.pulses) is.track.short can.track.within,
 )
-single_small s (Toggled a b) is can = (omega (arith, is.track.short, can.order, can.within), omega (arith, is.track.short, can.within))
-single_small s (Shifted i j d named) is can = (
+single_small s (Toggle a b) is can = (omega (arith, is.track.short, can.order, can.within), omega (arith, is.track.short, can.within))
+single_small s (Shift (suc i) (suc j) d named) is can = (
   omega (arith, is.track.few, can.0.order, can.0.there),
   omega (arith, is.track.few, can.0.there),
   distance_small s i j d is can.0,
   can.2,
 )
-single_small s (Formatted f) is can = digit_permitted f.kind f.expression can
-single_small s (Marked letter time) is can = (can.0, time_small s.micros time is.track.short can.1)
+single_small s (SetFormat kind expression) is can = digit_permitted kind expression can
+single_small s (SetMark letter time) is can = (can.0, time_small s.micros time is.track.short can.1)
+single_small s _ is can = absurd can
 
-singles_small : (s : State) (ds : List SingleDelta) → IsState s → FitAll FitsSingle turned_single s ds
-    → AllByRecursion NumbersOfSingle (map saved_single ds)
+pub singles_small : (s : State) (ds : List Single) → IsState s → FitAll FitsSingle turned_single s ds
+    → AllByRecursion NumbersOfSingle ds
 singles_small s [] is can = tt
 singles_small s (d ∷ ds) is can =
     (single_small s d is can.0, singles_small (turned_single s d).0 ds (IsState-turned_single s d is can.0) can.1)
 
 -- of a change
-change_small : (s : State) (d : Delta) → IsState s → Fits s d → NumbersOfChange (saved_change d)
-change_small s (Alone d) is can = single_small s d is can
-change_small s (Together ds) is can = singles_small s ds is can
-
--- of steps that can be taken
-pub steps_small : (s : State) (ds : List (Step Delta)) → IsState s → CanTakeAll s ds → AllByRecursion NumbersOfStep (map saved_step ds)
-steps_small s [] is can = tt
-steps_small s (d ∷ ds) is can =
-    let there = IsState-turned s d.change is can.0.fits in (
-      (omega (arith, there.track.few, can.0.cursor), change_small s d.change is can.0.fits),
-      steps_small (turned s d.change).0 ds there can.1,
-    )
+pub change_small : (s : State) (d : Change) → IsState s → Fits s d → NumbersOfChange d
+change_small s (One d) is can = single_small s d is can
+change_small s (Group ds) is can = singles_small s ds is can
