@@ -20,8 +20,7 @@ use Rattle.irig_edit.specs.State.Present.{PresentView}
 use Rattle.irig_edit.specs.Changes.Room.{HasRoomFor, TakesIn, passing}
 use Rattle.irig_saved.specs.declared.single.Single as saved
 use Rattle.irig_edit.specs.Changes.Single.{FitsSingle, turned_single}
-use Rattle.irig_saved.specs.declared.single.Single.TheVariants.{Splice, Toggle, Shift, SetFormat}
-use Rattle.irig_saved.specs.declared.single.Single.TheVariants.{SetMark}
+use Rattle.irig_saved.specs.declared.single.Single.TheVariants.{Splice, Toggle, Shift, SetFormat, SetMark}
 use Rattle.irig_edit.specs.State.State.{State, IsState, frames_of}
 use Rattle.irig_edit.specs.declared.changes.single.Single.{Single}
 use Rattle.irig_edit.proofs.EditLemmas.ShiftedStates.{length-shifted}

@@ -22,8 +22,7 @@ use Rattle.irig_edit.specs.Edits.Edits.{pulse_of}
 use Rattle.irig_edit.specs.Changes.Laws.State.{IsState-turned_single}
 use Rattle.irig_saved.specs.declared.single.Single.{Single}
 use Rattle.irig_edit.specs.Changes.Single.{FitsSingle, turned_single}
-use Rattle.irig_saved.specs.declared.single.Single.TheVariants.{Splice, Toggle, Shift, SetFormat}
-use Rattle.irig_saved.specs.declared.single.Single.TheVariants.{SetMark}
+use Rattle.irig_saved.specs.declared.single.Single.TheVariants.{Splice, Toggle, Shift, SetFormat, SetMark}
 use Rattle.irig_edit.specs.State.State.{IsMark, IsState, State}
 use Rattle.irig_edit.proofs.EditLemmas.Replacements.{upto_left, upto_right}
 use Rattle.irig_edit.proofs.EditLemmas.ShiftedStates.{moved_from_zero, moved_within}

@@ -10,8 +10,7 @@ use Rattle.irig_saved.specs.declared.single.Single as named
 use Rattle.irig_saved.specs.declared.single.Single.TheVariants as single
 use Rattle.irig_edit.specs.declared.changes.single.Single.{Single}
 use Rattle.irig_edit.specs.declared.changes.single.Single.TheVariants.{Splice, Toggle, Shift}
-use Rattle.irig_edit.specs.declared.changes.single.Single.TheVariants.{SetFormat}
-use Rattle.irig_edit.specs.declared.changes.single.Single.TheVariants.{SetMark}
+use Rattle.irig_edit.specs.declared.changes.single.Single.TheVariants.{SetFormat, SetMark}
 
 -- what a single change is, without its spare room: its pulses count from 0, here from 1
 abbrev pub single_of : Single → named.Single

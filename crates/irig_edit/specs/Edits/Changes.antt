@@ -1,12 +1,11 @@
 -- The change that each edit is. This project's own.
-use Rattle.std.specs.Prelude.{suc, ◌+◌, ◌-◌, [], ◌∷◌, length, map}
+use Rattle.std.specs.Prelude.{◌+◌, ◌-◌, [], ◌∷◌, length, map}
 use Rattle.irig_codes.specs.Width.{nominal_of}
 use Rattle.irig_track.specs.Edges.{pulse}
 use Rattle.irig_track.specs.Splices.{risen_by}
 use Rattle.irig_edit.specs.Session.Calls.{Edit}
 use Rattle.irig_edit.specs.Session.Calls.Edit.{Insert, Delete, Split, Join, Shift, Invert, Force}
-use Rattle.irig_edit.specs.Session.Calls.Edit.{Regen}
-use Rattle.irig_edit.specs.Session.Calls.Edit.{SetFormat, SetMark}
+use Rattle.irig_edit.specs.Session.Calls.Edit.{Regen, SetFormat, SetMark}
 use Rattle.irig_edit.specs.Edits.Conditions.{fall_at}
 use Rattle.irig_saved.specs.declared.change.Change.{Change}
 use Rattle.irig_saved.specs.declared.change.Change.TheVariants.{One}
@@ -22,20 +21,19 @@ use Rattle.irig_edit.specs.State.State.{State}
 -- inserted one after those that rise at or before its fall; a shift moves the marks that are
 -- from the first rise to the last fall
 abbrev pub change_by : Edit → State → Change
-change_by (Insert a b) s = One (Splice (suc (risen_by b s.pulses)) 0 (pulse a b ∷ []))
-change_by (Delete i j) s = One (Splice (suc (i - 1)) (j + 1 - i) [])
+change_by (Insert a b) s = One (Splice (risen_by b s.pulses + 1) 0 (pulse a b ∷ []))
+change_by (Delete i j) s = One (Splice i (j + 1 - i) [])
 change_by (Split i a b) s =
-    One (Splice (suc (i - 1)) 1 (pulse (pulse_of i s).rise a ∷ pulse b (pulse_of i s).fall ∷ []))
+    One (Splice i 1 (pulse (pulse_of i s).rise a ∷ pulse b (pulse_of i s).fall ∷ []))
 change_by (Join i j) s =
-    One (Splice (suc (i - 1)) (j + 1 - i) (pulse (pulse_of i s).rise (pulse_of j s).fall ∷ []))
+    One (Splice i (j + 1 - i) (pulse (pulse_of i s).rise (pulse_of j s).fall ∷ []))
 change_by (Shift i j d) s =
-    One (Shifted (suc (i - 1)) (suc (j - 1)) d
-    (map (stands (pulse_of i s).rise (pulse_of j s).fall) s.marks))
+    One (Shifted i j d (map (stands (pulse_of i s).rise (pulse_of j s).fall) s.marks))
 change_by (Invert a b) s = One (Toggle a b)
-change_by (Force i e) s = One (Splice (suc (i - 1)) 1
+change_by (Force i e) s = One (Splice i 1
     (pulse (pulse_of i s).rise (fall_at i (nominal_of s.format e) s) ∷ []))
 change_by (Regen start frames moment control) s =
-    One (Splice (suc (length (rising_before start s.pulses)))
+    One (Splice (length (rising_before start s.pulses) + 1)
     (length (rising_in start (frames_end s.format start frames) s.pulses))
     (frames_pulses s.format start frames moment control))
 change_by (SetFormat f) s = One (Formatted f.kind f.expression)

@@ -3,8 +3,7 @@
 use Rattle.std.specs.Prelude.{◌+◌, ◌-◌, ◌*◌, None, Some, length}
 use Rattle.irig_edit.specs.Session.Calls.{Edit}
 use Rattle.irig_edit.specs.Session.Calls.Edit.{Insert, Delete, Split, Join, Shift, Invert, Force}
-use Rattle.irig_edit.specs.Session.Calls.Edit.{Regen}
-use Rattle.irig_edit.specs.Session.Calls.Edit.{SetFormat}
+use Rattle.irig_edit.specs.Session.Calls.Edit.{Regen, SetFormat}
 use Rattle.irig_edit.specs.Edits.Changes.{change_by}
 use Rattle.irig_saved.specs.declared.change.Change.{Change}
 use Rattle.irig_edit.specs.Changes.Delta.{turned}

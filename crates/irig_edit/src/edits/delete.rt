@@ -43,6 +43,6 @@ impl Session {
     {
         let cursor = plan(&self.present, i, j)?;
         let put = Gap::new(self.alloc);
-        self.splice(i - 1, j + 1 - i, put, cursor)
+        self.splice(i, j + 1 - i, put, cursor)
     }
 }

@@ -1,7 +1,6 @@
 //! A pulse gets the width of an element.
 
-ghost use Rattle.std.specs.Prelude.{suc, ◌≡◌, ◌+◌, ◌-◌, ◌≤◌, [], ◌∷◌, None, Some, IfOk, IfErr};
-ghost use Rattle.std.specs.Prelude.{OnOk};
+ghost use Rattle.std.specs.Prelude.{◌≡◌, ◌+◌, ◌-◌, ◌≤◌, [], ◌∷◌, None, Some, IfOk, IfErr, OnOk};
 ghost use Rattle.std.specs.Prelude.{length};
 ghost use Rattle.irig_track.specs.Splices.{spliced, CanSplice};
 ghost use Rattle.irig_edit.specs.Edits.Becoming.{Becomes, judgement_of};
@@ -31,7 +30,7 @@ fn plan(present: &Present, i: usize, element: Element) -> Result<Pulse, Refusal>
         CanSplice present.now.state.micros (i - 1) 1 (p ∷ []) present.now.state.pulses) }
     ensures becomes { IfOk result (λ p. Becomes (Force i element) present.now.state
         (with_pulses (spliced (i - 1) 1 (p ∷ []) present.now.state.pulses) present.now.state) i) }
-    ensures change { IfOk result (λ p. One (Splice (suc (i - 1)) 1 (p ∷ []))
+    ensures change { IfOk result (λ p. One (Splice i 1 (p ∷ []))
         ≡ change_by (Force i element) present.now.state) }
 {
     if i == 0 || i > present.len() {
@@ -68,6 +67,6 @@ impl Session {
     {
         let pulse = plan(&self.present, i, element)?;
         let put = one(self.alloc, pulse)?;
-        self.splice(i - 1, 1, put, i)
+        self.splice(i, 1, put, i)
     }
 }

@@ -1,6 +1,6 @@
 //! Inserts a pulse.
 
-ghost use Rattle.std.specs.Prelude.{suc, ◌≡◌, ◌+◌, [], ◌∷◌, None, Some, IfOk, IfErr, OnOk};
+ghost use Rattle.std.specs.Prelude.{◌≡◌, ◌≤◌, ◌-◌, [], ◌∷◌, None, Some, IfOk, IfErr, OnOk};
 ghost use Rattle.irig_track.specs.Edges.{pulse};
 ghost use Rattle.irig_track.specs.Splices.{spliced, CanSplice};
 ghost use Rattle.irig_edit.specs.Session.Calls.Call.{Make};
@@ -18,16 +18,17 @@ use crate::session::session::Session;
 use crate::state::present::Present;
 use irig_track::Pulse;
 
-/// How many pulses are before a pulse from `a` to `b`, if it can be inserted.
+/// The number of a pulse from `a` to `b`, from 1, if it can be inserted.
 fn plan(present: &Present, a: u64, b: u64) -> Result<usize, Refusal>
     ensures refused { IfErr result (λ e. judgement_of (Insert a b) present.now.state ≡ Some e) }
     ensures allowed { OnOk result (judgement_of (Insert a b) present.now.state ≡ None) }
-    ensures can { IfOk result (λ at.
-        CanSplice present.now.state.micros at 0 (pulse a b ∷ []) present.now.state.pulses) }
-    ensures becomes { IfOk result (λ at. Becomes (Insert a b) present.now.state
-        (with_pulses (spliced at 0 (pulse a b ∷ []) present.now.state.pulses)
-        present.now.state) (at + 1)) }
-    ensures change { IfOk result (λ at. One (Splice (suc at) 0 (pulse a b ∷ []))
+    ensures there { IfOk result (λ i. 1 ≤ i) }
+    ensures can { IfOk result (λ i.
+        CanSplice present.now.state.micros (i - 1) 0 (pulse a b ∷ []) present.now.state.pulses) }
+    ensures becomes { IfOk result (λ i. Becomes (Insert a b) present.now.state
+        (with_pulses (spliced (i - 1) 0 (pulse a b ∷ []) present.now.state.pulses)
+        present.now.state) i) }
+    ensures change { IfOk result (λ i. One (Splice i 0 (pulse a b ∷ []))
         ≡ change_by (Insert a b) present.now.state) }
 {
     if a >= b || b > present.length() {
@@ -39,7 +40,7 @@ fn plan(present: &Present, a: u64, b: u64) -> Result<usize, Refusal>
     if present.room() == 0 {
         return Err(Refusal::TooMany);
     }
-    Ok(present.find(b))
+    Ok(present.find(b) + 1)
 }
 
 impl Session {
@@ -51,8 +52,8 @@ impl Session {
         ensures step { Steps (Make (Insert a b)) self.old result self.new }
         ensures looks { LooksAfter (Make (Insert a b)) self.old result self.new }
     {
-        let at = plan(&self.present, a, b)?;
+        let i = plan(&self.present, a, b)?;
         let put = one(self.alloc, Pulse { rise: a, fall: b })?;
-        self.splice(at, 0, put, at + 1)
+        self.splice(i, 0, put, i)
     }
 }

@@ -1,6 +1,6 @@
 //! Joins pulses into one.
 
-ghost use Rattle.std.specs.Prelude.{suc, ◌≡◌, ◌+◌, ◌-◌, ◌≤◌, ◌<◌, [], ◌∷◌, None, Some, IfOk, IfErr};
+ghost use Rattle.std.specs.Prelude.{◌≡◌, ◌+◌, ◌-◌, ◌≤◌, ◌<◌, [], ◌∷◌, None, Some, IfOk, IfErr};
 ghost use Rattle.std.specs.Prelude.{OnOk};
 ghost use Rattle.irig_track.specs.Splices.{spliced, CanSplice};
 ghost use Rattle.irig_edit.specs.Edits.Becoming.{Becomes, judgement_of};
@@ -28,7 +28,7 @@ fn plan(present: &Present, i: usize, j: usize) -> Result<Pulse, Refusal>
     ensures becomes { IfOk result (λ p. Becomes (Join i j) present.now.state
         (with_pulses (spliced (i - 1) (j + 1 - i) (p ∷ []) present.now.state.pulses)
         present.now.state) i) }
-    ensures change { IfOk result (λ p. One (Splice (suc (i - 1)) (j + 1 - i) (p ∷ []))
+    ensures change { IfOk result (λ p. One (Splice i (j + 1 - i) (p ∷ []))
         ≡ change_by (Join i j) present.now.state) }
 {
     if i == 0 || i >= j || j > present.len() {
@@ -53,6 +53,6 @@ impl Session {
     {
         let pulse = plan(&self.present, i, j)?;
         let put = one(self.alloc, pulse)?;
-        self.splice(i - 1, j + 1 - i, put, i)
+        self.splice(i, j + 1 - i, put, i)
     }
 }

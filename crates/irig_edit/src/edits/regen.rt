@@ -1,8 +1,7 @@
 //! Fills a stretch of time with frames.
 
-ghost use Rattle.std.specs.Prelude.{suc, ◌≡◌, ◌+◌, ◌*◌, ◌^◌, ◌<◌, ◌≤◌, None, Some, IfOk, IfErr};
-ghost use Rattle.std.specs.Prelude.{OnOk};
-ghost use Rattle.std.specs.Prelude.{IsTrue, length, if◌then◌else◌};
+ghost use Rattle.std.specs.Prelude.{◌≡◌, ◌+◌, ◌-◌, ◌*◌, ◌^◌, ◌<◌, ◌≤◌, None, Some, IfOk, IfErr};
+ghost use Rattle.std.specs.Prelude.{OnOk, IsTrue, length, if◌then◌else◌};
 ghost use Rattle.irig_codes.specs.Format.{control_count_of};
 ghost use Rattle.irig_moment.specs.Generated.{starts_in};
 ghost use Rattle.irig_track.specs.Splices.{spliced, CanSplice};
@@ -24,10 +23,10 @@ use crate::state::present::Present;
 use irig_codes::control_count;
 use irig_moment::Moment;
 
-/// The pulses that rise in a stretch of time: how many are before them, and how many they are.
+/// The pulses that rise in a stretch of time: the number of the first, from 1, and how many.
 #[derive(Clone, Copy)]
 struct Stretch {
-    at: usize,
+    first: usize,
     count: usize,
 }
 
@@ -84,17 +83,18 @@ fn plan(
         × (frames_end present.now.state.format start frames ≤ 2 ^ 40)
         × IsTrue (starts_in present.now.state.format moment)
         × (control < 2 ^ control_count_of present.now.state.format)) }
-    ensures can { IfOk result (λ p. CanSplice present.now.state.micros p.at p.count
+    ensures there { IfOk result (λ p. 1 ≤ p.first) }
+    ensures can { IfOk result (λ p. CanSplice present.now.state.micros (p.first - 1) p.count
         (frames_pulses present.now.state.format start frames moment control)
         present.now.state.pulses) }
     ensures becomes { IfOk result (λ p.
         Becomes (Regen start frames moment control) present.now.state
-        (with_pulses (spliced p.at p.count
+        (with_pulses (spliced (p.first - 1) p.count
         (frames_pulses present.now.state.format start frames moment control)
         present.now.state.pulses) present.now.state)
-        (p.at + 100 * frames)) }
-    ensures few { IfOk result (λ p. p.at ≤ 2 ^ 22) }
-    ensures change { IfOk result (λ p. One (Splice (suc p.at) p.count
+        (p.first - 1 + 100 * frames)) }
+    ensures few { IfOk result (λ p. p.first ≤ 2 ^ 22 + 1) }
+    ensures change { IfOk result (λ p. One (Splice p.first p.count
         (frames_pulses present.now.state.format start frames moment control))
         ≡ change_by (Regen start frames moment control) present.now.state) }
     ensures many { OnOk result (100 * frames
@@ -118,7 +118,10 @@ fn plan(
     if control >> control_count(format) > 0 {
         return Err(Refusal::BadControl);
     }
-    Ok(Stretch { at, count })
+    Ok(Stretch {
+        first: at + 1,
+        count,
+    })
 }
 
 impl Session {
@@ -144,7 +147,7 @@ impl Session {
         let stretch = plan(&self.present, start, frames, moment, control)?;
         let format = self.present.format();
         let put = pulses_of(self.alloc, format, start, frames, moment, control)?;
-        let cursor = stretch.at + 100 * frames as usize;
-        self.splice(stretch.at, stretch.count, put, cursor)
+        let cursor = stretch.first - 1 + 100 * frames as usize;
+        self.splice(stretch.first, stretch.count, put, cursor)
     }
 }

@@ -1,7 +1,6 @@
 //! Splits a pulse in two.
 
-ghost use Rattle.std.specs.Prelude.{suc, ◌≡◌, ◌+◌, ◌-◌, ◌≤◌, [], ◌∷◌, None, Some, IfOk, IfErr};
-ghost use Rattle.std.specs.Prelude.{OnOk};
+ghost use Rattle.std.specs.Prelude.{◌≡◌, ◌+◌, ◌-◌, ◌≤◌, [], ◌∷◌, None, Some, IfOk, IfErr, OnOk};
 ghost use Rattle.irig_track.specs.Edges.{pulse};
 ghost use Rattle.irig_track.specs.Splices.{spliced, CanSplice};
 ghost use Rattle.irig_edit.specs.Edits.Becoming.{Becomes, judgement_of};
@@ -30,7 +29,7 @@ fn plan(present: &Present, i: usize, a: u64, b: u64) -> Result<Pulse, Refusal>
         (with_pulses (spliced (i - 1) 1
         (pulse p.rise a ∷ pulse b p.fall ∷ []) present.now.state.pulses)
         present.now.state) (i + 1)) }
-    ensures change { IfOk result (λ p. One (Splice (suc (i - 1)) 1
+    ensures change { IfOk result (λ p. One (Splice i 1
         (pulse p.rise a ∷ pulse b p.fall ∷ [])) ≡ change_by (Split i a b) present.now.state) }
 {
     if a >= b || b > present.length() {
@@ -69,6 +68,6 @@ impl Session {
             fall: pulse.fall,
         };
         let put = two(self.alloc, first, second)?;
-        self.splice(i - 1, 1, put, i + 1)
+        self.splice(i, 1, put, i + 1)
     }
 }

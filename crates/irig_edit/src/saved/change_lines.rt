@@ -1,8 +1,7 @@
 //! The lines of single changes, in parts.
 
 ghost use Rattle.std.specs.Prelude.{suc, ◌≡◌, ◌≤◌, ◌<◌, ◌++◌, ◌∷◌, [], IfOk, OnOk, false, map};
-ghost use Rattle.std.specs.Prelude.{reverse};
-ghost use Rattle.std.specs.Prelude.{true, vec_len};
+ghost use Rattle.std.specs.Prelude.{reverse, true, vec_len};
 ghost use Rattle.std.specs.List.{AllByRecursion};
 ghost use Rattle.irig_saved.specs.ChangeWords.{single_line};
 ghost use Rattle.irig_edit.specs.Changes.Held.{single_of};

@@ -1,7 +1,6 @@
 //! A track under edit.
 
-ghost use Rattle.std.specs.Prelude.{suc, ◌≡◌, ◌≤◌, ◌<◌, ◌-◌, length, IfOk, OnOk, OnErr, IsErrOf};
-ghost use Rattle.std.specs.Prelude.{None};
+ghost use Rattle.std.specs.Prelude.{◌≡◌, ◌≤◌, ◌<◌, ◌-◌, length, IfOk, OnOk, OnErr, IsErrOf, None};
 ghost use Rattle.std.specs.Prelude.{Ok};
 ghost use Rattle.irig_journal.specs.Groups.{recorded_over};
 ghost use Rattle.irig_edit.specs.State.State.{recording_of, with_pulses};
@@ -153,29 +152,30 @@ impl Session {
         Ok(())
     }
 
-    /// Replaces `count` pulses from `at` on by the pulses of `put`, as a step.
+    /// Replaces `count` pulses from one on, from 1, by the pulses of `put`, as a step.
     pub(crate) fn splice(
         &mut self,
-        at: usize,
+        first: usize,
         count: usize,
         put: Gap<Pulse>,
         cursor: usize,
     ) -> Result<(), Refusal>
-        requires can { CanSplice self.old.present.state.micros at count put.items
+        requires first { 1 ≤ first }
+        requires can { CanSplice self.old.present.state.micros (first - 1) count put.items
             self.old.present.state.pulses }
         requires cursor { cursor ≤
-            length (spliced at count put.items self.old.present.state.pulses) }
+            length (spliced (first - 1) count put.items self.old.present.state.pulses) }
         ensures step { (edit : Edit) → judgement_of edit self.old.present.state ≡ None
             → Becomes edit self.old.present.state (with_pulses
-            (spliced at count put.items self.old.present.state.pulses)
+            (spliced (first - 1) count put.items self.old.present.state.pulses)
             self.old.present.state) cursor
             → exchange count (length put.items) (turned self.old.present.state
-            (One (Spliced (suc at) count put.items))).1 (One (Spliced (suc at) count put.items))
+            (One (Spliced first count put.items))).1 (One (Spliced first count put.items))
             ≡ exchange_by edit self.old.present.state
             → Steps (Make edit) self.old result self.new }
         ensures looks { LooksWithin self.new.present.made.forth self.old result self.new }
     {
-        let splice = Splice::new(self.alloc, at, count, put);
+        let splice = Splice::new(self.alloc, first - 1, count, put);
         self.change(Single::Splice(splice), cursor)
     }
 

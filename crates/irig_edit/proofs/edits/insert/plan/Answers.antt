@@ -1,15 +1,26 @@
-use Rattle.std.proofs.Common.{arith, sym, ◌∙◌}
+use Rattle.std.proofs.Common.{◌≡◌, ◌+◌, ◌-◌, ℕ, [], ◌∷◌, arith, subst, sym, ◌∙◌}
+use Rattle.irig_track.specs.Edges.{pulse}
+use Rattle.irig_track.specs.Splices.{CanSplice, spliced}
+use Rattle.irig_edit.specs.Edits.Becoming.{Becomes}
+use Rattle.irig_edit.specs.Session.Calls.Edit.{Insert}
+use Rattle.irig_edit.specs.State.State.{with_pulses}
 use Rattle.irig_edit.proofs.EditLemmas.Insertions.{inserted}
 use Rattle.irig_edit.proofs.edits.insert.plan.Goals as goal
 
 pub returns-clause-can : goal.returns-clause-can
 returns-clause-can c =
     let s = c.args.present.now.state in
+    let put = pulse c.args.a c.args.b ∷ [] in
+    let place : c.find.result ≡ c.find.result + 1 - 1 = omega arith in
+    subst (λ (n : ℕ). CanSplice s.micros n 0 put s.pulses) place
     (inserted s c.args.a c.args.b c.find.result c.length.ensures.state c.if-a-b.false (omega (arith, c.if-b-length.false, c.length.ensures.length))
     (sym c.is_touched.ensures ∙ c.if-is_touched.false) (omega (arith, c.room.ensures, c.if-room-eq0.false)) c.find.ensures.count c.find.ensures.within).0
 
 pub returns-clause-becomes : goal.returns-clause-becomes
 returns-clause-becomes c =
     let s = c.args.present.now.state in
+    let put = pulse c.args.a c.args.b ∷ [] in
+    let place : c.find.result ≡ c.find.result + 1 - 1 = omega arith in
+    subst (λ (n : ℕ). Becomes (Insert c.args.a c.args.b) s (with_pulses (spliced n 0 put s.pulses) s) (c.find.result + 1)) place
     (inserted s c.args.a c.args.b c.find.result c.length.ensures.state c.if-a-b.false (omega (arith, c.if-b-length.false, c.length.ensures.length))
     (sym c.is_touched.ensures ∙ c.if-is_touched.false) (omega (arith, c.room.ensures, c.if-room-eq0.false)) c.find.ensures.count c.find.ensures.within).1

@@ -1,6 +1,10 @@
-use Rattle.std.proofs.Common.{suc, ◌≡◌, ◌≤◌, ◌+◌, ◌-◌, ◌*◌, ◌^◌, true, false, length, refl, ap, sym, ◌∙◌, arith}
+use Rattle.std.proofs.Common.{ℕ, subst, ◌≡◌, ◌≤◌, ◌+◌, ◌-◌, ◌*◌, ◌^◌, true, false, length, refl, ap, sym, ◌∙◌, arith}
 use Rattle.irig_codes.specs.Format.{FormatView, control_count_of}
 use Rattle.irig_moment.specs.Generated.{starts_in}
+use Rattle.irig_track.specs.Splices.{CanSplice, spliced}
+use Rattle.irig_edit.specs.Edits.Becoming.{Becomes}
+use Rattle.irig_edit.specs.Session.Calls.Edit.{Regen}
+use Rattle.irig_edit.specs.State.State.{with_pulses}
 use Rattle.irig_edit.specs.Edits.Conditions.{are_frames, is_met, are_too_many, is_wide}
 use Rattle.irig_edit.specs.Edits.Regenerated.{frame_elements, frames_end, frames_pulses, rising_before, rising_in}
 use Rattle.irig_saved.specs.declared.change.Change.TheVariants.{One}
@@ -107,6 +111,10 @@ returns-clause-can c =
     let sum = before_end c.args.start (frames_end s.format c.args.start c.args.frames) s.pulses (omega arith) in
     let both : c.rising_before-at.result + (c.rising_before.result - c.rising_before-at.result) ≡ c.rising_before.result =
     omega (arith, sum, c.rising_before-at.ensures.count, is_end) in
+    let put = frames_pulses s.format c.args.start c.args.frames c.args.moment c.args.control in
+    let gone = c.rising_before.result - c.rising_before-at.result in
+    let place : c.rising_before-at.result ≡ c.rising_before-at.result + 1 - 1 = omega arith in
+    subst (λ (n : ℕ). CanSplice s.micros n gone put s.pulses) place
     (regenerated s c.args.start c.args.frames c.args.moment c.args.control c.rising_before-at.result (c.rising_before.result - c.rising_before-at.result)
     c.rising_before.ensures.state within free few c.rising_before-at.ensures.count (both ∙ is_end) (omega (arith, both, c.rising_before.ensures.within))).0
 
@@ -124,6 +132,11 @@ returns-clause-becomes c =
     let sum = before_end c.args.start (frames_end s.format c.args.start c.args.frames) s.pulses (omega arith) in
     let both : c.rising_before-at.result + (c.rising_before.result - c.rising_before-at.result) ≡ c.rising_before.result =
     omega (arith, sum, c.rising_before-at.ensures.count, is_end) in
+    let put = frames_pulses s.format c.args.start c.args.frames c.args.moment c.args.control in
+    let gone = c.rising_before.result - c.rising_before-at.result in
+    let place : c.rising_before-at.result ≡ c.rising_before-at.result + 1 - 1 = omega arith in
+    subst (λ (n : ℕ). Becomes (Regen c.args.start c.args.frames c.args.moment c.args.control) s (with_pulses (spliced n gone put s.pulses) s)
+    (n + 100 * c.args.frames)) place
     (regenerated s c.args.start c.args.frames c.args.moment c.args.control c.rising_before-at.result (c.rising_before.result - c.rising_before-at.result)
     c.rising_before.ensures.state within free few c.rising_before-at.ensures.count (both ∙ is_end) (omega (arith, both, c.rising_before.ensures.within))).1
 
@@ -137,7 +150,7 @@ returns-clause-change c =
     let is_at = c.rising_before-at.ensures.count in
     let gone : c.rising_before.result - c.rising_before-at.result ≡ length (rising_in c.args.start (frames_end s.format c.args.start c.args.frames) s.pulses) =
     omega arith in
-    (λ k. One (Splice (suc (is_at k)) (gone k) (frames_pulses s.format c.args.start c.args.frames c.args.moment c.args.control)))
+    (λ k. One (Splice (is_at k + 1) (gone k) (frames_pulses s.format c.args.start c.args.frames c.args.moment c.args.control)))
 
 pub returns-clause-many : goal.returns-clause-many
 returns-clause-many c =

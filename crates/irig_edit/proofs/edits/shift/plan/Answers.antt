@@ -1,4 +1,4 @@
-use Rattle.std.proofs.Common.{suc, rules, ◌≡◌, ◌+◌, ◌-◌, ℤ, neg_ℤ, List, Bool, length, map, ap, sym, ◌∙◌, subst, w64, arith}
+use Rattle.std.proofs.Common.{suc, ℕ, rules, ◌≡◌, ◌+◌, ◌-◌, ℤ, neg_ℤ, List, Bool, length, map, ap, sym, ◌∙◌, subst, w64, arith}
 use Rattle.std.proofs.lemmas.Int.{to_z-of_z}
 use Rattle.irig_vcd.specs.declared.pulse.Pulse.{Pulse}
 use Rattle.irig_track.specs.Shifts.{CanShift, count_to}
@@ -8,7 +8,8 @@ use Rattle.irig_saved.specs.declared.change.Change.TheVariants.{One}
 use Rattle.irig_edit.specs.Changes.Single.{turned_single}
 use Rattle.irig_saved.specs.declared.single.Single.TheVariants.{Shift as Shifted}
 use Rattle.irig_edit.specs.Edits.Edits.{pulse_of}
-use Rattle.irig_edit.specs.Session.Kept.{holding_none}
+use Rattle.irig_edit.specs.Changes.Delta.{turned}
+use Rattle.irig_edit.specs.Session.Kept.{Exchange, holding_none}
 use Rattle.irig_edit.specs.Changes.Looks.{window}
 use Rattle.irig_edit.specs.State.Marks.{AllMayMove, stands}
 use Rattle.irig_edit.proofs.EditLemmas.ShiftedStates.{marks_may, shifted_becomes}
@@ -54,13 +55,19 @@ pub returns-clause-exchange : goal.returns-clause-exchange
 returns-clause-exchange c =
     let i = c.args.i in
     let j = c.args.j in
+    let d = c.args.by in
     let s = c.args.present.now.state in
     let there = c.in_ok-judge.ensures.there in
-    let passed = to_z-of_z w64 c.args.by c.ranges.by in
+    let passed = to_z-of_z w64 d c.ranges.by in
     let rise = ap (λ (p : Pulse). p.rise) c.pulse-low.ensures.pulse in
     let fall = ap (λ (p : Pulse). p.fall) c.pulse-high.ensures.pulse in
     let letters : c.letters_from-letters.result ≡ map (stands (pulse_of i s).rise (pulse_of j s).fall) s.marks =
     c.letters_from-letters.ensures ∙ (λ k. map (stands (rise k) (fall k)) s.marks) in
     let size : count_to (i - 1) (j - 1) ≡ j + 1 - i = omega (arith, there.0, there.1) in
+    let near : suc (i - 1) ≡ i = omega (arith, there.0) in
+    let far : suc (j - 1) ≡ j = omega (arith, there.0, there.1) in
+    let letters_are = map (stands (pulse_of i s).rise (pulse_of j s).fall) s.marks in
+    let most = window (j + 1 - i) in
+    let both : ℕ → ℕ → Exchange = λ n m. holding_none most most (turned s (One (Shifted n m d letters_are))).1 (One (Shifted n m d letters_are)) in
     (λ k. holding_none (window (size k)) (window (size k)) (One (Shifted (suc (i - 1)) (suc (j - 1)) (neg_ℤ (passed k)) (letters k)))
-    (One (Shifted (suc (i - 1)) (suc (j - 1)) (passed k) (letters k))))
+    (One (Shifted (suc (i - 1)) (suc (j - 1)) (passed k) (letters k)))) ∙ (λ k. both (near k) (far k))
