@@ -153,10 +153,6 @@ took h between new s can made within goes =
     subst (λ (w : History State Change). s.cursor ≤ length w.state.pulses) made within in
     (record { fits = can; cursor = cursor }, goes ∙ ap (λ (w : History State Change). walk w.state s.cursor w.past w.future) made)
 
--- the change of a step can't be made
-pub not_taken : (h : History State Change) (s : SavedStep) → (Fits h.state s.change → ⊥) → CanTake h.state (step_of s) → ⊥
-not_taken h s none = λ can. none can.fits
-
 -- its cursor is beyond the last pulse
 pub beyond_last : (h between : History State Change) (s : SavedStep) → between ≡ changed h s.change
     → length between.state.pulses < s.cursor → CanTake h.state (step_of s) → ⊥

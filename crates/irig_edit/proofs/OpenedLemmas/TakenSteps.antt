@@ -2,7 +2,7 @@
 use Rattle.std.proofs.Common.{Bool, true, false, ◌≡◌, ◌<◌, ◌^◌, ℕ, ◌+◌, ◌++◌, List, [], ◌∷◌, length, take, reverse, refl, ap}
 use Rattle.std.proofs.Common.{sym, ◌∙◌, subst, arith, append_assoc}
 use Rattle.std.proofs.Math.Seq.{take-append-add, take-append_seam}
-use Rattle.std.proofs.lemmas.List.{append-nil, length-append, map-append, reverse-append}
+use Rattle.std.proofs.lemmas.List.{length-append, map-append, reverse-append}
 use Rattle.irig_saved.specs.SavedText.{step_lines, steps_lines}
 use Rattle.irig_saved.specs.declared.step.Step.{Step as SavedStep}
 use Rattle.irig_journal.specs.History.{History, Step}
@@ -56,13 +56,6 @@ taken_more h now next names left before behind s so_far can goes counted =
       lines = counted ∙ (ap (λ n. n + length (step_lines s)) so_far.lines
           ∙ omega (arith, lines-append so_far.done (s ∷ []), length-append (step_lines s) []));
     }
-
--- all were taken
-pub taken_end : (h now : History State Change) (names : List SavedStep) (before : ℕ) → TakenSoFar h names now [] before
-    → CanTakeAll h.state (steps_of names) × (now ≡ gone_along h (steps_of names))
-taken_end h now names before so_far =
-    let all : so_far.done ≡ names = sym (so_far.all ∙ append-nil so_far.done) in
-    subst (λ (l : List SavedStep). CanTakeAll h.state (steps_of l) × (now ≡ gone_along h (steps_of l))) all (so_far.can, so_far.stands)
 
 -- the next can't be
 pub taken_stops : (h now : History State Change) (names left : List SavedStep) (before behind : ℕ) (s : SavedStep)
