@@ -1,6 +1,7 @@
 -- Words determine what they are the words of.
 use Rattle.std.proofs.Common.{◌≡◌, ◌<◌, ◌≤◌, ◌+◌, ◌∷◌, [], ℕ, suc, Bool, true, false, Option, Some, None, List, length, drop, get_or, nat_lt, refl, sym, ap}
 use Rattle.std.proofs.Common.{ap₂, ◌∙◌, arith}
+use Rattle.std.specs.Str.{bytes_eq}
 use Rattle.std.proofs.lemmas.Bool.{and_from, lt-ltb}
 use Rattle.irig_saved.specs.ChangeWords.{letters_from, letters_or_dash, moved_word, time_word, head_of, words_of}
 use Rattle.irig_saved.specs.Ranges.{IsNumber, IsTime, IsSingle}
@@ -23,6 +24,10 @@ word_at n ws vs e = ap (λ (l : List (List ℕ)). get_or l n []) e
 
 pub byte_at : (n : ℕ) (w v : List ℕ) → w ≡ v → get_or w n 0 ≡ get_or v n 0
 byte_at n w v e = ap (λ (l : List ℕ). get_or l n 0) e
+
+-- words that differ are not the same: they are compared by computing
+pub unlike : {P : Type 0} (w v : List ℕ) → bytes_eq w w ≡ true → bytes_eq w v ≡ false → w ≡ v → P
+unlike w v own other same = let bad : true ≡ false = sym own ∙ (ap (bytes_eq w) same ∙ other) in absurd (cc)
 
 pub byte_is_word : (b : ℕ) → 32 < b → IsWord (b ∷ [])
 byte_is_word b h = and_from (nat_lt 32 b) true (lt-ltb 32 b h) refl
@@ -100,30 +105,16 @@ kind_is_word k = plain_is_word (kind_word k) (kind_is_plain k)
 
 pub same_kind : (k l : Kind) → kind_word k ≡ kind_word l → k ≡ l
 same_kind A A e = refl
-same_kind A B e = absurd (let bad : 65 ≡ 66 = byte_at 0 _ _ e in omega (arith, bad))
-same_kind A E e = absurd (let bad : 65 ≡ 69 = byte_at 0 _ _ e in omega (arith, bad))
-same_kind A G e = absurd (let bad : 65 ≡ 71 = byte_at 0 _ _ e in omega (arith, bad))
-same_kind B A e = absurd (let bad : 66 ≡ 65 = byte_at 0 _ _ e in omega (arith, bad))
 same_kind B B e = refl
-same_kind B E e = absurd (let bad : 66 ≡ 69 = byte_at 0 _ _ e in omega (arith, bad))
-same_kind B G e = absurd (let bad : 66 ≡ 71 = byte_at 0 _ _ e in omega (arith, bad))
-same_kind E A e = absurd (let bad : 69 ≡ 65 = byte_at 0 _ _ e in omega (arith, bad))
-same_kind E B e = absurd (let bad : 69 ≡ 66 = byte_at 0 _ _ e in omega (arith, bad))
 same_kind E E e = refl
-same_kind E G e = absurd (let bad : 69 ≡ 71 = byte_at 0 _ _ e in omega (arith, bad))
-same_kind G A e = absurd (let bad : 71 ≡ 65 = byte_at 0 _ _ e in omega (arith, bad))
-same_kind G B e = absurd (let bad : 71 ≡ 66 = byte_at 0 _ _ e in omega (arith, bad))
-same_kind G E e = absurd (let bad : 71 ≡ 69 = byte_at 0 _ _ e in omega (arith, bad))
 same_kind G G e = refl
+same_kind k m e = unlike (kind_word k) (kind_word m) refl refl e
 
 -- the first line of a change
 
 pub head_is_plain : (x : Single) → IsPlain (head_of x)
 head_is_plain (Splice at count put) = refl
-head_is_plain (Toggle a b) = refl
-head_is_plain (Shift i j by marks) = refl
-head_is_plain (SetFormat kind expression) = refl
-head_is_plain (SetMark letter time) = refl
+head_is_plain _ = refl
 
 pub head_is_word : (x : Single) → IsWord (head_of x)
 head_is_word x = plain_is_word (head_of x) (head_is_plain x)
@@ -141,10 +132,7 @@ words_are_words x h = plain_are_words (words_of x) (words_are_plain x h)
 -- the same change, but for the pulses that a splice inserts: only their number is given
 abbrev pub Alike : Single → Single → Type 0
 Alike x (Splice at count put) = (ps : List Pulse) × (x ≡ Splice at count ps) × (length ps ≡ length put)
-Alike x (Toggle a b) = x ≡ Toggle a b
-Alike x (Shift i j by marks) = x ≡ Shift i j by marks
-Alike x (SetFormat kind expression) = x ≡ SetFormat kind expression
-Alike x (SetMark letter time) = x ≡ SetMark letter time
+Alike x y = x ≡ y
 
 pub alike : (x y : Single) → IsSingle x → IsSingle y → head_of x ≡ head_of y → words_of x ≡ words_of y → Alike x y
 alike (Splice at count put) (Splice at' count' put') hx hy h w = (
@@ -152,33 +140,14 @@ alike (Splice at count put) (Splice at' count' put') hx hy h w = (
   ap₂ (λ m n. Splice m n put) (same_number at at' hx.0 hy.0 (word_at 0 _ _ w)) (same_number count count' hx.1 hy.1 (word_at 1 _ _ w)),
   same_number (length put) (length put') hx.2 hy.2 (word_at 2 _ _ w),
 )
-alike (Splice at count put) (Toggle a' b') hx hy h w = absurd (let bad : 115 ≡ 116 = byte_at 0 _ _ h in omega (arith, bad))
-alike (Splice at count put) (Shift i' j' by' marks') hx hy h w = absurd (let bad : 112 ≡ 104 = byte_at 1 _ _ h in omega (arith, bad))
-alike (Splice at count put) (SetFormat kind' expression') hx hy h w = absurd (let bad : 112 ≡ 101 = byte_at 1 _ _ h in omega (arith, bad))
-alike (Splice at count put) (SetMark letter' time') hx hy h w = absurd (let bad : 112 ≡ 101 = byte_at 1 _ _ h in omega (arith, bad))
-alike (Toggle a b) (Splice at' count' put') hx hy h w = absurd (let bad : 116 ≡ 115 = byte_at 0 _ _ h in omega (arith, bad))
 alike (Toggle a b) (Toggle a' b') hx hy h w = ap₂ Toggle (same_number a a' hx.0 hy.0 (word_at 0 _ _ w)) (same_number b b' hx.1 hy.1 (word_at 1 _ _ w))
-alike (Toggle a b) (Shift i' j' by' marks') hx hy h w = absurd (let bad : 116 ≡ 115 = byte_at 0 _ _ h in omega (arith, bad))
-alike (Toggle a b) (SetFormat kind' expression') hx hy h w = absurd (let bad : 116 ≡ 115 = byte_at 0 _ _ h in omega (arith, bad))
-alike (Toggle a b) (SetMark letter' time') hx hy h w = absurd (let bad : 116 ≡ 115 = byte_at 0 _ _ h in omega (arith, bad))
-alike (Shift i j by marks) (Splice at' count' put') hx hy h w = absurd (let bad : 104 ≡ 112 = byte_at 1 _ _ h in omega (arith, bad))
-alike (Shift i j by marks) (Toggle a' b') hx hy h w = absurd (let bad : 115 ≡ 116 = byte_at 0 _ _ h in omega (arith, bad))
 alike (Shift i j by marks) (Shift i' j' by' marks') hx hy h w =
     ap₂ (λ m n. Shift m n by marks) (same_number i i' hx.0 hy.0 (word_at 0 _ _ w)) (same_number j j' hx.1 hy.1 (word_at 1 _ _ w))
     ∙ ap₂ (λ d ms. Shift i' j' d ms) (same_distance by by' hx.2 hy.2 (word_at 2 _ _ w)) (same_moved marks marks' (hx.3 ∙ sym hy.3) (word_at 3 _ _ w))
-alike (Shift i j by marks) (SetFormat kind' expression') hx hy h w = absurd (let bad : 104 ≡ 101 = byte_at 1 _ _ h in omega (arith, bad))
-alike (Shift i j by marks) (SetMark letter' time') hx hy h w = absurd (let bad : 104 ≡ 101 = byte_at 1 _ _ h in omega (arith, bad))
-alike (SetFormat kind expression) (Splice at' count' put') hx hy h w = absurd (let bad : 101 ≡ 112 = byte_at 1 _ _ h in omega (arith, bad))
-alike (SetFormat kind expression) (Toggle a' b') hx hy h w = absurd (let bad : 115 ≡ 116 = byte_at 0 _ _ h in omega (arith, bad))
-alike (SetFormat kind expression) (Shift i' j' by' marks') hx hy h w = absurd (let bad : 101 ≡ 104 = byte_at 1 _ _ h in omega (arith, bad))
 alike (SetFormat kind expression) (SetFormat kind' expression') hx hy h w =
     ap₂ SetFormat (same_kind kind kind' (word_at 0 _ _ w)) (same_number expression expression' (small_is_number expression hx) (small_is_number expression' hy)
     (word_at 1 _ _ w))
-alike (SetFormat kind expression) (SetMark letter' time') hx hy h w = absurd (let bad : 102 ≡ 109 = byte_at 3 _ _ h in omega (arith, bad))
-alike (SetMark letter time) (Splice at' count' put') hx hy h w = absurd (let bad : 101 ≡ 112 = byte_at 1 _ _ h in omega (arith, bad))
-alike (SetMark letter time) (Toggle a' b') hx hy h w = absurd (let bad : 115 ≡ 116 = byte_at 0 _ _ h in omega (arith, bad))
-alike (SetMark letter time) (Shift i' j' by' marks') hx hy h w = absurd (let bad : 101 ≡ 104 = byte_at 1 _ _ h in omega (arith, bad))
-alike (SetMark letter time) (SetFormat kind' expression') hx hy h w = absurd (let bad : 109 ≡ 102 = byte_at 3 _ _ h in omega (arith, bad))
 alike (SetMark letter time) (SetMark letter' time') hx hy h w =
     ap₂ SetMark (let plus : 97 + letter ≡ 97 + letter' = byte_at 0 _ _ (word_at 0 _ _ w) in omega (arith, plus))
     (same_time time time' hx.1 hy.1 (word_at 1 _ _ w))
+alike x y hx hy h w = unlike (head_of x) (head_of y) refl refl h

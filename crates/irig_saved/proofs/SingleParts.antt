@@ -1,6 +1,5 @@
 -- The lines of one change.
-use Rattle.std.proofs.Common.{◌≡◌, ◌++◌, ◌∷◌, [], ℕ, List, length, get_or, decimal, codes, refl, sym, ap, ap₂, subst, ◌∙◌, append_assoc, arith, lit<, inl, inr}
-use Rattle.std.proofs.Common.{◌⊎◌}
+use Rattle.std.proofs.Common.{◌≡◌, ◌++◌, ◌∷◌, [], ℕ, List, length, get_or, decimal, codes, refl, sym, ap, ap₂, subst, ◌∙◌, append_assoc, lit<, inl, inr, ◌⊎◌}
 use Rattle.irig_saved.specs.Lines.{line, text_of}
 use Rattle.irig_saved.specs.ChangeWords.{head_of, words_of, single_line}
 use Rattle.irig_saved.specs.SavedText.{put_of, pulse_lines, single_lines, singles_lines}
@@ -9,10 +8,10 @@ use Rattle.irig_saved.specs.Values.{AreThree, words_of_three}
 use Rattle.irig_saved.specs.Reading.{Reads, Stops, Lacks, IsShort}
 use Rattle.irig_vcd.specs.declared.pulse.Pulse.{Pulse}
 use Rattle.irig_saved.specs.declared.single.Single.{Single}
-use Rattle.irig_saved.specs.declared.single.Single.TheVariants.{Splice, Toggle, Shift, SetFormat, SetMark}
+use Rattle.irig_saved.specs.declared.single.Single.TheVariants.{Splice, Toggle}
 use Rattle.irig_saved.proofs.Cuts.{AreWords}
 use Rattle.irig_saved.proofs.Decimals.{number_is_word, same_number}
-use Rattle.irig_saved.proofs.SameWords.{head_is_word, words_are_words}
+use Rattle.irig_saved.proofs.SameWords.{unlike, head_is_word, words_are_words}
 use Rattle.irig_saved.proofs.Unique.{lined, same_single}
 use Rattle.irig_saved.proofs.Clean.{newline, number_lacks, line_lacks, first_lacks, single_clean}
 use Rattle.irig_saved.proofs.Carried.{Differs, carried, first_line_stops, other_line, lineless}
@@ -54,9 +53,6 @@ other_head x t h ht not e =
     not (lined (codes "splice") (head_of x) (words_of_three t) (words_of x) [] [] [] [] refl (head_is_word x) (three_are_words t ht) (words_are_words x h)
     (ap (λ (l : List ℕ). text_of (l ∷ []) ++ []) e)).head
 
-byte_of : (n : ℕ) (w v : List ℕ) → w ≡ v → get_or w n 0 ≡ get_or v n 0
-byte_of n w v e = ap (λ (l : List ℕ). get_or l n 0) e
-
 pub splice_stops : (text l mid rest : List ℕ) (t : ℕ × ℕ × ℕ) → text ≡ l ++ 10 ∷ mid → Lacks 10 l → AreThree t → l ≡ splice_line t
     → Stops (ArePulses t.2) pulse_lines mid rest → Stops IsSingle single_lines text rest
 splice_stops text l mid rest t cut whole ht e s =
@@ -77,24 +73,15 @@ splice_stops text l mid rest t cut whole ht e s =
       from : (z : Single) → IsSingle z → ((p : (ℕ × ℕ × ℕ) × List Pulse) × Both AreThree AreTheirs splice_lines pulse_lines p
           × (both AreThree AreTheirs splice_lines pulse_lines p ≡ single_lines z)) ⊎ Differs text (single_lines z)
       from (Splice at count put) h = inl (((at, count, length put), put), ((h.0, h.1, h.2), (refl, h.3)), refl)
-      from (Toggle a b) h = inr (apart (Toggle a b) h (λ k. let bad : 115 ≡ 116 = byte_of 0 _ _ k in omega (arith, bad)))
-      from (Shift i j by marks) h = inr (apart (Shift i j by marks) h (λ k. let bad : 112 ≡ 104 = byte_of 1 _ _ k in omega (arith, bad)))
-      from (SetFormat kind expression) h = inr (apart (SetFormat kind expression) h (λ k. let bad : 112 ≡ 101 = byte_of 1 _ _ k in omega (arith, bad)))
-      from (SetMark letter time) h = inr (apart (SetMark letter time) h (λ k. let bad : 112 ≡ 101 = byte_of 1 _ _ k in omega (arith, bad)))
+      from x h = inr (apart x h (λ k. unlike (codes "splice") (head_of x) refl refl k))
 
 short_is_single : (x : Single) → IsShort x → IsSingle x
 short_is_single (Splice at count put) h = absurd h
-short_is_single (Toggle a b) h = h
-short_is_single (Shift i j by marks) h = h
-short_is_single (SetFormat kind expression) h = h
-short_is_single (SetMark letter time) h = h
+short_is_single _ h = h
 
 short_puts_none : (x : Single) → IsShort x → pulse_lines (put_of x) ≡ []
 short_puts_none (Splice at count put) h = absurd h
-short_puts_none (Toggle a b) h = refl
-short_puts_none (Shift i j by marks) h = refl
-short_puts_none (SetFormat kind expression) h = refl
-short_puts_none (SetMark letter time) h = refl
+short_puts_none _ h = refl
 
 pub short_reads : (text l rest : List ℕ) (x : Single) → text ≡ l ++ 10 ∷ rest → IsShort x → l ≡ single_line x → Reads IsSingle single_lines text x rest
 short_reads text l rest x cut h e = record {
@@ -119,10 +106,7 @@ single_line_stops text l rest cut whole no_splice no_short =
     (λ x h. other_line text l rest (single_line x) (pulse_lines (put_of x)) cut whole (first_lacks newline x h) (none x h)) where
       none : (x : Single) → IsSingle x → l ≡ single_line x → ⊥
       none (Splice at count put) h e = no_splice (at, count, length put) (h.0, h.1, h.2) e
-      none (Toggle a b) h e = no_short (Toggle a b) h e
-      none (Shift i j by marks) h e = no_short (Shift i j by marks) h e
-      none (SetFormat kind expression) h e = no_short (SetFormat kind expression) h e
-      none (SetMark letter time) h e = no_short (SetMark letter time) h e
+      none x h e = no_short x h e
 
 pub no_single_stops : (text : List ℕ) → Lacks 10 text → Stops IsSingle single_lines text text
 no_single_stops text lacks =

@@ -11,7 +11,7 @@ use Rattle.irig_codes.specs.Words.{kind_word}
 use Rattle.irig_codes.specs.declared.format.Kind.{Kind}
 use Rattle.irig_vcd.specs.declared.pulse.Pulse.{Pulse}
 use Rattle.irig_saved.specs.declared.single.Single.{Single}
-use Rattle.irig_saved.specs.declared.single.Single.TheVariants.{Splice, Toggle, Shift, SetFormat, SetMark}
+use Rattle.irig_saved.specs.declared.single.Single.TheVariants.{Splice}
 use Rattle.irig_saved.specs.declared.change.Change.{Change}
 use Rattle.irig_saved.specs.declared.change.Change.TheVariants.{One, Group}
 use Rattle.irig_saved.specs.declared.step.Step.{Step}
@@ -19,7 +19,8 @@ use Rattle.irig_saved.specs.declared.saved.Saved.{Saved}
 use Rattle.irig_saved.proofs.Cuts.{IsWord, AreWords, SameLine, same_line}
 use Rattle.irig_saved.proofs.Decimals.{number_is_word, same_number}
 use Rattle.irig_saved.proofs.Texts.{text_of_append}
-use Rattle.irig_saved.proofs.SameWords.{small_is_number, word_at, byte_at, byte_is_word, kind_is_word, same_kind, head_is_word, words_are_words, Alike, alike}
+use Rattle.irig_saved.proofs.SameWords.{unlike, small_is_number, word_at, byte_at, byte_is_word, kind_is_word, same_kind, head_is_word, words_are_words, Alike}
+use Rattle.irig_saved.proofs.SameWords.{alike}
 
 -- the same value, and the same text after it
 pub record Same {X : Type 0} (x y : X) (r s : List ℕ) : Type 0 where
@@ -62,11 +63,7 @@ same_put x (Splice at count put) r s hx hy a e =
     let h : IsSingle (Splice at count a.0) = subst IsSingle a.1 hx in
     let t = same_pulses a.0 put r s a.2 h.3 hy.3 (ap (λ (l : Single). text_of (pulse_lines (put_of l)) ++ r) (sym a.1) ∙ e) in
     record { value = a.1 ∙ ap (λ (ps : List Pulse). Splice at count ps) t.value; rest = t.rest }
-same_put x (Toggle a b) r s hx hy same e = record { value = same; rest = ap (λ (l : Single). text_of (pulse_lines (put_of l)) ++ r) (sym same) ∙ e }
-same_put x (Shift i j by marks) r s hx hy same e = record { value = same; rest = ap (λ (l : Single). text_of (pulse_lines (put_of l)) ++ r) (sym same) ∙ e }
-same_put x (SetFormat kind expression) r s hx hy same e =
-    record { value = same; rest = ap (λ (l : Single). text_of (pulse_lines (put_of l)) ++ r) (sym same) ∙ e }
-same_put x (SetMark letter time) r s hx hy same e = record { value = same; rest = ap (λ (l : Single). text_of (pulse_lines (put_of l)) ++ r) (sym same) ∙ e }
+same_put x y r s hx hy same e = record { value = same; rest = ap (λ (l : Single). text_of (pulse_lines (put_of l)) ++ r) (sym same) ∙ e }
 
 pub same_single : (x y : Single) (r s : List ℕ) → IsSingle x → IsSingle y
     → text_of (single_lines x) ++ r ≡ text_of (single_lines y) ++ s → Same x y r s
@@ -93,11 +90,8 @@ same_singles (x ∷ xs) (y ∷ ys) r s n hx hy e =
 -- a change
 
 pub no_group : (x : Single) → head_of x ≡ codes "group" → ⊥
-no_group (Splice at count put) e = let bad : 115 ≡ 103 = byte_at 0 _ _ e in omega (arith, bad)
-no_group (Toggle a b) e = let bad : 116 ≡ 103 = byte_at 0 _ _ e in omega (arith, bad)
-no_group (Shift i j by marks) e = let bad : 115 ≡ 103 = byte_at 0 _ _ e in omega (arith, bad)
-no_group (SetFormat kind expression) e = let bad : 115 ≡ 103 = byte_at 0 _ _ e in omega (arith, bad)
-no_group (SetMark letter time) e = let bad : 115 ≡ 103 = byte_at 0 _ _ e in omega (arith, bad)
+no_group (Splice at count put) e = unlike (codes "splice") (codes "group") refl refl e
+no_group x e = unlike (head_of x) (codes "group") refl refl e
 
 counted_is_words : (n : ℕ) → IsNumber n → AreWords (decimal n ∷ [])
 counted_is_words n h = (number_is_word n h, tt)
