@@ -20,7 +20,7 @@ use Rattle.irig_edit.specs.State.Present.{PresentView}
 use Rattle.irig_edit.specs.Changes.Room.{HasRoomFor, TakesIn, passing}
 use Rattle.irig_saved.specs.declared.single.Single as saved
 use Rattle.irig_edit.specs.Changes.Single.{FitsSingle, turned_single}
-use Rattle.irig_saved.specs.declared.single.Single.TheVariants.{Splice, Toggle, Shift, SetFormat, SetMark}
+use Rattle.irig_saved.specs.declared.single.Single.TheVariants.{Splice, Toggle, Shift}
 use Rattle.irig_edit.specs.State.State.{State, IsState, frames_of}
 use Rattle.irig_edit.specs.declared.changes.single.Single.{Single}
 use Rattle.irig_edit.proofs.EditLemmas.ShiftedStates.{length-shifted}
@@ -67,9 +67,7 @@ frames_after s (Toggle a b) is can =
 frames_after s (Shift (suc i) (suc j) d named) is can =
     let part = piece i (count_to i j) s.pulses in
     omega (arith, parted_few s i (count_to i j) (moved d part), frames_moved s.format d part can.0.from_zero)
-frames_after s (SetFormat kind expression) is can = omega arith
-frames_after s (SetMark letter time) is can = omega arith
-frames_after s _ is can = absurd can
+frames_after s _ is can = omega arith
 
 -- places for what a change inserts are among more
 pub puts_wider : (p q : Places) (s : State) (d : saved.Single) → p.pulses ≤ q.pulses → PutsIn p s d → PutsIn q s d
@@ -95,9 +93,7 @@ ample_enough p s x is can held ample =
       by_kind (Toggle a b) can puts = (omega (arith, puts), omega (arith, puts, length-toggled s a b can))
       by_kind (Shift (suc i) (suc j) d named) can puts =
           (omega (arith, held), omega (arith, held, length-shifted i j d s.pulses can.0.order can.0.there))
-      by_kind (SetFormat kind expression) can puts = (omega (arith, held), omega (arith, held))
-      by_kind (SetMark letter time) can puts = (omega (arith, held), omega (arith, held))
-      by_kind _ can puts = absurd can
+      by_kind _ can puts = (omega (arith, held), omega (arith, held))
 
 -- places that are kept are within each other
 pub kept_within : (p q : PresentView) → KeepsPlaces p q → IsWithin (places_in p) (places_in q)
@@ -108,8 +104,6 @@ passing-turned : (s : State) (d : saved.Single) → passing (turned_single s d).
 passing-turned s (Toggle a b) = refl
 passing-turned s (Splice (suc at) count put) = refl
 passing-turned s (Shift (suc i) (suc j) d named) = refl
-passing-turned s (SetFormat kind expression) = refl
-passing-turned s (SetMark letter time) = refl
 passing-turned s _ = refl
 
 -- the way back leads to the state before
