@@ -1,5 +1,5 @@
 -- Bytes that are known, over several calls.
-use Rattle.std.proofs.Common.{[], ◌≡◌, ◌≢◌, ◌++◌, ℕ, List, Option, Some, None, refl, ap, sym, ◌∙◌, append_assoc, subst, length, take, drop, ◌-◌, ◌+◌, ◌<◌}
+use Rattle.std.proofs.Common.{[], ◌≢◌, ◌++◌, ℕ, List, Option, Some, None, refl, ap, sym, ◌∙◌, append_assoc, subst, length, take, drop, ◌-◌, ◌+◌, ◌<◌}
 use Rattle.std.proofs.Common.{arith}
 use Rattle.std.proofs.Math.Seq.{take-add}
 use Rattle.std.proofs.lemmas.List.{length-drop}

@@ -1,5 +1,5 @@
 -- How far a run has read its script.
-use Rattle.std.proofs.Common.{◌≡◌, ◌≤◌, ◌+◌, ◌^◌, ◌++◌, [], ℕ, Option, Some, None, List, false, length, refl, sym, arith}
+use Rattle.std.proofs.Common.{◌≤◌, ◌+◌, ◌^◌, ◌++◌, [], ℕ, Option, Some, None, List, false, length, refl, sym, arith}
 use Rattle.std.specs.Io.KnownBytes.{Consumes, Keeps}
 use Rattle.irig_script.specs.Obey.Machine.{Machine}
 use Rattle.irig_script.specs.Obey.Desk.{Desk}

@@ -1,6 +1,5 @@
 -- Texts sent through a block.
-use Rattle.std.proofs.Common.{[], ◌∷◌, ◌≡◌, ◌≢◌, ◌++◌, ℕ, List, Option, None, Some, refl, sym, ap, ◌∙◌, append_assoc, subst}
-use Rattle.std.proofs.lemmas.List.{append-nil}
+use Rattle.std.proofs.Common.{[], ◌∷◌, ◌≢◌, ◌++◌, ℕ, List, Option, refl, sym, ap, ◌∙◌, append_assoc, subst}
 use Rattle.std.specs.Io.KnownBytes.{Appends}
 use Rattle.irig_script.specs.Print.Blocks.{Sends}
 use Rattle.irig_script.specs.Print.Front.{AppendsFront}

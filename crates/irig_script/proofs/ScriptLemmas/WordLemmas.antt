@@ -1,8 +1,8 @@
 -- A text cut at a byte, and the words of a line.
 use Rattle.std.proofs.Common.{◌≡◌, ℕ, zero, suc, ◌+◌, ◌-◌, ◌<◌, ◌≤◌, ◌++◌, Bool, true, false, not, ◌&&◌, List, [], ◌∷◌, length, take, drop, get_or, refl, sym}
-use Rattle.std.proofs.Common.{ap, ap₂, ◌∙◌, subst, arith, add-one, drop-cons, append_assoc}
+use Rattle.std.proofs.Common.{ap, ap₂, ◌∙◌, subst, arith, add-one, drop-cons}
 use Rattle.std.proofs.Math.Seq.{take-length}
-use Rattle.std.proofs.lemmas.List.{append-nil, length-drop, take_more}
+use Rattle.std.proofs.lemmas.List.{length-drop}
 use Rattle.std.specs.List.{list_all}
 use Rattle.irig_script.specs.Script.Words.{is_space, is_stop, before, onward, begins_word, onto_first, words_of, word_and}
 use Rattle.irig_script.specs.declared.script.cutting.Stop.{Stop}

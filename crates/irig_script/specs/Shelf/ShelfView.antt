@@ -1,6 +1,6 @@
 -- What a shelf in memory is: its texts in order, how often it failed, how many writes were asked of
 -- it, and the number of the one that it was set to fail, from 1. This project's own.
-use Rattle.std.specs.Prelude.{◌≡◌, ◌+◌, ◌-◌, ◌^◌, ℕ, List, [], Option, Some, min}
+use Rattle.std.specs.Prelude.{◌+◌, ◌-◌, ◌^◌, ℕ, List, [], Option, Some, min}
 use Rattle.irig_script.specs.Shelf.Shelved.{Shelved, shelved}
 
 -- a shelf in memory
