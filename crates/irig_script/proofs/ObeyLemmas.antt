@@ -2,9 +2,10 @@
 pub mod Known
 pub mod Desks
 pub mod Lines
-pub mod LastLines
 pub mod Reading
 pub mod Runs
+pub mod LastLines
+pub mod Reads
 pub mod Quits
 pub mod Steps
 pub mod DumpRuns

@@ -10,6 +10,7 @@ pub mod Reading
 pub mod OneRun
 pub mod Ending
 pub mod Progress
+pub mod Reads
 pub mod DumpRun
 pub mod OneDumpRun
 pub mod SavedRun

@@ -1,66 +1,73 @@
--- The last line of a script, which has no newline.
-use Rattle.std.proofs.Common.{◌≡◌, ◌≢◌, ◌==◌, ◌++◌, ◌∷◌, [], ℕ, Option, true, false, List, length, refl, ap, sym, ◌∙◌, subst, arith}
-use Rattle.std.proofs.lemmas.Bool.Decides.{nat_tests}
+-- The last line of a script, which is obeyed as if it ended with a newline.
+use Rattle.std.proofs.Common.{◌≡◌, ◌++◌, ◌∷◌, [], ℕ, Bool, Some, true, false, List, refl, ap, sym, ◌∙◌, subst}
+use Rattle.std.proofs.lemmas.List.{append-nil}
 use Rattle.irig_script.specs.Obey.Machine.{Machine}
-use Rattle.irig_script.specs.Script.Lines.{until_quit, script_lines, is_quit}
-use Rattle.irig_script.specs.Obey.Answer.{Answered, texts_put}
-use Rattle.irig_script.specs.Print.Printed.{Answer, printed}
-use Rattle.irig_script.specs.Obey.Desk.{Desk, desk, Tells, status_after}
-use Rattle.irig_script.specs.Shelf.Shelved.{Shelved}
+use Rattle.irig_script.specs.Script.Lines.{until_quit, script_lines}
+use Rattle.irig_script.specs.Obey.Desk.{Desk}
+use Rattle.irig_script.specs.Obey.Progress.{Obeyed, BrokeIn}
+use Rattle.irig_script.specs.Obey.Reads.{with_end}
 use Rattle.irig_script.specs.Obey.Run.{Ran, Broke, IsPlain}
 use Rattle.irig_script.specs.declared.obey.status.Status.{Status}
-use Rattle.irig_script.proofs.ObeyLemmas.Desks.{tells_none}
-use Rattle.irig_script.proofs.ObeyLemmas.Lines.{last_line, until_obeyed, until_ended, runs_one}
+use Rattle.irig_script.specs.declared.script.line.Line.{Line}
+use Rattle.irig_script.proofs.ObeyLemmas.Lines.{first_line, last_line, lines_and, plain_first}
+use Rattle.irig_script.proofs.ObeyLemmas.Runs.{run_quit, run_broke}
 
--- the end of a script in a line
-at_nothing : (text : List ℕ) → (length text == 0) ≡ true → script_lines text ≡ []
-at_nothing [] e = refl
-at_nothing (b ∷ text) e = absurd (grind (arith, nat_tests))
+-- the newline makes no other line
+same_lines : (text : List ℕ) → IsPlain text → script_lines text ≡ script_lines (text ++ with_end text [])
+same_lines [] h = refl
+same_lines (b ∷ text) h = ap until_quit (last_line b text h ∙ sym (first_line (b ∷ text) [] h))
 
-at_quit : (text : List ℕ) → IsPlain text → is_quit text ≡ true → script_lines text ≡ []
-at_quit [] h q = refl
-at_quit (b ∷ text) h q = ap until_quit (last_line b text h) ∙ until_ended (b ∷ text) [] q
+-- after the newline comes no front of a line
+never_plain : (text : List ℕ) → IsPlain (text ++ 10 ∷ []) → ⊥
+never_plain [] h = let bad : false ≡ true = h in cc
+never_plain (b ∷ text) h = never_plain text (plain_first b (text ++ 10 ∷ []) h).1
 
-at_end : (text : List ℕ) → IsPlain text → is_quit text ≡ false → (length text == 0) ≡ false → script_lines text ≡ text ∷ []
-at_end [] h q e = let bad : true ≡ false = e in cc
-at_end (b ∷ text) h q e = ap until_quit (last_line b text h) ∙ until_obeyed (b ∷ text) [] q
+no_front : (text lines front : List ℕ) → text ++ 10 ∷ [] ≡ lines ++ front → IsPlain front → front ≡ []
+no_front text [] front e h = absurd (never_plain text (subst IsPlain (sym e) h))
+no_front [] (b ∷ lines) [] e h = refl
+no_front [] (b ∷ []) (c ∷ front) e h = absurd (cc)
+no_front [] (b ∷ (d ∷ lines)) (c ∷ front) e h = absurd (cc)
+no_front (a ∷ text) (b ∷ lines) front e h = let tail : text ++ 10 ∷ [] ≡ lines ++ front = cc in no_front text lines front tail h
 
-ran_none : (a : Desk) (st : Status) (s : Machine) (text : List ℕ) → script_lines text ≡ [] → Ran a a st st s s text
-ran_none a st s text e = record { answers = []; texts = []; status = refl; told = tells_none a; runs = rw e (refl, refl) }
+last_front : (text lines front : List ℕ) → text ++ with_end text [] ≡ lines ++ front → IsPlain front → front ≡ []
+last_front [] [] front e h = sym e
+last_front [] (b ∷ lines) front e h = absurd (cc)
+last_front (a ∷ text) lines front e h = no_front (a ∷ text) lines front e h
 
-pub ran_nothing : (a : Desk) (st : Status) (s : Machine) (text : List ℕ) → (length text == 0) ≡ true → Ran a a st st s s text
-ran_nothing a st s text e = ran_none a st s text (at_nothing text e)
+-- all of the bytes were obeyed
+ran_all : (ended : Bool) (a b : Desk) (st su : Status) (s t : Machine) (text : List ℕ) (line : Line)
+    → Obeyed ended a b st su s t (text ++ with_end text []) line → Ran a b st su s t (text ++ with_end text [])
+ran_all true a b st su s t text line h =
+    run_quit (Some (text ++ with_end text [])) (Some []) a b st su s t (text ++ with_end text []) line (sym (append-nil (text ++ with_end text []))) h
+ran_all false a b st su s t text line h =
+    let goes = h.ends.1 in
+    let none = last_front text _ h.ends.0 goes.cut h.ends.2.plain in
+    let cut : script_lines (text ++ with_end text []) ≡ goes.lines = ap script_lines goes.cut ∙ (lines_and goes.lines h.ends.0 goes.each
+    ∙ (ap (λ l. goes.lines ++ script_lines l) none ∙ append-nil goes.lines)) in
+    record { answers = h.answers; texts = h.texts; status = h.status; told = h.told; runs = rw cut goes.runs }
 
-pub ran_quit : (a : Desk) (st : Status) (s : Machine) (text : List ℕ) → IsPlain text → is_quit text ≡ true → Ran a a st st s s text
-ran_quit a st s text h q = ran_none a st s text (at_quit text h q)
+pub ran_last : (ended : Bool) (a b : Desk) (st su : Status) (s t : Machine) (text bytes : List ℕ) (line : Line) → IsPlain text → bytes ≡ with_end text []
+    → Obeyed ended a b st su s t (text ++ bytes) line → Ran a b st su s t text
+ran_last ended a b st su s t text bytes line plain e h =
+    let ran = ran_all ended a b st su s t text line (subst (λ (l : List ℕ). Obeyed ended a b st su s t (text ++ l) line) e h) in
+    record { answers = ran.answers; texts = ran.texts; status = ran.status; told = ran.told; runs = rw (same_lines text plain) ran.runs }
 
-pub ran_end : (out : Option (List ℕ)) (t u : Shelved) (st : Status) (s m : Machine) (text : List ℕ) → IsPlain text → is_quit text ≡ true
-    → m ≡ s → u ≡ t → Ran (desk out t) (desk out u) st st s m text
-ran_end out t u st s m text plain q e p =
-    subst (λ (k : Shelved). Ran (desk out t) (desk out k) st st s m text) (sym p)
-    (subst (λ (k : Machine). Ran (desk out t) (desk out t) st st s k text) (sym e) (ran_quit (desk out t) st s text plain q))
-
-pub ran_line : (a b : Desk) (st su : Status) (s t : Machine) (text : List ℕ) (answer : Answer) → IsPlain text → is_quit text ≡ false
-    → (length text == 0) ≡ false → Answered s text answer t
-    → Tells a b (printed (answer ∷ [])) (answer ∷ []) (texts_put s answer.reply) → su ≡ status_after st (answer ∷ []) → Ran a b st su s t text
-ran_line a b st su s t text answer plain q some h p e =
-    record { answers = answer ∷ []; texts = texts_put s answer.reply; status = e; told = p; runs = rw (at_end text plain q some) (runs_one s t text answer h) }
-
-pub broken_line : (a b : Desk) (s t : Machine) (text front back : List ℕ) (answer : Answer) → IsPlain text → is_quit text ≡ false → (length text == 0) ≡ false
-    → Answered s text answer t
-    → answer.text ≡ front ++ back → back ≢ [] → Tells a b front (answer ∷ []) (texts_put s answer.reply) → Broke a b s t text
-broken_line a b s t text front back answer plain q some h e n p =
+pub broke_last : (a b : Desk) (s t : Machine) (text bytes : List ℕ) → IsPlain text → bytes ≡ with_end text [] → BrokeIn a b s t (text ++ bytes)
+    → Broke a b s t text
+broke_last a b s t text bytes plain e h =
+    let whole = text ++ with_end text [] in
+    let broke = run_broke (Some whole) (Some []) a b s t whole (sym (append-nil whole)) (subst (λ (l : List ℕ). BrokeIn a b s t (text ++ l)) e h) in
     record {
-      lines = text ∷ [];
-      others = [];
-      answers = [];
-      last = answer;
-      front = front;
-      back = back;
-      texts = texts_put s answer.reply;
-      cut = at_end text plain q some;
-      part = e;
-      missing = n;
-      told = p;
-      runs = runs_one s t text answer h;
+      lines = broke.lines;
+      others = broke.others;
+      answers = broke.answers;
+      last = broke.last;
+      front = broke.front;
+      back = broke.back;
+      texts = broke.texts;
+      cut = same_lines text plain ∙ broke.cut;
+      part = broke.part;
+      missing = broke.missing;
+      told = broke.told;
+      runs = broke.runs;
     }

@@ -19,7 +19,7 @@ use Rattle.irig_script.specs.declared.script.line.Line.{Line}
 use Rattle.irig_script.proofs.ObeyLemmas.Desks.{status_after-append, tells_none, tells-tells, tells-answers}
 
 -- a byte before a text that has no newline
-plain_first : (b : ℕ) (text : List ℕ) → IsPlain (b ∷ text) → ((b == 10) ≡ false) × IsPlain text
+pub plain_first : (b : ℕ) (text : List ℕ) → IsPlain (b ∷ text) → ((b == 10) ≡ false) × IsPlain text
 plain_first b text h = go (b == 10) refl
   where
     go : (t : Bool) → (b == 10) ≡ t → ((b == 10) ≡ false) × IsPlain text

@@ -1,15 +1,17 @@
 //! The run of a script.
 
-ghost use Rattle.std.specs.Prelude.{◌≡◌, ◌++◌, ◌∷◌, [], ℕ, List, IfOk, IfErr, OnOk, OnErr};
+ghost use Rattle.std.specs.Prelude.{◌≡◌, ◌<◌, ◌≤◌, ◌^◌, ◌++◌, ◌∷◌, [], ℕ, List, Option, IfOk};
+ghost use Rattle.std.specs.Prelude.{IfErr, OnOk, OnErr, length, take};
 ghost use Rattle.std.specs.Io.{ReadsAtMost};
 ghost use Rattle.std.specs.Io.KnownBytes.{Appends, ReadConsumes};
 ghost use Rattle.irig_script.specs.declared.obey.status.RunFault.TheVariants.{ReadFailed};
 ghost use Rattle.irig_script.specs.Print.Printed.{answer_with, reply_text};
-ghost use Rattle.irig_script.specs.Obey.Desk.{desk, status_after};
+ghost use Rattle.irig_script.specs.Obey.Desk.{Desk, desk, status_after};
 ghost use Rattle.irig_script.specs.Obey.Ending.{EndsAs};
 ghost use Rattle.irig_script.specs.Obey.Reading.{ReadsTo};
-ghost use Rattle.irig_script.specs.Obey.Run.{Ran, Broke};
+ghost use Rattle.irig_script.specs.Obey.Machine.{Machine};
 ghost use Rattle.irig_script.specs.Obey.Progress.{BrokeIn, Holds, Obeyed};
+ghost use Rattle.irig_script.specs.Obey.Reads.{GoesOn, IsUnderway, with_end};
 ghost use Rattle.irig_script.specs.Print.Front.{AppendsFront};
 
 use crate::obey::obeying::obey_line;
@@ -45,29 +47,55 @@ pub fn run<R: Read, W: Write, S: Shelf>(
     let mut buffer = [0; READ_LIMIT];
     let mut status = Status::AllAccepted;
     for reads in 0..READS_LIMIT {
-        match read_part(script, &mut buffer) {
+        match obey_read(
+            script,
+            &mut buffer,
+            &mut line,
+            session,
+            out,
+            shelf,
+            &mut status,
+        ) {
+            Ok(true) => return Ok(status),
+            Ok(false) => {}
             Err(fault) => return Err(fault),
-            Ok(0) => {
-                let Ok(()) = finish(&line, session, out, shelf, &mut status) else {
-                    return Err(RunFault::PrintFailed);
-                };
-                return Ok(status);
-            }
-            Ok(count) => {
-                let part = &buffer[..count];
-                match obey_part(&mut line, part, session, out, shelf, &mut status) {
-                    Ok(true) => return Ok(status),
-                    Ok(false) => {}
-                    Err(PrintFault) => return Err(RunFault::PrintFailed),
-                }
-            }
         }
     }
     Err(RunFault::TooManyReads)
 }
 
+/// Reads a part of a script and obeys it, and returns whether the script has ended.
+fn obey_read<R: Read, W: Write, S: Shelf>(
+    script: &mut R,
+    buffer: &mut [u8; READ_LIMIT],
+    line: &mut Line,
+    session: &mut Session,
+    out: &mut W,
+    shelf: &mut S,
+    status: &mut Status,
+) -> Result<bool, RunFault>
+    ensures { (reads : ℕ) (start : Option (List ℕ)) (from : Desk) (first : Machine)
+        → reads < 2 ^ 32 → IsUnderway reads start (R.remaining script.old) from
+        (desk (W.contents out.old) (S.known shelf.old)) status.old first session.old line.old
+        → GoesOn reads start (R.remaining script.new) from
+        (desk (W.contents out.new) (S.known shelf.new)) status.new first session.new line.new
+        result }
+{
+    let Ok(count) = read_part(script, buffer) else {
+        return Err(RunFault::ReadFailed);
+    };
+    let bytes = with_end(buffer, count, line);
+    let Ok(ended) = obey_part(line, bytes, session, out, shelf, status) else {
+        return Err(RunFault::PrintFailed);
+    };
+    if count == 0 {
+        return Ok(true);
+    }
+    Ok(ended)
+}
+
 /// One read of a script. An error of the system goes no further than this.
-fn read_part<R: Read>(script: &mut R, buffer: &mut [u8]) -> Result<usize, RunFault>
+fn read_part<R: Read>(script: &mut R, buffer: &mut [u8; READ_LIMIT]) -> Result<usize, RunFault>
     ensures bound { ReadsAtMost result buffer.new }
     ensures bytes { ReadConsumes (R.remaining script.old) (R.remaining script.new) result
         buffer.new }
@@ -77,6 +105,21 @@ fn read_part<R: Read>(script: &mut R, buffer: &mut [u8]) -> Result<usize, RunFau
         Ok(count) => Ok(count),
         Err(_) => Err(RunFault::ReadFailed),
     }
+}
+
+/// The bytes that a read gave; at the end of the script, the newline that its last line lacks.
+fn with_end<'a>(buffer: &'a [u8; READ_LIMIT], count: usize, line: &Line) -> &'a [u8]
+    requires { count ≤ length buffer.now }
+    ensures { (text : List ℕ) → Holds text line.now
+        → result.now ≡ with_end text (take count buffer.now) }
+{
+    if count != 0 {
+        return &buffer[..count];
+    }
+    if line.is_empty() {
+        return b"";
+    }
+    b"\n"
 }
 
 /// Obeys the bytes that come after a line's front, and returns whether the script ends in them.
@@ -133,32 +176,6 @@ fn obey_byte<W: Write, S: Shelf>(
     answer(reply, session, out, status)?;
     line.clear();
     Ok(false)
-}
-
-/// Obeys what is left of a script at its end, a line without a newline.
-fn finish<W: Write, S: Shelf>(
-    line: &Line,
-    session: &mut Session,
-    out: &mut W,
-    shelf: &mut S,
-    status: &mut Status,
-) -> Result<(), PrintFault>
-    ensures ok { OnOk result ((text : List ℕ) → Holds text line.now → Ran
-        (desk (W.contents out.old) (S.known shelf.old))
-        (desk (W.contents out.new) (S.known shelf.new))
-        status.old status.new session.old session.new text) }
-    ensures err { OnErr result ((text : List ℕ) → Holds text line.now → Broke
-        (desk (W.contents out.old) (S.known shelf.old))
-        (desk (W.contents out.new) (S.known shelf.new))
-        session.old session.new text) }
-{
-    if line.is_empty() {
-        return Ok(());
-    }
-    let Some(reply) = obey_line(line, session, shelf) else {
-        return Ok(());
-    };
-    answer(reply, session, out, status)
 }
 
 /// Prints a reply, and notes a refusal in the status.
