@@ -13,6 +13,19 @@ use Rattle.irig_script.specs.declared.print.reply.Reply.{Reply}
 use Rattle.irig_script.specs.declared.print.reply.Reply.TheVariants.{Silent}
 use Rattle.irig_script.specs.declared.print.reply.Reply.TheVariants as told
 
+-- a command that edits the level or the format
+abbrev pub IsEdit : Command → Type 0
+IsEdit (command.Delete r) = Unit {0}
+IsEdit (command.Shift r d) = Unit {0}
+IsEdit (command.Join r) = Unit {0}
+IsEdit (command.Split a s t) = Unit {0}
+IsEdit (command.Force a e) = Unit {0}
+IsEdit (command.Insert s t) = Unit {0}
+IsEdit (command.Invert s t) = Unit {0}
+IsEdit (command.Regen s frames moment control) = Unit {0}
+IsEdit (command.Format kind n) = Unit {0}
+IsEdit _ = ⊥
+
 -- the session may give this reply to this command, and go on to new
 abbrev pub Obeys : Command → Machine → Reply → Machine → Type 0
 Obeys command.Nothing old reply new = (reply ≡ Silent) × (new ≡ old)

@@ -1,7 +1,7 @@
 //! What is replied to a line of a script, and done for it.
 
 ghost use Rattle.std.specs.Prelude.{◌≢◌};
-ghost use Rattle.irig_script.specs.Obey.Obeying.{Obeys};
+ghost use Rattle.irig_script.specs.Obey.Obeying.{IsEdit, Obeys};
 ghost use Rattle.irig_script.specs.Obey.Desk.{IsQuiet, PutsFor};
 ghost use Rattle.irig_script.specs.Obey.Progress.{Answers};
 ghost use Rattle.irig_script.specs.declared.script.command.Command.{Command};
@@ -48,6 +48,27 @@ fn obey(command: Command, session: &mut Session) -> Reply
         Command::Nothing | Command::Write | Command::Save | Command::Quit => Reply::Silent,
         Command::Show(address) => show(session, address),
         Command::List(range) => list(session, range),
+        Command::Mark(letter, at) => mark(session, letter, at),
+        Command::Unmark(letter) => unmark(session, letter),
+        Command::Undo => undo(session),
+        Command::Redo => redo(session),
+        Command::Begin => begin(session),
+        Command::End => end(session),
+        Command::Abort => abort(session),
+        Command::Frames => Reply::Frames,
+        Command::Marks => Reply::Marks,
+        Command::Info => Reply::Info,
+        _ => edit(command, session),
+    }
+}
+
+/// Obeys an edit of the level or of the format.
+fn edit(command: Command, session: &mut Session) -> Reply
+    requires { IsEdit command }
+    ensures answer { Obeys command session.old result session.new }
+    ensures quiet { IsQuiet result }
+{
+    match command {
         Command::Delete(range) => delete(session, range),
         Command::Shift(range, by) => shift(session, range, by),
         Command::Join(range) => join(session, range),
@@ -59,15 +80,6 @@ fn obey(command: Command, session: &mut Session) -> Reply
             regen(session, start, frames, from, control)
         }
         Command::Format(kind, expression) => set_format(session, kind, expression),
-        Command::Mark(letter, at) => mark(session, letter, at),
-        Command::Unmark(letter) => unmark(session, letter),
-        Command::Undo => undo(session),
-        Command::Redo => redo(session),
-        Command::Begin => begin(session),
-        Command::End => end(session),
-        Command::Abort => abort(session),
-        Command::Frames => Reply::Frames,
-        Command::Marks => Reply::Marks,
-        Command::Info => Reply::Info,
+        _ => Reply::Silent,
     }
 }
