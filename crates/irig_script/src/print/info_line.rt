@@ -1,7 +1,9 @@
 //! The line that the command `info` prints.
 
-ghost use Rattle.std.specs.Prelude.{◌≡◌, ◌≤◌, ◌+◌, ◌++◌, OnOk, OnErr, length, decimal};
+ghost use Rattle.std.specs.Prelude.{◌≡◌, ◌≤◌, ◌+◌, ◌++◌, [], OnOk, OnErr, codes, length, decimal};
 ghost use Rattle.std.specs.Io.KnownBytes.{Appends};
+ghost use Rattle.irig_codes.specs.Words.{kind_word};
+ghost use Rattle.irig_edit.specs.State.State.{frames_of};
 ghost use Rattle.irig_script.specs.Print.Front.{AppendsFront};
 ghost use Rattle.irig_script.specs.Print.Listings.{info_text};
 
@@ -19,18 +21,31 @@ pub fn print_info<W: Write>(session: &Session, out: &mut W) -> Result<(), PrintF
         (info_text session.now)) }
 {
     let mut row = Row::new();
-    let format = session.current_format();
-    put_count(&mut row, b"length ", session.length());
-    put_count(&mut row, b" pulses ", session.len() as u64);
-    put_count(&mut row, b" frames ", session.frames() as u64);
-    row.put(b" format ");
-    row.put(kind_word(format.kind()).as_bytes());
-    put_count(&mut row, b" ", u64::from(format.expression()));
+    put_track(&mut row, session);
     put_count(&mut row, b" cursor ", session.cursor() as u64);
     put_count(&mut row, b" past ", session.steps_back() as u64);
     put_count(&mut row, b" future ", session.steps_forward() as u64);
     row.put(b"\n");
     put_all(out, row.text())
+}
+
+/// Writes the length of the track, its pulses, its frames and their format.
+fn put_track(row: &mut Row, session: &Session)
+    requires { row.old ≡ [] }
+    ensures text { row.new ≡ codes "length " ++ decimal session.now.present.state.micros
+        ++ codes " pulses " ++ decimal (length session.now.present.state.pulses)
+        ++ codes " frames " ++ decimal (length (frames_of session.now.present.state))
+        ++ codes " format " ++ kind_word session.now.present.state.format.kind
+        ++ codes " " ++ decimal session.now.present.state.format.expression }
+    ensures short { length row.new ≤ 120 }
+{
+    put_count(row, b"length ", session.length());
+    put_count(row, b" pulses ", session.len() as u64);
+    put_count(row, b" frames ", session.frames() as u64);
+    let format = session.current_format();
+    row.put(b" format ");
+    row.put(kind_word(format.kind()).as_bytes());
+    put_count(row, b" ", format.expression() as u64);
 }
 
 /// Writes a word and a number.
