@@ -1,9 +1,10 @@
 //! What is answered to a line of a script.
 
-ghost use Rattle.std.specs.Prelude.{◌≡◌, ◌++◌, ◌∷◌, [], decimal, OnOk, OnErr};
+ghost use Rattle.std.specs.Prelude.{◌≡◌, ◌++◌, ◌∷◌, [], true, decimal, OnOk, OnErr};
 ghost use Rattle.std.specs.Io.KnownBytes.{Appends};
 ghost use Rattle.irig_script.specs.Print.Printed.{refusal_text, reply_text};
 ghost use Rattle.irig_script.specs.Obey.Desk.{is_refusal};
+ghost use Rattle.irig_script.specs.Obey.Machine.{Machine};
 ghost use Rattle.irig_script.specs.Print.Front.{AppendsFront};
 
 use crate::print::info_line::print_info;
@@ -68,10 +69,20 @@ pub fn print<W: Write>(reply: Reply, session: &Session, out: &mut W) -> Result<(
         Reply::Frames => print_frames(session, out),
         Reply::Marks => print_marks(session, out),
         Reply::Info => print_info(session, out),
-        Reply::Refused(why) => put_all(out, refusal_line(why)),
-        Reply::BadLine => put_all(out, b"? S1 BadLine\n"),
-        Reply::LineTooLong => put_all(out, b"? S2 LineTooLong\n"),
-        Reply::WriteFailed => put_all(out, b"? S3 WriteFailed\n"),
+        _ => put_all(out, refused_line(reply)),
+    }
+}
+
+/// The line that says why a line of the script is refused.
+fn refused_line(reply: Reply) -> &'static [u8]
+    requires { is_refusal reply ≡ true }
+    ensures { (m : Machine) → result.now ≡ reply_text m reply }
+{
+    match reply {
+        Reply::Refused(why) => refusal_line(why),
+        Reply::BadLine => b"? S1 BadLine\n",
+        Reply::LineTooLong => b"? S2 LineTooLong\n",
+        _ => b"? S3 WriteFailed\n",
     }
 }
 
