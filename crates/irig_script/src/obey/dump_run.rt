@@ -2,6 +2,8 @@
 
 ghost use Rattle.std.specs.Prelude.{◌≡◌, ◌≤◌, ◌^◌, ℕ, List, Option, length, Ok, Err, IfSome};
 ghost use Rattle.std.specs.Prelude.{MatchResult};
+ghost use Rattle.irig_codes.specs.Format.{FormatView};
+ghost use Rattle.irig_edit.specs.Opened.Openings.{IsOpened};
 ghost use Rattle.irig_vcd.specs.Answer.{bytes_of, name_of};
 ghost use Rattle.irig_vcd.specs.Parts.{dump_parts};
 ghost use Rattle.irig_script.specs.Obey.Desk.{desk};
@@ -48,11 +50,10 @@ pub fn run_on_dump<R: Read, W: Write, S: Shelf>(
     ensures reads { ReadsTo (R.remaining script.old) (R.remaining script.new) }
     ensures label { (S.known shelf.new).label ≡ (S.known shelf.old).label }
 {
-    let mut session = match Session::open_dump(alloc, source, wire, format) {
-        Ok(session) => session,
-        Err(fault) => return Err(DumpRunFault::Dump(fault)),
-    };
-    as_run(engine::run(&mut session, script, out, shelf))
+    match Session::open_dump(alloc, source, wire, format) {
+        Ok(session) => run_opened(session, script, out, shelf),
+        Err(why) => Err(DumpRunFault::Dump(why)),
+    }
 }
 
 /// Obeys a script on the session of a recording and the text of the journal, as `irig_vcd` reads
@@ -77,9 +78,27 @@ pub fn run_on_parts<R: Read, W: Write, S: Shelf>(
     ensures label { (S.known shelf.new).label ≡ (S.known shelf.old).label }
 {
     match Session::open_parts(alloc, recording, journal, format) {
-        Ok(mut session) => as_run(engine::run(&mut session, script, out, shelf)),
+        Ok(session) => run_opened(session, script, out, shelf),
         Err(fault) => Err(DumpRunFault::Dump(fault)),
     }
+}
+
+/// Obeys a script on the session of a dump.
+fn run_opened<R: Read, W: Write, S: Shelf>(
+    mut session: Session,
+    script: &mut R,
+    out: &mut W,
+    shelf: &mut S,
+) -> Result<Status, DumpRunFault>
+    ensures ends { (wire : Option (List ℕ)) (bytes : List ℕ) (format : FormatView)
+        → IsOpened wire bytes format session
+        → RunsOnDump wire format bytes (R.remaining script.old) (R.remaining script.new)
+        (desk (W.contents out.old) (S.known shelf.old))
+        (desk (W.contents out.new) (S.known shelf.new)) result }
+    ensures reads { ReadsTo (R.remaining script.old) (R.remaining script.new) }
+    ensures label { (S.known shelf.new).label ≡ (S.known shelf.old).label }
+{
+    as_run(engine::run(&mut session, script, out, shelf))
 }
 
 /// How a run on a dump ended, by how the run of the script ended.

@@ -1,6 +1,5 @@
 use Rattle.std.proofs.Common.{refl}
 use Rattle.irig_script.proofs.ObeyLemmas.Reading.{reads_none}
-use Rattle.irig_script.proofs.ObeyLemmas.DumpRuns.{ran_on_dump}
 use Rattle.irig_script.proofs.obey.dump_run.run_on_dump.Goals as goal
 
 pub returns-in-Err-clause-reads : goal.returns-in-Err-clause-reads
@@ -9,6 +8,5 @@ returns-in-Err-clause-reads g c = reads_none _
 pub returns-in-Err-clause-ends : goal.returns-in-Err-clause-ends
 returns-in-Err-clause-ends g c = (c.in-Err.ensures.fault, (λ e d. cc (c.in-Err.ensures.heading e d)), refl, refl)
 
-pub returns-clause-ends : goal.returns-clause-ends
-returns-clause-ends g c =
-    ran_on_dump _ _ _ _ _ _ _ _ _ c.as_run.ensures record { first = _; last = _; opened = c.in-Ok.ensures.opened; ran = c.run.ensures.ends }
+pub returns-in-Ok-clause-ends : goal.returns-in-Ok-clause-ends
+returns-in-Ok-clause-ends g c = c.run_opened.ensures.ends _ _ _ c.in-Ok.ensures.opened

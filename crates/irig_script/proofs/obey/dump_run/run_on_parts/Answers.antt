@@ -1,6 +1,6 @@
 use Rattle.std.proofs.Common.{refl}
 use Rattle.irig_script.proofs.ObeyLemmas.Reading.{reads_none}
-use Rattle.irig_script.proofs.ObeyLemmas.DumpRuns.{ran_on_dump, read_heading}
+use Rattle.irig_script.proofs.ObeyLemmas.DumpRuns.{read_heading}
 use Rattle.irig_script.proofs.obey.dump_run.run_on_parts.Goals as goal
 
 pub returns-in-Err-clause-reads : goal.returns-in-Err-clause-reads
@@ -11,5 +11,4 @@ returns-in-Err-clause-ends g c wire bytes read =
     (c.in-Err.ensures.fault wire bytes read, read_heading wire bytes _ _ read, refl, refl)
 
 pub returns-in-Ok-clause-ends : goal.returns-in-Ok-clause-ends
-returns-in-Ok-clause-ends g c wire bytes read =
-    ran_on_dump _ _ _ _ _ _ _ _ _ c.as_run.ensures record { first = _; last = _; opened = c.in-Ok.ensures.opened wire bytes read; ran = c.run.ensures.ends }
+returns-in-Ok-clause-ends g c wire bytes read = c.run_opened.ensures.ends wire bytes _ (c.in-Ok.ensures.opened wire bytes read)
