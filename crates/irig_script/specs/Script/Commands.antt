@@ -16,6 +16,21 @@ use Rattle.irig_script.specs.declared.script.keyword.Keyword.TheVariants as word
 use Rattle.irig_script.specs.declared.script.range.Range.{Range}
 use Rattle.irig_script.specs.declared.script.time.Time.{Time}
 
+-- a word that takes neither a range nor an argument
+abbrev pub IsAlone : Keyword → Type 0
+IsAlone word.Undo = Unit {0}
+IsAlone word.Redo = Unit {0}
+IsAlone word.Begin = Unit {0}
+IsAlone word.End = Unit {0}
+IsAlone word.Abort = Unit {0}
+IsAlone word.Frames = Unit {0}
+IsAlone word.Marks = Unit {0}
+IsAlone word.Info = Unit {0}
+IsAlone word.Write = Unit {0}
+IsAlone word.Save = Unit {0}
+IsAlone word.Quit = Unit {0}
+IsAlone _ = ⊥
+
 -- what a word asks for, with the range before it and the words after it
 abbrev pub Asks : Keyword → List ℕ → List (List ℕ) → Command → Type 0
 Asks word.Missing range args asked = (a : Address) × (asked ≡ command.Show a) × IsAddress range a

@@ -3,7 +3,7 @@
 ghost use Rattle.std.specs.Prelude.{◌≡◌, ◌++◌, ◌&&◌, ◌||◌, not, ℕ, List, [], true, IfOk, OnOk};
 ghost use Rattle.std.specs.Prelude.{OnErr};
 ghost use Rattle.irig_script.specs.Script.Addresses.{IsRange};
-ghost use Rattle.irig_script.specs.Script.Commands.{Asks};
+ghost use Rattle.irig_script.specs.Script.Commands.{Asks, IsAlone};
 ghost use Rattle.irig_script.specs.Script.Letters.{is_letter};
 ghost use Rattle.irig_script.specs.Script.Words.{is_space, words_of};
 ghost use Rattle.irig_script.specs.declared.script.keyword.Keyword.{Keyword};
@@ -95,30 +95,45 @@ fn asked(front: &[u8], word: Keyword, arguments: &[u8]) -> Result<Command, BadLi
         Keyword::Format => format(front, arguments),
         Keyword::Mark => set_mark(front, arguments),
         Keyword::Unmark => unmark(front, arguments),
-        Keyword::Undo => alone(front, arguments, Command::Undo),
-        Keyword::Redo => alone(front, arguments, Command::Redo),
-        Keyword::Begin => alone(front, arguments, Command::Begin),
-        Keyword::End => alone(front, arguments, Command::End),
-        Keyword::Abort => alone(front, arguments, Command::Abort),
-        Keyword::Frames => alone(front, arguments, Command::Frames),
-        Keyword::Marks => alone(front, arguments, Command::Marks),
-        Keyword::Info => alone(front, arguments, Command::Info),
-        Keyword::Write => alone(front, arguments, Command::Write),
-        Keyword::Save => alone(front, arguments, Command::Save),
-        Keyword::Quit => alone(front, arguments, Command::Quit),
         Keyword::Unknown => Err(BadLine),
+        _ => asked_alone(front, word, arguments),
     }
 }
 
-/// The command, if there is neither a range nor an argument.
-fn alone(front: &[u8], arguments: &[u8], command: Command) -> Result<Command, BadLine>
-    ensures ok { IfOk result (λ c. (c ≡ command) × (front.now ≡ [])
-        × (words_of arguments.now ≡ [])) }
-    ensures err { OnErr result (front.now ≡ [] → words_of arguments.now ≡ [] → ⊥) }
+/// What a word asks for that takes neither a range nor an argument.
+fn asked_alone(front: &[u8], word: Keyword, arguments: &[u8]) -> Result<Command, BadLine>
+    requires { IsAlone word }
+    ensures ok { IfOk result (Asks word front.now (words_of arguments.now)) }
+    ensures err { OnErr result ((c : Command)
+        → Asks word front.now (words_of arguments.now) c → ⊥) }
 {
-    no_range(front)?;
-    no_word(arguments)?;
-    Ok(command)
+    let Ok(()) = no_range(front) else {
+        return Err(BadLine);
+    };
+    let Ok(()) = no_word(arguments) else {
+        return Err(BadLine);
+    };
+    Ok(alone(word))
+}
+
+/// What a word asks for that is alone in a line.
+fn alone(word: Keyword) -> Command
+    requires { IsAlone word }
+    ensures { Asks word [] [] result }
+{
+    match word {
+        Keyword::Undo => Command::Undo,
+        Keyword::Redo => Command::Redo,
+        Keyword::Begin => Command::Begin,
+        Keyword::End => Command::End,
+        Keyword::Abort => Command::Abort,
+        Keyword::Frames => Command::Frames,
+        Keyword::Marks => Command::Marks,
+        Keyword::Info => Command::Info,
+        Keyword::Write => Command::Write,
+        Keyword::Save => Command::Save,
+        _ => Command::Quit,
+    }
 }
 
 /// Nothing, if there is no range.
@@ -236,7 +251,9 @@ fn format(front: &[u8], arguments: &[u8]) -> Result<Command, BadLine>
     ensures err { OnErr result ((c : Command)
         → Asks Keyword.Format front.now (words_of arguments.now) c → ⊥) }
 {
-    no_range(front)?;
+    let Ok(()) = no_range(front) else {
+        return Err(BadLine);
+    };
     let (name, digit) = two_words(arguments)?;
     Ok(Command::Format(kind(name)?, expression(digit)?))
 }
@@ -247,7 +264,9 @@ fn set_mark(front: &[u8], arguments: &[u8]) -> Result<Command, BadLine>
     ensures err { OnErr result ((c : Command)
         → Asks Keyword.Mark front.now (words_of arguments.now) c → ⊥) }
 {
-    no_range(front)?;
+    let Ok(()) = no_range(front) else {
+        return Err(BadLine);
+    };
     let (name, at) = two_words(arguments)?;
     Ok(Command::Mark(mark(name)?, time(at)?))
 }
@@ -269,11 +288,29 @@ fn regen(front: &[u8], arguments: &[u8]) -> Result<Command, BadLine>
     ensures err { OnErr result ((c : Command)
         → Asks Keyword.Regen front.now (words_of arguments.now) c → ⊥) }
 {
-    no_range(front)?;
+    let Ok(()) = no_range(front) else {
+        return Err(BadLine);
+    };
+    frames(arguments)
+}
+
+/// What the arguments of `regen` ask for.
+fn frames(arguments: &[u8]) -> Result<Command, BadLine>
+    ensures ok { IfOk result (Asks Keyword.Regen [] (words_of arguments.now)) }
+    ensures err { OnErr result ((c : Command)
+        → Asks Keyword.Regen [] (words_of arguments.now) c → ⊥) }
+{
     let (start, rest) = split_word(arguments);
     let (frames, rest) = split_word(rest);
     let (written, rest) = split_word(rest);
-    let (start, frames) = (time(start)?, number(frames)?);
-    let from = moment(written)?;
+    let Ok(start) = time(start) else {
+        return Err(BadLine);
+    };
+    let Ok(frames) = number(frames) else {
+        return Err(BadLine);
+    };
+    let Ok(from) = moment(written) else {
+        return Err(BadLine);
+    };
     Ok(Command::Regen(start, frames, from, controls(rest)?))
 }
