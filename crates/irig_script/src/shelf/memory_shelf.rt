@@ -1,6 +1,7 @@
 //! A shelf in memory.
 
-ghost use Rattle.std.specs.Prelude.{◌≡◌, ◌∷◌, [], length, map, Some, IfOk, IsErr, OnErr, OnOk};
+ghost use Rattle.std.specs.Prelude.{◌≡◌, ◌++◌, ◌∷◌, [], length, map, Some, IfOk, IsErr, IsFalse};
+ghost use Rattle.std.specs.Prelude.{IsTrue, OnErr, OnOk};
 ghost use Rattle.irig_script.specs.Shelf.ShelfView.{known_of, next_put, shelf_view};
 ghost use Rattle.irig_script.specs.Shelf.Shelved.{Puts};
 
@@ -68,11 +69,20 @@ impl Shelf for MemoryShelf {
             && let Ok(text) = whole(self.alloc, 0, text)
         {
             let count = text.len() as u64;
-            if let Ok(()) = self.texts.push(text) {
+            if keep(&mut self.texts, text) {
                 return Ok(count);
             }
         }
         self.failures = self.failures.saturating_add(1);
         Err(ShelfFault)
     }
+}
+
+/// Adds a text, unless memory runs out, and returns whether it did.
+fn keep(texts: &mut Vec<Vec<u8>>, text: Vec<u8>) -> bool
+    ensures kept { IsTrue result → map (λ t. t.items) texts.new.items
+        ≡ map (λ t. t.items) texts.old.items ++ text.items ∷ [] }
+    ensures lost { IsFalse result → texts.new.items ≡ texts.old.items }
+{
+    texts.push(text).is_ok()
 }
