@@ -46,7 +46,7 @@ no_parts : (wire : Option (List ℕ)) (bytes : List ℕ) (e : VcdFault) → decl
 unfolding dump_parts
 no_parts wire bytes e h = rw (no_start wire bytes e h) refl
 
-tells_heading : (wire : Option (List ℕ)) (bytes : List ℕ) (fault e : VcdFault) → dump_parts wire bytes ≡ Err fault
+pub tells_heading : (wire : Option (List ℕ)) (bytes : List ℕ) (fault e : VcdFault) → dump_parts wire bytes ≡ Err fault
     → declarations_of wire (words_of bytes) ≡ Err e → fault ≡ e
 tells_heading wire bytes fault e is h = let both = sym is ∙ no_parts wire bytes e h in cc
 

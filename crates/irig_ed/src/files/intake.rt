@@ -1,9 +1,12 @@
 //! The dump in a file, as far as it is taken in.
 
-ghost use Rattle.std.specs.Prelude.{◌≡◌, ◌≢◌, ◌≤◌, ◌<◌, ◌++◌, [], ℕ, List, Option, Err, IfOk};
-ghost use Rattle.std.specs.Prelude.{IfErr, IsErrOf, length, min};
+ghost use Rattle.std.specs.Prelude.{◌≡◌, ◌≢◌, ◌≤◌, ◌<◌, ◌⊎◌, ◌++◌, [], ℕ, List, Option, None};
+ghost use Rattle.std.specs.Prelude.{Ok, Err, IfOk, IfErr, IsOk, IsErrOf, OnErr, length, min};
 ghost use Rattle.irig_vcd.specs.Answer.{Gives, name_of};
+ghost use Rattle.irig_vcd.specs.Declarations.{declarations_of};
 ghost use Rattle.irig_vcd.specs.Parts.{dump_parts};
+ghost use Rattle.irig_vcd.specs.Words.{words_of};
+ghost use Rattle.irig_vcd.specs.declared.fault.VcdFault.{VcdFault};
 ghost use Rattle.irig_vcd.specs.declared.fault.VcdFault.TheVariants.{OutOfMemory};
 ghost use Rattle.irig_ed.specs.Files.Reads.{HasFewBytes, HasTaken, IsCounted, parts_of};
 ghost use Rattle.irig_ed.specs.declared.files.dump_file.DumpFileFault.TheVariants as file;
@@ -71,6 +74,13 @@ impl Intake {
         ensures within { IfOk result HasFewBytes }
         ensures short { IfOk result (λ _. 0 < self.left) }
         ensures long { IsErrOf result file.TooLong → self.left ≡ 0 }
+        ensures fault { IfErr result (λ fault. ((fault ≡ file.TooLong) × (self.left ≡ 0))
+            ⊎ ((fault ≡ file.OutOfMemory) × (0 < self.left) × IsOk self.dump)) }
+        // A fault of declarations that are held is reported as it is, even if memory runs out.
+        ensures heading { (wire : Option (List ℕ)) (bytes : List ℕ) (e : VcdFault)
+            → HasTaken wire bytes self → IfOk self.dump (λ reader. reader.unit ≡ None)
+            → 0 < self.left → e ≢ OutOfMemory
+            → declarations_of wire (words_of bytes) ≡ Err e → result ≡ Ok (Err e) }
     {
         if self.left == 0 {
             return Err(DumpFileFault::TooLong);
@@ -86,6 +96,7 @@ impl Intake {
 fn unless_short<T: Drop>(read: Result<T, VcdFault>) -> Result<Result<T, VcdFault>, DumpFileFault>
     ensures same { IfOk result (λ given. (given ≡ read) × (given ≢ Err OutOfMemory)) }
     ensures memory { IfErr result (λ fault. fault ≡ file.OutOfMemory) }
+    ensures only { OnErr result (read ≡ Err OutOfMemory) }
 {
     match read {
         Err(VcdFault::OutOfMemory) => Err(DumpFileFault::OutOfMemory),
