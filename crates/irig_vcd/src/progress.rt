@@ -44,7 +44,7 @@ impl Progress {
         requires short { self.old.gone + vec_len self.old.held ≤ 2 ^ 48 }
         ensures kept { IfOk result (λ _. (self.new.held ≡ self.old.held)
             × (self.new.gone ≡ self.old.gone) × (self.new.wire ≡ self.old.wire)
-            × (self.new.journal ≡ self.old.journal)
+            × (self.new.journal ≡ self.old.journal) × (self.new.wanted ≡ self.old.wanted)
             × IsReady self.new.unit self.new.reading) }
         ensures time { IfOk result (λ read. IfOk read
             (λ unit. IsOn unit self.new.reading.trace self.new.reading.clock)) }
@@ -111,7 +111,8 @@ impl Progress {
         ensures within { OnOk result (vec_len self.new.journal ≤ vec_len self.old.journal + whole) }
         ensures rest { (self.new.wire ≡ self.old.wire) × (self.new.unit ≡ self.old.unit)
             × (self.new.code ≡ self.old.code) × (self.new.reading ≡ self.old.reading)
-            × (self.new.gone ≡ self.old.gone) × (self.new.held ≡ self.old.held) }
+            × (self.new.gone ≡ self.old.gone) × (self.new.held ≡ self.old.held)
+            × (self.new.wanted ≡ self.old.wanted) }
     {
         match self.reading.first_journal(self.gone + whole) {
             None => Ok(()),
