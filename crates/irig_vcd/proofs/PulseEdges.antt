@@ -39,6 +39,10 @@ pub length-kept_most : (ps : List Pulse) (is_open : Bool) (rise : ℕ) → lengt
 length-kept_most ps true rise = omega (arith, length-kept_open ps rise)
 length-kept_most ps false rise = omega (arith, length-kept_closed ps rise)
 
+pub length-kept_least : (ps : List Pulse) (is_open : Bool) (rise : ℕ) → 2 * length ps ≤ length (kept_edges ps is_open rise)
+length-kept_least ps true rise = omega (arith, length-kept_open ps rise)
+length-kept_least ps false rise = omega (arith, length-kept_closed ps rise)
+
 -- of edges that are known: whether a rise is open, how many there are, and the pulses of an even number
 module _ (ps : List Pulse) (is_open : Bool) (rise : ℕ) (now : List ℕ) (is : kept_edges ps is_open rise ≡ now) where
   pub opens : is_open ≡ not (is_even_long now)
@@ -52,6 +56,9 @@ module _ (ps : List Pulse) (is_open : Bool) (rise : ℕ) (now : List ℕ) (is : 
 
   pub most : length now ≤ 2 * length ps + 1
   most = omega (arith, length-kept_most ps is_open rise, ap length is)
+
+  pub least : 2 * length ps ≤ length now
+  least = omega (arith, length-kept_least ps is_open rise, ap length is)
 
   pub count_open : is_open ≡ true → length now ≡ 2 * length ps + 1
   count_open is_up = sym (ap length is) ∙ ap (λ b. length (kept_edges ps b rise)) is_up ∙ length-kept_open ps rise

@@ -67,7 +67,7 @@ impl Edges {
     /// Whether two edges more are kept.
     #[inline(always)]
     pub fn has_room(&self) -> bool
-        ensures { result ≡ true → length self.now + 2 ≤ edges_kept }
+        ensures { result ≡ true ↔ (length self.now + 2 ≤ edges_kept) }
     {
         self.pulses.len() < PULSES_LIMIT
     }

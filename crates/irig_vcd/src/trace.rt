@@ -1,7 +1,7 @@
 //! A level that is given by its changes, traced.
 
 ghost use Rattle.std.specs.Prelude.{◌≡◌, ◌≤◌, ◌<◌, ◌+◌, ◌^◌, true, false, ◌∷◌, [], ◌++◌, ℕ, List};
-ghost use Rattle.std.specs.Prelude.{OnOk, OnErr, IfOk};
+ghost use Rattle.std.specs.Prelude.{◌↔◌, OnOk, OnErr, IfOk};
 ghost use Rattle.std.specs.Prelude.{length, take, if◌then◌else◌};
 ghost use Rattle.irig_vcd.specs.Level.{Change, change, edges_up_to, differs};
 ghost use Rattle.irig_vcd.specs.Code.Along.{HasFallen};
@@ -78,7 +78,7 @@ impl Trace {
     /// Whether two edges more are kept.
     #[inline(always)]
     pub fn has_room(&self) -> bool
-        ensures { result ≡ true → length self.entry.now.edges + 2 ≤ edges_kept }
+        ensures { result ≡ true ↔ (length self.entry.now.edges + 2 ≤ edges_kept) }
     {
         self.edges.has_room()
     }
