@@ -1,7 +1,7 @@
 -- No two pulses next to each other within a frame are both position identifiers: the next marker ends a check.
-use Rattle.std.proofs.Common.{◌≡◌, ℕ, suc, zero, ◌+◌, ◌-◌, ◌%◌, ◌==◌, ◌<◌, ◌≤◌, Bool, true, false, cond, List, [], Option, Some, None, slice_get, refl, sym, ap}
+use Rattle.std.proofs.Common.{◌≡◌, ℕ, ◌+◌, ◌-◌, ◌%◌, ◌==◌, ◌<◌, ◌≤◌, true, false, cond, List, [], Option, Some, None, slice_get, refl, sym, ap}
 use Rattle.std.proofs.Common.{subst, ◌∙◌, ◌⊎◌, inl, inr, arith}
-use Rattle.std.proofs.lemmas.Bool.Decides.{nat_tests}
+use Rattle.std.proofs.lemmas.Bool.{cases_Bool, cases_lt, eqb-false, eqb-true, ne_eqb}
 use Rattle.irig_codes.specs.declared.width.Element.{Element}
 use Rattle.irig_codes.specs.declared.width.Element.TheVariants.{Zero, One, Position}
 use Rattle.irig_codes.specs.Format.{FormatView}
@@ -18,55 +18,28 @@ digit_other (Some Zero) e = refl
 digit_other (Some One) e = refl
 digit_other (Some Position) e = cc
 
-pub either : (b : Bool) → (b ≡ true) ⊎ (b ≡ false)
-either true = inl refl
-either false = inr refl
-
-pub nine : (k : ℕ) → (k % 10 == 9) ≡ true → k % 10 ≡ 9
-nine k e = grind (arith, nat_tests)
-
-not_nine : (k : ℕ) → (k % 10 == 9) ≡ false → k % 10 ≡ 9 → ⊥
-not_nine k e same = grind (arith, nat_tests)
-
-none_left : (n : ℕ) → (n == 0) ≡ true → n ≡ 0
-none_left n e = grind (arith, nat_tests)
-
-positive : (n : ℕ) → (n ≡ 0 → ⊥) → (n == 0) ≡ false
-positive n h = elim (either (n == 0)) [ inl none ↦ absurd (h (none_left n none)) | inr some ↦ some ]
-
-some_left : (n : ℕ) → (n == 0) ≡ false → 1 ≤ n
-some_left zero e = cc
-some_left (suc n) e = omega arith
-
 -- how many digits are left a place further on
 pub digits_next : (digits k : ℕ) → digits ≡ 9 - k % 10
     → cond (digits == 0) 9 (digits - 1) ≡ 9 - (k + 1) % 10
-digits_next digits k e = elim (either (digits == 0)) [
-  | inl none ↦ ap (λ b. cond b 9 (digits - 1)) none ∙ omega (arith, e, none_left digits none)
-  | inr some ↦ ap (λ b. cond b 9 (digits - 1)) some ∙ omega (arith, e, some_left digits some)
+digits_next digits k e = elim (cases_Bool (digits == 0)) [
+  | inl none ↦ ap (λ b. cond b 9 (digits - 1)) none ∙ omega (arith, e, eqb-true digits 0 none)
+  | inr some ↦ ap (λ b. cond b 9 (digits - 1)) some ∙ omega (arith, e, eqb-false digits 0 some)
 ]
 
 -- what suits if no position identifier may be there
 pub suits_other : (k : ℕ) (class : Option Element) → suits k class ≡ true → (k % 10 ≡ 9 → ⊥) → is_position class ≡ false
-suits_other k class suit ne = elim (either (k % 10 == 9)) [
-  | inl same ↦ absurd (ne (nine k same))
+suits_other k class suit ne = elim (cases_Bool (k % 10 == 9)) [
+  | inl same ↦ absurd (ne (eqb-true (k % 10) 9 same))
   | inr other ↦ digit_other class (sym (ap (λ b. cond b (is_position class) (is_digit class)) other) ∙ suit)
 ]
 
 -- two pulses are next to each other, and the second suits: one of them is no position identifier
 pub beside_other : (k : ℕ) (before class : Option Element) → suits k class ≡ true → (k % 10 ≡ 9 → is_position before ≡ false)
     → (is_position before ≡ false) ⊎ (is_position class ≡ false)
-beside_other k before class suit h = elim (either (k % 10 == 9)) [
-  | inl same ↦ inl (h (nine k same))
-  | inr other ↦ inr (suits_other k class suit (not_nine k other))
+beside_other k before class suit h = elim (cases_Bool (k % 10 == 9)) [
+  | inl same ↦ inl (h (eqb-true (k % 10) 9 same))
+  | inr other ↦ inr (suits_other k class suit (eqb-false (k % 10) 9 other))
 ]
-
--- the place before n, or an earlier one
-last_or_less : (j n : ℕ) → j < n + 1 → (j ≡ n) ⊎ (j < n)
-last_or_less zero zero h = inl refl
-last_or_less zero (suc n) h = inr (omega arith)
-last_or_less (suc j) zero h = absurd (omega arith)
-last_or_less (suc j) (suc n) h = elim (last_or_less j n (omega arith)) [ inl e ↦ inl (ap suc e) | inr lt ↦ inr (omega arith) ]
 
 -- there is no marker so far, nor at the next pulse, which suits
 pub alone_next : (f : FormatView) (ps : List Pulse) (at k : ℕ) (p q : Pulse) → 1 ≤ k
@@ -74,18 +47,19 @@ pub alone_next : (f : FormatView) (ps : List Pulse) (at k : ℕ) (p q : Pulse) �
     → suits k (class_at f q) ≡ true → (k % 10 ≡ 9 → is_position (class_at f p) ≡ false)
     → ((j : ℕ) → at ≤ j → j + 1 < at + k → record_after f ps j ≡ [])
     → (j : ℕ) → at ≤ j → j + 1 < at + (k + 1) → record_after f ps j ≡ []
-alone_next f ps at k p q some before here suit h alone j from to = elim (last_or_less j (at + k - 1) (omega arith)) [
-  | inr less ↦ alone j from (omega arith)
-  | inl same ↦ subst (λ i. record_after f ps i ≡ []) (sym same) (elim (beside_other k (class_at f p) (class_at f q) suit h) [
-    | inl first ↦ record_after-beside f ps (at + k - 1) p before first
-    | inr second ↦ (let place : at + k ≡ at + k - 1 + 1 = omega arith in
-        record_after-other f ps (at + k - 1) q (ap (slice_get ps) (sym place) ∙ here) second)
-  ])
+alone_next f ps at k p q some before here suit h alone j from to = elim (cases_lt j (at + k - 1)) [
+  | inl less ↦ alone j from (omega arith)
+  | inr ge ↦ let same : at + k - 1 ≡ j = omega arith in
+      subst (λ i. record_after f ps i ≡ []) same (elim (beside_other k (class_at f p) (class_at f q) suit h) [
+        | inl first ↦ record_after-beside f ps (at + k - 1) p before first
+        | inr second ↦ (let place : at + k ≡ at + k - 1 + 1 = omega arith in
+            record_after-other f ps (at + k - 1) q (ap (slice_get ps) (sym place) ∙ here) second)
+      ])
 ]
 
 -- a position identifier is due if no digit is left before it
 pub is_due : (digits k : ℕ) → digits ≡ 9 - k % 10 → (digits == 0) ≡ (k % 10 == 9)
-is_due digits k left = elim (either (k % 10 == 9)) [
-  | inl same ↦ (let none : digits ≡ 0 = omega (arith, nine k same, left) in ap (λ n. n == 0) none ∙ sym same)
-  | inr other ↦ positive digits (λ none. not_nine k other (omega (arith, left, none))) ∙ sym other
+is_due digits k left = elim (cases_Bool (k % 10 == 9)) [
+  | inl same ↦ (let none : digits ≡ 0 = omega (arith, eqb-true (k % 10) 9 same, left) in ap (λ n. n == 0) none ∙ sym same)
+  | inr other ↦ ne_eqb digits 0 (λ none. eqb-false (k % 10) 9 other (omega (arith, left, none))) ∙ sym other
 ]

@@ -1,7 +1,7 @@
 -- The verdict on a frame rests on the pulses up to the next marker alone: a marker or the pulse before it fails within the frame before.
 use Rattle.std.proofs.Common.{◌≡◌, ℕ, suc, zero, ◌+◌, ◌-◌, ◌%◌, ◌==◌, ◌<◌, ◌≤◌, true, false, cond, List, [], ◌∷◌, ◌++◌, length, get_or}
 use Rattle.std.proofs.Common.{Option, Some, None, slice_get, refl, sym, ap, ap₂, ◌∙◌, ◌⊎◌, inl, inr, arith}
-use Rattle.std.proofs.lemmas.Bool.{cases_lt}
+use Rattle.std.proofs.lemmas.Bool.{cases_Bool, cases_lt, eqb-true, ne_eqb}
 use Rattle.std.proofs.lemmas.Option.{slice_get-get_or, slice_get_within}
 use Rattle.irig_codes.specs.Format.{FormatView}
 use Rattle.irig_vcd.specs.declared.pulse.Pulse.{Pulse}
@@ -10,7 +10,6 @@ use Rattle.irig_index.specs.declared.record.Cause.TheVariants.{Step, Class}
 use Rattle.irig_index.specs.Frames.{frame_at}
 use Rattle.irig_index.specs.Marker.{class_at, follows, is_digit, is_position}
 use Rattle.irig_index.specs.Verdict.{fault_at, fault_of, first_fault, judged, suits, verdict_of}
-use Rattle.irig_index.proofs.CheckLemmas.{either, nine}
 use Rattle.irig_index.proofs.FrameLemmas.{position_class}
 use Rattle.irig_index.proofs.PulseLemmas.{slice_get-part}
 use Rattle.irig_index.proofs.VerdictLemmas.{fault-class, fault-step, first_fault-here, first_fault-next}
@@ -48,10 +47,7 @@ no_suit f k p position other =
     ap (λ b. cond b (is_position (class_at f p)) (is_digit (class_at f p))) other ∙ ap is_digit (position_class (class_at f p) position)
 
 not_nine_before : (k : ℕ) → k % 10 ≡ 9 → ((k - 1) % 10 == 9) ≡ false
-not_nine_before k e = elim (either ((k - 1) % 10 == 9)) [
-  | inl same ↦ absurd (omega (arith, e, nine (k - 1) same))
-  | inr other ↦ other
-]
+not_nine_before k e = ne_eqb ((k - 1) % 10) 9 (λ same. omega (arith, e, same))
 
 -- a frame fails at a place up to this one
 record Fails (f : FormatView) (w : List Pulse) (most : ℕ) : Type 0 where
@@ -64,7 +60,7 @@ record Fails (f : FormatView) (w : List Pulse) (most : ℕ) : Type 0 where
 module _ (f : FormatView) (ps : List Pulse) (i : ℕ) where
   fails_here : (k most : ℕ) (before p : Pulse) → 1 ≤ k → k < 100 → k ≤ most → slice_get ps (i + k - 1) ≡ Some before → slice_get ps (i + k) ≡ Some p
       → is_position (class_at f p) ≡ true → (k % 10 == 9) ≡ false → Fails f (frame_at ps i) most
-  fails_here k most before p some few le stands_before stands position other = elim (either (follows f before p)) [
+  fails_here k most before p some few le stands_before stands position other = elim (cases_Bool (follows f before p)) [
     | inl on ↦ record {
       at = k;
       cause = Class;
@@ -84,10 +80,10 @@ module _ (f : FormatView) (ps : List Pulse) (i : ℕ) where
   -- two position identifiers next to each other, the second one d pulses after the marker
   fails_by : (d : ℕ) (p q : Pulse) → 1 ≤ d → d < 100 → slice_get ps (i + d - 1) ≡ Some p → slice_get ps (i + d) ≡ Some q
       → is_position (class_at f p) ≡ true → is_position (class_at f q) ≡ true → Fails f (frame_at ps i) d
-  fails_by d p q some few before here first second = elim (either (d % 10 == 9)) [
+  fails_by d p q some few before here first second = elim (cases_Bool (d % 10 == 9)) [
     | inr other ↦ fails_here d d p q some few (omega arith) before here second other
     | inl same ↦
-        let ninth = nine d same in
+        let ninth = eqb-true (d % 10) 9 same in
         let inside = slice_get_within ps (i + d) q here in
         let r = get_or ps (i + (d - 1) - 1) q in
         let place : i + d - 1 ≡ i + (d - 1) = omega arith in

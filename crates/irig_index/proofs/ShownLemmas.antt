@@ -4,8 +4,8 @@ use Rattle.std.proofs.Common.{slice_get, slice_set, Some, refl, sym, ap, subst, 
 use Rattle.irig_gap.specs.Items.{GapView, gap_view}
 use Rattle.irig_index.specs.declared.record.Record.{Record}
 use Rattle.irig_index.specs.Sides.{turned, left_of, right_of, shown, BeginsAfter}
-use Rattle.irig_index.proofs.PulseLemmas.{drop-item}
-use Rattle.irig_index.proofs.SideLemmas.{left-of_suc, seen}
+use Rattle.irig_index.proofs.PulseLemmas.{drop-item, take-item}
+use Rattle.irig_index.proofs.SideLemmas.{seen}
 
 module _ {X : Type 0} where
   -- what a list is after an item of it is set
@@ -66,7 +66,7 @@ begins_at last rs k r there lt = subst (BeginsAfter last) (sym (drop-item rs k r
 -- the last of the first records is set
 module _ (xs : List Record) (k count : ℕ) (r : Record) (at : k + 1 ≡ count) (there : slice_get xs k ≡ Some r) where
   pub first-last : take count xs ≡ take k xs ++ r ∷ []
-  first-last = ap (λ n. take n xs) (sym at ∙ add-one k) ∙ left-of_suc xs k r there
+  first-last = ap (λ n. take n xs) (sym at) ∙ take-item xs k r there
 
   pub first-set : (t : Record) → slice_set xs k t ≡ (take k xs ++ t ∷ []) ++ drop count xs
   first-set t =

@@ -1,7 +1,7 @@
 -- An edit leaves the markers before it, and the verdicts on their frames but the last.
 use Rattle.std.proofs.Common.{◌≡◌, ℕ, suc, zero, ◌+◌, ◌-◌, ◌<◌, ◌≤◌, ◌&&◌, true, cond, List, [], ◌∷◌, ◌++◌, length, get_or}
 use Rattle.std.proofs.Common.{Some, slice_get, refl, sym, ap, subst, ◌∙◌, inl, inr, arith}
-use Rattle.std.proofs.lemmas.Bool.{and_parts}
+use Rattle.std.proofs.lemmas.Bool.{and_parts, cases_Bool}
 use Rattle.std.proofs.lemmas.List.{append-nil}
 use Rattle.std.proofs.lemmas.Option.{slice_get-get_or}
 use Rattle.irig_codes.specs.Format.{FormatView}
@@ -10,7 +10,6 @@ use Rattle.irig_index.specs.declared.record.Record.{Record}
 use Rattle.irig_index.specs.Frames.{record_after, records_in}
 use Rattle.irig_index.specs.Marker.{class_at, follows, is_marker, is_position}
 use Rattle.irig_index.specs.Stale.{MayBeStale, LastMayBeStale, retold, last_retold}
-use Rattle.irig_index.proofs.CheckLemmas.{either}
 use Rattle.irig_index.proofs.FrameLemmas.{frames-suc, position_class, record_after-pulses, records_in-none}
 use Rattle.irig_index.proofs.PlaceLemmas.{found_record}
 use Rattle.irig_index.proofs.SettledVerdicts.{slice_get-front, verdict-before, verdict-within}
@@ -97,7 +96,7 @@ module _ (f : FormatView) (a : List Pulse) where
     ap (last_retold f (a ++ y)) (records_in-none f (a ++ x) 0) ∙ sym (records_in-none f (a ++ y) 0),
     subst (LastMayBeStale f (a ++ y) (length a - 100)) (sym (records_in-none f (a ++ x) 0)) tt,
   )
-  start_retold x y (suc n) le = elim (either (is_marker f (pulse_at a n) (pulse_at a (n + 1)))) [
+  start_retold x y (suc n) le = elim (cases_Bool (is_marker f (pulse_at a n) (pulse_at a (n + 1)))) [
     | inl marks ↦
         let within : n + 1 < length a = omega (arith, le) in
         let found = found_record f (a ++ x) n in

@@ -1,6 +1,6 @@
 use Rattle.std.proofs.Common.{◌≡◌, ◌+◌, ◌-◌, ◌<◌, ◌≤◌, ◌∷◌, ◌++◌, [], length, drop, slice_get, unwrap_or, true, false, cond, None, refl, ap, sym, ◌∙◌, arith}
 use Rattle.std.proofs.Common.{take, List}
-use Rattle.std.proofs.lemmas.List.{length-append, length-take}
+use Rattle.std.proofs.lemmas.List.{length-append, length-take, take_all}
 use Rattle.std.proofs.lemmas.Option.{slice_get_within}
 use Rattle.irig_codes.specs.declared.width.Element.{Element}
 use Rattle.irig_codes.specs.declared.width.Element.TheVariants.{Zero, Position}
@@ -17,7 +17,7 @@ use Rattle.irig_index.specs.Marker.{class_at, follows, is_digit, is_position}
 use Rattle.irig_index.specs.Verdict.{elements_of, first_fault, judged, suits}
 use Rattle.irig_index.proofs.CheckLemmas.{alone_next, digits_next, is_due, suits_other}
 use Rattle.irig_index.proofs.LookLemmas.{lens_next}
-use Rattle.irig_index.proofs.PulseLemmas.{rise-rise, slice_get-part, take-all}
+use Rattle.irig_index.proofs.PulseLemmas.{rise-rise, slice_get-part}
 use Rattle.irig_index.proofs.VerdictLemmas.{fault-ended, fault-step, fault-class, fault-none, elements-next, first_fault-here, first_fault-next}
 use Rattle.irig_index.proofs.VerdictLemmas.{first_fault-zero}
 use Rattle.irig_index.proofs.frame.check.Goals as goal
@@ -133,7 +133,7 @@ returns-clause-verdict c =
     sym c.loop-k.invariant.rest ∙ (ap (λ n. first_fault f w n k) done ∙ first_fault-zero f w k)) in
     let whole : k ≡ 100 = omega arith in
     let all : elements_of f (take k w) ≡ elements_of f w = ap (elements_of f)
-    (take-all w k (omega (arith, length-take 100 (drop c.args.at c.args.lens.now.track.pulses)))) in
+    (take_all k w (omega (arith, length-take 100 (drop c.args.at c.args.lens.now.track.pulses)))) in
     let read = c.read.ensures.verdict (elements_of f (take k w)) (c.loop-k.invariant.long ∙ whole) c.loop-k.invariant.ones in
     read ∙ (ap (λ (xs : List Element). Read (decoded f xs).0 (decoded f xs).1) all ∙ sym (ap (judged f w) none))
 

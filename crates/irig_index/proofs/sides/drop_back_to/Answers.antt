@@ -1,7 +1,8 @@
 use Rattle.std.proofs.Common.{◌≡◌, ◌-◌, ◌<◌, ◌∷◌, ◌++◌, [], length, ap, sym, ◌∙◌, arith, append_assoc, remove}
+use Rattle.std.proofs.lemmas.List.Edits.{length-remove}
 use Rattle.std.proofs.lemmas.Option.{slice_get_within}
 use Rattle.irig_index.specs.Sides.{left_of, right_of}
-use Rattle.irig_index.proofs.SideLemmas.{left-cut, right-cut, length-removed}
+use Rattle.irig_index.proofs.SideLemmas.{left-cut, right-cut}
 use Rattle.irig_index.proofs.sides.drop_back_to.Goals as goal
 
 pub loop-records-2-preserved : goal.loop-records-2-preserved
@@ -27,7 +28,7 @@ loop-records-2-preserved c =
       long = omega (
         arith,
         ap (λ g. length g.items) rest,
-        length-removed u.items w.number inside,
+        length-remove u.items w.number inside,
         w.at,
         before.long,
         ap (λ k. length (remove u.items k)) number,
