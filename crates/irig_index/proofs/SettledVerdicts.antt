@@ -2,7 +2,7 @@
 use Rattle.std.proofs.Common.{◌≡◌, ℕ, suc, zero, ◌+◌, ◌-◌, ◌%◌, ◌==◌, ◌<◌, ◌≤◌, true, false, cond, List, [], ◌∷◌, ◌++◌, length, get_or}
 use Rattle.std.proofs.Common.{Option, Some, None, slice_get, refl, sym, ap, ap₂, ◌∙◌, ◌⊎◌, inl, inr, arith}
 use Rattle.std.proofs.lemmas.Bool.{cases_Bool, cases_lt, eqb-true, ne_eqb}
-use Rattle.std.proofs.lemmas.Option.{slice_get-get_or, slice_get_within}
+use Rattle.std.proofs.lemmas.Option.{none-some, slice_get-get_or, slice_get_within}
 use Rattle.irig_codes.specs.Format.{FormatView}
 use Rattle.irig_vcd.specs.declared.pulse.Pulse.{Pulse}
 use Rattle.irig_index.specs.declared.record.Cause.{Cause}
@@ -18,9 +18,6 @@ use Rattle.irig_index.proofs.Window.{take-drop-append}
 some_or_none : (o : Option Cause) → ((cause : Cause) × (o ≡ Some cause)) ⊎ (o ≡ None)
 some_or_none (Some cause) = inl (cause, refl)
 some_or_none None = inr refl
-
-none-some : (cause : Cause) → None ≡ Some cause → ⊥
-none-some cause e = cc
 
 -- two frames that are the same up to a fault
 module _ (f : FormatView) (w v : List Pulse) (j : ℕ) (cause : Cause) (fails : fault_at f j w ≡ Some cause) where

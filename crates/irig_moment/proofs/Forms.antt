@@ -1,13 +1,10 @@
 -- Texts of a form, and the numbers in them.
-use Rattle.std.proofs.Common.{◌≡◌, ℕ, suc, ◌+◌, ◌-◌, ◌*◌, ◌<◌, ◌≤◌, ◌&&◌, ◌^◌, Bool, true, false, List, [], ◌∷◌, length, take, drop, get_or, refl, ap, ◌∙◌}
+use Rattle.std.proofs.Common.{◌≡◌, ℕ, suc, ◌+◌, ◌-◌, ◌*◌, ◌<◌, ◌≤◌, ◌&&◌, ◌^◌, false, List, [], ◌∷◌, length, take, drop, get_or, refl, ap, ◌∙◌}
 use Rattle.std.proofs.Common.{arith}
+use Rattle.std.proofs.Math.Bool.{and-false}
 use Rattle.std.proofs.Math.Nat.{pow-suc}
 use Rattle.std.proofs.lemmas.List.{drop_more}
 use Rattle.irig_moment.specs.Written.{has_form_of, fits_form_of, digits_after}
-
-and-false : (b : Bool) → (b && false) ≡ false
-and-false true = refl
-and-false false = refl
 
 -- a text of another length has not the form
 pub other-length : (fs cs : List ℕ) → ¬ (length fs ≡ length cs) → has_form_of fs cs ≡ false
