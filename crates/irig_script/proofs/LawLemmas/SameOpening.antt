@@ -1,5 +1,5 @@
 -- A dump opens as one session, but for the looks that it has counted.
-use Rattle.std.proofs.Common.{◌≡◌, ◌+◌, ℕ, List, [], Option, Some, None, reverse, ◌++◌, inl, inr, sym, ap, ◌∙◌}
+use Rattle.std.proofs.Common.{◌≡◌, ℕ, List, [], Option, Some, None, reverse, ◌++◌, inl, inr, sym, ap, ◌∙◌}
 use Rattle.std.specs.Prelude.{Result, Ok}
 use Rattle.irig_codes.specs.Format.{FormatView}
 use Rattle.irig_journal.specs.Groups.{Grouped, over}
