@@ -9,6 +9,7 @@ pub mod keyword;
 pub mod letter;
 pub mod line;
 pub mod numbers;
+pub mod orders;
 pub mod parsing;
 pub mod range;
 pub mod table;

@@ -9,7 +9,7 @@ use Rattle.irig_script.specs.declared.script.command.Command.{Command}
 use Rattle.irig_script.specs.declared.script.keyword.Keyword.TheVariants as word
 use Rattle.irig_script.proofs.ScriptLemmas.KnownWords.{full_word, moment_some, next_word, time_some}
 use Rattle.irig_script.proofs.ObeyLemmas.Lines.{given}
-use Rattle.irig_script.proofs.script.parsing.frames.Goals as goal
+use Rattle.irig_script.proofs.script.orders.frames.Goals as goal
 
 pub returns-in_default-clause-err : goal.returns-in_default-clause-err
 returns-in_default-clause-err c = λ asked a.
