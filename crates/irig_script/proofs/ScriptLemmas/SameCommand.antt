@@ -17,7 +17,8 @@ use Rattle.irig_script.specs.declared.script.keyword.Keyword.{Keyword}
 use Rattle.irig_script.specs.declared.script.keyword.Keyword.TheVariants as word
 use Rattle.irig_script.specs.declared.script.time.Time.{Time}
 use Rattle.irig_script.specs.declared.script.time.Time.TheVariants as time
-use Rattle.irig_script.proofs.ScriptLemmas.SameAddress.{address_one, control_one, mark_one, number_not_mark, number_one, address_or_cursor_one, range_one, signed_one}
+use Rattle.irig_script.proofs.ScriptLemmas.SameAddress.{address_one, control_one, mark_one, number_not_mark, number_one}
+use Rattle.irig_script.proofs.ScriptLemmas.SameAddress.{address_or_cursor_one, range_one, signed_one}
 
 -- times, distances and the other arguments
 time_one : (text : List ℕ) (s t : Time) → IsTime text s → IsTime text t → s ≡ t

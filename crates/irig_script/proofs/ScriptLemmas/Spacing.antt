@@ -5,7 +5,8 @@ use Rattle.std.specs.List.{list_all}
 use Rattle.irig_script.specs.Script.Grammar.{AreArguments, AreWords, IsBlank, IsWord}
 use Rattle.irig_script.specs.Script.Words.{before, is_space, onward, words_of}
 use Rattle.irig_script.specs.declared.script.cutting.Stop.TheVariants.{Blank, Text}
-use Rattle.irig_script.proofs.ScriptLemmas.WordLemmas.{BeginsAt, Lacks, before_at, before_front, before_on, both, cut_whole, joined, lacks_first, onward_at, onward_back}
+use Rattle.irig_script.proofs.ScriptLemmas.WordLemmas.{BeginsAt, Lacks, before_at, before_front, before_on, both, cut_whole, joined}
+use Rattle.irig_script.proofs.ScriptLemmas.WordLemmas.{lacks_first, onward_at, onward_back}
 use Rattle.irig_script.proofs.ScriptLemmas.WordLemmas.{onward_on, words_begun, words_blank}
 
 -- one more byte of white space
