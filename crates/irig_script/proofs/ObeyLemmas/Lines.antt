@@ -1,11 +1,11 @@
 -- A script by its lines, and what they make of a desk and a machine.
 use Rattle.std.proofs.Common.{◌≡◌, ◌≢◌, ◌==◌, ◌+◌, ◌<◌, ◌++◌, ◌∷◌, [], ℕ, Option, Bool, true, false, List, length, take, drop, get_or, refl, ap, sym, ◌∙◌}
-use Rattle.std.proofs.Common.{subst, append_assoc, add-one, arith}
-use Rattle.std.specs.Prelude.{Result, Ok, Err, OnErr, ◌≤◌}
+use Rattle.std.proofs.Common.{subst, append_assoc, add-one}
+use Rattle.std.specs.Prelude.{Result, Ok, Err, OnErr}
 use Rattle.std.specs.List.{AllByRecursion}
 use Rattle.std.proofs.lemmas.List.{append-nil, take-append-drop}
 use Rattle.std.proofs.lemmas.Grind.{flat_map-append}
-use Rattle.std.proofs.Math.Seq.{take-suc, take-length}
+use Rattle.std.proofs.Math.Seq.{take-suc}
 use Rattle.irig_script.specs.Obey.Machine.{Machine}
 use Rattle.irig_script.specs.Script.Lines.{lines_of, until_quit, script_lines, is_quit}
 use Rattle.irig_script.specs.Obey.Answer.{Answered, texts_put}
@@ -210,9 +210,6 @@ next_text text l i h = append_assoc text (take i l) (get_or l i 0 ∷ []) ∙ ap
 pub whole_text : (text l : List ℕ) (i : ℕ) → i < length l → ((text ++ take i l) ++ get_or l i 0 ∷ []) ++ drop (i + 1) l ≡ text ++ l
 whole_text text l i h = ap (λ t. t ++ drop (i + 1) l) (next_text text l i h)
     ∙ (append_assoc text (take (i + 1) l) (drop (i + 1) l) ∙ ap (λ t. text ++ t) (take-append-drop (i + 1) l))
-
-pub all_taken : (l : List ℕ) (i : ℕ) → length l ≤ i → i ≤ length l → take i l ≡ l
-all_taken l i h k = let same : i ≡ length l = omega arith in ap (λ n. take n l) same ∙ take-length l
 
 -- a line that was answered whole, or in front
 pub obeyed_line : (a b : Desk) (st su : Status) (text : List ℕ) (s t : Machine) (answer : Answer) (line : Line) → IsPlain text → is_quit text ≡ false

@@ -1,17 +1,11 @@
 -- The marks a to z, one after another.
-use Rattle.std.proofs.Common.{◌≡◌, ◌+◌, ◌-◌, ◌<◌, ◌≤◌, ◌∷◌, [], ℕ, zero, suc, List, Option, None, Some, length, take, get_or, slice_get, refl, ap, sym, ◌∙◌}
+use Rattle.std.proofs.Common.{◌≡◌, ◌+◌, ◌-◌, ◌<◌, ℕ, List, Option, None, Some, length, take, get_or, slice_get, ap, sym, ◌∙◌}
 use Rattle.std.proofs.Common.{arith}
-use Rattle.std.proofs.lemmas.List.{get_or-take, length-take}
+use Rattle.std.proofs.lemmas.List.{get_or-take, length-take, take_all}
 use Rattle.std.proofs.lemmas.Option.{get_or_from_slice_get, slice_get_within}
 
-pub all_taken : {T : Type 0} (n : ℕ) (xs : List T) → length xs ≤ n → take n xs ≡ xs
-all_taken zero [] h = refl
-all_taken (suc n) [] h = refl
-all_taken zero (x ∷ xs) h = absurd (omega (arith, h))
-all_taken (suc n) (x ∷ xs) h = ap (λ l. x ∷ l) (all_taken n xs (omega (arith, h)))
-
 pub few_marks : (marks : List (Option ℕ)) → take 26 (take 26 marks) ≡ take 26 marks
-few_marks marks = all_taken 26 (take 26 marks) (omega (arith, length-take 26 marks))
+few_marks marks = take_all 26 (take 26 marks) (omega (arith, length-take 26 marks))
 
 pub mark_within : (marks : List (Option ℕ)) (k : ℕ) (mark : Option ℕ) → k < 26 → slice_get marks (97 + k - 97) ≡ Some mark → k < length (take 26 marks)
 mark_within marks k mark h e =

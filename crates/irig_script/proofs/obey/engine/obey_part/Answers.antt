@@ -1,8 +1,8 @@
 use Rattle.std.proofs.Common.{◌+◌, ◌++◌, ◌∷◌, [], ℕ, List, take, drop, get_or, true, false}
 use Rattle.irig_script.specs.Obey.Desk.{desk}
 use Rattle.irig_script.specs.Obey.Progress.{Holds, BrokeIn}
-use Rattle.std.proofs.lemmas.List.{append-nil}
-use Rattle.irig_script.proofs.ObeyLemmas.Lines.{obeyed_none, obeyed_more, obeyed_rest, broke_more, broke_rest, next_text, whole_text, all_taken, given}
+use Rattle.std.proofs.lemmas.List.{append-nil, take_all}
+use Rattle.irig_script.proofs.ObeyLemmas.Lines.{obeyed_none, obeyed_more, obeyed_rest, broke_more, broke_rest, next_text, whole_text, given}
 use Rattle.irig_script.proofs.obey.engine.obey_part.Goals as goal
 
 pub loop-byte-init : goal.loop-byte-init
@@ -40,5 +40,5 @@ loop-byte-preserved g c = λ text h.
 
 pub returns-clause-ok : goal.returns-clause-ok
 returns-clause-ok g c = λ text h.
-    let all = all_taken c.args.bytes.now c.loop-byte.byte-index c.loop-byte-test.false c.loop-byte.auto.byte-index-end in
+    let all = take_all c.loop-byte.byte-index c.args.bytes.now c.loop-byte-test.false in
     rw all at (c.loop-byte.invariant text h)
