@@ -141,8 +141,10 @@ fn obey_part<W: Write, S: Shelf>(
         session.old session.new (text ++ bytes.now)) }
 {
     for byte in bytes {
-        if obey_byte(line, *byte, session, out, shelf, status)? {
-            return Ok(true);
+        match obey_byte(line, *byte, session, out, shelf, status) {
+            Ok(true) => return Ok(true),
+            Ok(false) => {}
+            Err(fault) => return Err(fault),
         }
     }
     Ok(false)
@@ -173,7 +175,9 @@ fn obey_byte<W: Write, S: Shelf>(
     let Some(reply) = obey_line(line, session, shelf) else {
         return Ok(true);
     };
-    answer(reply, session, out, status)?;
+    let Ok(()) = answer(reply, session, out, status) else {
+        return Err(PrintFault);
+    };
     line.clear();
     Ok(false)
 }
