@@ -26,7 +26,9 @@ pub fn print_frames<W: Write>(session: &Session, out: &mut W) -> Result<(), Prin
     let mut row = Row::new();
     for index in 0..session.frames() {
         put_record(&mut row, session, index + 1);
-        block.put(out, row.text())?;
+        let Ok(()) = block.put(out, row.text()) else {
+            return Err(PrintFault);
+        };
     }
     block.flush(out)
 }

@@ -24,7 +24,9 @@ pub fn print_marks<W: Write>(session: &Session, out: &mut W) -> Result<(), Print
     for index in 0..26u8 {
         let letter = b'a' + index;
         put_mark(&mut row, letter, session.mark_time(letter));
-        block.put(out, row.text())?;
+        let Ok(()) = block.put(out, row.text()) else {
+            return Err(PrintFault);
+        };
     }
     block.flush(out)
 }

@@ -73,7 +73,9 @@ fn print_in_blocks<W: Write>(
     while done < there {
         let lines = (there - done).min(block.len() / LINE_ROOM);
         let start = write_pulses(block, session, before + done + lines, lines);
-        put_all(out, &block[start..])?;
+        let Ok(()) = put_all(out, &block[start..]) else {
+            return Err(PrintFault);
+        };
         done += lines;
     }
     Ok(())

@@ -9,8 +9,8 @@ use Rattle.irig_script.proofs.PrintLemmas.FrameLines.{no_record, record_here}
 use Rattle.irig_script.proofs.PrintLemmas.Numbered.{listed_front, listed_more}
 use Rattle.irig_script.proofs.print.listing.print_frames.Goals as goal
 
-pub returns-in_err-put-clause-err : goal.returns-in_err-put-clause-err
-returns-in_err-put-clause-err g c =
+pub returns-in_default-clause-err : goal.returns-in_default-clause-err
+returns-in_default-clause-err g c =
     let s = c.args.session.now.present.state in
     let k = c.loop-index.index in
     let rs = frames_of s in
@@ -18,8 +18,7 @@ returns-in_err-put-clause-err g c =
     let place : k + 1 ≡ 1 + k = omega arith in
     let line : c.text.result.now ≡ record_line s (1 + k) (get_or rs k no_record) =
     c.text.ensures.text ∙ c.put_record.ensures _ (record_here rs k within) ∙ ap (λ n. record_line s n (get_or rs k no_record)) place in
-    let p = listed_front (record_line s) 1 rs k no_record _ _ _ _ _ within line c.loop-index.invariant c.in_err-put.ensures.err in
-    search (rules, p)
+    listed_front (record_line s) 1 rs k no_record _ _ _ _ _ within line c.loop-index.invariant c.in_default.ensures.err
 
 pub loop-index-preserved : goal.loop-index-preserved
 loop-index-preserved g c =
@@ -30,7 +29,7 @@ loop-index-preserved g c =
     let place : k + 1 ≡ 1 + k = omega arith in
     let line : c.text.result.now ≡ record_line s (1 + k) (get_or rs k no_record) =
     c.text.ensures.text ∙ c.put_record.ensures _ (record_here rs k within) ∙ ap (λ n. record_line s n (get_or rs k no_record)) place in
-    listed_more (record_line s) 1 rs k no_record _ _ _ _ _ _ within line c.loop-index.invariant c.in_ok-put.ensures.ok
+    listed_more (record_line s) 1 rs k no_record _ _ _ _ _ _ within line c.loop-index.invariant c.in-Ok.ensures.ok
 
 pub returns-clause-ok : goal.returns-clause-ok
 returns-clause-ok g c =

@@ -7,16 +7,15 @@ use Rattle.irig_script.proofs.PrintLemmas.MarkLines.{few_marks, mark_there, mark
 use Rattle.irig_script.proofs.PrintLemmas.Numbered.{listed_front, listed_more}
 use Rattle.irig_script.proofs.print.mark_lines.print_marks.Goals as goal
 
-pub returns-in_err-put-clause-err : goal.returns-in_err-put-clause-err
-returns-in_err-put-clause-err g c =
+pub returns-in_default-clause-err : goal.returns-in_default-clause-err
+returns-in_default-clause-err g c =
     let ms = c.args.session.now.present.state.marks in
     let k = c.loop-index.index in
     let few : k < 26 = omega (arith, c.loop-index-test.true) in
     let within = mark_within ms k c.mark_time.result few c.mark_time.ensures in
     let line : c.text.result.now ≡ mark_line (97 + k) (get_or (take 26 ms) k None) =
     c.text.ensures.text ∙ c.put_mark.ensures ∙ ap (mark_line (97 + k)) (mark_there ms k c.mark_time.result few c.mark_time.ensures) in
-    let p = listed_front mark_line 97 (take 26 ms) k None _ _ _ _ _ within line c.loop-index.invariant c.in_err-put.ensures.err in
-    search (rules, p)
+    listed_front mark_line 97 (take 26 ms) k None _ _ _ _ _ within line c.loop-index.invariant c.in_default.ensures.err
 
 pub loop-index-preserved : goal.loop-index-preserved
 loop-index-preserved g c =
@@ -26,7 +25,7 @@ loop-index-preserved g c =
     let within = mark_within ms k c.mark_time.result few c.mark_time.ensures in
     let line : c.text.result.now ≡ mark_line (97 + k) (get_or (take 26 ms) k None) =
     c.text.ensures.text ∙ c.put_mark.ensures ∙ ap (mark_line (97 + k)) (mark_there ms k c.mark_time.result few c.mark_time.ensures) in
-    listed_more mark_line 97 (take 26 ms) k None _ _ _ _ _ _ within line c.loop-index.invariant c.in_ok-put.ensures.ok
+    listed_more mark_line 97 (take 26 ms) k None _ _ _ _ _ _ within line c.loop-index.invariant c.in-Ok.ensures.ok
 
 pub returns-clause-ok : goal.returns-clause-ok
 returns-clause-ok g c =

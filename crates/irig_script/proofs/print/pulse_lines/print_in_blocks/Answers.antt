@@ -1,4 +1,4 @@
-use Rattle.std.proofs.Common.{rules, ◌≡◌, ◌≤◌, ◌+◌, ◌-◌, ℕ, List, length, take, drop, min, ap, subst, ◌∙◌, arith}
+use Rattle.std.proofs.Common.{◌≡◌, ◌≤◌, ◌+◌, ◌-◌, ℕ, List, length, take, drop, min, ap, subst, ◌∙◌, arith}
 use Rattle.std.specs.Io.KnownBytes.{Appends}
 use Rattle.irig_script.specs.Print.Listings.{list_text}
 use Rattle.irig_script.proofs.ScriptLemmas.WordLemmas.{rest_whole}
@@ -20,11 +20,11 @@ loop-done-preserved g c =
     rest_whole bytes start ∙ c.write_pulses-start.ensures.written ∙ ap (λ m. list_text m k s) place in (
       few,
       c.write_pulses-start.ensures.within.1 ∙ c.loop-done.invariant.1,
-      listing_more s b d k _ _ _ within c.loop-done.invariant.2 (rw whole at c.in_ok-put_all.ensures.ok),
+      listing_more s b d k _ _ _ within c.loop-done.invariant.2 (rw whole at c.in-Ok.ensures.ok),
     )
 
-pub returns-in_err-put_all-clause-err : goal.returns-in_err-put_all-clause-err
-returns-in_err-put_all-clause-err g c =
+pub returns-in_default-clause-err : goal.returns-in_default-clause-err
+returns-in_default-clause-err g c =
     let s = c.args.session.now.present.state in
     let b = c.args.before in
     let d = c.loop-done.done in
@@ -43,8 +43,7 @@ returns-in_err-put_all-clause-err g c =
     let place : b + d + k - k ≡ b + d = omega arith in
     let whole : take (length bytes - start) (drop start bytes) ≡ list_text (b + d) k s =
     rest_whole bytes start ∙ c.write_pulses-start.ensures.written ∙ ap (λ m. list_text m k s) place in
-    let p = listing_front s b d k c.args.count _ _ _ within few c.loop-done.invariant.2 (rw whole at c.in_err-put_all.ensures.err) in
-    search (rules, p)
+    listing_front s b d k c.args.count _ _ _ within few c.loop-done.invariant.2 (rw whole at c.in_default.ensures.err)
 
 pub returns-clause-ok : goal.returns-clause-ok
 returns-clause-ok g c =
