@@ -98,8 +98,12 @@ pub fn insert(front: &[u8], arguments: &[u8]) -> Result<Command, BadLine>
     ensures err { OnErr result ((c : Command)
         → Asks Keyword.Insert front.now (words_of arguments.now) c → ⊥) }
 {
-    no_range(front)?;
-    let (a, b) = times(arguments)?;
+    let Ok(()) = no_range(front) else {
+        return Err(BadLine);
+    };
+    let Ok((a, b)) = times(arguments) else {
+        return Err(BadLine);
+    };
     Ok(Command::Insert(a, b))
 }
 
@@ -109,8 +113,12 @@ pub fn invert(front: &[u8], arguments: &[u8]) -> Result<Command, BadLine>
     ensures err { OnErr result ((c : Command)
         → Asks Keyword.Invert front.now (words_of arguments.now) c → ⊥) }
 {
-    no_range(front)?;
-    let (a, b) = times(arguments)?;
+    let Ok(()) = no_range(front) else {
+        return Err(BadLine);
+    };
+    let Ok((a, b)) = times(arguments) else {
+        return Err(BadLine);
+    };
     Ok(Command::Invert(a, b))
 }
 
@@ -146,7 +154,9 @@ pub fn unmark(front: &[u8], arguments: &[u8]) -> Result<Command, BadLine>
     ensures err { OnErr result ((c : Command)
         → Asks Keyword.Unmark front.now (words_of arguments.now) c → ⊥) }
 {
-    no_range(front)?;
+    let Ok(()) = no_range(front) else {
+        return Err(BadLine);
+    };
     let name = one_word(arguments)?;
     Ok(Command::Unmark(mark(name)?))
 }

@@ -1,5 +1,4 @@
-use Rattle.irig_script.proofs.ObeyLemmas.Lines.{given}
 use Rattle.irig_script.proofs.script.orders.insert.Goals as goal
 
-pub returns-in_err-a-clause-err : goal.returns-in_err-a-clause-err
-returns-in_err-a-clause-err c = given c.from_residual-in_err-a.result (λ asked a. c.in_err-a.ensures.err a.0 a.1 a.4)
+pub returns-in_default-times-clause-err : goal.returns-in_default-times-clause-err
+returns-in_default-times-clause-err c = λ asked a. c.in_default-times.ensures.err a.0 a.1 a.4
