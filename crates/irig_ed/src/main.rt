@@ -7,7 +7,7 @@ mod file_run;
 mod files;
 mod statuses;
 
-ghost use Rattle.std.specs.Prelude.{map, string_bytes};
+ghost use Rattle.std.specs.Prelude.{◌≡◌, map, string_bytes};
 ghost use Rattle.std.specs.Process.{exit_status};
 ghost use Rattle.irig_ed.specs.Ending.{Serves, ends};
 ghost use Rattle.irig_ed.specs.Files.Keeps.{Keeps};
@@ -31,19 +31,24 @@ fn main(rt: HostRuntime) -> ExitCode {
             &mut rt.reader(),
             &mut io::writer(&rt),
         ),
-        Err(error) if error.kind() == io::ErrorKind::InvalidData => {
-            explain(&rt, &not_text(rt.alloc()))
-        }
-        Err(error) => tell(&rt, &error),
+        Err(error) => tell_no_words(&rt, &error),
+    }
+}
+
+/// Says why there are no words.
+fn tell_no_words<R: Print + Eprint + AllocGlobal>(rt: &R, error: &io::Error) -> ExitCode
+    ensures { exit_status result ≡ 2 }
+{
+    if error.kind() == io::ErrorKind::InvalidData {
+        explain(rt, &not_text(rt.alloc()))
+    } else {
+        tell(rt, error)
     }
 }
 
 /// The words of the command line, the program's name being the first.
 fn arguments<R: Runtime + AllocGlobal>(rt: &R) -> io::Result<Vec<String>> {
-    let mut words = Vec::new(rt.alloc());
-    for argument in env::args(rt)? {
-        words.push(argument)?;
-    }
+    let words = env::args(rt)?.collect(rt.alloc())?;
     Ok(words)
 }
 
