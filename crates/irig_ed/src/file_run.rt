@@ -58,9 +58,26 @@ fn run_on_track<'a, D: Disk, R: Read, W: Write>(
     let Ok(mut room) = Room::new(alloc) else {
         return Ending::Unread(chosen.track, DumpFileFault::OutOfMemory);
     };
+    run_with_room(alloc, chosen, &mut room, disk, script, out)
+}
+
+/// Runs a script on the dump of the settings. Each write uses the room.
+fn run_with_room<'a, D: Disk, R: Read, W: Write>(
+    alloc: Global,
+    chosen: &Settings<'a>,
+    room: &mut Room,
+    disk: &mut D,
+    script: &mut R,
+    out: &mut W,
+) -> Ending<'a>
+    ensures { Obeys (D.held disk.old)
+        (ends (W.contents out.old) (D.puts disk.old) (R.remaining script.old))
+        (ends (W.contents out.new) (D.puts disk.new) (R.remaining script.new))
+        chosen.now result }
+{
     match disk.read(alloc, chosen.track, wire_of(chosen)) {
         Ok(read) => {
-            let result = run_on_read(alloc, chosen, read, &mut room, disk, script, out);
+            let result = run_on_read(alloc, chosen, read, room, disk, script, out);
             Ending::Ran(chosen.track, result)
         }
         Err(fault) => Ending::Unread(chosen.track, fault),
