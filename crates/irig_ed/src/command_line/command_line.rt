@@ -41,7 +41,17 @@ pub fn not_text(alloc: Global) -> Error
 fn said_of_bytes(alloc: Global) -> Result<Error, AllocError>
     ensures { IfOk result IsMistake }
 {
-    command(alloc)?.error(
+    match command(alloc) {
+        Ok(mut command) => error_of_bytes(&mut command),
+        Err(error) => Err(error),
+    }
+}
+
+/// The error of a command for an argument that is not UTF-8.
+fn error_of_bytes(command: &mut Command<'_>) -> Result<Error, AllocError>
+    ensures { IfOk result IsMistake }
+{
+    command.error(
         ErrorKind::InvalidValue,
         "invalid UTF-8 was detected in one or more arguments",
     )
