@@ -5,6 +5,7 @@ pub mod dump_file;
 pub mod file_shelf;
 pub mod in_place;
 pub mod intake;
+mod links;
 mod put_file;
 pub mod room;
 pub mod system;

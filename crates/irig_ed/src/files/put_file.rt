@@ -1,9 +1,10 @@
 //! Finds the file that a path leads to, and how it is written: replaced whole, or in place.
 
-ghost use Rattle.std.specs.Prelude.{◌≡◌, length, Ok, IfOk, OnErr, IsErr};
+ghost use Rattle.std.specs.Prelude.{◌≡◌, ◌↔◌, length, Ok, IfOk, OnErr, IsErr, IsSome, IsTrue};
 ghost use Rattle.irig_ed.specs.Files.Puts.{count_of};
 
 use crate::files::in_place::write_in_place;
+use crate::files::links::follow_links;
 use crate::files::room::Room;
 use crate::files::whole::write_whole;
 use crate::files::written::Written;
@@ -16,9 +17,6 @@ use std::os::unix::fs::{MetadataExt, PermissionsExt};
 use std::path::{Path, PathBuf};
 use std::rt::Files;
 use std::{fs, io};
-
-/// How many symbolic links a path may lead through.
-const LINKS: u32 = 40;
 
 /// What a call gives; its error is not reported.
 fn or_shelf_fault<T: Drop, E: Drop>(outcome: Result<T, E>) -> Result<T, ShelfFault>
@@ -62,8 +60,22 @@ fn put_over<R: Files + Print + AllocGlobal, T: Text>(
     } else if old.is_file() {
         replace(rt, path, true, text, room)
     } else {
-        let mut file = open_to_write(rt, path)?;
-        in_place(&mut file, text, &mut room.block)
+        put_in_place(rt, path, text, &mut room.block)
+    }
+}
+
+/// Writes a text to what is no regular file at a path.
+fn put_in_place<R: Files, T: Text>(
+    rt: &R,
+    path: &str,
+    text: &mut T,
+    block: &mut Vec<u8>,
+) -> Result<Written, ShelfFault>
+    ensures { IfOk result (λ written. count_of written ≡ length (T.rest text.old)) }
+{
+    match open_to_write(rt, path) {
+        Ok(mut file) => in_place(&mut file, text, block),
+        Err(fault) => Err(fault),
     }
 }
 
@@ -109,44 +121,26 @@ fn replace<R: Files + AllocGlobal, T: Text>(
 ) -> Result<Written, ShelfFault>
     ensures { IfOk result (λ written. count_of written ≡ length (T.rest text.old)) }
 {
-    follow_links(rt, path, &mut room.target)?;
-    if is_there {
-        let old = writable(rt, room.target.as_str())?;
-        replace_target(rt, Some(old.permissions().mode()), text, room)
-    } else {
-        replace_target(rt, None, text, room)
-    }
-}
-
-/// Follows the chain of symbolic links from a path, and leaves in `target` where it leads.
-fn follow_links<R: Files + AllocGlobal>(
-    rt: &R,
-    path: &str,
-    target: &mut PathBuf,
-) -> Result<(), ShelfFault> {
-    target.clear();
-    or_shelf_fault(target.push(path))?;
-    for _ in 0..LINKS {
-        match follow_link(rt, target) {
-            Ok(true) => {}
-            Ok(false) => return Ok(()),
-            Err(fault) => return Err(fault),
-        }
-    }
-    Err(ShelfFault)
-}
-
-/// Follows a symbolic link, and returns whether there was one. Only the text of a link takes
-/// memory.
-fn follow_link<R: Files + AllocGlobal>(rt: &R, target: &mut PathBuf) -> Result<bool, ShelfFault> {
-    let next = match fs::read_link(rt, target.as_str()) {
-        Ok(next) => next,
-        Err(e) if e.kind() == ErrorKind::OutOfMemory => return Err(ShelfFault),
-        Err(_) => return Ok(false),
+    let Ok(()) = follow_links(rt, path, &mut room.target) else {
+        return Err(ShelfFault);
     };
-    target.pop();
-    or_shelf_fault(target.push(next.as_str()))?;
-    Ok(true)
+    match mode_to_take(rt, is_there, room.target.as_str()) {
+        Ok(mode) => replace_target(rt, mode, text, room),
+        Err(fault) => Err(fault),
+    }
+}
+
+/// The mode of the regular file at the target, which may be written; none if no file is there.
+fn mode_to_take<R: Files>(rt: &R, is_there: bool, target: &str) -> Result<Option<u32>, ShelfFault>
+    ensures { IfOk result (λ mode. IsSome mode ↔ IsTrue is_there) }
+{
+    if !is_there {
+        return Ok(None);
+    }
+    match writable(rt, target) {
+        Ok(old) => Ok(Some(old.permissions().mode())),
+        Err(fault) => Err(fault),
+    }
 }
 
 /// What describes a regular file that may be written. A file that must not be written is not
@@ -170,8 +164,12 @@ fn replace_target<R: Files, T: Text>(
     ensures { IfOk result (λ written. count_of written ≡ length (T.rest text.old)) }
 {
     let target = room.target.as_str();
-    put_stem(target, &mut room.name, &mut room.stem)?;
-    let folder = or_shelf_fault(fs::open(rt, folder_of(target)))?;
+    let Ok(()) = put_stem(target, &mut room.name, &mut room.stem) else {
+        return Err(ShelfFault);
+    };
+    let Ok(folder) = fs::open(rt, folder_of(target)) else {
+        return Err(ShelfFault);
+    };
     let mut names = SystemFolder::new(rt, folder);
     let (stem, name) = (room.stem.as_str(), &mut room.name);
     match write_whole(&mut names, name, target, stem, mode, text, &mut room.block) {
@@ -186,13 +184,22 @@ fn put_stem(target: &str, marked: &mut String, stem: &mut PathBuf) -> Result<(),
     let Some(name) = Path::new(target).file_name() else {
         return Err(ShelfFault);
     };
+    let Ok(()) = put_marked(name, marked) else {
+        return Err(ShelfFault);
+    };
+    stem.clear();
+    let Ok(()) = stem.push(target) else {
+        return Err(ShelfFault);
+    };
+    or_shelf_fault(stem.set_file_name(marked.as_str()))
+}
+
+/// A name, hidden and marked.
+fn put_marked(name: &str, marked: &mut String) -> Result<(), ShelfFault> {
     // a folder takes no name of more than 255 bytes
     let kept = if name.len() <= 200 { name } else { "" };
     marked.clear();
-    or_shelf_fault(write!(marked, ".{kept}.irig_ed-new-"))?;
-    stem.clear();
-    or_shelf_fault(stem.push(target))?;
-    or_shelf_fault(stem.set_file_name(marked.as_str()))
+    or_shelf_fault(write!(marked, ".{kept}.irig_ed-new-"))
 }
 
 /// The folder of a path.
