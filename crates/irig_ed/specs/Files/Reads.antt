@@ -20,6 +20,11 @@ pub record HasTaken (wire : Option (List ℕ)) (bytes : List ℕ) (intake : Inta
   pub dump : AreRead wire bytes intake.dump
   pub left : length bytes + intake.left ≡ 2 ^ 28 + 1
 
+-- these bytes are taken in after those before
+abbrev pub Takes : List ℕ → Intake → Intake → Type 0
+Takes some old new = (wire : Option (List ℕ)) (bytes : List ℕ)
+    → HasTaken wire bytes old → HasTaken wire (bytes ++ some) new
+
 -- what is read is counted
 abbrev pub IsCounted : Intake → Type 0
 IsCounted intake = IfOk intake.dump (λ reader. bytes_read reader + intake.left ≡ 2 ^ 28 + 1)

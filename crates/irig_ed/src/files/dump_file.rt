@@ -1,11 +1,11 @@
 //! The dump in a file, read in parts.
 
-ghost use Rattle.std.specs.Prelude.{◌≡◌, ◌≢◌, ◌<◌, ◌^◌, ◌↔◌, ℕ, List, None, IfOk, IfErr};
-ghost use Rattle.std.specs.Prelude.{IfSome, IsErrOf, IsTrue, length};
+ghost use Rattle.std.specs.Prelude.{◌≡◌, ◌≢◌, ◌<◌, ◌^◌, ◌↔◌, ℕ, List, None, IfOk, OnOk};
+ghost use Rattle.std.specs.Prelude.{IfErr, IfSome, IsErrOf, IsTrue, true, false, length};
 ghost use Rattle.std.specs.Fs.{IsFile, file_type, metadata_len};
 ghost use Rattle.std.specs.Io.KnownBytes.{Consumes, IsAtEnd};
 ghost use Rattle.irig_vcd.specs.Answer.{name_of};
-ghost use Rattle.irig_ed.specs.Files.Reads.{HasTaken, IsCounted, IsReadOf};
+ghost use Rattle.irig_ed.specs.Files.Reads.{HasTaken, IsCounted, IsReadOf, Takes};
 ghost use Rattle.irig_ed.specs.declared.files.dump_file.DumpFileFault.TheVariants.{TooLong};
 
 use crate::files::intake::{DUMP_LIMIT, Intake, Parts};
@@ -57,30 +57,62 @@ fn shows_more(described: &Metadata) -> bool
     described.is_file() && described.len() > DUMP_LIMIT as u64
 }
 
-/// Takes in all that a reader has left, part by part, but no more than is wanted.
-fn take_all<R: Read>(
-    alloc: Global,
-    reader: &mut R,
-    part: &mut [u8],
-    wire: Option<&[u8]>,
-) -> Result<Intake, DumpFileFault>
-    requires { 0 < length part.old }
-    ensures taken { IfOk result (λ t. (some : List ℕ) × HasTaken (name_of wire.entry) some t
-        × Consumes (R.remaining reader.old) (R.remaining reader.new) some) }
-    ensures end { IfOk result (λ t. 0 < t.left → IsAtEnd (R.remaining reader.new)) }
-    ensures counted { IfOk result IsCounted }
+/// After an error more can be read only if it was an interruption. Any other is the fault.
+fn after_error(error: io::Error) -> Result<bool, DumpFileFault>
+    ensures more { IfOk result (λ is_more. is_more ≡ true) }
     ensures read { IfErr result (λ fault. fault ≢ TooLong) }
 {
-    let Ok(mut dump) = Intake::new(alloc, wire) else {
-        return Err(DumpFileFault::OutOfMemory);
-    };
+    match error.kind() {
+        ErrorKind::Interrupted => Ok(true),
+        _ => Err(DumpFileFault::from(error)),
+    }
+}
+
+/// Takes in the next part that a reader gives, and returns whether it may have more.
+fn take_part<R: Read>(
+    dump: &mut Intake,
+    reader: &mut R,
+    part: &mut [u8],
+) -> Result<bool, DumpFileFault>
+    requires counted { IsCounted dump.old }
+    ensures part { length part.new ≡ length part.old }
+    ensures taken { OnOk result ((some : List ℕ) × Takes some dump.old dump.new
+        × Consumes (R.remaining reader.old) (R.remaining reader.new) some) }
+    ensures end { IfOk result (λ is_more. is_more ≡ false → 0 < length part.old
+        → 0 < dump.new.left → IsAtEnd (R.remaining reader.new)) }
+    ensures counted { OnOk result (IsCounted dump.new) }
+    ensures read { IfErr result (λ fault. fault ≢ TooLong) }
+{
+    let wanted = dump.wanted(part.len());
+    match reader.read(&mut part[..wanted]) {
+        Ok(0) => Ok(false),
+        Ok(count) => match dump.put(&part[..count]) {
+            Ok(()) => Ok(true),
+            Err(fault) => Err(fault),
+        },
+        Err(error) => after_error(error),
+    }
+}
+
+/// Takes in all that a reader has left, part by part, but no more than is wanted.
+fn take_all<R: Read>(
+    dump: &mut Intake,
+    reader: &mut R,
+    part: &mut [u8],
+) -> Result<(), DumpFileFault>
+    requires room { 0 < length part.old }
+    requires counted { IsCounted dump.old }
+    ensures taken { OnOk result ((some : List ℕ) × Takes some dump.old dump.new
+        × Consumes (R.remaining reader.old) (R.remaining reader.new) some) }
+    ensures end { OnOk result (0 < dump.new.left → IsAtEnd (R.remaining reader.new)) }
+    ensures counted { OnOk result (IsCounted dump.new) }
+    ensures read { IfErr result (λ fault. fault ≢ TooLong) }
+{
     for _ in 0..u64::MAX {
-        let wanted = dump.wanted(part.len());
-        match reader.read(&mut part[..wanted]) {
-            Ok(0) => return Ok(dump),
-            Ok(count) => dump = dump.put(&part[..count])?,
-            Err(error) if error.kind() == ErrorKind::Interrupted => {}
-            Err(error) => return Err(DumpFileFault::from(error)),
+        match take_part(dump, reader, part) {
+            Ok(true) => {}
+            Ok(false) => return Ok(()),
+            Err(fault) => return Err(fault),
         }
     }
     // no file has that many parts: only a reader that is interrupted again and again comes here
@@ -98,9 +130,30 @@ fn read_whole<R: Read + Drop>(
         → IfSome (R.remaining reader) (λ all. 2 ^ 28 < length all) }
 {
     let mut part = [0; PART];
-    match take_all(alloc, &mut reader, &mut part, wire) {
-        Ok(dump) => dump.end(),
-        Err(fault) => Err(fault),
+    read_by_parts(alloc, &mut reader, &mut part, wire)
+}
+
+/// The same, part by part.
+fn read_by_parts<R: Read>(
+    alloc: Global,
+    reader: &mut R,
+    part: &mut [u8],
+    wire: Option<&[u8]>,
+) -> Result<Result<Parts, VcdFault>, DumpFileFault>
+    requires { 0 < length part.old }
+    ensures read { IfOk result (IsReadOf (R.remaining reader.old) (name_of wire.entry)) }
+    ensures long { IsErrOf result DumpFileFault.TooLong
+        → IfSome (R.remaining reader.old) (λ all. 2 ^ 28 < length all) }
+{
+    let Ok(mut dump) = Intake::new(alloc, wire) else {
+        return Err(DumpFileFault::OutOfMemory);
+    };
+    match take_all(&mut dump, reader, part) {
+        Ok(()) => dump.end(),
+        Err(fault) => {
+            dump.let_go();
+            Err(fault)
+        }
     }
 }
 

@@ -1,19 +1,20 @@
 //! The dump in a file, as far as it is taken in.
 
-ghost use Rattle.std.specs.Prelude.{◌≡◌, ◌≢◌, ◌≤◌, ◌<◌, ◌⊎◌, ◌++◌, [], ℕ, List, Option, None};
-ghost use Rattle.std.specs.Prelude.{Ok, Err, IfOk, IfErr, IsOk, IsErrOf, OnErr, length, min};
+ghost use Rattle.std.specs.Prelude.{◌≡◌, ◌≢◌, ◌≤◌, ◌<◌, ◌⊎◌, [], ℕ, List, Option, None};
+ghost use Rattle.std.specs.Prelude.{Ok, Err, IfOk, IfErr, IsOk, IsErrOf, OnOk, OnErr, length, min};
 ghost use Rattle.irig_vcd.specs.Answer.{Gives, name_of};
 ghost use Rattle.irig_vcd.specs.Declarations.{declarations_of};
 ghost use Rattle.irig_vcd.specs.Parts.{dump_parts};
 ghost use Rattle.irig_vcd.specs.Words.{words_of};
 ghost use Rattle.irig_vcd.specs.declared.fault.VcdFault.{VcdFault};
 ghost use Rattle.irig_vcd.specs.declared.fault.VcdFault.TheVariants.{OutOfMemory};
-ghost use Rattle.irig_ed.specs.Files.Reads.{HasFewBytes, HasTaken, IsCounted, parts_of};
+ghost use Rattle.irig_ed.specs.Files.Reads.{HasFewBytes, HasTaken, IsCounted, Takes, parts_of};
 ghost use Rattle.irig_ed.specs.declared.files.dump_file.DumpFileFault.TheVariants as file;
 
 use crate::files::dump_file::DumpFileFault;
 use irig_vcd::{DumpReader, Recording, VcdFault};
 use std::alloc::{AllocError, Global};
+use std::mem;
 
 /// What a dump says of a wire, and the text of the journal that it carries.
 pub type Parts = (Recording, Option<Vec<u8>>);
@@ -49,21 +50,26 @@ impl Intake {
         self.left.min(room)
     }
 
-    /// Takes the next part of the dump. It fails only if memory runs out.
-    pub fn put(self, part: &[u8]) -> Result<Intake, DumpFileFault>
-        requires wanted { length part.now ≤ self.left }
-        requires counted { IsCounted self }
-        ensures taken { IfOk result (λ t. (wire : Option (List ℕ)) (bytes : List ℕ)
-            → HasTaken wire bytes self → HasTaken wire (bytes ++ part.now) t) }
-        ensures counted { IfOk result IsCounted }
+    /// Takes the next part of the dump. It fails only if memory runs out, and nothing is left then.
+    pub fn put(&mut self, part: &[u8]) -> Result<(), DumpFileFault>
+        requires wanted { length part.now ≤ self.old.left }
+        requires counted { IsCounted self.old }
+        ensures taken { OnOk result (Takes part.now self.old self.new) }
+        ensures counted { OnOk result (IsCounted self.new) }
         ensures memory { IfErr result (λ fault. fault ≡ file.OutOfMemory) }
     {
-        let left = self.left - part.len();
-        let dump = match self.dump {
+        self.left -= part.len();
+        let dump = match mem::replace(&mut self.dump, Err(VcdFault::OutOfMemory)) {
             Ok(reader) => unless_short(reader.put(part))?,
             Err(fault) => Err(fault),
         };
-        Ok(Intake { dump, left })
+        let_go(mem::replace(&mut self.dump, dump));
+        Ok(())
+    }
+
+    /// Frees what is taken in.
+    pub fn let_go(self) {
+        let_go(self.dump);
     }
 
     /// What the dump says, if nothing comes after its parts.
@@ -91,6 +97,9 @@ impl Intake {
         }
     }
 }
+
+/// Frees what is read.
+fn let_go(_dump: Result<DumpReader, VcdFault>) {}
 
 /// What reading gives, unless memory ran out.
 fn unless_short<T: Drop>(read: Result<T, VcdFault>) -> Result<Result<T, VcdFault>, DumpFileFault>
