@@ -3,3 +3,4 @@ pub mod RunsBy
 pub mod Commands
 pub mod Blocks
 pub mod Intakes
+pub mod Passed

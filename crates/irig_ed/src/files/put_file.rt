@@ -1,12 +1,12 @@
 //! Finds the file that a path leads to, and how it is written: replaced whole, or in place.
 
-ghost use Rattle.std.specs.Prelude.{◌≡◌, ◌↔◌, length, Ok, IfOk, OnErr, IsErr, IsSome, IsTrue};
+ghost use Rattle.std.specs.Prelude.{◌≡◌, ◌↔◌, length, IfOk, IsSome, IsTrue};
 ghost use Rattle.irig_ed.specs.Files.Puts.{count_of};
 
 use crate::files::in_place::write_in_place;
 use crate::files::links::follow_links;
 use crate::files::room::Room;
-use crate::files::whole::write_whole;
+use crate::files::whole::{or_shelf_fault, write_whole};
 use crate::files::written::Written;
 use irig_disk::SystemFolder;
 use irig_script::ShelfFault;
@@ -17,17 +17,6 @@ use std::os::unix::fs::{MetadataExt, PermissionsExt};
 use std::path::{Path, PathBuf};
 use std::rt::Files;
 use std::{fs, io};
-
-/// What a call gives; its error is not reported.
-fn or_shelf_fault<T: Drop, E: Drop>(outcome: Result<T, E>) -> Result<T, ShelfFault>
-    ensures given { IfOk result (λ value. outcome ≡ Ok value) }
-    ensures failed { OnErr result (IsErr outcome) }
-{
-    match outcome {
-        Ok(value) => Ok(value),
-        Err(_) => Err(ShelfFault),
-    }
-}
 
 /// Writes a text to a file: a regular one, or none yet, is replaced; any other is written.
 pub fn put_file<R: Files + Print + AllocGlobal, T: Text>(

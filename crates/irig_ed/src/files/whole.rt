@@ -1,6 +1,6 @@
 //! A text written whole to a regular file.
 
-ghost use Rattle.std.specs.Prelude.{◌≡◌, ◌⊎◌, length, IfOk, OnOk, OnErr};
+ghost use Rattle.std.specs.Prelude.{◌≡◌, ◌⊎◌, length, Ok, IfOk, OnOk, OnErr, IsErr};
 ghost use Rattle.irig_disk.specs.Disk.{LeavesOnly};
 ghost use Rattle.irig_disk.specs.Put.{OldOrNewIfThere, IsKept, IsPut, SeenSameIfThere, held};
 
@@ -35,8 +35,16 @@ pub fn write_whole<F: Folder, T: Text>(
         (held F.usual_mode mode (T.rest text.old))) }
     ensures count { IfOk result (λ kept. kept.count ≡ length (T.rest text.old)) }
 {
-    match put_text(folder, name, target, stem, mode, text, block) {
-        Ok(kept) => Ok(kept),
+    or_shelf_fault(put_text(folder, name, target, stem, mode, text, block))
+}
+
+/// What a call gives; its error is not reported.
+pub fn or_shelf_fault<T: Drop, E: Drop>(outcome: Result<T, E>) -> Result<T, ShelfFault>
+    ensures given { IfOk result (λ value. outcome ≡ Ok value) }
+    ensures failed { OnErr result (IsErr outcome) }
+{
+    match outcome {
+        Ok(value) => Ok(value),
         Err(_) => Err(ShelfFault),
     }
 }
