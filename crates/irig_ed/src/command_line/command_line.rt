@@ -1,9 +1,9 @@
 //! The command line, read by `clap`.
 
-ghost use Rattle.std.specs.Prelude.{◌≡◌, IfErr, IfOk, None, false, map, string_bytes};
-ghost use Rattle.clap.specs.Words.{app_of, found_of, rule_of};
+ghost use Rattle.std.specs.Prelude.{◌≡◌, IfErr, IfOk, None, false, codes, map, string_bytes};
+ghost use Rattle.clap.specs.Words.{Rule, app_of, found_of, new_app, rule_of, with_rule};
 ghost use Rattle.irig_ed.specs.CommandLine.Options.{IsCommand, IsReading, IsChoice, IsParsed};
-ghost use Rattle.irig_ed.specs.CommandLine.Options.{MayRefuse, option, track};
+ghost use Rattle.irig_ed.specs.CommandLine.Options.{MayRefuse, letters, option, track};
 ghost use Rattle.irig_ed.specs.Statuses.{IsMistake};
 ghost use Rattle.irig_ed.specs.CommandLine.Settings.{Chooses, Reads, digit_named, kind_or_b};
 
@@ -120,22 +120,35 @@ fn command<'a>(alloc: Global) -> Result<Command<'a>, AllocError>
 fn reading<'a>(alloc: Global) -> Result<Command<'a>, AllocError>
     ensures { IfOk result (λ c. IsReading (app_of c)) }
 {
-    Command::new(alloc, "irig_ed")
-        .arg(option_arg(alloc, "wire", "NAME", "the wire of the dump"))?
-        .arg(choice_arg(
-            alloc,
-            "format",
-            "FORMAT",
-            "B, if not given",
-            LETTERS.as_slice(),
-        ))?
-        .arg(choice_arg(
-            alloc,
-            "expression",
-            "NUMBER",
-            "2, if not given",
-            DIGITS.as_slice(),
-        ))
+    let Ok(lettered) = lettered(alloc) else {
+        return Err(AllocError);
+    };
+    lettered.arg(choice_arg(
+        alloc,
+        "expression",
+        "NUMBER",
+        "2, if not given",
+        DIGITS.as_slice(),
+    ))
+}
+
+/// The first two of them: the wire and the letter of the format.
+fn lettered<'a>(alloc: Global) -> Result<Command<'a>, AllocError>
+    ensures { IfOk result (λ c. (format : Rule) × IsChoice (codes "format") letters format
+        × (app_of c ≡ with_rule
+        (with_rule (new_app (codes "irig_ed")) (option (codes "wire") None)) format)) }
+{
+    let wire = option_arg(alloc, "wire", "NAME", "the wire of the dump");
+    let Ok(wired) = Command::new(alloc, "irig_ed").arg(wire) else {
+        return Err(AllocError);
+    };
+    wired.arg(choice_arg(
+        alloc,
+        "format",
+        "FORMAT",
+        "B, if not given",
+        LETTERS.as_slice(),
+    ))
 }
 
 /// An option `--name` with a value.
