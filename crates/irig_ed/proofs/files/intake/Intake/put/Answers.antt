@@ -16,7 +16,7 @@ returns-clause-taken c = λ wire bytes h.
         | in-Err w ↦
             let fault = subst (λ (d : Result Progress VcdFault). AreRead wire bytes d) w.in-Err.is read in
             subst (λ (d : Result Progress VcdFault). AreRead wire bytes_now d) (sym (c.replace-2.ensures.after ∙ w.dump-is))
-            (still_faulty wire bytes c.args.part.now w.in-Err.fault fault)
+            (still_faulty wire bytes c.args.part.now _ fault)
       ];
       left = omega (arith, h.left, length-append bytes c.args.part.now, c.requires.wanted);
     }
