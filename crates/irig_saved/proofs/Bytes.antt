@@ -5,6 +5,7 @@ use Rattle.std.specs.List.{list_all}
 use Rattle.std.proofs.lemmas.Bool.{and_from, not_from_false, ne_eqb, true≢false, eq-eqb, and_parts, ltb-true}
 use Rattle.std.proofs.lemmas.List.{take-append-drop, drop_more}
 use Rattle.irig_saved.specs.Reading.{Lacks, IsWordy}
+use Rattle.irig_saved.proofs.Cuts.{first_eq}
 
 pub lacks_from : (b : ℕ) (bytes : List ℕ) → ((k : ℕ) → k < length bytes → get_or bytes k 0 ≡ b → ⊥) → Lacks b bytes
 lacks_from b [] h = refl
@@ -24,9 +25,6 @@ lacks_take b (suc k) (x ∷ xs) within h =
 pub parts_at : (b k : ℕ) (bytes : List ℕ) → k < length bytes → get_or bytes k 0 ≡ b → bytes ≡ take k bytes ++ b ∷ drop (k + 1) bytes
 parts_at b k bytes within is =
     sym (take-append-drop k bytes) ∙ ap (λ l. take k bytes ++ l) (drop_more bytes k 0 within ∙ ap (λ x. x ∷ drop (k + 1) bytes) is)
-
-first_eq : (x y : ℕ) (u v : List ℕ) → x ∷ u ≡ y ∷ v → x ≡ y
-first_eq x y u v e = ap (λ l. get_or l 0 0) e
 
 no_true : (v : Bool) → v ≡ true → not v ≡ true → ⊥
 no_true v h n = let bad : false ≡ true = sym (ap not h) ∙ n in true≢false (sym bad)

@@ -8,10 +8,9 @@ use Rattle.irig_saved.specs.Ranges.{IsNumber, IsTime}
 use Rattle.irig_saved.specs.Reading.{Lacks}
 use Rattle.irig_saved.specs.Leading.{mark_line, LacksMark, Leads}
 use Rattle.irig_saved.specs.declared.step.Step.{Step}
-use Rattle.irig_saved.proofs.Cuts.{AreWords}
-use Rattle.irig_saved.proofs.Decimals.{number_is_word, same_number}
+use Rattle.irig_saved.proofs.Decimals.{same_number}
 use Rattle.irig_saved.proofs.SameWords.{byte_is_word}
-use Rattle.irig_saved.proofs.Unique.{lined}
+use Rattle.irig_saved.proofs.Unique.{lined, mark_words}
 use Rattle.irig_saved.proofs.Clean.{newline, mark_lacks}
 use Rattle.irig_saved.proofs.Bytes.{cut_at, not_lacking, dark_lacks}
 
@@ -60,9 +59,6 @@ other_lacks x text l rest high cut whole none = λ t more small e.
     (sym cut ∙ e)).0
 
 -- the lines up to the one after them determine them
-
-mark_words : (x t : ℕ) → 32 < x → IsNumber t → AreWords ((x ∷ []) ∷ decimal t ∷ [])
-mark_words x t high small = (byte_is_word x high, (number_is_word t small, tt))
 
 -- the steps after the marks
 abbrev pub step_sections : List Step → List Step → List (List ℕ)

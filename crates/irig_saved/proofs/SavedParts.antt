@@ -14,8 +14,8 @@ use Rattle.irig_saved.specs.declared.step.Step.{Step}
 use Rattle.irig_saved.specs.declared.saved.Saved.{Saved}
 use Rattle.irig_saved.proofs.Cuts.{AreWords}
 use Rattle.irig_saved.proofs.Decimals.{number_is_word, same_number}
-use Rattle.irig_saved.proofs.SameWords.{kind_is_word, same_kind}
-use Rattle.irig_saved.proofs.Unique.{lined, regroup, same_counted}
+use Rattle.irig_saved.proofs.SameWords.{kind_is_word, same_kind, small_is_number}
+use Rattle.irig_saved.proofs.Unique.{lined, regroup, same_counted, saved}
 use Rattle.irig_saved.proofs.Clean.{newline, counted_lacks, format_lacks, counted_clean}
 use Rattle.irig_saved.proofs.Sequences.{Both, both, first_stops, second_stops, behind_stops, determined, line_behind_stops}
 use Rattle.irig_saved.proofs.Carried.{carried, first_line_stops}
@@ -135,18 +135,15 @@ whole_lines w = both IsFormat (λ _. IsBody) format_lines body_lines w
 pub format_clean : (f : Kind × ℕ) → IsFormat f → Lacks 10 (format_line f)
 format_clean f h = format_lacks newline f.0 f.1 h
 
-small : (n : ℕ) → n ≤ 7 → IsNumber n
-small n h = omega (arith, h)
-
 format_words : (f : Kind × ℕ) → IsFormat f → AreWords (words_of_format f)
-format_words f h = (kind_is_word f.0, (number_is_word f.1 (small f.1 h), tt))
+format_words f h = (kind_is_word f.0, (number_is_word f.1 (small_is_number f.1 h), tt))
 
 same_format : (f g : Kind × ℕ) → IsFormat f → IsFormat g → format_line f ≡ format_line g → f ≡ g
 same_format f g hf hg e =
     let l = lined (codes "format") (codes "format") (words_of_format f) (words_of_format g) [] [] [] [] refl refl (format_words f hf) (format_words g hg)
     (ap (λ (l : List ℕ). text_of (l ∷ []) ++ []) e) in
     let kind = same_kind f.0 g.0 (ap (λ (ws : List (List ℕ)). get_or ws 0 []) l.words) in
-    let number = same_number f.1 g.1 (small f.1 hf) (small g.1 hg) (ap (λ (ws : List (List ℕ)). get_or ws 1 []) l.words) in
+    let number = same_number f.1 g.1 (small_is_number f.1 hf) (small_is_number g.1 hg) (ap (λ (ws : List (List ℕ)). get_or ws 1 []) l.words) in
     pair f.0 g.0 f.1 g.1 kind number where
       pair : (k l : Kind) (m n : ℕ) → k ≡ l → m ≡ n → (let p : Kind × ℕ = (k, m) in p) ≡ (l, n)
       pair k l m n kind number = ap₂ (λ x y. (let p : Kind × ℕ = (x, y) in p)) kind number
@@ -178,10 +175,6 @@ name_lines u = name_line u ∷ []
 
 abbrev IsNamed : Unit {0} → Type 0
 IsNamed u = Unit {0}
-
-saved : Kind → ℕ → ℕ → List (Option ℕ) → List Step → List Step → Saved
-saved kind expression cursor marks past future =
-    record { kind = kind; expression = expression; cursor = cursor; marks = marks; past = past; future = future }
 
 same_lines : (s : Saved) → saved_lines s ≡ both IsNamed (λ _. IsWhole) name_lines whole_lines
     (tt, ((s.kind, s.expression), (s.cursor, (s.marks, (s.past, s.future)))))

@@ -157,7 +157,7 @@ same_counted h xs ys r s hh hx hy e =
 abbrev pub IsPast : List ℕ → Type 0
 IsPast r = get_or r 0 0 ≡ 112
 
-mark_words : (x t : ℕ) → 32 < x → IsNumber t → AreWords ((x ∷ []) ∷ decimal t ∷ [])
+pub mark_words : (x t : ℕ) → 32 < x → IsNumber t → AreWords ((x ∷ []) ∷ decimal t ∷ [])
 mark_words x t high small = (byte_is_word x high, (number_is_word t small, tt))
 
 -- the line of a mark is not among those of later ones
@@ -192,7 +192,7 @@ same_marks x (Some a ∷ ms) (Some b ∷ ns) r s high n hm hn pr ps e =
 
 -- the whole
 
-saved : Kind → ℕ → ℕ → List (Option ℕ) → List Step → List Step → Saved
+unfoldable pub saved : Kind → ℕ → ℕ → List (Option ℕ) → List Step → List Step → Saved
 saved kind expression cursor marks past future =
     record { kind = kind; expression = expression; cursor = cursor; marks = marks; past = past; future = future }
 
