@@ -1,6 +1,5 @@
 -- Pulses, times and marks.
 pub mod Reversed
-pub mod Pulses
 pub mod PulsesAtTimes
 pub mod TouchedStretches
 pub mod Risings

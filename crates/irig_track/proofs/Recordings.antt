@@ -43,7 +43,7 @@ even-flipped t (x ∷ xs) = elim (three t x) [
   ]
 ]
 
-length-flipped_most : (t : ℕ) (xs : List ℕ) → length (flipped t xs) ≤ length xs + 1
+pub length-flipped_most : (t : ℕ) (xs : List ℕ) → length (flipped t xs) ≤ length xs + 1
 length-flipped_most t [] = omega arith
 length-flipped_most t (x ∷ xs) = elim (three t x) [
   | inl lt ↦ omega (arith, ap length (flip_low t x xs lt))

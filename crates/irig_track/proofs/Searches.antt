@@ -2,8 +2,6 @@
 use Rattle.std.proofs.Common.{◌≡◌, ℕ, suc, zero, ◌+◌, ◌-◌, ◌<◌, ◌≤◌, nat_le, Bool, true, false, cond, List, [], ◌∷◌, length, slice_get, Some, refl, ap}
 use Rattle.std.proofs.Common.{subst, arith, inl, inr}
 use Rattle.std.proofs.lemmas.Bool.{cases_lt, le-leb, le-ltb, lt-leb, lt-ltb}
--- as irig_edit names it
-pub use Rattle.std.proofs.lemmas.Bool.{cases_lt as below_or_not}
 use Rattle.irig_vcd.specs.declared.pulse.Pulse.{Pulse}
 use Rattle.irig_vcd.specs.Recording.{RisesFrom}
 use Rattle.irig_track.specs.Edges.{edges_of}
@@ -15,7 +13,7 @@ risen_yes t p ps h = ap (λ v. cond v 1 0 + risen_by t ps) (le-leb p.rise t h)
 risen_no : (t : ℕ) (p : Pulse) (ps : List Pulse) → t < p.rise → risen_by t (p ∷ ps) ≡ 0 + risen_by t ps
 risen_no t p ps h = ap (λ v. cond v 1 0 + risen_by t ps) (lt-leb p.rise t h)
 
-at_most_one : (v : Bool) (n : ℕ) → cond v 1 0 + n ≤ 1 + n
+pub at_most_one : (v : Bool) (n : ℕ) → cond v 1 0 + n ≤ 1 + n
 at_most_one true n = omega arith
 at_most_one false n = omega arith
 

@@ -2,6 +2,7 @@
 use Rattle.std.proofs.Common.{◌≡◌, ◌≤◌, ◌<◌, ◌+◌, ◌-◌, ◌^◌, ◌==◌, ◌||◌, ◌&&◌, not, ℕ, suc, zero, Bool, true, false, List, [], ◌∷◌, ◌++◌, length, take, drop}
 use Rattle.std.proofs.Common.{slice_get, get_or, Some, refl, ap, ap₂, sym, ◌∙◌, subst, arith, if◌then◌else◌}
 use Rattle.std.proofs.lemmas.List.{take_more}
+use Rattle.std.proofs.Math.Bool.{or-true}
 use Rattle.std.proofs.Math.Seq.{drop-nil}
 use Rattle.std.proofs.lemmas.Option.{slice_get_within, get_or_from_slice_get}
 use Rattle.std.proofs.lemmas.Bool.Decides.{nat_tests}
@@ -12,6 +13,7 @@ use Rattle.irig_vcd.specs.declared.pulse.Pulse.{Pulse}
 use Rattle.irig_track.specs.Edges.{edges_of, pulse, is_edge, has, replaced, without_between}
 use Rattle.irig_track.specs.Splices.{spliced, piece, CanSplice}
 use Rattle.irig_track.proofs.Laws.{edges_of-parts, is_edge-spliced, is_edge-joined}
+use Rattle.irig_track.proofs.RisingLists.{rises_right}
 use Rattle.irig_track.proofs.Sets.{has-append}
 use Rattle.irig_track.proofs.Places.{pulse_within}
 use Rattle.irig_track.proofs.Carried.{length-spliced}
@@ -21,11 +23,7 @@ use Rattle.irig_edit.specs.Edits.Conditions.{meets_next}
 use Rattle.irig_edit.specs.Edits.Becoming.{Becomes}
 use Rattle.irig_edit.specs.Session.Calls.Edit.{Split, Join, Force}
 use Rattle.irig_edit.proofs.StateLemmas.TouchedStretches.{pulse_after}
-use Rattle.irig_edit.proofs.EditLemmas.Replacements.{IsTrack-replaced, rises_without, piece-one}
-
-or-true : (v : Bool) → (v || true) ≡ true
-or-true true = refl
-or-true false = refl
+use Rattle.irig_edit.proofs.EditLemmas.Replacements.{IsTrack-replaced, piece-one}
 
 -- an edge of a piece is an edge of the whole
 pub member : (t at count : ℕ) (ps : List Pulse) → has t (edges_of (piece at count ps)) ≡ true → is_edge t ps ≡ true
@@ -202,7 +200,7 @@ joined s i j p q lawful first order last is_first is_last =
     let old = subst P cut rises in
     let Q : List ℕ → Type 0 = λ xs. RisesFrom (p.rise + 1) (p.fall ∷ xs) in
     let between = subst Q (regroup q mid after) old.1 in
-    (old.0, rises_without (p.rise + 1) (p.fall ∷ (edges_of mid ++ (q.rise ∷ []))) (q.fall ∷ after) between))
+    (old.0, rises_right (p.rise + 1) (p.fall ∷ (edges_of mid ++ (q.rise ∷ []))) (q.fall ∷ after) between))
     (omega (arith, low.1, first_top), (top, tt)) in (
       record { there = there; track = track },
       record {

@@ -4,10 +4,11 @@ use Rattle.irig_track.specs.Edges.{edges_of}
 use Rattle.irig_track.specs.Splices.{spliced, piece, CanSplice}
 use Rattle.irig_track.proofs.Laws.{is_edge-deleted}
 use Rattle.irig_track.proofs.Carried.{length-spliced}
+use Rattle.irig_track.proofs.RisingLists.{rises_right}
 use Rattle.irig_edit.specs.State.State.{State, IsState, with_pulses}
 use Rattle.irig_edit.specs.Edits.Becoming.{Becomes}
 use Rattle.irig_edit.specs.Session.Calls.Edit.{Delete}
-use Rattle.irig_edit.proofs.EditLemmas.Replacements.{IsTrack-replaced, rises_without}
+use Rattle.irig_edit.proofs.EditLemmas.Replacements.{IsTrack-replaced}
 
 pub deleted : (s : State) (i j cursor : ℕ) → IsState s → 1 ≤ i → i ≤ j → j ≤ length s.pulses
     → cursor ≡ min i (length s.pulses - (j - i + 1))
@@ -15,7 +16,7 @@ pub deleted : (s : State) (i j cursor : ℕ) → IsState s → 1 ≤ i → i ≤
 deleted s i j cursor lawful first order last is =
     let there : (i - 1) + (j + 1 - i) ≤ length s.pulses = omega arith in
     let track = IsTrack-replaced s.micros (i - 1) (j + 1 - i) [] s.pulses lawful.track there (omega (arith, lawful.track.few))
-    (λ k rises. rises_without k (edges_of (piece (i - 1) (j + 1 - i) s.pulses)) _ rises) tt in
+    (λ k rises. rises_right k (edges_of (piece (i - 1) (j + 1 - i) s.pulses)) _ rises) tt in
     let left : length s.pulses - (j - i + 1) ≡ length (spliced (i - 1) (j + 1 - i) [] s.pulses) =
     omega (arith, length-spliced s.pulses [] (i - 1) (j + 1 - i) there) in
     let place : cursor ≡ min i (length (spliced (i - 1) (j + 1 - i) [] s.pulses)) = is ∙ ap (min i) left in (

@@ -2,7 +2,7 @@
 use Rattle.std.proofs.Common.{◌≡◌, ◌≤◌, ◌<◌, ◌+◌, ◌-◌, ◌*◌, ◌%◌, ◌==◌, ◌||◌, ◌&&◌, ℕ, suc, zero, Bool, true, false, cond, List, ◌∷◌, length, take, drop, map}
 use Rattle.std.proofs.Common.{get_or, slice_get, unwrap_or, Some, None, refl, ap, ap₂, sym, ◌∙◌, arith}
 use Rattle.std.specs.List.{range_with_len}
-use Rattle.std.proofs.lemmas.Bool.{eqb-true}
+use Rattle.std.proofs.lemmas.Bool.{and_parts, eqb-true}
 use Rattle.std.proofs.lemmas.Bool.Decides.{nat_tests}
 use Rattle.std.proofs.lemmas.List.{drop_more}
 use Rattle.std.proofs.lemmas.List.FromFn.{get_or-map-range_with_len}
@@ -18,7 +18,6 @@ use Rattle.irig_codes.specs.Encoding.{encoded, is_identifier, is_set}
 use Rattle.irig_codes.specs.Fields.{fits_in}
 use Rattle.irig_codes.specs.Format.{FormatView, interval_of}
 use Rattle.irig_codes.specs.Width.{class_of, is_in_step, nominal_of}
-use Rattle.irig_codes.proofs.Slots.{both}
 use Rattle.irig_codes.proofs.RoundTrip.{decoded-encoded}
 use Rattle.irig_index.specs.declared.record.Cause.TheVariants.{Step, Class}
 use Rattle.irig_index.specs.declared.record.Verdict.TheVariants.{Read}
@@ -160,8 +159,8 @@ module _ (f : FormatView) (start k : ℕ) (es : List Element) (g : Fields) (tell
   pub none_marks : (e : ℕ) → 1 ≤ e → e < 100
       → is_marker f (element_pulse f start k es (e - 1)) (element_pulse f start k es e) ≡ true → ⊥
   none_marks e behind within is =
-      let ends = both (is_position (class_at f (element_pulse f start k es (e - 1)))) _ is in
-      let begins = both (is_position (class_at f (element_pulse f start k es e))) _ ends.1 in
+      let ends = and_parts (is_position (class_at f (element_pulse f start k es (e - 1)))) _ is in
+      let begins = and_parts (is_position (class_at f (element_pulse f start k es e))) _ ends.1 in
       let here = ninth e behind within begins.0 in
       let before = ninth (e - 1) (omega (arith, here)) (omega arith) ends.0 in
       omega (arith, here, before, behind)

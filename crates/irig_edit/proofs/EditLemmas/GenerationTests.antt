@@ -1,11 +1,11 @@
 -- What the tests of a generation of frames say.
 use Rattle.std.proofs.Common.{◌≡◌, ◌≤◌, ◌<◌, ◌+◌, ◌-◌, ◌*◌, ◌^◌, ℕ, Bool, true, false, ◌&&◌, ◌⊎◌, inl, inr, nat_le, length, Some, None, ◌/◌, if◌then◌else◌}
 use Rattle.std.proofs.Common.{refl, subst, arith}
+use Rattle.std.proofs.lemmas.Bool.{and_parts, cases_lt, le-leb, lt-leb}
 use Rattle.std.proofs.lemmas.Bool.Decides.{nat_tests}
 use Rattle.std.proofs.lemmas.Nat.{pow_pos}
 use Rattle.std.proofs.Math.Nat.{div-eq_of_lt, div-lt_iff_lt-mul}
 use Rattle.irig_codes.specs.Format.{control_count_of}
-use Rattle.irig_track.proofs.Searches.{below_or_not}
 use Rattle.irig_edit.specs.Edits.Conditions.{are_frames, are_too_many, is_wide}
 use Rattle.irig_edit.specs.Edits.Regenerated.{frames_end, rising_before, rising_in}
 use Rattle.irig_edit.specs.State.State.{State}
@@ -16,15 +16,11 @@ pub end_said : (v : Bool) (n m : ℕ) → (if v then Some n else None) ≡ Some 
 end_said true n m h = let same : n ≡ m = cc in (refl, same)
 end_said false n m h = absurd (cc)
 
-and-both : (v w : Bool) → (v && w) ≡ true → (v ≡ true) × (w ≡ true)
-and-both true w h = (refl, h)
-and-both false w h = let bad : false ≡ true = h in cc
-
 pub frames_said : (start frames : ℕ) (s : State) → are_frames start frames s ≡ true
     → (1 ≤ frames) × (frames ≤ 10000) × (frames_end s.format start frames ≤ s.micros)
 frames_said start frames s h =
-    let some = and-both (nat_le 1 frames) (nat_le frames 10000 && nat_le (frames_end s.format start frames) s.micros) h in
-    let few = and-both (nat_le frames 10000) (nat_le (frames_end s.format start frames) s.micros) some.1 in
+    let some = and_parts (nat_le 1 frames) (nat_le frames 10000 && nat_le (frames_end s.format start frames) s.micros) h in
+    let few = and_parts (nat_le frames 10000) (nat_le (frames_end s.format start frames) s.micros) some.1 in
     let one : 1 ≤ frames = grind (arith, nat_tests) in
     let most : frames ≤ 10000 = grind (arith, nat_tests) in
     let within : frames_end s.format start frames ≤ s.micros = grind (arith, nat_tests) in
@@ -49,15 +45,9 @@ too_many_no start frames at end s is_at is_end few =
     omega (arith, sum, is_at, is_end, few) in
     grind (arith, nat_tests)
 
-test_true : (a b : ℕ) → a ≤ b → nat_le a b ≡ true
-test_true a b h = grind (arith, nat_tests)
-
-test_false : (a b : ℕ) → b < a → nat_le a b ≡ false
-test_false a b h = grind (arith, nat_tests)
-
 -- a number that is shifted away
 wide_yes : (v p : ℕ) → 0 < v / p → p ≤ v
-wide_yes v p some = by_case (below_or_not v p) where
+wide_yes v p some = by_case (cases_lt v p) where
   by_case : (v < p) ⊎ (p ≤ v) → p ≤ v
   by_case (inl less) = absurd (let none : v / p ≡ 0 = div-eq_of_lt less in omega (arith, none, some))
   by_case (inr all) = all
@@ -69,10 +59,10 @@ pub is_wide_yes : (control k : ℕ) (s : State) → k ≡ control_count_of s.for
 is_wide_yes control k s same some =
     let P : ℕ → Type 0 = λ n. 2 ^ n ≤ control in
     let wide : 2 ^ control_count_of s.format ≤ control = subst P same (wide_yes control (2 ^ k) some) in
-    test_true (2 ^ control_count_of s.format) control wide
+    le-leb (2 ^ control_count_of s.format) control wide
 
 pub narrow : (control k : ℕ) (s : State) → k ≡ control_count_of s.format → control / 2 ^ k ≤ 0 → control < 2 ^ control_count_of s.format
 narrow control k s same none = let P : ℕ → Type 0 = λ n. control < 2 ^ n in subst P same (wide_no control k none)
 
 pub is_wide_no : (control k : ℕ) (s : State) → k ≡ control_count_of s.format → control / 2 ^ k ≤ 0 → is_wide control s ≡ false
-is_wide_no control k s same none = test_false (2 ^ control_count_of s.format) control (narrow control k s same none)
+is_wide_no control k s same none = lt-leb (2 ^ control_count_of s.format) control (narrow control k s same none)

@@ -1,6 +1,7 @@
 -- Pulses that are moved in time, and the marks with them.
-use Rattle.std.proofs.Common.{◌≡◌, ◌≤◌, ◌<◌, ◌+◌, ◌-◌, ℕ, ℤ, suc, zero, Bool, true, false, ◌&&◌, ◌||◌, inl, inr, nat_lt, nat_le, List, [], ◌∷◌, length, take}
+use Rattle.std.proofs.Common.{◌≡◌, ◌≤◌, ◌<◌, ◌+◌, ◌-◌, ℕ, ℤ, suc, zero, Bool, true, false, ◌&&◌, inl, inr, nat_lt, nat_le, List, [], ◌∷◌, length, take}
 use Rattle.std.proofs.Common.{drop, slice_get, get_or, Some, refl, ap, sym, ◌∙◌, subst, arith}
+use Rattle.std.proofs.lemmas.Bool.{cases_lt, or_parts}
 use Rattle.std.proofs.lemmas.Bool.Decides.{nat_tests}
 use Rattle.irig_vcd.specs.Recording.{RisesFrom}
 use Rattle.irig_vcd.specs.declared.pulse.Pulse.{Pulse}
@@ -8,7 +9,6 @@ use Rattle.irig_track.specs.Edges.{edges_of, pulse}
 use Rattle.irig_track.specs.Free.{following, first_or}
 use Rattle.irig_track.specs.Shifts.{CanShift, ahead, back}
 use Rattle.irig_track.proofs.Allowed.{shift_stands, stands_shift}
-use Rattle.irig_track.proofs.Searches.{below_or_not}
 use Rattle.irig_track.proofs.Places.{first_or-drop}
 use Rattle.irig_track.proofs.PulsesBetween.{following-last}
 use Rattle.irig_edit.specs.State.State.{State, IsState}
@@ -54,15 +54,11 @@ nothing_behind : (j : ℕ) (s : State) → length s.pulses ≤ j
     → first_or (s.micros + 1) (edges_of (drop j s.pulses)) ≡ s.micros + 1
 nothing_behind j s all = ap (λ (ps : List Pulse). first_or (s.micros + 1) (edges_of ps)) (all_dropped j s.pulses all)
 
-or_split : (v w : Bool) → (v || w) ≡ false → (v ≡ false) × (w ≡ false)
-or_split true w h = let bad : true ≡ false = h in cc
-or_split false w h = (refl, h)
-
 -- what does not leave the track
 stays : (i j : ℕ) (d : ℤ) (s : State) → leaves i j d s ≡ false
     → (back d ≤ (pulse_of i s).rise + ahead d) × (moved_time d (pulse_of j s).fall ≤ s.micros)
 stays i j d s h =
-    let both = or_split (nat_lt ((pulse_of i s).rise + ahead d) (back d)) (nat_lt s.micros (moved_time d (pulse_of j s).fall)) h in
+    let both = or_parts (nat_lt ((pulse_of i s).rise + ahead d) (back d)) (nat_lt s.micros (moved_time d (pulse_of j s).fall)) h in
     let one = both.0 in
     let two = both.1 in
     (grind (arith, nat_tests), grind (arith, nat_tests))
@@ -70,7 +66,7 @@ stays i j d s h =
 -- before the moved pulses time is free, or it is not
 early_fits : (i prev rise start on off : ℕ) → off ≤ rise + on → (1 < i → start ≡ prev + 1) → (i ≤ 1 → start ≡ 0)
     → (nat_lt 1 i && nat_le (rise + on - off) prev) ≡ false → start + off ≤ rise + on
-early_fits i prev rise start on off zero_stays more none free = elim (below_or_not 1 i) [
+early_fits i prev rise start on off zero_stays more none free = elim (cases_lt 1 i) [
   | inl lt ↦ (
       let there : nat_lt 1 i ≡ true = grind (arith, nat_tests) in
       let behind : nat_le (rise + on - off) prev ≡ false = (rw there at free) in
@@ -81,7 +77,7 @@ early_fits i prev rise start on off zero_stays more none free = elim (below_or_n
 
 early_free : (i prev rise start on off : ℕ) → off ≤ rise + on → (1 < i → start ≡ prev + 1)
     → start + off ≤ rise + on → (nat_lt 1 i && nat_le (rise + on - off) prev) ≡ false
-early_free i prev rise start on off zero_stays more fits = elim (below_or_not 1 i) [
+early_free i prev rise start on off zero_stays more fits = elim (cases_lt 1 i) [
   | inl lt ↦ (
       let there : nat_lt 1 i ≡ true = grind (arith, nat_tests) in
       let apart : prev < rise + on - off = omega (arith, more lt) in
@@ -93,7 +89,7 @@ early_free i prev rise start on off zero_stays more fits = elim (below_or_not 1 
 -- so after them
 late_fits : (j count next fall micros high on off : ℕ) → off ≤ fall + on → fall + on - off ≤ micros → (j < count → high ≡ next)
     → (count ≤ j → high ≡ micros + 1) → (nat_lt j count && nat_le next (fall + on - off)) ≡ false → fall + on < high + off
-late_fits j count next fall micros high on off zero_stays within more none free = elim (below_or_not j count) [
+late_fits j count next fall micros high on off zero_stays within more none free = elim (cases_lt j count) [
   | inl lt ↦ (
       let there : nat_lt j count ≡ true = grind (arith, nat_tests) in
       let before : nat_le next (fall + on - off) ≡ false = (rw there at free) in
@@ -104,7 +100,7 @@ late_fits j count next fall micros high on off zero_stays within more none free 
 
 late_free : (j count next fall high on off : ℕ) → off ≤ fall + on → (j < count → high ≡ next)
     → fall + on < high + off → (nat_lt j count && nat_le next (fall + on - off)) ≡ false
-late_free j count next fall high on off zero_stays more fits = elim (below_or_not j count) [
+late_free j count next fall high on off zero_stays more fits = elim (cases_lt j count) [
   | inl lt ↦ (
       let there : nat_lt j count ≡ true = grind (arith, nat_tests) in
       let apart : fall + on - off < next = omega (arith, more lt) in
@@ -166,7 +162,7 @@ can_shift i j d s lawful first order last inside free =
     let same : j - 1 + 1 ≡ j = omega arith in
     let low = stays i j d s inside in
     let between = rise_before i j s lawful first order last in
-    let sides = or_split (nat_lt 1 i && nat_le (moved_time d (pulse_of i s).rise) (pulse_of (i - 1) s).fall) (meets_next j (moved_time d (pulse_of j s).fall) s)
+    let sides = or_parts (nat_lt 1 i && nat_le (moved_time d (pulse_of i s).rise) (pulse_of (i - 1) s).fall) (meets_next j (moved_time d (pulse_of j s).fall) s)
     free in
     let end : first_or (s.micros + 1) (edges_of (drop (j - 1 + 1) s.pulses)) ≡ first_or (s.micros + 1) (edges_of (drop j s.pulses)) =
     ap (λ n. first_or (s.micros + 1) (edges_of (drop n s.pulses))) same in

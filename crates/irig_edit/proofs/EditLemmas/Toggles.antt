@@ -1,12 +1,12 @@
 -- When the level can be inverted, and what comes of it.
-use Rattle.std.proofs.Common.{◌≡◌, ◌≤◌, ◌<◌, ◌+◌, ◌-◌, ◌^◌, ◌==◌, nat_lt, cond, ℕ, List, [], ◌∷◌, Bool, true, false, length, refl, ap, ◌∙◌, arith}
+use Rattle.std.proofs.Common.{◌≡◌, ◌≤◌, ◌<◌, ◌+◌, ◌-◌, ◌^◌, ℕ, Bool, true, false, length, refl, ap, ◌∙◌, arith}
 use Rattle.std.proofs.lemmas.Bool.Decides.{nat_tests}
 use Rattle.irig_track.specs.Edges.{edges_of, has, is_edge}
 use Rattle.irig_track.specs.Splices.{risen_by}
 use Rattle.irig_track.specs.Toggles.{CanToggle, flipped}
 use Rattle.irig_track.proofs.Laws.{has-toggled}
 use Rattle.irig_vcd.proofs.PulseEdges.{length-edges_of}
-use Rattle.irig_track.proofs.Recordings.{can_toggle_room, can_toggle_first, can_toggle_second, cannot_toggle}
+use Rattle.irig_track.proofs.Recordings.{can_toggle_room, can_toggle_first, can_toggle_second, cannot_toggle, length-flipped_most}
 use Rattle.irig_edit.specs.Edits.Becoming.{Becomes}
 use Rattle.irig_edit.specs.Session.Calls.Edit.{Invert}
 use Rattle.irig_edit.specs.Changes.Single.{turned_single}
@@ -57,20 +57,11 @@ toggled_becomes a b place s is can count within =
       there = within;
     }
 
-pub length-flipped : (t : ℕ) (xs : List ℕ) → length (flipped t xs) ≤ length xs + 1
-length-flipped t [] = omega arith
-length-flipped t (x ∷ xs) = by_tests (nat_lt t x) (x == t) (length-flipped t xs) where
-  by_tests : (below same : Bool) → length (flipped t xs) ≤ length xs + 1
-      → length (cond below (t ∷ x ∷ xs) (cond same xs (x ∷ flipped t xs))) ≤ length (x ∷ xs) + 1
-  by_tests true same rest = omega arith
-  by_tests false true rest = omega arith
-  by_tests false false rest = omega arith
-
 -- at most one more pulse
 pub length-toggled : (s : State) (a b : ℕ) → CanToggle s.micros a b s.pulses → length (turned_single s (Toggle a b)).0.pulses ≤ length s.pulses + 1
 length-toggled s a b can =
     let edges = edges_of-toggled s.micros a b s.pulses can in
-    let first = length-flipped a (edges_of s.pulses) in
-    let both = length-flipped b (flipped a (edges_of s.pulses)) in
+    let first = length-flipped_most a (edges_of s.pulses) in
+    let both = length-flipped_most b (flipped a (edges_of s.pulses)) in
     let long = ap length edges in
     omega (arith, length-edges_of s.pulses, length-edges_of (turned_single s (Toggle a b)).0.pulses)

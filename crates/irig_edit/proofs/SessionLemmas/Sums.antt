@@ -13,65 +13,35 @@ use Rattle.irig_journal.specs.Laws.Turns.{ways_back-cons}
 use Rattle.irig_journal.specs.Turns.{FitAll, backs, left_by, ways_back}
 use Rattle.irig_saved.specs.declared.change.Change.{Change}
 use Rattle.irig_edit.specs.Changes.Delta.{Fits, gathered, singles_of, turned, weight_of}
-use Rattle.irig_saved.specs.declared.change.Change.TheVariants.{One, Group}
+use Rattle.irig_saved.specs.declared.change.Change.TheVariants.{Group}
 use Rattle.irig_edit.specs.Session.Keeping.{exchange_across, exchange_back, kept_back}
 use Rattle.irig_edit.specs.Session.Kept.{Exchange, together}
 use Rattle.irig_edit.specs.Changes.Laws.Delta.{Fits-turned, IsState-turned, turned-turned}
-use Rattle.irig_edit.specs.Changes.Laws.Groups.{turned-gathered, weight_of-gathered}
-use Rattle.irig_edit.specs.Changes.Looks.{both, looks_along, looks_by, looks_of}
+use Rattle.irig_edit.specs.Changes.Laws.Groups.{singles_state, turned-gathered, weight_of-gathered}
+use Rattle.irig_edit.specs.Changes.Laws.Looks.{both-none, looks_along-append, looks_along-singles}
+use Rattle.irig_edit.specs.Changes.Looks.{both, looks_along, looks_of}
 use Rattle.irig_saved.specs.declared.single.Single.{Single}
 use Rattle.irig_edit.specs.Changes.Single.{turned_single}
 use Rattle.irig_edit.specs.State.State.{State, IsState}
 
 -- sums of bounds
-both-zero : (x : Option ℕ) → both x (Some 0) ≡ x
-both-zero None = refl
-both-zero (Some n) = let same : n + 0 ≡ n = omega arith in ap (λ m. Some m) same
-
-zero-both : (x : Option ℕ) → both (Some 0) x ≡ x
-zero-both None = refl
-zero-both (Some n) = let same : 0 + n ≡ n = omega arith in ap (λ m. Some m) same
-
 both-swap : (x y : Option ℕ) → both x y ≡ both y x
 both-swap None None = refl
 both-swap None (Some n) = refl
 both-swap (Some m) None = refl
 both-swap (Some m) (Some n) = let same : m + n ≡ n + m = omega arith in ap (λ k. Some k) same
 
-both-both : (x y z : Option ℕ) → both (both x y) z ≡ both x (both y z)
-both-both None y z = refl
-both-both (Some l) None z = refl
-both-both (Some l) (Some m) None = refl
-both-both (Some l) (Some m) (Some n) = let same : l + m + n ≡ l + (m + n) = omega arith in ap (λ k. Some k) same
-
--- the bounds of single changes, first the one and then the others
-looks_along-append : (s : State) (ds es : List Single)
-    → looks_along s (ds ++ es) ≡ both (looks_along s ds) (looks_along (left_by turned_single s ds) es)
-looks_along-append s [] es = sym (zero-both (looks_along s es))
-looks_along-append s (d ∷ ds) es =
-    let after = (turned_single s d).0 in
-    ap (both (looks_by d after.pulses)) (looks_along-append after ds es)
-    ∙ sym (both-both (looks_by d after.pulses) (looks_along after ds) (looks_along (left_by turned_single after ds) es))
-
 abbrev all_singles : List Change → List Single
 all_singles ds = flat_map singles_of ds
 
-singles_state : (s : State) (d : Change) → (turned s d).0 ≡ left_by turned_single s (singles_of d)
-singles_state s (One d) = refl
-singles_state s (Group ds) = refl
-
-looks_singles : (s : State) (d : Change) → looks_of s d ≡ looks_along s (singles_of d)
-looks_singles s (One d) = sym (both-zero (looks_of s (One d)))
-looks_singles s (Group ds) = refl
-
 looks_alone : (s : State) (d : Change) → looks_of s d ≡ looks_along s (singles_of d ++ [])
-looks_alone s d = looks_singles s d ∙ ap (looks_along s) (sym (append-nil (singles_of d)))
+looks_alone s d = sym (looks_along-singles s d) ∙ ap (looks_along s) (sym (append-nil (singles_of d)))
 
 -- the bound of a change, and of others after it
 pub looks_first : (s : State) (d : Change) (rest : List Single)
     → both (looks_of s d) (looks_along (turned s d).0 rest) ≡ looks_along s (singles_of d ++ rest)
 looks_first s d rest =
-    ap₂ (λ (x : Option ℕ) (t : State). both x (looks_along t rest)) (looks_singles s d) (singles_state s d)
+    ap₂ (λ (x : Option ℕ) (t : State). both x (looks_along t rest)) (sym (looks_along-singles s d)) (singles_state s d)
     ∙ sym (looks_along-append s (singles_of d) rest)
 
 changes_lead_back : LeadsBack IsState Fits turned
@@ -146,7 +116,7 @@ sum_forth : (k : ℕ) (s : State) (steps : List (Step Change)) → k < length st
     (all_singles (ways_back turned s (changes_of (take (suc k) steps))))
 sum_forth k s [] there is fit = absurd (omega (arith, there))
 sum_forth zero s (near ∷ steps) there is fit =
-    sym (both-zero (looks_of (turned s near.change).0 (turned s near.change).1)) ∙ forth_along s near.change [] is fit.0 tt
+    sym (both-none (looks_of (turned s near.change).0 (turned s near.change).1)) ∙ forth_along s near.change [] is fit.0 tt
 sum_forth (suc k) s (near ∷ steps) there is fit =
     let after = (turned s near.change).0 in
     ap (both (looks_of after (turned s near.change).1)) (sum_forth k after steps (omega (arith, there)) (IsState-turned s near.change is fit.0) fit.1)

@@ -1,36 +1,32 @@
 -- Whether a pulse meets a time, and what lies before the time and after it.
-use Rattle.std.proofs.Common.{◌≡◌, ◌≤◌, ◌<◌, ◌+◌, ◌-◌, ℕ, suc, zero, Bool, true, false, ◌&&◌, ◌||◌, ◌⊎◌, inl, inr, nat_lt, nat_le, List, [], ◌∷◌, length, take}
+use Rattle.std.proofs.Common.{◌≡◌, ◌≤◌, ◌<◌, ◌+◌, ◌-◌, ℕ, suc, zero, Bool, true, false, ◌&&◌, ◌⊎◌, inl, inr, nat_lt, nat_le, List, [], ◌∷◌, length, take}
 use Rattle.std.proofs.Common.{drop, slice_get, Some, refl, ap, sym, ◌∙◌, subst, arith}
 use Rattle.std.proofs.Math.Bool.{or-false}
+use Rattle.std.proofs.lemmas.Bool.{and_right, cases_lt, or_parts}
 use Rattle.std.proofs.lemmas.Bool.Decides.{nat_tests}
 use Rattle.std.specs.List.{list_any}
 use Rattle.irig_vcd.specs.Recording.{RisesFrom}
 use Rattle.irig_vcd.specs.declared.pulse.Pulse.{Pulse}
 use Rattle.irig_track.specs.Edges.{edges_of, Under}
-use Rattle.irig_track.proofs.Searches.{below_or_not}
 use Rattle.irig_edit.specs.Edits.Conditions.{is_met}
 use Rattle.irig_edit.specs.Edits.Regenerated.{rising_before}
 use Rattle.irig_edit.specs.State.State.{State, IsState}
-use Rattle.irig_edit.proofs.StateLemmas.Risings.{before_yes, before_no, none_before, and-false}
+use Rattle.irig_edit.proofs.StateLemmas.Risings.{before_yes, before_no, none_before}
 
 -- a pulse rises before a time, and does not fall before it
 abbrev pub meets_time : ℕ → Pulse → Bool
 meets_time t p = nat_lt p.rise t && nat_le t p.fall
 
-or-both : (v w : Bool) → (v || w) ≡ false → (v ≡ false) × (w ≡ false)
-or-both true w h = let bad : true ≡ false = h in cc
-or-both false w h = (refl, h)
-
 met_no : (t : ℕ) (p : Pulse) → t ≤ p.rise → meets_time t p ≡ false
 met_no t p h = let no : nat_lt p.rise t ≡ false = grind (arith, nat_tests) in rw no refl
 
 met_ended : (t : ℕ) (p : Pulse) → p.fall < t → meets_time t p ≡ false
-met_ended t p h = let no : nat_le t p.fall ≡ false = grind (arith, nat_tests) in and-false (nat_lt p.rise t) no
+met_ended t p h = let no : nat_le t p.fall ≡ false = grind (arith, nat_tests) in and_right (nat_lt p.rise t) (nat_le t p.fall) no
 
 -- if none of the pulses rises before a time, none meets it
 pub met_none : (t : ℕ) (ps : List Pulse) → length (rising_before t ps) ≤ 0 → list_any (meets_time t) ps ≡ false
 met_none t [] none = refl
-met_none t (p ∷ ps) none = by_case (below_or_not p.rise t) (met_none t ps) where
+met_none t (p ∷ ps) none = by_case (cases_lt p.rise t) (met_none t ps) where
   Few : List Pulse → Type 0
   Few qs = length qs ≤ 0
 
@@ -43,7 +39,7 @@ met_none t (p ∷ ps) none = by_case (below_or_not p.rise t) (met_none t ps) whe
 pub met_last : (t low n : ℕ) (q : Pulse) (ps : List Pulse) → RisesFrom low (edges_of ps) → length (rising_before t ps) ≡ suc n
     → slice_get ps n ≡ Some q → list_any (meets_time t) ps ≡ nat_le t q.fall
 met_last t low n q [] h count is = absurd (omega (arith, count))
-met_last t low zero q (p ∷ ps) h count is = by_case (below_or_not p.rise t) where
+met_last t low zero q (p ∷ ps) h count is = by_case (cases_lt p.rise t) where
   by_case : (p.rise < t) ⊎ (t ≤ p.rise) → list_any (meets_time t) (p ∷ ps) ≡ nat_le t q.fall
   by_case (inl early) =
       let yes : nat_lt p.rise t ≡ true = grind (arith, nat_tests) in
@@ -56,7 +52,7 @@ met_last t low zero q (p ∷ ps) h count is = by_case (below_or_not p.rise t) wh
       let P : List Pulse → Type 0 = λ qs. length qs ≡ suc zero in
       let none = none_before t p.rise (p ∷ ps) late (omega arith, h.1) in
       absurd (let zero_long = subst P none count in omega (arith, zero_long))
-met_last t low (suc n) q (p ∷ ps) h count is = by_case (below_or_not p.rise t) (below_or_not p.fall t) (λ more. met_last t (p.fall + 1) n q ps h.1.1 more is)
+met_last t low (suc n) q (p ∷ ps) h count is = by_case (cases_lt p.rise t) (cases_lt p.fall t) (λ more. met_last t (p.fall + 1) n q ps h.1.1 more is)
   where
     P : List Pulse → Type 0
     P qs = length qs ≡ suc (suc n)
@@ -81,8 +77,8 @@ pub before_under : (t low : ℕ) (ps : List Pulse) → RisesFrom low (edges_of p
     → Under t (edges_of (take (length (rising_before t ps)) ps))
 before_under t low [] h free = tt
 before_under t low (p ∷ ps) h free =
-    by_case (below_or_not p.rise t) (below_or_not p.fall t)
-    (before_under t (p.fall + 1) ps h.1.1 (or-both (meets_time t p) (list_any (meets_time t) ps) free).1) where
+    by_case (cases_lt p.rise t) (cases_lt p.fall t)
+    (before_under t (p.fall + 1) ps h.1.1 (or_parts (meets_time t p) (list_any (meets_time t) ps) free).1) where
       Falls : List Pulse → Type 0
       Falls qs = Under t (edges_of (take (length (rising_before t qs)) qs))
 
@@ -92,7 +88,7 @@ before_under t low (p ∷ ps) h free =
           let yes : nat_lt p.rise t ≡ true = grind (arith, nat_tests) in
           let too : nat_le t p.fall ≡ true = grind (arith, nat_tests) in
           let met : meets_time t p ≡ true = rw yes (rw too refl) in
-          let free_here = (or-both (meets_time t p) (list_any (meets_time t) ps) free).0 in
+          let free_here = (or_parts (meets_time t p) (list_any (meets_time t) ps) free).0 in
           let bad : true ≡ false = sym met ∙ free_here in
           cc
       by_case (inr late) _ rest = rw (none_before t p.rise (p ∷ ps) late (omega arith, h.1)) tt
@@ -100,7 +96,7 @@ before_under t low (p ∷ ps) h free =
 -- the others rise from it on
 pub behind_rises : (t low : ℕ) (ps : List Pulse) → RisesFrom low (edges_of ps) → RisesFrom t (edges_of (drop (length (rising_before t ps)) ps))
 behind_rises t low [] h = tt
-behind_rises t low (p ∷ ps) h = by_case (below_or_not p.rise t) (behind_rises t (p.fall + 1) ps h.1.1) where
+behind_rises t low (p ∷ ps) h = by_case (cases_lt p.rise t) (behind_rises t (p.fall + 1) ps h.1.1) where
   Rises : List Pulse → Type 0
   Rises qs = RisesFrom t (edges_of (drop (length (rising_before t qs)) qs))
 

@@ -1,12 +1,12 @@
 -- The pulses that rise before a time, and those that rise in a stretch of time.
-use Rattle.std.proofs.Common.{◌≡◌, ◌≤◌, ◌<◌, ◌+◌, ◌-◌, ℕ, Bool, true, false, ◌&&◌, ◌⊎◌, inl, inr, nat_lt, nat_le, List, [], ◌∷◌, length, refl, ap, ◌∙◌, subst}
+use Rattle.std.proofs.Common.{◌≡◌, ◌≤◌, ◌<◌, ◌+◌, ◌-◌, ℕ, true, false, ◌⊎◌, inl, inr, nat_lt, nat_le, List, [], ◌∷◌, length, refl, ap, ◌∙◌, subst}
 use Rattle.std.proofs.Common.{arith}
+use Rattle.std.proofs.lemmas.Bool.{and_right, cases_lt}
 use Rattle.std.proofs.lemmas.Bool.Decides.{nat_tests}
 use Rattle.irig_vcd.specs.Recording.{RisesFrom}
 use Rattle.irig_vcd.specs.declared.pulse.Pulse.{Pulse}
 use Rattle.irig_track.specs.Edges.{edges_of}
 use Rattle.irig_track.specs.Splices.{piece, risen_by}
-use Rattle.irig_track.proofs.Searches.{below_or_not}
 use Rattle.irig_edit.specs.Edits.Regenerated.{rising_before, rising_in}
 
 -- one more pulse that rises before a time, or not
@@ -25,14 +25,10 @@ in_yes s e p ps h i =
     let too : nat_lt p.rise e ≡ true = grind (arith, nat_tests) in
     rw yes (rw too refl)
 
-pub and-false : (v : Bool) {w : Bool} → w ≡ false → (v && w) ≡ false
-and-false true h = h
-and-false false h = refl
-
 in_late : (s e : ℕ) (p : Pulse) (ps : List Pulse) → e ≤ p.rise → rising_in s e (p ∷ ps) ≡ rising_in s e ps
 in_late s e p ps h =
     let no : nat_lt p.rise e ≡ false = grind (arith, nat_tests) in
-    rw (and-false (nat_le s p.rise) no) refl
+    rw (and_right (nat_le s p.rise) (nat_lt p.rise e) no) refl
 
 -- of pulses that rise from a time on none rises before it
 pub none_before : (t low : ℕ) (ps : List Pulse) → t ≤ low → RisesFrom low (edges_of ps) → rising_before t ps ≡ []
@@ -49,7 +45,7 @@ none_in s e low (p ∷ ps) le h =
 pub before_end : (s e : ℕ) (ps : List Pulse) → s ≤ e
     → length (rising_before s ps) + length (rising_in s e ps) ≡ length (rising_before e ps)
 before_end s e [] le = refl
-before_end s e (p ∷ ps) le = by_case (below_or_not p.rise s) (below_or_not p.rise e) (before_end s e ps le) where
+before_end s e (p ∷ ps) le = by_case (cases_lt p.rise s) (cases_lt p.rise e) (before_end s e ps le) where
   Same : List Pulse → Type 0
   Same qs = length (rising_before s qs) + length (rising_in s e qs) ≡ length (rising_before e qs)
 
@@ -63,7 +59,7 @@ before_end s e (p ∷ ps) le = by_case (below_or_not p.rise s) (below_or_not p.r
 pub piece_in : (s e low : ℕ) (ps : List Pulse) → s ≤ e → RisesFrom low (edges_of ps)
     → piece (length (rising_before s ps)) (length (rising_in s e ps)) ps ≡ rising_in s e ps
 piece_in s e low [] le h = refl
-piece_in s e low (p ∷ ps) le h = by_case (below_or_not p.rise s) (below_or_not p.rise e) (piece_in s e (p.fall + 1) ps le h.1.1) where
+piece_in s e low (p ∷ ps) le h = by_case (cases_lt p.rise s) (cases_lt p.rise e) (piece_in s e (p.fall + 1) ps le h.1.1) where
   Same : List Pulse → Type 0
   Same qs = piece (length (rising_before s qs)) (length (rising_in s e qs)) qs ≡ rising_in s e qs
 
@@ -81,7 +77,7 @@ piece_in s e low (p ∷ ps) le h = by_case (below_or_not p.rise s) (below_or_not
 -- how many rise at or before the time before a time
 pub risen-before : (t : ℕ) (ps : List Pulse) → 0 < t → risen_by (t - 1) ps ≡ length (rising_before t ps)
 risen-before t [] some = refl
-risen-before t (p ∷ ps) some = by_case (below_or_not p.rise t) (risen-before t ps some) where
+risen-before t (p ∷ ps) some = by_case (cases_lt p.rise t) (risen-before t ps some) where
   by_case : (p.rise < t) ⊎ (t ≤ p.rise) → risen_by (t - 1) ps ≡ length (rising_before t ps) → risen_by (t - 1) (p ∷ ps) ≡ length (rising_before t (p ∷ ps))
   by_case (inl early) rest =
       let yes : nat_le p.rise (t - 1) ≡ true = grind (arith, nat_tests) in

@@ -1,7 +1,8 @@
 -- A stretch is touched if a pulse rises at or before its end and falls at or after its begin.
 use Rattle.std.proofs.Common.{◌≡◌, ◌≤◌, ◌<◌, ◌+◌, ◌-◌, ℕ, suc, Bool, true, false, not, ◌&&◌, ◌||◌, ◌⊎◌, inl, inr, nat_lt, nat_le, List, [], ◌∷◌, take, drop}
 use Rattle.std.proofs.Common.{slice_get, Some, zero, refl, ap, sym, ◌∙◌, subst, arith}
-use Rattle.std.proofs.Math.Bool.{or-false}
+use Rattle.std.proofs.Math.Bool.{not-not, or-false, or-true}
+use Rattle.std.proofs.lemmas.Bool.{and_right, cases_lt, or_parts}
 use Rattle.std.proofs.lemmas.Bool.Decides.{nat_tests}
 use Rattle.std.proofs.lemmas.Option.{slice_get_within}
 use Rattle.std.specs.List.{list_any}
@@ -9,8 +10,7 @@ use Rattle.irig_vcd.specs.Recording.{RisesFrom}
 use Rattle.irig_vcd.specs.declared.pulse.Pulse.{Pulse}
 use Rattle.irig_track.specs.Edges.{edges_of, Under}
 use Rattle.irig_track.specs.Splices.{risen_by}
-use Rattle.irig_track.proofs.Sets.{or_false}
-use Rattle.irig_track.proofs.Searches.{below_or_not, risen_none, risen_yes}
+use Rattle.irig_track.proofs.Searches.{risen_none, risen_yes}
 use Rattle.irig_vcd.specs.Recording.{level_by_edges}
 use Rattle.irig_edit.specs.State.State.{State, IsState}
 use Rattle.irig_edit.specs.Edits.Conditions.{is_touched}
@@ -34,10 +34,6 @@ level_by_edges-before a low (x ∷ xs) before rises =
 abbrev touched : ℕ → ℕ → List ℕ → Bool
 touched a b xs = list_any (lies_in a b) xs || level_by_edges a xs
 
-not-not : (v : Bool) → not (not v) ≡ v
-not-not true = refl
-not-not false = refl
-
 -- a pulse that ends before the stretch does not touch it
 pub touched-before : (a b : ℕ) (p : Pulse) (xs : List ℕ) → p.rise < p.fall → p.fall < a
     → touched a b (p.rise ∷ p.fall ∷ xs) ≡ touched a b xs
@@ -60,18 +56,10 @@ touched-behind a b p xs order high behind =
     let fall : nat_le p.fall a ≡ false = grind (arith, nat_tests) in
     rw one (rw two (rw in_one (rw in_two (rw rise (rw fall refl)))))
 
-and-false : (v : Bool) {w : Bool} → w ≡ false → (v && w) ≡ false
-and-false true h = h
-and-false false h = refl
-
-or-true : (v : Bool) → (v || true) ≡ true
-or-true true = refl
-or-true false = refl
-
 -- any other does
 pub touched-met : (a b : ℕ) (p : Pulse) (xs : List ℕ) → a < b → p.rise < p.fall → p.rise ≤ b → a ≤ p.fall → RisesFrom (p.fall + 1) xs
     → touched a b (p.rise ∷ p.fall ∷ xs) ≡ true
-touched-met a b p xs order high early late rises = at_begin (below_or_not p.rise a) (below_or_not b p.fall) where
+touched-met a b p xs order high early late rises = at_begin (cases_lt p.rise a) (cases_lt b p.fall) where
   at_begin : (p.rise < a) ⊎ (a ≤ p.rise) → (b < p.fall) ⊎ (p.fall ≤ b) → touched a b (p.rise ∷ p.fall ∷ xs) ≡ true
   at_begin (inr behind) _ =
       let one : nat_le a p.rise ≡ true = grind (arith, nat_tests) in
@@ -96,7 +84,7 @@ pub touched-any : (a b low : ℕ) (ps : List Pulse) → a < b → RisesFrom low 
     → touched a b (edges_of ps) ≡ list_any (meets_stretch a b) ps
 touched-any a b low [] order rises = refl
 touched-any a b low (p ∷ ps) order rises =
-    by_case (below_or_not p.fall a) (below_or_not b p.rise) (touched-any a b (p.fall + 1) ps order rises.1.1) where
+    by_case (cases_lt p.fall a) (cases_lt b p.rise) (touched-any a b (p.fall + 1) ps order rises.1.1) where
       high : p.rise < p.fall
       high = omega (arith, rises.1.0)
 
@@ -105,7 +93,8 @@ touched-any a b low (p ∷ ps) order rises =
           → touched a b (edges_of (p ∷ ps)) ≡ list_any (meets_stretch a b) (p ∷ ps)
       by_case (inl before) _ rest =
           let no : nat_le a p.fall ≡ false = grind (arith, nat_tests) in
-          touched-before a b p (edges_of ps) high before ∙ rest ∙ sym (ap (λ v. v || list_any (meets_stretch a b) ps) (and-false (nat_le p.rise b) no))
+          touched-before a b p (edges_of ps) high before ∙ rest
+          ∙ sym (ap (λ v. v || list_any (meets_stretch a b) ps) (and_right (nat_le p.rise b) (nat_le a p.fall) no))
       by_case (inr late) (inl behind) rest =
           let no : nat_le p.rise b ≡ false = grind (arith, nat_tests) in
           touched-behind a b p (edges_of ps) order high behind ∙ rest ∙ rw no refl
@@ -122,7 +111,7 @@ pub free_sides : (a b low : ℕ) (ps : List Pulse) → a < b → RisesFrom low (
     → Under a (edges_of (take (risen_by b ps) ps)) × RisesFrom (b + 1) (edges_of (drop (risen_by b ps) ps))
 free_sides a b low [] order rises none = (tt, tt)
 free_sides a b low (p ∷ ps) order rises none =
-    by_case (below_or_not b p.rise) (below_or_not p.fall a) (free_sides a b (p.fall + 1) ps order rises.1.1) where
+    by_case (cases_lt b p.rise) (cases_lt p.fall a) (free_sides a b (p.fall + 1) ps order rises.1.1) where
       Sides : List Pulse → Type 0
       Sides qs = Under a (edges_of (take (risen_by b qs) qs)) × RisesFrom (b + 1) (edges_of (drop (risen_by b qs) qs))
 
@@ -132,20 +121,20 @@ free_sides a b low (p ∷ ps) order rises none =
           rw zero_risen (tt, (omega arith, rises.1))
       by_case (inr early) (inl before) rest =
           let one_more : risen_by b (p ∷ ps) ≡ suc (risen_by b ps) = risen_yes b p ps early ∙ sym (add-one-left (risen_by b ps)) in
-          let others = rest (or_false (meets_stretch a b p) (list_any (meets_stretch a b) ps) none).1 in
+          let others = rest (or_parts (meets_stretch a b p) (list_any (meets_stretch a b) ps) none).1 in
           rw one_more ((omega (arith, rises.1.0), (before, others.0)), others.1)
       by_case (inr early) (inr late) rest =
           let yes : nat_le p.rise b ≡ true = grind (arith, nat_tests) in
           let too : nat_le a p.fall ≡ true = grind (arith, nat_tests) in
           let met : meets_stretch a b p ≡ true = rw yes (rw too refl) in
-          let other : meets_stretch a b p ≡ false = (or_false (meets_stretch a b p) (list_any (meets_stretch a b) ps) none).0 in
+          let other : meets_stretch a b p ≡ false = (or_parts (meets_stretch a b p) (list_any (meets_stretch a b) ps) none).0 in
           let bad : true ≡ false = sym met ∙ other in
           cc
 
 -- no pulse that rises at or before the end is there
 pub none_met : (a b low : ℕ) (ps : List Pulse) → RisesFrom low (edges_of ps) → risen_by b ps ≡ 0 → list_any (meets_stretch a b) ps ≡ false
 none_met a b low [] rises none = refl
-none_met a b low (p ∷ ps) rises none = by_case (below_or_not b p.rise) (none_met a b (p.fall + 1) ps rises.1.1) where
+none_met a b low (p ∷ ps) rises none = by_case (cases_lt b p.rise) (none_met a b (p.fall + 1) ps rises.1.1) where
   by_case : (b < p.rise) ⊎ (p.rise ≤ b) → (risen_by b ps ≡ 0 → list_any (meets_stretch a b) ps ≡ false) → list_any (meets_stretch a b) (p ∷ ps) ≡ false
   by_case (inl behind) rest =
       let later : nat_le p.rise b ≡ false = grind (arith, nat_tests) in
@@ -167,7 +156,7 @@ pulse_after low (suc i) p (q ∷ ps) rises is =
 pub last_meets : (a b low n : ℕ) (p : Pulse) (ps : List Pulse) → RisesFrom low (edges_of ps) → risen_by b ps ≡ suc n → slice_get ps n ≡ Some p
     → list_any (meets_stretch a b) ps ≡ nat_le a p.fall
 last_meets a b low n p [] rises count is = absurd (let none = slice_get_within [] n p is in omega (arith, none))
-last_meets a b low zero p (q ∷ ps) rises count is = by_case (below_or_not b q.rise) where
+last_meets a b low zero p (q ∷ ps) rises count is = by_case (cases_lt b q.rise) where
   by_case : (b < q.rise) ⊎ (q.rise ≤ b) → list_any (meets_stretch a b) (q ∷ ps) ≡ nat_le a p.fall
   by_case (inl behind) = absurd (let zero_risen = risen_none b q.rise (q ∷ ps) behind (omega arith, rises.1) in omega (arith, zero_risen, count))
   by_case (inr early) =
@@ -177,7 +166,7 @@ last_meets a b low zero p (q ∷ ps) rises count is = by_case (below_or_not b q.
       let same : q ≡ p = cc in
       rw yes (rw others (or-false (nat_le a q.fall) ∙ ap (λ (r : Pulse). nat_le a r.fall) same))
 last_meets a b low (suc n) p (q ∷ ps) rises count is =
-    by_case (below_or_not b q.rise) (below_or_not p.fall a) (last_meets a b (q.fall + 1) n p ps rises.1.1) where
+    by_case (cases_lt b q.rise) (cases_lt p.fall a) (last_meets a b (q.fall + 1) n p ps rises.1.1) where
       by_case : (b < q.rise) ⊎ (q.rise ≤ b) → (p.fall < a) ⊎ (a ≤ p.fall)
           → (risen_by b ps ≡ suc n → slice_get ps n ≡ Some p → list_any (meets_stretch a b) ps ≡ nat_le a p.fall)
           → list_any (meets_stretch a b) (q ∷ ps) ≡ nat_le a p.fall
@@ -192,7 +181,7 @@ last_meets a b low (suc n) p (q ∷ ps) rises count is =
           let others = rest (omega (arith, one, count)) is in
           let after = pulse_after (q.fall + 1) n p ps rises.1.1 is in
           let first : nat_le a q.fall ≡ false = grind (arith, nat_tests) in
-          rw others (ap (λ v. v || nat_le a p.fall) (and-false (nat_le q.rise b) first))
+          rw others (ap (λ v. v || nat_le a p.fall) (and_right (nat_le q.rise b) (nat_le a q.fall) first))
 
 -- the state's stretch is touched if the last pulse that rises at or before its end falls at or after its begin
 pub is_touched-last : (a b risen : ℕ) (s : State) (p : Pulse) → a < b → IsState s → risen ≡ risen_by b s.pulses → 0 < risen

@@ -1,5 +1,6 @@
 -- Pulses and their edges determine each other. This project's own.
-use Rattle.std.proofs.Common.{◌≡◌, ℕ, Bool, true, false, not, List, [], ◌∷◌, refl, ap, sym, ◌∙◌}
+use Rattle.std.proofs.Common.{◌≡◌, ℕ, true, false, List, [], ◌∷◌, refl, ap, sym, ◌∙◌}
+use Rattle.std.proofs.Math.Bool.{not-not}
 use Rattle.irig_vcd.specs.Recording.{is_even_long}
 use Rattle.irig_vcd.specs.declared.pulse.Pulse.{Pulse}
 use Rattle.irig_track.specs.Edges.{edges_of}
@@ -16,10 +17,7 @@ edges_of-pulses_of [] even = refl
 edges_of-pulses_of (x ∷ []) even = let bad : false ≡ true = even in cc
 edges_of-pulses_of (x ∷ y ∷ xs) even =
     ap (λ (zs : List ℕ). x ∷ y ∷ zs)
-    (edges_of-pulses_of xs (sym (not-not (is_even_long xs)) ∙ even)) where
-      not-not : (b : Bool) → not (not b) ≡ b
-      not-not true = refl
-      not-not false = refl
+    (edges_of-pulses_of xs (sym (not-not (is_even_long xs)) ∙ even))
 
 -- after a toggle the edges are as the toggle says
 pub edges_of-toggled : (micros a b : ℕ) (ps : List Pulse) → CanToggle micros a b ps

@@ -20,7 +20,7 @@ both-both (Some a) (Some b) None = refl
 both-both (Some a) (Some b) (Some c) = ap Some (omega arith)
 
 -- with no look a bound stays
-both-none : (a : Option ℕ) → both a (Some 0) ≡ a
+pub both-none : (a : Option ℕ) → both a (Some 0) ≡ a
 both-none None = refl
 both-none (Some a) = ap Some (omega arith)
 
@@ -29,7 +29,7 @@ none-both None = refl
 none-both (Some a) = ap Some (omega arith)
 
 -- the looks of some, and then of others
-looks_along-append : (s : State) (xs ys : List Single) → looks_along s (xs ++ ys)
+pub looks_along-append : (s : State) (xs ys : List Single) → looks_along s (xs ++ ys)
     ≡ both (looks_along s xs) (looks_along (left_by turned_single s xs) ys)
 looks_along-append s [] ys = none-both (looks_along s ys)
 looks_along-append s (x ∷ xs) ys =
@@ -39,7 +39,7 @@ looks_along-append s (x ∷ xs) ys =
     ∙ both-both one (looks_along after xs) (looks_along (left_by turned_single after xs) ys)
 
 -- a change takes the looks of its singles
-looks_along-singles : (s : State) (d : Change) → looks_along s (singles_of d) ≡ looks_of s d
+pub looks_along-singles : (s : State) (d : Change) → looks_along s (singles_of d) ≡ looks_of s d
 looks_along-singles s (One single) = both-none (looks_by single (turned_single s single).0.pulses)
 looks_along-singles s (Group singles) = refl
 
