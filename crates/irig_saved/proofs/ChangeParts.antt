@@ -1,5 +1,5 @@
 -- The lines of a change and of steps, whose first line has a number.
-use Rattle.std.proofs.Common.{◌≡◌, ◌++◌, ◌∷◌, [], ℕ, List, length, get_or, decimal, codes, refl, sym, ap, subst, ◌∙◌, append_assoc, lit<, inl, inr, ◌⊎◌, arith}
+use Rattle.std.proofs.Common.{◌≡◌, ◌++◌, ◌∷◌, [], ℕ, List, length, decimal, codes, refl, sym, ap, subst, ◌∙◌, append_assoc, lit<, inl, inr, ◌⊎◌, arith}
 use Rattle.irig_saved.specs.Lines.{line, numbered, text_of}
 use Rattle.irig_saved.specs.ChangeWords.{head_of, words_of, single_line}
 use Rattle.irig_saved.specs.SavedText.{put_of, pulse_lines, single_lines, singles_lines, change_lines, step_lines, steps_lines, counted_lines}
@@ -11,7 +11,7 @@ use Rattle.irig_saved.specs.declared.change.Change.TheVariants.{One, Group}
 use Rattle.irig_saved.specs.declared.step.Step.{Step}
 use Rattle.irig_saved.proofs.Cuts.{IsWord}
 use Rattle.irig_saved.proofs.Decimals.{number_is_word, same_number}
-use Rattle.irig_saved.proofs.SameWords.{head_is_word, words_are_words}
+use Rattle.irig_saved.proofs.SameWords.{head_is_word, word_at, words_are_words}
 use Rattle.irig_saved.proofs.Unique.{lined, no_group, same_step}
 use Rattle.irig_saved.proofs.Bytes.{dark_lacks}
 use Rattle.irig_saved.proofs.Clean.{newline, counted_lacks, first_lacks, step_clean}
@@ -31,7 +31,7 @@ pub same_count : (h : List ℕ) → IsWord h → (m n : ℕ) → IsNumber m → 
 same_count h hh m n hm hn e =
     let l = lined h h (decimal m ∷ []) (decimal n ∷ []) [] [] [] [] hh hh (number_is_word m hm, tt) (number_is_word n hn, tt)
     (ap (λ (l : List ℕ). text_of (l ∷ []) ++ []) e) in
-    same_number m n hm hn (ap (λ (ws : List (List ℕ)). get_or ws 0 []) l.words)
+    same_number m n hm hn (word_at 0 _ _ l.words)
 
 -- the first line, and the rest after it
 pub onward : (text l mid line rest : List ℕ) (ls : List (List ℕ)) → text ≡ l ++ 10 ∷ mid → l ≡ line → mid ≡ text_of ls ++ rest

@@ -1,5 +1,5 @@
 -- The lines of marks.
-use Rattle.std.proofs.Common.{◌≡◌, ◌<◌, ◌+◌, ◌++◌, ◌∷◌, [], ℕ, suc, zero, List, Option, Some, None, length, take, get_or, decimal, codes, refl, sym, ap, ap₂}
+use Rattle.std.proofs.Common.{◌≡◌, ◌<◌, ◌+◌, ◌++◌, ◌∷◌, [], ℕ, suc, zero, List, Option, Some, None, length, take, decimal, codes, refl, sym, ap, ap₂}
 use Rattle.std.proofs.Common.{subst, ◌∙◌, append_assoc, arith}
 use Rattle.std.specs.List.{AllByRecursion}
 use Rattle.irig_saved.specs.Lines.{text_of}
@@ -9,7 +9,7 @@ use Rattle.irig_saved.specs.Reading.{Lacks}
 use Rattle.irig_saved.specs.Leading.{mark_line, LacksMark, Leads}
 use Rattle.irig_saved.specs.declared.step.Step.{Step}
 use Rattle.irig_saved.proofs.Decimals.{same_number}
-use Rattle.irig_saved.proofs.SameWords.{byte_is_word}
+use Rattle.irig_saved.proofs.SameWords.{byte_at, byte_is_word, word_at}
 use Rattle.irig_saved.proofs.Unique.{lined, mark_words}
 use Rattle.irig_saved.proofs.Clean.{newline, mark_lacks}
 use Rattle.irig_saved.proofs.Bytes.{cut_at, not_lacking, dark_lacks}
@@ -70,14 +70,14 @@ one_line u ls more = append_assoc u (10 ∷ text_of ls) more
 not_later : (x y t n : ℕ) (ns : List (Option ℕ)) (past future : List Step) (text mid more : List ℕ) → 32 < x → x < y → IsNumber t → AllByRecursion IsTime ns
     → text ≡ mark_line x t ++ 10 ∷ mid → text ≡ text_of (take (suc n) (mark_lines y ns ++ step_sections past future)) ++ more → ⊥
 not_later x y t n [] past future text mid more high less small hn one e =
-    let bad : 109 ≡ 112 = ap (λ (l : List ℕ). get_or l 0 0) (sym one ∙ e) in omega (arith, bad)
+    let bad : 109 ≡ 112 = byte_at 0 _ _ (sym one ∙ e) in omega (arith, bad)
 not_later x y t n (None ∷ ns) past future text mid more high less small hn one e =
     not_later x (y + 1) t n ns past future text mid more high (omega (arith, less)) small hn.1 one e
 not_later x y t n (Some u ∷ ns) past future text mid more high less small hn one e =
     let l = lined (codes "mark") (codes "mark") ((x ∷ []) ∷ decimal t ∷ []) ((y ∷ []) ∷ decimal u ∷ []) []
     (take n (mark_lines (y + 1) ns ++ step_sections past future)) mid more
     refl refl (mark_words x t high small) (mark_words y u (omega (arith, high, less)) hn.0) (one_line (mark_line x t) [] mid ∙ sym one ∙ e) in
-    let same : x ≡ y = ap (λ (ws : List (List ℕ)). get_or (get_or ws 0 []) 0 0) l.words in
+    let same : x ≡ y = byte_at 0 _ _ (word_at 0 _ _ l.words) in
     omega (arith, same, less)
 
 pub lead_tells : (x : ℕ) (ms ns : List (Option ℕ)) (past future : List Step) (text rest more : List ℕ) (n : ℕ) → 32 < x → length ms ≡ length ns
@@ -99,6 +99,6 @@ lead_tells x (Some t ∷ ms) (Some u ∷ ns) past future text rest more (suc n) 
     let ls = take n (mark_lines (x + 1) ns ++ step_sections past future) in
     let l = lined (codes "mark") (codes "mark") ((x ∷ []) ∷ decimal t ∷ []) ((x ∷ []) ∷ decimal u ∷ []) [] ls h.1.0 more
     refl refl (mark_words x t high h.0) (mark_words x u high hn.0) (one_line (mark_line x t) [] h.1.0 ∙ sym h.1.1 ∙ e) in
-    let one = same_number t u h.0 hn.0 (ap (λ (ws : List (List ℕ)). get_or ws 1 []) l.words) in
+    let one = same_number t u h.0 hn.0 (word_at 1 _ _ l.words) in
     ap₂ (λ (m : ℕ) (l : List (Option ℕ)). Some m ∷ l) one
     (lead_tells (x + 1) ms ns past future h.1.0 rest more n (omega (arith, high)) (omega (arith, same)) hn.1 h.1.2 (omega (arith, few)) l.rest)

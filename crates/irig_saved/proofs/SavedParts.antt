@@ -1,5 +1,5 @@
 -- The lines of a saved journal.
-use Rattle.std.proofs.Common.{◌≡◌, ◌≤◌, ◌++◌, ◌∷◌, [], ℕ, suc, zero, List, Option, None, length, get_or, codes, refl, sym, ap, ap₂, ◌∙◌, append_assoc, arith}
+use Rattle.std.proofs.Common.{◌≡◌, ◌≤◌, ◌++◌, ◌∷◌, [], ℕ, suc, zero, List, Option, None, length, codes, refl, sym, ap, ap₂, ◌∙◌, append_assoc, arith}
 use Rattle.std.proofs.Common.{lit<, inl}
 use Rattle.std.specs.List.{AllByRecursion}
 use Rattle.irig_codes.specs.declared.format.Kind.{Kind}
@@ -14,7 +14,7 @@ use Rattle.irig_saved.specs.declared.step.Step.{Step}
 use Rattle.irig_saved.specs.declared.saved.Saved.{Saved}
 use Rattle.irig_saved.proofs.Cuts.{AreWords}
 use Rattle.irig_saved.proofs.Decimals.{number_is_word, same_number}
-use Rattle.irig_saved.proofs.SameWords.{kind_is_word, same_kind, small_is_number}
+use Rattle.irig_saved.proofs.SameWords.{kind_is_word, same_kind, small_is_number, word_at}
 use Rattle.irig_saved.proofs.Unique.{lined, regroup, same_counted, saved}
 use Rattle.irig_saved.proofs.Clean.{newline, counted_lacks, format_lacks, counted_clean}
 use Rattle.irig_saved.proofs.Sequences.{Both, both, first_stops, second_stops, behind_stops, determined, line_behind_stops}
@@ -142,8 +142,8 @@ same_format : (f g : Kind × ℕ) → IsFormat f → IsFormat g → format_line 
 same_format f g hf hg e =
     let l = lined (codes "format") (codes "format") (words_of_format f) (words_of_format g) [] [] [] [] refl refl (format_words f hf) (format_words g hg)
     (ap (λ (l : List ℕ). text_of (l ∷ []) ++ []) e) in
-    let kind = same_kind f.0 g.0 (ap (λ (ws : List (List ℕ)). get_or ws 0 []) l.words) in
-    let number = same_number f.1 g.1 (small_is_number f.1 hf) (small_is_number g.1 hg) (ap (λ (ws : List (List ℕ)). get_or ws 1 []) l.words) in
+    let kind = same_kind f.0 g.0 (word_at 0 _ _ l.words) in
+    let number = same_number f.1 g.1 (small_is_number f.1 hf) (small_is_number g.1 hg) (word_at 1 _ _ l.words) in
     pair f.0 g.0 f.1 g.1 kind number where
       pair : (k l : Kind) (m n : ℕ) → k ≡ l → m ≡ n → (let p : Kind × ℕ = (k, m) in p) ≡ (l, n)
       pair k l m n kind number = ap₂ (λ x y. (let p : Kind × ℕ = (x, y) in p)) kind number
