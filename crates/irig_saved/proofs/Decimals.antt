@@ -1,6 +1,6 @@
 -- Numbers are plain words, and words determine their numbers.
-use Rattle.std.proofs.Common.{◌≡◌, ◌<◌, ◌+◌, ◌%◌, ◌^◌, ◌++◌, ◌∷◌, [], ℕ, suc, ℤ, pos, negsuc, true, List, length, drop, decimal, nat_lt, refl, sym, ap, ◌∙◌}
-use Rattle.std.proofs.Common.{arith, lit<}
+use Rattle.std.proofs.Common.{◌≡◌, ◌<◌, ◌+◌, ◌%◌, ◌^◌, ◌∷◌, [], ℕ, suc, ℤ, pos, negsuc, true, List, length, drop, decimal, nat_lt, refl, sym, ap, ◌∙◌}
+use Rattle.std.proofs.Common.{arith, length-append, lit<}
 use Rattle.std.specs.List.{list_all}
 use Rattle.std.specs.Fmt.{signed_decimal}
 use Rattle.std.proofs.lemmas.Fmt.{decimal_by_steps, decimal_injective}
@@ -19,11 +19,10 @@ high_one n = and_from (nat_lt 47 (48 + n)) true (lt-ltb 47 (48 + n) (omega arith
 
 pub digits_high : (n : ℕ) → n < 2 ^ 64 → IsHigh (decimal n)
 digits_high n small = decimal_by_steps (λ _ ds. IsHigh ds) (λ m low. (high_one m, lit< tt))
-    (λ m ds ten h. (list_all-append (λ b. nat_lt 47 b) ds ((48 + m % 10) ∷ []) ∙ and_from _ _ h.0 (high_one (m % 10)), longer ds ((48 + m % 10) ∷ []) h.1)) n
-    small where
-      longer : (xs ys : List ℕ) → 0 < length xs → 0 < length (xs ++ ys)
-      longer [] ys h = absurd (omega (arith, h))
-      longer (x ∷ xs) ys h = omega arith
+    (λ m ds ten h. (
+      list_all-append (λ b. nat_lt 47 b) ds ((48 + m % 10) ∷ []) ∙ and_from _ _ h.0 (high_one (m % 10)),
+      omega (arith, h.1, length-append ds ((48 + m % 10) ∷ [])),
+    )) n small
 
 pub number_is_plain : (n : ℕ) → IsNumber n → IsPlain (decimal n)
 number_is_plain n h = lower 47 36 (decimal n) (omega arith) (digits_high n h).0

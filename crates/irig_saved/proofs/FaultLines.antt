@@ -5,7 +5,7 @@ use Rattle.std.specs.List.{list_all, count_by}
 use Rattle.std.proofs.lemmas.Bool.{and_parts, false≢true}
 use Rattle.std.proofs.lemmas.List.Sums.{sum_by-append}
 use Rattle.std.proofs.Math.Seq.{take-append_seam}
-use Rattle.std.proofs.lemmas.List.{append-nil, take_all, length-take-le}
+use Rattle.std.proofs.lemmas.List.{append-nil, take_all, length-take-le, nil_from_length}
 use Rattle.irig_saved.specs.Lines.{text_of}
 use Rattle.irig_saved.specs.SavedText.{saved_lines, journal_text}
 use Rattle.irig_saved.specs.Ranges.{IsSaved}
@@ -115,12 +115,8 @@ line_of_rest s text rest n r left at =
 
 -- all was read
 
-none_left : (rest : List ℕ) → length rest < 1 → rest ≡ []
-none_left [] h = refl
-none_left (x ∷ rest) h = absurd (omega (arith, h))
-
 pub whole_text : (s : Saved) (text rest : List ℕ) → Reads IsSaved saved_lines text s rest → length rest < 1 → text ≡ journal_text s
-whole_text s text rest r none = r.same ∙ ap (λ (l : List ℕ). text_of (saved_lines s) ++ l) (none_left rest none) ∙ sym (journal_is s)
+whole_text s text rest r none = r.same ∙ ap (λ (l : List ℕ). text_of (saved_lines s) ++ l) (nil_from_length rest (omega (arith, none))) ∙ sym (journal_is s)
 
 pub whole_short : (s : Saved) (text rest : List ℕ) → Reads IsSaved saved_lines text s rest → length (saved_lines s) ≤ length text
 whole_short s text rest r =

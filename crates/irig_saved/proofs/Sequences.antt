@@ -1,6 +1,8 @@
 -- Parts in a row: what stops the first or the second stops both.
 use Rattle.std.proofs.Common.{◌≡◌, ◌≤◌, ◌+◌, ◌-◌, ◌++◌, ◌∷◌, [], ℕ, zero, suc, List, length, take, drop, refl, sym, ap, ap₂, ◌∙◌, append_assoc, arith, inl, inr}
 use Rattle.std.proofs.Common.{◌⊎◌, length-append, subst}
+use Rattle.std.proofs.Math.Seq.{take-append-add}
+use Rattle.std.proofs.lemmas.Bool.{cases_lt}
 use Rattle.std.proofs.lemmas.List.{take-append-le, take_all, take-append-drop, length-take-le, append_cancel_left}
 use Rattle.irig_saved.specs.Lines.{text_of}
 use Rattle.irig_saved.specs.Reading.{Reads, Stops, Lacks}
@@ -8,17 +10,8 @@ use Rattle.irig_saved.proofs.Clean.{AreLines}
 use Rattle.irig_saved.proofs.Unique.{Same, regroup}
 use Rattle.irig_saved.proofs.Bytes.{cut_at, not_lacking}
 
--- the first n lines of two lists, if the first has fewer
-take_over : (ls ms : List (List ℕ)) (n : ℕ) → take (length ls + n) (ls ++ ms) ≡ ls ++ take n ms
-take_over [] ms n = ap (λ k. take k ms) (let z : 0 + n ≡ n = omega arith in z)
-take_over (l ∷ ls) ms n =
-    ap (λ k. take k (l ∷ (ls ++ ms))) (let s : suc (length ls) + n ≡ suc (length ls + n) = omega arith in s)
-    ∙ ap (λ (k : List (List ℕ)). l ∷ k) (take_over ls ms n)
-
 at_most : (m n : ℕ) → (m ≤ n) ⊎ (n + 1 ≤ m)
-at_most zero n = inl (omega arith)
-at_most (suc m) zero = inr (omega arith)
-at_most (suc m) (suc n) = elim (at_most m n) as (λ _. (suc m ≤ suc n) ⊎ (suc n + 1 ≤ suc m)) [ inl h ↦ inl (omega (arith, h)) | inr h ↦ inr (omega (arith, h)) ]
+at_most m n = elim (cases_lt n m) as (λ _. (m ≤ n) ⊎ (n + 1 ≤ m)) [ inl h ↦ inr (omega (arith, h)) | inr h ↦ inl h ]
 
 module _ {X Y : Type 0} (IsX : X → Type 0) (IsY : X → Y → Type 0) (xs : X → List (List ℕ)) (ys : Y → List (List ℕ)) where
   -- both parts, and their lines
@@ -43,7 +36,8 @@ module _ {X Y : Type 0} (IsX : X → Type 0) (IsY : X → Y → Type 0) (xs : X 
               let k = s.n + 1 - length (xs p.0) in
               let sum : s.n + 1 ≡ length (xs p.0) + k = omega (arith, shorter) in
               s.refused p.0 (text_of (take k (ys p.1)) ++ more) h.0
-              (e ∙ ap (λ n. text_of (take n (xs p.0 ++ ys p.1)) ++ more) sum ∙ ap (λ (l : List (List ℕ)). text_of l ++ more) (take_over (xs p.0) (ys p.1) k)
+              (e ∙ ap (λ n. text_of (take n (xs p.0 ++ ys p.1)) ++ more) sum
+              ∙ ap (λ (l : List (List ℕ)). text_of l ++ more) (take-append-add (xs p.0) (ys p.1) k)
               ∙ regroup (xs p.0) (take k (ys p.1)) more)
           | inr longer ↦ s.wrong p.0 more h.0 longer (e ∙ ap (λ (l : List (List ℕ)). text_of l ++ more) (take-append-le (s.n + 1) (xs p.0) (ys p.1) longer))
         ];
@@ -98,7 +92,7 @@ module _ {X Y : Type 0} (IsX : X → Type 0) (IsY : X → Y → Type 0) (xs : X 
     lawful = (hx, s.lawful);
     there = omega (arith, s.there, length-append (xs x) (ys s.part));
     same = ex ∙ ap (λ (l : List ℕ). text_of (xs x) ++ l) s.same ∙ sym (regroup (xs x) (take s.n (ys s.part)) rest)
-        ∙ ap (λ (l : List (List ℕ)). text_of l ++ rest) (sym (take_over (xs x) (ys s.part) s.n));
+        ∙ ap (λ (l : List (List ℕ)). text_of l ++ rest) (sym (take-append-add (xs x) (ys s.part) s.n));
     wrong = λ p more h few e. wrong_of p more h few e;
     refused = λ p more h e. refused_of p more h e;
   } where
@@ -110,7 +104,7 @@ module _ {X Y : Type 0} (IsX : X → Type 0) (IsY : X → Y → Type 0) (xs : X 
     here y more hy few e =
         let k : text_of (xs x) ++ mid ≡ text_of (xs x) ++ (text_of (take (s.n + 1) (ys y)) ++ more) =
         sym ex ∙ e ∙ ap (λ n. text_of (take n (xs x ++ ys y)) ++ more) sum
-        ∙ ap (λ (l : List (List ℕ)). text_of l ++ more) (take_over (xs x) (ys y) (s.n + 1)) ∙ regroup (xs x) (take (s.n + 1) (ys y)) more in
+        ∙ ap (λ (l : List (List ℕ)). text_of l ++ more) (take-append-add (xs x) (ys y) (s.n + 1)) ∙ regroup (xs x) (take (s.n + 1) (ys y)) more in
         s.wrong y more hy (omega (arith, few, length-append (xs x) (ys y)))
         (append_cancel_left (text_of (xs x)) mid (text_of (take (s.n + 1) (ys y)) ++ more) k)
 
@@ -141,7 +135,8 @@ module _ {X Y : Type 0} (IsX : X → Type 0) (IsY : X → Y → Type 0) (xs : X 
             let k = n - length (xs p.0) in
             let split : n ≡ length (xs p.0) + k = omega (arith, all) in
             unique p.0 n (text_of (take k (ys p.1)) ++ more) h many
-            (e ∙ ap (λ m. text_of (take m (xs p.0 ++ ys p.1)) ++ more) split ∙ ap (λ (l : List (List ℕ)). text_of l ++ more) (take_over (xs p.0) (ys p.1) k)
+            (e ∙ ap (λ m. text_of (take m (xs p.0 ++ ys p.1)) ++ more) split
+            ∙ ap (λ (l : List (List ℕ)). text_of l ++ more) (take-append-add (xs p.0) (ys p.1) k)
             ∙ regroup (xs p.0) (take k (ys p.1)) more ∙ ap (λ (l : List (List ℕ)). text_of l ++ (text_of (take k (ys p.1)) ++ more))
             (sym (take_all n (xs p.0) all)))
         | inr fewer ↦ unique p.0 n more h many (e ∙ ap (λ (l : List (List ℕ)). text_of l ++ more) (take-append-le n (xs p.0) (ys p.1) (omega (arith, fewer))))
