@@ -2,7 +2,7 @@
 use Rattle.std.proofs.Common.{◌≡◌, ◌≤◌, ◌<◌, ◌+◌, ◌-◌, ◌*◌, ◌^◌, ℕ, Bool, true, false, not, nat_lt, List, [], ◌∷◌, ◌++◌, length, take, drop, slice_get, Option}
 use Rattle.std.proofs.Common.{Some, None, if◌then◌else◌, refl, ap, sym, ◌∙◌, subst, arith, length-take-le}
 use Rattle.std.specs.Prelude.{Contains, ◌↔◌}
-use Rattle.std.proofs.lemmas.Bool.{leb-false, ltb-false}
+use Rattle.std.proofs.lemmas.Bool.{leb-false, ltb-false, not-false}
 use Rattle.std.proofs.lemmas.List.Filters.{length-filter_both}
 use Rattle.irig_codes.specs.declared.width.Element.TheVariants.{Position}
 use Rattle.irig_codes.specs.Width.{is_in_step}
@@ -36,10 +36,6 @@ passed : (test : Bool) (why : Refusal) (others : Option Refusal)
 passed true why others none = cc
 passed false why others none = (refl, none)
 
-not_false : (test : Bool) → not test ≡ false → test ≡ true
-not_false true is = refl
-not_false false is = cc
-
 -- what an accepted regeneration was asked for
 record Asked (s : State) (start count : ℕ) (moment : MomentView) (control : ℕ) : Type 0 where
   there : are_frames start count s ≡ true
@@ -57,10 +53,10 @@ asked s start count moment control none =
     let time = passed (not (starts_in s.format moment)) _ _ many.1 in
     let wide = passed (is_wide control s) _ _ time.1 in
     record {
-      there = not_false (are_frames start count s) range.0;
+      there = not-false (are_frames start count s) range.0;
       free = touching.0;
       fits = many.0;
-      starts = not_false (starts_in s.format moment) time.0;
+      starts = not-false (starts_in s.format moment) time.0;
       narrow = leb-false (2 ^ control_count_of s.format) control wide.0;
     }
 

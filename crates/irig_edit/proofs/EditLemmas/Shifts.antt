@@ -1,8 +1,10 @@
 -- Pulses that are moved in time, and the marks with them.
 use Rattle.std.proofs.Common.{◌≡◌, ◌≤◌, ◌<◌, ◌+◌, ◌-◌, ℕ, ℤ, suc, zero, Bool, true, false, ◌&&◌, inl, inr, nat_lt, nat_le, List, [], ◌∷◌, length, take}
-use Rattle.std.proofs.Common.{drop, slice_get, get_or, Some, refl, ap, sym, ◌∙◌, subst, arith}
+use Rattle.std.proofs.Common.{drop, slice_get, Some, refl, ap, sym, ◌∙◌, subst, arith}
 use Rattle.std.proofs.lemmas.Bool.{cases_lt, or_parts}
 use Rattle.std.proofs.lemmas.Bool.Decides.{nat_tests}
+use Rattle.std.proofs.lemmas.List.{drop_all}
+use Rattle.std.proofs.lemmas.Option.{slice_get-get_or}
 use Rattle.irig_vcd.specs.Recording.{RisesFrom}
 use Rattle.irig_vcd.specs.declared.pulse.Pulse.{Pulse}
 use Rattle.irig_track.specs.Edges.{edges_of, pulse}
@@ -19,11 +21,7 @@ use Rattle.irig_edit.proofs.StateLemmas.TouchedStretches.{pulse_after}
 
 -- if a pulse is there, it is the pulse of that number
 pub pulse_there : (i : ℕ) (s : State) → 1 ≤ i → i ≤ length s.pulses → slice_get s.pulses (i - 1) ≡ Some (pulse_of i s)
-pulse_there i s first last = some_there s.pulses (i - 1) (omega arith) where
-  some_there : (ps : List Pulse) (k : ℕ) → k < length ps → slice_get ps k ≡ Some (get_or ps k (pulse 0 0))
-  some_there [] k less = absurd (omega arith)
-  some_there (p ∷ ps) zero less = refl
-  some_there (p ∷ ps) (suc k) less = some_there ps k (omega (arith, less))
+pulse_there i s first last = slice_get-get_or s.pulses (i - 1) (pulse 0 0) (omega arith)
 
 -- the least time that is free before pulse i
 free_before : (i : ℕ) (s : State) → 1 < i → i ≤ length s.pulses
@@ -44,15 +42,9 @@ edge_behind j s more =
     first_or-drop (s.micros + 1) j (pulse_of (j + 1) s) s.pulses
     (sym (ap (slice_get s.pulses) down) ∙ pulse_there (j + 1) s (omega arith) (omega arith))
 
-all_dropped : (j : ℕ) (ps : List Pulse) → length ps ≤ j → drop j ps ≡ []
-all_dropped zero [] all = refl
-all_dropped (suc j) [] all = refl
-all_dropped zero (p ∷ ps) all = absurd (omega (arith, all))
-all_dropped (suc j) (p ∷ ps) all = all_dropped j ps (omega (arith, all))
-
 nothing_behind : (j : ℕ) (s : State) → length s.pulses ≤ j
     → first_or (s.micros + 1) (edges_of (drop j s.pulses)) ≡ s.micros + 1
-nothing_behind j s all = ap (λ (ps : List Pulse). first_or (s.micros + 1) (edges_of ps)) (all_dropped j s.pulses all)
+nothing_behind j s all = ap (λ (ps : List Pulse). first_or (s.micros + 1) (edges_of ps)) (drop_all j s.pulses all)
 
 -- what does not leave the track
 stays : (i j : ℕ) (d : ℤ) (s : State) → leaves i j d s ≡ false

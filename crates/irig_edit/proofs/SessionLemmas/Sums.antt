@@ -1,16 +1,17 @@
 -- What several steps exchange together is what the group of their changes exchanges.
-use Rattle.std.proofs.Common.{◌≡◌, ◌<◌, ◌+◌, ◌-◌, ◌^◌, ◌++◌, ℕ, suc, zero, List, [], ◌∷◌, length, reverse, take, Option, Some, None, min, refl, ap, ap₂, sym}
+use Rattle.std.proofs.Common.{◌≡◌, ◌<◌, ◌+◌, ◌-◌, ◌^◌, ◌++◌, ℕ, suc, zero, List, [], ◌∷◌, length, take, Option, Some, None, min, refl, ap, ap₂, sym}
 use Rattle.std.proofs.Common.{◌∙◌, arith}
 use Rattle.std.specs.Prelude.{flat_map}
 use Rattle.std.specs.List.{sum_by}
-use Rattle.std.proofs.lemmas.List.{append-nil, reverse-append}
+use Rattle.std.proofs.lemmas.List.{append-nil}
 use Rattle.std.proofs.lemmas.List.Concat.{flat_map-append}
-use Rattle.std.proofs.lemmas.List.Sums.{sum_by-cons, sum_by_push}
+use Rattle.std.proofs.lemmas.List.Sums.{sum_by-cons}
 use Rattle.irig_journal.specs.History.{FitInTurn, Step}
 use Rattle.irig_journal.specs.Joining.{changes_of}
 use Rattle.irig_journal.specs.Laws.Backs.{LeadsBack, lead_all_back}
 use Rattle.irig_journal.specs.Laws.Turns.{ways_back-cons}
 use Rattle.irig_journal.specs.Turns.{FitAll, backs, left_by, ways_back}
+use Rattle.irig_journal.proofs.WeightLemmas.{sum_by-reverse}
 use Rattle.irig_saved.specs.declared.change.Change.{Change}
 use Rattle.irig_edit.specs.Changes.Delta.{Fits, gathered, singles_of, turned, weight_of}
 use Rattle.irig_saved.specs.declared.change.Change.TheVariants.{Group}
@@ -141,12 +142,6 @@ singles_way_on (suc k) s (near ∷ steps) there =
     let after = (turned s near.change).0 in
     ap (λ (xs : List Single). xs ++ (singles_of (turned s near.change).1 ++ [])) (singles_way_on k after steps (omega (arith, there)))
     ∙ sym (parts_back s near.change (changes_of (take (suc k) steps)))
-
-sum_by-reverse : (f : Change → ℕ) (ds : List Change) → sum_by f (reverse ds) ≡ sum_by f ds
-sum_by-reverse f [] = refl
-sum_by-reverse f (d ∷ ds) =
-    ap (sum_by f) (reverse-append (d ∷ []) ds)
-    ∙ omega (arith, sum_by_push f (reverse ds) d, sum_by-cons f d ds, sum_by-reverse f ds)
 
 -- several together, as one group
 pub together-gathered : (k : ℕ) (s : State) (steps : List (Step Change)) → suc k < length steps → IsState s → FitInTurn Fits turned s steps
