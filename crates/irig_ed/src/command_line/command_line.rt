@@ -1,11 +1,13 @@
 //! The command line, read by `clap`.
 
 ghost use Rattle.std.specs.Prelude.{◌≡◌, IfErr, IfOk, None, false, codes, map, string_bytes};
+ghost use Rattle.std.specs.Prelude.{MatchOption, true};
 ghost use Rattle.clap.specs.Words.{Rule, app_of, found_of, new_app, rule_of, with_rule};
 ghost use Rattle.irig_ed.specs.CommandLine.Options.{IsCommand, IsReading, IsChoice, IsParsed};
 ghost use Rattle.irig_ed.specs.CommandLine.Options.{MayRefuse, letters, option, track};
 ghost use Rattle.irig_ed.specs.Statuses.{IsMistake};
-ghost use Rattle.irig_ed.specs.CommandLine.Settings.{Chooses, Reads, digit_named, kind_or_b};
+ghost use Rattle.irig_ed.specs.CommandLine.Settings.{Chooses, Reads, digit_named, expression_of};
+ghost use Rattle.irig_ed.specs.CommandLine.Settings.{is_chosen_format, kind_of, kind_or_b};
 
 use crate::command_line::chosen::{Settings, UsageFault};
 use clap::error::ErrorKind;
@@ -61,9 +63,7 @@ fn error_of_bytes(command: &mut Command<'_>) -> Result<Error, AllocError>
 fn chosen_of<'a>(matches: &ArgMatches<'a>) -> Result<Settings<'a>, UsageFault>
     ensures { Chooses (found_of matches.now) result }
 {
-    let kind = kind_or_b(matches.get_str("format").unwrap_or("B"));
-    let expression = digit_named(matches.get_str("expression").unwrap_or("2"));
-    let Ok(format) = Format::new(kind, expression) else {
+    let Some(format) = chosen_format(matches) else {
         return Err(UsageFault::BadExpression);
     };
     let Some(track) = matches.get_str("TRACK") else {
@@ -75,6 +75,21 @@ fn chosen_of<'a>(matches: &ArgMatches<'a>) -> Result<Settings<'a>, UsageFault>
         out: matches.get_str("out").unwrap_or(track),
         format,
     })
+}
+
+/// The format that the matches ask for, if its kind permits the expression.
+fn chosen_format(matches: &ArgMatches<'_>) -> Option<Format>
+    ensures { MatchOption result (is_chosen_format (found_of matches.now) ≡ false)
+        (λ f. (f.kind ≡ kind_of (found_of matches.now))
+        × (f.expression ≡ expression_of (found_of matches.now))
+        × (is_chosen_format (found_of matches.now) ≡ true)) }
+{
+    let kind = kind_or_b(matches.get_str("format").unwrap_or("B"));
+    let expression = digit_named(matches.get_str("expression").unwrap_or("2"));
+    match Format::new(kind, expression) {
+        Ok(format) => Some(format),
+        Err(_) => None,
+    }
 }
 
 /// The kind of time code with this letter; B for any other text.

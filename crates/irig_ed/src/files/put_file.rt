@@ -1,6 +1,6 @@
 //! Finds the file that a path leads to, and how it is written: replaced whole, or in place.
 
-ghost use Rattle.std.specs.Prelude.{◌≡◌, ◌↔◌, length, IfOk, IsSome, IsTrue};
+ghost use Rattle.std.specs.Prelude.{◌≡◌, ◌↔◌, ℕ, length, IfOk, IsSome, IsTrue};
 ghost use Rattle.irig_ed.specs.Files.Puts.{count_of};
 
 use crate::files::in_place::write_in_place;
@@ -8,7 +8,7 @@ use crate::files::links::follow_links;
 use crate::files::room::Room;
 use crate::files::whole::{or_shelf_fault, write_whole};
 use crate::files::written::Written;
-use irig_disk::SystemFolder;
+use irig_disk::{Kept, SystemFolder};
 use irig_script::ShelfFault;
 use irig_text::Text;
 use std::fs::{Metadata, OpenFile, OpenOptions};
@@ -114,7 +114,7 @@ fn replace<R: Files + AllocGlobal, T: Text>(
         return Err(ShelfFault);
     };
     match mode_to_take(rt, is_there, room.target.as_str()) {
-        Ok(mode) => replace_target(rt, mode, text, room),
+        Ok(mode) => whole(replace_target(rt, mode, text, room)),
         Err(fault) => Err(fault),
     }
 }
@@ -149,19 +149,42 @@ fn replace_target<R: Files, T: Text>(
     mode: Option<u32>,
     text: &mut T,
     room: &mut Room,
-) -> Result<Written, ShelfFault>
-    ensures { IfOk result (λ written. count_of written ≡ length (T.rest text.old)) }
+) -> Result<Kept, ShelfFault>
+    ensures { IfOk result (λ kept. kept.count ≡ length (T.rest text.old)) }
 {
-    let target = room.target.as_str();
-    let Ok(()) = put_stem(target, &mut room.name, &mut room.stem) else {
-        return Err(ShelfFault);
-    };
-    let Ok(folder) = fs::open(rt, folder_of(target)) else {
-        return Err(ShelfFault);
-    };
-    let mut names = SystemFolder::new(rt, folder);
-    let (stem, name) = (room.stem.as_str(), &mut room.name);
-    match write_whole(&mut names, name, target, stem, mode, text, &mut room.block) {
+    match open_folder(rt, room) {
+        Ok(folder) => replace_in(&mut SystemFolder::new(rt, folder), mode, text, room),
+        Err(fault) => Err(fault),
+    }
+}
+
+/// Replaces the target, a name in this folder, by a new file that has the stem until then.
+fn replace_in<R: Files, T: Text>(
+    folder: &mut SystemFolder<'_, R>,
+    mode: Option<u32>,
+    text: &mut T,
+    room: &mut Room,
+) -> Result<Kept, ShelfFault>
+    ensures { IfOk result (λ kept. kept.count ≡ length (T.rest text.old)) }
+{
+    let (target, stem) = (room.target.as_str(), room.stem.as_str());
+    write_whole(
+        folder,
+        &mut room.name,
+        target,
+        stem,
+        mode,
+        text,
+        &mut room.block,
+    )
+}
+
+/// What a file that was replaced whole is written with.
+fn whole(outcome: Result<Kept, ShelfFault>) -> Result<Written, ShelfFault>
+    ensures { (n : ℕ) → IfOk outcome (λ kept. kept.count ≡ n)
+        → IfOk result (λ written. count_of written ≡ n) }
+{
+    match outcome {
         Ok(kept) => Ok(Written::Whole(kept)),
         Err(fault) => Err(fault),
     }
@@ -169,18 +192,18 @@ fn replace_target<R: Files, T: Text>(
 
 /// The names of new files but for their numbers: that of the target, hidden and marked, in its
 /// folder.
-fn put_stem(target: &str, marked: &mut String, stem: &mut PathBuf) -> Result<(), ShelfFault> {
-    let Some(name) = Path::new(target).file_name() else {
+fn put_stem(room: &mut Room) -> Result<(), ShelfFault> {
+    let Some(name) = Path::new(room.target.as_str()).file_name() else {
         return Err(ShelfFault);
     };
-    let Ok(()) = put_marked(name, marked) else {
+    let Ok(()) = put_marked(name, &mut room.name) else {
         return Err(ShelfFault);
     };
-    stem.clear();
-    let Ok(()) = stem.push(target) else {
+    room.stem.clear();
+    let Ok(()) = room.stem.push(room.target.as_str()) else {
         return Err(ShelfFault);
     };
-    or_shelf_fault(stem.set_file_name(marked.as_str()))
+    or_shelf_fault(room.stem.set_file_name(room.name.as_str()))
 }
 
 /// A name, hidden and marked.
@@ -189,6 +212,14 @@ fn put_marked(name: &str, marked: &mut String) -> Result<(), ShelfFault> {
     let kept = if name.len() <= 200 { name } else { "" };
     marked.clear();
     or_shelf_fault(write!(marked, ".{kept}.irig_ed-new-"))
+}
+
+/// The folder of the target, opened, with the stem of the names of new files there.
+fn open_folder<R: Files>(rt: &R, room: &mut Room) -> Result<R::File, ShelfFault> {
+    let Ok(()) = put_stem(room) else {
+        return Err(ShelfFault);
+    };
+    or_shelf_fault(fs::open(rt, folder_of(room.target.as_str())))
 }
 
 /// The folder of a path.
