@@ -179,7 +179,7 @@ fn replace_in<R: Files, T: Text>(
     )
 }
 
-/// What a file that was replaced whole is written with.
+/// The outcome of a write that replaces the file.
 fn whole(outcome: Result<Kept, ShelfFault>) -> Result<Written, ShelfFault>
     ensures { (n : ℕ) → IfOk outcome (λ kept. kept.count ≡ n)
         → IfOk result (λ written. count_of written ≡ n) }
