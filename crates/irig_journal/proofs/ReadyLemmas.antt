@@ -1,9 +1,9 @@
 -- What is ready stays ready: with more places, and after a turn of the nearest change.
-use Rattle.std.proofs.Common.{◌≡◌, ◌∷◌, List, map, ap, sym, subst, ◌∙◌}
+use Rattle.std.proofs.Common.{◌≡◌, ◌∷◌, [], List, map, ap, sym, subst, ◌∙◌}
 use Rattle.irig_journal.specs.Held.{Held, Parts, flat}
 use Rattle.irig_journal.specs.History.{FitInTurn}
 use Rattle.irig_journal.specs.Journal.{AreReady, ReadyInTurn, Steps, one_of, told}
-use Rattle.irig_journal.specs.Laws.Rooms.{RoomForAll-wider}
+use Rattle.irig_journal.specs.Turns.{RoomForAll}
 
 module _ {S C : Type 0} where
   -- places that are wider have room for each change that the narrow ones have room for
@@ -11,6 +11,13 @@ module _ {S C : Type 0} where
   IsWider small large = (s : S) (c : C) → small s c → large s c
 
 module _ {S C D : Type 0} where
+  -- with more places each has room in its turn
+  RoomForAll-wider : (turned : S → D → S × D) (delta : C → D) (small large : S → C → Type 0) → IsWider small large → (s : S) (cs : List C)
+      → RoomForAll turned delta small s cs → RoomForAll turned delta large s cs
+  RoomForAll-wider turned delta small large wider s [] room = tt
+  RoomForAll-wider turned delta small large wider s (c ∷ cs) room =
+      (wider s c room.0, RoomForAll-wider turned delta small large wider (turned s (delta c)).0 cs room.1)
+
   -- changes that are ready are ready with more places
   pub turn_wider : (fits : S → D → Type 0) (turned : S → D → S × D) (delta : Parts C → D)
       (small large : S → C → Type 0) → IsWider small large → (s : S) (cs : List C)

@@ -1,8 +1,4 @@
 -- Lemmas that the laws of a state rest on. What a contract means needs none of them.
 pub mod Backs
-pub mod Edits
-pub mod Groups
 pub mod Parts
-pub mod Rooms
-pub mod Stack
 pub mod Turns

@@ -2,11 +2,11 @@
 
 ghost use Rattle.std.specs.Prelude.{◌≡◌, None, vec_capacity};
 ghost use Rattle.irig_journal.specs.Journal.{AreReady};
-ghost use Rattle.irig_journal.specs.Stack.{CanEdit, HasPlaceFor, edited};
+ghost use Rattle.irig_part_tests.specs.Stack.{CanEdit, HasPlaceFor, edited};
 
 mod sides;
 
-use irig_journal::stack::{Single, Stack};
+use crate::stack::{Single, Stack};
 use irig_journal::{
     Journal, JournalFault, Reversible, gathered_is_all, groups_give_back, machine_gives_back,
     turn_gives_back,

@@ -1,4 +1,4 @@
-//! The crates below the session, tested by their public calls. It has no code of its own.
+//! The crates below the session, tested by their public calls.
 #![tactic(auto)]
 
 #[cfg(test)]
@@ -17,5 +17,6 @@ mod journal_texts;
 mod journals;
 #[cfg(test)]
 mod moments;
+mod stack;
 #[cfg(test)]
 mod tracks;

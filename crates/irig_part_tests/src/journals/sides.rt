@@ -3,10 +3,10 @@
 
 ghost use Rattle.std.specs.Prelude.{◌≡◌, None, vec_capacity};
 ghost use Rattle.irig_journal.specs.Journal.{AreReady};
-ghost use Rattle.irig_journal.specs.Stack.{CanEdit, HasPlaceFor, edited};
+ghost use Rattle.irig_part_tests.specs.Stack.{CanEdit, HasPlaceFor, edited};
 
 use crate::journals::fresh;
-use irig_journal::stack::{Single, Stack};
+use crate::stack::{Single, Stack};
 use irig_journal::{Journal, Step, StepsLeft};
 use std::alloc::Global;
 use std::process::Abort;

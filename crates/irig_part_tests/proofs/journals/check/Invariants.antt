@@ -1,6 +1,6 @@
 use Rattle.std.proofs.Common.{vec_capacity}
 use Rattle.irig_journal.specs.Journal.{AreReady}
-use Rattle.irig_journal.specs.Stack.{CanEdit, HasPlaceFor, edited}
+use Rattle.irig_part_tests.specs.Stack.{CanEdit, HasPlaceFor, edited}
 use Rattle.irig_part_tests.proofs.journals.check.Given as goal
 
 -- the journal is ready at the stack after each call
