@@ -3,7 +3,6 @@
 
 mod beside;
 mod call;
-mod calls;
 mod fault;
 mod folder;
 mod kept;

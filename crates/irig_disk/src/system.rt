@@ -1,14 +1,15 @@
-//! A folder of the system: each method is one call, and nothing is decided here.
+//! A folder of the system: each method is one call, and only it makes the answer of that call.
 
-ghost use Rattle.std.specs.Prelude.{◌≡◌};
+ghost use Rattle.std.specs.Prelude.{◌≡◌, OnOk};
+ghost use Rattle.std.specs.Io.KnownBytes.{Appends};
 ghost use Rattle.irig_disk.specs.System.{untold, untold_now};
 
-use crate::calls::{
-    self, Appended, FileSynced, ModeTaken, NameRemoved, NamesSynced, Renamed, SystemFault,
-    SystemFile,
-};
 use crate::folder::Folder;
+use std::fs::{OpenFile, OpenOptions, Permissions};
+use std::io::{ErrorKind, Write};
+use std::os::unix::fs::{OpenOptionsExt, PermissionsExt};
 use std::rt::Files;
+use std::{fs, io};
 
 /// A folder of the system, held open for its sync. Names are paths that lead into it.
 #[derive(Drop)]
@@ -55,12 +56,22 @@ impl<R: Files> Folder for SystemFolder<'_, R> {
 
     ghost only_now = { λ _ _ _ left. absurd left };
 
+    /// A hidden file has mode 600 (octal); any other one what the process gives to a new file.
     fn make(
         &mut self,
         name: &str,
         hidden: bool,
     ) -> Result<Option<SystemFile<R::File>>, SystemFault> {
-        calls::make(self.runtime, name, hidden)
+        let mut how = OpenOptions::new();
+        how.write(true).create_new(true);
+        if hidden {
+            how.mode(0o600);
+        }
+        match how.open(self.runtime, name) {
+            Ok(file) => Ok(Some(SystemFile(file))),
+            Err(error) if error.kind() == ErrorKind::AlreadyExists => Ok(None),
+            Err(error) => Err(SystemFault(error)),
+        }
     }
 
     fn append(
@@ -68,7 +79,7 @@ impl<R: Files> Folder for SystemFolder<'_, R> {
         file: &mut SystemFile<R::File>,
         bytes: &[u8],
     ) -> Result<Appended, SystemFault> {
-        calls::append(file, bytes)
+        append_all(file, bytes)
     }
 
     fn take_mode(
@@ -76,22 +87,86 @@ impl<R: Files> Folder for SystemFolder<'_, R> {
         file: &SystemFile<R::File>,
         mode: u32,
     ) -> Result<ModeTaken, SystemFault> {
-        calls::take_mode(file, mode)
+        match file.0.set_permissions(Permissions::from_mode(mode)) {
+            Ok(()) => Ok(ModeTaken(())),
+            Err(error) => Err(SystemFault(error)),
+        }
     }
 
     fn sync_file(&mut self, file: &SystemFile<R::File>) -> Result<FileSynced, SystemFault> {
-        calls::sync_file(file)
+        match file.0.sync_all() {
+            Ok(()) => Ok(FileSynced(())),
+            Err(error) => Err(SystemFault(error)),
+        }
     }
 
     fn rename(&mut self, from: &str, to: &str) -> Result<Renamed, SystemFault> {
-        calls::rename(self.runtime, from, to)
+        match fs::rename(self.runtime, from, to) {
+            Ok(()) => Ok(Renamed(())),
+            Err(error) => Err(SystemFault(error)),
+        }
     }
 
     fn remove(&mut self, name: &str) -> Result<NameRemoved, SystemFault> {
-        calls::remove(self.runtime, name)
+        match fs::remove_file(self.runtime, name) {
+            Ok(()) => Ok(NameRemoved(())),
+            Err(error) => Err(SystemFault(error)),
+        }
     }
 
+    /// A file system that has no such call answers that the call is invalid: its names are kept as
+    /// it keeps them, and nobody can ask for more.
     fn sync_names(&mut self) -> Result<NamesSynced, SystemFault> {
-        calls::sync_names(&self.folder)
+        match self.folder.sync_all() {
+            Ok(()) => Ok(NamesSynced(())),
+            Err(error) if error.kind() == ErrorKind::InvalidInput => Ok(NamesSynced(())),
+            Err(error) => Err(SystemFault(error)),
+        }
+    }
+}
+
+/// A new file of the system, open to be written.
+#[derive(Drop)]
+pub struct SystemFile<F: Drop>(F);
+
+/// A call of the system failed.
+#[derive(Drop)]
+pub struct SystemFault(io::Error);
+
+/// The system wrote bytes.
+#[derive(Drop)]
+pub struct Appended(());
+
+/// The system changed a mode.
+#[derive(Drop)]
+pub struct ModeTaken(());
+
+/// The system says that it keeps a file.
+#[derive(Drop)]
+pub struct FileSynced(());
+
+/// The system gave a file another name.
+#[derive(Drop)]
+pub struct Renamed(());
+
+/// The system freed a name.
+#[derive(Drop)]
+pub struct NameRemoved(());
+
+/// The system says that it keeps the names of a folder.
+#[derive(Drop)]
+pub struct NamesSynced(());
+
+/// Writes all of the bytes. It is a function for its clause: of this folder those of `Folder` say
+/// nothing.
+fn append_all<F: Write + Drop>(
+    file: &mut SystemFile<F>,
+    bytes: &[u8],
+) -> Result<Appended, SystemFault>
+    ensures { OnOk result (Appends (F.contents file.old.0) (F.contents file.new.0) bytes.now) }
+{
+    match file.0.write_all(bytes) {
+        Ok(()) => Ok(Appended(())),
+        Err(error) => Err(SystemFault(error)),
     }
 }
