@@ -9,12 +9,11 @@ ghost use Rattle.irig_codes.specs.Decoding.{decoded};
 ghost use Rattle.irig_codes.specs.Ones.{raised};
 ghost use Rattle.irig_codes.specs.Reading.{counts};
 ghost use Rattle.irig_codes.specs.Width.{HasTwentieths, class_in};
-ghost use Rattle.irig_track.specs.Looks.{lens_view};
+ghost use Rattle.irig_track.specs.Looks.{after_looks, lens_view};
 ghost use Rattle.irig_track.specs.Track.{IsTrack};
 ghost use Rattle.irig_index.specs.declared.record.Verdict.TheVariants.{Read};
 ghost use Rattle.irig_index.specs.Checked.{Checked, looks_of};
 ghost use Rattle.irig_index.specs.Frames.{frame_at, record_after};
-ghost use Rattle.irig_index.specs.Looked.{after_looks};
 ghost use Rattle.irig_index.specs.Marker.{class_at, is_digit, is_position};
 ghost use Rattle.irig_index.specs.Verdict.{verdict_of};
 

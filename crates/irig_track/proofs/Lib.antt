@@ -17,6 +17,8 @@ pub mod Exchanges
 pub mod Turns
 pub mod Spans
 pub mod ToggleSpans
+-- Looks, and how many a search takes.
+pub mod Looks
 -- Laws of edits for the crates above.
 pub mod Laws
 pub mod Inverses

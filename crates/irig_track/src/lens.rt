@@ -1,7 +1,8 @@
 //! A track that counts the looks at its pulses.
 
-ghost use Rattle.std.specs.Prelude.{◌≡◌, ◌<◌, ◌≤◌, length, slice_get, Some};
-ghost use Rattle.irig_track.specs.Looks.{lens_view, counted};
+ghost use Rattle.std.specs.Prelude.{◌≡◌, ◌<◌, ◌≤◌, ◌^◌, ℕ, length, slice_get, Some};
+ghost use Rattle.irig_track.specs.Looks.{LookedThrough, lens_view, counted};
+ghost use Rattle.irig_track.specs.Splices.{risen_by};
 ghost use Rattle.irig_track.specs.Track.{IsTrack};
 
 use crate::track::Track;
@@ -22,7 +23,8 @@ impl Track {
 
 /// Shows a track, and counts how often a pulse was looked at.
 ///
-/// Who is handed a lens reaches the pulses through `pulse` alone, so its looks bound its work.
+/// Who is handed a lens reaches the pulses through `pulse` and `find` alone, so its looks bound its
+/// work.
 #[derive(Drop)]
 pub struct Lens<'a> {
     track: &'a Track,
@@ -68,7 +70,30 @@ impl<'a> Lens<'a> {
         self.track.pulse(index)
     }
 
-    /// How often `pulse` was called. The count stays at 2^64 - 1 once it is there.
+    /// How many pulses rise at or before `time`, in microseconds. Their number has at least as many
+    /// binary digits as looks are made.
+    #[inline(always)]
+    pub fn find(&mut self, time: u64) -> usize
+        ensures count { result ≡ risen_by time self.old.track.pulses }
+        ensures within { result ≤ length self.old.track.pulses }
+        ensures track { IsTrack self.old.track.micros self.old.track.pulses }
+        ensures looked { (digits : ℕ) → length self.old.track.pulses < 2 ^ digits →
+            LookedThrough self.old self.new digits }
+    {
+        let mut low = 0;
+        let mut high = self.len();
+        while low < high {
+            let middle = low + (high - low) / 2;
+            if self.pulse(middle).rise <= time {
+                low = middle + 1;
+            } else {
+                high = middle;
+            }
+        }
+        low
+    }
+
+    /// How many looks there were. The count stays at 2^64 - 1 once it is there.
     pub fn looks(&self) -> u64
         ensures { result ≡ self.now.looks }
     {

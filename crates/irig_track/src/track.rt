@@ -153,17 +153,7 @@ impl Track {
         ensures within { result ≤ length self.now.pulses }
         ensures track { IsTrack self.now.micros self.now.pulses }
     {
-        let mut low = 0;
-        let mut high = self.pulses.len();
-        while low < high {
-            let middle = low + (high - low) / 2;
-            if self.pulses.get(middle).rise <= time {
-                low = middle + 1;
-            } else {
-                high = middle;
-            }
-        }
-        low
+        self.lens().find(time)
     }
 
     /// How many pulses end before `time`, in microseconds.

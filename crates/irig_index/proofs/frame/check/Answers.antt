@@ -8,15 +8,14 @@ use Rattle.irig_codes.specs.Decoding.{decoded}
 use Rattle.irig_codes.specs.Ones.{raised}
 use Rattle.irig_codes.specs.Reading.{counts}
 use Rattle.irig_codes.specs.Width.{class_in, step_in}
-use Rattle.irig_track.specs.Looks.{lens_view}
+use Rattle.irig_track.specs.Looks.{after_looks, lens_view}
 use Rattle.irig_index.specs.declared.record.Cause.TheVariants.{Ended, Step, Class}
 use Rattle.irig_index.specs.declared.record.Verdict.TheVariants.{Broken, Read}
 use Rattle.irig_index.specs.Frames.{frame_at}
-use Rattle.irig_index.specs.Looked.{after_looks}
 use Rattle.irig_index.specs.Marker.{class_at, follows, is_digit, is_position}
 use Rattle.irig_index.specs.Verdict.{elements_of, first_fault, judged, suits}
 use Rattle.irig_index.proofs.CheckLemmas.{alone_next, digits_next, is_due, suits_other}
-use Rattle.irig_index.proofs.LookLemmas.{lens_next}
+use Rattle.irig_track.proofs.Looks.{lens_next}
 use Rattle.irig_index.proofs.PulseLemmas.{rise-rise, slice_get-part}
 use Rattle.irig_index.proofs.VerdictLemmas.{fault-ended, fault-step, fault-class, fault-none, elements-next, first_fault-here, first_fault-next}
 use Rattle.irig_index.proofs.VerdictLemmas.{first_fault-zero}

@@ -1,6 +1,6 @@
 use Rattle.std.proofs.Common.{◌+◌, ap, ◌∙◌, arith}
 use Rattle.irig_index.specs.Checked.{looks_of}
-use Rattle.irig_index.specs.Looked.{after_looks}
+use Rattle.irig_track.specs.Looks.{after_looks}
 use Rattle.irig_index.proofs.frame.verdict.Goals as goal
 
 pub returns-clause-looked : goal.returns-clause-looked

@@ -1,7 +1,6 @@
 use Rattle.std.proofs.Common.{◌≡◌, [], ◌-◌, ◌*◌, ◌<◌, ◌≤◌, ℕ}
-use Rattle.irig_track.specs.Looks.{lens_view}
+use Rattle.irig_track.specs.Looks.{after_looks, lens_view}
 use Rattle.irig_index.specs.Frames.{record_after}
-use Rattle.irig_index.specs.Looked.{after_looks}
 use Rattle.irig_index.proofs.marker.next_marker.Given as goal
 
 -- no marker so far
