@@ -7,6 +7,8 @@ use Rattle.irig_codes.specs.Width.{class_of, is_in_step}
 use Rattle.irig_vcd.specs.declared.pulse.Pulse.{Pulse}
 use Rattle.irig_track.specs.Edges.{edges_of}
 use Rattle.irig_track.specs.Shifts.{StaysFromZero, ahead, back, moved as moved_pulses, moved_pulse}
+use Rattle.irig_track.proofs.Carried.{length-piece}
+use Rattle.irig_track.proofs.Laws.{parts}
 use Rattle.irig_index.specs.declared.record.Record.{Record}
 use Rattle.irig_index.specs.Frames.{frame_at, frames, record_after, records_in}
 use Rattle.irig_index.specs.Index.{WereFrames}
@@ -15,7 +17,6 @@ use Rattle.irig_index.specs.Marker.{is_marker, is_position}
 use Rattle.irig_index.specs.Verdict.{verdict_of}
 use Rattle.irig_index.proofs.FrameLemmas.{frames-next, record_after-pulses, records_in-next, records_in-none}
 use Rattle.irig_index.proofs.MarkerBounds.{length-records_in}
-use Rattle.irig_index.proofs.RepairLemmas.{parts, piece_long}
 use Rattle.irig_index.proofs.Window.{frames_parted}
 
 -- how many pulses are markers, by the pulse before each
@@ -127,10 +128,10 @@ frames_few_after f at gone come micros records ps were =
     let y = take come (drop at ps) in
     let x = take gone (drop at were.former) in
     let b = drop (at + come) ps in
-    let y_long : length y ≡ come = piece_long ps at come were.span.came in
-    let whole : ps ≡ a ++ (y ++ b) = parts ps at come in
+    let y_long : length y ≡ come = length-piece ps at come were.span.came in
+    let whole : ps ≡ a ++ (y ++ b) = sym (parts at come ps) in
     let former : were.former ≡ a ++ (x ++ b) =
-    parts were.former at gone ∙ ((λ i. sym were.span.before i ++ (x ++ sym were.span.after i))) in
+    sym (parts at gone were.former) ∙ ((λ i. sym were.span.before i ++ (x ++ sym were.span.after i))) in
     omega (
       arith,
       ap (λ qs. length (frames f qs)) whole,

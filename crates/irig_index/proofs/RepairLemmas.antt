@@ -3,11 +3,13 @@ use Rattle.std.proofs.Common.{◌≡◌, ℕ, ◌+◌, ◌-◌, ◌%◌, ◌^◌
 use Rattle.std.proofs.Common.{map, min, refl, sym, ap, subst, ◌∙◌, inl, inr, arith, append_assoc}
 use Rattle.std.proofs.Common.{length-append, length-drop}
 use Rattle.std.proofs.lemmas.Bool.{cases_lt}
-use Rattle.std.proofs.lemmas.List.{take-append-drop, drop-drop, length-take-le}
+use Rattle.std.proofs.lemmas.List.{take-append-drop, length-take-le}
 use Rattle.irig_codes.specs.Format.{FormatView}
 use Rattle.std.proofs.Math.Seq.{take-append_seam, drop-append_seam}
 use Rattle.irig_gap.specs.Items.{GapView, gap_view}
 use Rattle.irig_vcd.specs.declared.pulse.Pulse.{Pulse}
+use Rattle.irig_track.proofs.Carried.{length-piece}
+use Rattle.irig_track.proofs.Laws.{parts}
 use Rattle.irig_index.specs.declared.record.Record.{Record}
 use Rattle.irig_index.specs.Frames.{frames, record_after, records_in}
 use Rattle.irig_index.specs.Index.{IndexView, WereFrames, index_view}
@@ -153,15 +155,6 @@ module _ (f : FormatView) (a x y b : List Pulse) (m count : ℕ) (order : m ≤ 
             ∙ (append_assoc (records_in f (a ++ (y ++ b)) 0 m) window (map (moved (length a + length y)) (frames f b))
             ∙ sym (frames_parted f a y b m (omega (arith, order))))
 
--- a list in three parts
-pub parts : (ps : List Pulse) (at n : ℕ) → ps ≡ take at ps ++ (take n (drop at ps) ++ drop (at + n) ps)
-parts ps at n =
-    sym (take-append-drop at ps)
-    ∙ ap (λ qs. take at ps ++ qs) (sym (take-append-drop n (drop at ps)) ∙ ap (λ qs. take n (drop at ps) ++ qs) (drop-drop n at ps))
-
-pub piece_long : (ps : List Pulse) (at n : ℕ) → at + n ≤ length ps → length (take n (drop at ps)) ≡ n
-piece_long ps at n le = length-take-le n (drop at ps) (omega (arith, length-drop at ps))
-
 pub length-filled : (g h : GapView Record) (rs : List Record) → left_of h ≡ left_of g ++ rs → kept_right h ≡ kept_right g
     → length h.items ≡ length g.items + length rs
 length-filled g h rs left right =
@@ -191,19 +184,19 @@ module _ (f : FormatView) (at gone come micros : ℕ) (records : List Record) (p
 
   went_long : length went ≡ gone
   unfolding went
-  went_long = piece_long were.former at gone were.span.there
+  went_long = length-piece were.former at gone were.span.there
 
   came_long : length came ≡ come
   unfolding came
-  came_long = piece_long ps at come were.span.came
+  came_long = length-piece ps at come were.span.came
 
   whole : ps ≡ before ++ (came ++ after)
   unfolding before came after
-  whole = parts ps at come
+  whole = sym (parts at come ps)
 
   former : were.former ≡ before ++ (went ++ after)
   unfolding before went after
-  former = parts were.former at gone ∙ (λ i. sym were.span.before i ++ (went ++ sym were.span.after i))
+  former = sym (parts at gone were.former) ∙ (λ i. sym were.span.before i ++ (went ++ sym were.span.after i))
 
   order : from ≤ length before - 1
   order = omega (arith, before_long, first)

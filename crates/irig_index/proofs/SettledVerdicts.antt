@@ -11,7 +11,7 @@ use Rattle.irig_index.specs.Frames.{frame_at}
 use Rattle.irig_index.specs.Marker.{class_at, follows, is_digit, is_position}
 use Rattle.irig_index.specs.Verdict.{fault_at, fault_of, first_fault, judged, suits, verdict_of}
 use Rattle.irig_index.proofs.FrameLemmas.{position_class}
-use Rattle.irig_index.proofs.PulseLemmas.{slice_get-part}
+use Rattle.irig_track.proofs.Items.{slice_get-part}
 use Rattle.irig_index.proofs.VerdictLemmas.{fault-class, fault-step, first_fault-here, first_fault-next}
 use Rattle.irig_index.proofs.Window.{take-drop-append}
 

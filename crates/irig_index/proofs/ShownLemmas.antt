@@ -4,7 +4,7 @@ use Rattle.std.proofs.Common.{slice_get, slice_set, Some, refl, sym, ap, subst, 
 use Rattle.irig_gap.specs.Items.{GapView, gap_view}
 use Rattle.irig_index.specs.declared.record.Record.{Record}
 use Rattle.irig_index.specs.Sides.{turned, left_of, right_of, shown, BeginsAfter}
-use Rattle.irig_index.proofs.PulseLemmas.{drop-item, take-item}
+use Rattle.irig_track.proofs.Items.{drop-item, take-item}
 use Rattle.irig_index.proofs.SideLemmas.{seen}
 
 module _ {X : Type 0} where

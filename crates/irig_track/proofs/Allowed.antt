@@ -1,7 +1,7 @@
 -- When a splice and a shift leave a track.
 use Rattle.std.proofs.Common.{◌≡◌, ℕ, suc, zero, ℤ, ◌+◌, ◌-◌, ◌^◌, ◌<◌, ◌≤◌, List, [], ◌∷◌, ◌++◌, map, length, take, drop, slice_get, Some, refl, sym, ap, ◌∙◌}
 use Rattle.std.proofs.Common.{subst, arith, append_assoc}
-use Rattle.std.proofs.lemmas.List.{take-map, length-map, drop-drop}
+use Rattle.std.proofs.lemmas.List.{take-map, length-map}
 use Rattle.irig_vcd.specs.Recording.{RisesFrom, UpTo}
 use Rattle.irig_vcd.specs.declared.pulse.Pulse.{Pulse}
 use Rattle.irig_track.specs.Edges.{edges_of}
@@ -9,10 +9,11 @@ use Rattle.irig_track.specs.Free.{following, first_or}
 use Rattle.irig_track.specs.Shifts.{moved_pulse, moved, ahead, back, count_to, StaysFromZero, CanShift}
 use Rattle.irig_track.specs.Splices.{piece, CanSplice}
 use Rattle.irig_track.specs.Track.{IsTrack}
-use Rattle.irig_track.proofs.Carried.{length-spliced, length-piece, first_of_drop}
+use Rattle.irig_track.proofs.Carried.{length-spliced, length-piece}
+use Rattle.irig_track.proofs.Items.{drop-item, slice_get-drop}
 use Rattle.irig_track.proofs.Laws.{edges_of-three, edges_of-parts}
 use Rattle.irig_track.proofs.RisingLists.{rises_left, rises_right, rises_more}
-use Rattle.irig_track.proofs.PulsesBetween.{here, rises_split, rises_joined, rises_first, rises_cut, following-last}
+use Rattle.irig_track.proofs.PulsesBetween.{rises_split, rises_joined, rises_first, rises_cut, following-last}
 
 -- numbers up to a bound are below the next number
 bounded : (low top : ℕ) (xs : List ℕ) → RisesFrom low xs → UpTo top xs → low ≤ top + 1 → RisesFrom low (xs ++ (top + 1) ∷ [])
@@ -118,13 +119,10 @@ module _ (i j : ℕ) (p q : Pulse) (ps : List Pulse) (order : i ≤ j) (first : 
   piece_count = omega arith
 
   piece_last : slice_get (drop i ps) (j - i) ≡ Some q
-  piece_last =
-      let there : i + (j - i) ≡ j = omega arith in
-      sym (first_of_drop (drop i ps) (j - i)) ∙ ap (λ ys. slice_get ys 0) (drop-drop (j - i) i ps) ∙ first_of_drop ps (i + (j - i)) ∙ ap (slice_get ps) there
-      ∙ last
+  piece_last = slice_get-drop i ps (j - i) j (omega arith) ∙ last
 
   piece_first : piece i (count_to i j) ps ≡ p ∷ take (j - i) (drop (i + 1) ps)
-  piece_first = ap (λ k. take k (drop i ps)) piece_count ∙ ap (take (suc (j - i))) (here ps i p first)
+  piece_first = ap (λ k. take k (drop i ps)) piece_count ∙ ap (take (suc (j - i))) (drop-item ps i p first)
 
   following-piece : (low : ℕ) → following low (edges_of (piece i (count_to i j) ps)) ≡ q.fall + 1
   following-piece low = ap (λ k. following low (edges_of (take k (drop i ps)))) piece_count ∙ following-last low (j - i) q (drop i ps) piece_last

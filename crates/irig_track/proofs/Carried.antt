@@ -2,18 +2,16 @@
 use Rattle.std.proofs.Common.{◌≡◌, ℕ, suc, zero, ◌+◌, ◌-◌, ◌<◌, ◌≤◌, List, [], ◌∷◌, ◌++◌, length, take, drop}
 use Rattle.std.proofs.Common.{insert, remove, slice_get, Option, Some, refl, sym, ap, ◌∙◌, subst, arith}
 use Rattle.std.proofs.Common.{append_assoc, length-append, length-drop}
-use Rattle.std.proofs.lemmas.List.{drop-drop, take_more, length-take-le}
+use Rattle.std.proofs.lemmas.List.{drop-drop, length-take-le}
 use Rattle.std.proofs.lemmas.List.Edits.{insert-append_right, remove-append_right}
-use Rattle.std.proofs.lemmas.Option.{slice_get_within, get_or_from_slice_get}
+use Rattle.std.proofs.lemmas.Option.{slice_get_within}
 use Rattle.irig_gap.specs.Items.{GapView, gap_view}
 use Rattle.irig_vcd.specs.declared.pulse.Pulse.{Pulse}
 use Rattle.irig_track.specs.Splices.{spliced, piece}
+use Rattle.irig_track.proofs.Items.{slice_get-drop, take-item}
 
 pub first_of_drop : (zs : List Pulse) (m : ℕ) → slice_get (drop m zs) 0 ≡ slice_get zs m
-first_of_drop [] zero = refl
-first_of_drop [] (suc m) = refl
-first_of_drop (z ∷ zs) zero = refl
-first_of_drop (z ∷ zs) (suc m) = first_of_drop zs m
+first_of_drop zs m = slice_get-drop m zs 0 m (omega arith)
 
 past_take : (xs zs : List Pulse) (p : ℕ) → p ≤ length xs → slice_get (take p xs ++ zs) p ≡ slice_get zs 0
 past_take xs zs zero le = refl
@@ -36,7 +34,7 @@ carried_to ys zs q m z le is =
     let back : q + m - q ≡ m = omega arith in let none : m - m ≡ 0 = omega arith in let lt : m < length zs = slice_get_within zs m z is in
     let d = drop (q + 0) ys in
     let more : take m zs ++ (z ∷ d) ≡ take (m + 1) zs ++ d = sym (append_assoc (take m zs) (z ∷ []) d) ∙ ap (λ xs. xs ++ d)
-    (ap (λ y. take m zs ++ y ∷ []) (sym (get_or_from_slice_get zs m z z is)) ∙ sym (take_more zs m z lt)) in
+    (sym (take-item zs m z is)) in
     insert-append_right (take q ys) (take m zs ++ d) q (q + m) z (length-take-le q ys le) (omega arith)
     ∙ ap (λ k. take q ys ++ insert (take m zs ++ d) k z) back
     ∙ ap (λ xs. take q ys ++ xs) (insert-append_right (take m zs) d m m z (length-take-le m zs (omega arith)) (omega arith) ∙ ap

@@ -1,18 +1,15 @@
 -- Pulses replaced by others, one after the other, each in its place.
-use Rattle.std.proofs.Common.{◌≡◌, ℕ, ◌+◌, ◌<◌, ◌≤◌, List, [], ◌∷◌, ◌++◌, length, take, drop}
+use Rattle.std.proofs.Common.{◌≡◌, ℕ, ◌+◌, ◌<◌, ◌≤◌, List, [], ◌∷◌, length, take, drop}
 use Rattle.std.proofs.Common.{insert, remove, slice_get, slice_set, Option, Some, sym, ap, ◌∙◌, subst, arith, length-drop, refl}
-use Rattle.std.proofs.lemmas.List.{take_more, drop-drop, length-take-le}
+use Rattle.std.proofs.lemmas.List.{drop-drop, length-take-le}
 use Rattle.std.proofs.lemmas.List.Edits.{insert_end}
-use Rattle.std.proofs.lemmas.Option.{slice_get_within, get_or_from_slice_get}
+use Rattle.std.proofs.lemmas.Option.{slice_get_within}
 use Rattle.irig_gap.specs.Items.{GapView, gap_view}
 use Rattle.irig_vcd.specs.declared.pulse.Pulse.{Pulse}
 use Rattle.irig_track.specs.Splices.{spliced, piece}
 use Rattle.irig_track.proofs.Carried.{first_of_drop, length-piece}
+use Rattle.irig_track.proofs.Items.{take-item}
 use Rattle.irig_track.proofs.MovedPulses.{more_piece, more_set, unmoved}
-
--- one item more of a list from its front
-take_one : (qs : List Pulse) (m : ℕ) (q : Pulse) → slice_get qs m ≡ Some q → take (m + 1) qs ≡ take m qs ++ q ∷ []
-take_one qs m q is = take_more qs m q (slice_get_within qs m q is) ∙ ap (λ y. take m qs ++ y ∷ []) (get_or_from_slice_get qs m q q is)
 
 -- the first of what is left is removed
 remove_first : (qs : List Pulse) → remove qs 0 ≡ drop 1 qs
@@ -54,7 +51,7 @@ module _ (g p k : GapView Pulse) (at m : ℕ) (x y : Pulse) (there : at + m < le
       let long : length (take m p.items) ≡ m = length-take-le m p.items (omega (arith, slice_get_within p.items m y come)) in
       we ∙ ap (λ (z : GapView Pulse). gap_view (slice_set z.items (at + m) y) z.place z.capacity) ue
       ∙ ap (λ zs. gap_view zs g.place g.capacity)
-      (more_set at m x y (take m p.items) g.items long is ∙ ap (λ zs. spliced at (m + 1) zs g.items) (sym (take_one p.items m y come)))
+      (more_set at m x y (take m p.items) g.items long is ∙ ap (λ zs. spliced at (m + 1) zs g.items) (sym (take-item p.items m y come)))
 
 -- the next pulse that comes
 pub comes : (p v w : GapView Pulse) (m : ℕ) (y : Pulse) (r : Option Pulse) → m < length p.items → v ≡ LeftToPut p m → r ≡ Some y

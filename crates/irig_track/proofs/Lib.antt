@@ -2,6 +2,8 @@
 pub mod RisingLists
 pub mod Below
 pub mod Sets
+-- Places of lists.
+pub mod Items
 -- Pulses and their edges.
 pub mod Places
 pub mod Searches

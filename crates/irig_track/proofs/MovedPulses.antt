@@ -1,13 +1,13 @@
 -- Pulses moved in time, one after the other.
 use Rattle.std.proofs.Common.{◌≡◌, ℕ, suc, ◌+◌, ◌-◌, ◌<◌, List, [], ◌∷◌, ◌++◌, map, length, take, drop, set}
 use Rattle.std.proofs.Common.{slice_get, Some, refl, sym, ap, ◌∙◌, arith, append_assoc}
-use Rattle.std.proofs.lemmas.List.{map-append, set-append_right, take_more, drop-drop, length-take-le, length-map}
-use Rattle.std.proofs.lemmas.Option.{slice_get_within, get_or_from_slice_get}
+use Rattle.std.proofs.lemmas.List.{map-append, set-append_right, length-take-le, length-map}
+use Rattle.std.proofs.lemmas.Option.{slice_get_within}
 use Rattle.irig_vcd.specs.declared.pulse.Pulse.{Pulse}
 use Rattle.irig_track.specs.Shifts.{moved_pulse}
 use Rattle.irig_track.specs.Splices.{spliced, piece}
 use Rattle.irig_track.proofs.Carried.{first_of_drop, length-piece}
-use Rattle.irig_track.proofs.PulsesBetween.{here}
+use Rattle.irig_track.proofs.Items.{drop-item, slice_get-drop, take-item}
 
 -- the pulses with the first m of those from at on moved
 abbrev pub moved_so_far : ℕ → ℕ → ℕ → ℕ → List Pulse → List Pulse
@@ -15,9 +15,7 @@ moved_so_far on off at m ps = spliced at m (map (moved_pulse on off) (piece at m
 
 pub more_piece : (at m : ℕ) (p : Pulse) (ps : List Pulse) → slice_get ps (at + m) ≡ Some p → piece at (m + 1) ps ≡ piece at m ps ++ p ∷ []
 more_piece at m p ps is =
-    let there : slice_get (drop at ps) m ≡ Some p = sym (first_of_drop (drop at ps) m) ∙ ap (λ ys. slice_get ys 0) (drop-drop m at ps)
-    ∙ first_of_drop ps (at + m) ∙ is in
-    take_more (drop at ps) m p (slice_get_within (drop at ps) m p there) ∙ ap (λ y. piece at m ps ++ y ∷ []) (get_or_from_slice_get (drop at ps) m p p there)
+    take-item (drop at ps) m p (slice_get-drop at ps m (at + m) refl ∙ is)
 
 past : (xs zs : List Pulse) (n k : ℕ) → length xs ≡ n → slice_get (xs ++ zs) (n + k) ≡ slice_get zs k
 past [] zs n k e = let z : n + k ≡ k = omega arith in ap (slice_get zs) z
@@ -47,7 +45,7 @@ more_set at m p q ms ps long is =
     set-append_right (take at ps) (ms ++ d) at (at + m) q (length-take-le at ps (omega arith)) (omega arith)
     ∙ ap (λ k. take at ps ++ set (ms ++ d) k q) back
     ∙ ap (λ ys. take at ps ++ ys) (set-append_right ms d m m q long (omega arith) ∙ ap (λ k. ms ++ set d k q) none
-    ∙ ap (λ ys. ms ++ set ys 0 q) (here ps (at + m) p is)
+    ∙ ap (λ ys. ms ++ set ys 0 q) (drop-item ps (at + m) p is)
     ∙ sym (append_assoc ms (q ∷ []) (drop (at + m + 1) ps))
     ∙ ap (λ k. (ms ++ q ∷ []) ++ drop k ps) up)
 

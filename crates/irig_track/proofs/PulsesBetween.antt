@@ -1,30 +1,26 @@
 -- Pulses that fit between two times.
-use Rattle.std.proofs.Common.{◌≡◌, ℕ, suc, zero, ◌+◌, ◌<◌, ◌≤◌, List, [], ◌∷◌, ◌++◌, take, drop, slice_get, Some, sym, ap, ◌∙◌, subst, arith}
+use Rattle.std.proofs.Common.{◌≡◌, ℕ, suc, zero, ◌+◌, ◌<◌, ◌≤◌, List, [], ◌∷◌, ◌++◌, take, drop, slice_get, Some, sym, ap, subst, arith}
 use Rattle.irig_vcd.specs.declared.pulse.Pulse.{Pulse}
 use Rattle.irig_vcd.specs.Recording.{RisesFrom}
 use Rattle.irig_track.specs.Edges.{edges_of}
 use Rattle.irig_track.specs.Free.{following}
 use Rattle.irig_track.proofs.RisingLists.{rises_right}
-use Rattle.irig_track.proofs.Turns.{first_right}
-use Rattle.irig_track.proofs.Carried.{first_of_drop}
+use Rattle.irig_track.proofs.Items.{drop-item}
 
 -- the pulses from the i-th on fit between low and high
 abbrev pub StandFrom : ℕ → ℕ → ℕ → List Pulse → Type 0
 StandFrom low high i ps = RisesFrom low (edges_of (drop i ps) ++ high ∷ [])
 
-pub here : (ps : List Pulse) (i : ℕ) (p : Pulse) → slice_get ps i ≡ Some p → drop i ps ≡ p ∷ drop (i + 1) ps
-here ps i p is = let up : suc i ≡ i + 1 = omega arith in first_right ps i p (first_of_drop ps i ∙ is) ∙ ap (λ k. p ∷ drop k ps) up
-
 pub stand_here : (low high i : ℕ) (p : Pulse) (ps : List Pulse) → slice_get ps i ≡ Some p → StandFrom low high i ps
     → (low ≤ p.rise) × (p.rise < p.fall) × (p.fall < high) × StandFrom (p.fall + 1) high (i + 1) ps
 stand_here low high i p ps is h =
     let k : RisesFrom low (p.rise ∷ p.fall ∷ (edges_of (drop (i + 1) ps) ++ high ∷ [])) =
-    subst (λ qs. RisesFrom low (edges_of qs ++ high ∷ [])) (here ps i p is) h in
+    subst (λ qs. RisesFrom low (edges_of qs ++ high ∷ [])) (drop-item ps i p is) h in
     (k.0, omega (arith, k.1.0), omega (arith, (rises_right (p.fall + 1) (edges_of (drop (i + 1) ps)) (high ∷ []) k.1.1).0), k.1.1)
 
 pub stand_next : (low high i : ℕ) (p : Pulse) (ps : List Pulse) → slice_get ps i ≡ Some p → low ≤ p.rise → p.rise < p.fall
     → StandFrom (p.fall + 1) high (i + 1) ps → StandFrom low high i ps
-stand_next low high i p ps is a b h = subst (λ qs. RisesFrom low (edges_of qs ++ high ∷ [])) (sym (here ps i p is)) (a, (omega arith, h))
+stand_next low high i p ps is a b h = subst (λ qs. RisesFrom low (edges_of qs ++ high ∷ [])) (sym (drop-item ps i p is)) (a, (omega arith, h))
 
 pub rises_split : (low : ℕ) (xs ys : List ℕ) → RisesFrom low (xs ++ ys) → RisesFrom low xs × RisesFrom (following low xs) ys
 rises_split low [] ys h = (tt, h)

@@ -9,10 +9,10 @@ use Rattle.irig_vcd.specs.declared.pulse.Pulse.{Pulse}
 use Rattle.irig_track.specs.Edges.{edges_of}
 use Rattle.irig_track.specs.Texts.{lines_of, last_fall, lines_after}
 use Rattle.irig_track.specs.Track.{IsTrack}
-use Rattle.irig_track.proofs.PulsesBetween.{here}
+use Rattle.irig_track.proofs.Items.{drop-item}
 
 pub first_high : (p : Pulse) (ps : List Pulse) → slice_get ps 0 ≡ Some p → (p.rise == 0) ≡ begins_high (edges_of ps)
-first_high p ps is = sym (ap (λ qs. begins_high (edges_of qs)) (here ps 0 p is))
+first_high p ps is = sym (ap (λ qs. begins_high (edges_of qs)) (drop-item ps 0 p is))
 
 lines_of_edges : (ps : List Pulse) → lines_of ps ≡ all_lines true (edges_of ps)
 lines_of_edges [] = refl
@@ -39,7 +39,7 @@ pub more_put : (i micros last next : ℕ) (p : Pulse) (ps : List Pulse) (text lo
     → longer ++ lines_after next (drop (i + 1) ps) micros ≡ text ++ lines_after last (drop i ps) micros
 more_put i micros last next p ps text longer is lines falls =
     let rest = drop (i + 1) ps in
-    let cut : drop i ps ≡ p ∷ rest = here ps i p is in
+    let cut : drop i ps ≡ p ∷ rest = drop-item ps i p is in
     ap (λ (t : List ℕ). t ++ lines_after next rest micros) lines
     ∙ (ap (λ n. ((text ++ lines_at true p.rise) ++ lines_at false p.fall) ++ lines_after n rest micros) falls
     ∙ (regroup text (lines_at true p.rise) (lines_at false p.fall) (lines_of rest) (length_line (last_fall p.fall rest) micros)

@@ -1,7 +1,8 @@
 -- A toggle turns one edge, then the other.
-use Rattle.std.proofs.Common.{◌≡◌, ℕ, suc, zero, ◌+◌, ◌<◌, ◌≤◌, ◌≢◌, List, [], ◌∷◌, ◌++◌, length, take, drop, insert, remove, slice_get, Some, None, refl, sym}
-use Rattle.std.proofs.Common.{ap, ◌∙◌, subst, arith, append_assoc}
+use Rattle.std.proofs.Common.{◌≡◌, ℕ, suc, ◌+◌, ◌<◌, ◌≤◌, ◌≢◌, List, [], ◌∷◌, ◌++◌, length, take, drop, insert, remove, slice_get, Some, None, refl, sym}
+use Rattle.std.proofs.Common.{ap, ◌∙◌, subst, arith, add-one, append_assoc}
 use Rattle.std.proofs.lemmas.List.{take-append-drop, append-nil, length-take-le}
+use Rattle.std.proofs.lemmas.Option.{slice_get_within}
 use Rattle.std.proofs.Math.Seq.{take-append_seam, drop-append_seam, take-append-add, drop-append-add}
 use Rattle.irig_gap.specs.Items.{GapView, gap_view}
 use Rattle.irig_vcd.specs.declared.pulse.Pulse.{Pulse}
@@ -10,6 +11,7 @@ use Rattle.irig_track.specs.Edges.{Under, edges_of, pulse}
 use Rattle.irig_track.specs.Toggles.{flipped}
 use Rattle.irig_track.specs.Sides.{left_of, right_of, waiting, RiseUpTo, Stays, Took, Wrote, Begun, Finished}
 use Rattle.irig_vcd.proofs.PulseEdges.{edges_of-append}
+use Rattle.irig_track.proofs.Items.{drop-item, slice_get-drop}
 use Rattle.irig_track.proofs.RisingLists.{flip_low, flip_same, flip_high, flipped-past, Under-more, rises_right, rises_more}
 
 pub edges_of-sides : (v : GapView Pulse) → edges_of v.items ≡ edges_of (left_of v) ++ edges_of (right_of v)
@@ -63,27 +65,16 @@ stays_up b d u v le s = record {
   capacity = s.capacity;
 }
 
-pub first_right : (xs : List Pulse) (i : ℕ) (p : Pulse) → slice_get (drop i xs) 0 ≡ Some p → drop i xs ≡ p ∷ drop (suc i) xs
-first_right [] zero p is = absurd (cc)
-first_right [] (suc i) p is = absurd (cc)
-first_right (x ∷ xs) zero p is = (let e : x ≡ p = cc in ap (λ y. y ∷ xs) e)
-first_right (x ∷ xs) (suc i) p is = first_right xs i p is
-
-pub right_within : (xs : List Pulse) (i : ℕ) (p : Pulse) → slice_get (drop i xs) 0 ≡ Some p → i < length xs
-right_within [] zero p is = absurd (cc)
-right_within [] (suc i) p is = absurd (cc)
-right_within (x ∷ xs) zero p is = omega arith
-right_within (x ∷ xs) (suc i) p is = omega (arith, right_within xs i p is)
-
 -- a step on the sides
 pub took_step : (v : GapView Pulse) (p : Pulse) → slice_get (right_of v) 0 ≡ Some p → Took p v (gap_view (remove v.items v.place) v.place v.capacity)
 took_step v p is =
-    let lt : v.place < length v.items = right_within v.items v.place p is in
+    let at : slice_get v.items v.place ≡ Some p = sym (slice_get-drop v.place v.items 0 v.place (omega arith)) ∙ is in
+    let lt : v.place < length v.items = slice_get_within v.items v.place p at in
     let long : length (take v.place v.items) ≡ v.place = length-take-le v.place v.items (omega arith) in
     let xs = take v.place v.items in
     record {
       left = ap (λ k. take k (remove v.items v.place)) (sym long) ∙ take-append_seam xs (drop (suc v.place) v.items);
-      right = first_right v.items v.place p is ∙ ap (λ ps. p ∷ ps)
+      right = drop-item v.items v.place p at ∙ ap (λ k. p ∷ drop k v.items) (add-one v.place) ∙ ap (λ ps. p ∷ ps)
           (sym (ap (λ k. drop k (remove v.items v.place)) (sym long) ∙ drop-append_seam xs (drop (suc v.place) v.items)));
       capacity = refl;
     }
@@ -115,7 +106,7 @@ wrote_edges : (p : Pulse) (v w : GapView Pulse) (xs : List ℕ) → Wrote p v w 
 wrote_edges p v w xs t = ap (λ ps. edges_of ps ++ xs) t.left ∙ ap (λ es. es ++ xs) (edges_of-append (left_of v) (p ∷ []))
     ∙ append_assoc (edges_of (left_of v)) (p.rise ∷ p.fall ∷ []) xs
 
-Under-append : (a : ℕ) (xs ys : List ℕ) → Under a xs → Under a ys → Under a (xs ++ ys)
+pub Under-append : (a : ℕ) (xs ys : List ℕ) → Under a xs → Under a ys → Under a (xs ++ ys)
 Under-append a [] ys h i = i
 Under-append a (x ∷ xs) ys h i = (h.0, Under-append a xs ys h.1 i)
 

@@ -3,11 +3,11 @@ use Rattle.std.proofs.Common.{suc, ◌≡◌, ◌≤◌, ◌+◌, ◌-◌, ℕ, 
 use Rattle.irig_index.specs.Frames.{frames}
 use Rattle.irig_index.specs.Index.{WereFrames}
 use Rattle.irig_index.proofs.FewFrames.{frames_few, frames_few_after, frames_moved}
-use Rattle.irig_index.proofs.RepairLemmas.{parts}
 use Rattle.irig_vcd.specs.declared.pulse.Pulse.{Pulse}
 use Rattle.irig_track.specs.Shifts.{count_to, moved}
 use Rattle.irig_track.specs.Splices.{IsSpan, ended_before, piece, risen_by, spliced}
 use Rattle.irig_track.proofs.Carried.{length-spliced}
+use Rattle.irig_track.proofs.Laws.{parts}
 use Rattle.irig_track.proofs.ToggleSpans.{span_of_toggle}
 use Rattle.irig_edit.specs.Changes.Ample.{IsAmpleFor, PutsIn, records_for}
 use Rattle.irig_edit.specs.Changes.Held.{single_of}
@@ -42,7 +42,7 @@ parted_few s at count put =
     let a = take at s.pulses in
     let x = piece at count s.pulses in
     let b = drop (at + count) s.pulses in
-    omega (arith, frames_few s.format a x put b, ap (λ qs. length (frames s.format qs)) (parts s.pulses at count))
+    omega (arith, frames_few s.format a x put b, ap (λ qs. length (frames s.format qs)) (sym (parts at count s.pulses)))
 
 -- a turn brings no more records than it may
 pub frames_after : (s : State) (d : saved.Single) → IsState s → FitsSingle s d

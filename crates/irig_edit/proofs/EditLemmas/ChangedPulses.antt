@@ -1,7 +1,6 @@
 -- Pulses that are split, joined and forced.
 use Rattle.std.proofs.Common.{◌≡◌, ◌≤◌, ◌<◌, ◌+◌, ◌-◌, ◌^◌, ◌==◌, ◌||◌, ◌&&◌, not, ℕ, suc, zero, Bool, true, false, List, [], ◌∷◌, ◌++◌, length, take, drop}
 use Rattle.std.proofs.Common.{slice_get, get_or, Some, refl, ap, ap₂, sym, ◌∙◌, subst, arith, if◌then◌else◌}
-use Rattle.std.proofs.lemmas.List.{take_more}
 use Rattle.std.proofs.Math.Bool.{or-true}
 use Rattle.std.proofs.Math.Seq.{drop-nil}
 use Rattle.std.proofs.lemmas.Option.{slice_get_within, get_or_from_slice_get}
@@ -17,6 +16,7 @@ use Rattle.irig_track.proofs.RisingLists.{rises_right}
 use Rattle.irig_track.proofs.Sets.{has-append}
 use Rattle.irig_track.proofs.Places.{pulse_within}
 use Rattle.irig_track.proofs.Carried.{length-spliced}
+use Rattle.irig_track.proofs.Items.{take-item}
 use Rattle.irig_edit.specs.State.State.{State, IsState, with_pulses}
 use Rattle.irig_edit.specs.Edits.Edits.{pulse_of}
 use Rattle.irig_edit.specs.Edits.Conditions.{meets_next}
@@ -161,9 +161,7 @@ regroup q [] after = refl
 regroup q (m ∷ mid) after = ap (λ xs. m.rise ∷ m.fall ∷ xs) (regroup q mid after)
 
 end_taken : (xs : List Pulse) (n : ℕ) (q : Pulse) → slice_get xs n ≡ Some q → take (suc n) xs ≡ take n xs ++ q ∷ []
-end_taken xs n q is =
-    let up : suc n ≡ n + 1 = omega arith in
-    ap (λ k. take k xs) up ∙ take_more xs n q (slice_get_within xs n q is) ∙ ap (λ y. take n xs ++ y ∷ []) (get_or_from_slice_get xs n q q is)
+end_taken xs n q is = let up : suc n ≡ n + 1 = omega arith in ap (λ k. take k xs) up ∙ take-item xs n q is
 
 -- the first and the last of a piece
 ends : (ps : List Pulse) (at n : ℕ) (p q : Pulse) → slice_get ps at ≡ Some p → slice_get ps (suc (at + n)) ≡ Some q

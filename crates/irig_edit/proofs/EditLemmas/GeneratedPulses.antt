@@ -16,6 +16,7 @@ use Rattle.irig_vcd.specs.declared.pulse.Pulse.{Pulse}
 use Rattle.irig_track.specs.Edges.{edges_of, pulse, Under}
 use Rattle.irig_vcd.proofs.PulseEdges.{edges_of-append}
 use Rattle.irig_track.proofs.RisingLists.{rises_more}
+use Rattle.irig_track.proofs.Turns.{Under-append}
 use Rattle.irig_edit.specs.Edits.Regenerated.{index_point, element_pulse, frame_pulses, frames_end}
 use Rattle.irig_codes.proofs.WidthLemmas.{nominal_of-within}
 
@@ -53,10 +54,6 @@ index_le f start k e l d le = omega (arith, mul-le-mul_right {m = 100 * k + e} {
 pub rises_apart : (low mid : ℕ) (xs ys : List ℕ) → low ≤ mid → RisesFrom low xs → Under mid xs → RisesFrom mid ys → RisesFrom low (xs ++ ys)
 rises_apart low mid [] ys le h u r = rises_more mid low ys le r
 rises_apart low mid (x ∷ xs) ys le h u r = (h.0, rises_apart (x + 1) mid xs ys (omega (arith, u.0)) h.1 u.1 r)
-
-pub Under-append : (t : ℕ) (xs ys : List ℕ) → Under t xs → Under t ys → Under t (xs ++ ys)
-Under-append t [] ys h i = i
-Under-append t (x ∷ xs) ys h i = (h.0, Under-append t xs ys h.1 i)
 
 pub UpTo-under : (t top : ℕ) (xs : List ℕ) → t ≤ top → Under t xs → UpTo top xs
 UpTo-under t top [] le h = tt

@@ -10,7 +10,7 @@ use Rattle.irig_codes.specs.Format.{control_count_of}
 use Rattle.irig_index.specs.declared.record.Record.{Record}
 use Rattle.irig_index.specs.Frames.{frames}
 use Rattle.irig_index.specs.Marker.{class_at}
-use Rattle.irig_index.proofs.PulseLemmas.{take-item}
+use Rattle.irig_track.proofs.Items.{take-item}
 use Rattle.irig_moment.specs.Generated.{starts_in}
 use Rattle.irig_moment.specs.Moment.{MomentView, IsMoment}
 use Rattle.irig_vcd.specs.declared.pulse.Pulse.{Pulse}

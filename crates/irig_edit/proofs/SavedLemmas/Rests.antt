@@ -1,11 +1,12 @@
 -- Texts in a row, given part by part: what was given, with what is left.
-use Rattle.std.proofs.Common.{◌≡◌, ◌≤◌, ◌++◌, ◌+◌, ℕ, Bool, true, false, List, [], ◌∷◌, Some, ap, drop, length, map, refl, reverse, slice_get, subst, sym, ◌∙◌}
+use Rattle.std.proofs.Common.{◌≡◌, ◌≤◌, ◌++◌, ◌+◌, ℕ, Bool, List, [], ◌∷◌, Some, ap, drop, length, map, refl, reverse, slice_get, subst, sym, ◌∙◌}
 use Rattle.std.proofs.Common.{append_assoc}
 use Rattle.std.specs.List.{AllByRecursion}
 use Rattle.std.proofs.lemmas.List.{at_drop_all, reverse-append}
-use Rattle.irig_index.proofs.PulseLemmas.{drop-item}
-use Rattle.irig_journal.specs.Held.{Held, parts_in, parts_of}
+use Rattle.irig_track.proofs.Items.{drop-item}
+use Rattle.irig_journal.specs.Held.{Held, parts_of}
 use Rattle.irig_journal.specs.History.{step}
+use Rattle.irig_journal.proofs.HeldLemmas.{parts_in-parts_of}
 use Rattle.irig_saved.specs.Lines.{text_of}
 use Rattle.irig_saved.specs.SavedText.{pulse_line, pulse_lines, single_lines, singles_lines, step_lines, steps_lines}
 use Rattle.irig_saved.proofs.Texts.{text_of_append}
@@ -90,13 +91,6 @@ pub steps-next : (hs others : List (Held Single)) (h : Held Single) → hs ≡ h
 steps-next hs others h split =
     ap (λ (l : List (Held Single)). steps_text (deltas_of l)) split
     ∙ text_of_append (step_lines (saved_step (step (delta_of h.parts) h.cursor))) (steps_lines (map saved_step (deltas_of others)))
-
--- the changes of a step that is shown, the nearest first
-parts_in-parts_of : (is_group : Bool) (cs : List Single) → parts_in (parts_of is_group cs) ≡ cs
-parts_in-parts_of true cs = refl
-parts_in-parts_of false [] = refl
-parts_in-parts_of false (c ∷ []) = refl
-parts_in-parts_of false (c ∷ (d ∷ cs)) = refl
 
 -- they can be named
 pub shown_named : (is_group : Bool) (cs : List Single) → AllByRecursion NumbersOfSingle (singles_of (delta_of (parts_of is_group cs)))

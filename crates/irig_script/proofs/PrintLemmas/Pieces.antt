@@ -7,7 +7,7 @@ use Rattle.std.specs.Io.KnownBytes.{Appends}
 use Rattle.irig_vcd.specs.declared.pulse.Pulse.{Pulse}
 use Rattle.irig_track.specs.Edges.{pulse}
 use Rattle.irig_track.specs.Splices.{piece}
-use Rattle.irig_index.proofs.PulseLemmas.{drop-item}
+use Rattle.irig_track.proofs.Items.{drop-item}
 use Rattle.irig_edit.specs.State.State.{State}
 use Rattle.irig_script.specs.Print.Front.{AppendsFront}
 use Rattle.irig_script.specs.Print.Listings.{list_text, pulse_line}

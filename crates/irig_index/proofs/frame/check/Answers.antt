@@ -16,7 +16,8 @@ use Rattle.irig_index.specs.Marker.{class_at, follows, is_digit, is_position}
 use Rattle.irig_index.specs.Verdict.{elements_of, first_fault, judged, suits}
 use Rattle.irig_index.proofs.CheckLemmas.{alone_next, digits_next, is_due, suits_other}
 use Rattle.irig_track.proofs.Looks.{lens_next}
-use Rattle.irig_index.proofs.PulseLemmas.{rise-rise, slice_get-part}
+use Rattle.irig_track.proofs.Items.{slice_get-part}
+use Rattle.irig_index.proofs.PulseLemmas.{rise-rise}
 use Rattle.irig_index.proofs.VerdictLemmas.{fault-ended, fault-step, fault-class, fault-none, elements-next, first_fault-here, first_fault-next}
 use Rattle.irig_index.proofs.VerdictLemmas.{first_fault-zero}
 use Rattle.irig_index.proofs.frame.check.Goals as goal
