@@ -9,7 +9,7 @@ ghost use Rattle.irig_index.specs.Passed.{Passed};
 ghost use Rattle.irig_index.specs.Sides.{left_of, kept_right, shown, EndsUpTo, BeginsAfter};
 ghost use Rattle.irig_index.specs.Stale.{LastMayBeStale, Retold, last_retold};
 
-use crate::frame::{looks_of, verdict};
+use crate::frame::{ELEMENTS, looks_of, verdict};
 use crate::look::add_looks;
 use crate::marker::next_marker;
 use crate::places::{count_up_to, is_up_to, set_record};
@@ -121,7 +121,7 @@ pub fn retell_up_to(
     let _count = records.len();
     let count = count_up_to(records, pulses, from);
     let more = is_up_to(records, pulses, count, last);
-    let settled = from.saturating_sub(99);
+    let settled = from.saturating_sub(ELEMENTS - 1);
     retell(records, pulses, count, lens, looks, format, settled);
     more
 }

@@ -23,6 +23,9 @@ use crate::record::{Cause, Verdict};
 use irig_codes::{Format, Gathering, decode_ones, step_in};
 use irig_track::{Lens, Pulse};
 
+/// How many elements a frame has.
+pub const ELEMENTS: usize = 100;
+
 /// The verdict on the frame of the marker `first`, at place `at` from 0. 99 looks at most.
 pub fn verdict(
     lens: &mut Lens<'_>,
@@ -51,7 +54,7 @@ pub fn looks_of(verdict: Verdict) -> u64
     match verdict {
         Verdict::Broken(k, Cause::Ended) => k.saturating_sub(1) as u64,
         Verdict::Broken(k, Cause::Step | Cause::Class) => k as u64,
-        Verdict::Read(..) => 99,
+        Verdict::Read(..) => ELEMENTS as u64 - 1,
     }
 }
 
@@ -69,7 +72,7 @@ fn check(lens: &mut Lens<'_>, format: Format, at: usize, first: Pulse) -> Verdic
 {
     let interval = format.interval();
     // The track may end within the frame.
-    let count = (lens.len() - at).min(100);
+    let count = (lens.len() - at).min(ELEMENTS);
     let mut ones = Gathering::none().and(false);
     let mut before = first;
     // This many digits are left before the next position identifier.
@@ -86,7 +89,7 @@ fn check(lens: &mut Lens<'_>, format: Format, at: usize, first: Pulse) -> Verdic
         before = pulse;
         digits = left;
     }
-    if count < 100 {
+    if count < ELEMENTS {
         return Verdict::Broken(count as u8, Cause::Ended);
     }
     read(format, ones)

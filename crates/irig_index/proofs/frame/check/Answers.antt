@@ -39,8 +39,8 @@ loop-k-init c =
       alone = λ j from to. absurd (omega (arith, from, to));
     }
 
-pub returns-then-count-lt100-clause-verdict : goal.returns-then-count-lt100-clause-verdict
-returns-then-count-lt100-clause-verdict c =
+pub returns-then-count-lt-ELEMENTS-clause-verdict : goal.returns-then-count-lt-ELEMENTS-clause-verdict
+returns-then-count-lt-ELEMENTS-clause-verdict c =
     let f = c.args.format in
     let ps = c.args.lens.now.track.pulses in
     let k = c.loop-k.k in
