@@ -4,6 +4,7 @@ use Rattle.std.specs.Prelude.{◌+◌, ℕ, Bool, true, false, List, [], ◌∷�
 use Rattle.std.specs.Prelude.{decimal, codes}
 use Rattle.std.specs.Fmt.{signed_decimal}
 use Rattle.irig_codes.specs.Words.{kind_word}
+use Rattle.irig_saved.specs.Letters.{letter_word}
 use Rattle.irig_saved.specs.Lines.{line}
 use Rattle.irig_saved.specs.declared.single.Single.{Single}
 use Rattle.irig_saved.specs.declared.single.Single.TheVariants.{Splice, Toggle, Shift, SetFormat}
@@ -44,7 +45,7 @@ words_of (Toggle a b) = decimal a ∷ decimal b ∷ []
 words_of (Shift i j by marks) =
     decimal i ∷ decimal j ∷ signed_decimal by ∷ moved_word marks ∷ []
 words_of (SetFormat kind expression) = kind_word kind ∷ decimal expression ∷ []
-words_of (SetMark letter time) = ((97 + letter) ∷ []) ∷ time_word time ∷ []
+words_of (SetMark letter time) = letter_word letter ∷ time_word time ∷ []
 
 -- the first line of a change, which is all of it but for a splice
 abbrev pub single_line : Single → List ℕ

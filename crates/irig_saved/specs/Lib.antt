@@ -1,4 +1,5 @@
 pub mod Lines
+pub mod Letters
 pub mod ChangeWords
 pub mod SavedText
 pub mod Ranges

@@ -1,10 +1,11 @@
 -- What is in lines, as tuples of values, and the words that they are. This project's own.
-use Rattle.std.specs.Prelude.{◌≡◌, ◌+◌, ◌<◌, ◌≤◌, ℕ, ℤ, Bool, List, [], ◌∷◌, Option, length}
+use Rattle.std.specs.Prelude.{◌≡◌, ◌<◌, ◌≤◌, ℕ, ℤ, Bool, List, [], ◌∷◌, Option, length}
 use Rattle.std.specs.Prelude.{decimal}
 use Rattle.std.specs.Fmt.{signed_decimal}
 use Rattle.irig_codes.specs.Words.{kind_word}
 use Rattle.irig_codes.specs.declared.format.Kind.{Kind}
 use Rattle.irig_saved.specs.ChangeWords.{moved_word, time_word}
+use Rattle.irig_saved.specs.Letters.{letter_word}
 use Rattle.irig_saved.specs.Ranges.{IsNumber, IsDistance, IsTime}
 
 -- two numbers, as of a pulse or a toggle
@@ -43,10 +44,10 @@ IsShift t = IsNumber t.0 × IsNumber t.1 × IsDistance t.2 × (length t.3 ≡ 26
 abbrev pub words_of_shift : ℕ × ℕ × ℤ × List Bool → List (List ℕ)
 words_of_shift t = decimal t.0 ∷ decimal t.1 ∷ signed_decimal t.2 ∷ moved_word t.3 ∷ []
 
--- a letter, from 0, and the time of its mark
+-- a letter and the time of its mark
 abbrev pub IsMark : ℕ × Option ℕ → Type 0
 IsMark t = t.0 < 26 × IsTime t.1
 
 -- the letter, and the time or -
 abbrev pub words_of_mark : ℕ × Option ℕ → List (List ℕ)
-words_of_mark t = ((97 + t.0) ∷ []) ∷ time_word t.1 ∷ []
+words_of_mark t = letter_word t.0 ∷ time_word t.1 ∷ []

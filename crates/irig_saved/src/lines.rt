@@ -15,7 +15,7 @@ ghost use Rattle.irig_saved.specs.Values.{words_of_three, words_of_two};
 use crate::cut::word_of;
 use crate::letter::Letter;
 use crate::single::Single;
-use crate::words::{distance, expression, kind, letter, moved, number, time};
+use crate::words::{distance, expression, kind, moved, number, time};
 use irig_codes::Kind;
 use irig_track::Pulse;
 
@@ -130,7 +130,6 @@ pub fn short(text: &[u8]) -> Option<Single>
         return Some(Single::SetFormat { kind, expression });
     }
     if let Some((letter, time)) = set_mark(text) {
-        let letter = Letter::new(letter);
         return Some(Single::SetMark { letter, time });
     }
     let (i, j, by, marks) = shift(text)?;
@@ -147,12 +146,12 @@ fn toggle(text: &[u8]) -> Option<(u64, u64)>
     pair(words)
 }
 
-/// The letter, from 0, and the time in the line that sets or clears a mark.
-fn set_mark(text: &[u8]) -> Option<(u8, Option<u64>)>
+/// The letter and the time in the line that sets or clears a mark.
+fn set_mark(text: &[u8]) -> Option<(Letter, Option<u64>)>
     ensures { Decodes IsMark (λ t. line (codes "setmark") (words_of_mark t)) text.now result }
 {
     let (name, rest) = word_of(behind(b"setmark", text)?)?;
-    Some((letter(name)?, time(rest)?))
+    Some((Letter::named(name)?, time(rest)?))
 }
 
 /// The pulses that move, by how much, and the marks that move with them, in the line of a shift.

@@ -1,6 +1,6 @@
 //! Words of a saved journal.
 
-ghost use Rattle.std.specs.Prelude.{◌≡◌, ◌<◌, ◌≤◌, ◌+◌, ◌∷◌, [], decimal, length};
+ghost use Rattle.std.specs.Prelude.{◌≡◌, ◌≤◌, decimal, length};
 ghost use Rattle.std.specs.Fmt.{signed_decimal};
 ghost use Rattle.irig_codes.specs.Words.{kind_word};
 ghost use Rattle.irig_saved.specs.Ranges.{IsNumber, IsDistance, IsTime};
@@ -59,16 +59,6 @@ pub fn expression(word: &[u8]) -> Option<u8>
 {
     let value = number(word)?;
     if value <= 7 { Some(value as u8) } else { None }
-}
-
-/// The letter that a word is, from 0.
-pub fn letter(word: &[u8]) -> Option<u8>
-    ensures { Decodes (λ x. x < 26) (λ x. (97 + x) ∷ []) word.now result }
-{
-    match word {
-        [letter] if b'a' <= *letter && *letter <= b'z' => Some(*letter - b'a'),
-        _ => None,
-    }
 }
 
 /// The time that a word is, or none, which is `-`.
