@@ -1,5 +1,4 @@
 -- The language of a script.
-pub mod Letters
 pub mod Numbers
 pub mod Words
 pub mod Addresses

@@ -13,7 +13,6 @@ pub use obey::engine::run;
 pub use obey::status::{RunFault, Status};
 pub use script::address::{Address, Base};
 pub use script::command::{BadLine, Command};
-pub use script::letter::Letter;
 pub use script::parsing::parse_line;
 pub use script::range::Range;
 pub use script::time::Time;

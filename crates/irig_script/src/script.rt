@@ -6,7 +6,6 @@ pub mod arguments;
 pub mod command;
 pub mod cutting;
 pub mod keyword;
-pub mod letter;
 pub mod line;
 pub mod numbers;
 pub mod orders;

@@ -255,9 +255,9 @@ module _ (outcome : OneOutcome) where
   obeys_one (command.Format g n) o p e r s a b h k w f =
       formats_one (is_permitted g n) (format g n) o p e r s a b h k w
   obeys_one (command.Mark l t) o p e r s a b h k w f =
-      makes_one _ _ (ap (λ n. Edit.SetMark (l - 97) (Some n)) (time_same t o p e)) o p e r s a b h k w
+      makes_one _ _ (ap (λ n. Edit.SetMark l (Some n)) (time_same t o p e)) o p e r s a b h k w
   obeys_one (command.Unmark l) o p e r s a b h k w f =
-      makes_one (Edit.SetMark (l - 97) None) (Edit.SetMark (l - 97) None) refl o p e r s a b h k w
+      makes_one (Edit.SetMark l None) (Edit.SetMark l None) refl o p e r s a b h k w
   obeys_one command.Undo o p e r s a b h k w f = calls_one Call.Undo Call.Undo refl o p e r s a b h k w
   obeys_one command.Redo o p e r s a b h k w f = calls_one Call.Redo Call.Redo refl o p e r s a b h k w
   obeys_one command.Begin o p e r s a b h k w f = calls_one Call.Begin Call.Begin refl o p e r s a b h k w

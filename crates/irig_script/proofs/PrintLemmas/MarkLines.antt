@@ -1,19 +1,24 @@
 -- The marks a to z, one after another.
-use Rattle.std.proofs.Common.{◌≡◌, ◌+◌, ◌-◌, ◌<◌, ℕ, List, Option, None, Some, length, take, get_or, slice_get, ap, sym, ◌∙◌}
+use Rattle.std.proofs.Common.{◌≡◌, ◌+◌, ◌-◌, ◌<◌, ℕ, List, Option, None, Some, length, take, get_or, slice_get, ap₂, sym, ◌∙◌}
 use Rattle.std.proofs.Common.{arith}
 use Rattle.std.proofs.lemmas.List.{get_or-take, length-take, take_all}
 use Rattle.std.proofs.lemmas.Option.{get_or_from_slice_get, slice_get_within}
+use Rattle.irig_script.specs.Print.Listings.{mark_line}
 
 pub few_marks : (marks : List (Option ℕ)) → take 26 (take 26 marks) ≡ take 26 marks
 few_marks marks = take_all 26 (take 26 marks) (omega (arith, length-take 26 marks))
 
-pub mark_within : (marks : List (Option ℕ)) (k : ℕ) (mark : Option ℕ) → k < 26 → slice_get marks (97 + k - 97) ≡ Some mark → k < length (take 26 marks)
-mark_within marks k mark h e =
-    let place : 97 + k - 97 ≡ k = omega arith in
-    let there = slice_get_within marks k mark (ap (slice_get marks) (sym place) ∙ e) in
-    omega (arith, h, there, length-take 26 marks)
+-- the mark of a letter's byte is that of the letter
+pub mark_named : (marks : List (Option ℕ)) (byte letter : ℕ) (mark : Option ℕ) → byte ≡ 97 + letter → slice_get marks (byte - 97) ≡ Some mark
+    → slice_get marks letter ≡ Some mark
+mark_named marks byte letter mark e h = let place : byte - 97 ≡ letter = omega arith in rw place at h
 
-pub mark_there : (marks : List (Option ℕ)) (k : ℕ) (mark : Option ℕ) → k < 26 → slice_get marks (97 + k - 97) ≡ Some mark → mark ≡ get_or (take 26 marks) k None
-mark_there marks k mark h e =
-    let place : 97 + k - 97 ≡ k = omega arith in
-    sym (get_or_from_slice_get marks k mark None (ap (slice_get marks) (sym place) ∙ e)) ∙ sym (get_or-take 26 marks k None h)
+-- its line is the next one
+pub mark_listed : (marks : List (Option ℕ)) (letter k : ℕ) (mark : Option ℕ) (line : List ℕ) → letter ≡ k → k < 26 → slice_get marks letter ≡ Some mark
+    → line ≡ mark_line letter mark → (k < length (take 26 marks)) × (line ≡ mark_line (0 + k) (get_or (take 26 marks) k None))
+mark_listed marks letter k mark line e h there same =
+    let here = rw e at there in
+    let within = slice_get_within marks k mark here in
+    let place : letter ≡ 0 + k = omega arith in
+    let read : mark ≡ get_or (take 26 marks) k None = sym (get_or_from_slice_get marks k mark None here) ∙ sym (get_or-take 26 marks k None h) in
+    (omega (arith, h, within, length-take 26 marks), same ∙ ap₂ mark_line place read)

@@ -1,13 +1,12 @@
 -- Addresses and ranges, cut at the sign and at the comma that they are put together round.
-use Rattle.std.proofs.Common.{◌≡◌, ◌==◌, ◌<◌, ◌≤◌, ℕ, ℤ, ◌++◌, Bool, true, false, not, ◌&&◌, ◌||◌, List, [], ◌∷◌, length, drop, refl, sym, ap, ap₂, ◌∙◌, subst}
+use Rattle.std.proofs.Common.{◌≡◌, ◌==◌, ◌+◌, ◌<◌, ◌≤◌, ℕ, ℤ, ◌++◌, Bool, true, false, not, ◌&&◌, ◌||◌, List, [], ◌∷◌, length, drop, refl, sym, ap, ap₂, ◌∙◌, subst}
 use Rattle.std.proofs.Common.{arith}
 use Rattle.std.proofs.lemmas.Bool.Decides.{nat_tests}
 use Rattle.std.proofs.lemmas.List.{append-nil}
 use Rattle.std.specs.List.{list_all}
 use Rattle.irig_script.specs.Script.Addresses.{IsAddress, IsBase, IsOffset, IsPair, IsAddressOrCursor, IsRange}
-use Rattle.irig_script.specs.Script.Letters.{is_letter}
 use Rattle.irig_script.specs.Script.Numbers.{is_digit, is_sign}
-use Rattle.irig_script.specs.Script.Words.{before, onward}
+use Rattle.irig_script.specs.Script.Words.{before, is_letter, onward}
 use Rattle.irig_script.specs.declared.script.address.Address.{Address}
 use Rattle.irig_script.specs.declared.script.address.Base.{Base}
 use Rattle.irig_script.specs.declared.script.address.Base.TheVariants.{Number, Current, Last, Mark}
@@ -33,8 +32,8 @@ address_no_comma b h = grind (arith, nat_tests)
 digit_in_base : (b : ℕ) → is_digit b ≡ true → is_base_byte b ≡ true
 digit_in_base b h = rw h refl
 
-letter_in_base : (b : ℕ) → is_letter b ≡ true → is_base_byte b ≡ true
-letter_in_base b h = grind (arith, nat_tests)
+letter_in_base : (letter : ℕ) → letter < 26 → is_base_byte (97 + letter) ≡ true
+letter_in_base letter h = grind (arith, nat_tests)
 
 base_in_address : (b : ℕ) → is_base_byte b ≡ true → is_address_byte b ≡ true
 base_in_address b h = rw h refl
@@ -69,7 +68,7 @@ base_bytes (b ∷ []) Current h =
 base_bytes (b ∷ c ∷ s) Current h = absurd (cc)
 base_bytes s Last h = subst (λ (t : List ℕ). list_all is_base_byte t ≡ true) (sym h) refl
 base_bytes s (Mark letter) h = subst (λ (t : List ℕ). list_all is_base_byte t ≡ true) (sym h.0)
-    (joined (is_base_byte letter) true (letter_in_base letter h.1) refl)
+    (joined (is_base_byte (97 + letter)) true (letter_in_base letter h.1) refl)
 
 offset_bytes : (s : List ℕ) (d : ℤ) → IsOffset s d → list_all is_address_byte s ≡ true
 offset_bytes [] d h = refl

@@ -7,9 +7,8 @@ use Rattle.irig_script.specs.Script.Addresses.{IsAddress, IsAddressOrCursor, IsR
 use Rattle.irig_script.specs.Script.Commands.{Asks}
 use Rattle.irig_script.specs.Script.Grammar.{AreWords, AsksIn, IsBlank, IsOrder, IsWord, follows_range}
 use Rattle.irig_script.specs.Script.Keywords.{keyword_of, keywords}
-use Rattle.irig_script.specs.Script.Letters.{is_letter}
 use Rattle.irig_script.specs.Script.Tables.{found}
-use Rattle.irig_script.specs.Script.Words.{is_space, words_of}
+use Rattle.irig_script.specs.Script.Words.{is_letter, is_space, words_of}
 use Rattle.irig_script.specs.declared.script.address.Base.TheVariants.{Current}
 use Rattle.irig_script.specs.declared.script.command.Command.{Command}
 use Rattle.irig_script.specs.declared.script.keyword.Keyword.{Keyword}

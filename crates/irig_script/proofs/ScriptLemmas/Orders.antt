@@ -4,8 +4,7 @@ use Rattle.std.proofs.lemmas.Bool.Decides.{nat_tests}
 use Rattle.std.specs.List.{list_all}
 use Rattle.irig_script.specs.Script.Grammar.{AsksIn, Does, IsOrder, IsWord, Means, Orders, follows_range, is_nothing}
 use Rattle.irig_script.specs.Script.Keywords.{keyword_of}
-use Rattle.irig_script.specs.Script.Letters.{is_letter}
-use Rattle.irig_script.specs.Script.Words.{before, is_space, onward, words_of}
+use Rattle.irig_script.specs.Script.Words.{before, is_letter, is_space, onward, words_of}
 use Rattle.irig_script.specs.declared.script.command.Command.{Command}
 use Rattle.irig_script.specs.declared.script.cutting.Stop.TheVariants.{Text}
 use Rattle.irig_script.specs.declared.script.keyword.Keyword.TheVariants as word

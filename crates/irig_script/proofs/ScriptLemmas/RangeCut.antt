@@ -6,9 +6,8 @@ use Rattle.std.proofs.lemmas.Bool.Decides.{nat_tests}
 use Rattle.std.specs.List.{list_all}
 use Rattle.irig_script.specs.Script.Addresses.{IsAddress, IsBase, IsMark, IsOffset, IsPair, IsAddressOrCursor, IsRange, is_cursor}
 use Rattle.irig_script.specs.Script.Grammar.{follows_range}
-use Rattle.irig_script.specs.Script.Letters.{is_letter}
 use Rattle.irig_script.specs.Script.Numbers.{is_digit, is_sign}
-use Rattle.irig_script.specs.Script.Words.{is_space}
+use Rattle.irig_script.specs.Script.Words.{is_letter, is_space}
 use Rattle.irig_script.specs.declared.script.address.Address.{Address}
 use Rattle.irig_script.specs.declared.script.address.Base.{Base}
 use Rattle.irig_script.specs.declared.script.address.Base.TheVariants.{Number, Current, Last, Mark}
@@ -60,8 +59,8 @@ passed_digits (b ∷ s) h = go (is_digit b) refl h (passed_digits s)
         passed-append (b ∷ []) s (passed_byte b stays.0 stays.1) (more k)
     go false e k more = absurd (cc)
 
-letter_stays : (b : ℕ) → is_letter b ≡ true → (ends_range true b ≡ false) × ((b == 39) ≡ false)
-letter_stays b h = (grind (arith, nat_tests), grind (arith, nat_tests))
+letter_stays : (letter : ℕ) → letter < 26 → (ends_range true (97 + letter) ≡ false) × ((97 + letter == 39) ≡ false)
+letter_stays letter h = (grind (arith, nat_tests), grind (arith, nat_tests))
 
 passed_mark : (text : List ℕ) (letter : ℕ) → IsMark text letter → IsPassed text
 passed_mark text letter h = subst IsPassed (sym h.0) (λ rest.

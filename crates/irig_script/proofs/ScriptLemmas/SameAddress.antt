@@ -1,8 +1,9 @@
 -- A text is one address or range at most.
-use Rattle.std.proofs.Common.{◌≡◌, ◌==◌, ◌++◌, ℕ, ℤ, pos, negsuc, Bool, true, false, List, [], ◌∷◌, refl, sym, ap, ap₂, ◌∙◌, subst, arith, if◌then◌else◌}
+use Rattle.std.proofs.Common.{◌≡◌, ◌==◌, ◌+◌, ◌++◌, ℕ, ℤ, pos, negsuc, Bool, true, false, List, [], ◌∷◌, refl, sym, ap, ap₂, ◌∙◌, subst, arith, if◌then◌else◌}
 use Rattle.std.proofs.lemmas.Bool.Decides.{nat_tests}
 use Rattle.std.specs.List.{list_all}
 use Rattle.irig_track.specs.Shifts.{ahead, back}
+use Rattle.irig_saved.specs.Letters.{letter_word}
 use Rattle.irig_script.specs.Script.Addresses.{IsMark, IsBase, IsOffset, IsAddress, IsPair, IsAddressOrCursor, IsRange, is_cursor}
 use Rattle.irig_script.specs.Script.Numbers.{IsControl, IsNumber, IsSigned, is_digit, size}
 use Rattle.irig_script.specs.declared.script.address.Address.{Address}
@@ -57,8 +58,15 @@ cursor_not_mark text letter h e = let bad = subst (λ (t : List ℕ). is_cursor 
 last_not_mark : (text : List ℕ) (letter : ℕ) → text ≡ 36 ∷ [] → IsMark text letter → ⊥
 last_not_mark text letter h e = let bad = sym h ∙ e.0 in cc
 
+pub letter_one : (l m : ℕ) → letter_word l ≡ letter_word m → l ≡ m
+letter_one l m h =
+    let same : 97 + l ≡ 97 + m = cc in
+    omega arith
+
 pub mark_one : (text : List ℕ) (l m : ℕ) → IsMark text l → IsMark text m → l ≡ m
-mark_one text l m h k = let same = sym h.0 ∙ k.0 in cc
+mark_one text l m h k =
+    let same = sym h.0 ∙ k.0 in
+    letter_one l m cc
 
 base_one : (text : List ℕ) (a b : Base) → IsBase text a → IsBase text b → a ≡ b
 base_one text (Number n) (Number m) h k = ap Number (number_one text n m h k)

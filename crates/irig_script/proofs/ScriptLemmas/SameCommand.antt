@@ -7,6 +7,7 @@ use Rattle.irig_codes.specs.declared.width.Element.TheVariants as element
 use Rattle.irig_moment.specs.Moment.{MomentView}
 use Rattle.irig_moment.specs.Written.{moment_of}
 use Rattle.irig_codes.specs.Words.{element_word, kind_word}
+use Rattle.irig_saved.specs.Letters.{letter_word}
 use Rattle.irig_script.specs.Script.Addresses.{IsTime}
 use Rattle.irig_script.specs.Script.Arguments.{AreControls, AreFrames, AreTimes, IsExpression}
 use Rattle.irig_script.specs.Script.Commands.{Asks}
@@ -17,7 +18,7 @@ use Rattle.irig_script.specs.declared.script.keyword.Keyword.{Keyword}
 use Rattle.irig_script.specs.declared.script.keyword.Keyword.TheVariants as word
 use Rattle.irig_script.specs.declared.script.time.Time.{Time}
 use Rattle.irig_script.specs.declared.script.time.Time.TheVariants as time
-use Rattle.irig_script.proofs.ScriptLemmas.SameAddress.{address_one, control_one, mark_one, number_not_mark, number_one}
+use Rattle.irig_script.proofs.ScriptLemmas.SameAddress.{address_one, control_one, letter_one, mark_one, number_not_mark, number_one}
 use Rattle.irig_script.proofs.ScriptLemmas.SameAddress.{address_or_cursor_one, range_one, signed_one}
 
 -- times, distances and the other arguments
@@ -129,14 +130,14 @@ asks_one word.Format range args c d h k =
     let n = expression_one k.2 h.1 k.1 (subst (λ (w : List ℕ). IsExpression w h.1) digit h.6) k.6 in
     h.3 ∙ ap₂ command.Format (kind_one h.0 k.0 name) n ∙ sym k.3
 asks_one word.Mark range args c d h k =
-    let words : (h.0 ∷ []) ∷ h.2 ∷ [] ≡ (k.0 ∷ []) ∷ k.2 ∷ [] = sym h.5 ∙ k.5 in
-    let letter : h.0 ≡ k.0 = cc in
+    let words : letter_word h.0 ∷ h.2 ∷ [] ≡ letter_word k.0 ∷ k.2 ∷ [] = sym h.5 ∙ k.5 in
+    let letter = letter_one h.0 k.0 cc in
     let at : h.2 ≡ k.2 = cc in
     let t = time_one k.2 h.1 k.1 (subst (λ (w : List ℕ). IsTime w h.1) at h.7) k.7 in
     h.3 ∙ ap₂ command.Mark letter t ∙ sym k.3
 asks_one word.Unmark range args c d h k =
-    let words : (h.0 ∷ []) ∷ [] ≡ (k.0 ∷ []) ∷ [] = sym h.3 ∙ k.3 in
-    let letter : h.0 ≡ k.0 = cc in
+    let words : letter_word h.0 ∷ [] ≡ letter_word k.0 ∷ [] = sym h.3 ∙ k.3 in
+    let letter = letter_one h.0 k.0 cc in
     h.1 ∙ ap command.Unmark letter ∙ sym k.1
 asks_one word.Undo range args c d h k = h.0 ∙ sym k.0
 asks_one word.Redo range args c d h k = h.0 ∙ sym k.0

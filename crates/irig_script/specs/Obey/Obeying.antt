@@ -1,6 +1,6 @@
 -- What the session replies to a command: one step of the machine of whole states. This project's
 -- own.
-use Rattle.std.specs.Prelude.{◌≡◌, ◌-◌, Some, None}
+use Rattle.std.specs.Prelude.{◌≡◌, Some, None}
 use Rattle.irig_codes.specs.Format.{is_permitted}
 use Rattle.irig_edit.specs.Session.Calls.{Call, Edit}
 use Rattle.irig_script.specs.Obey.Machine.{Machine}
@@ -50,8 +50,8 @@ Obeys (command.Regen s frames moment control) old reply new =
 Obeys (command.Format kind n) old reply new =
     Formats (is_permitted kind n) (format kind n) old reply new
 Obeys (command.Mark letter t) old reply new =
-    Makes (Edit.SetMark (letter - 97) (Some (time_of t old))) old reply new
-Obeys (command.Unmark letter) old reply new = Makes (Edit.SetMark (letter - 97) None) old reply new
+    Makes (Edit.SetMark letter (Some (time_of t old))) old reply new
+Obeys (command.Unmark letter) old reply new = Makes (Edit.SetMark letter None) old reply new
 Obeys command.Undo old reply new = Calls Call.Undo old reply new
 Obeys command.Redo old reply new = Calls Call.Redo old reply new
 Obeys command.Begin old reply new = Calls Call.Begin old reply new

@@ -14,7 +14,7 @@ use Rattle.irig_script.specs.declared.script.time.Time.TheVariants as time
 
 -- the time of a mark, if it is set
 abbrev pub mark_of : ℕ → Machine → Option ℕ
-mark_of letter m = get_or m.present.state.marks (letter - 97) None
+mark_of letter m = get_or m.present.state.marks letter None
 
 -- the number that an address counts from; none if its mark is not set
 abbrev pub base_of : Base → Machine → Option ℕ

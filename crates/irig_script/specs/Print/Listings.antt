@@ -1,11 +1,12 @@
 -- The lines that `list`, `marks` and `info` print. This project's own.
-use Rattle.std.specs.Prelude.{ℕ, ◌+◌, ◌-◌, List, [], ◌∷◌, ◌++◌, Option, Some, None, codes, decimal}
+use Rattle.std.specs.Prelude.{ℕ, ◌+◌, ◌-◌, List, [], ◌++◌, Option, Some, None, codes, decimal}
 use Rattle.std.specs.Prelude.{length, take}
 use Rattle.irig_codes.specs.Width.{class_of}
 use Rattle.irig_codes.specs.Format.{FormatView}
 use Rattle.irig_codes.specs.Words.{class_word, kind_word}
 use Rattle.irig_vcd.specs.declared.pulse.Pulse.{Pulse}
 use Rattle.irig_track.specs.Splices.{piece}
+use Rattle.irig_saved.specs.Letters.{letter_word}
 use Rattle.irig_edit.specs.State.State.{State, frames_of}
 use Rattle.irig_script.specs.Obey.Machine.{Machine}
 use Rattle.irig_script.specs.Print.Numbered.{numbered}
@@ -23,11 +24,11 @@ list_text before count s = numbered (pulse_line s.format) (before + 1) (piece be
 -- the mark of a letter, if it is set
 abbrev pub mark_line : ℕ → Option ℕ → List ℕ
 mark_line letter None = []
-mark_line letter (Some t) = (letter ∷ []) ++ codes " " ++ decimal t ++ codes "\n"
+mark_line letter (Some t) = letter_word letter ++ codes " " ++ decimal t ++ codes "\n"
 
 -- a line for each of the marks a to z that is set
 abbrev pub marks_text : State → List ℕ
-marks_text s = numbered mark_line 97 (take 26 s.marks)
+marks_text s = numbered mark_line 0 (take 26 s.marks)
 
 -- counts, format and cursor
 abbrev pub info_text : Machine → List ℕ

@@ -6,8 +6,9 @@
 -- base    := number | . | $ | 'letter
 -- offset  := + [number] | - [number]
 -- time    := number | 'letter
-use Rattle.std.specs.Prelude.{◌≡◌, ◌≢◌, ◌==◌, ℕ, ℤ, pos, Bool, true, false, List, [], ◌∷◌, ◌++◌}
-use Rattle.irig_script.specs.Script.Letters.{is_letter}
+use Rattle.std.specs.Prelude.{◌≡◌, ◌≢◌, ◌==◌, ◌<◌, ℕ, ℤ, pos, Bool, true, false, List, [], ◌∷◌}
+use Rattle.std.specs.Prelude.{◌++◌}
+use Rattle.irig_saved.specs.Letters.{letter_word}
 use Rattle.irig_script.specs.Script.Numbers.{IsNumber, IsSigned, is_sign, size}
 use Rattle.irig_script.specs.declared.script.address.Base.{Base}
 use Rattle.irig_script.specs.declared.script.address.Base.TheVariants.{Number, Current, Last, Mark}
@@ -19,7 +20,7 @@ use Rattle.irig_script.specs.declared.script.time.Time.TheVariants as time
 
 -- an apostrophe and the letter of a mark
 abbrev pub IsMark : List ℕ → ℕ → Type 0
-IsMark text letter = (text ≡ 39 ∷ letter ∷ []) × (is_letter letter ≡ true)
+IsMark text letter = (text ≡ 39 ∷ letter_word letter) × (letter < 26)
 
 -- nothing, or a dot
 abbrev pub is_cursor : List ℕ → Bool

@@ -1,12 +1,12 @@
 -- What each word of the language asks for. This project's own, after the commands of ed.
-use Rattle.std.specs.Prelude.{◌≡◌, ℕ, ℤ, true, List, [], ◌∷◌}
+use Rattle.std.specs.Prelude.{◌≡◌, ◌<◌, ℕ, ℤ, List, [], ◌∷◌}
 use Rattle.irig_codes.specs.declared.format.Kind.{Kind}
 use Rattle.irig_codes.specs.declared.width.Element.{Element}
 use Rattle.irig_moment.specs.Moment.{MomentView}
+use Rattle.irig_saved.specs.Letters.{letter_word}
 use Rattle.irig_script.specs.Script.Addresses.{IsAddress, IsAddressOrCursor, IsRange, IsTime}
 use Rattle.irig_codes.specs.Words.{element_word, kind_word}
 use Rattle.irig_script.specs.Script.Arguments.{AreFrames, AreTimes, IsExpression}
-use Rattle.irig_script.specs.Script.Letters.{is_letter}
 use Rattle.irig_script.specs.Script.Numbers.{IsDistance}
 use Rattle.irig_script.specs.declared.script.address.Address.{Address}
 use Rattle.irig_script.specs.declared.script.command.Command.{Command}
@@ -55,9 +55,9 @@ Asks word.Regen range args asked = (s : Time) × (f : ℕ) × (m : MomentView) �
 Asks word.Format range args asked = (k : Kind) × (n : ℕ) × (x : List ℕ)
     × (asked ≡ command.Format k n) × (range ≡ []) × (args ≡ kind_word k ∷ x ∷ []) × IsExpression x n
 Asks word.Mark range args asked = (l : ℕ) × (t : Time) × (x : List ℕ) × (asked ≡ command.Mark l t)
-    × (range ≡ []) × (args ≡ (l ∷ []) ∷ x ∷ []) × (is_letter l ≡ true) × IsTime x t
+    × (range ≡ []) × (args ≡ letter_word l ∷ x ∷ []) × (l < 26) × IsTime x t
 Asks word.Unmark range args asked = (l : ℕ) × (asked ≡ command.Unmark l)
-    × (range ≡ []) × (args ≡ (l ∷ []) ∷ []) × (is_letter l ≡ true)
+    × (range ≡ []) × (args ≡ letter_word l ∷ []) × (l < 26)
 Asks word.Undo range args asked = (asked ≡ command.Undo) × (range ≡ []) × (args ≡ [])
 Asks word.Redo range args asked = (asked ≡ command.Redo) × (range ≡ []) × (args ≡ [])
 Asks word.Begin range args asked = (asked ≡ command.Begin) × (range ≡ []) × (args ≡ [])

@@ -8,8 +8,7 @@ use Rattle.std.specs.Prelude.{◌≡◌, ◌≢◌, ◌⊎◌, ◌==◌, ℕ, Bo
 use Rattle.std.specs.List.{list_all}
 use Rattle.irig_script.specs.Script.Commands.{Asks}
 use Rattle.irig_script.specs.Script.Keywords.{keyword_of}
-use Rattle.irig_script.specs.Script.Letters.{is_letter}
-use Rattle.irig_script.specs.Script.Words.{is_space}
+use Rattle.irig_script.specs.Script.Words.{is_letter, is_space}
 use Rattle.irig_script.specs.declared.script.command.Command.{Command}
 use Rattle.irig_script.specs.declared.script.command.Command.TheVariants as command
 use Rattle.irig_script.specs.declared.script.keyword.Keyword.TheVariants.{Missing}

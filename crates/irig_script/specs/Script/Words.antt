@@ -1,5 +1,6 @@
 -- How a text is cut at the first byte of some kind, and a line into its words. This project's own.
-use Rattle.std.specs.Prelude.{◌==◌, ℕ, Bool, false, not, ◌||◌, List, [], ◌∷◌, if◌then◌else◌}
+use Rattle.std.specs.Prelude.{◌==◌, ℕ, Bool, false, not, ◌&&◌, ◌||◌, nat_le, List, [], ◌∷◌}
+use Rattle.std.specs.Prelude.{if◌then◌else◌}
 use Rattle.irig_script.specs.Script.Numbers.{is_sign}
 use Rattle.irig_script.specs.declared.script.cutting.Stop.{Stop}
 use Rattle.irig_script.specs.declared.script.cutting.Stop.TheVariants.{Blank, Text, Sign, Comma}
@@ -7,6 +8,10 @@ use Rattle.irig_script.specs.declared.script.cutting.Stop.TheVariants.{Blank, Te
 -- the white space of a line: space, tab and carriage return
 abbrev pub is_space : ℕ → Bool
 is_space b = (b == 32) || ((b == 9) || (b == 13))
+
+-- the byte is one of a to z
+abbrev pub is_letter : ℕ → Bool
+is_letter b = nat_le 97 b && nat_le b 122
 
 -- a text is cut before such a byte
 abbrev pub is_stop : Stop → ℕ → Bool

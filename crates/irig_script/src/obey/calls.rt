@@ -11,12 +11,12 @@ ghost use Rattle.irig_script.specs.Obey.PulseNumbers.{time_of};
 use crate::obey::pulse_numbers::{ends, join_ends, number_at, time};
 use crate::print::reply::Reply;
 use crate::script::address::Address;
-use crate::script::letter::Letter;
 use crate::script::range::Range;
 use crate::script::time::Time;
 use irig_codes::{Element, Format, Kind};
 use irig_edit::{Refusal, Session};
 use irig_moment::Moment;
+use irig_saved::Letter;
 
 /// The reply to an edit.
 fn reply_to(outcome: Result<(), Refusal>) -> Reply
@@ -137,7 +137,7 @@ pub fn set_format(session: &mut Session, kind: Kind, expression: u8) -> Reply
 
 /// Sets a mark.
 pub fn mark(session: &mut Session, letter: Letter, at: Time) -> Reply
-    ensures { Makes (Edit.SetMark (letter - 97) (Some (time_of at session.old)))
+    ensures { Makes (Edit.SetMark letter (Some (time_of at session.old)))
         session.old result session.new }
 {
     let time = time(session, &at);
@@ -146,7 +146,7 @@ pub fn mark(session: &mut Session, letter: Letter, at: Time) -> Reply
 
 /// Clears a mark.
 pub fn unmark(session: &mut Session, letter: Letter) -> Reply
-    ensures { Makes (Edit.SetMark (letter - 97) None) session.old result session.new }
+    ensures { Makes (Edit.SetMark letter None) session.old result session.new }
 {
     reply_to(session.mark(letter.byte(), None))
 }

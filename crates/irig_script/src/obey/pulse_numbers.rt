@@ -6,10 +6,10 @@ ghost use Rattle.irig_script.specs.Obey.PulseNumbers.{mark_of, base_of, pulse_at
 ghost use Rattle.irig_script.specs.Obey.PulseNumbers.{first_of, last_of, join_last_of, time_of};
 
 use crate::script::address::{Address, Base};
-use crate::script::letter::Letter;
 use crate::script::range::Range;
 use crate::script::time::Time;
 use irig_edit::Session;
+use irig_saved::Letter;
 
 /// The time of a mark in microseconds, if it is set.
 fn mark(session: &Session, letter: &Letter) -> Option<u64>

@@ -9,6 +9,7 @@ use crate::print::block::Block;
 use crate::print::output::PrintFault;
 use crate::print::row::Row;
 use irig_edit::Session;
+use irig_saved::Letter;
 use std::io::Write;
 
 /// Prints a line for each mark that is set, a to z.
@@ -21,9 +22,9 @@ pub fn print_marks<W: Write>(session: &Session, out: &mut W) -> Result<(), Print
 {
     let mut block = Block::new();
     let mut row = Row::new();
-    for index in 0..26u8 {
-        let letter = b'a' + index;
-        put_mark(&mut row, letter, session.mark_time(letter));
+    for place in 0..26 {
+        let letter = Letter::new(place);
+        put_mark(&mut row, letter, session.mark_time(letter.byte()));
         let Ok(()) = block.put(out, row.text()) else {
             return Err(PrintFault);
         };
@@ -32,12 +33,12 @@ pub fn print_marks<W: Write>(session: &Session, out: &mut W) -> Result<(), Print
 }
 
 /// Writes the line of a mark into the row; nothing if it is not set.
-fn put_mark(row: &mut Row, letter: u8, time: Option<u64>)
+fn put_mark(row: &mut Row, letter: Letter, time: Option<u64>)
     ensures { row.new ≡ mark_line letter time }
 {
     row.clear();
     if let Some(time) = time {
-        row.put(&[letter]);
+        row.put(&[letter.byte()]);
         row.put(b" ");
         row.put_number(time);
         row.put(b"\n");

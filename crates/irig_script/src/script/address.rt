@@ -1,6 +1,6 @@
 //! Addresses of pulses as a script writes them.
 
-use crate::script::letter::Letter;
+use irig_saved::Letter;
 
 /// What an address counts from.
 #[derive(Clone, Copy)]

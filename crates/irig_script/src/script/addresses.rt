@@ -1,7 +1,7 @@
 //! Addresses, ranges and times of a script, read.
 
-ghost use Rattle.std.specs.Prelude.{◌≡◌, ℤ, [], true, IfOk, OnErr};
-ghost use Rattle.irig_script.specs.Script.Letters.{is_letter};
+ghost use Rattle.std.specs.Prelude.{◌≡◌, ◌<◌, ℕ, ℤ, [], IfOk, OnErr};
+ghost use Rattle.irig_saved.specs.Letters.{letter_word};
 ghost use Rattle.irig_script.specs.Script.Addresses.{IsBase, IsOffset, IsAddress, IsPair};
 ghost use Rattle.irig_script.specs.Script.Addresses.{IsAddressOrCursor, IsRange, IsTime, at};
 ghost use Rattle.irig_script.specs.declared.script.address.Base.{Base};
@@ -12,20 +12,17 @@ ghost use Rattle.irig_script.specs.declared.script.time.Time.{Time};
 use crate::script::address::{Address, Base};
 use crate::script::command::BadLine;
 use crate::script::cutting::{Stop, cut, is_sign};
-use crate::script::letter::Letter;
 use crate::script::numbers::{number, signed};
 use crate::script::range::Range;
 use crate::script::time::Time;
+use irig_saved::Letter;
 
-/// The letter of a mark.
-pub fn letter(byte: u8) -> Result<Letter, BadLine>
-    ensures ok { IfOk result (λ l. (l ≡ byte) × (is_letter byte ≡ true)) }
-    ensures err { OnErr result (is_letter byte ≡ true → ⊥) }
+/// The letter of a mark, alone in a word.
+pub fn letter(word: &[u8]) -> Result<Letter, BadLine>
+    ensures ok { IfOk result (λ l. (word.now ≡ letter_word l) × (l < 26)) }
+    ensures err { OnErr result ((l : ℕ) → word.now ≡ letter_word l → l < 26 → ⊥) }
 {
-    match Letter::new(byte) {
-        Some(letter) => Ok(letter),
-        None => Err(BadLine),
-    }
+    Letter::named(word).ok_or(BadLine)
 }
 
 /// A time: a number of microseconds, or a mark.
@@ -34,7 +31,7 @@ pub fn time(word: &[u8]) -> Result<Time, BadLine>
     ensures err { OnErr result ((t : Time) → IsTime word.now t → ⊥) }
 {
     match word {
-        [b'\'', name] => Ok(Time::Mark(letter(*name)?)),
+        [b'\'', name @ ..] => Ok(Time::Mark(letter(name)?)),
         _ => Ok(Time::At(number(word)?)),
     }
 }
@@ -47,7 +44,7 @@ fn base(text: &[u8]) -> Result<Base, BadLine>
     match text {
         [] | [b'.'] => Ok(Base::Current),
         [b'$'] => Ok(Base::Last),
-        [b'\'', name] => Ok(Base::Mark(letter(*name)?)),
+        [b'\'', name @ ..] => Ok(Base::Mark(letter(name)?)),
         _ => Ok(Base::Number(number(text)?)),
     }
 }

@@ -1,19 +1,17 @@
 //! The arguments of a line: times, moments, control functions and words that are known.
 
-ghost use Rattle.std.specs.Prelude.{◌≡◌, ℕ, [], ◌∷◌, Some, true, IfOk, OnErr};
+ghost use Rattle.std.specs.Prelude.{◌≡◌, ℕ, Some, IfOk, OnErr};
 ghost use Rattle.irig_codes.specs.declared.format.Kind.{Kind};
 ghost use Rattle.irig_codes.specs.declared.width.Element.{Element};
 ghost use Rattle.irig_moment.specs.Moment.{MomentView};
 ghost use Rattle.irig_moment.specs.Written.{moment_of};
 ghost use Rattle.irig_codes.specs.Words.{element_word, kind_word};
 ghost use Rattle.irig_script.specs.Script.Arguments.{AreControls, AreTimes, IsExpression};
-ghost use Rattle.irig_script.specs.Script.Letters.{is_letter};
 ghost use Rattle.irig_script.specs.Script.Words.{words_of};
 ghost use Rattle.irig_script.specs.declared.script.time.Time.{Time};
 
-use crate::script::addresses::{letter, time};
+use crate::script::addresses::time;
 use crate::script::command::BadLine;
-use crate::script::letter::Letter;
 use crate::script::numbers::control;
 use crate::script::time::Time;
 use crate::script::words::{no_word, split_word, two_words};
@@ -77,17 +75,6 @@ pub fn expression(word: &[u8]) -> Result<u8, BadLine>
 {
     match word {
         [digit @ b'0'..=b'7'] => Ok(*digit - b'0'),
-        _ => Err(BadLine),
-    }
-}
-
-/// The letter of a mark, alone in a word.
-pub fn mark(word: &[u8]) -> Result<Letter, BadLine>
-    ensures ok { IfOk result (λ l. (word.now ≡ l ∷ []) × (is_letter l ≡ true)) }
-    ensures err { OnErr result ((l : ℕ) → word.now ≡ l ∷ [] → is_letter l ≡ true → ⊥) }
-{
-    match word {
-        [byte] => letter(*byte),
         _ => Err(BadLine),
     }
 }

@@ -1,11 +1,11 @@
 //! What a line of a script asks for.
 
 use crate::script::address::Address;
-use crate::script::letter::Letter;
 use crate::script::range::Range;
 use crate::script::time::Time;
 use irig_codes::{Element, Kind};
 use irig_moment::Moment;
+use irig_saved::Letter;
 
 /// What a line of a script asks for.
 #[derive(Clone, Copy)]

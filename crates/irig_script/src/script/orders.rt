@@ -8,8 +8,8 @@ ghost use Rattle.irig_script.specs.declared.script.keyword.Keyword.{Keyword};
 ghost use Rattle.irig_script.specs.declared.script.range.Range.{Range};
 ghost use Rattle.irig_script.specs.declared.script.command.Command.{Command};
 
-use crate::script::addresses::{address, address_or_cursor, range, time};
-use crate::script::arguments::{controls, element, expression, kind, mark, moment, times};
+use crate::script::addresses::{address, address_or_cursor, letter, range, time};
+use crate::script::arguments::{controls, element, expression, kind, moment, times};
 use crate::script::command::{BadLine, Command};
 use crate::script::numbers::{distance, number};
 use crate::script::range::Range;
@@ -145,7 +145,7 @@ pub fn set_mark(front: &[u8], arguments: &[u8]) -> Result<Command, BadLine>
         return Err(BadLine);
     };
     let (name, at) = two_words(arguments)?;
-    Ok(Command::Mark(mark(name)?, time(at)?))
+    Ok(Command::Mark(letter(name)?, time(at)?))
 }
 
 /// What the argument of `unmark` asks for, if there is no range.
@@ -158,7 +158,7 @@ pub fn unmark(front: &[u8], arguments: &[u8]) -> Result<Command, BadLine>
         return Err(BadLine);
     };
     let name = one_word(arguments)?;
-    Ok(Command::Unmark(mark(name)?))
+    Ok(Command::Unmark(letter(name)?))
 }
 
 /// What the arguments of `regen` ask for, if there is no range.

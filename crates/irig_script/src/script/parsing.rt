@@ -3,8 +3,7 @@
 ghost use Rattle.std.specs.Prelude.{◌≡◌, ◌++◌, ◌&&◌, ◌||◌, not, ℕ, List, [], true, IfOk, OnErr};
 ghost use Rattle.irig_script.specs.Script.Addresses.{IsRange};
 ghost use Rattle.irig_script.specs.Script.Commands.{Asks, IsAlone};
-ghost use Rattle.irig_script.specs.Script.Letters.{is_letter};
-ghost use Rattle.irig_script.specs.Script.Words.{is_space, words_of};
+ghost use Rattle.irig_script.specs.Script.Words.{is_letter, is_space, words_of};
 ghost use Rattle.irig_script.specs.declared.script.keyword.Keyword.{Keyword};
 ghost use Rattle.irig_script.specs.declared.script.range.Range.{Range};
 ghost use Rattle.irig_script.specs.Script.Grammar.{Means, Orders, follows_range, is_nothing};

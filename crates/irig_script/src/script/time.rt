@@ -1,6 +1,6 @@
 //! Times as a script writes them.
 
-use crate::script::letter::Letter;
+use irig_saved::Letter;
 
 /// A time as a script writes it.
 #[derive(Clone, Copy)]
