@@ -5,6 +5,5 @@ pub mod dump_run;
 pub mod engine;
 pub mod obeying;
 pub mod pulse_numbers;
-pub mod saving;
 pub mod status;
 pub mod writing;

@@ -1,7 +1,6 @@
 -- What a command asks has one outcome, unless memory runs out or a write fails.
-use Rattle.std.proofs.Common.{◌≡◌, ◌+◌, ◌-◌, ℕ, Bool, true, false, [], ◌∷◌, Some, None, length, refl, sym, ap, ap₂, ◌∙◌, subst}
+use Rattle.std.proofs.Common.{◌≡◌, ◌+◌, ◌-◌, ℕ, Bool, true, false, List, [], ◌∷◌, Some, None, length, refl, sym, ap, ap₂, ◌∙◌, subst}
 use Rattle.std.specs.Prelude.{Result, Ok, Err}
-use Rattle.irig_vcd.specs.FileText.{file_text}
 use Rattle.irig_codes.specs.Format.{FormatView, is_permitted}
 use Rattle.irig_journal.specs.Groups.{Grouped as Whole}
 use Rattle.irig_edit.specs.Session.Calls.{Call, Edit}
@@ -11,13 +10,12 @@ use Rattle.irig_edit.specs.Session.Machine.{Steps}
 use Rattle.irig_edit.specs.Edits.Refusals.{refusal_of}
 use Rattle.irig_edit.specs.Session.Runs.{OneOutcome}
 use Rattle.irig_edit.specs.Saved.SavedSession.{saved_text}
-use Rattle.irig_edit.specs.Session.Session.{grouped_in, machine_in, session_view}
-use Rattle.irig_edit.specs.State.State.{recording_of}
+use Rattle.irig_edit.specs.Session.Session.{grouped_in, session_view}
 use Rattle.irig_edit.specs.declared.session.refusal.Refusal.{Refusal}
 use Rattle.irig_edit.specs.declared.session.refusal.Refusal.TheVariants as refusal
 use Rattle.irig_script.specs.Obey.Machine.{Machine}
 use Rattle.irig_script.specs.Obey.Obeying.{Obeys}
-use Rattle.irig_script.specs.Obey.Replies.{Calls, Formats, Lists, Saves, Shows, Writes, format, reply_to}
+use Rattle.irig_script.specs.Obey.Replies.{Calls, Formats, Lists, Shows, Writes, dump_text, format, reply_to}
 use Rattle.irig_script.specs.Obey.OneRun.{tells_failed_put, wants_memory}
 use Rattle.irig_script.specs.Obey.PulseNumbers.{base_of, counted, first_of, join_last_of, last_of, number_at, pulse_at, time_of}
 use Rattle.irig_script.specs.declared.script.address.Address.{Address}
@@ -64,6 +62,10 @@ join_last_same (Two a b) o p e = number_same b o p e
 time_same : (t : Time) (o p : Machine) → grouped_in o ≡ grouped_in p → time_of t o ≡ time_of t p
 time_same (time.At t) o p e = refl
 time_same (time.Mark letter) o p e = ap (λ k. time_of (time.Mark letter) (bare k)) e
+
+-- so does the dump
+pub dump_same : (o p : Machine) → grouped_in o ≡ grouped_in p → dump_text o ≡ dump_text p
+dump_same o p e = ap (λ k. dump_text (bare k)) e
 
 -- a refusal other than out of memory is that of the call
 refused_for : (call : Call) (old new : Whole Kept) (why : Refusal) → Steps call old (Err why) new → wants_memory (told.Refused why) ≡ false
@@ -190,38 +192,17 @@ module _ (outcome : OneOutcome) where
       ∙ sym (lists k l p s n)
 
   -- a write, as it is reported
-  abbrev written : Machine → Bool → Reply
-  written m true = told.WriteFailed
-  written m false = told.Written (length (file_text (recording_of m.present.state)))
+  abbrev written : List ℕ → Bool → Reply
+  written text true = told.WriteFailed
+  written text false = told.Written (length text)
 
-  writes : (m : Machine) (r : Reply) → Writes m r → r ≡ written m (tells_failed_put r)
-  writes m (told.Written count) h = ap told.Written h
-  writes m told.WriteFailed h = refl
-  writes m _ h = absurd h
+  writes : (text : List ℕ) (r : Reply) → Writes text r → r ≡ written text (tells_failed_put r)
+  writes text (told.Written count) h = ap told.Written h
+  writes text told.WriteFailed h = refl
+  writes text _ h = absurd h
 
-  written_same : (f : Bool) (o p : Machine) → grouped_in o ≡ grouped_in p → written o f ≡ written p f
-  written_same true o p e = refl
-  written_same false o p e = ap (λ k. written (bare k) false) e
-
-  writes_one : (o p : Machine) → grouped_in o ≡ grouped_in p → (r s : Reply) → Writes o r → Writes p s → tells_failed_put r ≡ tells_failed_put s → r ≡ s
-  writes_one o p e r s h k f = writes o r h ∙ ap (written o) f ∙ written_same (tells_failed_put s) o p e ∙ sym (writes p s k)
-
-  -- the same of a write with the journal
-  abbrev saved : Machine → Bool → Reply
-  saved m true = told.WriteFailed
-  saved m false = told.Saved (length (saved_text (machine_in m)))
-
-  saves : (m : Machine) (r : Reply) → Saves m r → r ≡ saved m (tells_failed_put r)
-  saves m (told.Saved count) h = ap told.Saved h
-  saves m told.WriteFailed h = refl
-  saves m _ h = absurd h
-
-  saved_same : (f : Bool) (o p : Machine) → grouped_in o ≡ grouped_in p → saved o f ≡ saved p f
-  saved_same true o p e = refl
-  saved_same false o p e = ap (λ k. saved (bare k) false) e
-
-  saves_one : (o p : Machine) → grouped_in o ≡ grouped_in p → (r s : Reply) → Saves o r → Saves p s → tells_failed_put r ≡ tells_failed_put s → r ≡ s
-  saves_one o p e r s h k f = saves o r h ∙ ap (saved o) f ∙ saved_same (tells_failed_put s) o p e ∙ sym (saves p s k)
+  writes_one : (text same : List ℕ) → text ≡ same → (r s : Reply) → Writes text r → Writes same s → tells_failed_put r ≡ tells_failed_put s → r ≡ s
+  writes_one text same e r s h k f = writes text r h ∙ ap₂ written e f ∙ sym (writes same s k)
 
   stays : (o p a b : Machine) → grouped_in o ≡ grouped_in p → a ≡ o → b ≡ p → grouped_in a ≡ grouped_in b
   stays o p a b e h k = ap grouped_in h ∙ e ∙ sym (ap grouped_in k)
@@ -266,6 +247,6 @@ module _ (outcome : OneOutcome) where
   obeys_one command.Frames o p e r s a b h k w f = (h.0 ∙ sym k.0, stays o p a b e h.1 k.1)
   obeys_one command.Marks o p e r s a b h k w f = (h.0 ∙ sym k.0, stays o p a b e h.1 k.1)
   obeys_one command.Info o p e r s a b h k w f = (h.0 ∙ sym k.0, stays o p a b e h.1 k.1)
-  obeys_one command.Write o p e r s a b h k w f = (writes_one o p e r s h.0 k.0 f, stays o p a b e h.1 k.1)
-  obeys_one command.Save o p e r s a b h k w f = (saves_one o p e r s h.0 k.0 f, stays o p a b e h.1 k.1)
+  obeys_one command.Write o p e r s a b h k w f = (writes_one _ _ (dump_same o p e) r s h.0 k.0 f, stays o p a b e h.1 k.1)
+  obeys_one command.Save o p e r s a b h k w f = (writes_one _ _ (ap (λ k. saved_text k.machine) e) r s h.0 k.0 f, stays o p a b e h.1 k.1)
   obeys_one command.Quit o p e r s a b h k w f = absurd h

@@ -2,17 +2,16 @@
 use Rattle.std.proofs.Common.{◌≡◌, ◌++◌, ◌∷◌, [], ℕ, Option, Some, None, List, map, refl, sym, ap, ap₂, ◌∙◌, subst, arith, ◌⊎◌, inl, inr}
 use Rattle.std.specs.Prelude.{IsSome}
 use Rattle.std.specs.Io.KnownBytes.{Appends}
-use Rattle.irig_vcd.specs.FileText.{file_text}
 use Rattle.irig_edit.specs.Session.Runs.{OneOutcome}
 use Rattle.irig_edit.specs.Saved.SavedSession.{saved_text}
 use Rattle.irig_edit.specs.Session.Session.{grouped_in}
-use Rattle.irig_edit.specs.State.State.{recording_of}
-use Rattle.irig_script.specs.Obey.Answer.{Answered, IsBad, IsObeyedAs, IsTooLong, Step, texts_put}
+use Rattle.irig_script.specs.Obey.Answer.{Answered, IsBad, IsObeyedAs, IsTooLong, Step, texts_of}
 use Rattle.irig_script.specs.Obey.Desk.{status_after}
 use Rattle.irig_script.specs.Shelf.Shelved.{GrowsBy}
 use Rattle.irig_script.specs.Obey.Machine.{Machine}
 use Rattle.irig_script.specs.Obey.Obeying.{Obeys}
 use Rattle.irig_script.specs.Obey.OneRun.{OneRun, tells_failed_put, wants_memory}
+use Rattle.irig_script.specs.Obey.Replies.{texts_put}
 use Rattle.irig_script.specs.Obey.Run.{Runs}
 use Rattle.irig_script.specs.Print.Listings.{info_text, list_text, marks_text}
 use Rattle.irig_script.specs.Print.Printed.{Answer, frames_text, printed, reply_text}
@@ -20,8 +19,9 @@ use Rattle.irig_script.specs.Script.Lines.{script_lines}
 use Rattle.irig_script.specs.declared.print.reply.Reply.{Reply}
 use Rattle.irig_script.specs.declared.print.reply.Reply.TheVariants as told
 use Rattle.irig_script.specs.declared.script.command.Command.{Command}
+use Rattle.irig_script.specs.declared.script.command.Command.TheVariants as command
 use Rattle.irig_script.proofs.ScriptLemmas.Orders.{means_one}
-use Rattle.irig_script.proofs.LawLemmas.SameReply.{bare, obeys_one}
+use Rattle.irig_script.proofs.LawLemmas.SameReply.{bare, dump_same, obeys_one}
 
 -- what a reply prints and writes does not depend on the looks
 text_same : (r : Reply) (a b : Machine) → grouped_in a ≡ grouped_in b → reply_text a r ≡ reply_text b r
@@ -31,46 +31,53 @@ text_same told.Marks a b e = ap (λ k. marks_text k.machine.present.state) e
 text_same told.Info a b e = ap (λ k. info_text (bare k)) e
 text_same _ a b e = refl
 
-put_same : (r : Reply) (a b : Machine) → grouped_in a ≡ grouped_in b → texts_put a r ≡ texts_put b r
-put_same (told.Written count) a b e = ap (λ k. file_text (recording_of k.machine.present.state) ∷ []) e
-put_same (told.Saved count) a b e = ap (λ k. saved_text k.machine ∷ []) e
-put_same _ a b e = refl
+texts_same : (c : Command) (a b : Machine) → grouped_in a ≡ grouped_in b → texts_of c a ≡ texts_of c b
+texts_same command.Write a b e = ap (λ t. t ∷ []) (dump_same a b e)
+texts_same command.Save a b e = ap (λ k. saved_text k.machine ∷ []) e
+texts_same _ a b e = refl
 
 stays : (o p a b : Machine) → grouped_in o ≡ grouped_in p → a ≡ o → b ≡ p → grouped_in a ≡ grouped_in b
 stays o p a b e h k = ap grouped_in h ∙ e ∙ sym (ap grouped_in k)
 
 module _ (outcome : OneOutcome) where
-  asked_one : (o p : Machine) (line : List ℕ) → grouped_in o ≡ grouped_in p → (r s : Reply) (a b : Machine) → IsObeyedAs o line r a → IsObeyedAs p line s b
-      → wants_memory r ≡ wants_memory s → tells_failed_put r ≡ tells_failed_put s → (r ≡ s) × (grouped_in a ≡ grouped_in b)
-  asked_one o p line e r s a b h k w f =
+  asked_one : (o p : Machine) (line : List ℕ) → grouped_in o ≡ grouped_in p → (r s : Reply) (ts us : List (List ℕ)) (a b : Machine)
+      → IsObeyedAs o line r ts a → IsObeyedAs p line s us b
+      → wants_memory r ≡ wants_memory s → tells_failed_put r ≡ tells_failed_put s → (r ≡ s) × (ts ≡ us) × (grouped_in a ≡ grouped_in b)
+  asked_one o p line e r s ts us a b h k w f =
       let same : h.1.0 ≡ k.1.0 = means_one line h.1.0 k.1.0 h.1.1 k.1.1 in
       let obeyed : Obeys k.1.0 o r a = subst (λ (c : Command). Obeys c o r a) same h.1.2 in
-      obeys_one outcome k.1.0 o p e r s a b obeyed k.1.2 w f
+      let one = obeys_one outcome k.1.0 o p e r s a b obeyed k.1.2 w f in
+      let texts : texts_of h.1.0 o ≡ texts_of k.1.0 p = ap (λ c. texts_of c o) same ∙ texts_same k.1.0 o p e in
+      (one.0, h.1.3 ∙ ap₂ texts_put texts one.0 ∙ sym k.1.3, one.1)
 
   -- a line has one outcome
-  line_one : (o p : Machine) (line : List ℕ) → grouped_in o ≡ grouped_in p → (r s : Reply) (a b : Machine) → Step o line r a → Step p line s b
-      → wants_memory r ≡ wants_memory s → tells_failed_put r ≡ tells_failed_put s → (r ≡ s) × (grouped_in a ≡ grouped_in b)
-  line_one o p line e r s a b h k w f = go h k
+  line_one : (o p : Machine) (line : List ℕ) → grouped_in o ≡ grouped_in p → (r s : Reply) (ts us : List (List ℕ)) (a b : Machine)
+      → Step o line r ts a → Step p line s us b
+      → wants_memory r ≡ wants_memory s → tells_failed_put r ≡ tells_failed_put s → (r ≡ s) × (ts ≡ us) × (grouped_in a ≡ grouped_in b)
+  line_one o p line e r s ts us a b h k w f = go h k
     where
-      go : IsTooLong o line r a ⊎ (IsBad o line r a ⊎ IsObeyedAs o line r a) → IsTooLong p line s b ⊎ (IsBad p line s b ⊎ IsObeyedAs p line s b)
-          → (r ≡ s) × (grouped_in a ≡ grouped_in b)
-      go (inl x) (inl y) = (x.1 ∙ sym y.1, stays o p a b e x.2 y.2)
+      go : IsTooLong o line r ts a ⊎ (IsBad o line r ts a ⊎ IsObeyedAs o line r ts a)
+          → IsTooLong p line s us b ⊎ (IsBad p line s us b ⊎ IsObeyedAs p line s us b)
+          → (r ≡ s) × (ts ≡ us) × (grouped_in a ≡ grouped_in b)
+      go (inl x) (inl y) = (x.1 ∙ sym y.1, x.2 ∙ sym y.2, stays o p a b e x.3 y.3)
       go (inl x) (inr (inl y)) = absurd (omega (arith, x.0, y.0))
       go (inl x) (inr (inr y)) = absurd (omega (arith, x.0, y.0))
       go (inr (inl x)) (inl y) = absurd (omega (arith, x.0, y.0))
-      go (inr (inl x)) (inr (inl y)) = (x.2 ∙ sym y.2, stays o p a b e x.3 y.3)
+      go (inr (inl x)) (inr (inl y)) = (x.2 ∙ sym y.2, x.3 ∙ sym y.3, stays o p a b e x.4 y.4)
       go (inr (inl x)) (inr (inr y)) = absurd (x.1 y.1.0 y.1.1)
       go (inr (inr x)) (inl y) = absurd (omega (arith, x.0, y.0))
       go (inr (inr x)) (inr (inl y)) = absurd (y.1 x.1.0 x.1.1)
-      go (inr (inr x)) (inr (inr y)) = asked_one o p line e r s a b x y w f
+      go (inr (inr x)) (inr (inr y)) = asked_one o p line e r s ts us a b x y w f
 
-  answer_one : (o p : Machine) (line : List ℕ) → grouped_in o ≡ grouped_in p → (x y : Answer) (a b : Machine) → Answered o line x a → Answered p line y b
-      → wants_memory x.reply ≡ wants_memory y.reply → tells_failed_put x.reply ≡ tells_failed_put y.reply → (x ≡ y) × (grouped_in a ≡ grouped_in b)
-  answer_one o p line e x y a b h k w f =
-      let both = line_one o p line e x.reply y.reply a b h.0 k.0 w f in
-      let text : x.text ≡ y.text = h.1 ∙ text_same x.reply a b both.1 ∙ ap (reply_text b) both.0 ∙ sym k.1 in
-      let reply = both.0 in
-      (λ i. record { reply = reply i; text = text i }, both.1)
+  answer_one : (o p : Machine) (line : List ℕ) → grouped_in o ≡ grouped_in p → (x y : Answer) (ts us : List (List ℕ)) (a b : Machine)
+      → Answered o line x ts a → Answered p line y us b
+      → wants_memory x.reply ≡ wants_memory y.reply → tells_failed_put x.reply ≡ tells_failed_put y.reply
+      → (x ≡ y) × (ts ≡ us) × (grouped_in a ≡ grouped_in b)
+  answer_one o p line e x y ts us a b h k w f =
+      let all = line_one o p line e x.reply y.reply ts us a b h.0 k.0 w f in
+      let text : x.text ≡ y.text = h.1 ∙ text_same x.reply a b all.2 ∙ ap (reply_text b) all.0 ∙ sym k.1 in
+      let reply = all.0 in
+      (λ i. record { reply = reply i; text = text i }, all.1, all.2)
 
   -- the lines of a script, one after another
   lines_one : (lines : List (List ℕ)) (o p : Machine) → grouped_in o ≡ grouped_in p → (xs ys : List Answer) (ts us : List (List ℕ)) (a b : Machine)
@@ -88,10 +95,9 @@ module _ (outcome : OneOutcome) where
       let f_here : tells_failed_put x.reply ≡ tells_failed_put y.reply = cc in
       let w_rest : map (λ (x : Answer). wants_memory x.reply) xs ≡ map (λ (x : Answer). wants_memory x.reply) ys = cc in
       let f_rest : map (λ (x : Answer). tells_failed_put x.reply) xs ≡ map (λ (x : Answer). tells_failed_put x.reply) ys = cc in
-      let here = answer_one o p line e x y h.0 k.0 h.1 k.1 w_here f_here in
-      let rest = lines_one lines h.0 k.0 here.1 xs ys h.2.0 k.2.0 a b h.2.2 k.2.2 w_rest f_rest in
-      let texts : texts_put o x.reply ≡ texts_put p y.reply = put_same x.reply o p e ∙ ap (λ (z : Answer). texts_put p z.reply) here.0 in
-      (ap₂ (λ z zs. z ∷ zs) here.0 rest.0, h.2.1 ∙ ap₂ (λ z zs. z ++ zs) texts rest.1 ∙ sym k.2.1, rest.2)
+      let here = answer_one o p line e x y h.1 k.1 h.0 k.0 h.2 k.2 w_here f_here in
+      let rest = lines_one lines h.0 k.0 here.2 xs ys h.3.0 k.3.0 a b h.3.2 k.3.2 w_rest f_rest in
+      (ap₂ (λ z zs. z ∷ zs) here.0 rest.0, h.3.1 ∙ ap₂ (λ z zs. z ++ zs) here.1 rest.1 ∙ sym k.3.1, rest.2)
 
   appends_one : (old new other : Option (List ℕ)) (text : List ℕ) → IsSome old → Appends old new text → Appends old other text → new ≡ other
   appends_one None new other text known h k = absurd (cc)

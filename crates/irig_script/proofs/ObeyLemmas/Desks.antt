@@ -3,8 +3,6 @@ use Rattle.std.proofs.Common.{◌≡◌, ◌+◌, ◌++◌, ◌∷◌, [], ℕ, 
 use Rattle.std.specs.Io.KnownBytes.{Appends}
 use Rattle.std.proofs.lemmas.List.{append-nil}
 use Rattle.std.proofs.lemmas.Grind.{flat_map-append}
-use Rattle.irig_script.specs.Obey.Machine.{Machine}
-use Rattle.irig_script.specs.Obey.Answer.{texts_put}
 use Rattle.irig_script.specs.Print.Printed.{Answer, printed}
 use Rattle.irig_script.specs.Shelf.Shelved.{Shelved, Puts, GrowsBy}
 use Rattle.irig_script.specs.Obey.Desk.{Desk, Tells, failures_in, failures_of, status_after}
@@ -67,13 +65,13 @@ tells-answers a b c rs qs ts us h k =
     (tells-tells a b c (printed rs) (printed qs) rs qs ts us h k)
 
 -- one answer, printed whole or in front
-pub tells_front : (a b : Desk) (m : Machine) (r : Answer) (front : List ℕ) → Appends a.out b.out front
-    → Puts a.shelf b.shelf (texts_put m r.reply) (failures_of r.reply) → Tells a b front (r ∷ []) (texts_put m r.reply)
-tells_front a b m r front p h = record {
+pub tells_front : (a b : Desk) (texts : List (List ℕ)) (r : Answer) (front : List ℕ) → Appends a.out b.out front
+    → Puts a.shelf b.shelf texts (failures_of r.reply) → Tells a b front (r ∷ []) texts
+tells_front a b texts r front p h = record {
   printed = p;
-  put = subst (λ (n : ℕ). Puts a.shelf b.shelf (texts_put m r.reply) n) (sym (failures_in-one r)) h;
+  put = subst (λ (n : ℕ). Puts a.shelf b.shelf texts n) (sym (failures_in-one r)) h;
 }
 
-pub tells_one : (a b : Desk) (m : Machine) (r : Answer) → Appends a.out b.out r.text → Puts a.shelf b.shelf (texts_put m r.reply) (failures_of r.reply)
-    → Tells a b (printed (r ∷ [])) (r ∷ []) (texts_put m r.reply)
-tells_one a b m r p h = tells_front a b m r (printed (r ∷ [])) (rw append-nil p) h
+pub tells_one : (a b : Desk) (texts : List (List ℕ)) (r : Answer) → Appends a.out b.out r.text → Puts a.shelf b.shelf texts (failures_of r.reply)
+    → Tells a b (printed (r ∷ [])) (r ∷ []) texts
+tells_one a b texts r p h = tells_front a b texts r (printed (r ∷ [])) (rw append-nil p) h

@@ -8,7 +8,7 @@ use Rattle.std.proofs.lemmas.Grind.{flat_map-append}
 use Rattle.std.proofs.Math.Seq.{take-suc}
 use Rattle.irig_script.specs.Obey.Machine.{Machine}
 use Rattle.irig_script.specs.Script.Lines.{lines_of, until_quit, script_lines, is_quit}
-use Rattle.irig_script.specs.Obey.Answer.{Answered, texts_put}
+use Rattle.irig_script.specs.Obey.Answer.{Answered}
 use Rattle.irig_script.specs.Print.Printed.{Answer, printed}
 use Rattle.irig_script.specs.Obey.Desk.{Desk, desk, Tells, status_after}
 use Rattle.irig_script.specs.Shelf.Shelved.{Shelved}
@@ -64,10 +64,11 @@ runs-runs a b c [] ys [] qs ts us h k =
 runs-runs a b c [] ys (r ∷ rs) qs ts us h k = absurd h
 runs-runs a b c (x ∷ xs) ys [] qs ts us h k = absurd h
 runs-runs a b c (x ∷ xs) ys (r ∷ rs) qs ts us h k =
-    (h.0, h.1, (h.2.0 ++ us, ap (λ l. l ++ us) h.2.1 ∙ append_assoc (texts_put a r.reply) h.2.0 us, runs-runs h.0 b c xs ys rs qs h.2.0 us h.2.2 k))
+    (h.0, h.1, h.2, (h.3.0 ++ us, ap (λ l. l ++ us) h.3.1 ∙ append_assoc h.1 h.3.0 us, runs-runs h.0 b c xs ys rs qs h.3.0 us h.3.2 k))
 
-pub runs_one : (a b : Machine) (line : List ℕ) (answer : Answer) → Answered a line answer b → Runs a (line ∷ []) (answer ∷ []) (texts_put a answer.reply) b
-runs_one a b line answer h = (b, h, ([], sym (append-nil (texts_put a answer.reply)), (refl, refl)))
+pub runs_one : (a b : Machine) (line : List ℕ) (answer : Answer) (texts : List (List ℕ)) → Answered a line answer texts b
+    → Runs a (line ∷ []) (answer ∷ []) texts b
+runs_one a b line answer texts h = (b, texts, h, ([], sym (append-nil texts), (refl, refl)))
 
 each-append : (xs ys : List (List ℕ)) → AllByRecursion IsObeyed xs → AllByRecursion IsObeyed ys → AllByRecursion IsObeyed (xs ++ ys)
 each-append [] ys h k = k
@@ -88,13 +89,13 @@ pub goes_none : (text : List ℕ) (s : Machine) → Goes text s [] [] s text
 goes_none text s = record { lines = []; each = tt; cut = refl; runs = (refl, refl) }
 
 -- a line that is obeyed
-pub goes_line : (text : List ℕ) (a b : Machine) (answer : Answer) → IsObeyed text → Answered a text answer b
-    → Goes (text ++ 10 ∷ []) a (answer ∷ []) (texts_put a answer.reply) b []
-goes_line text a b answer each h = record {
+pub goes_line : (text : List ℕ) (a b : Machine) (answer : Answer) (texts : List (List ℕ)) → IsObeyed text → Answered a text answer texts b
+    → Goes (text ++ 10 ∷ []) a (answer ∷ []) texts b []
+goes_line text a b answer texts each h = record {
   lines = text ∷ [];
   each = (each, tt);
   cut = sym (append-nil _ ∙ append-nil (text ++ 10 ∷ []));
-  runs = runs_one a b text answer h;
+  runs = runs_one a b text answer texts h;
 }
 
 pub goes_rest : (one more : List ℕ) (s t : Machine) (rest : List ℕ) (rs : List Answer) (ts : List (List ℕ)) → Goes one s rs ts t rest
@@ -212,12 +213,12 @@ whole_text text l i h = ap (λ t. t ++ drop (i + 1) l) (next_text text l i h)
     ∙ (append_assoc text (take (i + 1) l) (drop (i + 1) l) ∙ ap (λ t. text ++ t) (take-append-drop (i + 1) l))
 
 -- a line that was answered whole, or in front
-pub obeyed_line : (a b : Desk) (st su : Status) (text : List ℕ) (s t : Machine) (answer : Answer) (line : Line) → IsPlain text → is_quit text ≡ false
-    → Answered s text answer t
-    → Tells a b (printed (answer ∷ [])) (answer ∷ []) (texts_put s answer.reply) → su ≡ status_after st (answer ∷ []) → Holds [] line
+pub obeyed_line : (a b : Desk) (st su : Status) (text : List ℕ) (s t : Machine) (answer : Answer) (texts : List (List ℕ)) (line : Line) → IsPlain text
+    → is_quit text ≡ false → Answered s text answer texts t
+    → Tells a b (printed (answer ∷ [])) (answer ∷ []) texts → su ≡ status_after st (answer ∷ []) → Holds [] line
     → Obeyed false a b st su s t (text ++ 10 ∷ []) line
-obeyed_line a b st su text s t answer line plain q h p e l =
-    record { answers = answer ∷ []; texts = texts_put s answer.reply; status = e; told = p; ends = ([], goes_line text s t answer (plain, q) h, l) }
+obeyed_line a b st su text s t answer texts line plain q h p e l =
+    record { answers = answer ∷ []; texts = texts; status = e; told = p; ends = ([], goes_line text s t answer texts (plain, q) h, l) }
 
 pub obeyed_quit : (a : Desk) (st : Status) (text : List ℕ) (s : Machine) (line : Line) → IsPlain text → is_quit text ≡ true
     → Obeyed true a a st st s s (text ++ 10 ∷ []) line
@@ -237,22 +238,22 @@ obeyed_end out t u st text s m line plain q e p =
     subst (λ (k : Shelved). Obeyed true (desk out t) (desk out k) st st s m (text ++ 10 ∷ []) line) (sym p)
     (subst (λ (k : Machine). Obeyed true (desk out t) (desk out t) st st s k (text ++ 10 ∷ []) line) (sym e) (obeyed_quit (desk out t) st text s line plain q))
 
-pub broke_line : (a b : Desk) (text : List ℕ) (s t : Machine) (front back : List ℕ) (answer : Answer) → IsPlain text → is_quit text ≡ false
-    → Answered s text answer t
-    → answer.text ≡ front ++ back → back ≢ [] → Tells a b front (answer ∷ []) (texts_put s answer.reply) → BrokeIn a b s t (text ++ 10 ∷ [])
-broke_line a b text s t front back answer plain q h e n p =
+pub broke_line : (a b : Desk) (text : List ℕ) (s t : Machine) (front back : List ℕ) (answer : Answer) (texts : List (List ℕ)) → IsPlain text
+    → is_quit text ≡ false → Answered s text answer texts t
+    → answer.text ≡ front ++ back → back ≢ [] → Tells a b front (answer ∷ []) texts → BrokeIn a b s t (text ++ 10 ∷ [])
+broke_line a b text s t front back answer texts plain q h e n p =
     record {
       answers = [];
       last = answer;
       front = front;
       back = back;
       rest = [];
-      texts = texts_put s answer.reply;
+      texts = texts;
       part = e;
       missing = n;
       told = p;
       goes =
-          goes_line text s t answer (plain, q) h;
+          goes_line text s t answer texts (plain, q) h;
     }
 
 pub given : {T E P : Type 0} (r : Result T E) → P → OnErr r P

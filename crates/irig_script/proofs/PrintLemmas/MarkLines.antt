@@ -14,11 +14,11 @@ pub mark_named : (marks : List (Option ℕ)) (byte letter : ℕ) (mark : Option 
 mark_named marks byte letter mark e h = let place : byte - 97 ≡ letter = omega arith in rw place at h
 
 -- its line is the next one
-pub mark_listed : (marks : List (Option ℕ)) (letter k : ℕ) (mark : Option ℕ) (line : List ℕ) → letter ≡ k → k < 26 → slice_get marks letter ≡ Some mark
-    → line ≡ mark_line letter mark → (k < length (take 26 marks)) × (line ≡ mark_line (0 + k) (get_or (take 26 marks) k None))
-mark_listed marks letter k mark line e h there same =
+pub mark_listed : (marks : List (Option ℕ)) (letter k : ℕ) (mark : Option ℕ) (line row : List ℕ) → letter ≡ k → k < 26 → slice_get marks letter ≡ Some mark
+    → line ≡ row → row ≡ mark_line letter mark → (k < length (take 26 marks)) × (line ≡ mark_line (0 + k) (get_or (take 26 marks) k None))
+mark_listed marks letter k mark line row e h there same is =
     let here = rw e at there in
     let within = slice_get_within marks k mark here in
     let place : letter ≡ 0 + k = omega arith in
     let read : mark ≡ get_or (take 26 marks) k None = sym (get_or_from_slice_get marks k mark None here) ∙ sym (get_or-take 26 marks k None h) in
-    (omega (arith, h, within, length-take 26 marks), same ∙ ap₂ mark_line place read)
+    (omega (arith, h, within, length-take 26 marks), same ∙ is ∙ ap₂ mark_line place read)

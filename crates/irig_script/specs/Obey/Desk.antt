@@ -1,14 +1,12 @@
 -- What lies round a session: what was printed, the texts written to the shelf, and how often it
 -- failed. And the status that answers make. This project's own.
-use Rattle.std.specs.Prelude.{◌≡◌, ◌+◌, ℕ, Bool, true, false, List, [], ◌∷◌, Option, Some, None}
+use Rattle.std.specs.Prelude.{◌+◌, ℕ, Bool, true, false, List, [], ◌∷◌, Option}
 use Rattle.std.specs.Prelude.{if◌then◌else◌}
 use Rattle.std.specs.Io.KnownBytes.{Appends}
-use Rattle.irig_script.specs.Obey.Machine.{Machine}
-use Rattle.irig_script.specs.Obey.Answer.{texts_put}
 use Rattle.irig_script.specs.Print.Printed.{Answer}
 use Rattle.irig_script.specs.Shelf.Shelved.{Shelved, Puts}
 use Rattle.irig_script.specs.declared.print.reply.Reply.{Reply}
-use Rattle.irig_script.specs.declared.print.reply.Reply.TheVariants.{Written, Saved, Refused}
+use Rattle.irig_script.specs.declared.print.reply.Reply.TheVariants.{Written, Refused}
 use Rattle.irig_script.specs.declared.print.reply.Reply.TheVariants.{BadLine, LineTooLong}
 use Rattle.irig_script.specs.declared.print.reply.Reply.TheVariants.{WriteFailed}
 use Rattle.irig_script.specs.declared.obey.status.Status.{Status}
@@ -22,7 +20,6 @@ failures_of _ = 0
 -- a reply that reports no write, and no failure of the shelf
 abbrev pub IsQuiet : Reply → Type 0
 IsQuiet (Written count) = ⊥
-IsQuiet (Saved count) = ⊥
 IsQuiet WriteFailed = ⊥
 IsQuiet _ = Unit {0}
 
@@ -59,8 +56,3 @@ pub record Tells (old new : Desk) (text : List ℕ) (answers : List Answer) (tex
     : Type 0 where
   pub printed : Appends old.out new.out text
   pub put : Puts old.shelf new.shelf texts (failures_in answers)
-
--- what was written for a reply, and whether the shelf failed; nothing if there is no reply
-abbrev pub PutsFor : Option Reply → Shelved → Shelved → Machine → Type 0
-PutsFor None old new m = new ≡ old
-PutsFor (Some reply) old new m = Puts old new (texts_put m reply) (failures_of reply)

@@ -6,8 +6,9 @@ use Rattle.irig_script.specs.Obey.Machine.{Machine}
 use Rattle.irig_script.specs.Script.Lines.{is_quit}
 use Rattle.irig_script.specs.Obey.Answer.{Step}
 use Rattle.irig_script.specs.Print.Printed.{Answer, printed}
-use Rattle.irig_script.specs.Obey.Desk.{Desk, Tells, status_after}
+use Rattle.irig_script.specs.Obey.Desk.{Desk, Tells, failures_of, status_after}
 use Rattle.irig_script.specs.Obey.Run.{Goes, IsPlain}
+use Rattle.irig_script.specs.Shelf.Shelved.{Shelved, Puts}
 use Rattle.irig_script.specs.declared.print.reply.Reply.{Reply}
 use Rattle.irig_script.specs.declared.obey.status.Status.{Status}
 use Rattle.irig_script.specs.declared.script.line.Line.{Line}
@@ -50,8 +51,10 @@ pub record BrokeIn (from to : Desk) (old new : Machine) (bytes : List ℕ) : Typ
   pub told : Tells from to (printed answers ++ front) (answers ++ last ∷ []) texts
   pub goes : Goes bytes old (answers ++ last ∷ []) texts new rest
 
--- a line was answered, or it ends the script and nothing has changed
-abbrev pub Answers : Option Reply → Machine → Machine → Line → Type 0
-Answers None old new line = ((text : List ℕ) → Holds text line → is_quit text ≡ true) × (new ≡ old)
-Answers (Some reply) old new line =
-    (text : List ℕ) → Holds text line → (is_quit text ≡ false) × Step old text reply new
+-- a line was answered and its texts were written, or it ends the script and nothing has changed
+abbrev pub Answers : Option Reply → Shelved → Shelved → Machine → Machine → Line → Type 0
+Answers None from to old new line =
+    ((text : List ℕ) → Holds text line → is_quit text ≡ true) × (new ≡ old) × (to ≡ from)
+Answers (Some reply) from to old new line = (texts : List (List ℕ))
+    × ((text : List ℕ) → Holds text line → (is_quit text ≡ false) × Step old text reply texts new)
+    × Puts from to texts (failures_of reply)

@@ -1,19 +1,18 @@
 -- What the session replies to a call, a listing, a write and a choice of format: memory may run
 -- out, and the shelf may fail. This project's own.
-use Rattle.std.specs.Prelude.{◌≡◌, ◌+◌, ◌-◌, ℕ, Bool, true, false, length, Result, Ok, Err}
+use Rattle.std.specs.Prelude.{◌≡◌, ◌+◌, ◌-◌, ℕ, Bool, true, false, List, [], length, Result, Ok, Err}
 use Rattle.irig_vcd.specs.FileText.{file_text}
 use Rattle.irig_codes.specs.Format.{FormatView}
 use Rattle.irig_codes.specs.declared.format.Kind.{Kind}
 use Rattle.irig_edit.specs.State.State.{recording_of}
 use Rattle.irig_edit.specs.Session.Calls.{Call, Edit}
 use Rattle.irig_edit.specs.Edits.Conditions.{are_pulses}
-use Rattle.irig_edit.specs.Saved.SavedSession.{saved_text}
-use Rattle.irig_edit.specs.Session.Session.{Steps, machine_in}
+use Rattle.irig_edit.specs.Session.Session.{Steps}
 use Rattle.irig_edit.specs.declared.session.refusal.Refusal.{Refusal}
 use Rattle.irig_edit.specs.declared.session.refusal.Refusal.TheVariants as refusal
 use Rattle.irig_script.specs.Obey.Machine.{Machine}
 use Rattle.irig_script.specs.declared.print.reply.Reply.{Reply}
-use Rattle.irig_script.specs.declared.print.reply.Reply.TheVariants.{Silent, Written, Saved, Listed}
+use Rattle.irig_script.specs.declared.print.reply.Reply.TheVariants.{Silent, Written, Listed}
 use Rattle.irig_script.specs.declared.print.reply.Reply.TheVariants.{Refused, WriteFailed}
 
 -- a call of the session was accepted in silence, or refused
@@ -26,17 +25,20 @@ Calls call old _ new = ⊥
 abbrev pub Makes : Edit → Machine → Reply → Machine → Type 0
 Makes edit old reply new = Calls (Call.Make edit) old reply new
 
--- the text was written and its bytes are reported, or the shelf failed
-abbrev pub Writes : Machine → Reply → Type 0
-Writes m (Written count) = count ≡ length (file_text (recording_of m.present.state))
-Writes m WriteFailed = Unit {0}
-Writes m _ = ⊥
+-- the dump of the present state
+abbrev pub dump_text : Machine → List ℕ
+dump_text m = file_text (recording_of m.present.state)
 
--- the same of the text with the journal
-abbrev pub Saves : Machine → Reply → Type 0
-Saves m (Saved count) = count ≡ length (saved_text (machine_in m))
-Saves m WriteFailed = Unit {0}
-Saves m _ = ⊥
+-- the text was written and its bytes are reported, or the shelf failed
+abbrev pub Writes : List ℕ → Reply → Type 0
+Writes text (Written count) = count ≡ length text
+Writes text WriteFailed = Unit {0}
+Writes text _ = ⊥
+
+-- those of the texts that were written, by the reply: all of them, or none
+abbrev pub texts_put : List (List ℕ) → Reply → List (List ℕ)
+texts_put texts (Written count) = texts
+texts_put texts _ = []
 
 -- the reply to an edit
 abbrev pub reply_to : Result (Unit {0}) Refusal → Reply

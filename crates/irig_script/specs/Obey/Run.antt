@@ -6,7 +6,7 @@ use Rattle.std.specs.List.{list_all, flat_map, AllByRecursion}
 use Rattle.std.specs.Io.KnownBytes.{Consumes}
 use Rattle.irig_script.specs.Obey.Machine.{Machine}
 use Rattle.irig_script.specs.Script.Lines.{is_quit, script_lines}
-use Rattle.irig_script.specs.Obey.Answer.{Answered, texts_put}
+use Rattle.irig_script.specs.Obey.Answer.{Answered}
 use Rattle.irig_script.specs.Print.Printed.{Answer, printed}
 use Rattle.irig_script.specs.Obey.Desk.{Desk, Tells, status_after}
 use Rattle.irig_script.specs.declared.obey.status.Status.{Status}
@@ -15,9 +15,8 @@ use Rattle.irig_script.specs.declared.obey.status.Status.{Status}
 abbrev pub Runs : Machine → List (List ℕ) → List Answer → List (List ℕ) → Machine → Type 0
 Runs old [] [] texts new = (texts ≡ []) × (new ≡ old)
 Runs old (line ∷ lines) (answer ∷ answers) texts new =
-    (mid : Machine) × Answered old line answer mid
-    × ((others : List (List ℕ)) × (texts ≡ texts_put old answer.reply ++ others)
-    × Runs mid lines answers others new)
+    (mid : Machine) × (put : List (List ℕ)) × Answered old line answer put mid
+    × ((others : List (List ℕ)) × (texts ≡ put ++ others) × Runs mid lines answers others new)
 Runs old [] (answer ∷ answers) texts new = ⊥
 Runs old (line ∷ lines) [] texts new = ⊥
 

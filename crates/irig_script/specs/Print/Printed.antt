@@ -11,7 +11,7 @@ use Rattle.irig_script.specs.Print.Listings.{list_text, marks_text, info_text}
 use Rattle.irig_script.specs.Obey.Machine.{Machine}
 use Rattle.irig_script.specs.Print.Numbered.{numbered}
 use Rattle.irig_script.specs.declared.print.reply.Reply.{Reply}
-use Rattle.irig_script.specs.declared.print.reply.Reply.TheVariants.{Silent, Written, Saved, Listed}
+use Rattle.irig_script.specs.declared.print.reply.Reply.TheVariants.{Silent, Written, Listed}
 use Rattle.irig_script.specs.declared.print.reply.Reply.TheVariants.{Frames, Marks, Info, Refused}
 use Rattle.irig_script.specs.declared.print.reply.Reply.TheVariants.{BadLine, LineTooLong}
 use Rattle.irig_script.specs.declared.print.reply.Reply.TheVariants.{WriteFailed}
@@ -46,7 +46,6 @@ frames_text s = numbered (record_line s) 1 (frames_of s)
 abbrev pub reply_text : Machine → Reply → List ℕ
 reply_text m Silent = []
 reply_text m (Written count) = decimal count ++ 10 ∷ []
-reply_text m (Saved count) = decimal count ++ 10 ∷ []
 reply_text m (Listed before count) = list_text before count m.present.state
 reply_text m Frames = frames_text m.present.state
 reply_text m Marks = marks_text m.present.state

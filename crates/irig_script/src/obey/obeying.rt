@@ -2,15 +2,17 @@
 
 ghost use Rattle.std.specs.Prelude.{◌≢◌};
 ghost use Rattle.irig_script.specs.Obey.Obeying.{IsEdit, Obeys};
-ghost use Rattle.irig_script.specs.Obey.Desk.{IsQuiet, PutsFor};
+ghost use Rattle.irig_script.specs.Obey.Answer.{texts_of};
+ghost use Rattle.irig_script.specs.Obey.Desk.{IsQuiet, failures_of};
 ghost use Rattle.irig_script.specs.Obey.Progress.{Answers};
+ghost use Rattle.irig_script.specs.Obey.Replies.{texts_put};
+ghost use Rattle.irig_script.specs.Shelf.Shelved.{Puts};
 ghost use Rattle.irig_script.specs.declared.script.command.Command.{Command};
 
 use crate::obey::calls::{
     abort, begin, delete, end, force, insert, invert, join, list, mark, redo, regen, set_format,
     shift, show, split, undo, unmark,
 };
-use crate::obey::saving::save;
 use crate::obey::writing::write;
 use crate::print::reply::Reply;
 use crate::script::command::{BadLine, Command};
@@ -21,18 +23,30 @@ use irig_edit::Session;
 
 /// Obeys a line; `None` if it ends the script.
 pub fn obey_line<S: Shelf>(line: &Line, session: &mut Session, shelf: &mut S) -> Option<Reply>
-    ensures answer { Answers result session.old session.new line.now }
-    ensures put { PutsFor result (S.known shelf.old) (S.known shelf.new) session.old }
+    ensures { Answers result (S.known shelf.old) (S.known shelf.new)
+        session.old session.new line.now }
 {
     let Some(text) = line.text() else {
         return Some(Reply::LineTooLong);
     };
     match parse_line(text) {
         Ok(Command::Quit) => None,
-        Ok(Command::Write) => Some(write(session, shelf)),
-        Ok(Command::Save) => Some(save(session, shelf)),
-        Ok(command) => Some(obey(command, session)),
+        Ok(command) => Some(write_or_obey(command, session, shelf)),
         Err(BadLine) => Some(Reply::BadLine),
+    }
+}
+
+/// Obeys a command that does not end the script.
+fn write_or_obey<S: Shelf>(command: Command, session: &mut Session, shelf: &mut S) -> Reply
+    requires { command ≢ Command.Quit }
+    ensures answer { Obeys command session.old result session.new }
+    ensures put { Puts (S.known shelf.old) (S.known shelf.new)
+        (texts_put (texts_of command session.old) result) (failures_of result) }
+{
+    match command {
+        Command::Write => write(&mut session.text_parts(), shelf),
+        Command::Save => write(&mut session.saved_parts(), shelf),
+        _ => obey(command, session),
     }
 }
 

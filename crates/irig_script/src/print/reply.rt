@@ -22,8 +22,6 @@ pub enum Reply {
     Silent,
     /// A text of this many bytes was written.
     Written(u64),
-    /// A text with the journal, of this many bytes, was written.
-    Saved(u64),
     /// This many pulses are listed, after this many others.
     Listed(usize, usize),
     /// The frames of the track are listed.
@@ -64,7 +62,7 @@ pub fn print<W: Write>(reply: Reply, session: &Session, out: &mut W) -> Result<(
 {
     match reply {
         Reply::Silent => Ok(()),
-        Reply::Written(count) | Reply::Saved(count) => put_number(out, count),
+        Reply::Written(count) => put_number(out, count),
         Reply::Listed(before, count) => print_pulses(session, before, count, out),
         Reply::Frames => print_frames(session, out),
         Reply::Marks => print_marks(session, out),

@@ -1,4 +1,4 @@
-use Rattle.std.proofs.Common.{rules, ◌≡◌, ◌<◌, ◌∙◌, None, take, arith}
+use Rattle.std.proofs.Common.{rules, ◌≡◌, ◌<◌, None, take, arith}
 use Rattle.std.proofs.lemmas.Result.{on_ok_weaker, on_err_weaker}
 use Rattle.irig_script.specs.Print.Listings.{mark_line}
 use Rattle.irig_script.specs.Print.Numbered.{numbered}
@@ -13,8 +13,8 @@ returns-in_default-clause-err g c =
     let k = c.loop-place.place in
     let few : k < 26 = omega (arith, c.loop-place-test.true) in
     let named = mark_named ms c.byte.result c.new-letter.result c.mark_time.result c.byte.ensures.value c.mark_time.ensures in
-    let line : c.text.result.now ≡ mark_line c.new-letter.result c.mark_time.result = c.text.ensures.text ∙ c.put_mark.ensures in
-    let listed = mark_listed ms c.new-letter.result k c.mark_time.result c.text.result.now c.new-letter.ensures few named line in
+    let listed = mark_listed ms c.new-letter.result k c.mark_time.result c.text.result.now _ c.new-letter.ensures few named c.text.ensures.text
+    c.put_mark.ensures in
     listed_front mark_line 0 (take 26 ms) k None _ _ _ _ _ listed.0 listed.1 c.loop-place.invariant c.in_default.ensures.err
 
 pub loop-place-preserved : goal.loop-place-preserved
@@ -23,8 +23,8 @@ loop-place-preserved g c =
     let k = c.loop-place.place in
     let few : k < 26 = omega (arith, c.loop-place-test.true) in
     let named = mark_named ms c.byte.result c.new-letter.result c.mark_time.result c.byte.ensures.value c.mark_time.ensures in
-    let line : c.text.result.now ≡ mark_line c.new-letter.result c.mark_time.result = c.text.ensures.text ∙ c.put_mark.ensures in
-    let listed = mark_listed ms c.new-letter.result k c.mark_time.result c.text.result.now c.new-letter.ensures few named line in
+    let listed = mark_listed ms c.new-letter.result k c.mark_time.result c.text.result.now _ c.new-letter.ensures few named c.text.ensures.text
+    c.put_mark.ensures in
     listed_more mark_line 0 (take 26 ms) k None _ _ _ _ _ _ listed.0 listed.1 c.loop-place.invariant c.in-Ok.ensures.ok
 
 pub returns-clause-ok : goal.returns-clause-ok
