@@ -1,11 +1,5 @@
 -- A text that is written block after block to what shows its bytes.
-use Rattle.std.proofs.Common.{◌≡◌, ◌+◌, ◌++◌, [], ℕ, List, Option, Some, None, length, arith, sym, append-nil, length-append}
-use Rattle.std.specs.Io.KnownBytes.{Appends}
-
--- before the first block nothing is appended
-pub appends_none : (a : Option (List ℕ)) → Appends a a []
-appends_none None = tt
-appends_none (Some s) = sym (append-nil s)
+use Rattle.std.proofs.Common.{◌≡◌, ◌+◌, ◌++◌, ℕ, List, length, arith, length-append}
 
 -- the bytes of one block more are counted
 pub one_block_more : (so_far part : List ℕ) (old new : ℕ) → old ≡ length so_far → new ≡ old + length part → new ≡ length (so_far ++ part)

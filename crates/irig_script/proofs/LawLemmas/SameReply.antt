@@ -34,6 +34,10 @@ use Rattle.irig_script.specs.declared.print.reply.Reply.TheVariants as told
 abbrev pub bare : Whole Kept → Machine
 bare k = session_view k 0 0
 
+-- two machines that stay as they are
+pub stays : (o p a b : Machine) → grouped_in o ≡ grouped_in p → a ≡ o → b ≡ p → grouped_in a ≡ grouped_in b
+stays o p a b e h k = ap grouped_in h ∙ e ∙ sym (ap grouped_in k)
+
 -- addresses and times mean the same in machines that differ in their looks alone
 base_same : (b : Base) (o p : Machine) → grouped_in o ≡ grouped_in p → base_of b o ≡ base_of b p
 base_same (Number n) o p e = refl
@@ -203,9 +207,6 @@ module _ (outcome : OneOutcome) where
 
   writes_one : (text same : List ℕ) → text ≡ same → (r s : Reply) → Writes text r → Writes same s → tells_failed_put r ≡ tells_failed_put s → r ≡ s
   writes_one text same e r s h k f = writes text r h ∙ ap₂ written e f ∙ sym (writes same s k)
-
-  stays : (o p a b : Machine) → grouped_in o ≡ grouped_in p → a ≡ o → b ≡ p → grouped_in a ≡ grouped_in b
-  stays o p a b e h k = ap grouped_in h ∙ e ∙ sym (ap grouped_in k)
 
   -- what a command asks for
   pub obeys_one : (c : Command) (o p : Machine) → grouped_in o ≡ grouped_in p → (r s : Reply) (a b : Machine) → Obeys c o r a → Obeys c p s b

@@ -21,7 +21,7 @@ use Rattle.irig_script.specs.declared.print.reply.Reply.TheVariants as told
 use Rattle.irig_script.specs.declared.script.command.Command.{Command}
 use Rattle.irig_script.specs.declared.script.command.Command.TheVariants as command
 use Rattle.irig_script.proofs.ScriptLemmas.Orders.{means_one}
-use Rattle.irig_script.proofs.LawLemmas.SameReply.{bare, dump_same, obeys_one}
+use Rattle.irig_script.proofs.LawLemmas.SameReply.{bare, dump_same, obeys_one, stays}
 
 -- what a reply prints and writes does not depend on the looks
 text_same : (r : Reply) (a b : Machine) → grouped_in a ≡ grouped_in b → reply_text a r ≡ reply_text b r
@@ -35,9 +35,6 @@ texts_same : (c : Command) (a b : Machine) → grouped_in a ≡ grouped_in b →
 texts_same command.Write a b e = ap (λ t. t ∷ []) (dump_same a b e)
 texts_same command.Save a b e = ap (λ k. saved_text k.machine ∷ []) e
 texts_same _ a b e = refl
-
-stays : (o p a b : Machine) → grouped_in o ≡ grouped_in p → a ≡ o → b ≡ p → grouped_in a ≡ grouped_in b
-stays o p a b e h k = ap grouped_in h ∙ e ∙ sym (ap grouped_in k)
 
 module _ (outcome : OneOutcome) where
   asked_one : (o p : Machine) (line : List ℕ) → grouped_in o ≡ grouped_in p → (r s : Reply) (ts us : List (List ℕ)) (a b : Machine)
@@ -99,17 +96,12 @@ module _ (outcome : OneOutcome) where
       let rest = lines_one lines h.0 k.0 here.2 xs ys h.3.0 k.3.0 a b h.3.2 k.3.2 w_rest f_rest in
       (ap₂ (λ z zs. z ∷ zs) here.0 rest.0, h.3.1 ∙ ap₂ (λ z zs. z ++ zs) here.1 rest.1 ∙ sym k.3.1, rest.2)
 
-  appends_one : (old new other : Option (List ℕ)) (text : List ℕ) → IsSome old → Appends old new text → Appends old other text → new ≡ other
-  appends_one None new other text known h k = absurd (cc)
-  appends_one (Some xs) None other text known h k = absurd h
-  appends_one (Some xs) (Some ys) None text known h k = absurd k
-  appends_one (Some xs) (Some ys) (Some zs) text known h k = ap Some (h ∙ sym k)
-
-  grows_one : (old new other : Option (List (List ℕ))) (texts : List (List ℕ)) → IsSome old → GrowsBy old new texts → GrowsBy old other texts → new ≡ other
-  grows_one None new other texts known h k = absurd (cc)
-  grows_one (Some xs) None other texts known h k = absurd h
-  grows_one (Some xs) (Some ys) None texts known h k = absurd k
-  grows_one (Some xs) (Some ys) (Some zs) texts known h k = ap Some (h ∙ sym k)
+  -- what is known to grow by the same is the same
+  grows_one : {T : Type 0} (old new other : Option (List T)) (more : List T) → IsSome old → GrowsBy old new more → GrowsBy old other more → new ≡ other
+  grows_one None new other more known h k = absurd (cc)
+  grows_one (Some xs) None other more known h k = absurd h
+  grows_one (Some xs) (Some ys) None more known h k = absurd k
+  grows_one (Some xs) (Some ys) (Some zs) more known h k = ap Some (h ∙ sym k)
 
   pub one_run : OneRun
   one_run script one other begin met =
@@ -130,6 +122,6 @@ module _ (outcome : OneOutcome) where
         texts = all.1;
         status = x.status ∙ (λ i. status_after (status i) (answers i)) ∙ sym y.status;
         machine = all.2;
-        printed = λ known. appends_one one.from.out one.to.out other.to.out (printed x.answers) known x.told.printed out;
+        printed = λ known. grows_one one.from.out one.to.out other.to.out (printed x.answers) known x.told.printed out;
         put = λ known. grows_one one.from.shelf.texts one.to.shelf.texts other.to.shelf.texts x.texts known x.told.put.put put;
       }

@@ -1,5 +1,6 @@
 -- What answers make of a desk: what is printed and written, one after another.
 use Rattle.std.proofs.Common.{◌≡◌, ◌+◌, ◌++◌, ◌∷◌, [], ℕ, Option, Some, None, List, refl, ap, sym, ◌∙◌, subst, append_assoc, arith}
+use Rattle.std.proofs.KnownBytes.{Appends-nil, Appends-trans}
 use Rattle.std.specs.Io.KnownBytes.{Appends}
 use Rattle.std.proofs.lemmas.List.{append-nil}
 use Rattle.std.proofs.lemmas.Grind.{flat_map-append}
@@ -7,11 +8,6 @@ use Rattle.irig_script.specs.Print.Printed.{Answer, printed}
 use Rattle.irig_script.specs.Shelf.Shelved.{Shelved, Puts, GrowsBy}
 use Rattle.irig_script.specs.Obey.Desk.{Desk, Tells, failures_in, failures_of, status_after}
 use Rattle.irig_script.specs.declared.obey.status.Status.{Status}
-use Rattle.irig_script.proofs.ObeyLemmas.Known.{appends-appends}
-
-appends_none : (a : Option (List ℕ)) → Appends a a []
-appends_none None = tt
-appends_none (Some s) = sym (append-nil s)
 
 grows_none : {T : Type 0} (a : Option (List T)) → GrowsBy a a []
 grows_none None = tt
@@ -47,12 +43,12 @@ status_after-append s (r ∷ rs) qs = status_after-append _ rs qs
 
 -- a desk that stays as it is, and what is answered in turn
 pub tells_none : (a : Desk) → Tells a a [] [] []
-tells_none a = record { printed = appends_none a.out; put = puts_none a.shelf }
+tells_none a = record { printed = Appends-nil a.out; put = puts_none a.shelf }
 
 pub tells-tells : (a b c : Desk) (x y : List ℕ) (rs qs : List Answer) (ts us : List (List ℕ)) → Tells a b x rs ts → Tells b c y qs us
     → Tells a c (x ++ y) (rs ++ qs) (ts ++ us)
 tells-tells a b c x y rs qs ts us h k = record {
-  printed = appends-appends a.out b.out c.out x y h.printed k.printed;
+  printed = Appends-trans a.out b.out c.out x y h.printed k.printed;
   put = subst (λ (n : ℕ). Puts a.shelf c.shelf (ts ++ us) n) (sym (failures_in-append rs qs))
       (puts-puts a.shelf b.shelf c.shelf ts us (failures_in rs) (failures_in qs) h.put k.put);
 }

@@ -1,11 +1,10 @@
 -- A script by its lines, and what they make of a desk and a machine.
 use Rattle.std.proofs.Common.{◌≡◌, ◌≢◌, ◌==◌, ◌+◌, ◌<◌, ◌++◌, ◌∷◌, [], ℕ, Option, Bool, true, false, List, length, take, drop, get_or, refl, ap, sym, ◌∙◌}
-use Rattle.std.proofs.Common.{subst, append_assoc, add-one}
+use Rattle.std.proofs.Common.{subst, append_assoc}
 use Rattle.std.specs.Prelude.{Result, Ok, Err, OnErr}
 use Rattle.std.specs.List.{AllByRecursion}
-use Rattle.std.proofs.lemmas.List.{append-nil, take-append-drop}
+use Rattle.std.proofs.lemmas.List.{append-nil, take-append-drop, take_more}
 use Rattle.std.proofs.lemmas.Grind.{flat_map-append}
-use Rattle.std.proofs.Math.Seq.{take-suc}
 use Rattle.irig_script.specs.Obey.Machine.{Machine}
 use Rattle.irig_script.specs.Script.Lines.{lines_of, until_quit, script_lines, is_quit}
 use Rattle.irig_script.specs.Obey.Answer.{Answered}
@@ -202,11 +201,8 @@ broke_rest a b s t one more m = record {
 }
 
 -- one more element, and all of them
-one_more : (l : List ℕ) (i : ℕ) → i < length l → take i l ++ get_or l i 0 ∷ [] ≡ take (i + 1) l
-one_more l i h = sym (ap (λ n. take n l) (add-one i) ∙ take-suc l i 0 h)
-
 pub next_text : (text l : List ℕ) (i : ℕ) → i < length l → (text ++ take i l) ++ get_or l i 0 ∷ [] ≡ text ++ take (i + 1) l
-next_text text l i h = append_assoc text (take i l) (get_or l i 0 ∷ []) ∙ ap (λ t. text ++ t) (one_more l i h)
+next_text text l i h = append_assoc text (take i l) (get_or l i 0 ∷ []) ∙ ap (λ t. text ++ t) (sym (take_more l i 0 h))
 
 pub whole_text : (text l : List ℕ) (i : ℕ) → i < length l → ((text ++ take i l) ++ get_or l i 0 ∷ []) ++ drop (i + 1) l ≡ text ++ l
 whole_text text l i h = ap (λ t. t ++ drop (i + 1) l) (next_text text l i h)

@@ -1,6 +1,7 @@
 -- Which lines end a script.
 use Rattle.std.proofs.Common.{◌≡◌, ◌≢◌, ◌<◌, ◌≤◌, ◌∷◌, ◌++◌, [], ℕ, Bool, true, false, not, List, length, nat_lt, refl, sym, ap, ◌∙◌, subst, arith, inl, inr}
 use Rattle.std.proofs.lemmas.Bool.Decides.{nat_tests}
+use Rattle.std.proofs.lemmas.Bool.{and_parts}
 use Rattle.irig_script.specs.Script.Commands.{Asks}
 use Rattle.irig_script.specs.Script.Grammar.{AsksIn, Does, IsOrder, Means}
 use Rattle.irig_script.specs.Script.Keywords.{keyword_of}
@@ -16,7 +17,7 @@ use Rattle.irig_script.proofs.ScriptLemmas.LineReading.{order_of}
 use Rattle.irig_script.proofs.ScriptLemmas.OrderParts.{found_words}
 use Rattle.irig_script.proofs.ScriptLemmas.Orders.{means_one, means_onward}
 use Rattle.irig_script.proofs.ScriptLemmas.Spacing.{words_onward}
-use Rattle.irig_script.proofs.ScriptLemmas.WordLemmas.{both, words_split}
+use Rattle.irig_script.proofs.ScriptLemmas.WordLemmas.{words_split}
 
 -- no other word asks for the end of a script
 only_quit : (k : Keyword) (range : List ℕ) (args : List (List ℕ)) → Asks k range args command.Quit → k ≡ word.Quit
@@ -84,7 +85,7 @@ quit_word (w ∷ x ∷ words) e = absurd (cc)
 -- a line that ends the script asks for its end
 quit_means : (text : List ℕ) → is_quit text ≡ true → Means command.Quit text
 quit_means text e =
-    let q = quit_word (words_of text) (both (not (nat_lt 1000 (length text))) (are_quit (words_of text)) e).1 in
+    let q = quit_word (words_of text) (and_parts (not (nat_lt 1000 (length text))) (are_quit (words_of text)) e).1 in
     let rest = onward Blank (onward Text text) in
     let next = next_word (words_of text) (words_of rest) (before Blank (onward Text text)) q.0 [] (words_split text) q.1 in
     let name : keyword_of (before Blank (onward Text text)) ≡ word.Quit = ap keyword_of next.0 ∙ q.2 in

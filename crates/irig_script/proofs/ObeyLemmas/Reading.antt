@@ -1,13 +1,13 @@
 -- How far a run has read its script.
-use Rattle.std.proofs.Common.{◌≤◌, ◌+◌, ◌^◌, ◌++◌, [], ℕ, Option, Some, None, List, false, length, refl, sym, arith}
-use Rattle.std.specs.Io.KnownBytes.{Consumes, Keeps}
+use Rattle.std.proofs.Common.{◌≤◌, ◌+◌, ◌^◌, ◌++◌, [], ℕ, Option, List, false, length, refl, arith}
+use Rattle.std.proofs.KnownBytes.{Consumes-nil}
+use Rattle.std.specs.Io.KnownBytes.{Consumes}
 use Rattle.irig_script.specs.Obey.Machine.{Machine}
 use Rattle.irig_script.specs.Obey.Desk.{Desk}
 use Rattle.irig_script.specs.Obey.Progress.{Obeyed}
 use Rattle.irig_script.specs.Obey.Reading.{HasNoEnd, ReadsTo}
 use Rattle.irig_script.specs.declared.obey.status.Status.{Status}
 use Rattle.irig_script.specs.declared.script.line.Line.{Line}
-use Rattle.irig_script.proofs.ObeyLemmas.Known.{consumes_none}
 
 -- bytes that were obeyed and do not end the script
 no_end : (a b : Desk) (st su : Status) (s t : Machine) (bytes : List ℕ) (line : Line) → Obeyed false a b st su s t bytes line → HasNoEnd bytes
@@ -19,18 +19,12 @@ pub reads_to : (from to : Option (List ℕ)) (a b : Desk) (st su : Status) (s t 
 reads_to from to a b st su s t bytes part line p short most h =
     record { before = bytes; last = part; read = p; short = short; most = most; goes_on = no_end a b st su s t bytes line h }
 
--- a read that failed
-pub consumes_kept : (a b : Option (List ℕ)) → Keeps a b → Consumes a b []
-consumes_kept None b h = tt
-consumes_kept (Some s) None h = absurd h
-consumes_kept (Some s) (Some t) h = sym h
-
 -- nothing was read
 pub reads_none : (a : Option (List ℕ)) → ReadsTo a a
 reads_none a = record {
   before = [];
   last = [];
-  read = consumes_none a;
+  read = Consumes-nil a;
   short = omega arith;
   most = omega arith;
   goes_on = record { lines = []; rest = []; each = tt; begun = refl; cut = refl };

@@ -1,6 +1,7 @@
 -- A run after one more read of its script.
 use Rattle.std.proofs.Common.{◌≡◌, ◌==◌, ◌≤◌, ◌<◌, ◌^◌, ◌++◌, ◌∷◌, [], ℕ, Option, Bool, true, false, List, length, refl, sym, ◌∙◌, subst, arith, length-append}
 use Rattle.std.specs.Prelude.{Ok, Err}
+use Rattle.std.proofs.KnownBytes.{Consumes-kept, Consumes-nil, Consumes-trans}
 use Rattle.std.specs.Io.KnownBytes.{Consumes, IsAtEnd, Keeps}
 use Rattle.std.proofs.lemmas.Bool.Decides.{nat_tests}
 use Rattle.std.proofs.lemmas.List.{append-nil}
@@ -13,10 +14,9 @@ use Rattle.irig_script.specs.declared.obey.status.Status.{Status}
 use Rattle.irig_script.specs.declared.obey.status.Status.TheVariants.{AllAccepted}
 use Rattle.irig_script.specs.declared.obey.status.RunFault.TheVariants.{ReadFailed, PrintFailed}
 use Rattle.irig_script.specs.declared.script.line.Line.{Line}
-use Rattle.irig_script.proofs.ObeyLemmas.Known.{consumes-consumes}
 use Rattle.irig_script.proofs.ObeyLemmas.LastLines.{ran_last, broke_last}
 use Rattle.irig_script.proofs.ObeyLemmas.Lines.{obeyed_more, broke_more}
-use Rattle.irig_script.proofs.ObeyLemmas.Reading.{consumes_kept, reads_to}
+use Rattle.irig_script.proofs.ObeyLemmas.Reading.{reads_to}
 use Rattle.irig_script.proofs.ObeyLemmas.Runs.{run_ended, run_quit, run_broke, run_broken}
 
 -- the newline is missing only if some byte of the line has come
@@ -36,17 +36,17 @@ end_read text (b ∷ read) h = refl
 reads_part : (reads : ℕ) (from mid to : Option (List ℕ)) (a b : Desk) (st : Status) (s t : Machine) (line : Line) (part : List ℕ) → reads < 2 ^ 32
     → IsUnderway reads from mid a b st s t line → Consumes mid to part → length part ≤ 4096 → ReadsTo from to
 reads_part reads from mid to a b st s t line part few h p short =
-    reads_to from to a b _ st s t h.bytes part line (consumes-consumes from mid to h.bytes part h.read p) short (omega (arith, h.most, few, short)) h.obeyed
+    reads_to from to a b _ st s t h.bytes part line (Consumes-trans from mid to h.bytes part h.read p) short (omega (arith, h.most, few, short)) h.obeyed
 
 -- a read that failed
 pub read_failed : (reads : ℕ) (from mid to : Option (List ℕ)) (a b : Desk) (st : Status) (s t : Machine) (line : Line) → reads < 2 ^ 32
     → IsUnderway reads from mid a b st s t line → Keeps mid to → HasEnded from to a b s t (Err ReadFailed)
 read_failed reads from mid to a b st s t line few h k =
-    let none = consumes_kept mid to k in
+    let none = Consumes-kept mid mid to [] (Consumes-nil mid) k in
     record {
       ends = record {
         bytes = h.bytes;
-        read = rw append-nil at (consumes-consumes from mid to h.bytes [] h.read none);
+        read = rw append-nil at (Consumes-trans from mid to h.bytes [] h.read none);
         many = omega arith;
         answers = h.obeyed.answers;
         texts = h.obeyed.texts;
@@ -70,7 +70,7 @@ read_obeyed ended reads from mid to a b c st su s t u line next part bytes few h
     (e h.obeyed.ends.0 h.obeyed.ends.2 ∙ sym (end_read h.obeyed.ends.0 part some)) f))
   where
     whole : Consumes from to (h.bytes ++ part)
-    whole = consumes-consumes from mid to h.bytes part h.read p
+    whole = Consumes-trans from mid to h.bytes part h.read p
 
     go : (last : Bool) → Obeyed last a c AllAccepted su s u (h.bytes ++ part) next → GoesOn reads from to a c su s u next (Ok last)
     go true all = record {
@@ -92,7 +92,7 @@ pub read_last : (ended : Bool) (reads : ℕ) (from mid to : Option (List ℕ)) (
     → ((text : List ℕ) → Holds text line → bytes ≡ with_end text [])
     → ((text : List ℕ) → Holds text line → Obeyed ended b c st su t u (text ++ bytes) next) → GoesOn reads from to a c su s u next (Ok true)
 read_last ended reads from mid to a b c st su s t u line next bytes few h p end e f = record {
-  ends = run_ended from to a b c _ st su s t u h.bytes line (rw append-nil at (consumes-consumes from mid to h.bytes [] h.read p)) end h.obeyed
+  ends = run_ended from to a b c _ st su s t u h.bytes line (rw append-nil at (Consumes-trans from mid to h.bytes [] h.read p)) end h.obeyed
       (λ text k. ran_last ended b c st su t u text bytes next k.plain (e text k) (f text k));
   reads = reads_part reads from mid to a b st s t line [] few h p (omega arith);
   label = (f h.obeyed.ends.0 h.obeyed.ends.2).told.put.label ∙ h.obeyed.told.put.label;
@@ -104,7 +104,7 @@ pub read_broke : (reads : ℕ) (from mid to : Option (List ℕ)) (a b c : Desk) 
     → ((text : List ℕ) → Holds text line → bytes ≡ with_end text part)
     → ((text : List ℕ) → Holds text line → BrokeIn b c t u (text ++ bytes)) → HasEnded from to a c s u (Err PrintFailed)
 read_broke reads from mid to a b c st s t u line [] bytes few h p end short e f = record {
-  ends = run_broken from to a b c _ st s t u h.bytes line (rw append-nil at (consumes-consumes from mid to h.bytes [] h.read p)) (end refl) h.obeyed
+  ends = run_broken from to a b c _ st s t u h.bytes line (rw append-nil at (Consumes-trans from mid to h.bytes [] h.read p)) (end refl) h.obeyed
       (λ text k. broke_last b c t u text bytes k.plain (e text k) (f text k));
   reads = reads_part reads from mid to a b st s t line [] few h p short;
   label = (f h.obeyed.ends.0 h.obeyed.ends.2).told.put.label ∙ h.obeyed.told.put.label;
@@ -114,7 +114,7 @@ read_broke reads from mid to a b c st s t u line (x ∷ part) bytes few h p end 
     let all = broke_more a b c _ st s t u h.bytes (x ∷ part) line h.obeyed
     (subst (λ (l : List ℕ). (text : List ℕ) → Holds text line → BrokeIn b c t u (text ++ l)) same f) in
     record {
-      ends = run_broke from to a c s u (h.bytes ++ x ∷ part) (consumes-consumes from mid to h.bytes (x ∷ part) h.read p) all;
+      ends = run_broke from to a c s u (h.bytes ++ x ∷ part) (Consumes-trans from mid to h.bytes (x ∷ part) h.read p) all;
       reads = reads_part reads from mid to a b st s t line (x ∷ part) few h p short;
       label = all.told.put.label;
     }

@@ -1,9 +1,9 @@
 -- Texts sent through a block.
 use Rattle.std.proofs.Common.{[], ◌∷◌, ◌≢◌, ◌++◌, ℕ, List, Option, refl, sym, ap, ◌∙◌, append_assoc, subst}
+use Rattle.std.proofs.KnownBytes.{Appends-trans}
 use Rattle.std.specs.Io.KnownBytes.{Appends}
 use Rattle.irig_script.specs.Print.Blocks.{Sends}
 use Rattle.irig_script.specs.Print.Front.{AppendsFront}
-use Rattle.irig_script.proofs.ObeyLemmas.Known.{appends-appends}
 
 -- what is missing of a text is missing of a longer one
 missing_longer : (x y : List ℕ) → x ≢ [] → x ++ y ≢ []
@@ -28,14 +28,14 @@ front_behind a b c x y p q = record {
   back = q.back;
   missing = q.missing;
   part = ap (λ l. x ++ l) q.part ∙ sym (append_assoc x q.front q.back);
-  appends = appends-appends a b c x q.front p q.appends;
+  appends = Appends-trans a b c x q.front p q.appends;
 }
 
 -- a text after another
 pub sends_more : (a b c : Option (List ℕ)) (w x z t u : List ℕ) → Sends a b w x t → Sends b c x z u → Sends a c w z (t ++ u)
 sends_more a b c w x z t u p q = (
   p.0 ++ q.0,
-  appends-appends a b c p.0 q.0 p.1 q.1,
+  Appends-trans a b c p.0 q.0 p.1 q.1,
   sym (append_assoc w t u) ∙ ap (λ l. l ++ u) p.2 ∙ append_assoc p.0 x u ∙ ap (λ l. p.0 ++ l) q.2 ∙ sym (append_assoc p.0 q.0 z),
 )
 
@@ -46,7 +46,7 @@ sends_front a b c x t u p q = record {
   back = q.back;
   missing = q.missing;
   part = ap (λ l. l ++ u) p.2 ∙ append_assoc p.0 x u ∙ ap (λ l. p.0 ++ l) q.part ∙ sym (append_assoc p.0 q.front q.back);
-  appends = appends-appends a b c p.0 q.front p.1 q.appends;
+  appends = Appends-trans a b c p.0 q.front p.1 q.appends;
 }
 
 -- the same, if what was held back is sent
@@ -56,9 +56,9 @@ sends_end a b c x t p q = record {
   back = q.back;
   missing = q.missing;
   part = p.2 ∙ ap (λ l. p.0 ++ l) q.part ∙ sym (append_assoc p.0 q.front q.back);
-  appends = appends-appends a b c p.0 q.front p.1 q.appends;
+  appends = Appends-trans a b c p.0 q.front p.1 q.appends;
 }
 
 -- all was sent
 pub sends_all : (a b c : Option (List ℕ)) (x t : List ℕ) → Sends a b [] x t → Appends b c x → Appends a c t
-sends_all a b c x t p q = subst (λ l. Appends a c l) (sym p.2) (appends-appends a b c p.0 x p.1 q)
+sends_all a b c x t p q = subst (λ l. Appends a c l) (sym p.2) (Appends-trans a b c p.0 x p.1 q)

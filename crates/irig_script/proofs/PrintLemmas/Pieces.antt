@@ -3,6 +3,7 @@ use Rattle.std.proofs.Common.{◌≡◌, ◌+◌, ◌-◌, ◌≤◌, ◌++◌, 
 use Rattle.std.proofs.Common.{append_assoc, arith}
 use Rattle.std.proofs.lemmas.List.{length-drop, take_min}
 use Rattle.std.proofs.lemmas.Option.{slice_get-get_or}
+use Rattle.std.proofs.KnownBytes.{Appends-trans}
 use Rattle.std.specs.Io.KnownBytes.{Appends}
 use Rattle.irig_vcd.specs.declared.pulse.Pulse.{Pulse}
 use Rattle.irig_track.specs.Edges.{pulse}
@@ -13,7 +14,6 @@ use Rattle.irig_script.specs.Print.Front.{AppendsFront}
 use Rattle.irig_script.specs.Print.Listings.{list_text, pulse_line}
 use Rattle.irig_script.specs.Print.Numbered.{numbered}
 use Rattle.irig_script.proofs.PrintLemmas.Blocks.{front_behind, front_longer}
-use Rattle.irig_script.proofs.ObeyLemmas.Known.{appends-appends}
 
 -- the first line of a listing, and those after it
 listing_opened : (s : State) (m k : ℕ) (p : Pulse) → slice_get s.pulses m ≡ Some p → list_text m (suc k) s ≡ pulse_line s.format (m + 1) p
@@ -58,7 +58,7 @@ listings_joined s m (suc d) k h =
 pub listing_more : (s : State) (m d k : ℕ) (a b c : Option (List ℕ)) → m + d ≤ length s.pulses → Appends a b (list_text m d s)
     → Appends b c (list_text (m + d) k s) → Appends a c (list_text m (d + k) s)
 listing_more s m d k a b c h p q =
-    subst (λ (t : List ℕ). Appends a c t) (listings_joined s m d k h) (appends-appends a b c (list_text m d s) (list_text (m + d) k s) p q)
+    subst (λ (t : List ℕ). Appends a c t) (listings_joined s m d k h) (Appends-trans a b c (list_text m d s) (list_text (m + d) k s) p q)
 
 -- the same, if the printing failed
 pub listing_front : (s : State) (m d k n : ℕ) (a b c : Option (List ℕ)) → m + (d + k) ≤ length s.pulses → d + k ≤ n → Appends a b (list_text m d s)

@@ -1,8 +1,10 @@
 -- Addresses and ranges, cut at the sign and at the comma that they are put together round.
-use Rattle.std.proofs.Common.{◌≡◌, ◌==◌, ◌+◌, ◌<◌, ◌≤◌, ℕ, ℤ, ◌++◌, Bool, true, false, not, ◌&&◌, ◌||◌, List, [], ◌∷◌, length, drop, refl, sym, ap, ap₂, ◌∙◌, subst}
+use Rattle.std.proofs.Common.{◌≡◌, ◌==◌, ◌+◌, ◌<◌, ◌≤◌, ℕ, ℤ, ◌++◌, Bool, true, false, not, ◌||◌, List, [], ◌∷◌, length, drop, refl, sym, ap, ap₂, ◌∙◌, subst}
 use Rattle.std.proofs.Common.{arith}
 use Rattle.std.proofs.lemmas.Bool.Decides.{nat_tests}
 use Rattle.std.proofs.lemmas.List.{append-nil}
+use Rattle.std.proofs.lemmas.Bool.{and_from, and_parts}
+use Rattle.std.proofs.lemmas.List.Folds.{list_all-append}
 use Rattle.std.specs.List.{list_all}
 use Rattle.irig_script.specs.Script.Addresses.{IsAddress, IsBase, IsOffset, IsPair, IsAddressOrCursor, IsRange}
 use Rattle.irig_script.specs.Script.Numbers.{is_digit, is_sign}
@@ -13,7 +15,7 @@ use Rattle.irig_script.specs.declared.script.address.Base.TheVariants.{Number, C
 use Rattle.irig_script.specs.declared.script.cutting.Stop.TheVariants.{Comma, Sign}
 use Rattle.irig_script.specs.declared.script.range.Range.{Range}
 use Rattle.irig_script.specs.declared.script.range.Range.TheVariants.{One, Two}
-use Rattle.irig_script.proofs.ScriptLemmas.WordLemmas.{BeginsAt, Lacks, before_front, cut_begins, cut_whole, joined, onward_back}
+use Rattle.irig_script.proofs.ScriptLemmas.WordLemmas.{BeginsAt, Lacks, before_front, cut_begins, cut_whole, onward_back}
 
 -- the bytes of a base
 abbrev is_base_byte : ℕ → Bool
@@ -44,19 +46,12 @@ sign_in_address b h = grind (arith, nat_tests)
 -- what holds of each byte of a text
 all_weaker : (p q : ℕ → Bool) → ((b : ℕ) → p b ≡ true → q b ≡ true) → (s : List ℕ) → list_all p s ≡ true → list_all q s ≡ true
 all_weaker p q f [] h = refl
-all_weaker p q f (b ∷ s) h = go (p b) refl h (all_weaker p q f s)
-  where
-    go : (v : Bool) → p b ≡ v → (v && list_all p s) ≡ true → (list_all p s ≡ true → list_all q s ≡ true) → list_all q (b ∷ s) ≡ true
-    go true e k more = joined (q b) (list_all q s) (f b e) (more k)
-    go false e k more = absurd (cc)
+all_weaker p q f (b ∷ s) h =
+    let parts = and_parts (p b) (list_all p s) h in
+    and_from (q b) (list_all q s) (f b parts.0) (all_weaker p q f s parts.1)
 
 all-append : (p : ℕ → Bool) (s t : List ℕ) → list_all p s ≡ true → list_all p t ≡ true → list_all p (s ++ t) ≡ true
-all-append p [] t h k = k
-all-append p (b ∷ s) t h k = go (p b) refl h (λ m. all-append p s t m k)
-  where
-    go : (v : Bool) → p b ≡ v → (v && list_all p s) ≡ true → (list_all p s ≡ true → list_all p (s ++ t) ≡ true) → list_all p (b ∷ (s ++ t)) ≡ true
-    go true e m more = joined (p b) (list_all p (s ++ t)) e (more m)
-    go false e m more = absurd (cc)
+all-append p s t h k = list_all-append p s t ∙ and_from (list_all p s) (list_all p t) h k
 
 -- a base has no sign in it, and an address no comma
 base_bytes : (s : List ℕ) (b : Base) → IsBase s b → list_all is_base_byte s ≡ true
@@ -68,12 +63,12 @@ base_bytes (b ∷ []) Current h =
 base_bytes (b ∷ c ∷ s) Current h = absurd (cc)
 base_bytes s Last h = subst (λ (t : List ℕ). list_all is_base_byte t ≡ true) (sym h) refl
 base_bytes s (Mark letter) h = subst (λ (t : List ℕ). list_all is_base_byte t ≡ true) (sym h.0)
-    (joined (is_base_byte (97 + letter)) true (letter_in_base letter h.1) refl)
+    (and_from (is_base_byte (97 + letter)) true (letter_in_base letter h.1) refl)
 
 offset_bytes : (s : List ℕ) (d : ℤ) → IsOffset s d → list_all is_address_byte s ≡ true
 offset_bytes [] d h = refl
-offset_bytes (sign ∷ []) d h = joined (is_address_byte sign) true (sign_in_address sign h.0) refl
-offset_bytes (sign ∷ b ∷ bs) d h = joined (is_address_byte sign) (list_all is_address_byte (b ∷ bs)) (sign_in_address sign h.0)
+offset_bytes (sign ∷ []) d h = and_from (is_address_byte sign) true (sign_in_address sign h.0) refl
+offset_bytes (sign ∷ b ∷ bs) d h = and_from (is_address_byte sign) (list_all is_address_byte (b ∷ bs)) (sign_in_address sign h.0)
     (all_weaker is_digit is_address_byte (λ c e. base_in_address c (digit_in_base c e)) (b ∷ bs) h.2.digits)
 
 offset_begins : (s : List ℕ) (d : ℤ) → IsOffset s d → BeginsAt Sign s
@@ -124,11 +119,7 @@ address_first b bs a h =
     let front : list_all is_address_byte h.front ≡ true = all_weaker is_base_byte is_address_byte base_in_address h.front (base_bytes h.front a.base h.base) in
     let all : list_all is_address_byte (h.front ++ h.back) ≡ true = all-append is_address_byte h.front h.back front (offset_bytes h.back a.offset h.offset) in
     let here : list_all is_address_byte (b ∷ bs) ≡ true = subst (λ (t : List ℕ). list_all is_address_byte t ≡ true) (sym h.whole) all in
-    front_of (is_address_byte b) (list_all is_address_byte bs) here
-  where
-    front_of : (x y : Bool) → (x && y) ≡ true → x ≡ true
-    front_of true y e = refl
-    front_of false y e = absurd (cc)
+    (and_parts (is_address_byte b) (list_all is_address_byte bs) here).0
 
 pub range_first : (b : ℕ) (bs : List ℕ) (r : Range) → IsRange (b ∷ bs) r → is_range_byte b ≡ true
 range_first b bs (One a) h = rw (address_first b bs a h) refl

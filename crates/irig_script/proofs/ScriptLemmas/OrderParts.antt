@@ -1,6 +1,7 @@
 -- The range and the words of an order, and what is between them.
-use Rattle.std.proofs.Common.{◌≡◌, ℕ, ◌++◌, Bool, true, false, ◌||◌, List, [], ◌∷◌, Option, Some, None, refl, sym, ◌∙◌, subst, unwrap_or, if◌then◌else◌}
+use Rattle.std.proofs.Common.{◌≡◌, ℕ, ◌++◌, Bool, true, false, List, [], ◌∷◌, Option, Some, None, refl, sym, ◌∙◌, subst, unwrap_or, if◌then◌else◌}
 use Rattle.std.proofs.lemmas.Slice.Eq.{bytes_eq-Decides}
+use Rattle.std.proofs.lemmas.Bool.{and_parts, or_right}
 use Rattle.std.specs.List.{list_all}
 use Rattle.std.specs.Str.{bytes_eq}
 use Rattle.irig_script.specs.Script.Addresses.{IsAddress, IsAddressOrCursor, IsRange, at}
@@ -16,20 +17,19 @@ use Rattle.irig_script.specs.declared.script.keyword.Keyword.TheVariants as word
 use Rattle.irig_script.specs.declared.script.range.Range.{Range}
 use Rattle.irig_script.specs.declared.script.range.Range.TheVariants.{One}
 use Rattle.irig_script.proofs.ScriptLemmas.Spacing.{words_behind, words_found}
-use Rattle.irig_script.proofs.ScriptLemmas.WordLemmas.{both}
 
 -- the words of the language are letters
 row_letters : (text : List ℕ) (rows : List (List ℕ × Keyword)) (k : Keyword) → list_all (λ row. list_all is_letter row.0) rows ≡ true
     → found text rows ≡ Some k → list_all is_letter text ≡ true
 row_letters text [] k h e = absurd (cc)
 row_letters text (row ∷ rows) k h e = go (bytes_eq text row.0) refl e
-    (row_letters text rows k (both (list_all is_letter row.0) (list_all (λ row. list_all is_letter row.0) rows) h).1)
+    (row_letters text rows k (and_parts (list_all is_letter row.0) (list_all (λ row. list_all is_letter row.0) rows) h).1)
   where
     go : (v : Bool) → bytes_eq text row.0 ≡ v → (if v then Some row.1 else found text rows) ≡ Some k
         → (found text rows ≡ Some k → list_all is_letter text ≡ true) → list_all is_letter text ≡ true
     go true t f more =
         let same : text ≡ row.0 = (bytes_eq-Decides text row.0).0 t in
-        subst (λ (s : List ℕ). list_all is_letter s ≡ true) (sym same) (both (list_all is_letter row.0) (list_all (λ row. list_all is_letter row.0) rows) h).0
+        subst (λ (s : List ℕ). list_all is_letter s ≡ true) (sym same) (and_parts (list_all is_letter row.0) (list_all (λ row. list_all is_letter row.0) rows) h).0
     go false t f more = more f
 
 all_letters : list_all (λ row. list_all is_letter row.0) keywords ≡ true
@@ -82,22 +82,18 @@ ranged_in range (w ∷ args) c h = ranged (keyword_of w) range args c h
 space_follows : (blank rest : List ℕ) → IsBlank blank → follows_range rest ≡ true → follows_range (blank ++ rest) ≡ true
 space_follows [] rest h k = k
 space_follows (b ∷ blank) rest h k =
-    let first : is_space b ≡ true = (both (is_space b) (list_all is_space blank) h).0 in
+    let first : is_space b ≡ true = (and_parts (is_space b) (list_all is_space blank) h).0 in
     rw first refl
 
 blank_follows : (rest : List ℕ) → IsBlank rest → follows_range rest ≡ true
 blank_follows [] h = refl
 blank_follows (b ∷ rest) h =
-    let first : is_space b ≡ true = (both (is_space b) (list_all is_space rest) h).0 in
+    let first : is_space b ≡ true = (and_parts (is_space b) (list_all is_space rest) h).0 in
     rw first refl
-
-or_true : (x y : Bool) → y ≡ true → (x || y) ≡ true
-or_true true y e = refl
-or_true false y e = e
 
 word_follows : (w rest : List ℕ) → IsWord w → list_all is_letter w ≡ true → follows_range (w ++ rest) ≡ true
 word_follows [] rest h k = absurd (h.some refl)
-word_follows (b ∷ w) rest h k = or_true (is_space b) (is_letter b) (both (is_letter b) (list_all is_letter w) k).0
+word_follows (b ∷ w) rest h k = or_right (is_space b) (is_letter b) (and_parts (is_letter b) (list_all is_letter w) k).0
 
 words_follow : (range rest : List ℕ) (words : List (List ℕ)) (c : Command) → AreWords rest words → AsksIn range words c → follows_range rest ≡ true
 words_follow range rest [] c h k = blank_follows rest h

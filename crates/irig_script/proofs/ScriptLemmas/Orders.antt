@@ -1,6 +1,7 @@
 -- A line asks for one command at most: it is put together in one way.
 use Rattle.std.proofs.Common.{◌≡◌, ◌==◌, ℕ, ◌++◌, true, false, not, List, [], ◌∷◌, take, drop, refl, sym, ap, ◌∙◌, subst, arith, inl, inr}
 use Rattle.std.proofs.lemmas.Bool.Decides.{nat_tests}
+use Rattle.std.proofs.lemmas.Bool.{and_parts}
 use Rattle.std.specs.List.{list_all}
 use Rattle.irig_script.specs.Script.Grammar.{AsksIn, Does, IsOrder, IsWord, Means, Orders, follows_range, is_nothing}
 use Rattle.irig_script.specs.Script.Keywords.{keyword_of}
@@ -12,7 +13,7 @@ use Rattle.irig_script.proofs.ScriptLemmas.AddressCut.{is_range_byte, range_firs
 use Rattle.irig_script.proofs.ScriptLemmas.RangeCut.{range_found, range_length}
 use Rattle.irig_script.proofs.ScriptLemmas.SameCommand.{asks_one}
 use Rattle.irig_script.proofs.ScriptLemmas.Spacing.{blank_before, onward_blank}
-use Rattle.irig_script.proofs.ScriptLemmas.WordLemmas.{both, cut_whole, onward_at}
+use Rattle.irig_script.proofs.ScriptLemmas.WordLemmas.{cut_whole, onward_at}
 use Rattle.irig_script.proofs.ScriptLemmas.OrderParts.{follows, found_words, known_letters, ranged_in}
 
 -- two orders of one text are of one range and of the same words
@@ -86,7 +87,7 @@ letter_no_space b h = grind (arith, nat_tests)
 
 word_onward : (w rest : List ℕ) → IsWord w → list_all is_letter w ≡ true → onward Text (w ++ rest) ≡ w ++ rest
 word_onward [] rest h k = absurd (h.some refl)
-word_onward (b ∷ w) rest h k = onward_at Text b (w ++ rest) (letter_no_space b (both (is_letter b) (list_all is_letter w) k).0)
+word_onward (b ∷ w) rest h k = onward_at Text b (w ++ rest) (letter_no_space b (and_parts (is_letter b) (list_all is_letter w) k).0)
 
 -- an order without a range begins with its word
 bare_order : (text : List ℕ) (words : List (List ℕ)) (c : Command) (o : IsOrder text [] words) → AsksIn [] words c → onward Text text ≡ o.rest

@@ -1,6 +1,7 @@
 -- Where the range at the front of a text ends: the loop that looks for it, and the ranges that it finds.
 use Rattle.std.proofs.Common.{◌≡◌, ◌==◌, ℕ, ℤ, suc, ◌+◌, ◌<◌, ◌≤◌, ◌++◌, Bool, true, false, not, ◌&&◌, ◌||◌, List, [], ◌∷◌, length, take, drop, get_or, refl}
 use Rattle.std.proofs.Common.{sym, ap, ap₂, ◌∙◌, subst, arith, append_assoc, length-append, if◌then◌else◌}
+use Rattle.std.proofs.Math.ListN.{drop_of_length-le}
 use Rattle.std.proofs.Math.Seq.{take-append_seam, drop-append_seam}
 use Rattle.std.proofs.lemmas.Bool.Decides.{nat_tests}
 use Rattle.std.specs.List.{list_all}
@@ -13,7 +14,7 @@ use Rattle.irig_script.specs.declared.script.address.Base.{Base}
 use Rattle.irig_script.specs.declared.script.address.Base.TheVariants.{Number, Current, Last, Mark}
 use Rattle.irig_script.specs.declared.script.range.Range.{Range}
 use Rattle.irig_script.specs.declared.script.range.Range.TheVariants.{One, Two}
-use Rattle.irig_script.proofs.ScriptLemmas.WordLemmas.{nothing_left, opened}
+use Rattle.irig_script.proofs.ScriptLemmas.WordLemmas.{opened}
 
 -- white space ends the range of a line, and so does the first letter of a word, which is one that
 -- is after no apostrophe
@@ -29,7 +30,7 @@ pub range_stops : (quoted : Bool) (s : List ℕ) (i : ℕ) → i < length s → 
 range_stops quoted s i h k = rw (opened s i h, k) refl
 
 pub range_done : (quoted : Bool) (s : List ℕ) (i : ℕ) → length s ≤ i → range_length quoted (drop i s) ≡ 0
-range_done quoted s i h = rw (nothing_left s i h) refl
+range_done quoted s i h = rw (drop_of_length-le s h) refl
 
 -- the loop goes through the text, and then is after no apostrophe
 abbrev IsPassed : List ℕ → Type 0

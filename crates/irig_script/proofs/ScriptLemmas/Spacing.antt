@@ -1,23 +1,22 @@
 -- White space, words, and the words that a text is put together of.
 use Rattle.std.proofs.Common.{◌≡◌, ◌≢◌, ℕ, ◌++◌, Bool, true, false, not, List, [], ◌∷◌, refl, sym, ap, ap₂, ◌∙◌, subst, append_assoc}
 use Rattle.std.proofs.lemmas.List.{append-nil}
+use Rattle.std.proofs.lemmas.Bool.{and_from, and_parts}
+use Rattle.std.proofs.lemmas.List.Folds.{list_all-append}
 use Rattle.std.specs.List.{list_all}
 use Rattle.irig_script.specs.Script.Grammar.{AreArguments, AreWords, IsBlank, IsWord}
 use Rattle.irig_script.specs.Script.Words.{before, is_space, onward, words_of}
 use Rattle.irig_script.specs.declared.script.cutting.Stop.TheVariants.{Blank, Text}
-use Rattle.irig_script.proofs.ScriptLemmas.WordLemmas.{BeginsAt, Lacks, before_at, before_front, before_on, both, cut_whole, joined}
+use Rattle.irig_script.proofs.ScriptLemmas.WordLemmas.{BeginsAt, Lacks, before_at, before_front, before_on, cut_whole}
 use Rattle.irig_script.proofs.ScriptLemmas.WordLemmas.{lacks_first, onward_at, onward_back}
 use Rattle.irig_script.proofs.ScriptLemmas.WordLemmas.{onward_on, words_begun, words_blank}
 
 -- one more byte of white space
 blank_first : (b : ℕ) (s : List ℕ) → IsBlank (b ∷ s) → (is_space b ≡ true) × IsBlank s
-blank_first b s h = both (is_space b) (list_all is_space s) h
+blank_first b s h = and_parts (is_space b) (list_all is_space s) h
 
 pub blank-append : (s t : List ℕ) → IsBlank s → IsBlank t → IsBlank (s ++ t)
-blank-append [] t h k = k
-blank-append (b ∷ s) t h k =
-    let first = blank_first b s h in
-    joined (is_space b) (list_all is_space (s ++ t)) first.0 (blank-append s t first.1 k)
+blank-append s t h k = list_all-append is_space s t ∙ and_from (list_all is_space s) (list_all is_space t) h k
 
 -- what is before the first other byte is white space
 pub blank_before : (s : List ℕ) → IsBlank (before Text s)
@@ -25,7 +24,7 @@ blank_before [] = refl
 blank_before (b ∷ s) = go (is_space b) refl (blank_before s)
   where
     go : (v : Bool) → is_space b ≡ v → IsBlank (before Text s) → IsBlank (before Text (b ∷ s))
-    go true e h = subst IsBlank (sym (before_on Text b s (ap not e))) (joined (is_space b) (list_all is_space (before Text s)) e h)
+    go true e h = subst IsBlank (sym (before_on Text b s (ap not e))) (and_from (is_space b) (list_all is_space (before Text s)) e h)
     go false e h = subst IsBlank (sym (before_at Text b s (ap not e))) refl
 
 -- white space at the front is skipped
@@ -87,12 +86,12 @@ joined_before (b ∷ s) = go (is_space b) refl (joined_before s)
     go : (v : Bool) → is_space b ≡ v → Lacks Blank (before Blank s) → Lacks Blank (before Blank (b ∷ s))
     go true e h = ap (list_all (λ b. not (is_space b))) (before_at Blank b s e)
     go false e h = ap (list_all (λ b. not (is_space b))) (before_on Blank b s e)
-        ∙ joined (not (is_space b)) (list_all (λ b. not (is_space b)) (before Blank s)) (ap not e) h
+        ∙ and_from (not (is_space b)) (list_all (λ b. not (is_space b)) (before Blank s)) (ap not e) h
 
 pub word_before : (b : ℕ) (s : List ℕ) → is_space b ≡ false → IsWord (b ∷ before Blank s)
 word_before b s e = record {
   some = λ bad. cc;
-  joined = joined (not (is_space b)) (list_all (λ b. not (is_space b)) (before Blank s)) (ap not e) (joined_before s);
+  joined = and_from (not (is_space b)) (list_all (λ b. not (is_space b)) (before Blank s)) (ap not e) (joined_before s);
 }
 
 -- a text is put together of its words: what is after a first word, and what is after white space
@@ -106,7 +105,7 @@ behind (b ∷ s) = go (is_space b) refl (behind s)
         → AreArguments (onward Blank (b ∷ s)) (words_of (onward Blank (b ∷ s)))
         × ((space : List ℕ) → IsBlank space → space ≢ [] → AreArguments (space ++ (b ∷ s)) (words_of (b ∷ s)))
     go true e h =
-        let here : IsBlank (b ∷ []) = joined (is_space b) true e refl in
+        let here : IsBlank (b ∷ []) = and_from (is_space b) true e refl in
         let less : words_of (b ∷ s) ≡ words_of s = words_blank b s e in
         let one : AreArguments (b ∷ s) (words_of (b ∷ s)) = subst (AreArguments (b ∷ s)) (sym less) (h.1 (b ∷ []) here (λ bad. cc)) in (
           subst (λ (t : List ℕ). AreArguments t (words_of t)) (sym (onward_at Blank b s e)) one,

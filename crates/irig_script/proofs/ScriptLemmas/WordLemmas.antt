@@ -1,6 +1,6 @@
 -- A text cut at a byte, and the words of a line.
-use Rattle.std.proofs.Common.{◌≡◌, ℕ, zero, suc, ◌+◌, ◌-◌, ◌<◌, ◌≤◌, ◌++◌, Bool, true, false, not, ◌&&◌, List, [], ◌∷◌, length, take, drop, get_or, refl, sym}
-use Rattle.std.proofs.Common.{ap, ap₂, ◌∙◌, subst, arith, add-one, drop-cons}
+use Rattle.std.proofs.Common.{◌≡◌, ℕ, ◌+◌, ◌-◌, ◌<◌, ◌++◌, Bool, true, false, not, ◌&&◌, List, [], ◌∷◌, length, take, drop, get_or, refl, sym}
+use Rattle.std.proofs.Common.{ap, ap₂, ◌∙◌, subst, add-one, drop-cons}
 use Rattle.std.proofs.Math.Seq.{take-length}
 use Rattle.std.proofs.lemmas.List.{length-drop}
 use Rattle.std.specs.List.{list_all}
@@ -8,27 +8,12 @@ use Rattle.irig_script.specs.Script.Words.{is_space, is_stop, before, onward, be
 use Rattle.irig_script.specs.declared.script.cutting.Stop.{Stop}
 use Rattle.irig_script.specs.declared.script.cutting.Stop.TheVariants.{Blank, Text}
 
--- two tests in one
-pub both : (x y : Bool) → (x && y) ≡ true → (x ≡ true) × (y ≡ true)
-both true true e = (refl, refl)
-both true false e = absurd (cc)
-both false y e = absurd (cc)
-
-pub joined : (x y : Bool) → x ≡ true → y ≡ true → (x && y) ≡ true
-joined x y h k = rw (h, k) refl
-
 pub opened : (s : List ℕ) (i : ℕ) → i < length s → drop i s ≡ get_or s i 0 ∷ drop (i + 1) s
 opened s i h = rw (add-one, drop-cons s i 0) refl
 
 -- what is left of a text is all that is after a place
 pub rest_whole : (l : List ℕ) (done : ℕ) → take (length l - done) (drop done l) ≡ drop done l
 rest_whole l done = ap (λ n. take n (drop done l)) (sym (length-drop done l)) ∙ take-length (drop done l)
-
-pub nothing_left : (s : List ℕ) (i : ℕ) → length s ≤ i → drop i s ≡ []
-nothing_left [] zero h = refl
-nothing_left [] (suc i) h = refl
-nothing_left (b ∷ s) zero h = absurd (omega (arith, h))
-nothing_left (b ∷ s) (suc i) h = nothing_left s i (omega (arith, h))
 
 -- how far a text is cut
 abbrev pub IsCut : Stop → List ℕ → ℕ → Type 0

@@ -1,11 +1,11 @@
 use Rattle.std.proofs.Common.{◌≤◌, ◌+◌, ◌^◌, ◌<◌, [], length, arith}
+use Rattle.std.proofs.KnownBytes.{Consumes-nil, Consumes-trans}
 use Rattle.irig_script.proofs.ObeyLemmas.Lines.{obeyed_none}
-use Rattle.irig_script.proofs.ObeyLemmas.Known.{consumes-consumes, consumes_none}
 use Rattle.irig_script.proofs.ObeyLemmas.Reading.{reads_to}
 use Rattle.irig_script.proofs.obey.engine.run.Goals as goal
 
 pub loop-reads-init : goal.loop-reads-init
-loop-reads-init g c = record { bytes = []; read = consumes_none _; many = omega arith; most = omega arith; obeyed = obeyed_none _ _ [] _ _ c.new-line.ensures }
+loop-reads-init g c = record { bytes = []; read = Consumes-nil _; many = omega arith; most = omega arith; obeyed = obeyed_none _ _ [] _ _ c.new-line.ensures }
 
 pub returns-in-Err : goal.returns-in-Err
 returns-in-Err g c =
@@ -28,4 +28,4 @@ pub returns-clause-reads : goal.returns-clause-reads
 returns-clause-reads g c =
     let i = c.loop-reads.invariant in
     let most : length i.bytes + 0 ≤ 2 ^ 44 = omega (arith, i.most, c.loop-reads.auto.reads-end) in
-    reads_to _ _ _ _ _ _ _ _ i.bytes [] c.loop-reads.line (consumes-consumes _ _ _ i.bytes [] i.read (consumes_none _)) (omega arith) most i.obeyed
+    reads_to _ _ _ _ _ _ _ _ i.bytes [] c.loop-reads.line (Consumes-trans _ _ _ i.bytes [] i.read (Consumes-nil _)) (omega arith) most i.obeyed

@@ -1,6 +1,7 @@
 use Rattle.std.proofs.Common.{take, drop, ◌+◌, sym, arith, length-drop}
 use Rattle.std.proofs.lemmas.List.{take-append-drop}
-use Rattle.irig_script.proofs.ObeyLemmas.Known.{appends-keeps, wrote_more, rest_some}
+use Rattle.std.proofs.KnownBytes.{Appends-kept}
+use Rattle.irig_script.proofs.ObeyLemmas.Known.{wrote_more, rest_some}
 use Rattle.irig_script.proofs.ScriptLemmas.WordLemmas.{rest_whole}
 use Rattle.irig_script.proofs.print.output.put_all.Goals as goal
 
@@ -25,5 +26,5 @@ returns-in-Err-clause-err g c = record {
   back = drop c.loop-done.done c.args.bytes.now;
   part = sym (take-append-drop _ _);
   missing = rest_some c.args.bytes.now c.loop-done.done c.loop-done-test.true;
-  appends = appends-keeps _ _ _ _ c.loop-done.invariant.1 c.in-Err.ensures.bytes;
+  appends = Appends-kept _ _ _ _ c.loop-done.invariant.1 c.in-Err.ensures.bytes;
 }
