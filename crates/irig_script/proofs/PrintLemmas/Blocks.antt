@@ -2,8 +2,9 @@
 use Rattle.std.proofs.Common.{[], ◌∷◌, ◌≢◌, ◌++◌, ℕ, List, Option, refl, sym, ap, ◌∙◌, append_assoc, subst}
 use Rattle.std.proofs.KnownBytes.{Appends-trans}
 use Rattle.std.specs.Io.KnownBytes.{Appends}
+use Rattle.std.specs.Prelude.{Result, Ok, Err}
 use Rattle.irig_script.specs.Print.Blocks.{Sends}
-use Rattle.irig_script.specs.Print.Front.{AppendsFront}
+use Rattle.irig_script.specs.Print.Front.{AppendsFront, Prints}
 
 -- what is missing of a text is missing of a longer one
 missing_longer : (x y : List ℕ) → x ≢ [] → x ++ y ≢ []
@@ -50,7 +51,7 @@ sends_front a b c x t u p q = record {
 }
 
 -- the same, if what was held back is sent
-pub sends_end : (a b c : Option (List ℕ)) (x t : List ℕ) → Sends a b [] x t → AppendsFront b c x → AppendsFront a c t
+sends_end : (a b c : Option (List ℕ)) (x t : List ℕ) → Sends a b [] x t → AppendsFront b c x → AppendsFront a c t
 sends_end a b c x t p q = record {
   front = p.0 ++ q.front;
   back = q.back;
@@ -60,5 +61,10 @@ sends_end a b c x t p q = record {
 }
 
 -- all was sent
-pub sends_all : (a b c : Option (List ℕ)) (x t : List ℕ) → Sends a b [] x t → Appends b c x → Appends a c t
+sends_all : (a b c : Option (List ℕ)) (x t : List ℕ) → Sends a b [] x t → Appends b c x → Appends a c t
 sends_all a b c x t p q = subst (λ l. Appends a c l) (sym p.2) (Appends-trans a b c p.0 x p.1 q)
+
+-- what was held back was printed, or not all of it
+pub prints_end : {E : Type 0} (a b c : Option (List ℕ)) (x t : List ℕ) (r : Result Unit E) → Sends a b [] x t → Prints b c x r → Prints a c t r
+prints_end a b c x t (Ok done) p q = sends_all a b c x t p q
+prints_end a b c x t (Err fault) p q = sends_end a b c x t p q

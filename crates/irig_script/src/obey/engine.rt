@@ -1,9 +1,9 @@
 //! The run of a script.
 
 ghost use Rattle.std.specs.Prelude.{◌≡◌, ◌<◌, ◌≤◌, ◌^◌, ◌++◌, ◌∷◌, [], ℕ, List, Option, IfOk};
-ghost use Rattle.std.specs.Prelude.{IfErr, OnOk, OnErr, length, take};
+ghost use Rattle.std.specs.Prelude.{IfErr, OnErr, length, take};
 ghost use Rattle.std.specs.Io.{ReadsAtMost};
-ghost use Rattle.std.specs.Io.KnownBytes.{Appends, ReadConsumes};
+ghost use Rattle.std.specs.Io.KnownBytes.{ReadConsumes};
 ghost use Rattle.irig_script.specs.declared.obey.status.RunFault.TheVariants.{ReadFailed};
 ghost use Rattle.irig_script.specs.Print.Printed.{answer_with, reply_text};
 ghost use Rattle.irig_script.specs.Obey.Desk.{Desk, desk, status_after};
@@ -12,7 +12,7 @@ ghost use Rattle.irig_script.specs.Obey.Reading.{ReadsTo};
 ghost use Rattle.irig_script.specs.Obey.Machine.{Machine};
 ghost use Rattle.irig_script.specs.Obey.Progress.{BrokeIn, Holds, Obeyed};
 ghost use Rattle.irig_script.specs.Obey.Reads.{GoesOn, IsUnderway, with_end};
-ghost use Rattle.irig_script.specs.Print.Front.{AppendsFront};
+ghost use Rattle.irig_script.specs.Print.Front.{Prints};
 
 use crate::obey::obeying::obey_line;
 use crate::obey::status::{RunFault, Status};
@@ -189,10 +189,8 @@ fn answer<W: Write>(
     out: &mut W,
     status: &mut Status,
 ) -> Result<(), PrintFault>
-    ensures ok { OnOk result (Appends
-        (W.contents out.old) (W.contents out.new) (reply_text session.now reply)) }
-    ensures err { OnErr result (AppendsFront
-        (W.contents out.old) (W.contents out.new) (reply_text session.now reply)) }
+    ensures text { Prints (W.contents out.old) (W.contents out.new)
+        (reply_text session.now reply) result }
     ensures status { status.new ≡ status_after status.old (answer_with session.now reply ∷ []) }
 {
     if reply.is_refusal() {

@@ -1,9 +1,8 @@
 //! Output in blocks.
 
 ghost use Rattle.std.specs.Prelude.{◌≡◌, ◌≤◌, ◌+◌, ◌++◌, [], OnOk, OnErr, length, take};
-ghost use Rattle.std.specs.Io.KnownBytes.{Appends};
 ghost use Rattle.irig_script.specs.Print.Blocks.{Sends};
-ghost use Rattle.irig_script.specs.Print.Front.{AppendsFront};
+ghost use Rattle.irig_script.specs.Print.Front.{AppendsFront, Prints};
 
 use crate::print::output::{PrintFault, put_all};
 use std::io::Write;
@@ -43,9 +42,7 @@ impl Block {
     /// Writes what is held back.
     pub fn flush<W: Write>(&mut self, out: &mut W) -> Result<(), PrintFault>
         ensures empty { self.new ≡ [] }
-        ensures ok { OnOk result (Appends (W.contents out.old) (W.contents out.new) self.old) }
-        ensures err { OnErr result (AppendsFront
-            (W.contents out.old) (W.contents out.new) self.old) }
+        ensures printed { Prints (W.contents out.old) (W.contents out.new) self.old result }
     {
         let len = self.len;
         self.len = 0;

@@ -1,10 +1,9 @@
 //! The line that the command `info` prints.
 
-ghost use Rattle.std.specs.Prelude.{◌≡◌, ◌≤◌, ◌+◌, ◌++◌, [], OnOk, OnErr, codes, length, decimal};
-ghost use Rattle.std.specs.Io.KnownBytes.{Appends};
+ghost use Rattle.std.specs.Prelude.{◌≡◌, ◌≤◌, ◌+◌, ◌++◌, [], codes, length, decimal};
 ghost use Rattle.irig_codes.specs.Words.{kind_word};
 ghost use Rattle.irig_edit.specs.State.State.{frames_of};
-ghost use Rattle.irig_script.specs.Print.Front.{AppendsFront};
+ghost use Rattle.irig_script.specs.Print.Front.{Prints};
 ghost use Rattle.irig_script.specs.Print.Listings.{info_text};
 
 use crate::print::output::{PrintFault, put_all};
@@ -15,10 +14,7 @@ use std::io::Write;
 
 /// Prints counts, format and cursor.
 pub fn print_info<W: Write>(session: &Session, out: &mut W) -> Result<(), PrintFault>
-    ensures ok { OnOk result (Appends (W.contents out.old) (W.contents out.new)
-        (info_text session.now)) }
-    ensures err { OnErr result (AppendsFront (W.contents out.old) (W.contents out.new)
-        (info_text session.now)) }
+    ensures { Prints (W.contents out.old) (W.contents out.new) (info_text session.now) result }
 {
     let mut row = Row::new();
     put_track(&mut row, session);

@@ -1,10 +1,9 @@
 //! The listing of the frames.
 
-ghost use Rattle.std.specs.Prelude.{◌≡◌, ◌≤◌, ◌-◌, OnOk, OnErr, Some, length, slice_get};
-ghost use Rattle.std.specs.Io.KnownBytes.{Appends};
+ghost use Rattle.std.specs.Prelude.{◌≡◌, ◌≤◌, ◌-◌, Some, length, slice_get};
 ghost use Rattle.irig_index.specs.declared.record.Record.{Record};
 ghost use Rattle.irig_edit.specs.State.State.{frames_of};
-ghost use Rattle.irig_script.specs.Print.Front.{AppendsFront};
+ghost use Rattle.irig_script.specs.Print.Front.{Prints};
 ghost use Rattle.irig_script.specs.Print.Printed.{frames_text, record_line};
 
 use crate::print::block::Block;
@@ -17,10 +16,8 @@ use std::io::Write;
 /// Prints a line for each frame of the track, in blocks.
 #[inline(never)]
 pub fn print_frames<W: Write>(session: &Session, out: &mut W) -> Result<(), PrintFault>
-    ensures ok { OnOk result (Appends (W.contents out.old) (W.contents out.new)
-        (frames_text session.now.present.state)) }
-    ensures err { OnErr result (AppendsFront (W.contents out.old) (W.contents out.new)
-        (frames_text session.now.present.state)) }
+    ensures { Prints (W.contents out.old) (W.contents out.new)
+        (frames_text session.now.present.state) result }
 {
     let mut block = Block::new();
     let mut row = Row::new();

@@ -1,8 +1,7 @@
 //! The listing of the marks.
 
-ghost use Rattle.std.specs.Prelude.{◌≡◌, OnOk, OnErr};
-ghost use Rattle.std.specs.Io.KnownBytes.{Appends};
-ghost use Rattle.irig_script.specs.Print.Front.{AppendsFront};
+ghost use Rattle.std.specs.Prelude.{◌≡◌};
+ghost use Rattle.irig_script.specs.Print.Front.{Prints};
 ghost use Rattle.irig_script.specs.Print.Listings.{marks_text, mark_line};
 
 use crate::print::block::Block;
@@ -15,10 +14,8 @@ use std::io::Write;
 /// Prints a line for each mark that is set, a to z.
 #[inline(never)]
 pub fn print_marks<W: Write>(session: &Session, out: &mut W) -> Result<(), PrintFault>
-    ensures ok { OnOk result (Appends (W.contents out.old) (W.contents out.new)
-        (marks_text session.now.present.state)) }
-    ensures err { OnErr result (AppendsFront (W.contents out.old) (W.contents out.new)
-        (marks_text session.now.present.state)) }
+    ensures { Prints (W.contents out.old) (W.contents out.new)
+        (marks_text session.now.present.state) result }
 {
     let mut block = Block::new();
     let mut row = Row::new();

@@ -1,8 +1,6 @@
 //! What goes out, written whole.
 
-ghost use Rattle.std.specs.Prelude.{OnOk, OnErr};
-ghost use Rattle.std.specs.Io.KnownBytes.{Appends};
-ghost use Rattle.irig_script.specs.Print.Front.{AppendsFront};
+ghost use Rattle.irig_script.specs.Print.Front.{Prints};
 
 use std::io::Write;
 
@@ -12,8 +10,7 @@ pub struct PrintFault;
 
 /// Writes all of the bytes. A write that fails or takes none ends it.
 pub fn put_all<W: Write>(out: &mut W, bytes: &[u8]) -> Result<(), PrintFault>
-    ensures ok { OnOk result (Appends (W.contents out.old) (W.contents out.new) bytes.now) }
-    ensures err { OnErr result (AppendsFront (W.contents out.old) (W.contents out.new) bytes.now) }
+    ensures { Prints (W.contents out.old) (W.contents out.new) bytes.now result }
 {
     let mut done = 0;
     while done < bytes.len() {

@@ -1,8 +1,7 @@
 //! The listing of pulses.
 
-ghost use Rattle.std.specs.Prelude.{◌≡◌, ◌≤◌, ◌-◌, ◌*◌, OnOk, OnErr, length, drop};
-ghost use Rattle.std.specs.Io.KnownBytes.{Appends};
-ghost use Rattle.irig_script.specs.Print.Front.{AppendsFront};
+ghost use Rattle.std.specs.Prelude.{◌≡◌, ◌≤◌, ◌-◌, ◌*◌, length, drop};
+ghost use Rattle.irig_script.specs.Print.Front.{Prints};
 ghost use Rattle.irig_script.specs.Print.Listings.{list_text};
 
 use crate::print::output::{PrintFault, put_all};
@@ -23,10 +22,8 @@ pub fn print_pulses<W: Write>(
     count: usize,
     out: &mut W,
 ) -> Result<(), PrintFault>
-    ensures ok { OnOk result (Appends (W.contents out.old) (W.contents out.new)
-        (list_text before count session.now.present.state)) }
-    ensures err { OnErr result (AppendsFront (W.contents out.old) (W.contents out.new)
-        (list_text before count session.now.present.state)) }
+    ensures { Prints (W.contents out.old) (W.contents out.new)
+        (list_text before count session.now.present.state) result }
 {
     if count == 1 {
         print_in_blocks(session, before, count, &mut [0; LINE_ROOM], out)
@@ -46,10 +43,8 @@ fn print_many<W: Write>(
     count: usize,
     out: &mut W,
 ) -> Result<(), PrintFault>
-    ensures ok { OnOk result (Appends (W.contents out.old) (W.contents out.new)
-        (list_text before count session.now.present.state)) }
-    ensures err { OnErr result (AppendsFront (W.contents out.old) (W.contents out.new)
-        (list_text before count session.now.present.state)) }
+    ensures { Prints (W.contents out.old) (W.contents out.new)
+        (list_text before count session.now.present.state) result }
 {
     print_in_blocks(session, before, count, &mut [0; BLOCK], out)
 }
@@ -63,10 +58,8 @@ fn print_in_blocks<W: Write>(
     out: &mut W,
 ) -> Result<(), PrintFault>
     requires room { 72 ≤ length block.old }
-    ensures ok { OnOk result (Appends (W.contents out.old) (W.contents out.new)
-        (list_text before count session.now.present.state)) }
-    ensures err { OnErr result (AppendsFront (W.contents out.old) (W.contents out.new)
-        (list_text before count session.now.present.state)) }
+    ensures { Prints (W.contents out.old) (W.contents out.new)
+        (list_text before count session.now.present.state) result }
 {
     let there = count.min(session.len().saturating_sub(before));
     let mut done = 0;

@@ -1,11 +1,10 @@
 //! What is answered to a line of a script.
 
-ghost use Rattle.std.specs.Prelude.{◌≡◌, ◌++◌, ◌∷◌, [], true, decimal, OnOk, OnErr};
-ghost use Rattle.std.specs.Io.KnownBytes.{Appends};
+ghost use Rattle.std.specs.Prelude.{◌≡◌, ◌++◌, ◌∷◌, [], true, decimal};
 ghost use Rattle.irig_script.specs.Print.Printed.{refusal_text, reply_text};
 ghost use Rattle.irig_script.specs.Obey.Desk.{is_refusal};
 ghost use Rattle.irig_script.specs.Obey.Machine.{Machine};
-ghost use Rattle.irig_script.specs.Print.Front.{AppendsFront};
+ghost use Rattle.irig_script.specs.Print.Front.{Prints};
 
 use crate::print::info_line::print_info;
 use crate::print::listing::print_frames;
@@ -55,10 +54,8 @@ impl Reply {
 /// Prints what a reply does as the session is: a line by one write, if the output takes
 /// it, and a listing in blocks.
 pub fn print<W: Write>(reply: Reply, session: &Session, out: &mut W) -> Result<(), PrintFault>
-    ensures ok { OnOk result (Appends
-        (W.contents out.old) (W.contents out.new) (reply_text session.now reply)) }
-    ensures err { OnErr result (AppendsFront
-        (W.contents out.old) (W.contents out.new) (reply_text session.now reply)) }
+    ensures { Prints (W.contents out.old) (W.contents out.new)
+        (reply_text session.now reply) result }
 {
     match reply {
         Reply::Silent => Ok(()),
@@ -108,10 +105,7 @@ fn refusal_line(why: Refusal) -> &'static [u8]
 
 /// Prints a number and a newline.
 fn put_number<W: Write>(out: &mut W, number: u64) -> Result<(), PrintFault>
-    ensures ok { OnOk result (Appends
-        (W.contents out.old) (W.contents out.new) (decimal number ++ 10 ∷ [])) }
-    ensures err { OnErr result (AppendsFront
-        (W.contents out.old) (W.contents out.new) (decimal number ++ 10 ∷ [])) }
+    ensures { Prints (W.contents out.old) (W.contents out.new) (decimal number ++ 10 ∷ []) result }
 {
     let mut buffer = [b'\n'; 24];
     let start = itoa::write_digits(number, &mut buffer, 23);

@@ -16,7 +16,7 @@ pub returns-in_default-answer-clause-err : goal.returns-in_default-answer-clause
 returns-in_default-answer-clause-err g c = λ text h.
     let texts = c.in-Some.ensures.0 in
     let a = c.in-Some.ensures.1 text h in
-    let front = c.in_default-answer.ensures.err in
+    let front = c.in_default-answer.ensures.text in
     rw c.if-byte-ne10.false (broke_line _ _ text _ _ front.front front.back (answer_with c.obey_line.new.session c.in-Some.reply) texts h.plain a.0 (a.1, refl)
     front.part front.missing (tells_front _ _ texts (answer_with c.obey_line.new.session c.in-Some.reply) front.front front.appends
     c.in-Some.ensures.2))
@@ -26,5 +26,5 @@ returns-clause-ok g c = λ text h.
     let texts = c.in-Some.ensures.0 in
     let a = c.in-Some.ensures.1 text h in
     rw c.if-byte-ne10.false (obeyed_line _ _ _ _ text _ _ (answer_with c.obey_line.new.session c.in-Some.reply) texts _ h.plain a.0 (a.1, refl)
-    (tells_one _ _ texts (answer_with c.obey_line.new.session c.in-Some.reply) c.in-Ok.ensures.ok c.in-Some.ensures.2)
+    (tells_one _ _ texts (answer_with c.obey_line.new.session c.in-Some.reply) c.in-Ok.ensures.text c.in-Some.ensures.2)
     c.answer.ensures.status c.clear.ensures)

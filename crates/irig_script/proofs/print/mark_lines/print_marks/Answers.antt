@@ -1,14 +1,13 @@
 use Rattle.std.proofs.Common.{rules, ◌≡◌, ◌<◌, None, take, arith}
-use Rattle.std.proofs.lemmas.Result.{on_ok_weaker, on_err_weaker}
 use Rattle.irig_script.specs.Print.Listings.{mark_line}
 use Rattle.irig_script.specs.Print.Numbered.{numbered}
-use Rattle.irig_script.proofs.PrintLemmas.Blocks.{sends_all, sends_end}
+use Rattle.irig_script.proofs.PrintLemmas.Blocks.{prints_end}
 use Rattle.irig_script.proofs.PrintLemmas.MarkLines.{few_marks, mark_listed, mark_named}
 use Rattle.irig_script.proofs.PrintLemmas.Numbered.{listed_front, listed_more}
 use Rattle.irig_script.proofs.print.mark_lines.print_marks.Goals as goal
 
-pub returns-in_default-clause-err : goal.returns-in_default-clause-err
-returns-in_default-clause-err g c =
+pub returns-in_default : goal.returns-in_default
+returns-in_default g c =
     let ms = c.args.session.now.present.state.marks in
     let k = c.loop-place.place in
     let few : k < 26 = omega (arith, c.loop-place-test.true) in
@@ -27,16 +26,9 @@ loop-place-preserved g c =
     c.put_mark.ensures in
     listed_more mark_line 0 (take 26 ms) k None _ _ _ _ _ _ listed.0 listed.1 c.loop-place.invariant c.in-Ok.ensures.ok
 
-pub returns-clause-ok : goal.returns-clause-ok
-returns-clause-ok g c =
+pub returns : goal.returns
+returns g c =
     let ms = c.args.session.now.present.state.marks in
     let done : c.loop-place.place ≡ 26 = search rules in
     let all = rw (done, few_marks ms) at c.loop-place.invariant in
-    on_ok_weaker c.flush.result (λ f. sends_all _ _ _ _ (numbered mark_line 0 (take 26 ms)) all f) c.flush.ensures.ok
-
-pub returns-clause-err : goal.returns-clause-err
-returns-clause-err g c =
-    let ms = c.args.session.now.present.state.marks in
-    let done : c.loop-place.place ≡ 26 = search rules in
-    let all = rw (done, few_marks ms) at c.loop-place.invariant in
-    on_err_weaker c.flush.result (λ f. sends_end _ _ _ _ (numbered mark_line 0 (take 26 ms)) all f) c.flush.ensures.err
+    prints_end _ _ _ _ (numbered mark_line 0 (take 26 ms)) c.flush.result all c.flush.ensures.printed

@@ -11,8 +11,8 @@ loop-done-preserved g c = (
   wrote_more _ _ _ c.args.bytes.now c.loop-done.done c.in-Ok.count c.loop-done.invariant.1 c.in-Ok.ensures.bytes,
 )
 
-pub returns-in-Ok-eq0-clause-err : goal.returns-in-Ok-eq0-clause-err
-returns-in-Ok-eq0-clause-err g c = record {
+pub returns-in-Ok-eq0 : goal.returns-in-Ok-eq0
+returns-in-Ok-eq0 g c = record {
   front = take (c.loop-done.done + c.in-Ok-eq0.field-0) c.args.bytes.now;
   back = drop (c.loop-done.done + c.in-Ok-eq0.field-0) c.args.bytes.now;
   part = sym (take-append-drop _ _);
@@ -20,8 +20,8 @@ returns-in-Ok-eq0-clause-err g c = record {
   appends = wrote_more _ _ _ c.args.bytes.now c.loop-done.done c.in-Ok-eq0.field-0 c.loop-done.invariant.1 c.in-Ok-eq0.ensures.bytes;
 }
 
-pub returns-in-Err-clause-err : goal.returns-in-Err-clause-err
-returns-in-Err-clause-err g c = record {
+pub returns-in-Err : goal.returns-in-Err
+returns-in-Err g c = record {
   front = take c.loop-done.done c.args.bytes.now;
   back = drop c.loop-done.done c.args.bytes.now;
   part = sym (take-append-drop _ _);

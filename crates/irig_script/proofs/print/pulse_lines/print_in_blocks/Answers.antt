@@ -20,11 +20,11 @@ loop-done-preserved g c =
     rest_whole bytes start ∙ c.write_pulses-start.ensures.written ∙ ap (λ m. list_text m k s) place in (
       few,
       c.write_pulses-start.ensures.within.1 ∙ c.loop-done.invariant.1,
-      listing_more s b d k _ _ _ within c.loop-done.invariant.2 (rw whole at c.in-Ok.ensures.ok),
+      listing_more s b d k _ _ _ within c.loop-done.invariant.2 (rw whole at c.in-Ok.ensures),
     )
 
-pub returns-in_default-clause-err : goal.returns-in_default-clause-err
-returns-in_default-clause-err g c =
+pub returns-in_default : goal.returns-in_default
+returns-in_default g c =
     let s = c.args.session.now.present.state in
     let b = c.args.before in
     let d = c.loop-done.done in
@@ -43,10 +43,10 @@ returns-in_default-clause-err g c =
     let place : b + d + k - k ≡ b + d = omega arith in
     let whole : take (length bytes - start) (drop start bytes) ≡ list_text (b + d) k s =
     rest_whole bytes start ∙ c.write_pulses-start.ensures.written ∙ ap (λ m. list_text m k s) place in
-    listing_front s b d k c.args.count _ _ _ within few c.loop-done.invariant.2 (rw whole at c.in_default.ensures.err)
+    listing_front s b d k c.args.count _ _ _ within few c.loop-done.invariant.2 (rw whole at c.in_default.ensures)
 
-pub returns-clause-ok : goal.returns-clause-ok
-returns-clause-ok g c =
+pub returns : goal.returns
+returns g c =
     let s = c.args.session.now.present.state in
     let b = c.args.before in
     let last : c.loop-done.done ≡ c.min-there.result = omega (arith, c.loop-done.invariant.0, c.loop-done-test.false) in

@@ -4,5 +4,5 @@ use Rattle.irig_script.proofs.print.block.Block.put.Goals as goal
 
 pub returns-in_err-flush-clause-err : goal.returns-in_err-flush-clause-err
 returns-in_err-flush-clause-err g c =
-    let p = front_longer _ _ _ c.args.text.now c.in_err-flush.ensures.err in
+    let p = front_longer _ _ _ c.args.text.now c.in_err-flush.ensures.printed in
     search (rules, p)
