@@ -1,7 +1,6 @@
 //! A session that is opened from a dump with its journal.
 
 pub mod head;
-pub mod naming;
 pub mod opening;
 pub mod taking;
 pub mod walk;

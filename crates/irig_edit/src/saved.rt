@@ -5,7 +5,6 @@ ghost use Rattle.irig_edit.specs.Saved.SavedSession.{saved_text};
 ghost use Rattle.irig_edit.specs.Session.Session.{machine_in};
 
 mod change_lines;
-mod pulse_lines;
 mod stage;
 mod step_lines;
 mod text;

@@ -3,11 +3,10 @@
 
 ghost use Rattle.std.specs.Prelude.{◌<◌, ◌^◌, length};
 
-use irig_codes::Kind;
+use irig_codes::{Format, Kind};
 use irig_saved::{
-    Change, Fault, Saved, Single, Step, parse, put_at, put_cursor, put_format, put_future,
-    put_group, put_marks, put_name, put_past, put_pulse, put_set_format, put_set_mark, put_shift,
-    put_splice, put_toggle,
+    Change, Fault, Letter, Pulses, Saved, Single, SingleLines, Step, parse, put_future, put_head,
+    put_step,
 };
 use irig_track::Pulse;
 use std::alloc::{AllocError, Global};
@@ -163,33 +162,35 @@ fn the_worked_journal_is_read(rt: HostRuntime) {
     assert!(rt; has_head(&saved) && has_steps(&mut saved));
 }
 
-/// The lines of the worked journal before its steps.
-fn put_head(text: &mut Vec<u8>) -> Result<(), AllocError> {
-    put_name(text)?;
-    put_format(text, Kind::G, 2)?;
-    put_cursor(text, 1)?;
-    put_marks(text, &[None; 26])
+/// All lines of a change.
+fn put_lines(text: &mut Vec<u8>, single: &Single) -> Result<(), AllocError> {
+    SingleLines::of(single).fill(text, usize::MAX)?;
+    Ok(())
+}
+
+/// The lines of the worked journal up to its steps.
+fn put_worked_head(text: &mut Vec<u8>, format: Format) -> Result<(), AllocError> {
+    put_head(text, format, 1, &[None; 26], 1)
 }
 
 /// The lines of its step back.
 fn put_back(text: &mut Vec<u8>) -> Result<(), AllocError> {
-    put_past(text, 1)?;
-    put_at(text, 2)?;
-    put_splice(text, 1, 0, 1)?;
-    put_pulse(
-        text,
-        Pulse {
-            rise: 100,
-            fall: 120,
-        },
-    )
+    put_step(text, 2, false, 1)?;
+    let mut put = Pulses::new(*text.allocator());
+    put.push(Pulse {
+        rise: 100,
+        fall: 120,
+    })?;
+    let (at, count) = (1, 0);
+    put_lines(text, &Single::Splice { at, count, put })
 }
 
 /// The lines of its step forward.
 fn put_forward(text: &mut Vec<u8>) -> Result<(), AllocError> {
     put_future(text, 1)?;
-    put_at(text, 1)?;
-    put_set_mark(text, 0, Some(110))
+    put_step(text, 1, false, 1)?;
+    let (letter, time) = (Letter::new(0), Some(110));
+    put_lines(text, &Single::SetMark { letter, time })
 }
 
 /// A group of changes of other kinds.
@@ -197,15 +198,17 @@ fn put_changes(text: &mut Vec<u8>) -> Result<(), AllocError> {
     let mut marks = [false; 26];
     marks[0] = true;
     marks[25] = true;
-    put_group(text, 3)?;
-    put_shift(text, 1, 2, -20, &marks)?;
-    put_toggle(text, 5, 6)?;
-    put_set_format(text, Kind::E, 1)
+    put_step(text, 4, true, 3)?;
+    let (i, j, by) = (1, 2, -20);
+    put_lines(text, &Single::Shift { i, j, by, marks })?;
+    put_lines(text, &Single::Toggle { a: 5, b: 6 })?;
+    let (kind, expression) = (Kind::E, 1);
+    put_lines(text, &Single::SetFormat { kind, expression })
 }
 
 /// Whether the lines of the worked journal are written into an empty text.
-fn is_worked_put(text: &mut Vec<u8>) -> bool {
-    put_head(text).is_ok()
+fn is_worked_put(text: &mut Vec<u8>, format: Format) -> bool {
+    put_worked_head(text, format).is_ok()
         && put_back(text).is_ok()
         && put_forward(text).is_ok()
         && text.as_slice() == WORKED
@@ -214,13 +217,15 @@ fn is_worked_put(text: &mut Vec<u8>) -> bool {
 /// Whether the lines of that group are written into an empty text.
 fn is_group_put(text: &mut Vec<u8>) -> bool {
     put_changes(text).is_ok()
-        && text.as_slice() == b"group 3\nshift 1 2 -20 az\ntoggle 5 6\nsetformat E 1\n".as_slice()
+        && text.as_slice()
+            == b"at 4\ngroup 3\nshift 1 2 -20 az\ntoggle 5 6\nsetformat E 1\n".as_slice()
 }
 
 #[test]
 fn the_lines_are_written(rt: HostRuntime) {
     let mut text = Vec::new(rt.alloc());
-    assert!(rt; is_worked_put(&mut text));
+    let format = Format::new(Kind::G, 2).ok().expect(&rt, "permitted");
+    assert!(rt; is_worked_put(&mut text, format));
     text.clear();
     assert!(rt; is_group_put(&mut text));
 }

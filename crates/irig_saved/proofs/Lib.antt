@@ -24,3 +24,4 @@ pub mod JournalTexts
 pub mod Counts
 pub mod Moves
 pub mod ShortLines
+pub mod LinesInRow

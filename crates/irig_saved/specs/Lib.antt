@@ -2,6 +2,7 @@ pub mod Lines
 pub mod Letters
 pub mod ChangeWords
 pub mod SavedText
+pub mod LinesLeft
 pub mod Ranges
 pub mod Numbers
 pub mod Reading

@@ -1,9 +1,11 @@
 -- The text of a saved journal: docs/FORMATS.md, "The saved journal". This project's own.
-use Rattle.std.specs.Prelude.{◌+◌, ℕ, List, [], ◌∷◌, ◌++◌, Option, Some, None, length, map, decimal}
+use Rattle.std.specs.Prelude.{◌+◌, ℕ, Bool, true, false, List, [], ◌∷◌, ◌++◌, Option, Some, None}
+use Rattle.std.specs.Prelude.{length, map, decimal}
 use Rattle.std.specs.Prelude.{codes}
 use Rattle.irig_saved.specs.Lines.{line, numbered, text_of}
 use Rattle.irig_saved.specs.ChangeWords.{single_line}
 use Rattle.irig_codes.specs.Words.{kind_word}
+use Rattle.irig_codes.specs.declared.format.Kind.{Kind}
 use Rattle.irig_vcd.specs.declared.pulse.Pulse.{Pulse}
 use Rattle.irig_saved.specs.declared.single.Single.{Single}
 use Rattle.irig_saved.specs.declared.single.Single.TheVariants.{Splice}
@@ -43,6 +45,12 @@ change_lines (Group xs) = numbered (codes "group") (length xs ∷ []) ∷ single
 abbrev pub step_lines : Step → List (List ℕ)
 step_lines s = numbered (codes "at") (s.cursor ∷ []) ∷ change_lines s.change
 
+-- the lines of a step before those of its changes: of a group also how many there are
+abbrev pub step_head : ℕ → Bool → ℕ → List (List ℕ)
+step_head cursor true changes =
+    numbered (codes "at") (cursor ∷ []) ∷ numbered (codes "group") (changes ∷ []) ∷ []
+step_head cursor false changes = numbered (codes "at") (cursor ∷ []) ∷ []
+
 -- the lines of steps, one after another
 abbrev pub steps_lines : List Step → List (List ℕ)
 steps_lines [] = []
@@ -59,15 +67,24 @@ mark_lines x (Some t ∷ ms) =
 abbrev pub counted_lines : List ℕ → List Step → List (List ℕ)
 counted_lines head steps = numbered head (length steps ∷ []) ∷ steps_lines steps
 
--- all lines, from the one that names the journal on
+-- the lines before the steps, from the one that names the journal on: a format, a cursor and marks
+abbrev pub head_lines : Kind → ℕ → ℕ → List (Option ℕ) → List (List ℕ)
+head_lines kind expression cursor marks =
+    codes "irig-journal-1"
+    ∷ line (codes "format") (kind_word kind ∷ decimal expression ∷ [])
+    ∷ numbered (codes "cursor") (cursor ∷ [])
+    ∷ mark_lines 97 marks
+
+-- all lines
 abbrev pub saved_lines : Saved → List (List ℕ)
 saved_lines s =
-    codes "irig-journal-1"
-    ∷ line (codes "format") (kind_word s.kind ∷ decimal s.expression ∷ [])
-    ∷ numbered (codes "cursor") (s.cursor ∷ [])
-    ∷ mark_lines 97 s.marks
+    head_lines s.kind s.expression s.cursor s.marks
     ++ counted_lines (codes "past") s.past
     ++ counted_lines (codes "future") s.future
+
+-- the line of a word and a count
+abbrev pub count_text : List ℕ → ℕ → List ℕ
+count_text head count = numbered head (count ∷ []) ++ 10 ∷ []
 
 -- the text of them
 unfoldable pub journal_text : Saved → List ℕ

@@ -8,6 +8,7 @@ ghost use Rattle.irig_saved.specs.SavedText.{pulse_line};
 ghost use Rattle.irig_saved.specs.declared.single.Single.TheVariants.{Toggle, Shift, SetFormat};
 ghost use Rattle.irig_saved.specs.declared.single.Single.TheVariants.{SetMark};
 
+use crate::single::Single;
 use crate::word_writer::{
     put_formatted, put_lettered, put_number, put_numbered, put_numbers, put_word,
 };
@@ -16,8 +17,22 @@ use irig_track::Pulse;
 use itoa::Buffer;
 use std::alloc::AllocError;
 
+/// The first line of a change, which is all of it but for a splice.
+pub fn put_single(text: &mut Vec<u8>, single: &Single) -> Result<(), AllocError>
+    ensures { OnOk result (text.new.items
+        ≡ text.old.items ++ (single_line single.now ++ 10 ∷ [])) }
+{
+    match single {
+        Single::Splice { at, count, put } => put_splice(text, *at, *count, put.len() as u64),
+        Single::Toggle { a, b } => put_toggle(text, *a, *b),
+        Single::Shift { i, j, by, marks } => put_shift(text, *i, *j, *by, marks),
+        Single::SetFormat { kind, expression } => put_set_format(text, *kind, *expression),
+        Single::SetMark { letter, time } => put_set_mark(text, letter.place(), *time),
+    }
+}
+
 /// The first line of a splice: the first pulse that goes, from 1, how many go, and how many come.
-pub fn put_splice(text: &mut Vec<u8>, at: u64, count: u64, put: u64) -> Result<(), AllocError>
+fn put_splice(text: &mut Vec<u8>, at: u64, count: u64, put: u64) -> Result<(), AllocError>
     ensures { OnOk result (text.new.items
         ≡ text.old.items ++ (numbered (codes "splice") (at ∷ count ∷ put ∷ []) ++ 10 ∷ [])) }
 {
@@ -34,7 +49,7 @@ pub fn put_pulse(text: &mut Vec<u8>, pulse: Pulse) -> Result<(), AllocError>
 }
 
 /// The line of a toggle from `a` to `b`, in microseconds.
-pub fn put_toggle(text: &mut Vec<u8>, a: u64, b: u64) -> Result<(), AllocError>
+fn put_toggle(text: &mut Vec<u8>, a: u64, b: u64) -> Result<(), AllocError>
     ensures { OnOk result (text.new.items
         ≡ text.old.items ++ (single_line (Toggle a b) ++ 10 ∷ [])) }
 {
@@ -43,7 +58,7 @@ pub fn put_toggle(text: &mut Vec<u8>, a: u64, b: u64) -> Result<(), AllocError>
 
 /// The line of a shift of the pulses `i` to `j`, from 1, by this many microseconds, with the marks
 /// of the given letters.
-pub fn put_shift(
+fn put_shift(
     text: &mut Vec<u8>,
     i: u64,
     j: u64,
@@ -89,7 +104,7 @@ fn put_moved(text: &mut Vec<u8>, marks: &[bool; 26]) -> Result<(), AllocError>
 }
 
 /// The line that sets a format.
-pub fn put_set_format(text: &mut Vec<u8>, kind: Kind, expression: u8) -> Result<(), AllocError>
+fn put_set_format(text: &mut Vec<u8>, kind: Kind, expression: u8) -> Result<(), AllocError>
     ensures { OnOk result (text.new.items
         ≡ text.old.items ++ (single_line (SetFormat kind expression) ++ 10 ∷ [])) }
 {
@@ -97,7 +112,7 @@ pub fn put_set_format(text: &mut Vec<u8>, kind: Kind, expression: u8) -> Result<
 }
 
 /// The line that sets the mark of a letter, from 0, to a time in microseconds, or clears it.
-pub fn put_set_mark(text: &mut Vec<u8>, letter: u8, time: Option<u64>) -> Result<(), AllocError>
+fn put_set_mark(text: &mut Vec<u8>, letter: u8, time: Option<u64>) -> Result<(), AllocError>
     requires { letter < 26 }
     ensures { OnOk result (text.new.items
         ≡ text.old.items ++ (single_line (SetMark letter time) ++ 10 ∷ [])) }

@@ -1,30 +1,31 @@
-//! Pulses in a list that gives its block away.
+//! Pulses in a list that can be exchanged with those of a track.
 
 ghost use Rattle.std.specs.Prelude.{◌≡◌, ◌≤◌, ◌<◌, ◌+◌, ◌*◌, ◌++◌, ◌∷◌, [], OnOk, OnErr, Some};
 ghost use Rattle.std.specs.Prelude.{length, slice_get};
+ghost use Rattle.irig_track.specs.Splices.{CanSplice, IsSpan, piece, spliced};
 
 use irig_gap::Gap;
-use irig_track::Pulse;
+use irig_track::{Pulse, Span, Track};
 use std::alloc::{AllocError, Global};
 use std::marker::Model;
+use std::mem;
 
-/// Pulses that a splice inserts, in a buffer with its place after the last. The buffer grows by
-/// half, for pulses that are there: no number in a text makes it take memory.
+/// Pulses that a splice inserts. Their buffer grows by half, for pulses that are there: no number
+/// in a text makes it take memory.
 #[derive(Drop)]
 pub struct Pulses {
     items: Gap<Pulse>,
 }
 
 impl Model for Pulses {
-    ghost use Rattle.std.specs.Prelude.{◌≡◌, ◌≤◌, ◌+◌, ◌*◌, List, length};
+    ghost use Rattle.std.specs.Prelude.{◌≤◌, ◌+◌, ◌*◌, List, length};
     ghost use Rattle.irig_vcd.specs.declared.pulse.Pulse.{Pulse};
 
     ghost Value = { List Pulse };
 
     ghost view = { λ pulses. pulses.items.items };
 
-    ghost invariant = { λ pulses. (pulses.items.place ≡ length pulses.items.items)
-        × (2 * pulses.items.capacity ≤ 3 * length pulses.items.items + 2) };
+    ghost invariant = { λ pulses. 2 * pulses.items.capacity ≤ 3 * length pulses.items.items + 2 };
 }
 
 impl Pulses {
@@ -35,6 +36,14 @@ impl Pulses {
         Pulses {
             items: Gap::new(alloc),
         }
+    }
+
+    /// The pulses of a buffer. It has places for at most half as many more, and one.
+    pub fn of(items: Gap<Pulse>) -> Pulses
+        requires tight { 2 * items.capacity ≤ 3 * length items.items + 2 }
+        ensures { result ≡ items.items }
+    {
+        Pulses { items }
     }
 
     /// How many pulses there are.
@@ -58,16 +67,49 @@ impl Pulses {
         ensures unchanged { OnErr result (self.new ≡ self.old) }
     {
         self.items.reserve(1)?;
+        self.items.move_to(self.items.len());
         self.items.put(pulse);
         Ok(())
     }
 
-    /// The buffer of the pulses. At most half as many more have places in it, and one.
-    pub fn into_gap(self) -> Gap<Pulse>
-        ensures items { result.items ≡ self }
-        ensures place { result.place ≡ length self }
-        ensures tight { 2 * result.capacity ≤ 3 * length self + 2 }
+    /// The buffer of the pulses. It has places for at most half as many more, and one.
+    pub fn as_gap(&self) -> &Gap<Pulse>
+        ensures items { result.now.items ≡ self.now }
+        ensures tight { 2 * result.now.capacity ≤ 3 * length self.now + 2 }
     {
-        self.items
+        &self.items
+    }
+
+    /// Replaces the `count` pulses of a track from `at` on, from 0, by these, and keeps those. This
+    /// takes no memory: `taken` has the places for them, and then those for the way back.
+    pub fn exchange(
+        &mut self,
+        track: &mut Track,
+        at: usize,
+        count: usize,
+        taken: &mut Gap<Pulse>,
+    ) -> Span
+        requires can { CanSplice track.old.micros at count self.old track.old.pulses }
+        requires spare { length self.old ≤ track.old.spare + count }
+        requires empty { taken.old.items ≡ [] }
+        requires places { (count ≤ taken.old.capacity)
+            × (2 * taken.old.capacity ≤ 3 * count + 2) }
+        ensures track { (track.new.micros ≡ track.old.micros)
+            × (track.new.pulses ≡ spliced at count self.old track.old.pulses) }
+        ensures back { self.new ≡ piece at count track.old.pulses }
+        ensures spare { length track.new.pulses + track.new.spare
+            ≡ length track.old.pulses + track.old.spare }
+        ensures empty { taken.new.items ≡ [] }
+        ensures places { (length self.old ≤ taken.new.capacity)
+            × (2 * taken.new.capacity ≤ 3 * length self.old + 2) }
+        ensures size { (result.at ≡ at) × (result.old ≡ count) × (result.new ≡ length self.old) }
+        ensures spanned { IsSpan result.at result.old result.new track.old.pulses
+            track.new.pulses }
+    {
+        // What was read has its places.
+        let _held = self.items.len();
+        let span = track.splice(at, count, &mut self.items, taken);
+        mem::swap(&mut self.items, taken);
+        span
     }
 }

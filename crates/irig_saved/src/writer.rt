@@ -3,14 +3,60 @@
 ghost use Rattle.std.specs.Prelude.{◌≡◌, ◌++◌, ◌+◌, ◌<◌, ◌∷◌, [], OnOk, codes, decimal};
 ghost use Rattle.irig_codes.specs.Words.{kind_word};
 ghost use Rattle.irig_saved.specs.Lines.{line, numbered, text_of};
-ghost use Rattle.irig_saved.specs.SavedText.{mark_lines};
+ghost use Rattle.irig_saved.specs.SavedText.{count_text, head_lines, mark_lines, step_head};
 
 use crate::word_writer::{put_formatted, put_lettered, put_number, put_numbered};
-use irig_codes::Kind;
+use irig_codes::{Format, Kind};
 use std::alloc::AllocError;
 
+/// The lines before the steps, and the one that counts the steps of the past. The cursor counts
+/// from 1, and is 0 if there is no pulse; a mark is a time in microseconds.
+pub fn put_head(
+    text: &mut Vec<u8>,
+    format: Format,
+    cursor: u64,
+    marks: &[Option<u64>; 26],
+    past: u64,
+) -> Result<(), AllocError>
+    ensures { OnOk result (text.new.items ≡ text.old.items
+        ++ (text_of (head_lines format.kind format.expression cursor marks.now)
+        ++ count_text (codes "past") past)) }
+{
+    put_name(text)?;
+    put_format(text, format.kind(), format.expression())?;
+    put_cursor(text, cursor)?;
+    put_marks(text, marks)?;
+    put_past(text, past)
+}
+
+/// The lines of a step before those of its changes: the cursor of the state that it leads to, from
+/// 1, or 0 if there is no pulse; and of a group how many changes it has.
+pub fn put_step(
+    text: &mut Vec<u8>,
+    cursor: u64,
+    is_group: bool,
+    changes: u64,
+) -> Result<(), AllocError>
+    ensures { OnOk result (text.new.items
+        ≡ text.old.items ++ text_of (step_head cursor is_group changes)) }
+{
+    put_at(text, cursor)?;
+    if is_group {
+        put_group(text, changes)?;
+    }
+    Ok(())
+}
+
+/// The line before the steps of the future: how many there are.
+pub fn put_future(text: &mut Vec<u8>, count: u64) -> Result<(), AllocError>
+    ensures { OnOk result (text.new.items
+        ≡ text.old.items ++ count_text (codes "future") count) }
+{
+    put_numbered(text, b"future", &[count])
+}
+
 /// The line that names a saved journal, as `docs/FORMATS.md` says under "The saved journal".
-pub fn put_name(text: &mut Vec<u8>) -> Result<(), AllocError>
+fn put_name(text: &mut Vec<u8>) -> Result<(), AllocError>
     ensures { OnOk result (text.new.items
         ≡ text.old.items ++ (codes "irig-journal-1" ++ 10 ∷ [])) }
 {
@@ -18,7 +64,7 @@ pub fn put_name(text: &mut Vec<u8>) -> Result<(), AllocError>
 }
 
 /// The line of the format.
-pub fn put_format(text: &mut Vec<u8>, kind: Kind, expression: u8) -> Result<(), AllocError>
+fn put_format(text: &mut Vec<u8>, kind: Kind, expression: u8) -> Result<(), AllocError>
     ensures { OnOk result (text.new.items ≡ text.old.items
         ++ (line (codes "format") (kind_word kind ∷ decimal expression ∷ []) ++ 10 ∷ [])) }
 {
@@ -26,7 +72,7 @@ pub fn put_format(text: &mut Vec<u8>, kind: Kind, expression: u8) -> Result<(), 
 }
 
 /// The line of the cursor, from 1; 0 if there is no pulse.
-pub fn put_cursor(text: &mut Vec<u8>, cursor: u64) -> Result<(), AllocError>
+fn put_cursor(text: &mut Vec<u8>, cursor: u64) -> Result<(), AllocError>
     ensures { OnOk result (text.new.items
         ≡ text.old.items ++ (numbered (codes "cursor") (cursor ∷ []) ++ 10 ∷ [])) }
 {
@@ -34,7 +80,7 @@ pub fn put_cursor(text: &mut Vec<u8>, cursor: u64) -> Result<(), AllocError>
 }
 
 /// A line for each mark that is set, a to z. A mark is a time in microseconds.
-pub fn put_marks(text: &mut Vec<u8>, marks: &[Option<u64>; 26]) -> Result<(), AllocError>
+fn put_marks(text: &mut Vec<u8>, marks: &[Option<u64>; 26]) -> Result<(), AllocError>
     ensures { OnOk result (text.new.items
         ≡ text.old.items ++ text_of (mark_lines 97 marks.now)) }
 {
@@ -60,24 +106,16 @@ fn put_mark(text: &mut Vec<u8>, letter: u8, time: Option<u64>) -> Result<(), All
 }
 
 /// The line before the steps of the past: how many there are.
-pub fn put_past(text: &mut Vec<u8>, count: u64) -> Result<(), AllocError>
+fn put_past(text: &mut Vec<u8>, count: u64) -> Result<(), AllocError>
     ensures { OnOk result (text.new.items
         ≡ text.old.items ++ (numbered (codes "past") (count ∷ []) ++ 10 ∷ [])) }
 {
     put_numbered(text, b"past", &[count])
 }
 
-/// The line before the steps of the future: how many there are.
-pub fn put_future(text: &mut Vec<u8>, count: u64) -> Result<(), AllocError>
-    ensures { OnOk result (text.new.items
-        ≡ text.old.items ++ (numbered (codes "future") (count ∷ []) ++ 10 ∷ [])) }
-{
-    put_numbered(text, b"future", &[count])
-}
-
 /// The first line of a step: the cursor of the state that it leads to, from 1; 0 if there is no
 /// pulse.
-pub fn put_at(text: &mut Vec<u8>, cursor: u64) -> Result<(), AllocError>
+fn put_at(text: &mut Vec<u8>, cursor: u64) -> Result<(), AllocError>
     ensures { OnOk result (text.new.items
         ≡ text.old.items ++ (numbered (codes "at") (cursor ∷ []) ++ 10 ∷ [])) }
 {
@@ -85,7 +123,7 @@ pub fn put_at(text: &mut Vec<u8>, cursor: u64) -> Result<(), AllocError>
 }
 
 /// The line before the changes of a group: how many there are.
-pub fn put_group(text: &mut Vec<u8>, count: u64) -> Result<(), AllocError>
+fn put_group(text: &mut Vec<u8>, count: u64) -> Result<(), AllocError>
     ensures { OnOk result (text.new.items
         ≡ text.old.items ++ (numbered (codes "group") (count ∷ []) ++ 10 ∷ [])) }
 {

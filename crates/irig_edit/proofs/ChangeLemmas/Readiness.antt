@@ -9,14 +9,14 @@ use Rattle.irig_edit.specs.State.Places.{places_in}
 use Rattle.irig_edit.specs.State.Present.{PresentView}
 use Rattle.irig_edit.specs.Changes.Ready.{StepsAreReady}
 use Rattle.irig_edit.specs.Changes.Room.{HasRoomFor}
-use Rattle.irig_edit.specs.declared.changes.single.Single.{Single}
+use Rattle.irig_edit.specs.declared.changes.turn.Turn.{Turn}
 
-pub ready_same : (p : PresentView) (i j : Steps Single) → j.past ≡ i.past → j.future ≡ i.future → StepsAreReady p i → StepsAreReady p j
+pub ready_same : (p : PresentView) (i j : Steps Turn) → j.past ≡ i.past → j.future ≡ i.future → StepsAreReady p i → StepsAreReady p j
 ready_same p i j past future ready = (
   (
-    subst (λ (l : List (Held Single)). FitInTurn Fits turned p.state (deltas_of l)) (sym past) ready.0.0,
-    subst (λ (l : List (Held Single)). FitInTurn Fits turned p.state (deltas_of l)) (sym future) ready.0.1,
+    subst (λ (l : List (Held Turn)). FitInTurn Fits turned p.state (deltas_of l)) (sym past) ready.0.0,
+    subst (λ (l : List (Held Turn)). FitInTurn Fits turned p.state (deltas_of l)) (sym future) ready.0.1,
   ),
-  subst (λ (l : List (Held Single)). ReadyInTurn Fits turned delta_of (HasRoomFor (places_in p)) p.state (flat l)) (sym past) ready.1,
-  subst (λ (l : List (Held Single)). ReadyInTurn Fits turned delta_of (HasRoomFor (places_in p)) p.state (flat l)) (sym future) ready.2,
+  subst (λ (l : List (Held Turn)). ReadyInTurn Fits turned delta_of (HasRoomFor (places_in p)) p.state (flat l)) (sym past) ready.1,
+  subst (λ (l : List (Held Turn)). ReadyInTurn Fits turned delta_of (HasRoomFor (places_in p)) p.state (flat l)) (sym future) ready.2,
 )

@@ -22,7 +22,7 @@ use Rattle.irig_saved.specs.declared.single.Single as saved
 use Rattle.irig_edit.specs.Changes.Single.{FitsSingle, turned_single}
 use Rattle.irig_saved.specs.declared.single.Single.TheVariants.{Splice, Toggle, Shift}
 use Rattle.irig_edit.specs.State.State.{State, IsState, frames_of}
-use Rattle.irig_edit.specs.declared.changes.single.Single.{Single}
+use Rattle.irig_edit.specs.declared.changes.turn.Turn.{Turn}
 use Rattle.irig_edit.proofs.EditLemmas.ShiftedStates.{length-shifted}
 use Rattle.irig_edit.proofs.EditLemmas.Toggles.{length-toggled}
 use Rattle.irig_edit.proofs.ChangeLemmas.Windows.{length-spanned, risen_few, toggled_few}
@@ -76,7 +76,7 @@ puts_wider p q s (Toggle a b) more puts = omega (arith, more, puts)
 puts_wider p q s _ more puts = tt
 
 -- what a single change asks for is enough
-pub ample_enough : (p : Places) (s : State) (x : Single) → IsState s → FitsSingle s (single_of x) → length s.pulses ≤ p.pulses
+pub ample_enough : (p : Places) (s : State) (x : Turn) → IsState s → FitsSingle s (single_of x) → length s.pulses ≤ p.pulses
     → IsAmpleFor p s x → HasRoomFor p s x
 ample_enough p s x is can held ample =
     let few = frames_after s (single_of x) is can in
@@ -114,7 +114,7 @@ back_there s t d e is can turn =
     ∙ ap (λ (p : State × saved.Single). p.0) (turned_single-turned s d is can)
 
 -- a turn that keeps the places leaves its way back with room
-pub room_back : (p q : PresentView) (x y : Single) → IsState p.state → FitsSingle p.state (single_of x)
+pub room_back : (p q : PresentView) (x y : Turn) → IsState p.state → FitsSingle p.state (single_of x)
     → HasRoomFor (places_in p) p.state x → (q.state, single_of y) ≡ turned_single p.state (single_of x)
     → KeepsPlaces p q → TakesIn y → HasRoomFor (places_in q) q.state y
 room_back p q x y is can room turn keeps takes =

@@ -1,24 +1,17 @@
 -- Texts in a row, given part by part: what was given, with what is left.
-use Rattle.std.proofs.Common.{◌≡◌, ◌≤◌, ◌++◌, ◌+◌, ℕ, Bool, List, [], ◌∷◌, Some, ap, drop, length, map, refl, reverse, slice_get, subst, sym, ◌∙◌}
+use Rattle.std.proofs.Common.{◌≡◌, ◌++◌, ℕ, List, [], ◌∷◌, ap, map, refl, reverse, sym, ◌∙◌}
 use Rattle.std.proofs.Common.{append_assoc}
-use Rattle.std.specs.List.{AllByRecursion}
-use Rattle.std.proofs.lemmas.List.{at_drop_all, reverse-append}
-use Rattle.irig_track.proofs.Items.{drop-item}
-use Rattle.irig_journal.specs.Held.{Held, parts_of}
+use Rattle.std.proofs.lemmas.List.{reverse-append}
+use Rattle.irig_journal.specs.Held.{Held}
 use Rattle.irig_journal.specs.History.{step}
-use Rattle.irig_journal.proofs.HeldLemmas.{parts_in-parts_of}
 use Rattle.irig_saved.specs.Lines.{text_of}
-use Rattle.irig_saved.specs.SavedText.{pulse_line, pulse_lines, single_lines, singles_lines, step_lines, steps_lines}
+use Rattle.irig_saved.specs.SavedText.{single_lines, singles_lines, step_lines, steps_lines}
 use Rattle.irig_saved.proofs.Texts.{text_of_append}
-use Rattle.irig_vcd.specs.declared.pulse.Pulse.{Pulse}
-use Rattle.irig_edit.specs.Changes.Delta.{singles_of}
 use Rattle.irig_edit.specs.Changes.Held.{delta_of, deltas_of, single_of}
-use Rattle.irig_edit.specs.Changes.Laws.Parts.{singles_of-delta_of}
-use Rattle.irig_saved.specs.Numbers.{NumbersOfSingle}
 use Rattle.irig_edit.specs.Saved.Saved.{saved_step}
 use Rattle.irig_edit.specs.Saved.SavedParts.{changes_text, parts_left, steps_text}
 use Rattle.irig_edit.specs.Saved.Stages.{next_stage, stage_left, text_after}
-use Rattle.irig_edit.specs.declared.changes.single.Single.{Single}
+use Rattle.irig_edit.specs.declared.changes.turn.Turn.{Turn}
 use Rattle.irig_edit.specs.declared.saved.stage.Stage.{Stage}
 use Rattle.irig_edit.specs.declared.saved.stage.Stage.TheVariants.{Dump, Back, On, Over}
 
@@ -58,43 +51,16 @@ pub written : (new more left text rest given : List ℕ) → new ++ left ≡ giv
     → more ++ rest ≡ given
 written new more left text rest given is split put = rw put (append_assoc new text rest ∙ (ap (λ t. new ++ t) (sym split) ∙ is))
 
--- a line was written, of several
-pub line_first : (old new l : List ℕ) (ls : List (List ℕ)) → new ≡ old ++ (l ++ 10 ∷ [])
-    → new ++ text_of ls ≡ old ++ text_of (l ∷ ls)
-line_first old new l ls put = rw put (simp append_assoc refl)
-
--- no lines after the last pulse
-pub pulses-end : (ps : List Pulse) (n : ℕ) → length ps ≤ n → text_of (pulse_lines (drop n ps)) ≡ []
-pulses-end ps n h = at_drop_all (λ xs. text_of (pulse_lines xs)) ps n h
-
--- the lines of a pulse, and those after it
-pub pulses-next : (ps : List Pulse) (i : ℕ) (p : Pulse) → slice_get ps i ≡ Some p
-    → text_of (pulse_lines (drop i ps)) ≡ text_of (pulse_line p ∷ pulse_lines (drop (i + 1) ps))
-pulses-next ps i p there = ap (λ xs. text_of (pulse_lines xs)) (drop-item ps i p there)
-
 -- the lines of the last change, and those of the changes before it
-pub changes-next : (xs others : List Single) (x : Single) → xs ≡ others ++ x ∷ []
+pub changes-next : (xs others : List Turn) (x : Turn) → xs ≡ others ++ x ∷ []
     → changes_text (reverse xs) ≡ text_of (single_lines (single_of x)) ++ changes_text (reverse others)
 changes-next xs others x split =
-    ap (λ (l : List Single). changes_text l) (ap reverse split ∙ reverse-append others (x ∷ []))
+    ap (λ (l : List Turn). changes_text l) (ap reverse split ∙ reverse-append others (x ∷ []))
     ∙ text_of_append (single_lines (single_of x)) (singles_lines (map single_of (reverse others)))
 
--- the last of changes that can be named can be, and so can the others
-pub named-next : (xs others : List Single) (x : Single) → xs ≡ others ++ x ∷ [] → AllByRecursion NumbersOfSingle (map single_of (reverse xs))
-    → NumbersOfSingle (single_of x) × AllByRecursion NumbersOfSingle (map single_of (reverse others))
-named-next xs others x split named =
-    subst (λ (l : List Single). AllByRecursion NumbersOfSingle (map single_of l)) (ap reverse split ∙ reverse-append others (x ∷ [])) named
-
 -- the lines of a step, and those after it
-pub steps-next : (hs others : List (Held Single)) (h : Held Single) → hs ≡ h ∷ others
+pub steps-next : (hs others : List (Held Turn)) (h : Held Turn) → hs ≡ h ∷ others
     → steps_text (deltas_of hs) ≡ text_of (step_lines (saved_step (step (delta_of h.parts) h.cursor))) ++ steps_text (deltas_of others)
 steps-next hs others h split =
-    ap (λ (l : List (Held Single)). steps_text (deltas_of l)) split
+    ap (λ (l : List (Held Turn)). steps_text (deltas_of l)) split
     ∙ text_of_append (step_lines (saved_step (step (delta_of h.parts) h.cursor))) (steps_lines (map saved_step (deltas_of others)))
-
--- they can be named
-pub shown_named : (is_group : Bool) (cs : List Single) → AllByRecursion NumbersOfSingle (singles_of (delta_of (parts_of is_group cs)))
-    → AllByRecursion NumbersOfSingle (map single_of cs)
-shown_named is_group cs named =
-    subst (AllByRecursion NumbersOfSingle) (ap (map single_of) (parts_in-parts_of is_group cs))
-    (subst (AllByRecursion NumbersOfSingle) (sym (singles_of-delta_of (parts_of is_group cs))) named)

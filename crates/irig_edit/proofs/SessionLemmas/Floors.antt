@@ -14,7 +14,7 @@ use Rattle.irig_edit.specs.Session.Limits.{IsFloor, IsGrouped}
 use Rattle.irig_edit.specs.Session.Machine.{with_cursor}
 use Rattle.irig_edit.specs.State.Present.{PresentView}
 use Rattle.irig_edit.specs.State.State.{State, IsState}
-use Rattle.irig_edit.specs.declared.changes.single.Single.{Single}
+use Rattle.irig_edit.specs.declared.changes.turn.Turn.{Turn}
 use Rattle.irig_edit.proofs.SessionLemmas.Machines.{IsMachine-recorded, IsMachine-redone, IsMachine-undone}
 use Rattle.irig_edit.proofs.SessionLemmas.MachineSteps.{allowed_some, over_some}
 
@@ -23,7 +23,7 @@ abbrev pub over_opening : Option Opening → Machine Kept → Grouped Kept
 over_opening opening m = over (option_map (floor_of m) opening) m
 
 -- the same state, cursor and journal mean the same machine with its floor
-pub same_grouped : (p q : PresentView) (m n : ℕ) (i j : Steps Single) → q ≡ p → n ≡ m → j ≡ i
+pub same_grouped : (p q : PresentView) (m n : ℕ) (i j : Steps Turn) → q ≡ p → n ≡ m → j ≡ i
     → grouped_at q.state n j ≡ grouped_at p.state m i
 same_grouped p q m n i j here at steps = ap (λ (x : PresentView). grouped_at x.state n j) here
     ∙ (ap (λ (x : ℕ). grouped_at p.state x j) at ∙ ap (grouped_at p.state m) steps)

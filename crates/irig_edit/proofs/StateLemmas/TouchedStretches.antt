@@ -1,5 +1,5 @@
 -- A stretch is touched if a pulse rises at or before its end and falls at or after its begin.
-use Rattle.std.proofs.Common.{◌≡◌, ◌≤◌, ◌<◌, ◌+◌, ◌-◌, ℕ, suc, Bool, true, false, not, ◌&&◌, ◌||◌, ◌⊎◌, inl, inr, nat_lt, nat_le, List, [], ◌∷◌, take, drop}
+use Rattle.std.proofs.Common.{◌≡◌, ◌≤◌, ◌<◌, ◌+◌, ◌-◌, ℕ, suc, Bool, true, false, ◌&&◌, ◌||◌, ◌⊎◌, inl, inr, nat_lt, nat_le, List, [], ◌∷◌, take, drop}
 use Rattle.std.proofs.Common.{slice_get, Some, zero, refl, ap, sym, ◌∙◌, subst, arith}
 use Rattle.std.proofs.Math.Bool.{not-not, or-false, or-true}
 use Rattle.std.proofs.lemmas.Bool.{and_right, cases_lt, or_parts}

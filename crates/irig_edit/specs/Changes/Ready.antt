@@ -5,9 +5,9 @@ use Rattle.irig_edit.specs.Changes.Held.{delta_of}
 use Rattle.irig_edit.specs.State.Places.{places_in}
 use Rattle.irig_edit.specs.State.Present.{PresentView}
 use Rattle.irig_edit.specs.Changes.Room.{HasRoomFor}
-use Rattle.irig_edit.specs.declared.changes.single.Single.{Single}
+use Rattle.irig_edit.specs.declared.changes.turn.Turn.{Turn}
 
 -- the steps back and forward can be made in turn from the present state, and each of their changes
 -- has its room when its turn comes
-abbrev pub StepsAreReady : PresentView → Steps Single → Type 0
+abbrev pub StepsAreReady : PresentView → Steps Turn → Type 0
 StepsAreReady p j = AreReady Fits turned delta_of (HasRoomFor (places_in p)) p.state j

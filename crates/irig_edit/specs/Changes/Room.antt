@@ -3,26 +3,24 @@
 use Rattle.std.specs.Prelude.{ℕ, ◌≤◌}
 use Rattle.irig_edit.specs.Changes.Held.{single_of}
 use Rattle.irig_edit.specs.State.Places.{HoldsState, Places}
-use Rattle.irig_saved.specs.declared.single.Single as saved
-use Rattle.irig_edit.specs.Changes.Single.{turned_single}
+use Rattle.irig_saved.specs.declared.single.Single.{Single}
+use Rattle.irig_edit.specs.Changes.Single.{goes, turned_single}
 use Rattle.irig_saved.specs.declared.single.Single.TheVariants.{Toggle}
 use Rattle.irig_edit.specs.State.State.{State}
-use Rattle.irig_edit.specs.declared.changes.single.Single.{Single}
-use Rattle.irig_edit.specs.declared.changes.single.Single.TheVariants.{Splice}
+use Rattle.irig_edit.specs.declared.changes.turn.Turn.{Turn}
 
--- a single change has places for the pulses that its turn takes
-abbrev pub TakesIn : Single → Type 0
-TakesIn (Splice s) = s.count ≤ s.taken.capacity
-TakesIn single = Unit {0}
+-- there are places for the pulses that go
+abbrev pub TakesIn : Turn → Type 0
+TakesIn turn = goes (single_of turn) ≤ turn.taken.capacity
 
 -- how many places for pulses a turn needs on its way, in addition
-abbrev pub passing : saved.Single → ℕ
+abbrev pub passing : Single → ℕ
 passing (Toggle a b) = 1
 passing d = 0
 
 -- there is room for a turn of a single change, and for a turn of the one that leads back: places
 -- for the pulses that go, for the state before and for the state after
-pub record HasRoomFor (p : Places) (s : State) (single : Single) : Type 0 where
-  pub takes : TakesIn single
-  pub before : HoldsState p (passing (single_of single)) s
-  pub after : HoldsState p (passing (single_of single)) (turned_single s (single_of single)).0
+pub record HasRoomFor (p : Places) (s : State) (turn : Turn) : Type 0 where
+  pub takes : TakesIn turn
+  pub before : HoldsState p (passing (single_of turn)) s
+  pub after : HoldsState p (passing (single_of turn)) (turned_single s (single_of turn)).0

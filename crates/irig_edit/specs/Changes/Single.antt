@@ -1,6 +1,6 @@
 -- When a single change of a state can be made, what it leaves, and how many pulses it holds. Pulses
 -- count from 1, and a letter a to z is a number from 0. This project's own.
-use Rattle.std.specs.Prelude.{◌≡◌, ℕ, suc, ◌<◌, IsTrue, List, [], ◌∷◌, None, length}
+use Rattle.std.specs.Prelude.{◌≡◌, ℕ, suc, ◌<◌, ◌≤◌, ◌+◌, ◌*◌, IsTrue, List, [], ◌∷◌, None, length}
 use Rattle.std.specs.Prelude.{get_or, slice_set, neg_ℤ}
 use Rattle.irig_codes.specs.Format.{is_permitted}
 use Rattle.irig_saved.specs.declared.single.Single.{Single}
@@ -51,6 +51,20 @@ turned_single s (SetMark letter time) = (
   SetMark letter (get_or s.marks letter None),
 )
 turned_single s single = (s, single)
+
+-- it is a shift
+abbrev pub IsShift : Single → Type 0
+IsShift (Shift i j d named) = Unit {0}
+IsShift single = ⊥
+
+-- how many pulses go
+abbrev pub goes : Single → ℕ
+goes (Splice at count put) = count
+goes single = 0
+
+-- a buffer has places for this many pulses, and for at most half as many more, and one
+abbrev pub IsRoomFor : ℕ → ℕ → Type 0
+IsRoomFor count capacity = (count ≤ capacity) × (2 * capacity ≤ 3 * count + 2)
 
 -- how many pulses it holds
 abbrev pub held_in : Single → ℕ

@@ -11,7 +11,7 @@ use Rattle.irig_edit.specs.Changes.Held.{delta_of}
 use Rattle.irig_edit.specs.Session.Kept.{Exchange, Kept, exchanging, kept, nothing}
 use Rattle.irig_edit.specs.Changes.Looks.{looks_of}
 use Rattle.irig_edit.specs.State.State.{State}
-use Rattle.irig_edit.specs.declared.changes.single.Single.{Single}
+use Rattle.irig_edit.specs.declared.changes.turn.Turn.{Turn}
 
 -- what two changes exchange: one leads from this state to that and one leads back, and the
 -- change that leads back holds what was removed
@@ -53,7 +53,7 @@ machine h = record {
 }
 
 -- the machine that a journal means at a state and its cursor
-abbrev pub machine_at : State → ℕ → Steps Single → Machine Kept
+abbrev pub machine_at : State → ℕ → Steps Turn → Machine Kept
 machine_at s cursor j = machine (history_of delta_of s cursor j)
 
 -- what is kept of the state that is this many steps before this one
@@ -72,6 +72,6 @@ abbrev pub floor_of : Machine Kept → Opening → Floor Kept
 floor_of m opening = floor_at opening (behind (length m.past - opening.steps) m.present m.past)
 
 -- that machine, with its floor
-abbrev pub grouped_at : State → ℕ → Steps Single → Grouped Kept
+abbrev pub grouped_at : State → ℕ → Steps Turn → Grouped Kept
 grouped_at s cursor j =
     over (option_map (floor_of (machine_at s cursor j)) j.floor) (machine_at s cursor j)

@@ -1,19 +1,24 @@
 //! Whether a change of the present state can be made, and room for its turn.
 
-ghost use Rattle.std.specs.Prelude.{◌≡◌, ◌≤◌, ◌↔◌, IsTrue, OnErr, OnOk};
+ghost use Rattle.std.specs.Prelude.{◌≡◌, ◌≤◌, ◌↔◌, IsTrue, OnErr, OnOk, length};
 ghost use Rattle.irig_track.specs.Shifts.{CanShift};
+ghost use Rattle.irig_track.specs.Splices.{CanSplice};
 ghost use Rattle.irig_track.specs.Toggles.{CanToggle};
 ghost use Rattle.irig_edit.specs.Changes.Ample.{IsAmpleFor, PutsIn, records_for};
 ghost use Rattle.irig_edit.specs.Changes.Held.{single_of};
 ghost use Rattle.irig_edit.specs.State.Places.{IsWithin, places_in};
 ghost use Rattle.irig_edit.specs.Changes.Room.{HasRoomFor};
 ghost use Rattle.irig_edit.specs.Changes.Single.{FitsSingle};
+ghost use Rattle.irig_edit.specs.State.Marks.{AllMayMove};
 ghost use Rattle.irig_edit.specs.State.State.{IsState};
 
-use crate::changes::single::Single;
-use crate::state::marks::all_may_move;
+use crate::changes::kinds::permitted;
+use crate::changes::turn::Turn;
+use crate::state::marks::{Letters, all_may_move};
 use crate::state::present::Present;
+use irig_codes::Format;
 use irig_index::{Index, markers_among};
+use irig_saved::{Pulses, Single};
 use std::alloc::AllocError;
 
 /// Whether a change can be made.
@@ -34,24 +39,39 @@ impl Present {
         self.track.can_shift(i, j, by)
     }
 
+    /// Whether `count` pulses from `at` on, from 0, can be replaced within the limits.
+    fn can_splice(&self, at: usize, count: usize, put: &Pulses) -> bool
+        ensures { IsTrue result ↔ CanSplice self.now.state.micros at count put.now
+            self.now.state.pulses }
+    {
+        self.track.can_splice(at, count, put.as_gap())
+    }
+
+    /// Whether the pulses `i` to `j`, from 0, and marks with them can be moved within the limits.
+    fn can_move(&self, i: usize, j: usize, by: i64, letters: &Letters) -> bool
+        ensures { IsTrue result ↔ CanShift self.now.state.micros i j by self.now.state.pulses
+            × AllMayMove self.now.state.micros by letters.now self.now.state.marks
+            × (length letters.now ≡ 26) }
+    {
+        // What was read has its length.
+        let _first = letters[0];
+        self.can_shift(i, j, by) && all_may_move(&self.marks, letters, by, self.track.length())
+    }
+
     /// Whether a single change can be made.
     pub(crate) fn allows(&self, single: &Single) -> bool
-        ensures { IsTrue result ↔ FitsSingle self.now.state (single_of single.now) }
+        ensures { IsTrue result ↔ FitsSingle self.now.state single.now }
     {
         match single {
-            Single::Splice(splice) => self.track.can_splice(splice.at, splice.count, &splice.put),
+            Single::Splice { at, count, put } => {
+                *at > 0 && self.can_splice(*at as usize - 1, *count as usize, put)
+            }
             Single::Toggle { a, b } => self.can_toggle(*a, *b),
-            Single::Shift(shift) => {
-                // What was read has its length.
-                let _first = shift.letters[0];
-                self.can_shift(shift.i, shift.j, shift.by)
-                    && all_may_move(&self.marks, &shift.letters, shift.by, self.track.length())
+            Single::Shift { i, j, by, marks } => {
+                *i > 0 && *j > 0 && self.can_move(*i as usize - 1, *j as usize - 1, *by, marks)
             }
-            Single::SetFormat(format) => {
-                let _expression = format.expression();
-                true
-            }
-            Single::SetMark { letter, time } => *letter < 26 && self.may_mark(*time),
+            Single::SetFormat { kind, expression } => Format::new(*kind, *expression).is_ok(),
+            Single::SetMark { letter, time } => letter.place() < 26 && self.may_mark(*time),
         }
     }
 }
@@ -59,39 +79,40 @@ impl Present {
 /// Room for turns.
 impl Present {
     /// Makes room for a turn of a single change, which stays what it is, and for its turn back.
-    pub(crate) fn room_for(&mut self, single: &mut Single) -> Result<(), AllocError>
-        requires fits { FitsSingle self.old.state (single_of single.old) }
+    pub(crate) fn room_for(&mut self, turn: &mut Turn) -> Result<(), AllocError>
+        requires fits { FitsSingle self.old.state (single_of turn.old) }
         ensures known { IsState self.old.state }
         ensures stays { (self.new.state ≡ self.old.state)
-            × (single_of single.new ≡ single_of single.old)
+            × (single_of turn.new ≡ single_of turn.old)
             × (self.new.index.looks ≡ self.old.index.looks) }
         ensures grows { IsWithin (places_in self.old) (places_in self.new) }
-        ensures room { OnOk result (HasRoomFor (places_in self.new) self.new.state single.new) }
+        ensures room { OnOk result (HasRoomFor (places_in self.new) self.new.state turn.new) }
         ensures refused { OnErr result
-            (IsAmpleFor (places_in self.old) self.old.state single.old → ⊥) }
+            (IsAmpleFor (places_in self.old) self.old.state turn.old → ⊥) }
     {
-        let records = self.records_for(single);
-        self.reserve_put(single)?;
-        single.reserve_taken()?;
+        let records = self.records_for(&turn.single);
+        self.reserve_put(&turn.single)?;
+        turn.reserve_taken()?;
         self.index.reserve(records)
     }
 
     /// How many records a turn of a single change may bring, in addition to those there are.
     fn records_for(&self, single: &Single) -> usize
-        requires fits { FitsSingle self.now.state (single_of single.now) }
-        ensures records { result ≡ records_for self.now.state (single_of single.now) }
+        requires fits { FitsSingle self.now.state single.now }
+        ensures records { result ≡ records_for self.now.state single.now }
         ensures state { IsState self.now.state }
     {
         let pulses = self.len();
         match single {
-            Single::Splice(splice) => markers_among(&splice.put, self.format) + 2,
+            Single::Splice { put, .. } => markers_among(put.as_gap(), self.format) + 2,
             Single::Toggle { a, b } => {
                 let between = self.find(*b).saturating_sub(self.find(*a));
                 (between + 4).min(pulses + 3)
             }
-            Single::Shift(_) => 2,
-            Single::SetFormat(format) => {
-                Index::count(&mut self.track.lens(), *format).saturating_sub(self.index.len())
+            Single::Shift { .. } => 2,
+            Single::SetFormat { kind, expression } => {
+                let format = permitted(*kind, *expression);
+                Index::count(&mut self.track.lens(), format).saturating_sub(self.index.len())
             }
             Single::SetMark { .. } => 0,
         }
@@ -103,14 +124,14 @@ impl Present {
         ensures index { self.new.index ≡ self.old.index }
         ensures grows { self.old.spare ≤ self.new.spare }
         ensures puts { OnOk result
-            (PutsIn (places_in self.new) self.new.state (single_of single.now)) }
+            (PutsIn (places_in self.new) self.new.state single.now) }
         ensures refused { OnErr result
-            (PutsIn (places_in self.old) self.old.state (single_of single.now) → ⊥) }
+            (PutsIn (places_in self.old) self.old.state single.now → ⊥) }
     {
         match single {
-            Single::Splice(splice) => {
-                self.track
-                    .reserve(splice.put.len().saturating_sub(splice.count))
+            Single::Splice { count, put, .. } => {
+                let more = put.len().saturating_sub(*count as usize);
+                self.track.reserve(more)
             }
             Single::Toggle { .. } => self.track.reserve(2),
             _ => Ok(()),

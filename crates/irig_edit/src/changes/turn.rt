@@ -1,99 +1,45 @@
-//! Changes of the present state, turned in place.
+//! A single change of a state, with room for its turn.
 
-ghost use Rattle.std.specs.Prelude.{ℕ};
-ghost use Rattle.irig_edit.specs.Changes.Ample.{IsAmpleFor};
-ghost use Rattle.irig_saved.specs.declared.change.Change.{Change};
-ghost use Rattle.irig_edit.specs.Changes.Delta.{Fits, gathered, turned, weight_of};
-ghost use Rattle.irig_edit.specs.Changes.Held.{delta_of};
-ghost use Rattle.irig_edit.specs.Changes.Laws.Delta.{Fits-turned, IsState-turned, turned-turned};
-ghost use Rattle.irig_edit.specs.Changes.Laws.Groups.{Fits-gathered, turned-gathered};
-ghost use Rattle.irig_edit.specs.Changes.Laws.Groups.{weight_of-gathered};
-ghost use Rattle.irig_edit.specs.Changes.Laws.Parts.{delta_of-group};
-ghost use Rattle.irig_edit.specs.Changes.Laws.Looks.{looks_of-gathered};
-ghost use Rattle.irig_edit.specs.Changes.Laws.Room.{HasRoomFor-wider};
-ghost use Rattle.irig_edit.specs.Changes.Looks.{RoseWithin, looks_of};
-ghost use Rattle.irig_edit.specs.State.Present.{looks_in, state_in};
-ghost use Rattle.irig_edit.specs.State.Places.{IsWithin, Places, places_in};
-ghost use Rattle.irig_edit.specs.Changes.Room.{HasRoomFor};
-ghost use Rattle.irig_edit.specs.State.State.{State, IsState};
+ghost use Rattle.std.specs.Prelude.{◌≡◌, ◌≤◌, ◌+◌, ◌*◌, [], OnErr, OnOk};
+ghost use Rattle.irig_edit.specs.Changes.Single.{goes, held_in};
 
-use crate::changes::single::Single;
-use crate::state::present::Present;
-use irig_journal::Reversible;
+use irig_gap::Gap;
+use irig_saved::Single;
+use irig_track::Pulse;
 use std::alloc::AllocError;
 
-impl Reversible for Present {
-    type Change = Single;
+/// A single change of a state, with places for the pulses that go by its turn. The turn leaves the
+/// one that leads back.
+#[derive(Drop)]
+pub struct Turn {
+    /// The change.
+    pub(crate) single: Single,
+    /// Places for the pulses that go.
+    pub(crate) taken: Gap<Pulse>,
+    ghost empty: { taken.items ≡ [] },
+    ghost tight: { 2 * taken.capacity ≤ 3 * goes single + 2 },
+}
 
-    ghost Content = { State };
-
-    ghost Delta = { Change };
-
-    ghost Tally = { ℕ };
-
-    ghost Places = { Places };
-
-    ghost content = { state_in };
-
-    ghost delta = { delta_of };
-
-    ghost tally = { looks_in };
-
-    ghost places = { places_in };
-
-    ghost is_within = { IsWithin };
-
-    ghost is_state = { IsState };
-
-    ghost fits = { Fits };
-
-    ghost turned = { turned };
-
-    ghost counted = { λ s d old new. RoseWithin (looks_of s d) old new };
-
-    ghost has_room = { HasRoomFor };
-
-    ghost is_ample = { IsAmpleFor };
-
-    ghost weighs = { weight_of };
-
-    ghost gathered = { gathered };
-
-    fn known(&self) {
-        let _len = self.len();
+impl Turn {
+    /// How many pulses it holds.
+    pub(crate) fn held(&self) -> usize
+        ensures { result ≡ held_in self.now.single }
+    {
+        match &self.single {
+            Single::Splice { put, .. } => put.len(),
+            _ => 0,
+        }
     }
 
-    fn applies(&self, single: &Single) -> bool {
-        self.allows(single)
+    /// Makes places for the pulses that go.
+    pub(crate) fn reserve_taken(&mut self) -> Result<(), AllocError>
+        ensures same { self.new.single ≡ self.old.single }
+        ensures takes { OnOk result (goes self.new.single ≤ self.new.taken.capacity) }
+        ensures refused { OnErr result (goes self.old.single ≤ self.old.taken.capacity → ⊥) }
+    {
+        match &self.single {
+            Single::Splice { count, .. } => self.taken.reserve(*count as usize),
+            _ => Ok(()),
+        }
     }
-
-    fn prepare(&mut self, single: &mut Single) -> Result<(), AllocError> {
-        self.room_for(single)
-    }
-
-    fn turn(&mut self, single: &mut Single) {
-        self.turn_single(single);
-    }
-
-    fn weight(single: &Single) -> u64 {
-        single.held() as u64
-    }
-
-    ghost keeps = { λ s d is h. IsState-turned s d is h };
-
-    ghost back_fits = { λ s d is h. Fits-turned s d is h };
-
-    ghost back = { λ s d is h. turned-turned s d is h };
-
-    ghost gathers = { λ ps. delta_of-group ps };
-
-    ghost gathered_fits = { λ s ds _ h. Fits-gathered s ds h };
-
-    ghost gathered_turns = { λ s ds _ h. turned-gathered s ds };
-
-    ghost gathered_holds = { λ ds. weight_of-gathered ds };
-
-    ghost gathered_counts = { λ s ds old new _ _ h. looks_of-gathered s ds old new h };
-
-    ghost wider = { λ a b s c h room. HasRoomFor-wider a b s c h room };
 }

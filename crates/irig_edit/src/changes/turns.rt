@@ -1,6 +1,7 @@
 //! Single changes turned in place, with the frames repaired at their places.
 
-ghost use Rattle.std.specs.Prelude.{◌≡◌, ◌≤◌, ◌<◌, neg_ℤ, length};
+ghost use Rattle.std.specs.Prelude.{◌≡◌, ◌≤◌, ◌<◌, [], IsTrue, neg_ℤ, length};
+ghost use Rattle.irig_codes.specs.Format.{is_permitted};
 ghost use Rattle.irig_track.specs.Edges.{edges_of};
 ghost use Rattle.irig_track.specs.Shifts.{CanShift, count_to, shifted};
 ghost use Rattle.irig_track.specs.Splices.{CanSplice, piece, spliced};
@@ -9,72 +10,88 @@ ghost use Rattle.irig_edit.specs.Changes.Held.{single_of};
 ghost use Rattle.irig_edit.specs.Changes.Looks.{Rose, RoseWithin, looks_by, standing_in, window};
 ghost use Rattle.irig_edit.specs.State.Marks.{AllMayMove, marks_moved};
 ghost use Rattle.irig_edit.specs.State.Places.{HoldsState, KeepsPlaces, places_in};
-ghost use Rattle.irig_edit.specs.Changes.Room.{HasRoomFor, TakesIn};
-ghost use Rattle.irig_edit.specs.Changes.Single.{FitsSingle, pulses_of, turned_single};
+ghost use Rattle.irig_edit.specs.Changes.Room.{HasRoomFor, passing};
+ghost use Rattle.irig_edit.specs.Changes.Single.{FitsSingle, IsRoomFor, IsShift, goes};
+ghost use Rattle.irig_edit.specs.Changes.Single.{pulses_of, turned_single};
 ghost use Rattle.irig_edit.specs.State.State.{IsState, state, with_pulses};
 
-use crate::changes::single::{Shift, Single, turn_mark, turn_shift, turn_toggle};
-use crate::changes::splice::{Splice, turn_splice};
+use crate::changes::kinds::{permitted, turn_mark, turn_shift, turn_toggle};
+use crate::changes::turn::Turn;
+use crate::state::marks::Letters;
 use crate::state::present::Present;
-use irig_codes::Format;
-use std::mem;
+use irig_codes::Kind;
+use irig_gap::Gap;
+use irig_saved::{Pulses, Single};
+use irig_track::Pulse;
 
 /// The turns that move pulses or frames.
 impl Present {
     /// Turns a single change, which then has room for its turn back. This takes no memory.
-    pub(crate) fn turn_single(&mut self, single: &mut Single)
-        requires fits { FitsSingle self.old.state (single_of single.old) }
-        requires room { HasRoomFor (places_in self.old) self.old.state single.old }
+    pub(crate) fn make_turn(&mut self, turn: &mut Turn)
+        requires fits { FitsSingle self.old.state (single_of turn.old) }
+        requires room { HasRoomFor (places_in self.old) self.old.state turn.old }
         ensures known { IsState self.old.state }
-        ensures turned { (self.new.state, single_of single.new)
-            ≡ turned_single self.old.state (single_of single.old) }
-        ensures looks { RoseWithin (looks_by (single_of single.old) self.new.state.pulses)
+        ensures turned { (self.new.state, single_of turn.new)
+            ≡ turned_single self.old.state (single_of turn.old) }
+        ensures looks { RoseWithin (looks_by (single_of turn.old) self.new.state.pulses)
             self.old.index.looks self.new.index.looks }
         ensures places { KeepsPlaces self.old self.new }
-        ensures back { HasRoomFor (places_in self.new) self.new.state single.new }
+        ensures back { HasRoomFor (places_in self.new) self.new.state turn.new }
     {
         let _len = self.len();
-        self.turn_kind(single);
+        self.turn_single(&mut turn.single, &mut turn.taken);
     }
 
-    /// Turns a single change by its kind.
-    fn turn_kind(&mut self, single: &mut Single)
-        requires fits { FitsSingle self.old.state (single_of single.old) }
-        requires room { HasRoomFor (places_in self.old) self.old.state single.old }
-        ensures turned { (self.new.state, single_of single.new)
-            ≡ turned_single self.old.state (single_of single.old) }
-        ensures looks { RoseWithin (looks_by (single_of single.old) self.new.state.pulses)
+    /// Turns a single change by its kind. The pulses that go by a splice have places in `taken`.
+    fn turn_single(&mut self, single: &mut Single, taken: &mut Gap<Pulse>)
+        requires fits { FitsSingle self.old.state single.old }
+        requires empty { taken.old.items ≡ [] }
+        requires takes { IsRoomFor (goes single.old) taken.old.capacity }
+        requires before { HoldsState (places_in self.old) (passing single.old) self.old.state }
+        requires after { HoldsState (places_in self.old) (passing single.old)
+            (turned_single self.old.state single.old).0 }
+        ensures turned { (self.new.state, single.new)
+            ≡ turned_single self.old.state single.old }
+        ensures looks { RoseWithin (looks_by single.old self.new.state.pulses)
             self.old.index.looks self.new.index.looks }
         ensures places { KeepsPlaces self.old self.new }
-        ensures takes { TakesIn single.new }
+        ensures empty { taken.new.items ≡ [] }
+        ensures takes { IsRoomFor (goes single.new) taken.new.capacity }
     {
         match single {
-            Single::Splice(splice) => self.splice(splice),
+            Single::Splice { at, count, put } => {
+                self.splice(*at as usize - 1, count, put, taken);
+            }
             Single::Toggle { a, b } => self.toggle(*a, *b),
-            Single::Shift(shift) => self.shift(shift),
-            Single::SetFormat(format) => self.set_format(format),
-            Single::SetMark { letter, time } => turn_mark(&mut self.marks, *letter, time),
+            Single::Shift { .. } => self.turn_shift(single),
+            Single::SetFormat { kind, expression } => self.set_format(kind, expression),
+            Single::SetMark { letter, time } => {
+                turn_mark(&mut self.marks, letter.place() as usize, time);
+            }
         }
     }
 
-    /// Turns a splice.
-    fn splice(&mut self, splice: &mut Splice)
-        requires can { CanSplice self.old.state.micros splice.old.at splice.old.count
-            splice.old.put.items self.old.state.pulses }
-        requires taken { splice.old.count ≤ splice.old.taken.capacity }
-        requires holds { HoldsState (places_in self.old) 0 (with_pulses (spliced splice.old.at
-            splice.old.count splice.old.put.items self.old.state.pulses) self.old.state) }
-        ensures state { self.new.state ≡ with_pulses (spliced splice.old.at splice.old.count
-            splice.old.put.items self.old.state.pulses) self.old.state }
-        ensures back { (splice.new.at ≡ splice.old.at)
-            × (splice.new.count ≡ length splice.old.put.items)
-            × (splice.new.put.items ≡ piece splice.old.at splice.old.count self.old.state.pulses) }
-        ensures looks { RoseWithin (window (length splice.old.put.items)) self.old.index.looks
+    /// Turns a splice at a pulse, from 0.
+    fn splice(&mut self, at: usize, count: &mut u64, put: &mut Pulses, taken: &mut Gap<Pulse>)
+        requires can { CanSplice self.old.state.micros at count.old put.old
+            self.old.state.pulses }
+        requires empty { taken.old.items ≡ [] }
+        requires takes { IsRoomFor count.old taken.old.capacity }
+        requires holds { HoldsState (places_in self.old) 0
+            (with_pulses (spliced at count.old put.old self.old.state.pulses) self.old.state) }
+        ensures state { self.new.state ≡
+            with_pulses (spliced at count.old put.old self.old.state.pulses) self.old.state }
+        ensures back { (count.new ≡ length put.old)
+            × (put.new ≡ piece at count.old self.old.state.pulses) }
+        ensures looks { RoseWithin (window (length put.old)) self.old.index.looks
             self.new.index.looks }
         ensures places { KeepsPlaces self.old self.new }
-        ensures takes { splice.new.count ≤ splice.new.taken.capacity }
+        ensures empty { taken.new.items ≡ [] }
+        ensures takes { IsRoomFor count.new taken.new.capacity }
     {
-        let span = turn_splice(&mut self.track, splice);
+        let come = put.len() as u64;
+        let span = put.exchange(&mut self.track, at, *count as usize, taken);
+        *count = come;
         self.index.repair(&mut self.track.lens(), self.format, span);
     }
 
@@ -95,42 +112,68 @@ impl Present {
     }
 
     /// Turns a shift.
-    fn shift(&mut self, shift: &mut Shift)
-        requires can { CanShift self.old.state.micros shift.old.i shift.old.j shift.old.by
-            self.old.state.pulses }
-        requires marks { AllMayMove self.old.state.micros shift.old.by shift.old.letters
-            self.old.state.marks }
-        requires holds { HoldsState (places_in self.old) 0 (state self.old.state.micros
-            (shifted shift.old.i shift.old.j shift.old.by self.old.state.pulses)
-            self.old.state.format
-            (marks_moved shift.old.by shift.old.letters self.old.state.marks)) }
-        ensures state { self.new.state ≡ state self.old.state.micros
-            (shifted shift.old.i shift.old.j shift.old.by self.old.state.pulses)
-            self.old.state.format
-            (marks_moved shift.old.by shift.old.letters self.old.state.marks) }
-        ensures back { (shift.new.i ≡ shift.old.i) × (shift.new.j ≡ shift.old.j)
-            × (shift.new.by ≡ neg_ℤ shift.old.by) × (shift.new.letters ≡ shift.old.letters) }
-        ensures looks { RoseWithin (window (count_to shift.old.i shift.old.j))
+    fn turn_shift(&mut self, single: &mut Single)
+        requires shift { IsShift single.old }
+        requires fits { FitsSingle self.old.state single.old }
+        requires after { HoldsState (places_in self.old) 0
+            (turned_single self.old.state single.old).0 }
+        ensures turned { (self.new.state, single.new)
+            ≡ turned_single self.old.state single.old }
+        ensures looks { RoseWithin (looks_by single.old self.new.state.pulses)
             self.old.index.looks self.new.index.looks }
         ensures places { KeepsPlaces self.old self.new }
     {
+        let back = match &*single {
+            Single::Shift { i, j, by, marks } => {
+                self.shift(*i as usize - 1, *j as usize - 1, *by, marks)
+            }
+            _ => unreachable!(),
+        };
+        if let Single::Shift { by, .. } = single {
+            *by = back;
+        }
+    }
+
+    /// Moves the pulses `i` to `j`, from 0, and marks with them. Returns the distance of the way
+    /// back.
+    fn shift(&mut self, i: usize, j: usize, by: i64, letters: &Letters) -> i64
+        requires can { CanShift self.old.state.micros i j by self.old.state.pulses }
+        requires marks { AllMayMove self.old.state.micros by letters.now self.old.state.marks }
+        requires holds { HoldsState (places_in self.old) 0 (state self.old.state.micros
+            (shifted i j by self.old.state.pulses) self.old.state.format
+            (marks_moved by letters.now self.old.state.marks)) }
+        ensures state { self.new.state ≡ state self.old.state.micros
+            (shifted i j by self.old.state.pulses) self.old.state.format
+            (marks_moved by letters.now self.old.state.marks) }
+        ensures back { result ≡ neg_ℤ by }
+        ensures looks { RoseWithin (window (count_to i j)) self.old.index.looks
+            self.new.index.looks }
+        ensures places { KeepsPlaces self.old self.new }
+    {
         let _length = self.track.length();
-        let span = turn_shift(&mut self.track, &mut self.marks, shift);
+        let mut back = by;
+        let span = turn_shift(&mut self.track, &mut self.marks, i, j, &mut back, letters);
         self.index.repair(&mut self.track.lens(), self.format, span);
+        back
     }
 
     /// Turns the setting of a format, after which all frames are read again.
-    fn set_format(&mut self, format: &mut Format)
+    fn set_format(&mut self, kind: &mut Kind, expression: &mut u8)
+        requires permitted { IsTrue (is_permitted kind.old expression.old) }
         requires holds { HoldsState (places_in self.old) 0 (state self.old.state.micros
-            self.old.state.pulses format.old self.old.state.marks) }
+            self.old.state.pulses (record { kind = kind.old; expression = expression.old })
+            self.old.state.marks) }
         ensures state { self.new.state ≡ state self.old.state.micros self.old.state.pulses
-            format.old self.old.state.marks }
-        ensures back { format.new ≡ self.old.state.format }
+            (record { kind = kind.old; expression = expression.old }) self.old.state.marks }
+        ensures back { (kind.new ≡ self.old.state.format.kind)
+            × (expression.new ≡ self.old.state.format.expression) }
         ensures looks { Rose self.old.index.looks self.new.index.looks }
         ensures places { KeepsPlaces self.old self.new }
     {
-        let _expression = format.expression();
-        mem::swap(&mut self.format, format);
+        let format = permitted(*kind, *expression);
+        *kind = self.format.kind();
+        *expression = self.format.expression();
+        self.format = format;
         self.index.rebuild(&mut self.track.lens(), self.format);
     }
 }

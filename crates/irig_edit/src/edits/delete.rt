@@ -11,7 +11,7 @@ ghost use Rattle.irig_edit.specs.State.State.{with_pulses};
 use crate::session::refusal::Refusal;
 use crate::session::session::Session;
 use crate::state::present::Present;
-use irig_gap::Gap;
+use irig_saved::Pulses;
 
 /// The cursor after the pulses `i` to `j` are removed, if they are there.
 fn plan(present: &Present, i: usize, j: usize) -> Result<usize, Refusal>
@@ -42,7 +42,7 @@ impl Session {
         ensures looks { LooksAfter (Make (Delete i j)) self.old result self.new }
     {
         let cursor = plan(&self.present, i, j)?;
-        let put = Gap::new(self.alloc);
+        let put = Pulses::new(self.alloc);
         self.splice(i, j + 1 - i, put, cursor)
     }
 }

@@ -10,6 +10,7 @@ ghost use Rattle.irig_edit.specs.Edits.Regenerated.{frames_pulses};
 use irig_codes::{Element, Format, encode, nominal};
 use irig_gap::Gap;
 use irig_moment::Moment;
+use irig_saved::Pulses;
 use irig_track::Pulse;
 use std::alloc::{AllocError, Global};
 
@@ -31,12 +32,12 @@ pub(crate) fn pulses_of(
     frames: u64,
     moment: Moment,
     control: u64,
-) -> Result<Gap<Pulse>, AllocError>
+) -> Result<Pulses, AllocError>
     requires few { frames ≤ 10000 }
     requires within { frames_end format start frames ≤ 2 ^ 40 }
     requires starts { IsTrue (starts_in format moment) }
     requires controls { control < 2 ^ control_count_of format }
-    ensures { IfOk result (λ g. g.items ≡ frames_pulses format start frames moment control) }
+    ensures { IfOk result (λ put. put ≡ frames_pulses format start frames moment control) }
 {
     let mut pulses = Gap::new(alloc);
     pulses.reserve(100 * frames as usize)?;
@@ -44,7 +45,7 @@ pub(crate) fn pulses_of(
         let elements = encode(format, &moment.fields(format, k, control));
         put_frame(&mut pulses, format, start, k, &elements);
     }
-    Ok(pulses)
+    Ok(Pulses::of(pulses))
 }
 
 /// Adds frame `k`, from 0, after the pulses. Frame 0 begins at a start, in microseconds.

@@ -7,10 +7,10 @@ ghost use Rattle.irig_edit.specs.Session.Calls.Call.{Make};
 ghost use Rattle.irig_edit.specs.Session.Calls.Edit.{Invert};
 ghost use Rattle.irig_edit.specs.Session.Session.{LooksAfter, Steps};
 
-use crate::changes::single::Single;
 use crate::session::refusal::Refusal;
 use crate::session::session::Session;
 use crate::state::present::Present;
+use irig_saved::Single;
 
 /// Whether the level can be inverted from `a` to `b`.
 fn plan(present: &Present, a: u64, b: u64) -> Result<(), Refusal>

@@ -1,6 +1,6 @@
 //! Moves pulses in time.
 
-ghost use Rattle.std.specs.Prelude.{suc, ◌≡◌, ◌-◌, ◌≤◌, None, Some, IfOk, IfErr, OnOk, length};
+ghost use Rattle.std.specs.Prelude.{◌≡◌, ◌-◌, ◌≤◌, None, Some, IfOk, IfErr, OnOk, length};
 ghost use Rattle.irig_track.specs.Shifts.{CanShift};
 ghost use Rattle.irig_edit.specs.Edits.Becoming.{Becomes, judgement_of};
 ghost use Rattle.irig_edit.specs.Session.Calls.Call.{Make};
@@ -11,12 +11,11 @@ ghost use Rattle.irig_saved.specs.declared.change.Change.TheVariants.{One};
 ghost use Rattle.irig_edit.specs.Edits.Exchanges.{exchange_by};
 ghost use Rattle.irig_edit.specs.Session.Keeping.{exchange_of};
 ghost use Rattle.irig_edit.specs.Session.Session.{LooksAfter, Steps};
-ghost use Rattle.irig_saved.specs.declared.single.Single.TheVariants.{Shift as Shifted};
 
-use crate::changes::single::{Shift as Move, Single};
 use crate::session::refusal::Refusal;
 use crate::session::session::Session;
 use crate::state::present::Present;
+use irig_saved::Single;
 
 /// Whether the pulses `i` to `j`, moved by `by` microseconds, leave the track.
 fn leaves(present: &Present, i: usize, j: usize, by: i64) -> bool
@@ -57,28 +56,24 @@ fn judge(present: &Present, i: usize, j: usize, by: i64) -> Result<(), Refusal>
 
 /// The pulses `i` to `j` as a shift by `by`, with the marks from the first to the last, if they can
 /// be moved.
-fn plan(present: &Present, i: usize, j: usize, by: i64) -> Result<Move, Refusal>
+fn plan(present: &Present, i: usize, j: usize, by: i64) -> Result<Single, Refusal>
     ensures refused { IfErr result (λ e. judgement_of (Shift i j by) present.now.state ≡ Some e) }
     ensures allowed { OnOk result (judgement_of (Shift i j by) present.now.state ≡ None) }
     ensures there { OnOk result (j ≤ length present.now.state.pulses) }
     ensures fits { IfOk result (λ m.
-        Fits present.now.state (One (Shifted (suc m.i) (suc m.j) m.by m.letters))) }
+        Fits present.now.state (One m)) }
     ensures becomes { IfOk result (λ m. Becomes (Shift i j by) present.now.state
-        (turned present.now.state (One (Shifted (suc m.i) (suc m.j) m.by m.letters))).0 j) }
+        (turned present.now.state (One m)).0 j) }
     ensures exchange { IfOk result (λ m.
-        exchange_of present.now.state (One (Shifted (suc m.i) (suc m.j) m.by m.letters))
+        exchange_of present.now.state (One m)
         ≡ exchange_by (Shift i j by) present.now.state) }
 {
     judge(present, i, j, by)?;
     let low = present.pulse(i).rise;
     let high = present.pulse(j).fall;
-    let letters = present.letters_from(low, high);
-    Ok(Move {
-        i: i - 1,
-        j: j - 1,
-        by,
-        letters,
-    })
+    let marks = present.letters_from(low, high);
+    let (i, j) = (i as u64, j as u64);
+    Ok(Single::Shift { i, j, by, marks })
 }
 
 impl Session {
@@ -92,6 +87,6 @@ impl Session {
         ensures looks { LooksAfter (Make (Shift i j by)) self.old result self.new }
     {
         let shift = plan(&self.present, i, j, by)?;
-        self.change(Single::Shift(shift), j)
+        self.change(shift, j)
     }
 }

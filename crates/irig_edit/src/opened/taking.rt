@@ -17,10 +17,9 @@ ghost use Rattle.irig_edit.specs.Opened.Stops.{HasTaken, IsStop, Told};
 ghost use Rattle.irig_edit.specs.Opened.Taken.{CanTake, CanTakeAll, step_of, steps_of};
 ghost use Rattle.irig_edit.specs.Opened.Walk.{ahead_of, changed, gone_along, gone_on, walk};
 
-use crate::opened::naming::single_named;
 use crate::opened::walk::Walk;
 use crate::session::session::Session;
-use irig_saved::{Saved, Steps};
+use irig_saved::{Change, Saved, Single, Steps};
 use irig_vcd::VcdFault;
 use std::alloc::{AllocError, Global};
 
@@ -159,50 +158,43 @@ impl Walk {
     }
 
     /// Makes the change of a step, stays at its cursor, and returns whether the change can be made.
-    fn make(&mut self, alloc: Global, change: irig_saved::Change) -> Result<bool, AllocError>
+    fn make(&mut self, alloc: Global, change: Change) -> Result<bool, AllocError>
         requires ahead { self.old.future ≡ [] }
         ensures { IfOk result (λ made. Told made
             (Fits self.old.state change × (self.new ≡ changed self.old change))
             (Fits self.old.state change → ⊥)) }
     {
         match change {
-            irig_saved::Change::One(single) => self.make_one(alloc, single),
-            irig_saved::Change::Group(singles) => self.make_all(alloc, singles.into_vec()),
+            Change::One(single) => self.make_one(alloc, single),
+            Change::Group(singles) => self.make_all(alloc, singles.into_vec()),
         }
     }
 
     /// Makes a single change.
-    fn make_one(&mut self, alloc: Global, name: irig_saved::Single) -> Result<bool, AllocError>
+    fn make_one(&mut self, alloc: Global, single: Single) -> Result<bool, AllocError>
         ensures { IfOk result (λ made. Told made
-            (FitsSingle self.old.state name × (self.new ≡ changed self.old (One name)))
-            (FitsSingle self.old.state name → ⊥)) }
+            (FitsSingle self.old.state single × (self.new ≡ changed self.old (One single)))
+            (FitsSingle self.old.state single → ⊥)) }
     {
-        let Some(single) = single_named(alloc, name) else {
-            return Ok(false);
-        };
         if !self.allows(&single) {
             return Ok(false);
         }
-        self.change(single)?;
+        self.change(alloc, single)?;
         Ok(true)
     }
 
     /// Makes single changes one after another, and makes one group of them.
-    fn make_all(
-        &mut self,
-        alloc: Global,
-        mut names: Vec<irig_saved::Single>,
-    ) -> Result<bool, AllocError>
+    fn make_all(&mut self, alloc: Global, mut singles: Vec<Single>) -> Result<bool, AllocError>
         requires ahead { self.old.future ≡ [] }
         ensures { IfOk result (λ made. Told made
-            (FitAll FitsSingle turned_single self.old.state names.items
-            × (self.new ≡ changed self.old (Group names.items)))
-            (FitAll FitsSingle turned_single self.old.state names.items → ⊥)) }
+            (FitAll FitsSingle turned_single self.old.state singles.items
+            × (self.new ≡ changed self.old (Group singles.items)))
+            (FitAll FitsSingle turned_single self.old.state singles.items → ⊥)) }
     {
-        let count = names.len();
-        names.reverse();
-        while let Some(name) = names.pop() {
-            match self.make_one(alloc, name) {
+        let count = singles.len();
+        singles.reverse();
+        while let Some(single) = singles.pop() {
+            match self.make_one(alloc, single) {
                 Ok(true) => {}
                 Ok(false) => return Ok(false),
                 Err(fault) => return Err(fault),

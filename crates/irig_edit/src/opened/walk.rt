@@ -7,7 +7,6 @@ ghost use Rattle.irig_journal.specs.History.{step, stepped_back, turned_round};
 ghost use Rattle.irig_journal.specs.Joining.{changes_of};
 ghost use Rattle.irig_edit.specs.Changes.Delta.{gathered, turned};
 ghost use Rattle.irig_saved.specs.declared.change.Change.TheVariants.{One};
-ghost use Rattle.irig_edit.specs.Changes.Held.{single_of};
 ghost use Rattle.irig_edit.specs.Changes.Single.{FitsSingle};
 ghost use Rattle.irig_edit.specs.Session.Keeping.{machine};
 ghost use Rattle.irig_edit.specs.Session.Session.{session_view};
@@ -15,10 +14,12 @@ ghost use Rattle.irig_edit.specs.State.State.{IsState};
 ghost use Rattle.irig_edit.specs.Opened.Taken.{CanTakeAll};
 ghost use Rattle.irig_edit.specs.Opened.Walk.{changed, walk};
 
-use crate::changes::single::Single;
+use crate::changes::turn::Turn;
 use crate::session::session::Session;
 use crate::state::present::Present;
+use irig_gap::Gap;
 use irig_journal::Journal;
+use irig_saved::Single;
 use std::alloc::{AllocError, Global};
 use std::marker::Model;
 
@@ -70,17 +71,19 @@ impl Walk {
 
     /// Whether a single change can be made.
     pub(crate) fn allows(&self, single: &Single) -> bool
-        ensures { IsTrue result ↔ FitsSingle self.now.state (single_of single.now) }
+        ensures { IsTrue result ↔ FitsSingle self.now.state single.now }
     {
         self.present.allows(single)
     }
 
     /// Makes a single change, and stays at its cursor.
-    pub(crate) fn change(&mut self, single: Single) -> Result<(), AllocError>
-        requires { FitsSingle self.old.state (single_of single) }
-        ensures { OnOk result (self.new ≡ changed self.old (One (single_of single))) }
+    pub(crate) fn change(&mut self, alloc: Global, single: Single) -> Result<(), AllocError>
+        requires { FitsSingle self.old.state single }
+        ensures { OnOk result (self.new ≡ changed self.old (One single)) }
     {
-        match self.journal.record(&mut self.present, single, self.cursor) {
+        let taken = Gap::new(alloc);
+        let turn = Turn { single, taken };
+        match self.journal.record(&mut self.present, turn, self.cursor) {
             Ok(()) => Ok(()),
             Err(_) => Err(AllocError),
         }

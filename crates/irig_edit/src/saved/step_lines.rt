@@ -2,21 +2,18 @@
 
 ghost use Rattle.std.specs.Prelude.{◌≡◌, ◌≤◌, ◌<◌, ◌++◌, [], IfOk, OnOk, false, length};
 ghost use Rattle.std.specs.Prelude.{true, vec_len};
-ghost use Rattle.std.specs.List.{AllByRecursion};
 ghost use Rattle.irig_journal.specs.Held.{held_of};
 ghost use Rattle.irig_journal.specs.History.{step};
 ghost use Rattle.irig_saved.specs.Lines.{text_of};
 ghost use Rattle.irig_saved.specs.SavedText.{step_lines};
-ghost use Rattle.irig_edit.specs.Changes.Delta.{singles_of};
 ghost use Rattle.irig_edit.specs.Changes.Held.{delta_of, deltas_of};
-ghost use Rattle.irig_saved.specs.Numbers.{NumbersOfSingle};
-ghost use Rattle.irig_edit.specs.Saved.Saved.{StepsCanBeNamed, saved_step};
+ghost use Rattle.irig_edit.specs.Saved.Saved.{saved_step};
 ghost use Rattle.irig_edit.specs.Saved.SavedParts.{steps_text};
 
-use crate::changes::single::Single;
+use crate::changes::turn::Turn;
 use crate::saved::change_lines::ChangeLines;
 use irig_journal::{Step, StepsLeft};
-use irig_saved::{put_at, put_group};
+use irig_saved::put_step;
 use std::alloc::AllocError;
 use std::marker::Model;
 
@@ -24,26 +21,22 @@ use std::marker::Model;
 #[derive(Drop)]
 pub(crate) struct StepLines<'s> {
     changes: ChangeLines<'s>,
-    left: StepsLeft<'s, Single>,
+    left: StepsLeft<'s, Turn>,
 }
 
 impl<'s> Model for StepLines<'s> {
     ghost use Rattle.std.specs.Prelude.{◌++◌, List, ℕ};
     ghost use Rattle.irig_edit.specs.Changes.Held.{deltas_of};
-    ghost use Rattle.irig_edit.specs.Saved.Saved.{StepsCanBeNamed};
     ghost use Rattle.irig_edit.specs.Saved.SavedParts.{steps_text};
 
     ghost Value = { List ℕ };
 
     ghost view = { λ s. s.changes ++ steps_text (deltas_of s.left) };
-
-    ghost invariant = { λ s. StepsCanBeNamed (deltas_of s.left) };
 }
 
 impl<'s> StepLines<'s> {
     /// The lines of all steps, one after another.
-    pub(crate) fn new(steps: StepsLeft<'s, Single>) -> StepLines<'s>
-        requires { StepsCanBeNamed (deltas_of steps) }
+    pub(crate) fn new(steps: StepsLeft<'s, Turn>) -> StepLines<'s>
         ensures { result ≡ steps_text (deltas_of steps.entry) }
     {
         StepLines {
@@ -77,17 +70,15 @@ impl<'s> StepLines<'s> {
 /// Begins the next step. Returns whether none is left.
 fn begin_next<'s>(
     changes: &mut ChangeLines<'s>,
-    left: &mut StepsLeft<'s, Single>,
+    left: &mut StepsLeft<'s, Turn>,
     block: &mut Vec<u8>,
 ) -> Result<bool, AllocError>
     requires over { changes.old ≡ [] }
-    requires named { StepsCanBeNamed (deltas_of left.old) }
     ensures bytes { OnOk result (block.new.items ++ (changes.new ++ steps_text (deltas_of left.new))
         ≡ block.old.items ++ steps_text (deltas_of left.old)) }
     ensures less { IfOk result (λ ended. ended ≡ false → length left.new < length left.old) }
     ensures end { IfOk result (λ ended. ended ≡ true
         → (changes.new ≡ []) × ((left.new ≡ []) × (vec_len block.new ≡ vec_len block.old))) }
-    ensures named { StepsCanBeNamed (deltas_of left.new) }
 {
     if left.len() == 0 {
         return Ok(true);
@@ -97,15 +88,12 @@ fn begin_next<'s>(
 }
 
 /// Writes the first line of a step, and of a group the second. Returns the lines of its changes.
-fn begin_step<'s>(text: &mut Vec<u8>, kept: Step<'s, Single>) -> Result<ChangeLines<'s>, AllocError>
+fn begin_step<'s>(text: &mut Vec<u8>, kept: Step<'s, Turn>) -> Result<ChangeLines<'s>, AllocError>
     requires alone { kept.is_group ≡ false → length kept.changes.now ≡ 1 }
-    requires named { AllByRecursion NumbersOfSingle (singles_of (delta_of (held_of kept).parts)) }
     ensures { IfOk result (λ left. text.new.items ++ left ≡ text.old.items ++ text_of (step_lines
         (saved_step (step (delta_of (held_of kept.entry).parts) kept.entry.cursor)))) }
 {
-    put_at(text, kept.cursor as u64)?;
-    if kept.is_group {
-        put_group(text, kept.changes.len() as u64)?;
-    }
+    let changes = kept.changes.len() as u64;
+    put_step(text, kept.cursor as u64, kept.is_group, changes)?;
     Ok(ChangeLines::new(kept.changes))
 }

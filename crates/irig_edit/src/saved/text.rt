@@ -2,18 +2,15 @@
 
 ghost use Rattle.std.specs.Prelude.{◌≡◌, ◌≤◌, ◌++◌, ℕ, List, [], IfOk, OnOk, false, reverse};
 ghost use Rattle.std.specs.Prelude.{true, vec_len};
-ghost use Rattle.irig_saved.specs.Lines.{text_of};
-ghost use Rattle.irig_edit.specs.Saved.Saved.{StepsCanBeNamed};
-ghost use Rattle.irig_edit.specs.Changes.Held.{deltas_of};
 ghost use Rattle.irig_edit.specs.Saved.SavedParts.{middle_text, opening_text, parts_left};
-ghost use Rattle.irig_edit.specs.Saved.SavedParts.{parts_text, present_lines};
+ghost use Rattle.irig_edit.specs.Saved.SavedParts.{parts_text};
 ghost use Rattle.irig_edit.specs.Saved.Stages.{next_stage, stage_left, text_after};
 
 use crate::saved::stage::Stage;
 use crate::saved::step_lines::StepLines;
 use crate::state::present::Present;
 use irig_journal::Journal;
-use irig_saved::{put_cursor, put_format, put_future, put_marks, put_name, put_past};
+use irig_saved::{put_future, put_head};
 use irig_text::Text;
 use irig_track::TrackText;
 use std::alloc::AllocError;
@@ -49,8 +46,6 @@ impl<'s> SavedText<'s> {
         cursor: usize,
         journal: &'s Journal<Present>,
     ) -> SavedText<'s>
-        requires back { StepsCanBeNamed (deltas_of (reverse journal.now.past)) }
-        requires on { StepsCanBeNamed (deltas_of journal.now.future) }
         ensures { result ≡ parts_text present.now.state cursor journal.now }
     {
         SavedText {
@@ -156,19 +151,11 @@ fn put_opening(
         ≡ text.old.items ++ opening_text present.now.state cursor journal.now) }
 {
     text.extend_from_slice(b"$comment\n")?;
-    put_present(text, present, cursor)?;
-    put_past(text, journal.steps_back() as u64)
-}
-
-/// Writes the lines of the present, without its pulses: format, cursor and marks, after the
-/// journal's name.
-fn put_present(text: &mut Vec<u8>, present: &Present, cursor: usize) -> Result<(), AllocError>
-    ensures { OnOk result (text.new.items
-        ≡ text.old.items ++ text_of (present_lines present.now.state cursor)) }
-{
-    let format = present.format();
-    put_name(text)?;
-    put_format(text, format.kind(), format.expression())?;
-    put_cursor(text, cursor as u64)?;
-    put_marks(text, &present.marks)
+    put_head(
+        text,
+        present.format(),
+        cursor as u64,
+        &present.marks,
+        journal.steps_back() as u64,
+    )
 }

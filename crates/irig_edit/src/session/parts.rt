@@ -1,14 +1,14 @@
 //! What a session keeps, taken apart by patterns: a type that keeps more does not compile here.
 
-use crate::changes::single::{Shift, Single};
-use crate::changes::splice::Splice;
+use crate::changes::turn::Turn;
 use crate::session::session::Session;
 use crate::state::marks::{Letters, Marks};
 use crate::state::present::Present;
-use irig_codes::Format;
+use irig_codes::{Format, Kind};
 use irig_gap::Gap;
 use irig_index::Index;
 use irig_journal::{Journal, Step};
+use irig_saved::{Letter, Pulses, Single};
 use irig_track::{Pulse, Track};
 use std::alloc::Global;
 
@@ -47,7 +47,7 @@ fn state_parts(present: &Present) {
 }
 
 /// A step keeps its single changes, whether they are a group, and a cursor.
-fn step_parts(step: &Step<'_, Single>) {
+fn step_parts(step: &Step<'_, Turn>) {
     let Step {
         changes,
         is_group,
@@ -55,45 +55,40 @@ fn step_parts(step: &Step<'_, Single>) {
     } = step;
     let _is_group: &bool = is_group;
     let _cursor: &usize = cursor;
-    if let Some(single) = changes.first() {
-        single_parts(single);
+    if let Some(turn) = changes.first() {
+        turn_parts(turn);
     }
 }
 
-/// A single change is of one of these kinds.
+/// A turn keeps a single change, and a buffer for the pulses that go.
+fn turn_parts(turn: &Turn) {
+    let Turn { single, taken } = turn;
+    let _taken: &Gap<Pulse> = taken;
+    single_parts(single);
+}
+
+/// A single change is of one of these kinds: numbers, and for a splice the pulses that come.
 fn single_parts(single: &Single) {
     match single {
-        Single::Splice(splice) => splice_parts(splice),
-        Single::Toggle { a: _, b: _ } => {}
-        Single::Shift(shift) => shift_parts(shift),
-        Single::SetFormat(format) => {
-            let _format: &Format = format;
+        Single::Splice { at, count, put } => {
+            let _at: &u64 = at;
+            let _count: &u64 = count;
+            let _put: &Pulses = put;
         }
-        Single::SetMark { letter: _, time } => {
+        Single::Toggle { a: _, b: _ } => {}
+        Single::Shift { i, j, by, marks } => {
+            let _first: &u64 = i;
+            let _last: &u64 = j;
+            let _by: &i64 = by;
+            let _marks: &Letters = marks;
+        }
+        Single::SetFormat { kind, expression } => {
+            let _kind: &Kind = kind;
+            let _expression: &u8 = expression;
+        }
+        Single::SetMark { letter, time } => {
+            let _letter: &Letter = letter;
             let _time: &Option<u64> = time;
         }
     }
-}
-
-/// A splice keeps two numbers, and buffers for the pulses that come and those that go.
-fn splice_parts(splice: &Splice) {
-    let Splice {
-        at,
-        count,
-        put,
-        taken,
-    } = splice;
-    let _at: &usize = at;
-    let _count: &usize = count;
-    let _put: &Gap<Pulse> = put;
-    let _taken: &Gap<Pulse> = taken;
-}
-
-/// A shift keeps numbers, and for each letter whether its mark moves.
-fn shift_parts(shift: &Shift) {
-    let Shift { i, j, by, letters } = shift;
-    let _i: &usize = i;
-    let _j: &usize = j;
-    let _by: &i64 = by;
-    let _letters: &Letters = letters;
 }

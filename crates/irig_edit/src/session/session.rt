@@ -14,20 +14,18 @@ ghost use Rattle.irig_edit.specs.Edits.Becoming.{Becomes, judgement_of};
 ghost use Rattle.irig_edit.specs.Session.Calls.{Edit};
 ghost use Rattle.irig_edit.specs.Changes.Delta.{Fits, turned};
 ghost use Rattle.irig_saved.specs.declared.change.Change.TheVariants.{One};
-ghost use Rattle.irig_edit.specs.Changes.Held.{single_of};
 ghost use Rattle.irig_edit.specs.Session.Calls.Call.{Make, Undo, Redo, Go};
 ghost use Rattle.irig_edit.specs.Session.Calls.Edit.{SetFormat, SetMark};
 ghost use Rattle.irig_saved.specs.declared.single.Single.TheVariants.{Splice as Spliced};
 ghost use Rattle.irig_track.specs.Splices.{spliced, CanSplice};
 
-use crate::changes::single::Single;
-use crate::changes::splice::Splice;
+use crate::changes::turn::Turn;
 use crate::session::refusal::Refusal;
 use crate::state::present::Present;
 use irig_codes::Format;
 use irig_gap::Gap;
 use irig_journal::{Journal, JournalFault};
-use irig_track::Pulse;
+use irig_saved::{Letter, Pulses, Single};
 use irig_vcd::Recording;
 use std::alloc::{AllocError, Global};
 use std::marker::Model;
@@ -86,7 +84,8 @@ impl Session {
         ensures looks { LooksAfter (Make (SetFormat format)) self.old result self.new }
     {
         let cursor = self.cursor;
-        self.change(Single::SetFormat(format), cursor)
+        let (kind, expression) = (format.kind(), format.expression());
+        self.change(Single::SetFormat { kind, expression }, cursor)
     }
 
     /// Sets the mark of a letter a to z to a time in microseconds, or clears it.
@@ -98,7 +97,7 @@ impl Session {
         if !self.present.may_mark(time) {
             return Err(Refusal::OutOfRange);
         }
-        let letter = (letter - b'a') as usize;
+        let letter = Letter::new(letter - b'a');
         let cursor = self.cursor;
         self.change(Single::SetMark { letter, time }, cursor)
     }
@@ -157,49 +156,51 @@ impl Session {
         &mut self,
         first: usize,
         count: usize,
-        put: Gap<Pulse>,
+        put: Pulses,
         cursor: usize,
     ) -> Result<(), Refusal>
         requires first { 1 ≤ first }
-        requires can { CanSplice self.old.present.state.micros (first - 1) count put.items
+        requires can { CanSplice self.old.present.state.micros (first - 1) count put
             self.old.present.state.pulses }
         requires cursor { cursor ≤
-            length (spliced (first - 1) count put.items self.old.present.state.pulses) }
+            length (spliced (first - 1) count put self.old.present.state.pulses) }
         ensures step { (edit : Edit) → judgement_of edit self.old.present.state ≡ None
             → Becomes edit self.old.present.state (with_pulses
-            (spliced (first - 1) count put.items self.old.present.state.pulses)
+            (spliced (first - 1) count put self.old.present.state.pulses)
             self.old.present.state) cursor
-            → exchange count (length put.items) (turned self.old.present.state
-            (One (Spliced first count put.items))).1 (One (Spliced first count put.items))
+            → exchange count (length put) (turned self.old.present.state
+            (One (Spliced first count put))).1 (One (Spliced first count put))
             ≡ exchange_by edit self.old.present.state
             → Steps (Make edit) self.old result self.new }
         ensures looks { LooksWithin self.new.present.made.forth self.old result self.new }
     {
-        let splice = Splice::new(self.alloc, first - 1, count, put);
-        self.change(Single::Splice(splice), cursor)
+        let (at, count) = (first as u64, count as u64);
+        self.change(Single::Splice { at, count, put }, cursor)
     }
 
     /// Makes a change, as a step that leaves the cursor at a place. The memory that its undo and
     /// its redo take is asked for here.
     pub(crate) fn change(&mut self, single: Single, cursor: usize) -> Result<(), Refusal>
-        requires fits { Fits self.old.present.state (One (single_of single)) }
+        requires fits { Fits self.old.present.state (One single) }
         requires cursor { cursor ≤
-            length (turned self.old.present.state (One (single_of single))).0.pulses }
+            length (turned self.old.present.state (One single)).0.pulses }
         ensures step { (edit : Edit) → judgement_of edit self.old.present.state ≡ None
             → Becomes edit self.old.present.state
-            (turned self.old.present.state (One (single_of single))).0 cursor
-            → exchange_of self.old.present.state (One (single_of single))
+            (turned self.old.present.state (One single)).0 cursor
+            → exchange_of self.old.present.state (One single)
             ≡ exchange_by edit self.old.present.state
             → Steps (Make edit) self.old result self.new }
         ensures looks { LooksWithin self.new.present.made.forth self.old result self.new }
         ensures ok { OnOk result (grouped_in self.new ≡ recorded_over (grouped_in self.old)
-            (kept (turned self.old.present.state (One (single_of single))).0 cursor
-            (exchange_of self.old.present.state (One (single_of single))))) }
+            (kept (turned self.old.present.state (One single)).0 cursor
+            (exchange_of self.old.present.state (One single)))) }
         ensures err { OnErr result ((self.new ≡ self.old) × IsErrOf result Refusal.OutOfMemory) }
     {
         let before = self.present.looks();
         let place = self.cursor;
-        match self.journal.record(&mut self.present, single, place) {
+        let taken = Gap::new(self.alloc);
+        let turn = Turn { single, taken };
+        match self.journal.record(&mut self.present, turn, place) {
             Ok(()) => {
                 self.cursor = cursor;
                 self.last_looks = self.present.looks_since(before);

@@ -8,15 +8,15 @@ use Rattle.irig_edit.specs.Changes.Delta.{gathered, singles_of}
 use Rattle.irig_saved.specs.declared.change.Change.TheVariants as change
 use Rattle.irig_edit.specs.Changes.Held.{delta_of, single_of}
 use Rattle.irig_saved.specs.declared.single.Single as saved
-use Rattle.irig_edit.specs.declared.changes.single.Single.{Single}
+use Rattle.irig_edit.specs.declared.changes.turn.Turn.{Turn}
 
 -- the single changes of a step
-pub singles_of-delta_of : (p : Parts Single) → map single_of (parts_in p) ≡ singles_of (delta_of p)
+pub singles_of-delta_of : (p : Parts Turn) → map single_of (parts_in p) ≡ singles_of (delta_of p)
 singles_of-delta_of (Alone single) = refl
 singles_of-delta_of (Group singles) = refl
 
 -- and of several
-parts_of_all : (ps : List (Parts Single))
+parts_of_all : (ps : List (Parts Turn))
     → map single_of (flat_map parts_in ps) ≡ flat_map singles_of (map delta_of ps)
 parts_of_all [] = refl
 parts_of_all (p ∷ ps) =
@@ -24,6 +24,6 @@ parts_of_all (p ∷ ps) =
     ∙ ap₂ (λ (xs ys : List saved.Single). xs ++ ys) (singles_of-delta_of p) (parts_of_all ps)
 
 -- the group of the changes of several steps is what their changes are gathered to
-pub delta_of-group : (ps : List (Parts Single))
+pub delta_of-group : (ps : List (Parts Turn))
     → delta_of (Group (flat_map parts_in ps)) ≡ gathered (map delta_of ps)
 delta_of-group ps = ap change.Group (parts_of_all ps)

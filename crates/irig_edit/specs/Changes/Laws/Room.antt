@@ -5,7 +5,7 @@ use Rattle.irig_edit.specs.State.Places.{HoldsState, IsWithin, Places}
 use Rattle.irig_edit.specs.Changes.Room.{HasRoomFor, passing}
 use Rattle.irig_edit.specs.Changes.Single.{turned_single}
 use Rattle.irig_edit.specs.State.State.{State}
-use Rattle.irig_edit.specs.declared.changes.single.Single.{Single}
+use Rattle.irig_edit.specs.declared.changes.turn.Turn.{Turn}
 
 -- more places hold a state too
 pub holds_wider : (a b : Places) (n : ℕ) (s : State) → IsWithin a b → HoldsState a n s
@@ -16,7 +16,7 @@ holds_wider a b n s within holds = record {
 }
 
 -- room in some places is room in those and more
-pub HasRoomFor-wider : (a b : Places) (s : State) (x : Single) → IsWithin a b → HasRoomFor a s x
+pub HasRoomFor-wider : (a b : Places) (s : State) (x : Turn) → IsWithin a b → HasRoomFor a s x
     → HasRoomFor b s x
 HasRoomFor-wider a b s x within room = record {
   takes = room.takes;

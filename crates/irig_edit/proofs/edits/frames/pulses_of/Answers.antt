@@ -36,3 +36,13 @@ loop-k-preserved c =
     let step = frames_step c.args.format c.args.start (frame_elements c.args.format c.args.moment c.args.control) c.loop-k.k c.loop-k.pulses
     c.put_frame.new.pulses c.encode-elements.result c.loop-k.invariant.0 same c.put_frame.ensures in
     (step, omega (arith, ap (λ (w : GapView Pulse). w.capacity) c.put_frame.ensures, c.loop-k.invariant.1))
+
+pub of-requires : goal.of-requires
+of-requires c =
+    omega (
+      arith,
+      frames_room c.args.format c.args.start (frame_elements c.args.format c.args.moment c.args.control) c.loop-k.k c.loop-k.pulses
+          c.loop-k.invariant.0,
+      c.loop-k.invariant.1,
+      c.loop-k-test.false,
+    )

@@ -1,11 +1,13 @@
-use Rattle.std.proofs.Common.{suc, ℕ, rules, ◌≡◌, ◌+◌, ◌-◌, ℤ, neg_ℤ, List, Bool, length, map, ap, sym, ◌∙◌, subst, w64, arith}
+use Rattle.std.proofs.Common.{suc, ℕ, rules, ◌≡◌, ◌+◌, ◌-◌, ℤ, neg_ℤ, List, Bool, length, map, ap, sym, ◌∙◌, subst, to_z, of_z, w64, arith, ◌≤◌}
 use Rattle.std.proofs.lemmas.Int.{to_z-of_z}
 use Rattle.irig_vcd.specs.declared.pulse.Pulse.{Pulse}
 use Rattle.irig_track.specs.Shifts.{CanShift, count_to}
 use Rattle.irig_edit.specs.Edits.Becoming.{Becomes}
 use Rattle.irig_edit.specs.Session.Calls.Edit.{Shift}
 use Rattle.irig_saved.specs.declared.change.Change.TheVariants.{One}
-use Rattle.irig_edit.specs.Changes.Single.{turned_single}
+use Rattle.irig_edit.specs.Changes.Single.{FitsSingle, turned_single}
+use Rattle.irig_edit.specs.Edits.Exchanges.{exchange_by}
+use Rattle.irig_edit.specs.Session.Keeping.{exchange_of}
 use Rattle.irig_saved.specs.declared.single.Single.TheVariants.{Shift as Shifted}
 use Rattle.irig_edit.specs.Edits.Edits.{pulse_of}
 use Rattle.irig_edit.specs.Changes.Delta.{turned}
@@ -14,6 +16,13 @@ use Rattle.irig_edit.specs.Changes.Looks.{window}
 use Rattle.irig_edit.specs.State.Marks.{AllMayMove, stands}
 use Rattle.irig_edit.proofs.EditLemmas.ShiftedStates.{marks_may, shifted_becomes}
 use Rattle.irig_edit.proofs.edits.shift.plan.Goals as goal
+
+-- what holds of pulses that are one more than the places before them
+numbered : (P : ℕ → ℕ → Type 0) (i j : ℕ) → 1 ≤ i → i ≤ j → P (suc (i - 1)) (suc (j - 1)) → P i j
+numbered P i j first order holds =
+    let near : suc (i - 1) ≡ i = omega (arith, first) in
+    let far : suc (j - 1) ≡ j = omega (arith, first, order) in
+    subst (λ (n : ℕ). P n j) near (subst (λ (m : ℕ). P (suc (i - 1)) m) far holds)
 
 pub returns-clause-fits : goal.returns-clause-fits
 returns-clause-fits c =
@@ -26,13 +35,14 @@ returns-clause-fits c =
     let can = subst (λ (e : ℤ). CanShift s.micros (i - 1) (j - 1) e s.pulses) passed c.in_ok-judge.ensures.can in
     let rise = ap (λ (p : Pulse). p.rise) c.pulse-low.ensures.pulse in
     let fall = ap (λ (p : Pulse). p.fall) c.pulse-high.ensures.pulse in
-    let letters : c.letters_from-letters.result ≡ map (stands (pulse_of i s).rise (pulse_of j s).fall) s.marks =
-    c.letters_from-letters.ensures ∙ (λ k. map (stands (rise k) (fall k)) s.marks) in
+    let letters : c.letters_from-marks.result ≡ map (stands (pulse_of i s).rise (pulse_of j s).fall) s.marks =
+    c.letters_from-marks.ensures ∙ (λ k. map (stands (rise k) (fall k)) s.marks) in
     let may = marks_may i j d s c.pulse-low.ensures.state there.0 there.1 there.2 can in
-    let P : ℤ → Type 0 = λ e. CanShift s.micros (i - 1) (j - 1) e s.pulses × AllMayMove s.micros e c.letters_from-letters.result s.marks
-    × (length c.letters_from-letters.result ≡ 26) in
-    let long : length c.letters_from-letters.result ≡ 26 = search rules in
-    subst P (sym passed) (can, subst (λ (ls : List Bool). AllMayMove s.micros d ls s.marks) (sym letters) may, long)
+    let P : ℤ → Type 0 = λ e. CanShift s.micros (i - 1) (j - 1) e s.pulses × AllMayMove s.micros e c.letters_from-marks.result s.marks
+    × (length c.letters_from-marks.result ≡ 26) in
+    let long : length c.letters_from-marks.result ≡ 26 = search rules in
+    let fits = subst P (sym passed) (can, subst (λ (ls : List Bool). AllMayMove s.micros d ls s.marks) (sym letters) may, long) in
+    numbered (λ n m. FitsSingle s (Shifted n m (to_z w64 (of_z w64 d)) c.letters_from-marks.result)) i j there.0 there.1 fits
 
 pub returns-clause-becomes : goal.returns-clause-becomes
 returns-clause-becomes c =
@@ -45,11 +55,14 @@ returns-clause-becomes c =
     let can = subst (λ (e : ℤ). CanShift s.micros (i - 1) (j - 1) e s.pulses) passed c.in_ok-judge.ensures.can in
     let rise = ap (λ (p : Pulse). p.rise) c.pulse-low.ensures.pulse in
     let fall = ap (λ (p : Pulse). p.fall) c.pulse-high.ensures.pulse in
-    let letters : c.letters_from-letters.result ≡ map (stands (pulse_of i s).rise (pulse_of j s).fall) s.marks =
-    c.letters_from-letters.ensures ∙ (λ k. map (stands (rise k) (fall k)) s.marks) in
-    let becomes = shifted_becomes i j d s c.pulse-low.ensures.state there.0 there.1 there.2 can in
-    let named = subst (λ (ls : List Bool). Becomes (Shift i j d) s (turned_single s (Shifted (suc (i - 1)) (suc (j - 1)) d ls)).0 j) (sym letters) becomes in
-    subst (λ (e : ℤ). Becomes (Shift i j d) s (turned_single s (Shifted (suc (i - 1)) (suc (j - 1)) e c.letters_from-letters.result)).0 j) (sym passed) named
+    let letters : c.letters_from-marks.result ≡ map (stands (pulse_of i s).rise (pulse_of j s).fall) s.marks =
+    c.letters_from-marks.ensures ∙ (λ k. map (stands (rise k) (fall k)) s.marks) in
+    let moved = shifted_becomes i j d s c.pulse-low.ensures.state there.0 there.1 there.2 can in
+    let named = subst (λ (ls : List Bool). Becomes (Shift i j d) s (turned_single s (Shifted (suc (i - 1)) (suc (j - 1)) d ls)).0 j) (sym letters) moved in
+    let becomes = subst (λ (e : ℤ). Becomes (Shift i j d) s (turned_single s (Shifted (suc (i - 1)) (suc (j - 1)) e c.letters_from-marks.result)).0 j)
+    (sym passed) named in
+    numbered (λ n m. Becomes (Shift i j d) s (turned_single s (Shifted n m (to_z w64 (of_z w64 d)) c.letters_from-marks.result)).0 j) i j there.0 there.1
+    becomes
 
 pub returns-clause-exchange : goal.returns-clause-exchange
 returns-clause-exchange c =
@@ -61,13 +74,14 @@ returns-clause-exchange c =
     let passed = to_z-of_z w64 d c.ranges.by in
     let rise = ap (λ (p : Pulse). p.rise) c.pulse-low.ensures.pulse in
     let fall = ap (λ (p : Pulse). p.fall) c.pulse-high.ensures.pulse in
-    let letters : c.letters_from-letters.result ≡ map (stands (pulse_of i s).rise (pulse_of j s).fall) s.marks =
-    c.letters_from-letters.ensures ∙ (λ k. map (stands (rise k) (fall k)) s.marks) in
+    let letters : c.letters_from-marks.result ≡ map (stands (pulse_of i s).rise (pulse_of j s).fall) s.marks =
+    c.letters_from-marks.ensures ∙ (λ k. map (stands (rise k) (fall k)) s.marks) in
     let size : count_to (i - 1) (j - 1) ≡ j + 1 - i = omega (arith, there.0, there.1) in
     let near : suc (i - 1) ≡ i = omega (arith, there.0) in
     let far : suc (j - 1) ≡ j = omega (arith, there.0, there.1) in
     let letters_are = map (stands (pulse_of i s).rise (pulse_of j s).fall) s.marks in
     let most = window (j + 1 - i) in
     let both : ℕ → ℕ → Exchange = λ n m. holding_none most most (turned s (One (Shifted n m d letters_are))).1 (One (Shifted n m d letters_are)) in
-    (λ k. holding_none (window (size k)) (window (size k)) (One (Shifted (suc (i - 1)) (suc (j - 1)) (neg_ℤ (passed k)) (letters k)))
-    (One (Shifted (suc (i - 1)) (suc (j - 1)) (passed k) (letters k)))) ∙ (λ k. both (near k) (far k))
+    numbered (λ n m. exchange_of s (One (Shifted n m (to_z w64 (of_z w64 d)) c.letters_from-marks.result)) ≡ exchange_by (Shift i j d) s) i j there.0 there.1
+    ((λ k. holding_none (window (size k)) (window (size k)) (One (Shifted (suc (i - 1)) (suc (j - 1)) (neg_ℤ (passed k)) (letters k)))
+    (One (Shifted (suc (i - 1)) (suc (j - 1)) (passed k) (letters k)))) ∙ (λ k. both (near k) (far k)))

@@ -4,7 +4,7 @@ use Rattle.irig_journal.specs.Journal.{past_of, future_of}
 use Rattle.irig_journal.specs.Machine.{Machine, Kept}
 use Rattle.irig_saved.specs.declared.change.Change.{Change}
 use Rattle.irig_saved.specs.declared.change.Change.TheVariants.{One}
-use Rattle.irig_edit.specs.Changes.Held.{delta_of, single_of}
+use Rattle.irig_edit.specs.Changes.Held.{delta_of}
 use Rattle.irig_edit.specs.State.State.{State}
 use Rattle.irig_edit.specs.Opened.Walk.{changed, walk}
 use Rattle.irig_edit.proofs.opened.walk.Walk.change.Goals as goal
@@ -12,7 +12,7 @@ use Rattle.irig_edit.proofs.opened.walk.Walk.change.Goals.{in-Ok, in-Err}
 
 pub returns : goal.returns
 returns c =
-    let d = One (single_of c.args.single) in
+    let d = One c.args.single in
     elim c.match-record.branch [
       | in-Ok w ↦
           let stands = ap (λ (m : Machine (Kept State)). m.present.state) (w.in-Ok.ensures.machine 0) in

@@ -2,9 +2,9 @@ use Rattle.std.proofs.Common.{length, reverse}
 use Rattle.irig_edit.proofs.OpenedLemmas.TakenGroups.{MadeSoFar}
 use Rattle.irig_edit.proofs.opened.walk.Walk.make_all.Given as goal
 
--- the single changes made so far, and the names that are left
-abbrev pub invariant-loop-name : goal.invariant-loop-name
-invariant-loop-name l = MadeSoFar l.fn.self l.fn.names.items l.self (reverse l.names.items)
+-- the single changes made so far, and those that are left
+abbrev pub invariant-loop-single : goal.invariant-loop-single
+invariant-loop-single l = MadeSoFar l.fn.self l.fn.singles.items l.self (reverse l.singles.items)
 
-abbrev pub decreases-loop-name : goal.decreases-loop-name
-decreases-loop-name l = length l.names.items
+abbrev pub decreases-loop-single : goal.decreases-loop-single
+decreases-loop-single l = length l.singles.items

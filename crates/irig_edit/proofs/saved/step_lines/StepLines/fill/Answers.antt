@@ -7,13 +7,10 @@ use Rattle.irig_edit.proofs.saved.step_lines.StepLines.fill.Goals as goal
 pub loop-ended-preserved : goal.loop-ended-preserved
 loop-ended-preserved c =
     let inside = c.loop-ended.self-inside in
-    record {
-      given = c.in-Ok-false.ensures.bytes
-          ∙ (ended c.loop-ended.block.items c.fill.new.block.items inside.changes c.fill.new.self (steps_text (deltas_of inside.left))
-          c.in-Ok-true.ensures.bytes (c.in-Ok-true.ensures.end c.in-Ok-true.field-0-test)
-          ∙ c.loop-ended.invariant.given);
-      named = c.in-Ok-false.ensures.named;
-    }
+    c.in-Ok-false.ensures.bytes
+    ∙ (ended c.loop-ended.block.items c.fill.new.block.items inside.changes c.fill.new.self (steps_text (deltas_of inside.left))
+    c.in-Ok-true.ensures.bytes (c.in-Ok-true.ensures.end c.in-Ok-true.field-0-test)
+    ∙ c.loop-ended.invariant)
 
 pub returns-in-Ok-true-begin_next-clause-bytes : goal.returns-in-Ok-true-begin_next-clause-bytes
 returns-in-Ok-true-begin_next-clause-bytes c =
@@ -21,4 +18,4 @@ returns-in-Ok-true-begin_next-clause-bytes c =
     c.in-Ok-true-begin_next.ensures.bytes
     ∙ (ended c.loop-ended.block.items c.fill.new.block.items inside.changes c.fill.new.self (steps_text (deltas_of inside.left))
     c.in-Ok-true.ensures.bytes (c.in-Ok-true.ensures.end c.in-Ok-true.field-0-test)
-    ∙ c.loop-ended.invariant.given)
+    ∙ c.loop-ended.invariant)

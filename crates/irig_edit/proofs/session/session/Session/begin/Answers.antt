@@ -8,7 +8,7 @@ use Rattle.irig_edit.specs.Session.Machine.{Steps}
 use Rattle.irig_edit.specs.Changes.Ready.{StepsAreReady}
 use Rattle.irig_edit.specs.Edits.Refusals.{first_of, refusal_of}
 use Rattle.irig_edit.specs.Session.Session.{SessionView, grouped_in}
-use Rattle.irig_edit.specs.declared.changes.single.Single.{Single}
+use Rattle.irig_edit.specs.declared.changes.turn.Turn.{Turn}
 use Rattle.irig_edit.specs.declared.session.refusal.Refusal.TheVariants.{GroupOpen}
 use Rattle.irig_edit.proofs.SessionLemmas.Endings.{grouped-began, is_open-some}
 use Rattle.irig_edit.proofs.SessionLemmas.Floors.{IsGrouped-begun}
@@ -32,7 +32,7 @@ invariant_of-self c =
           (future_of delta_of t)
           s.journal.floor t.floor (w.in-Ok.ensures.grouped s.present.state) past future in
           (IsGrouped-begun (grouped_at s.present.state s.cursor s.journal) (grouped_at s.present.state s.cursor t) c.self.invariant.0 step, ready)
-      | in-Err w ↦ (subst (λ (j : Journaled Single). IsGrouped (grouped_at s.present.state s.cursor j)) (sym w.in-Err.ensures.err.1) c.self.invariant.0, ready)
+      | in-Err w ↦ (subst (λ (j : Journaled Turn). IsGrouped (grouped_at s.present.state s.cursor j)) (sym w.in-Err.ensures.err.1) c.self.invariant.0, ready)
     ]
 
 pub returns-clause-step : goal.returns-clause-step
@@ -52,6 +52,6 @@ returns-clause-step c =
           let open_now = is_open-some (machine_at s.present.state s.cursor s.journal) s.journal.floor (c.begin.ensures.open.0 failed) in
           rw w.result-is (
             ap (λ (v : SessionView). refusal_of Begin (grouped_in v)) (sym c.self.view_is) ∙ ap (λ (test : Bool). first_of ((test, GroupOpen) ∷ [])) open_now,
-            ap (λ (j : Journaled Single). grouped_at s.present.state s.cursor j) w.in-Err.ensures.err.1 ∙ ap grouped_in c.self.view_is,
+            ap (λ (j : Journaled Turn). grouped_at s.present.state s.cursor j) w.in-Err.ensures.err.1 ∙ ap grouped_in c.self.view_is,
           )
     ]

@@ -6,7 +6,7 @@ use Rattle.irig_journal.specs.Machine as journal
 use Rattle.irig_edit.specs.Changes.Delta.{Fits, turned}
 use Rattle.irig_edit.specs.Changes.Laws.Delta.{IsState-turned}
 use Rattle.irig_saved.specs.declared.change.Change.TheVariants.{One}
-use Rattle.irig_edit.specs.Changes.Held.{delta_of, deltas_of, single_of}
+use Rattle.irig_edit.specs.Changes.Held.{delta_of, deltas_of}
 use Rattle.irig_edit.specs.Session.Keeping.{exchange_of, machine, machine_at}
 use Rattle.irig_edit.specs.Session.Kept.{Kept, kept}
 use Rattle.irig_edit.specs.Session.Limits.{IsGrouped}
@@ -22,12 +22,12 @@ use Rattle.irig_edit.proofs.session.session.Session.change.Goals as goal
 pub record-requires-clause-applies : goal.record-requires-clause-applies
 record-requires-clause-applies c =
     let same = ap (λ (m : SessionView). m.present.state) c.self.view_is in
-    subst (λ (s : State). Fits s (One (single_of c.args.single))) (sym same) c.requires.fits
+    subst (λ (s : State). Fits s (One c.args.single)) (sym same) c.requires.fits
 
 pub invariant_of-self : goal.invariant_of-self
 invariant_of-self c =
     let s = c.self.inside.present.state in
-    let d = One (single_of c.args.single) in
+    let d = One c.args.single in
     let same = ap (λ (m : SessionView). m.present.state) c.self.view_is in
     let fits = subst (λ (x : State). Fits x d) (sym same) c.requires.fits in
     let within = subst (λ (x : State). c.args.cursor ≤ length (turned x d).0.pulses) (sym same) c.requires.cursor in
@@ -57,7 +57,7 @@ invariant_of-self-in-Err c =
 pub returns-in-Ok-clause-ok : goal.returns-in-Ok-clause-ok
 returns-in-Ok-clause-ok c =
     let s = c.self.inside.present.state in
-    let d = One (single_of c.args.single) in
+    let d = One c.args.single in
     let same = ap (λ (m : SessionView). m.present.state) c.self.view_is in
     let fits = subst (λ (x : State). Fits x d) (sym same) c.requires.fits in
     let stands = ap (λ (m : Machine (journal.Kept State)). m.present.state) (c.in-Ok.ensures.machine 0) in
@@ -74,7 +74,7 @@ returns-in-Ok-clause-ok c =
 pub returns-in-Ok-clause-step : goal.returns-in-Ok-clause-step
 returns-in-Ok-clause-step c =
     let s = c.self.inside.present.state in
-    let d = One (single_of c.args.single) in
+    let d = One c.args.single in
     let same = ap (λ (m : SessionView). m.present.state) c.self.view_is in
     let fits = subst (λ (x : State). Fits x d) (sym same) c.requires.fits in
     let stands = ap (λ (m : Machine (journal.Kept State)). m.present.state) (c.in-Ok.ensures.machine 0) in
@@ -94,7 +94,7 @@ returns-in-Ok-clause-step c =
 pub returns-in-Ok-clause-looks : goal.returns-in-Ok-clause-looks
 returns-in-Ok-clause-looks c =
     let s = c.self.inside.present.state in
-    let d = One (single_of c.args.single) in
+    let d = One c.args.single in
     let same = ap (λ (m : SessionView). m.present.state) c.self.view_is in
     let fits = subst (λ (x : State). Fits x d) (sym same) c.requires.fits in
     let stands = ap (λ (m : Machine (journal.Kept State)). m.present.state) (c.in-Ok.ensures.machine 0) in

@@ -8,7 +8,7 @@ use Rattle.irig_edit.specs.Session.Limits.{IsGrouped}
 use Rattle.irig_edit.specs.Session.Machine.{Steps}
 use Rattle.irig_edit.specs.Edits.Refusals.{first_of, refusal_of}
 use Rattle.irig_edit.specs.Session.Session.{SessionView, grouped_in}
-use Rattle.irig_edit.specs.declared.changes.single.Single.{Single}
+use Rattle.irig_edit.specs.declared.changes.turn.Turn.{Turn}
 use Rattle.irig_edit.specs.declared.session.refusal.Refusal.TheVariants.{NoGroup}
 use Rattle.irig_edit.proofs.SessionLemmas.Endings.{IsGrouped-ended, grouped-ended, is_open-none}
 use Rattle.irig_edit.proofs.SessionLemmas.MachineSteps.{Steps-ended}
@@ -30,7 +30,7 @@ invariant_of-self c =
             c.end.ensures.ready,
           )
       | in-Err w ↦ (
-        subst (λ (j : journal.Steps Single). IsGrouped (grouped_at s.present.state s.cursor j)) (sym w.in-Err.ensures.err.1) c.self.invariant.0,
+        subst (λ (j : journal.Steps Turn). IsGrouped (grouped_at s.present.state s.cursor j)) (sym w.in-Err.ensures.err.1) c.self.invariant.0,
         c.end.ensures.ready,
       )
     ]
@@ -53,6 +53,6 @@ returns-clause-step c =
           let shut = is_open-none (machine_at s.present.state s.cursor s.journal) s.journal.floor (c.end.ensures.none.0 failed) in
           rw w.result-is (
             ap (λ (v : SessionView). refusal_of End (grouped_in v)) (sym c.self.view_is) ∙ ap (λ (test : Bool). first_of ((not test, NoGroup) ∷ [])) shut,
-            ap (λ (j : journal.Steps Single). grouped_at s.present.state s.cursor j) w.in-Err.ensures.err.1 ∙ ap grouped_in c.self.view_is,
+            ap (λ (j : journal.Steps Turn). grouped_at s.present.state s.cursor j) w.in-Err.ensures.err.1 ∙ ap grouped_in c.self.view_is,
           )
     ]

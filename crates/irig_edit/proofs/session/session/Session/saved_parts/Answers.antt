@@ -1,35 +1,22 @@
-use Rattle.std.proofs.Common.{◌≡◌, ◌++◌, ℕ, List, [], ◌∷◌, codes, length, map, reverse, ap, ap₂, sym, subst, ◌∙◌, append_assoc}
+use Rattle.std.proofs.Common.{◌≡◌, ◌++◌, ℕ, List, [], ◌∷◌, codes, length, map, reverse, ap, ap₂, sym, ◌∙◌, append_assoc}
 use Rattle.std.proofs.lemmas.List.{length-map, length-reverse}
 use Rattle.irig_journal.specs.History as history
 use Rattle.irig_journal.specs.Journal.{future_of, past_of, told}
 use Rattle.irig_saved.specs.Lines.{numbered, text_of}
-use Rattle.irig_saved.specs.SavedText.{counted_lines, steps_lines}
+use Rattle.irig_saved.specs.SavedText.{counted_lines, head_lines, steps_lines}
 use Rattle.irig_saved.specs.declared.step.Step.{Step}
 use Rattle.irig_vcd.specs.FileText.{file_text}
 use Rattle.irig_saved.specs.declared.change.Change.{Change}
 use Rattle.irig_edit.specs.Changes.Held.{delta_of, deltas_of}
 use Rattle.irig_edit.specs.Session.Keeping.{machine_at}
-use Rattle.irig_edit.specs.Saved.Saved.{StepsCanBeNamed, saved_step}
-use Rattle.irig_edit.specs.Saved.SavedParts.{present_lines}
+use Rattle.irig_edit.specs.Saved.Saved.{saved_step}
 use Rattle.irig_edit.specs.Saved.SavedSession.{saved_text, steps_back, steps_on}
 use Rattle.irig_edit.specs.Session.Session.{SessionView, machine_in}
 use Rattle.irig_edit.specs.State.State.{recording_of}
-use Rattle.irig_edit.proofs.SavedLemmas.SavedSteps.{named_reversed, steps_back-kept, steps_named, steps_on-kept}
+use Rattle.irig_edit.proofs.SavedLemmas.SavedSteps.{steps_back-kept, steps_on-kept}
 use Rattle.irig_edit.proofs.StateLemmas.Reversed.{map-reverse}
 use Rattle.irig_edit.proofs.SavedLemmas.SavedSections.{saved_text-parts, section}
 use Rattle.irig_edit.proofs.session.session.Session.saved_parts.Goals as goal
-
-pub new-requires-clause-back : goal.new-requires-clause-back
-new-requires-clause-back c =
-    let s = c.self.inside in
-    let back = past_of delta_of s.journal in
-    subst StepsCanBeNamed (sym (map-reverse (told delta_of) s.journal.past))
-    (named_reversed back (steps_named s.present.state back c.self.invariant.0.machine.present.state c.self.invariant.1.0.0))
-
-pub new-requires-clause-on : goal.new-requires-clause-on
-new-requires-clause-on c =
-    let s = c.self.inside in
-    steps_named s.present.state (future_of delta_of s.journal) c.self.invariant.0.machine.present.state c.self.invariant.1.0.1
 
 pub returns : goal.returns
 returns c =
@@ -39,7 +26,7 @@ returns c =
     let back = past_of delta_of s.journal in
     let on = future_of delta_of s.journal in
     let body = file_text (recording_of t) in
-    let head = present_lines t s.cursor in
+    let head = head_lines t.format.kind t.format.expression s.cursor t.marks in
     let turned_over : deltas_of (reverse s.journal.past) ≡ reverse back = map-reverse (told delta_of) s.journal.past in
     let ps = map saved_step (deltas_of (reverse s.journal.past)) in
     let fs = map saved_step on in

@@ -1,4 +1,4 @@
-use Rattle.std.proofs.Common.{suc, ◌≡◌, ℤ, None, ap, subst, w64}
+use Rattle.std.proofs.Common.{◌≡◌, ℤ, None, ap, subst, w64}
 use Rattle.std.proofs.lemmas.Int.{to_z-of_z}
 use Rattle.irig_edit.specs.Edits.Becoming.{Becomes, judgement_of}
 use Rattle.irig_edit.specs.Session.Calls.Edit.{Shift}
@@ -7,7 +7,6 @@ use Rattle.irig_saved.specs.declared.change.Change.TheVariants.{One}
 use Rattle.irig_edit.specs.Edits.Exchanges.{exchange_by}
 use Rattle.irig_edit.specs.Session.Keeping.{exchange_of}
 use Rattle.irig_edit.specs.Session.Session.{SessionView}
-use Rattle.irig_saved.specs.declared.single.Single.TheVariants.{Shift as Shifted}
 use Rattle.irig_edit.specs.State.State.{State}
 use Rattle.irig_edit.proofs.session.session.Session.shift.Goals as goal
 
@@ -22,7 +21,7 @@ returns-clause-step c =
     let same = ap (λ (v : SessionView). v.present.state) c.self.view_is in
     let none = subst (λ (x : State). judgement_of (Shift i j d) x ≡ None) same
     (subst (λ (e : ℤ). judgement_of (Shift i j e) c.self.inside.present.state ≡ None) passed r.allowed) in
-    let made = One (Shifted (suc m.i) (suc m.j) m.by m.letters) in
+    let made = One m in
     let becomes = subst (λ (x : State). Becomes (Shift i j d) x (turned x made).0 j) same
     (subst (λ (e : ℤ). Becomes (Shift i j e) c.self.inside.present.state (turned c.self.inside.present.state made).0 j)
     passed r.becomes) in

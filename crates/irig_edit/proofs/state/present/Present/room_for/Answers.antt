@@ -16,7 +16,7 @@ returns-clause-room c =
     let x = c.reserve_taken.new.self in
     let was = present_view s p.track.spare p.index in
     let now = present_view s p.track.spare c.reserve.new.self in
-    let one : single_of x ≡ single_of c.args.single.now = c.in_ok-reserve_taken.ensures.same in
+    let one : single_of x ≡ single_of c.args.turn.now = c.in_ok-reserve_taken.ensures.same in
     let same : s ≡ c.args.self.now.state = ap state_in c.self.view_is ∙ c.in_ok-reserve_put.ensures.state in
     let fits : FitsSingle s (single_of x) =
     subst (λ (t : State). FitsSingle t (single_of x)) (sym same)

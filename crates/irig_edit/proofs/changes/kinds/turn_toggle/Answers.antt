@@ -1,6 +1,6 @@
 use Rattle.std.proofs.Common.{arith}
 use Rattle.irig_edit.proofs.ChangeLemmas.Windows.{length-spanned, risen_few, standing-is, toggled_few}
-use Rattle.irig_edit.proofs.changes.single.turn_toggle.Goals as goal
+use Rattle.irig_edit.proofs.changes.kinds.turn_toggle.Goals as goal
 
 pub returns-clause-size : goal.returns-clause-size
 returns-clause-size c =

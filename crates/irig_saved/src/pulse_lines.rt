@@ -3,25 +3,23 @@
 ghost use Rattle.std.specs.Prelude.{◌≡◌, ◌≤◌, ◌<◌, ◌++◌, [], IfOk, OnOk, false, true, vec_len};
 ghost use Rattle.irig_saved.specs.Lines.{text_of};
 ghost use Rattle.irig_saved.specs.SavedText.{pulse_lines, put_of};
-ghost use Rattle.irig_edit.specs.Changes.Held.{single_of};
 
-use crate::changes::single::Single;
-use irig_gap::Gap;
-use irig_saved::put_pulse;
-use irig_track::Pulse;
+use crate::change_writer::put_pulse;
+use crate::pulses::Pulses;
+use crate::single::Single;
 use std::alloc::AllocError;
 use std::marker::Model;
 
 /// The lines of the pulses that a splice inserts, from one of them on. None if there is no splice.
 #[derive(Drop)]
 pub(crate) struct PulseLines<'s> {
-    pulses: Option<&'s Gap<Pulse>>,
+    pulses: Option<&'s Pulses>,
     next: usize,
 }
 
 impl<'s> Model for PulseLines<'s> {
     ghost use Rattle.std.specs.Prelude.{List, ℕ};
-    ghost use Rattle.irig_edit.specs.Saved.SavedParts.{pulses_left};
+    ghost use Rattle.irig_saved.specs.LinesLeft.{pulses_left};
 
     ghost Value = { List ℕ };
 
@@ -41,11 +39,11 @@ impl<'s> PulseLines<'s> {
 
     /// A line for each pulse that a change inserts.
     pub(crate) fn of(single: &'s Single) -> PulseLines<'s>
-        ensures { result ≡ text_of (pulse_lines (put_of (single_of single.now))) }
+        ensures { result ≡ text_of (pulse_lines (put_of single.now)) }
     {
         match single {
-            Single::Splice(splice) => PulseLines {
-                pulses: Some(&splice.put),
+            Single::Splice { put, .. } => PulseLines {
+                pulses: Some(put),
                 next: 0,
             },
             _ => PulseLines::none(),

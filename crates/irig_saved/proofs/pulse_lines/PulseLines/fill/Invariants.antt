@@ -1,12 +1,12 @@
 use Rattle.std.proofs.Common.{◌≡◌, ◌++◌, ℕ, drop}
 use Rattle.irig_saved.specs.Lines.{text_of}
 use Rattle.irig_saved.specs.SavedText.{pulse_lines}
-use Rattle.irig_edit.specs.Saved.SavedParts.{pulses_left}
-use Rattle.irig_edit.proofs.saved.pulse_lines.PulseLines.fill.Given as goal
+use Rattle.irig_saved.specs.LinesLeft.{pulses_left}
+use Rattle.irig_saved.proofs.pulse_lines.PulseLines.fill.Given as goal
 
 -- the block, with the lines of the pulses that are left
 abbrev pub invariant-loop-place : goal.invariant-loop-place
 invariant-loop-place l = record {
   given : l.block.items ++ pulses_left l.self-inside.pulses l.place ≡ l.fn.block.items ++ l.fn.self;
-  known : (n : ℕ) → pulses_left l.self-inside.pulses n ≡ text_of (pulse_lines (drop n l.pulses.items));
+  known : (n : ℕ) → pulses_left l.self-inside.pulses n ≡ text_of (pulse_lines (drop n l.pulses));
 }
