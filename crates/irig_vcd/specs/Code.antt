@@ -20,3 +20,4 @@ pub mod Part
 pub mod Gathered
 pub mod DumpReader
 pub mod NextPart
+pub mod Spelled

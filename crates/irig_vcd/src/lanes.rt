@@ -1,13 +1,11 @@
 //! Digits, sixteen at a time.
 
-ghost use Rattle.std.specs.Prelude.{◌≡◌, ◌≤◌, ◌<◌, ◌+◌, ◌-◌, ◌*◌, ◌^◌, ◌++◌, ℕ, true, length};
-ghost use Rattle.std.specs.Prelude.{drop, take, map, replicate, slice_index};
-ghost use Rattle.std.specs.List.{list_all};
+ghost use Rattle.std.specs.Prelude.{◌≡◌, ◌≤◌, ◌<◌, ◌+◌, ◌-◌, ◌*◌, ◌^◌, ◌++◌, ℕ, length};
+ghost use Rattle.std.specs.Prelude.{drop, map, replicate, slice_index};
 ghost use Rattle.std.specs.Int.Digits.{number_from_digits, AllBelowBase};
 ghost use Rattle.std.specs.Simd.Lanes.{mask_l};
 ghost use Rattle.irig_vcd.specs.Code.Lanes.{joined, shows_none};
-ghost use Rattle.irig_vcd.specs.Digits.{is_digit, number_from};
-ghost use Rattle.irig_vcd.specs.Words.{words_from, before_space};
+ghost use Rattle.irig_vcd.specs.Code.Spelled.{Spells};
 
 use std::simd::prelude::*;
 
@@ -107,15 +105,7 @@ fn digits_count(source: &[u8], from: usize) -> usize
 pub fn lanes_end(source: &[u8], from: usize) -> (usize, u64)
     requires back { 16 ≤ from }
     requires room { from + 18 < length source.now }
-    ensures after { from ≤ result.0 }
-    ensures few { result.0 ≤ from + 18 }
-    ensures words { words_from result.0 true (drop result.0 source.now)
-        ≡ words_from from true (drop from source.now) }
-    ensures front { before_space (drop from source.now)
-        ≡ take (result.0 - from) (drop from source.now) ++ before_space
-        (drop result.0 source.now) }
-    ensures digits { list_all is_digit (take (result.0 - from) (drop from source.now)) ≡ true }
-    ensures value { number_from 0 (take (result.0 - from) (drop from source.now)) ≡ result.1 }
+    ensures { Spells source.now from result.0 result.1 }
 {
     let count = digits_count(source, from);
     let end = from + count;
