@@ -46,11 +46,6 @@ pub consumes_none : (known : Option (List ℕ)) → Consumes known known []
 consumes_none None = tt
 consumes_none (Some xs) = refl
 
--- what is so anyway
-pub if_any_ok : {T E P : Type 0} (r : Result T E) → P → OnOk r P
-if_any_ok (Ok x) p = p
-if_any_ok (Err e) p = tt
-
 -- known bytes that are consumed to their end are these bytes
 all_used : (before after : Option (List ℕ)) (some : List ℕ) → Consumes before after some → IsAtEnd after → IfSome before (λ all. some ≡ all)
 all_used None after some used end = tt

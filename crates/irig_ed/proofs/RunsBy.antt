@@ -5,7 +5,7 @@ use Rattle.irig_vcd.specs.Declarations.{declarations_of}
 use Rattle.irig_vcd.specs.Parts.{dump_parts}
 use Rattle.irig_vcd.specs.Words.{words_of}
 use Rattle.irig_vcd.specs.declared.fault.VcdFault.{VcdFault}
-use Rattle.irig_vcd.proofs.WholeDump.{fails_now, no_start}
+use Rattle.irig_vcd.proofs.WholeDump.{fails_now, no_parts}
 use Rattle.irig_script.specs.Obey.Desk.{Desk, desk}
 use Rattle.irig_script.specs.Obey.DumpRun.{RunsOnDump}
 use Rattle.irig_script.specs.Shelf.Shelved.{shelved}
@@ -40,11 +40,6 @@ runs_by chosen source out out_new script left path path_new label label_new puts
       (subst (λ (d : Desk). RunsOnDump (wire_in chosen) chosen.format source script left (desk out (shelved (texts_at path mid) failures label)) d result)
       (λ j. desk out_new (shelved (texts_at (q j) new) failures_new (e j))) h);
 }
-
--- a fault of the declarations is one of the dump
-no_parts : (wire : Option (List ℕ)) (bytes : List ℕ) (e : VcdFault) → declarations_of wire (words_of bytes) ≡ Err e → dump_parts wire bytes ≡ Err e
-unfolding dump_parts
-no_parts wire bytes e h = rw (no_start wire bytes e h) refl
 
 pub tells_heading : (wire : Option (List ℕ)) (bytes : List ℕ) (fault e : VcdFault) → dump_parts wire bytes ≡ Err fault
     → declarations_of wire (words_of bytes) ≡ Err e → fault ≡ e

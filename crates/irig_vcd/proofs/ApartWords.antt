@@ -14,13 +14,8 @@ use Rattle.irig_vcd.specs.Words.{dollar, hash, scalar, vector, real, text, other
 use Rattle.irig_vcd.proofs.ChangeSteps.{on_level}
 use Rattle.irig_vcd.proofs.CodeRuns.{apart_level, other_bytes}
 use Rattle.irig_vcd.proofs.Cuts.{pair_ok}
-use Rattle.irig_vcd.proofs.DigitRuns.{none_before}
+use Rattle.irig_vcd.proofs.DigitRuns.{dark_above, none_before}
 use Rattle.irig_vcd.proofs.Runs.{begins, newline, skips}
-
--- a byte above a space is no white space
-pub dark_byte : (b : ℕ) → 32 < b → is_space b ≡ false
-dark_byte b low = or_from (nat_le 9 b && nat_le b 13) (b == 32) (and_right (nat_le 9 b) (nat_le b 13) (lt-leb b 13 (omega arith)))
-    (ne_eqb b 32 (λ e. omega arith))
 
 -- a space ends a word
 space : (s : List ℕ) (i : ℕ) → get_or s i 0 ≡ 32 → is_space (get_or s i 0) ≡ true
@@ -49,7 +44,7 @@ value_word s code start mid byte lt room dark kind dots gap at line low apart =
     let shut : before_space (drop (mid + 2) s) ≡ [] = none_before s (mid + 2) (λ _. newline s (mid + 2) line) in
     let c : Word = record { kind = kind_of_byte byte; bytes = byte ∷ []; offset = mid + 1 } in
     let code_begins : words_from (mid + 1) false (drop (mid + 1) s) ≡ c ∷ words_from (mid + 2) true (drop (mid + 2) s) =
-    begins s (mid + 1) (omega arith) (rw at (dark_byte byte low)) ∙ rw (at, one, shut) refl in
+    begins s (mid + 1) (omega arith) (rw at (dark_above byte low)) ∙ rw (at, one, shut) refl in
     let rest : words_from (mid + 2) true (drop (mid + 2) s) ≡ words_from (mid + 3) false (drop (mid + 3) s) =
     sym (skips s (mid + 2) true (omega arith) (newline s (mid + 2) line)) ∙ ap (λ n. words_from n false (drop n s)) three in
     let gone : words_from (start + 1) true (drop (start + 1) s) ≡ c ∷ words_from (mid + 3) false (drop (mid + 3) s) =
@@ -57,7 +52,7 @@ value_word s code start mid byte lt room dark kind dots gap at line low apart =
     record {
       word = w;
       next = c;
-      left = begins s start lt (dark_byte (get_or s start 0) dark) ∙ ap (λ (l : List Word). w ∷ l) gone;
+      left = begins s start lt (dark_above (get_or s start 0) dark) ∙ ap (λ (l : List Word). w ∷ l) gone;
       kind = kind;
       level = other_level (kind_of_byte (get_or s start 0)) code w (byte ∷ []) (other_bytes code byte apart);
     }

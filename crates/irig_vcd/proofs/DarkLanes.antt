@@ -8,7 +8,7 @@ use lib.Lanes.{zip2, mask_l, top, chunk}
 use Rattle.std.proofs.Common.{not, ◌^◌, ◌%◌}
 use Rattle.irig_vcd.specs.Code.Lanes.{is_low}
 use Rattle.irig_vcd.specs.Words.{words_from}
-use Rattle.irig_vcd.proofs.ApartWords.{dark_byte}
+use Rattle.irig_vcd.proofs.DigitRuns.{dark_above}
 use Rattle.irig_vcd.proofs.Runs.{runs}
 
 -- the mask of the bytes up to a space
@@ -37,5 +37,5 @@ pub dark_run : (c : ℕ) (s : List ℕ) (from : ℕ) → from + c ≤ length s �
 dark_run zero s from le each = ap (λ n. words_from n true (drop n s)) (let k : from + zero ≡ from = omega arith in k)
 dark_run (suc c) s from le each =
     let one : from + suc c ≡ from + c + 1 = omega arith in
-    let dark = dark_byte (get_or s (from + c) 0) (leb-false (get_or s (from + c) 0) 32 (each (from + c) (omega arith) (omega arith))) in
+    let dark = dark_above (get_or s (from + c) 0) (leb-false (get_or s (from + c) 0) 32 (each (from + c) (omega arith) (omega arith))) in
     ap (λ n. words_from n true (drop n s)) one ∙ (runs s (from + c) (omega arith) dark ∙ dark_run c s from (omega arith) (λ k a b. each k a (omega arith)))

@@ -20,7 +20,7 @@ use Rattle.irig_vcd.specs.Code.Along.{behind}
 use Rattle.irig_vcd.proofs.WholeDump.{behind_start}
 use Rattle.irig_vcd.proofs.WrittenEdges.{turns, high_edges, low_edges}
 use Rattle.irig_vcd.proofs.WrittenWords.{level_word}
-use Rattle.irig_vcd.proofs.WrittenChanges.{lines, last_or, last_top, last_up, rises_after, ending, SaysNothing, says_nothing}
+use Rattle.irig_vcd.proofs.WrittenChanges.{lines, regroup, last_or, last_top, last_up, rises_after, ending, SaysNothing, says_nothing}
 
 -- the words after the declarations
 abbrev pub after_header : Bool → List Word → List Word
@@ -60,9 +60,6 @@ few_recorded : (cs : List Change) (top : ℕ) (edges : List ℕ) → edges_up_to
     → recorded cs top ≡ Ok (recording_view top edges)
 few_recorded cs top edges is few = rw (is, le-ltb 8388608 (length edges) few) refl
 
-pub in_parts : (a b c d : List ℕ) → ((a ++ b) ++ c) ++ d ≡ a ++ (b ++ (c ++ d))
-in_parts a b c d = simp append_assoc
-
 text_back : (high : Bool) (later : List ℕ) (top : ℕ) (edges rest : List ℕ) → SaysNothing rest → begins_high edges ≡ high → later_edges edges ≡ later
     → RisesFrom 1 later → UpTo top later → IsRecording top edges
     → (list_any (λ edge. edge == top) edges ≡ true → last_or 0 later ≡ top) → edges_up_to (record { time = 0; high = high } ∷ turns (not high) later) top
@@ -71,7 +68,7 @@ text_back : (high : Bool) (later : List ℕ) (top : ℕ) (edges rest : List ℕ)
 unfolding file_text
 text_back high later top edges rest says begins behind_first r u lawful there is =
     rw (begins, behind_first) (
-    ap (dump None) (in_parts (header_text high) (edge_lines (not high) later) (end_line (recording_view top edges)) rest)
+    ap (dump None) (regroup (header_text high) (edge_lines (not high) later) (end_line (recording_view top edges)) rest)
     ∙ (played_back high later top edges rest says r u lawful.short there
     ∙ few_recorded (record { time = 0; high = high } ∷ turns (not high) later) top edges is lawful.few)
     )

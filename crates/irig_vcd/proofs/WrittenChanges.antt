@@ -54,7 +54,7 @@ pub record Lines (last : ℕ) (high : Bool) (edges rest : List ℕ) (at : ℕ) :
   pub read : changes_from any_word (33 ∷ []) 9 last (words_from at false (edge_lines high edges ++ rest))
       ≡ behind (turns high edges) (changes_from any_word (33 ∷ []) 9 (last_or last edges) (words_from next false rest))
 
-regroup : (a b c d : List ℕ) → ((a ++ b) ++ c) ++ d ≡ a ++ (b ++ (c ++ d))
+pub regroup : (a b c d : List ℕ) → ((a ++ b) ++ c) ++ d ≡ a ++ (b ++ (c ++ d))
 regroup a b c d = simp append_assoc
 
 pub lines : (edges : List ℕ) (high : Bool) (last at top : ℕ) (rest : List ℕ) → RisesFrom last edges → UpTo top edges → top ≤ 1099511627776

@@ -18,10 +18,10 @@ use Rattle.irig_vcd.specs.declared.fault.VcdFault.{VcdFault}
 use Rattle.irig_vcd.proofs.ChangeSteps.{on_level}
 use Rattle.irig_vcd.proofs.JournalPlaces.{journals_behind}
 use Rattle.irig_vcd.proofs.JournalWords.{behind_end, in_comment, into_comment, past_time, past_level}
-use Rattle.irig_vcd.proofs.ReadBack.{after_header, declared, in_parts, read_back, read_back_with}
+use Rattle.irig_vcd.proofs.ReadBack.{after_header, declared, read_back, read_back_with}
 use Rattle.irig_vcd.proofs.TextLength.{length-header_text, later_up}
 use Rattle.irig_vcd.proofs.WholeDump.{with_journal}
-use Rattle.irig_vcd.proofs.WrittenChanges.{SaysNothing}
+use Rattle.irig_vcd.proofs.WrittenChanges.{SaysNothing, regroup}
 use Rattle.irig_vcd.proofs.WrittenWords.{time_word, level_word, level_words}
 
 -- a word that does not begin with a dollar is no end
@@ -129,7 +129,7 @@ past_edges [] high at top rest u low = ap (λ n. journals_among (words_from n fa
 past_edges (t ∷ ts) high at top rest u low =
     let more = edge_lines (not high) ts ++ rest in
     let text : edge_lines high (t ∷ ts) ++ rest ≡ time_line t ++ (level_line high ++ more) =
-    in_parts (time_line t) (level_line high) (edge_lines (not high) ts) rest in
+    regroup (time_line t) (level_line high) (edge_lines (not high) ts) rest in
     let len : length (edge_lines high (t ∷ ts)) ≡ length (time_line t) + 3 + length (edge_lines (not high) ts) =
     omega (arith, length-append (time_line t ++ level_line high) (edge_lines (not high) ts), length-append (time_line t) (level_line high)) in
     let next = at + length (time_line t) in
@@ -162,7 +162,7 @@ journals_after r rest is =
     let behind_header = edges ++ (end_line r ++ rest) in
     let len : 125 + length edges + length (end_line r) ≡ length (file_text r) =
     omega (arith, length-header_text high, length-append (header_text high ++ edges) (end_line r), length-append (header_text high) edges) in
-    ap journals_in (in_parts (header_text high) edges (end_line r) rest)
+    ap journals_in (regroup (header_text high) edges (end_line r) rest)
     ∙ (journals_behind None (header_text high ++ behind_header) (9, codes "!") (after_header high (words_from 125 false behind_header))
     (declared high behind_header)
     ∙ (past_header high (words_from 125 false behind_header)

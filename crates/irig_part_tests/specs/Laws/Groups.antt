@@ -8,7 +8,8 @@ use Rattle.std.proofs.lemmas.List.Sums.{sum_by-append, sum_by-cons}
 use Rattle.irig_journal.specs.Held.{Alone, Group, Parts, parts_in}
 use Rattle.irig_part_tests.specs.declared.stack.Single.{Single}
 use Rattle.irig_part_tests.specs.declared.stack.Single.TheVariants.{Push, Pop}
-use Rattle.irig_part_tests.specs.Stack.{CanMake, made, CanEdit, edited, bytes_held, bytes_in, grouped}
+use Rattle.irig_part_tests.specs.Stack.{CanMake, made, CanEdit, edited, bytes_held, bytes_in}
+use Rattle.irig_part_tests.specs.Stack.{grouped}
 use Rattle.irig_part_tests.specs.Stack.{Counts}
 use Rattle.irig_journal.specs.Turns.{CountsAll, FitAll, left_by, ways_back}
 use Rattle.irig_part_tests.specs.Laws.Edits.{pair_with_group}

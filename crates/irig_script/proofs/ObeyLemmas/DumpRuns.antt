@@ -6,7 +6,7 @@ use Rattle.irig_vcd.specs.Parts.{dump_parts}
 use Rattle.irig_vcd.specs.Recording.{RecordingView}
 use Rattle.irig_vcd.specs.Words.{words_of}
 use Rattle.irig_vcd.specs.declared.fault.VcdFault.{VcdFault}
-use Rattle.irig_vcd.proofs.WholeDump.{no_start}
+use Rattle.irig_vcd.proofs.WholeDump.{no_parts}
 use Rattle.irig_script.specs.Obey.Desk.{Desk}
 use Rattle.irig_script.specs.Obey.DumpRun.{RanOnDump, RunsOnDump, TellsHeading}
 use Rattle.irig_script.specs.declared.obey.status.Status.{Status}
@@ -23,11 +23,6 @@ ran_on_dump wire chosen source script left from to (Ok status) result e h =
     subst (λ (r : Result Status DumpRunFault). RunsOnDump wire chosen source script left from to r) (sym e) h
 ran_on_dump wire chosen source script left from to (Err fault) result e h =
     subst (λ (r : Result Status DumpRunFault). RunsOnDump wire chosen source script left from to r) (sym e) h
-
--- a fault of the declarations is one of the dump
-no_parts : (wire : Option (List ℕ)) (bytes : List ℕ) (e : VcdFault) → declarations_of wire (words_of bytes) ≡ Err e → dump_parts wire bytes ≡ Err e
-unfolding dump_parts
-no_parts wire bytes e h = rw (no_start wire bytes e h) refl
 
 -- of a dump that can be read, the declarations have no fault
 pub read_heading : (wire : Option (List ℕ)) (bytes : List ℕ) (x : RecordingView × Option (List ℕ)) (fault : VcdFault)

@@ -1,7 +1,8 @@
 use Rattle.std.proofs.Common.{[], ◌≤◌, length, take}
 use Rattle.std.proofs.KnownBytes.{Consumes-kept}
 use Rattle.std.proofs.lemmas.List.{take-append-le}
-use Rattle.irig_ed.proofs.Intakes.{consumes_none, if_any_ok, takes_none}
+use Rattle.irig_disk.proofs.Results.{on_ok}
+use Rattle.irig_ed.proofs.Intakes.{consumes_none, takes_none}
 use Rattle.irig_ed.proofs.files.dump_file.take_part.Goals as goal
 
 pub returns-in-Ok-put-clause-taken : goal.returns-in-Ok-put-clause-taken
@@ -11,4 +12,4 @@ returns-in-Ok-put-clause-taken g c =
 
 pub returns-in-Err-clause-taken : goal.returns-in-Err-clause-taken
 returns-in-Err-clause-taken g c =
-    if_any_ok c.after_error.result ([], takes_none _, Consumes-kept _ _ _ [] (consumes_none _) c.in-Err.ensures.bytes)
+    on_ok c.after_error.result ([], takes_none _, Consumes-kept _ _ _ [] (consumes_none _) c.in-Err.ensures.bytes)
