@@ -1,6 +1,7 @@
 -- The language of a script.
 pub mod Numbers
 pub mod Words
+pub mod Findings
 pub mod Addresses
 pub mod Tables
 pub mod Keywords

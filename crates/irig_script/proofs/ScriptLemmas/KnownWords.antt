@@ -2,9 +2,10 @@
 use Rattle.std.proofs.Common.{◌≡◌, ◌≤◌, ◌∷◌, [], ℕ, List, Some, length, sym, ap, ◌∙◌, subst, arith}
 use Rattle.irig_moment.specs.Moment.{MomentView}
 use Rattle.irig_moment.specs.Written.{moment_of}
-use Rattle.std.specs.Prelude.{Result, OnErr}
+use Rattle.std.specs.Prelude.{Result, Ok, Err, IfOk, IsErrAnd, OnErr}
 use Rattle.irig_script.specs.Script.Addresses.{IsTime}
 use Rattle.irig_script.specs.Script.Commands.{Asks}
+use Rattle.irig_script.specs.Script.Findings.{Finds}
 use Rattle.irig_script.specs.Script.Words.{word_and}
 use Rattle.irig_script.specs.declared.script.command.Command.{Command}
 use Rattle.irig_script.specs.declared.script.keyword.Keyword.{Keyword}
@@ -35,7 +36,25 @@ pub moment_some : (w : List ℕ) (m : MomentView) → moment_of w ≡ Some m →
 moment_some [] m e = absurd (cc)
 moment_some (b ∷ bs) m e = omega arith
 
--- a word that is known asks for nothing
-pub refused : {T E : Type 0} (known word : Keyword) (range : List ℕ) (args : List (List ℕ)) (r : Result T E) → word ≡ known
-    → OnErr r ((asked : Command) → Asks known range args asked → ⊥) → OnErr r ((asked : Command) → Asks word range args asked → ⊥)
-refused known word range args r e h = subst (λ (k : Keyword). OnErr r ((asked : Command) → Asks k range args asked → ⊥)) (sym e) h
+-- what a word that is known asks for
+pub refused : {E : Type 0} (known word : Keyword) (range : List ℕ) (args : List (List ℕ)) (r : Result Command E) → word ≡ known
+    → Finds (Asks known range args) r → Finds (Asks word range args) r
+refused known word range args r e h = subst (λ (k : Keyword). Finds (Asks k range args) r) (sym e) h
+
+-- what a reading gives, as another says it
+pub finds_as : {X E : Type 0} (Is As : X → Type 0) (r : Result X E) → ((x : X) → Is x → As x)
+    → (((x : X) → Is x → ⊥) → (x : X) → As x → ⊥) → Finds Is r → Finds As r
+finds_as Is As (Ok x) f g h = f x h
+finds_as Is As (Err e) f g h = g h
+
+pub finds_ok : {X E : Type 0} (Is : X → Type 0) (r : Result X E) → Finds Is r → IfOk r Is
+finds_ok Is (Ok x) h = h
+finds_ok Is (Err e) h = tt
+
+pub finds_err : {X E : Type 0} (Is : X → Type 0) (r : Result X E) → Finds Is r → OnErr r ((x : X) → Is x → ⊥)
+finds_err Is (Ok x) h = tt
+finds_err Is (Err e) h = h
+
+pub finds_none : {X E : Type 0} (Is : X → Type 0) (r : Result X E) (P : E → Type 0) → IsErrAnd r P → ((x : X) → Is x → ⊥) → Finds Is r
+finds_none Is (Ok x) P h k = absurd h
+finds_none Is (Err e) P h k = k

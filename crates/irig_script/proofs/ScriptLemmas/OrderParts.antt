@@ -29,7 +29,8 @@ row_letters text (row ∷ rows) k h e = go (bytes_eq text row.0) refl e
         → (found text rows ≡ Some k → list_all is_letter text ≡ true) → list_all is_letter text ≡ true
     go true t f more =
         let same : text ≡ row.0 = (bytes_eq-Decides text row.0).0 t in
-        subst (λ (s : List ℕ). list_all is_letter s ≡ true) (sym same) (and_parts (list_all is_letter row.0) (list_all (λ row. list_all is_letter row.0) rows) h).0
+        subst (λ (s : List ℕ). list_all is_letter s ≡ true) (sym same)
+        (and_parts (list_all is_letter row.0) (list_all (λ row. list_all is_letter row.0) rows) h).0
     go false t f more = more f
 
 all_letters : list_all (λ row. list_all is_letter row.0) keywords ≡ true

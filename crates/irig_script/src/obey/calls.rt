@@ -1,6 +1,6 @@
 //! Commands as calls of the session: addresses and times are taken as it is before them.
 
-ghost use Rattle.std.specs.Prelude.{◌≡◌, ◌-◌, Some, None};
+ghost use Rattle.std.specs.Prelude.{◌≡◌, Some, None};
 ghost use Rattle.irig_codes.specs.Format.{is_permitted};
 ghost use Rattle.irig_edit.specs.Session.Calls.{Call, Edit};
 ghost use Rattle.irig_script.specs.Obey.Replies.{Calls, Formats, Lists, Makes, Shows, format};

@@ -1,13 +1,10 @@
 //! Addresses, ranges and times of a script, read.
 
-ghost use Rattle.std.specs.Prelude.{◌≡◌, ◌<◌, ℕ, ℤ, [], IfOk, OnErr};
+ghost use Rattle.std.specs.Prelude.{◌≡◌, ◌<◌};
 ghost use Rattle.irig_saved.specs.Letters.{letter_word};
+ghost use Rattle.irig_script.specs.Script.Findings.{Finds};
 ghost use Rattle.irig_script.specs.Script.Addresses.{IsBase, IsOffset, IsAddress, IsPair};
 ghost use Rattle.irig_script.specs.Script.Addresses.{IsAddressOrCursor, IsRange, IsTime, at};
-ghost use Rattle.irig_script.specs.declared.script.address.Base.{Base};
-ghost use Rattle.irig_script.specs.declared.script.address.Address.{Address};
-ghost use Rattle.irig_script.specs.declared.script.range.Range.{Range};
-ghost use Rattle.irig_script.specs.declared.script.time.Time.{Time};
 
 use crate::script::address::{Address, Base};
 use crate::script::command::BadLine;
@@ -19,16 +16,14 @@ use irig_saved::Letter;
 
 /// The letter of a mark, alone in a word.
 pub fn letter(word: &[u8]) -> Result<Letter, BadLine>
-    ensures ok { IfOk result (λ l. (word.now ≡ letter_word l) × (l < 26)) }
-    ensures err { OnErr result ((l : ℕ) → word.now ≡ letter_word l → l < 26 → ⊥) }
+    ensures { Finds (λ l. (word.now ≡ letter_word l) × (l < 26)) result }
 {
     Letter::named(word).ok_or(BadLine)
 }
 
 /// A time: a number of microseconds, or a mark.
 pub fn time(word: &[u8]) -> Result<Time, BadLine>
-    ensures ok { IfOk result (IsTime word.now) }
-    ensures err { OnErr result ((t : Time) → IsTime word.now t → ⊥) }
+    ensures { Finds (IsTime word.now) result }
 {
     match word {
         [b'\'', name @ ..] => Ok(Time::Mark(letter(name)?)),
@@ -38,8 +33,7 @@ pub fn time(word: &[u8]) -> Result<Time, BadLine>
 
 /// What an address counts from.
 fn base(text: &[u8]) -> Result<Base, BadLine>
-    ensures ok { IfOk result (IsBase text.now) }
-    ensures err { OnErr result ((b : Base) → IsBase text.now b → ⊥) }
+    ensures { Finds (IsBase text.now) result }
 {
     match text {
         [] | [b'.'] => Ok(Base::Current),
@@ -51,8 +45,7 @@ fn base(text: &[u8]) -> Result<Base, BadLine>
 
 /// The offset of an address.
 fn offset(text: &[u8]) -> Result<i64, BadLine>
-    ensures ok { IfOk result (IsOffset text.now) }
-    ensures err { OnErr result ((d : ℤ) → IsOffset text.now d → ⊥) }
+    ensures { Finds (IsOffset text.now) result }
 {
     match text {
         [] => Ok(0),
@@ -64,8 +57,7 @@ fn offset(text: &[u8]) -> Result<i64, BadLine>
 
 /// An address.
 pub fn address(text: &[u8]) -> Result<Address, BadLine>
-    ensures ok { IfOk result (IsAddress text.now) }
-    ensures err { OnErr result ((a : Address) → IsAddress text.now a → ⊥) }
+    ensures { Finds (IsAddress text.now) result }
 {
     if text.is_empty() {
         return Err(BadLine);
@@ -86,8 +78,7 @@ fn at(base: Base) -> Address
 
 /// An address, or that of the cursor if there is none.
 pub fn address_or_cursor(text: &[u8]) -> Result<Address, BadLine>
-    ensures ok { IfOk result (IsAddressOrCursor text.now) }
-    ensures err { OnErr result ((a : Address) → IsAddressOrCursor text.now a → ⊥) }
+    ensures { Finds (IsAddressOrCursor text.now) result }
 {
     if text.is_empty() {
         Ok(at(Base::Current))
@@ -98,8 +89,7 @@ pub fn address_or_cursor(text: &[u8]) -> Result<Address, BadLine>
 
 /// A range.
 pub fn range(text: &[u8]) -> Result<Range, BadLine>
-    ensures ok { IfOk result (IsRange text.now) }
-    ensures err { OnErr result ((r : Range) → IsRange text.now r → ⊥) }
+    ensures { Finds (IsRange text.now) result }
 {
     let (first, rest) = cut(text, Stop::Comma);
     match rest {
@@ -113,9 +103,7 @@ pub fn range(text: &[u8]) -> Result<Range, BadLine>
 
 /// What is before a comma and after it; a comma alone is between the first and the last.
 fn pair(first: &[u8], second: &[u8]) -> Result<(Address, Address), BadLine>
-    ensures ok { IfOk result (λ p. IsPair first.now second.now p.0 p.1) }
-    ensures err { OnErr result ((a : Address) → (b : Address)
-        → IsPair first.now second.now a b → ⊥) }
+    ensures { Finds (λ p. IsPair first.now second.now p.0 p.1) result }
 {
     if first.is_empty() && second.is_empty() {
         return Ok((at(Base::Number(1)), at(Base::Last)));

@@ -1,14 +1,11 @@
 //! The arguments of a line: times, moments, control functions and words that are known.
 
-ghost use Rattle.std.specs.Prelude.{◌≡◌, ℕ, Some, IfOk, OnErr};
-ghost use Rattle.irig_codes.specs.declared.format.Kind.{Kind};
-ghost use Rattle.irig_codes.specs.declared.width.Element.{Element};
-ghost use Rattle.irig_moment.specs.Moment.{MomentView};
+ghost use Rattle.std.specs.Prelude.{◌≡◌, Some};
 ghost use Rattle.irig_moment.specs.Written.{moment_of};
 ghost use Rattle.irig_codes.specs.Words.{element_word, kind_word};
+ghost use Rattle.irig_script.specs.Script.Findings.{Finds};
 ghost use Rattle.irig_script.specs.Script.Arguments.{AreControls, AreTimes, IsExpression};
 ghost use Rattle.irig_script.specs.Script.Words.{words_of};
-ghost use Rattle.irig_script.specs.declared.script.time.Time.{Time};
 
 use crate::script::addresses::time;
 use crate::script::command::BadLine;
@@ -20,9 +17,7 @@ use irig_moment::Moment;
 
 /// Two times.
 pub fn times(arguments: &[u8]) -> Result<(Time, Time), BadLine>
-    ensures ok { IfOk result (λ t. AreTimes (words_of arguments.now) t.0 t.1) }
-    ensures err { OnErr result ((s : Time) → (t : Time)
-        → AreTimes (words_of arguments.now) s t → ⊥) }
+    ensures { Finds (λ t. AreTimes (words_of arguments.now) t.0 t.1) result }
 {
     let (a, b) = two_words(arguments)?;
     Ok((time(a)?, time(b)?))
@@ -30,8 +25,7 @@ pub fn times(arguments: &[u8]) -> Result<(Time, Time), BadLine>
 
 /// The moment of a word.
 pub fn moment(word: &[u8]) -> Result<Moment, BadLine>
-    ensures ok { IfOk result (λ m. moment_of word.now ≡ Some m) }
-    ensures err { OnErr result ((m : MomentView) → moment_of word.now ≡ Some m → ⊥) }
+    ensures { Finds (λ m. moment_of word.now ≡ Some m) result }
 {
     match Moment::parse(word) {
         Some(moment) => Ok(moment),
@@ -41,8 +35,7 @@ pub fn moment(word: &[u8]) -> Result<Moment, BadLine>
 
 /// The control functions at the end of a line; 0 if there are none.
 pub fn controls(text: &[u8]) -> Result<u64, BadLine>
-    ensures ok { IfOk result (AreControls (words_of text.now)) }
-    ensures err { OnErr result ((n : ℕ) → AreControls (words_of text.now) n → ⊥) }
+    ensures { Finds (AreControls (words_of text.now)) result }
 {
     let (word, rest) = split_word(text);
     if word.is_empty() {
@@ -54,24 +47,21 @@ pub fn controls(text: &[u8]) -> Result<u64, BadLine>
 
 /// The element that a word names.
 pub fn element(word: &[u8]) -> Result<Element, BadLine>
-    ensures ok { IfOk result (λ e. word.now ≡ element_word e) }
-    ensures err { OnErr result ((e : Element) → word.now ≡ element_word e → ⊥) }
+    ensures { Finds (λ e. word.now ≡ element_word e) result }
 {
     element_named(word).ok_or(BadLine)
 }
 
 /// The kind of time code that a word names.
 pub fn kind(word: &[u8]) -> Result<Kind, BadLine>
-    ensures ok { IfOk result (λ k. word.now ≡ kind_word k) }
-    ensures err { OnErr result ((k : Kind) → word.now ≡ kind_word k → ⊥) }
+    ensures { Finds (λ k. word.now ≡ kind_word k) result }
 {
     kind_named(word).ok_or(BadLine)
 }
 
 /// The number of an expression: one digit 0 to 7.
 pub fn expression(word: &[u8]) -> Result<u8, BadLine>
-    ensures ok { IfOk result (IsExpression word.now) }
-    ensures err { OnErr result ((n : ℕ) → IsExpression word.now n → ⊥) }
+    ensures { Finds (IsExpression word.now) result }
 {
     match word {
         [digit @ b'0'..=b'7'] => Ok(*digit - b'0'),

@@ -1,6 +1,7 @@
 //! Numbers of a script.
 
-ghost use Rattle.std.specs.Prelude.{◌≡◌, ◌<◌, ◌^◌, ℕ, ℤ, IfOk, OnErr};
+ghost use Rattle.std.specs.Prelude.{◌≡◌, ◌<◌, ◌^◌, IfOk};
+ghost use Rattle.irig_script.specs.Script.Findings.{Finds};
 ghost use Rattle.irig_script.specs.Script.Numbers.{IsNumber, IsDistance, IsControl, IsSigned};
 ghost use Rattle.irig_script.specs.Script.Numbers.{is_digit, size, hex_digit};
 
@@ -15,9 +16,8 @@ const CONTROL_LIMIT: usize = 12;
 
 /// The number that a word of 1 to 18 digits is.
 pub fn number(word: &[u8]) -> Result<u64, BadLine>
-    ensures ok { IfOk result (IsNumber word.now) }
+    ensures read { Finds (IsNumber word.now) result }
     ensures small { IfOk result (λ n. n < 10 ^ 18) }
-    ensures err { OnErr result ((n : ℕ) → IsNumber word.now n → ⊥) }
 {
     if word.is_empty() || word.len() > DIGITS_LIMIT {
         return Err(BadLine);
@@ -41,8 +41,7 @@ fn is_digit(byte: u8) -> bool
 
 /// The distance that a word is: a number with an optional sign.
 pub fn distance(word: &[u8]) -> Result<i64, BadLine>
-    ensures ok { IfOk result (IsDistance word.now) }
-    ensures err { OnErr result ((d : ℤ) → IsDistance word.now d → ⊥) }
+    ensures { Finds (IsDistance word.now) result }
 {
     match word {
         [sign, digits @ ..] if is_sign(*sign) => Ok(signed(*sign, number(digits)?)),
@@ -65,8 +64,7 @@ pub fn signed(sign: u8, number: u64) -> i64
 
 /// The control functions that a word of 1 to 12 hexadecimal digits is.
 pub fn control(word: &[u8]) -> Result<u64, BadLine>
-    ensures ok { IfOk result (IsControl word.now) }
-    ensures err { OnErr result ((n : ℕ) → IsControl word.now n → ⊥) }
+    ensures { Finds (IsControl word.now) result }
 {
     if word.is_empty() || word.len() > CONTROL_LIMIT {
         return Err(BadLine);

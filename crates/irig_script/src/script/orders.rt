@@ -1,12 +1,11 @@
 //! What a word asks for with a range and arguments.
 
-ghost use Rattle.std.specs.Prelude.{◌≡◌, [], IfOk, OnOk, OnErr};
+ghost use Rattle.std.specs.Prelude.{◌≡◌, [], OnOk, OnErr};
+ghost use Rattle.irig_script.specs.Script.Findings.{Finds};
 ghost use Rattle.irig_script.specs.Script.Addresses.{IsRange};
 ghost use Rattle.irig_script.specs.Script.Commands.{Asks};
 ghost use Rattle.irig_script.specs.Script.Words.{words_of};
 ghost use Rattle.irig_script.specs.declared.script.keyword.Keyword.{Keyword};
-ghost use Rattle.irig_script.specs.declared.script.range.Range.{Range};
-ghost use Rattle.irig_script.specs.declared.script.command.Command.{Command};
 
 use crate::script::addresses::{address, address_or_cursor, letter, range, time};
 use crate::script::arguments::{controls, element, expression, kind, moment, times};
@@ -29,44 +28,35 @@ pub fn no_range(front: &[u8]) -> Result<(), BadLine>
 
 /// What an address asks for that has no word after it.
 pub fn show(front: &[u8]) -> Result<Command, BadLine>
-    ensures ok { IfOk result (Asks Keyword.Missing front.now []) }
-    ensures err { OnErr result ((c : Command) → Asks Keyword.Missing front.now [] c → ⊥) }
+    ensures { Finds (Asks Keyword.Missing front.now []) result }
 {
     Ok(Command::Show(address(front)?))
 }
 
 /// What a range asks for before `list`.
 pub fn list(front: &[u8], arguments: &[u8]) -> Result<Command, BadLine>
-    ensures ok { IfOk result (Asks Keyword.List front.now (words_of arguments.now)) }
-    ensures err { OnErr result ((c : Command)
-        → Asks Keyword.List front.now (words_of arguments.now) c → ⊥) }
+    ensures { Finds (Asks Keyword.List front.now (words_of arguments.now)) result }
 {
     Ok(Command::List(ranged(front, arguments)?))
 }
 
 /// What a range asks for before `delete`.
 pub fn delete(front: &[u8], arguments: &[u8]) -> Result<Command, BadLine>
-    ensures ok { IfOk result (Asks Keyword.Delete front.now (words_of arguments.now)) }
-    ensures err { OnErr result ((c : Command)
-        → Asks Keyword.Delete front.now (words_of arguments.now) c → ⊥) }
+    ensures { Finds (Asks Keyword.Delete front.now (words_of arguments.now)) result }
 {
     Ok(Command::Delete(ranged(front, arguments)?))
 }
 
 /// What a range asks for before `join`.
 pub fn join(front: &[u8], arguments: &[u8]) -> Result<Command, BadLine>
-    ensures ok { IfOk result (Asks Keyword.Join front.now (words_of arguments.now)) }
-    ensures err { OnErr result ((c : Command)
-        → Asks Keyword.Join front.now (words_of arguments.now) c → ⊥) }
+    ensures { Finds (Asks Keyword.Join front.now (words_of arguments.now)) result }
 {
     Ok(Command::Join(ranged(front, arguments)?))
 }
 
 /// What a range and the arguments of `shift` ask for.
 pub fn shift(front: &[u8], arguments: &[u8]) -> Result<Command, BadLine>
-    ensures ok { IfOk result (Asks Keyword.Shift front.now (words_of arguments.now)) }
-    ensures err { OnErr result ((c : Command)
-        → Asks Keyword.Shift front.now (words_of arguments.now) c → ⊥) }
+    ensures { Finds (Asks Keyword.Shift front.now (words_of arguments.now)) result }
 {
     let by = one_word(arguments)?;
     Ok(Command::Shift(range(front)?, distance(by)?))
@@ -74,9 +64,7 @@ pub fn shift(front: &[u8], arguments: &[u8]) -> Result<Command, BadLine>
 
 /// What an address and the arguments of `split` ask for.
 pub fn split(front: &[u8], arguments: &[u8]) -> Result<Command, BadLine>
-    ensures ok { IfOk result (Asks Keyword.Split front.now (words_of arguments.now)) }
-    ensures err { OnErr result ((c : Command)
-        → Asks Keyword.Split front.now (words_of arguments.now) c → ⊥) }
+    ensures { Finds (Asks Keyword.Split front.now (words_of arguments.now)) result }
 {
     let (a, b) = times(arguments)?;
     Ok(Command::Split(address_or_cursor(front)?, a, b))
@@ -84,9 +72,7 @@ pub fn split(front: &[u8], arguments: &[u8]) -> Result<Command, BadLine>
 
 /// What an address and the arguments of `force` ask for.
 pub fn force(front: &[u8], arguments: &[u8]) -> Result<Command, BadLine>
-    ensures ok { IfOk result (Asks Keyword.Force front.now (words_of arguments.now)) }
-    ensures err { OnErr result ((c : Command)
-        → Asks Keyword.Force front.now (words_of arguments.now) c → ⊥) }
+    ensures { Finds (Asks Keyword.Force front.now (words_of arguments.now)) result }
 {
     let name = one_word(arguments)?;
     Ok(Command::Force(address_or_cursor(front)?, element(name)?))
@@ -94,9 +80,7 @@ pub fn force(front: &[u8], arguments: &[u8]) -> Result<Command, BadLine>
 
 /// What the arguments of `insert` ask for, if there is no range.
 pub fn insert(front: &[u8], arguments: &[u8]) -> Result<Command, BadLine>
-    ensures ok { IfOk result (Asks Keyword.Insert front.now (words_of arguments.now)) }
-    ensures err { OnErr result ((c : Command)
-        → Asks Keyword.Insert front.now (words_of arguments.now) c → ⊥) }
+    ensures { Finds (Asks Keyword.Insert front.now (words_of arguments.now)) result }
 {
     let Ok(()) = no_range(front) else {
         return Err(BadLine);
@@ -109,9 +93,7 @@ pub fn insert(front: &[u8], arguments: &[u8]) -> Result<Command, BadLine>
 
 /// What the arguments of `invert` ask for, if there is no range.
 pub fn invert(front: &[u8], arguments: &[u8]) -> Result<Command, BadLine>
-    ensures ok { IfOk result (Asks Keyword.Invert front.now (words_of arguments.now)) }
-    ensures err { OnErr result ((c : Command)
-        → Asks Keyword.Invert front.now (words_of arguments.now) c → ⊥) }
+    ensures { Finds (Asks Keyword.Invert front.now (words_of arguments.now)) result }
 {
     let Ok(()) = no_range(front) else {
         return Err(BadLine);
@@ -124,9 +106,7 @@ pub fn invert(front: &[u8], arguments: &[u8]) -> Result<Command, BadLine>
 
 /// What the arguments of `format` ask for, if there is no range.
 pub fn format(front: &[u8], arguments: &[u8]) -> Result<Command, BadLine>
-    ensures ok { IfOk result (Asks Keyword.Format front.now (words_of arguments.now)) }
-    ensures err { OnErr result ((c : Command)
-        → Asks Keyword.Format front.now (words_of arguments.now) c → ⊥) }
+    ensures { Finds (Asks Keyword.Format front.now (words_of arguments.now)) result }
 {
     let Ok(()) = no_range(front) else {
         return Err(BadLine);
@@ -137,9 +117,7 @@ pub fn format(front: &[u8], arguments: &[u8]) -> Result<Command, BadLine>
 
 /// What the arguments of `mark` ask for, if there is no range.
 pub fn set_mark(front: &[u8], arguments: &[u8]) -> Result<Command, BadLine>
-    ensures ok { IfOk result (Asks Keyword.Mark front.now (words_of arguments.now)) }
-    ensures err { OnErr result ((c : Command)
-        → Asks Keyword.Mark front.now (words_of arguments.now) c → ⊥) }
+    ensures { Finds (Asks Keyword.Mark front.now (words_of arguments.now)) result }
 {
     let Ok(()) = no_range(front) else {
         return Err(BadLine);
@@ -150,9 +128,7 @@ pub fn set_mark(front: &[u8], arguments: &[u8]) -> Result<Command, BadLine>
 
 /// What the argument of `unmark` asks for, if there is no range.
 pub fn unmark(front: &[u8], arguments: &[u8]) -> Result<Command, BadLine>
-    ensures ok { IfOk result (Asks Keyword.Unmark front.now (words_of arguments.now)) }
-    ensures err { OnErr result ((c : Command)
-        → Asks Keyword.Unmark front.now (words_of arguments.now) c → ⊥) }
+    ensures { Finds (Asks Keyword.Unmark front.now (words_of arguments.now)) result }
 {
     let Ok(()) = no_range(front) else {
         return Err(BadLine);
@@ -163,9 +139,7 @@ pub fn unmark(front: &[u8], arguments: &[u8]) -> Result<Command, BadLine>
 
 /// What the arguments of `regen` ask for, if there is no range.
 pub fn regen(front: &[u8], arguments: &[u8]) -> Result<Command, BadLine>
-    ensures ok { IfOk result (Asks Keyword.Regen front.now (words_of arguments.now)) }
-    ensures err { OnErr result ((c : Command)
-        → Asks Keyword.Regen front.now (words_of arguments.now) c → ⊥) }
+    ensures { Finds (Asks Keyword.Regen front.now (words_of arguments.now)) result }
 {
     let Ok(()) = no_range(front) else {
         return Err(BadLine);
@@ -175,9 +149,7 @@ pub fn regen(front: &[u8], arguments: &[u8]) -> Result<Command, BadLine>
 
 /// A range, if there is no argument.
 fn ranged(front: &[u8], arguments: &[u8]) -> Result<Range, BadLine>
-    ensures ok { IfOk result (λ r. IsRange front.now r × (words_of arguments.now ≡ [])) }
-    ensures err { OnErr result ((r : Range) → IsRange front.now r
-        → words_of arguments.now ≡ [] → ⊥) }
+    ensures { Finds (λ r. IsRange front.now r × (words_of arguments.now ≡ [])) result }
 {
     no_word(arguments)?;
     range(front)
@@ -185,9 +157,7 @@ fn ranged(front: &[u8], arguments: &[u8]) -> Result<Range, BadLine>
 
 /// What the arguments of `regen` ask for.
 fn frames(arguments: &[u8]) -> Result<Command, BadLine>
-    ensures ok { IfOk result (Asks Keyword.Regen [] (words_of arguments.now)) }
-    ensures err { OnErr result ((c : Command)
-        → Asks Keyword.Regen [] (words_of arguments.now) c → ⊥) }
+    ensures { Finds (Asks Keyword.Regen [] (words_of arguments.now)) result }
 {
     let (start, rest) = split_word(arguments);
     let (frames, rest) = split_word(rest);

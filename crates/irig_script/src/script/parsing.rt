@@ -1,10 +1,10 @@
 //! Lines of a script as commands.
 
 ghost use Rattle.std.specs.Prelude.{◌≡◌, ◌++◌, ◌&&◌, ◌||◌, not, ℕ, List, [], true, IfOk, OnErr};
+ghost use Rattle.irig_script.specs.Script.Findings.{Finds};
 ghost use Rattle.irig_script.specs.Script.Addresses.{IsRange};
 ghost use Rattle.irig_script.specs.Script.Commands.{Asks, IsAlone};
 ghost use Rattle.irig_script.specs.Script.Words.{is_letter, is_space, words_of};
-ghost use Rattle.irig_script.specs.declared.script.keyword.Keyword.{Keyword};
 ghost use Rattle.irig_script.specs.declared.script.range.Range.{Range};
 ghost use Rattle.irig_script.specs.Script.Grammar.{Means, Orders, follows_range, is_nothing};
 ghost use Rattle.irig_script.specs.declared.script.command.Command.{Command};
@@ -40,8 +40,7 @@ fn is_nothing(text: &[u8]) -> bool
 
 /// What a text asks for that begins with no white space.
 fn in_text(text: &[u8]) -> Result<Command, BadLine>
-    ensures ok { IfOk result (λ c. Orders c text.now) }
-    ensures err { OnErr result ((c : Command) → Orders c text.now → ⊥) }
+    ensures { Finds (λ c. Orders c text.now) result }
 {
     let (range, rest) = split_range(text);
     let (word, arguments) = split_word(rest);
@@ -74,9 +73,7 @@ fn ends_range(quoted: bool, byte: u8) -> bool
 
 /// What a range, a word and arguments ask for.
 fn asked(front: &[u8], word: Keyword, arguments: &[u8]) -> Result<Command, BadLine>
-    ensures ok { IfOk result (Asks word front.now (words_of arguments.now)) }
-    ensures err { OnErr result ((c : Command)
-        → Asks word front.now (words_of arguments.now) c → ⊥) }
+    ensures { Finds (Asks word front.now (words_of arguments.now)) result }
 {
     match word {
         Keyword::Missing => show(front),
@@ -100,9 +97,7 @@ fn asked(front: &[u8], word: Keyword, arguments: &[u8]) -> Result<Command, BadLi
 /// What a word asks for that takes neither a range nor an argument.
 fn asked_alone(front: &[u8], word: Keyword, arguments: &[u8]) -> Result<Command, BadLine>
     requires { IsAlone word }
-    ensures ok { IfOk result (Asks word front.now (words_of arguments.now)) }
-    ensures err { OnErr result ((c : Command)
-        → Asks word front.now (words_of arguments.now) c → ⊥) }
+    ensures { Finds (Asks word front.now (words_of arguments.now)) result }
 {
     let Ok(()) = no_range(front) else {
         return Err(BadLine);

@@ -1,23 +1,24 @@
 use Rattle.irig_script.specs.Script.Addresses.{IsRange}
 use Rattle.irig_script.specs.declared.script.range.Range.{Range}
 use Rattle.irig_script.proofs.ScriptLemmas.AddressCut.{pair_range, pair_refused, uncut_range}
-use Rattle.irig_script.proofs.ObeyLemmas.Lines.{given}
 use Rattle.irig_script.proofs.ScriptLemmas.WordLemmas.{rest_whole}
+use Rattle.irig_script.proofs.ScriptLemmas.KnownWords.{finds_none}
 use Rattle.irig_script.proofs.script.addresses.range.Goals as goal
 
-pub returns-in_err-address_or_cursor-in-empty-clause-err : goal.returns-in_err-address_or_cursor-in-empty-clause-err
-returns-in_err-address_or_cursor-in-empty-clause-err c =
+pub returns-in_err-address_or_cursor-in-empty : goal.returns-in_err-address_or_cursor-in-empty
+returns-in_err-address_or_cursor-in-empty c =
     let no : (r : Range) → IsRange c.args.text.now r → ⊥ = λ r h.
     (let found = uncut_range c.args.text.now _ r c.cut.ensures.onward c.in-empty.len_below h in
-    c.in_err-address_or_cursor-in-empty.ensures.err found.0 found.1) in
-    given _ no
+    c.in_err-address_or_cursor-in-empty.ensures found.0 found.1) in
+    finds_none _ c.from_residual.result _ c.from_residual.ensures.1 no
 
-pub returns-in_err-first-in-len1-up-clause-err : goal.returns-in_err-first-in-len1-up-clause-err
-returns-in_err-first-in-len1-up-clause-err c =
-    given _ (pair_refused c.args.text.now _ _ _ c.cut.ensures.before c.cut.ensures.onward c.in-len1-up.len_at_least (rest_whole c.cut.result.1.now 1)
-    c.in_err-first-in-len1-up.ensures.err)
+pub returns-in_err-first-in-len1-up : goal.returns-in_err-first-in-len1-up
+returns-in_err-first-in-len1-up c =
+    let none = c.from_residual-in_err-first-in-len1-up in
+    finds_none _ none.result _ none.ensures.1 (pair_refused c.args.text.now _ _ _ c.cut.ensures.before c.cut.ensures.onward c.in-len1-up.len_at_least
+    (rest_whole c.cut.result.1.now 1) (λ a b. c.in_err-first-in-len1-up.ensures (a, b)))
 
-pub returns-in_ok-first-in-len1-up-clause-ok : goal.returns-in_ok-first-in-len1-up-clause-ok
-returns-in_ok-first-in-len1-up-clause-ok c =
+pub returns-in_ok-first-in-len1-up : goal.returns-in_ok-first-in-len1-up
+returns-in_ok-first-in-len1-up c =
     pair_range c.args.text.now _ _ _ _ _ c.cut.ensures.before c.cut.ensures.onward c.in-len1-up.len_at_least (rest_whole c.cut.result.1.now 1)
-    c.in_ok-first-in-len1-up.ensures.ok
+    c.in_ok-first-in-len1-up.ensures

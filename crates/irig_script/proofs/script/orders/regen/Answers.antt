@@ -1,6 +1,11 @@
 use Rattle.std.proofs.Common.{refl}
-use Rattle.std.proofs.lemmas.Result.{on_err_weaker}
+use Rattle.irig_script.specs.Script.Commands.{Asks}
+use Rattle.irig_script.specs.Script.Words.{words_of}
+use Rattle.irig_script.specs.declared.script.keyword.Keyword.TheVariants as word
+use Rattle.irig_script.proofs.ScriptLemmas.KnownWords.{finds_as}
 use Rattle.irig_script.proofs.script.orders.regen.Goals as goal
 
-pub returns-clause-err : goal.returns-clause-err
-returns-clause-err c = on_err_weaker c.frames.result (λ no asked a. no asked (a.0, a.1, a.2, a.3, a.4, refl, a.6)) c.frames.ensures.err
+pub returns : goal.returns
+returns c = finds_as _ (Asks word.Regen c.args.front.now (words_of c.args.arguments.now)) c.frames.result
+    (λ asked a. (a.0, a.1, a.2, a.3, a.4, c.in-Ok.ensures.ok, a.6))
+    (λ no asked a. no asked (a.0, a.1, a.2, a.3, a.4, refl, a.6)) c.frames.ensures
