@@ -13,7 +13,7 @@ use crate::obey::calls::{
     abort, begin, delete, end, force, insert, invert, join, list, mark, redo, regen, set_format,
     shift, show, split, undo, unmark,
 };
-use crate::obey::writing::write;
+use crate::obey::writing::{write_dump, write_saved};
 use crate::print::reply::Reply;
 use crate::script::command::{BadLine, Command};
 use crate::script::line::Line;
@@ -44,8 +44,8 @@ fn write_or_obey<S: Shelf>(command: Command, session: &mut Session, shelf: &mut 
         (texts_put (texts_of command session.old) result) (failures_of result) }
 {
     match command {
-        Command::Write => write(&mut session.text_parts(), shelf),
-        Command::Save => write(&mut session.saved_parts(), shelf),
+        Command::Write => write_dump(session, shelf),
+        Command::Save => write_saved(session, shelf),
         _ => obey(command, session),
     }
 }

@@ -1,16 +1,41 @@
 //! The lines `write` and `save`.
 
 ghost use Rattle.std.specs.Prelude.{◌∷◌, []};
+ghost use Rattle.irig_edit.specs.Saved.SavedSession.{saved_text};
+ghost use Rattle.irig_edit.specs.Session.Session.{machine_in};
 ghost use Rattle.irig_script.specs.Obey.Desk.{failures_of};
-ghost use Rattle.irig_script.specs.Obey.Replies.{Writes, texts_put};
+ghost use Rattle.irig_script.specs.Obey.Replies.{Writes, dump_text, texts_put};
 ghost use Rattle.irig_script.specs.Shelf.Shelved.{Puts};
 
 use crate::print::reply::Reply;
 use crate::shelf::shelf::Shelf;
+use irig_edit::Session;
 use irig_text::Text;
 
+/// Writes the text of the track. It takes no memory.
+///
+/// It is a call of its own, so that no other line pays for the place of a text in parts.
+#[inline(never)]
+pub fn write_dump<S: Shelf>(session: &Session, shelf: &mut S) -> Reply
+    ensures answer { Writes (dump_text session.now) result }
+    ensures put { Puts (S.known shelf.old) (S.known shelf.new)
+        (texts_put (dump_text session.now ∷ []) result) (failures_of result) }
+{
+    write(&mut session.text_parts(), shelf)
+}
+
+/// Writes the text of the track with its journal. It takes no memory.
+#[inline(never)]
+pub fn write_saved<S: Shelf>(session: &Session, shelf: &mut S) -> Reply
+    ensures answer { Writes (saved_text (machine_in session.now)) result }
+    ensures put { Puts (S.known shelf.old) (S.known shelf.new)
+        (texts_put (saved_text (machine_in session.now) ∷ []) result) (failures_of result) }
+{
+    write(&mut session.saved_parts(), shelf)
+}
+
 /// Writes a text to the shelf.
-pub fn write<T: Text, S: Shelf>(text: &mut T, shelf: &mut S) -> Reply
+fn write<T: Text, S: Shelf>(text: &mut T, shelf: &mut S) -> Reply
     ensures answer { Writes (T.rest text.old) result }
     ensures put { Puts (S.known shelf.old) (S.known shelf.new)
         (texts_put (T.rest text.old ∷ []) result) (failures_of result) }
