@@ -1,7 +1,6 @@
 //! Pulses and the edges that they have.
 
 use irig_vcd::Pulse;
-use std::alloc::{AllocError, Global};
 
 /// Whether pulses have these edges, in order.
 pub(crate) fn have_edges(pulses: &[Pulse], edges: &[u64]) -> bool {
@@ -13,14 +12,4 @@ pub(crate) fn have_edges(pulses: &[Pulse], edges: &[u64]) -> bool {
         }
     }
     left.is_empty()
-}
-
-/// The edges of pulses, in order.
-pub(crate) fn edges_of(alloc: Global, pulses: &[Pulse]) -> Result<Vec<u64>, AllocError> {
-    let mut edges = Vec::new(alloc);
-    for pulse in pulses {
-        edges.push(pulse.rise)?;
-        edges.push(pulse.fall)?;
-    }
-    Ok(edges)
 }

@@ -1,19 +1,21 @@
 //! Tracks and gaps for the tests, and edits that are tried before they are made.
 
+ghost use Rattle.std.specs.Prelude.{◌≡◌, ◌+◌, ◌≤◌, length, []};
+ghost use Rattle.irig_track.specs.Splices.{CanSplice};
+
 use crate::edges::have_edges;
 use irig_gap::Gap;
 use irig_track::{Pulse, Span, Track};
 use irig_vcd::Recording;
 use std::alloc::{AllocError, Global};
-use std::process::Abort;
 
 /// The track of a length and edges, if these are a recording.
 pub(crate) fn track_of(
     alloc: Global,
     length: u64,
-    edges: Vec<u64>,
+    edges: &[u64],
 ) -> Result<Option<Track>, AllocError> {
-    match Recording::new(alloc, length, edges.as_slice())? {
+    match Recording::new(alloc, length, edges)? {
         Some(recording) => Ok(Some(Track::new(recording)?)),
         None => Ok(None),
     }
@@ -29,39 +31,72 @@ pub(crate) fn pulses_of(alloc: Global, track: &Track) -> Result<Gap<Pulse>, Allo
     Ok(pulses)
 }
 
-/// Compares the edges of a track, taken from its recording.
-pub(crate) fn check_edges(
-    rt: &impl Abort,
-    alloc: Global,
-    track: &Track,
-    edges: &[u64],
-) -> Result<(), AllocError> {
-    let recording = track.recording(alloc)?;
-    assert_eq!(rt; recording.length(), track.length());
-    assert!(rt; have_edges(recording.pulses(), edges));
-    assert!(rt; track.text(alloc)? == irig_vcd::text(alloc, &recording)?);
-    Ok(())
+/// Whether a track has these edges, taken from its recording, and the recording's text.
+pub(crate) fn has_edges(alloc: Global, track: &Track, edges: &[u64]) -> bool {
+    match track.recording(alloc) {
+        Ok(recording) => is_recording_of(alloc, track, &recording, edges),
+        Err(_) => false,
+    }
 }
 
-/// Makes a splice if it can be made.
-pub(crate) fn splice(
-    rt: &impl Abort,
+/// Whether a recording has a track's length and text, and these edges.
+fn is_recording_of(alloc: Global, track: &Track, recording: &Recording, edges: &[u64]) -> bool {
+    recording.length() == track.length()
+        && have_edges(recording.pulses(), edges)
+        && have_one_text(alloc, track, recording)
+}
+
+/// Whether a track and a recording have one text.
+fn have_one_text(alloc: Global, track: &Track, recording: &Recording) -> bool {
+    match track.text(alloc) {
+        Ok(text) => is_text_of(alloc, recording, text.as_slice()),
+        Err(_) => false,
+    }
+}
+
+/// Whether a recording has this text.
+fn is_text_of(alloc: Global, recording: &Recording, text: &[u8]) -> bool {
+    match irig_vcd::text(alloc, recording) {
+        Ok(written) => written.as_slice() == text,
+        Err(_) => false,
+    }
+}
+
+/// Whether a splice takes place at this span, or cannot be made if there is none.
+pub(crate) fn splices(
     alloc: Global,
     track: &mut Track,
     at: usize,
     count: usize,
     put: &mut Gap<Pulse>,
-) -> Result<Option<Span>, AllocError> {
-    track.reserve(put.len())?;
-    let mut taken = Gap::new(alloc);
-    if !track.can_splice(at, count, put) {
-        return Ok(None);
+    want: Option<Span>,
+) -> bool {
+    if track.reserve(put.len()).is_err() {
+        return false;
     }
-    taken.reserve(count)?;
-    let span = track.splice(at, count, put, &mut taken);
-    assert_eq!(rt; put.len(), 0);
-    assert_eq!(rt; taken.len(), count);
-    Ok(Some(span))
+    if !track.can_splice(at, count, put) {
+        return want.is_none();
+    }
+    let mut taken = Gap::new(alloc);
+    taken.reserve(count).is_ok() && exchanges(track, at, count, put, &mut taken, want)
+}
+
+/// Whether a splice takes place at this span, takes all that is put, and gives what goes.
+fn exchanges(
+    track: &mut Track,
+    at: usize,
+    count: usize,
+    put: &mut Gap<Pulse>,
+    taken: &mut Gap<Pulse>,
+    want: Option<Span>,
+) -> bool
+    requires can { CanSplice track.old.micros at count put.old.items track.old.pulses }
+    requires spare { length put.old.items ≤ track.old.spare + count }
+    requires empty { taken.old.items ≡ [] }
+    requires room { count ≤ taken.old.capacity }
+{
+    let span = track.splice(at, count, put, taken);
+    put.len() == 0 && taken.len() == count && want == Some(span)
 }
 
 /// Makes a shift if it can be made.

@@ -2,13 +2,13 @@
 
 use super::helpers::track_of;
 use irig_text::Text;
-use irig_track::TrackText;
-use std::alloc::{AllocError, Global};
-use std::process::Abort;
-use std::test::Fail;
+use irig_track::{Track, TrackText};
+use std::alloc::Global;
 
-/// The text of a track of length 1,000 with pulses 0-120 and 200-280, in microseconds: its header,
-/// the lines of each pulse, and the line of the length.
+/// The edges of a track of length 1,000, in microseconds.
+const EDGES: &[u64] = &[0, 120, 200, 280];
+
+/// The text of that track: its header, the lines of each pulse, and the line of the length.
 static LINES: [&[u8]; 4] = [
     b"$timescale 1 us $end\n$scope module irig $end\n$var wire 1 ! code $end\n\
     $upscope $end\n$enddefinitions $end\n#0\n$dumpvars\n1!\n$end\n",
@@ -29,48 +29,48 @@ static PARTS: [(usize, &[usize]); 8] = [
     (usize::MAX, &[4]),
 ];
 
-/// Takes a part of a text, and returns whether it is these lines.
-fn is_part(
-    alloc: Global,
-    text: &mut TrackText<'_>,
-    enough: usize,
-    lines: &[&[u8]],
-) -> Result<bool, AllocError> {
-    let mut want = Vec::new(alloc);
+/// Whether bytes are these lines, one after another.
+fn are_lines(bytes: &[u8], lines: &[&[u8]]) -> bool {
+    let mut from = 0;
     for line in lines {
-        want.extend_from_slice(line)?;
+        let to = usize::saturating_add(from, line.len());
+        if bytes.get(from..to) != Some(*line) {
+            return false;
+        }
+        from = to;
     }
-    let mut block = Vec::new(alloc);
-    text.fill(&mut block, enough)?;
-    Ok(block.as_slice() == want.as_slice())
+    from == bytes.len()
 }
 
-/// Takes each part of a text, and compares it with its lines. After the last the text has ended.
-fn check(
-    rt: &impl Abort,
-    alloc: Global,
-    text: &mut TrackText<'_>,
-    enough: usize,
-    parts: &[usize],
-) -> Result<(), AllocError> {
+/// Takes a part of a text, and returns whether it is these lines.
+fn is_part(alloc: Global, text: &mut TrackText<'_>, enough: usize, lines: &[&[u8]]) -> bool {
+    let mut block = Vec::new(alloc);
+    text.fill(&mut block, enough).is_ok() && are_lines(block.as_slice(), lines)
+}
+
+/// Whether a text ends after these parts, each of that many lines.
+fn has_parts(alloc: Global, text: &mut TrackText<'_>, enough: usize, parts: &[usize]) -> bool {
     let mut from = 0;
     for count in parts {
         let to = usize::saturating_add(from, *count);
-        let lines = LINES.get(from..to).expect(rt, "lines");
-        assert!(rt; is_part(alloc, text, enough, lines)?);
-        from = to;
+        match LINES.get(from..to) {
+            Some(lines) if is_part(alloc, text, enough, lines) => from = to,
+            _ => return false,
+        }
     }
-    assert_eq!(rt; from, LINES.len());
-    assert!(rt; is_part(alloc, text, enough, &[])?);
-    Ok(())
+    from == LINES.len() && is_part(alloc, text, enough, &[])
+}
+
+/// Whether a track has its text in these parts.
+fn comes_in_parts(alloc: Global, track: &Track, (enough, parts): &(usize, &[usize])) -> bool {
+    has_parts(alloc, &mut track.text_parts(), *enough, parts)
 }
 
 #[test]
-fn a_text_comes_in_parts(rt: HostRuntime) -> Result<(), Fail> {
-    let edges = [0, 120, 200, 280].to_vec(rt.alloc())?;
-    let track = track_of(rt.alloc(), 1000, edges)?.expect(&rt, "a track");
-    for (enough, parts) in PARTS.iter() {
-        check(&rt, rt.alloc(), &mut track.text_parts(), *enough, parts)?;
+fn a_text_comes_in_parts(rt: HostRuntime) {
+    let made = track_of(rt.alloc(), 1000, EDGES).expect(&rt, "memory");
+    let track = made.expect(&rt, "a track");
+    for row in PARTS.iter() {
+        assert!(rt; comes_in_parts(rt.alloc(), &track, row));
     }
-    Ok(())
 }

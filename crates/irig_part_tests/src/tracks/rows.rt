@@ -1,13 +1,15 @@
 //! The worked rows of a track of two pulses, and a track at its limit.
 
-use super::helpers::{check_edges, pulses_of, shift, splice, toggle, track_of};
+use super::helpers::{has_edges, pulses_of, shift, splices, toggle, track_of};
 use irig_gap::Gap;
-use irig_track::{Pulse, Span, Track};
-use std::alloc::Global;
+use irig_track::{Lens, Pulse, Span, Track};
+use std::alloc::{AllocError, Global};
 use std::process::Abort;
-use std::test::Fail;
 
-/// A call with its answer: for an edit its Span, or None if it cannot be made.
+/// Where an edit took place: its first pulse, how many pulses went, and how many came.
+type Place = (usize, usize, usize);
+
+/// A call with its answer: for an edit its place, or None if it cannot be made.
 #[derive(Clone, Copy)]
 enum Call {
     Len(usize),
@@ -15,175 +17,235 @@ enum Call {
     Room(usize),
     Find(u64, usize),
     Pulse(usize, u64, u64),
-    Splice(usize, usize, u64, u64, Option<Span>),
-    Shift(usize, usize, i64, Option<Span>),
-    Toggle(u64, u64, Option<Span>),
+    Splice(usize, usize, u64, u64, Option<Place>),
+    Shift(usize, usize, i64, Option<Place>),
+    Toggle(u64, u64, Option<Place>),
 }
 
-/// The Span with these numbers.
-fn span(at: usize, old: usize, new: usize) -> Option<Span> {
-    Some(Span { at, old, new })
+/// A call on the track of two pulses, and the edges that the track then has.
+type Row = (Call, &'static [u64]);
+
+/// The Span of a place.
+fn span_of(place: Option<Place>) -> Option<Span> {
+    match place {
+        Some((at, old, new)) => Some(Span { at, old, new }),
+        None => None,
+    }
 }
 
 /// The track of length 1,000 with pulses 100-120 and 200-280, in microseconds.
-fn two_pulses(rt: &impl Abort, alloc: Global) -> Result<Track, Fail> {
-    let edges = [100, 120, 200, 280].to_vec(alloc)?;
-    let track = track_of(alloc, 1000, edges)?;
-    Ok(track.expect(rt, "a track"))
+fn two_pulses(alloc: Global) -> Result<Option<Track>, AllocError> {
+    track_of(alloc, 1000, START)
 }
 
-/// Makes one call and compares its answer.
-fn obey(rt: &impl Abort, alloc: Global, track: &mut Track, call: Call) -> Result<(), Fail> {
+/// One pulse in a gap buffer.
+fn one_pulse(alloc: Global, rise: u64, fall: u64) -> Result<Gap<Pulse>, AllocError> {
+    let mut put = Gap::new(alloc);
+    put.reserve(1)?;
+    put.put(Pulse { rise, fall });
+    Ok(put)
+}
+
+/// Whether a track has this pulse at a place.
+fn has_pulse(track: &Track, index: usize, rise: u64, fall: u64) -> bool {
+    index < track.len() && track.pulse(index) == Pulse { rise, fall }
+}
+
+/// Whether a splice of one pulse takes place there, or cannot be made if there is no place.
+fn splices_one(
+    alloc: Global,
+    track: &mut Track,
+    at: usize,
+    count: usize,
+    rise: u64,
+    fall: u64,
+    place: Option<Place>,
+) -> bool {
+    match one_pulse(alloc, rise, fall) {
+        Ok(mut put) => splices(alloc, track, at, count, &mut put, span_of(place)),
+        Err(_) => false,
+    }
+}
+
+/// Whether a toggle takes place there, or cannot be made if there is no place.
+fn toggles(track: &mut Track, a: u64, b: u64, place: Option<Place>) -> bool {
+    match toggle(track, a, b) {
+        Ok(answer) => answer == span_of(place),
+        Err(_) => false,
+    }
+}
+
+/// Whether a call answers what it should.
+fn answers(alloc: Global, track: &mut Track, call: Call) -> bool {
     match call {
-        Call::Len(len) => assert_eq!(rt; track.len(), len),
-        Call::Length(length) => assert_eq!(rt; track.length(), length),
-        Call::Room(room) => assert_eq!(rt; track.room(), room),
-        Call::Find(time, count) => assert_eq!(rt; track.find(time), count),
-        Call::Pulse(index, rise, fall) => {
-            assert!(rt; index < track.len());
-            assert!(rt; track.pulse(index) == Pulse { rise, fall });
+        Call::Len(len) => track.len() == len,
+        Call::Length(length) => track.length() == length,
+        Call::Room(room) => track.room() == room,
+        Call::Find(time, count) => track.find(time) == count,
+        Call::Pulse(index, rise, fall) => has_pulse(track, index, rise, fall),
+        Call::Splice(at, count, rise, fall, place) => {
+            splices_one(alloc, track, at, count, rise, fall, place)
         }
-        Call::Splice(at, count, rise, fall, answer) => {
-            let mut put = Gap::new(alloc);
-            put.reserve(1)?;
-            put.put(Pulse { rise, fall });
-            assert!(rt; splice(rt, alloc, track, at, count, &mut put)? == answer);
-        }
-        Call::Shift(i, j, by, answer) => assert!(rt; shift(track, i, j, by) == answer),
-        Call::Toggle(a, b, answer) => assert!(rt; toggle(track, a, b)? == answer),
+        Call::Shift(i, j, by, place) => shift(track, i, j, by) == span_of(place),
+        Call::Toggle(a, b, place) => toggles(track, a, b, place),
     }
-    Ok(())
 }
 
-/// Each call is made on the track of two pulses, which then has the edges of its row.
-fn check(rt: &impl Abort, alloc: Global, rows: &[(Call, &[u64])]) -> Result<(), Fail> {
-    for (call, edges) in rows {
-        let mut track = two_pulses(rt, alloc)?;
-        obey(rt, alloc, &mut track, *call)?;
-        check_edges(rt, alloc, &track, edges)?;
+/// Whether a call on the track of two pulses is as its row says.
+fn is_right(alloc: Global, (call, edges): &Row) -> bool {
+    match two_pulses(alloc) {
+        Ok(Some(mut track)) => {
+            answers(alloc, &mut track, *call) && has_edges(alloc, &track, edges)
+        }
+        _ => false,
     }
-    Ok(())
+}
+
+/// Makes the call of each row.
+fn check(rt: &impl Abort, alloc: Global, rows: &[Row]) {
+    for row in rows {
+        assert!(rt; is_right(alloc, row));
+    }
 }
 
 /// The edges of the track of two pulses, in microseconds.
 const START: &[u64] = &[100, 120, 200, 280];
 
-#[test]
-fn a_track_tells_its_pulses(rt: HostRuntime) -> Result<(), Fail> {
-    check(
-        &rt,
-        rt.alloc(),
-        &[
-            (Call::Len(2), START),
-            (Call::Length(1000), START),
-            (Call::Room(4_194_302), START),
-            (Call::Pulse(1, 200, 280), START),
-            (Call::Find(99, 0), START),
-            (Call::Find(100, 1), START),
-            (Call::Find(u64::MAX, 2), START),
-        ],
-    )
-}
+static PULSES: [Row; 7] = [
+    (Call::Len(2), START),
+    (Call::Length(1000), START),
+    (Call::Room(4_194_302), START),
+    (Call::Pulse(1, 200, 280), START),
+    (Call::Find(99, 0), START),
+    (Call::Find(100, 1), START),
+    (Call::Find(u64::MAX, 2), START),
+];
 
 #[test]
-fn a_splice_says_where_it_took_place(rt: HostRuntime) -> Result<(), Fail> {
-    check(
-        &rt,
-        rt.alloc(),
-        &[
-            (Call::Splice(1, 0, 130, 200, None), START),
-            (
-                Call::Splice(1, 0, 130, 199, span(1, 0, 1)),
-                &[100, 120, 130, 199, 200, 280],
-            ),
-            (Call::Splice(0, 2, 0, 1000, span(0, 2, 1)), &[0, 1000]),
-            (Call::Splice(2, 0, 300, 300, None), START),
-            (Call::Splice(2, 0, 300, 1001, None), START),
-            (Call::Splice(2, 0, 300, u64::MAX, None), START),
-            (Call::Splice(3, 0, 300, 400, None), START),
-            (Call::Splice(1, usize::MAX, 300, 400, None), START),
-        ],
-    )
+fn a_track_tells_its_pulses(rt: HostRuntime) {
+    check(&rt, rt.alloc(), &PULSES);
 }
 
-#[test]
-fn a_toggle_says_where_it_took_place(rt: HostRuntime) -> Result<(), Fail> {
-    check(
-        &rt,
-        rt.alloc(),
-        &[
-            (
-                Call::Toggle(110, 250, span(0, 2, 3)),
-                &[100, 110, 120, 200, 250, 280],
-            ),
-            (Call::Toggle(100, 120, span(0, 1, 0)), &[200, 280]),
-            (Call::Toggle(120, 200, span(0, 2, 1)), &[100, 280]),
-            (
-                Call::Toggle(130, 150, span(1, 0, 1)),
-                &[100, 120, 130, 150, 200, 280],
-            ),
-            (Call::Toggle(250, 110, None), START),
-            (Call::Toggle(110, 110, None), START),
-            (Call::Toggle(110, 1001, None), START),
-        ],
-    )
-}
+static SPLICES: [Row; 8] = [
+    (Call::Splice(1, 0, 130, 200, None), START),
+    (
+        Call::Splice(1, 0, 130, 199, Some((1, 0, 1))),
+        &[100, 120, 130, 199, 200, 280],
+    ),
+    (Call::Splice(0, 2, 0, 1000, Some((0, 2, 1))), &[0, 1000]),
+    (Call::Splice(2, 0, 300, 300, None), START),
+    (Call::Splice(2, 0, 300, 1001, None), START),
+    (Call::Splice(2, 0, 300, u64::MAX, None), START),
+    (Call::Splice(3, 0, 300, 400, None), START),
+    (Call::Splice(1, usize::MAX, 300, 400, None), START),
+];
 
 #[test]
-fn a_shift_says_where_it_took_place(rt: HostRuntime) -> Result<(), Fail> {
-    check(
-        &rt,
-        rt.alloc(),
-        &[
-            (Call::Shift(0, 0, 80, None), START),
-            (Call::Shift(0, 0, 79, span(0, 1, 1)), &[179, 199, 200, 280]),
-            (
-                Call::Shift(0, 1, 720, span(0, 2, 2)),
-                &[820, 840, 920, 1000],
-            ),
-            (Call::Shift(0, 1, 721, None), START),
-            (Call::Shift(0, 1, -100, span(0, 2, 2)), &[0, 20, 100, 180]),
-            (Call::Shift(0, 1, -101, None), START),
-            (Call::Shift(1, 0, 0, None), START),
-            (Call::Shift(0, 2, 0, None), START),
-            (Call::Shift(0, 1, i64::MIN, None), START),
-            (Call::Shift(0, 1, i64::MAX, None), START),
-        ],
-    )
+fn a_splice_says_where_it_took_place(rt: HostRuntime) {
+    check(&rt, rt.alloc(), &SPLICES);
 }
 
+static TOGGLES: [Row; 7] = [
+    (
+        Call::Toggle(110, 250, Some((0, 2, 3))),
+        &[100, 110, 120, 200, 250, 280],
+    ),
+    (Call::Toggle(100, 120, Some((0, 1, 0))), &[200, 280]),
+    (Call::Toggle(120, 200, Some((0, 2, 1))), &[100, 280]),
+    (
+        Call::Toggle(130, 150, Some((1, 0, 1))),
+        &[100, 120, 130, 150, 200, 280],
+    ),
+    (Call::Toggle(250, 110, None), START),
+    (Call::Toggle(110, 110, None), START),
+    (Call::Toggle(110, 1001, None), START),
+];
+
 #[test]
-fn a_full_track_takes_no_further_pulse(rt: HostRuntime) -> Result<(), Fail> {
-    let mut edges = Vec::with_capacity(rt.alloc(), 1 << 23)?;
+fn a_toggle_says_where_it_took_place(rt: HostRuntime) {
+    check(&rt, rt.alloc(), &TOGGLES);
+}
+
+static SHIFTS: [Row; 10] = [
+    (Call::Shift(0, 0, 80, None), START),
+    (
+        Call::Shift(0, 0, 79, Some((0, 1, 1))),
+        &[179, 199, 200, 280],
+    ),
+    (
+        Call::Shift(0, 1, 720, Some((0, 2, 2))),
+        &[820, 840, 920, 1000],
+    ),
+    (Call::Shift(0, 1, 721, None), START),
+    (Call::Shift(0, 1, -100, Some((0, 2, 2))), &[0, 20, 100, 180]),
+    (Call::Shift(0, 1, -101, None), START),
+    (Call::Shift(1, 0, 0, None), START),
+    (Call::Shift(0, 2, 0, None), START),
+    (Call::Shift(0, 1, i64::MIN, None), START),
+    (Call::Shift(0, 1, i64::MAX, None), START),
+];
+
+#[test]
+fn a_shift_says_where_it_took_place(rt: HostRuntime) {
+    check(&rt, rt.alloc(), &SHIFTS);
+}
+
+/// A track of 2^22 pulses, each a microsecond long and a microsecond apart.
+fn full_track(alloc: Global) -> Result<Option<Track>, AllocError> {
+    let mut edges = Vec::with_capacity(alloc, 1 << 23)?;
     for time in 0..8_388_608 {
         edges.push(time)?;
     }
-    let track = track_of(rt.alloc(), 8_388_618, edges)?.expect(&rt, "a track");
-    let mut put = Gap::new(rt.alloc());
-    put.reserve(1)?;
-    put.put(Pulse {
-        rise: 8_388_610,
-        fall: 8_388_611,
-    });
-    assert_eq!(rt; track.room(), 0);
-    assert!(rt; !track.can_splice(4_194_304, 0, &put));
-    assert!(rt; track.can_splice(4_194_303, 1, &put));
-    assert!(rt; !track.can_toggle(8_388_610, 8_388_611));
-    assert!(rt; track.can_toggle(0, 1));
-    assert!(rt; track.can_toggle(0, 8_388_610));
-    Ok(())
+    track_of(alloc, 8_388_618, edges.as_slice())
+}
+
+/// Whether a pulse comes into a full track only instead of another.
+fn takes_no_further(track: &Track, put: &Gap<Pulse>) -> bool {
+    track.room() == 0 && !track.can_splice(4_194_304, 0, put) && track.can_splice(4_194_303, 1, put)
+}
+
+/// Whether an inversion of a full track is made only if it makes no further pulse.
+fn inverts_no_further(track: &Track) -> bool {
+    !track.can_toggle(8_388_610, 8_388_611)
+        && track.can_toggle(0, 1)
+        && track.can_toggle(0, 8_388_610)
 }
 
 #[test]
-fn a_lens_counts_its_looks(rt: HostRuntime) -> Result<(), Fail> {
-    let track = two_pulses(&rt, rt.alloc())?;
+fn a_full_track_takes_no_further_pulse(rt: HostRuntime) {
+    let full = full_track(rt.alloc()).expect(&rt, "memory");
+    let track = full.expect(&rt, "a track");
+    let put = one_pulse(rt.alloc(), 8_388_610, 8_388_611).expect(&rt, "memory");
+    assert!(rt; takes_no_further(&track, &put));
+    assert!(rt; inverts_no_further(&track));
+}
+
+/// Whether a lens on the track of two pulses shows a pulse.
+fn shows(lens: &mut Lens<'_>, track: &Track, index: usize) -> bool {
+    index < lens.len() && index < track.len() && lens.pulse(index) == track.pulse(index)
+}
+
+/// Whether a lens on the track of two pulses shows it, and counts each look.
+fn counts_looks(track: &Track) -> bool {
     let mut lens = track.lens();
-    assert_eq!(rt; (lens.len(), lens.length(), lens.looks()), (2, 1000, 0));
-    for index in 0..2 {
-        assert!(rt; index < lens.len());
-        assert!(rt; lens.pulse(index) == track.pulse(index));
+    (lens.len(), lens.length(), lens.looks()) == (2, 1000, 0)
+        && shows(&mut lens, track, 0)
+        && shows(&mut lens, track, 1)
+        && lens.looks() == 2
+}
+
+/// Whether a track gives this many pulses.
+fn gives_pulses(alloc: Global, track: &Track, count: usize) -> bool {
+    match pulses_of(alloc, track) {
+        Ok(pulses) => pulses.len() == count,
+        Err(_) => false,
     }
-    assert_eq!(rt; lens.looks(), 2);
-    assert_eq!(rt; pulses_of(rt.alloc(), &track)?.len(), 2);
-    Ok(())
+}
+
+#[test]
+fn a_lens_counts_its_looks(rt: HostRuntime) {
+    let two = two_pulses(rt.alloc()).expect(&rt, "memory");
+    let track = two.expect(&rt, "a track");
+    assert!(rt; counts_looks(&track));
+    assert!(rt; gives_pulses(rt.alloc(), &track, 2));
 }
