@@ -4,12 +4,13 @@ ghost use Rattle.std.specs.Prelude.{◌≡◌, ◌<◌, ◌≤◌, IfOk, OnOk, M
 ghost use Rattle.irig_index.specs.Frames.{frames};
 ghost use Rattle.irig_track.specs.Splices.{IsSpan};
 
-use irig_codes::Format;
+use irig_codes::{Format, Kind};
 use irig_gap::Gap;
 use irig_index::{Index, Record};
 use irig_track::{Span, Track};
 use irig_vcd::Recording;
 use std::alloc::{AllocError, Global};
+use std::process::Abort;
 
 /// What is done to a track.
 #[derive(Clone, Copy)]
@@ -20,6 +21,13 @@ pub(crate) enum Edit {
     Move(usize, i64),
     /// From the first pulse on, this many are removed.
     Cut(usize, usize),
+}
+
+/// The format G, expression 2.
+pub(crate) fn format_g(rt: &impl Abort) -> Format {
+    Format::new(Kind::G, 2)
+        .ok()
+        .expect(rt, "G permits expression 2")
 }
 
 /// The width, in microseconds, of an element of a frame of day 1, 00:00:00.00 or .01. The units of
@@ -37,8 +45,8 @@ fn width(hundredths: u64, element: u64) -> u64
 }
 
 /// The track of these edges.
-fn track_of(alloc: Global, length: u64, edges: Vec<u64>) -> Result<Track, AllocError> {
-    match Recording::new(alloc, length, edges.as_slice())? {
+fn track_of(alloc: Global, length: u64, edges: &[u64]) -> Result<Track, AllocError> {
+    match Recording::new(alloc, length, edges)? {
         Some(recording) => Track::new(recording),
         None => Err(AllocError),
     }
@@ -53,7 +61,7 @@ pub(crate) fn sound(alloc: Global, count: u64) -> Result<Track, AllocError>
         edges.push(100 * place)?;
         edges.push(100 * place + width(place / 100, place % 100))?;
     }
-    track_of(alloc, 100 * count, edges)
+    track_of(alloc, 100 * count, edges.as_slice())
 }
 
 /// Eight position identifiers in step: all but the first are markers.
@@ -63,7 +71,7 @@ pub(crate) fn positions(alloc: Global) -> Result<Track, AllocError> {
         edges.push(100 * place)?;
         edges.push(100 * place + 80)?;
     }
-    track_of(alloc, 800, edges)
+    track_of(alloc, 800, edges.as_slice())
 }
 
 /// Removes `count` pulses from `at` on, if they are there.

@@ -3,12 +3,11 @@
 ghost use Rattle.std.specs.Prelude.{◌≡◌, OnOk};
 ghost use Rattle.irig_index.specs.Frames.{frames};
 
-use super::helpers::{Edit, back, positions, repaired, same, sound};
-use irig_codes::{Format, Kind};
+use super::helpers::{Edit, back, format_g, positions, repaired, same, sound};
+use irig_codes::Format;
 use irig_index::Index;
 use irig_track::Track;
 use std::alloc::{AllocError, Global};
-use std::test::Fail;
 
 /// Makes an edit, if it can be made, and repairs the index. Whether one built from nothing is the
 /// same.
@@ -27,97 +26,120 @@ fn agrees(
     Ok(few && same(index, &built))
 }
 
-/// Edits in turn, each repaired and compared with an index built from nothing.
-fn all_agree(
+/// Makes edits in turn, and returns whether each repair agrees.
+fn each_agrees(
     alloc: Global,
-    mut track: Track,
+    track: &mut Track,
+    index: &mut Index,
     format: Format,
     edits: &[Edit],
-) -> Result<bool, AllocError> {
-    let mut index = Index::build(alloc, &mut track.lens(), format)?;
+) -> Result<bool, AllocError>
+    requires { index.old.records ≡ frames format track.old.pulses }
+{
     let mut agree = true;
     for edit in edits {
-        agree &= agrees(alloc, &mut track, &mut index, format, *edit)?;
+        agree &= agrees(alloc, track, index, format, *edit)?;
     }
     Ok(agree)
 }
 
-/// An edit made and undone.
-fn both_ways(alloc: Global, format: Format, edit: Edit) -> Result<bool, AllocError> {
-    all_agree(alloc, positions(alloc)?, format, &[edit, back(edit)])
+/// Edits in turn, each repaired and compared with an index built from nothing.
+fn all_agree(alloc: Global, track: &mut Track, format: Format, edits: &[Edit]) -> bool {
+    match Index::build(alloc, &mut track.lens(), format) {
+        Ok(mut index) => matches!(
+            each_agrees(alloc, track, &mut index, format, edits),
+            Ok(true)
+        ),
+        Err(_) => false,
+    }
+}
+
+/// The same of a short track.
+fn short_agrees(alloc: Global, format: Format, edits: &[Edit]) -> bool {
+    match positions(alloc) {
+        Ok(mut track) => all_agree(alloc, &mut track, format, edits),
+        Err(_) => false,
+    }
+}
+
+/// The same of a track of four frames.
+fn long_agrees(alloc: Global, format: Format, edits: &[Edit]) -> bool {
+    match sound(alloc, 400) {
+        Ok(mut track) => all_agree(alloc, &mut track, format, edits),
+        Err(_) => false,
+    }
+}
+
+/// Whether an edit of a short track agrees, made and undone.
+fn both_ways(alloc: Global, format: Format, edit: Edit) -> bool {
+    short_agrees(alloc, format, &[edit, back(edit)])
 }
 
 #[test]
-fn an_inversion_at_each_place_of_a_short_track(rt: HostRuntime) -> Result<(), Fail> {
-    let format = Format::new(Kind::G, 2)
-        .ok()
-        .expect(&rt, "G permits expression 2");
+fn an_inversion_at_each_place_of_a_short_track(rt: HostRuntime) {
+    let format = format_g(&rt);
     for number in 0..1600u64 {
         let edit = Edit::Invert(number % 40 * 20, number / 40 * 20 + 20);
-        assert!(rt; both_ways(rt.alloc(), format, edit)?);
+        assert!(rt; both_ways(rt.alloc(), format, edit));
     }
-    Ok(())
 }
 
+/// The distances of the moves, in microseconds.
+static MOVES: [i64; 7] = [-90, -20, -10, -1, 1, 10, 19];
+
 #[test]
-fn a_move_at_each_place_of_a_short_track(rt: HostRuntime) -> Result<(), Fail> {
-    let format = Format::new(Kind::G, 2)
-        .ok()
-        .expect(&rt, "G permits expression 2");
+fn a_move_at_each_place_of_a_short_track(rt: HostRuntime) {
+    let format = format_g(&rt);
     for pulse in 0..8usize {
-        for by in [-90i64, -20, -10, -1, 1, 10, 19] {
-            assert!(rt; both_ways(rt.alloc(), format, Edit::Move(pulse, by))?);
+        for by in MOVES.iter() {
+            assert!(rt; both_ways(rt.alloc(), format, Edit::Move(pulse, *by)));
         }
     }
-    Ok(())
 }
 
 #[test]
-fn a_cut_at_each_place_of_a_short_track(rt: HostRuntime) -> Result<(), Fail> {
-    let format = Format::new(Kind::G, 2)
-        .ok()
-        .expect(&rt, "G permits expression 2");
+fn a_cut_at_each_place_of_a_short_track(rt: HostRuntime) {
+    let format = format_g(&rt);
     for number in 0..64usize {
         let edit = Edit::Cut(number / 8, number % 8 + 1);
-        assert!(rt; all_agree(rt.alloc(), positions(rt.alloc())?, format, &[edit])?);
+        assert!(rt; short_agrees(rt.alloc(), format, &[edit]));
     }
-    Ok(())
 }
 
 #[test]
-fn a_pulse_more_at_each_place_of_four_frames(rt: HostRuntime) -> Result<(), Fail> {
-    let format = Format::new(Kind::G, 2)
-        .ok()
-        .expect(&rt, "G permits expression 2");
+fn a_pulse_more_at_each_place_of_four_frames(rt: HostRuntime) {
+    let format = format_g(&rt);
     for place in 0..400u64 {
         let edit = Edit::Invert(100 * place + 84, 100 * place + 88);
-        assert!(rt; all_agree(rt.alloc(), sound(rt.alloc(), 400)?, format, &[edit, edit])?);
+        assert!(rt; long_agrees(rt.alloc(), format, &[edit, edit]));
     }
-    Ok(())
 }
 
+/// A pulse more near the beginning of four frames.
+const NEAR: Edit = Edit::Invert(84, 88);
+
+/// A pulse more near their end.
+const FAR: Edit = Edit::Invert(39_984, 39_988);
+
+/// Edits of four frames that are made in turn.
+static TURNS: [&[Edit]; 6] = [
+    // At both ends, and far apart in turn.
+    &[NEAR, FAR, NEAR, FAR],
+    // The first pulse and the last go.
+    &[Edit::Cut(0, 1), Edit::Cut(398, 1)],
+    // A whole frame goes, and pulses of three.
+    &[Edit::Cut(100, 100)],
+    &[FAR, Edit::Cut(50, 200), NEAR],
+    // All goes, and a pulse comes into the empty track.
+    &[Edit::Cut(0, 400), NEAR, FAR, NEAR],
+    // What is not there does not go.
+    &[Edit::Cut(400, 1), NEAR],
+];
+
 #[test]
-fn edits_in_turn(rt: HostRuntime) -> Result<(), Fail> {
-    let format = Format::new(Kind::G, 2)
-        .ok()
-        .expect(&rt, "G permits expression 2");
-    let near = Edit::Invert(84, 88);
-    let far = Edit::Invert(39_984, 39_988);
-    let rows: [&[Edit]; 6] = [
-        // At both ends, and far apart in turn.
-        &[near, far, near, far],
-        // The first pulse and the last go.
-        &[Edit::Cut(0, 1), Edit::Cut(398, 1)],
-        // A whole frame goes, and pulses of three.
-        &[Edit::Cut(100, 100)],
-        &[far, Edit::Cut(50, 200), near],
-        // All goes, and a pulse comes into the empty track.
-        &[Edit::Cut(0, 400), near, far, near],
-        // What is not there does not go.
-        &[Edit::Cut(400, 1), near],
-    ];
-    for edits in rows {
-        assert!(rt; all_agree(rt.alloc(), sound(rt.alloc(), 400)?, format, edits)?);
+fn edits_in_turn(rt: HostRuntime) {
+    let format = format_g(&rt);
+    for edits in TURNS.iter() {
+        assert!(rt; long_agrees(rt.alloc(), format, edits));
     }
-    Ok(())
 }

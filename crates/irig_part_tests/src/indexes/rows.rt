@@ -3,25 +3,17 @@
 ghost use Rattle.std.specs.Prelude.{◌≡◌, OnOk};
 ghost use Rattle.irig_index.specs.Frames.{frames};
 
-use super::helpers::{Edit, back, holds, rebuilt, repaired, sound};
-use irig_codes::{Fields, Format, Kind, Note};
+use super::helpers::{Edit, back, format_g, holds, rebuilt, repaired, sound};
+use irig_codes::{Fields, Format, Note};
 use irig_index::{
     Cause, Index, Record, Verdict, frames_are_the_markers, verdicts_are_first_faults,
 };
 use irig_track::{Lens, Track};
 use std::alloc::{AllocError, Global};
-use std::test::Fail;
 
-fn broken(marker: usize, element: u8, cause: Cause) -> Record {
-    Record {
-        marker,
-        verdict: Verdict::Broken(element, cause),
-    }
-}
-
-/// The second frame: its marker is pulse 100, from 0, if nothing was inserted or removed before it.
-fn second_frame(marker: usize) -> Record {
-    let fields = Fields {
+/// The verdict on the second frame of a sound track.
+const SECOND: Verdict = Verdict::Read(
+    Fields {
         hundredths: Some(1),
         seconds: 0,
         minutes: 0,
@@ -30,12 +22,15 @@ fn second_frame(marker: usize) -> Record {
         year: None,
         sbs: None,
         control: None,
-    };
-    Record {
-        marker,
-        verdict: Verdict::Read(fields, Note::Fine),
-    }
-}
+    },
+    Note::Fine,
+);
+
+/// The second frame: its marker is pulse 100, from 0.
+static SOUND: [Record; 1] = [Record {
+    marker: 100,
+    verdict: SECOND,
+}];
 
 /// Makes an edit. Whether one index, repaired, and another, rebuilt, then hold these records.
 fn both_hold(
@@ -63,22 +58,86 @@ fn is_read(index: &Index, lens: &Lens<'_>) -> bool {
     // more. The pass continues at its last pulse, 199, another position identifier: 2 looks.
     let looks = 49 + 4 + 99 + 2;
     let room = index.room() + index.len() >= 1;
-    room && holds(index, &[second_frame(100)]) && index.looks() == looks && lens.looks() == looks
+    room && holds(index, &SOUND) && index.looks() == looks && lens.looks() == looks
+}
+
+/// Whether an index of a sound track is built with few looks.
+fn is_built(alloc: Global, track: &Track, format: Format) -> bool {
+    let mut lens = track.lens();
+    match Index::build(alloc, &mut lens, format) {
+        Ok(index) => is_read(&index, &lens),
+        Err(_) => false,
+    }
 }
 
 #[test]
-fn a_sound_track_is_read_with_few_looks(rt: HostRuntime) -> Result<(), Fail> {
-    let format = Format::new(Kind::G, 2)
-        .ok()
-        .expect(&rt, "G permits expression 2");
-    let track = sound(rt.alloc(), 200)?;
-    let mut lens = track.lens();
-    let index = Index::build(rt.alloc(), &mut lens, format)?;
-    assert!(rt; is_read(&index, &lens));
+fn a_sound_track_is_read_with_few_looks(rt: HostRuntime) {
+    let track = sound(rt.alloc(), 200).expect(&rt, "memory");
+    assert!(rt; is_built(rt.alloc(), &track, format_g(&rt)));
     verdicts_are_first_faults();
     frames_are_the_markers();
-    Ok(())
 }
+
+/// An edit of a sound track of two frames, and the records after it.
+type Row = (Edit, &'static [Record]);
+
+/// Edits, each made on the sound track.
+static ROWS: [Row; 8] = [
+    // P0 becomes a One, so that no marker is left.
+    (Edit::Invert(9_950, 9_980), &[]),
+    // P0 out of step with Pr: 120 microseconds apart.
+    (Edit::Move(99, -20), &[]),
+    (
+        Edit::Invert(19_920, 19_980),
+        &[Record {
+            marker: 100,
+            verdict: Verdict::Broken(99, Cause::Class),
+        }],
+    ),
+    (
+        Edit::Invert(19_900, 19_980),
+        &[Record {
+            marker: 100,
+            verdict: Verdict::Broken(99, Cause::Ended),
+        }],
+    ),
+    // Three position identifiers in a row are two markers.
+    (
+        Edit::Invert(10_120, 10_180),
+        &[
+            Record {
+                marker: 100,
+                verdict: Verdict::Broken(1, Cause::Class),
+            },
+            Record {
+                marker: 101,
+                verdict: Verdict::Broken(8, Cause::Class),
+            },
+        ],
+    ),
+    // A pulse more before the second frame, and one less: its record has a new number.
+    (
+        Edit::Invert(8_130, 8_150),
+        &[Record {
+            marker: 101,
+            verdict: SECOND,
+        }],
+    ),
+    (
+        Edit::Invert(8_100, 8_120),
+        &[Record {
+            marker: 99,
+            verdict: SECOND,
+        }],
+    ),
+    (
+        Edit::Move(140, 20),
+        &[Record {
+            marker: 100,
+            verdict: Verdict::Broken(40, Cause::Step),
+        }],
+    ),
+];
 
 /// Whether both indexes hold the records of each row, and those of the sound track after its edit
 /// is undone.
@@ -91,76 +150,64 @@ fn rows_hold(
 ) -> Result<bool, AllocError>
     requires { index.old.records ≡ frames format track.old.pulses }
 {
-    let rows: [(Edit, &[Record]); 8] = [
-        // P0 becomes a One, so that no marker is left.
-        (Edit::Invert(9_950, 9_980), &[]),
-        // P0 out of step with Pr: 120 microseconds apart.
-        (Edit::Move(99, -20), &[]),
-        (
-            Edit::Invert(19_920, 19_980),
-            &[broken(100, 99, Cause::Class)],
-        ),
-        (
-            Edit::Invert(19_900, 19_980),
-            &[broken(100, 99, Cause::Ended)],
-        ),
-        // Three position identifiers in a row are two markers.
-        (
-            Edit::Invert(10_120, 10_180),
-            &[broken(100, 1, Cause::Class), broken(101, 8, Cause::Class)],
-        ),
-        // A pulse more before the second frame, and one less: its record has a new number.
-        (Edit::Invert(8_130, 8_150), &[second_frame(101)]),
-        (Edit::Invert(8_100, 8_120), &[second_frame(99)]),
-        (Edit::Move(140, 20), &[broken(100, 40, Cause::Step)]),
-    ];
-    let sound = [second_frame(100)];
     let mut hold = true;
-    for (edit, records) in rows {
-        hold &= both_hold(alloc, track, index, other, edit, records, format)?;
-        hold &= both_hold(alloc, track, index, other, back(edit), &sound, format)?;
+    for (edit, records) in ROWS.iter() {
+        hold &= both_hold(alloc, track, index, other, *edit, records, format)?;
+        hold &= both_hold(alloc, track, index, other, back(*edit), &SOUND, format)?;
     }
     Ok(hold)
 }
 
-#[test]
-fn frames_are_read_or_broken_where_they_are(rt: HostRuntime) -> Result<(), Fail> {
-    let format = Format::new(Kind::G, 2)
-        .ok()
-        .expect(&rt, "G permits expression 2");
-    let mut track = sound(rt.alloc(), 200)?;
-    let mut index = Index::build(rt.alloc(), &mut track.lens(), format)?;
-    let mut other = Index::build(rt.alloc(), &mut track.lens(), format)?;
-    assert!(rt; rows_hold(rt.alloc(), &mut track, &mut index, &mut other, format)?);
-    Ok(())
-}
-
-#[test]
-fn a_time_is_found_among_the_rises(rt: HostRuntime) -> Result<(), Fail> {
-    let track = sound(rt.alloc(), 200)?;
-    let rows = [
-        (0, 1),
-        (99, 1),
-        (100, 2),
-        (9_999, 100),
-        (19_900, 200),
-        (u64::MAX, 200),
-    ];
-    for (time, count) in rows {
-        let mut lens = track.lens();
-        assert_eq!(rt; Index::find(&mut lens, time), count);
-        // 200 has eight binary digits.
-        assert!(rt; lens.looks() <= 8);
+/// Whether an index of the sound track, repaired, and another hold the records of each row.
+fn is_repaired(alloc: Global, track: &mut Track, other: &mut Index, format: Format) -> bool {
+    match Index::build(alloc, &mut track.lens(), format) {
+        Ok(mut index) => matches!(rows_hold(alloc, track, &mut index, other, format), Ok(true)),
+        Err(_) => false,
     }
-    Ok(())
+}
+
+/// Whether two indexes of the sound track hold the records of each row.
+fn are_read(alloc: Global, track: &mut Track, format: Format) -> bool {
+    match Index::build(alloc, &mut track.lens(), format) {
+        Ok(mut other) => is_repaired(alloc, track, &mut other, format),
+        Err(_) => false,
+    }
 }
 
 #[test]
-fn a_time_is_found_among_a_million_rises(rt: HostRuntime) -> Result<(), Fail> {
-    let track = sound(rt.alloc(), 1_000_000)?;
+fn frames_are_read_or_broken_where_they_are(rt: HostRuntime) {
+    let mut track = sound(rt.alloc(), 200).expect(&rt, "memory");
+    assert!(rt; are_read(rt.alloc(), &mut track, format_g(&rt)));
+}
+
+/// A time in microseconds, and how many pulses of two frames rise at or before it.
+static RISES: [(u64, usize); 6] = [
+    (0, 1),
+    (99, 1),
+    (100, 2),
+    (9_999, 100),
+    (19_900, 200),
+    (u64::MAX, 200),
+];
+
+/// Whether a time is found among the rises, with at most this many looks.
+fn is_found(track: &Track, time: u64, count: usize, looks: u64) -> bool {
     let mut lens = track.lens();
-    assert_eq!(rt; Index::find(&mut lens, 50_000_000), 500_001);
+    Index::find(&mut lens, time) == count && lens.looks() <= looks
+}
+
+#[test]
+fn a_time_is_found_among_the_rises(rt: HostRuntime) {
+    let track = sound(rt.alloc(), 200).expect(&rt, "memory");
+    for (time, count) in RISES.iter() {
+        // 200 has eight binary digits.
+        assert!(rt; is_found(&track, *time, *count, 8));
+    }
+}
+
+#[test]
+fn a_time_is_found_among_a_million_rises(rt: HostRuntime) {
+    let track = sound(rt.alloc(), 1_000_000).expect(&rt, "memory");
     // 1,000,000 has twenty binary digits.
-    assert!(rt; lens.looks() <= 20);
-    Ok(())
+    assert!(rt; is_found(&track, 50_000_000, 500_001, 20));
 }
