@@ -9,8 +9,6 @@ use crate::journals::fresh;
 use crate::stack::{Single, Stack};
 use irig_journal::{Journal, Step, StepsLeft};
 use std::alloc::Global;
-use std::process::Abort;
-use std::test::Fail;
 
 /// An empty stack.
 fn empty(alloc: Global) -> Stack {
@@ -29,6 +27,18 @@ fn push(journal: &mut Journal<Stack>, stack: &mut Stack, byte: u8, cursor: usize
     ensures floor { journal.new.floor ≡ journal.old.floor }
 {
     let _done = journal.record(stack, Single::Push(byte), cursor);
+}
+
+/// Pushes two bytes, with the cursors 7 and 8.
+fn push_two(journal: &mut Journal<Stack>, stack: &mut Stack)
+    requires ready { AreReady CanEdit edited (λ d. d) (HasPlaceFor (vec_capacity stack.old.items))
+        stack.old.items.items journal.old }
+    ensures ready { AreReady CanEdit edited (λ d. d) (HasPlaceFor (vec_capacity stack.new.items))
+        stack.new.items.items journal.new }
+    ensures floor { journal.new.floor ≡ journal.old.floor }
+{
+    push(journal, stack, b'a', 7);
+    push(journal, stack, b'b', 8);
 }
 
 /// Makes one group of the newest `count` steps, if there are that many.
@@ -57,58 +67,90 @@ fn is_group_of(step: Option<Step<'_, Single>>, changes: &[Single], cursor: usize
     }
 }
 
-/// Compares the cursors of two steps back, at 7 and then at 8, with those of the steps forward that
-/// they become.
-fn check(rt: &impl Abort, journal: &mut Journal<Stack>)
+/// Whether two steps back, at 7 and then at 8, become steps forward at 8 and then at 7.
+fn turns_round(journal: &mut Journal<Stack>) -> bool
     requires { journal.old.floor ≡ None }
 {
-    assert!(rt; next_two(journal.past_steps()) == Some((7, 8)));
+    let back = next_two(journal.past_steps()) == Some((7, 8));
     journal.turn_round();
-    assert!(rt; next_two(journal.future_steps()) == Some((8, 7)));
+    back && next_two(journal.future_steps()) == Some((8, 7))
 }
 
-/// Undoes and redoes a group of two pushes that was gathered at cursor 5.
-fn check_group(rt: &impl Abort, journal: &mut Journal<Stack>, stack: &mut Stack)
+/// The changes that lead back from two pushes.
+static POPS: [Single; 2] = [Single::Pop, Single::Pop];
+
+/// The changes that lead forward again, the nearest last.
+static PUSHES: [Single; 2] = [Single::Push(b'b'), Single::Push(b'a')];
+
+/// Whether the one step back is a group of two pushes that was gathered at cursor 5.
+fn is_gathered(journal: &Journal<Stack>) -> bool {
+    journal.steps_back() == 1 && is_group_of(journal.past_steps().next(), &POPS, 5)
+}
+
+/// Whether an undo leads to cursor 5 and an empty stack, and leaves the group at cursor 9 forward.
+fn is_undone(journal: &mut Journal<Stack>, stack: &mut Stack, cursor: &mut usize) -> bool
+    requires ready { AreReady CanEdit edited (λ d. d) (HasPlaceFor (vec_capacity stack.old.items))
+        stack.old.items.items journal.old }
+    ensures ready { AreReady CanEdit edited (λ d. d) (HasPlaceFor (vec_capacity stack.new.items))
+        stack.new.items.items journal.new }
+{
+    journal.undo(stack, cursor).is_ok()
+        && *cursor == 5
+        && stack.items.is_empty()
+        && is_group_of(journal.future_steps().next(), &PUSHES, 9)
+}
+
+/// Whether a redo leads to cursor 9 and both bytes.
+fn is_redone(journal: &mut Journal<Stack>, stack: &mut Stack, cursor: &mut usize) -> bool
+    requires ready { AreReady CanEdit edited (λ d. d) (HasPlaceFor (vec_capacity stack.old.items))
+        stack.old.items.items journal.old }
+{
+    journal.redo(stack, cursor).is_ok()
+        && *cursor == 9
+        && stack.items.as_slice() == b"ab".as_slice()
+}
+
+/// Gathers two pushes at cursor 5 to a group, and undoes and redoes it from cursor 9 on.
+fn goes_both_ways(journal: &mut Journal<Stack>, stack: &mut Stack) -> bool
+    requires no_group { journal.old.floor ≡ None }
     requires ready { AreReady CanEdit edited (λ d. d) (HasPlaceFor (vec_capacity stack.old.items))
         stack.old.items.items journal.old }
 {
     let mut cursor = 9;
-    let pops = [Single::Pop, Single::Pop];
-    assert!(rt; journal.steps_back() == 1);
-    assert!(rt; is_group_of(journal.past_steps().next(), &pops, 5));
-    assert!(rt; journal.undo(stack, &mut cursor).is_ok() && cursor == 5 && stack.items.is_empty());
-    let pushes = [Single::Push(b'b'), Single::Push(b'a')];
-    assert!(rt; is_group_of(journal.future_steps().next(), &pushes, 9));
-    assert!(rt; journal.redo(stack, &mut cursor).is_ok() && cursor == 9);
-    assert!(rt; stack.items.as_slice() == b"ab".as_slice());
+    gather(journal, stack, 2, 5)
+        && is_gathered(journal)
+        && is_undone(journal, stack, &mut cursor)
+        && is_redone(journal, stack, &mut cursor)
 }
 
 #[test]
-fn the_newest_step_back_becomes_the_next_forward(rt: HostRuntime) -> Result<(), Fail> {
+fn the_newest_step_back_becomes_the_next_forward(rt: HostRuntime) {
     let mut stack = empty(rt.alloc());
     let mut journal = fresh(rt.alloc(), &stack);
-    push(&mut journal, &mut stack, b'a', 7);
-    push(&mut journal, &mut stack, b'b', 8);
-    check(&rt, &mut journal);
-    Ok(())
+    push_two(&mut journal, &mut stack);
+    assert!(rt; turns_round(&mut journal));
 }
 
 #[test]
-fn gathered_steps_are_one_group(rt: HostRuntime) -> Result<(), Fail> {
+fn gathered_steps_are_one_group(rt: HostRuntime) {
     let mut stack = empty(rt.alloc());
     let mut journal = fresh(rt.alloc(), &stack);
-    push(&mut journal, &mut stack, b'a', 7);
-    push(&mut journal, &mut stack, b'b', 8);
-    assert!(&rt; gather(&mut journal, &stack, 2, 5));
-    check_group(&rt, &mut journal, &mut stack);
-    Ok(())
+    push_two(&mut journal, &mut stack);
+    assert!(rt; goes_both_ways(&mut journal, &mut stack));
+}
+
+/// Whether no steps are gathered to a group of no changes.
+fn gathers_none(journal: &mut Journal<Stack>, stack: &Stack) -> bool
+    requires no_group { journal.old.floor ≡ None }
+    requires ready { AreReady CanEdit edited (λ d. d) (HasPlaceFor (vec_capacity stack.now.items))
+        stack.now.items.items journal.old }
+{
+    gather(journal, stack, 0, 5) && is_group_of(journal.past_steps().next(), &[], 5)
 }
 
 #[test]
-fn a_group_of_none_is_a_step(rt: HostRuntime) -> Result<(), Fail> {
+fn a_group_of_none_is_a_step(rt: HostRuntime) {
     let stack = empty(rt.alloc());
     let mut journal = fresh(rt.alloc(), &stack);
-    assert!(&rt; gather(&mut journal, &stack, 0, 5));
-    assert!(&rt; is_group_of(journal.past_steps().next(), &[], 5));
-    Ok(())
+    assert!(rt; gathers_none(&mut journal, &stack));
 }
