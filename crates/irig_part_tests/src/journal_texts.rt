@@ -16,6 +16,12 @@ const WORKED: &[u8] =
     b"irig-journal-1\nformat G 2\ncursor 1\npast 1\nat 2\nsplice 1 0 1\n100 120\nfuture 1\nat 1\n\
     setmark a 110\n";
 
+/// The pulse that was deleted, in microseconds.
+const DELETED: Pulse = Pulse {
+    rise: 100,
+    fall: 120,
+};
+
 /// The number of the wrong line; 0 if there is none.
 fn fault(alloc: Global, text: &[u8]) -> usize
     requires { length text.now < 2 ^ 63 }
@@ -30,111 +36,104 @@ fn fault(alloc: Global, text: &[u8]) -> usize
 /// Each text has its wrong line as its row says.
 fn check(rt: &impl Abort, alloc: Global, rows: &[(&[u8], usize)]) {
     for (text, line) in rows {
-        assert!(rt; text.len() < 1 << 20);
-        assert!(rt; fault(alloc, text) == *line);
+        assert!(rt; text.len() < 1 << 20 && fault(alloc, text) == *line);
     }
 }
 
+/// Texts, and the number of the wrong line at the head.
+static HEADS: [(&[u8], usize); 11] = [
+    (b"", 1),
+    (b"irig-journal-1", 1),
+    (b"irig-journal-1 \n", 1),
+    (b"irig-journal-1\r\n", 1),
+    (b"irig-journal-1\nformat C 2\n", 2),
+    (b"irig-journal-1\nformat G 02\n", 2),
+    (b"irig-journal-1\nformat G 8\n", 2),
+    (b"irig-journal-1\nformat G 2\ncursor +1\n", 3),
+    (
+        b"irig-journal-1\nformat G 2\ncursor 18446744073709551616\n",
+        3,
+    ),
+    (
+        b"irig-journal-1\nformat G 2\ncursor 1\nmark b 1\nmark a 1\npast 0\nfuture 0\n",
+        5,
+    ),
+    (
+        b"irig-journal-1\nformat G 2\ncursor 1\nmark b 1\nmark b 1\npast 0\nfuture 0\n",
+        5,
+    ),
+];
+
 #[test]
 fn the_first_line_at_fault_at_the_head_is_told(rt: HostRuntime) {
-    check(
-        &rt,
-        rt.alloc(),
-        &[
-            (b"", 1),
-            (b"irig-journal-1", 1),
-            (b"irig-journal-1 \n", 1),
-            (b"irig-journal-1\r\n", 1),
-            (b"irig-journal-1\nformat C 2\n", 2),
-            (b"irig-journal-1\nformat G 02\n", 2),
-            (b"irig-journal-1\nformat G 8\n", 2),
-            (b"irig-journal-1\nformat G 2\ncursor +1\n", 3),
-            (
-                b"irig-journal-1\nformat G 2\ncursor 18446744073709551616\n",
-                3,
-            ),
-            (
-                b"irig-journal-1\nformat G 2\ncursor 1\nmark b 1\nmark a 1\npast 0\nfuture 0\n",
-                5,
-            ),
-            (
-                b"irig-journal-1\nformat G 2\ncursor 1\nmark b 1\nmark b 1\npast 0\nfuture 0\n",
-                5,
-            ),
-        ],
-    );
+    check(&rt, rt.alloc(), &HEADS);
 }
+
+/// Texts, and the number of the wrong line after the head; 0 if there is none.
+static STEPS: [(&[u8], usize); 11] = [
+    (
+        b"irig-journal-1\nformat G 2\ncursor 1\npast 18446744073709551615\n",
+        5,
+    ),
+    (
+        b"irig-journal-1\nformat G 2\ncursor 1\npast 1\nat 0\nshift 1 1 -0 -\n",
+        6,
+    ),
+    (
+        b"irig-journal-1\nformat G 2\ncursor 1\npast 1\nat 0\n\
+        shift 1 1 9223372036854775808 -\n",
+        6,
+    ),
+    (
+        b"irig-journal-1\nformat G 2\ncursor 1\npast 1\nat 0\nshift 1 1 1 ba\n",
+        6,
+    ),
+    (
+        b"irig-journal-1\nformat G 2\ncursor 1\npast 1\nat 0\ngroup 1\ngroup 0\n",
+        7,
+    ),
+    (
+        b"irig-journal-1\nformat G 2\ncursor 1\npast 1\nat 2\nsplice 1 0 1\n100 120\n\
+        future 1\nat 1\nsetmark a 0110\n",
+        10,
+    ),
+    (
+        b"irig-journal-1\nformat G 2\ncursor 1\npast 1\nat 2\nsplice 1 0 1\n100 120\n\
+        future 2\nat 1\nsetmark a 110\n",
+        11,
+    ),
+    (b"irig-journal-1\nformat G 2\ncursor 1\npast 0\nfuture 0", 5),
+    (
+        b"irig-journal-1\nformat G 2\ncursor 1\npast 0\nfuture 0\n\n",
+        6,
+    ),
+    (
+        b"irig-journal-1\nformat G 2\ncursor 1\npast 0\nfuture 0\n  ",
+        6,
+    ),
+    (
+        b"irig-journal-1\nformat A 7\ncursor 0\nmark a 0\nmark z 5\npast 2\nat 0\ngroup 0\n\
+        at 5\ngroup 2\nshift 1 2 -20 az\nsetmark c -\nfuture 1\nat 0\nshift 0 0 0 -\n",
+        0,
+    ),
+];
 
 #[test]
 fn the_first_line_at_fault_in_a_step_is_told(rt: HostRuntime) {
-    check(
-        &rt,
-        rt.alloc(),
-        &[
-            (
-                b"irig-journal-1\nformat G 2\ncursor 1\npast 18446744073709551615\n",
-                5,
-            ),
-            (
-                b"irig-journal-1\nformat G 2\ncursor 1\npast 1\nat 0\nshift 1 1 -0 -\n",
-                6,
-            ),
-            (
-                b"irig-journal-1\nformat G 2\ncursor 1\npast 1\nat 0\n\
-                shift 1 1 9223372036854775808 -\n",
-                6,
-            ),
-            (
-                b"irig-journal-1\nformat G 2\ncursor 1\npast 1\nat 0\nshift 1 1 1 ba\n",
-                6,
-            ),
-            (
-                b"irig-journal-1\nformat G 2\ncursor 1\npast 1\nat 0\ngroup 1\ngroup 0\n",
-                7,
-            ),
-            (
-                b"irig-journal-1\nformat G 2\ncursor 1\npast 1\nat 2\nsplice 1 0 1\n100 120\n\
-                future 1\nat 1\nsetmark a 0110\n",
-                10,
-            ),
-            (
-                b"irig-journal-1\nformat G 2\ncursor 1\npast 1\nat 2\nsplice 1 0 1\n100 120\n\
-                future 2\nat 1\nsetmark a 110\n",
-                11,
-            ),
-            (b"irig-journal-1\nformat G 2\ncursor 1\npast 0\nfuture 0", 5),
-            (
-                b"irig-journal-1\nformat G 2\ncursor 1\npast 0\nfuture 0\n\n",
-                6,
-            ),
-            (
-                b"irig-journal-1\nformat G 2\ncursor 1\npast 0\nfuture 0\n  ",
-                6,
-            ),
-            (
-                b"irig-journal-1\nformat A 7\ncursor 0\nmark a 0\nmark z 5\npast 2\nat 0\ngroup 0\n\
-                at 5\ngroup 2\nshift 1 2 -20 az\nsetmark c -\nfuture 1\nat 0\nshift 0 0 0 -\n",
-                0,
-            ),
-        ],
-    );
+    check(&rt, rt.alloc(), &STEPS);
 }
 
 /// Whether a step leads to the second pulse and inserts the one that was deleted.
-fn is_splice(step: Step) -> bool {
-    let Step { cursor, change } = step;
-    let Change::One(Single::Splice { at, count, put }) = change else {
+fn is_splice(step: &Step) -> bool {
+    let Change::One(Single::Splice { at, count, put }) = &step.change else {
         return false;
     };
-    cursor == 2
-        && at == 1
-        && count == 0
-        && put.len() == 1
-        && put.get(0)
-            == Pulse {
-                rise: 100,
-                fall: 120,
-            }
+    (step.cursor, *at, *count) == (2, 1, 0) && is_deleted(put)
+}
+
+/// Whether pulses are the one that was deleted.
+fn is_deleted(put: &Pulses) -> bool {
+    put.len() == 1 && put.get(0) == DELETED
 }
 
 /// Whether a step leads to the first pulse and sets the mark a.
@@ -150,82 +149,108 @@ fn has_head(saved: &Saved) -> bool {
     saved.kind == Kind::G && saved.expression == 2 && saved.cursor == 1 && saved.marks == [None; 26]
 }
 
-/// Whether the journal has the steps of the worked one; its last step back is removed.
-fn has_steps(saved: &mut Saved) -> bool {
-    let future = saved.future.as_slice();
-    future.len() == 1 && is_mark(&future[0]) && saved.past.pop().is_some_and(is_splice)
+/// Whether the journal has the steps of the worked one.
+fn has_steps(saved: &Saved) -> bool {
+    let (past, future) = (saved.past.as_slice(), saved.future.as_slice());
+    past.len() == 1 && is_splice(&past[0]) && future.len() == 1 && is_mark(&future[0])
+}
+
+/// Whether the worked journal is read as it is.
+fn is_worked_read(alloc: Global) -> bool {
+    match parse(alloc, WORKED) {
+        Ok(saved) => has_head(&saved) && has_steps(&saved),
+        Err(_) => false,
+    }
 }
 
 #[test]
 fn the_worked_journal_is_read(rt: HostRuntime) {
-    let mut saved = parse(rt.alloc(), WORKED).ok().expect(&rt, "read");
-    assert!(rt; has_head(&saved) && has_steps(&mut saved));
+    assert!(rt; is_worked_read(rt.alloc()));
 }
 
-/// All lines of a change.
-fn put_lines(text: &mut Vec<u8>, single: &Single) -> Result<(), AllocError> {
-    SingleLines::of(single).fill(text, usize::MAX)?;
-    Ok(())
+/// Writes all lines of a change.
+fn put_lines(text: &mut Vec<u8>, single: Single) -> bool {
+    SingleLines::of(&single).fill(text, usize::MAX).is_ok()
 }
 
-/// The lines of the worked journal up to its steps.
-fn put_worked_head(text: &mut Vec<u8>, format: Format) -> Result<(), AllocError> {
-    put_head(text, format, 1, &[None; 26], 1)
+/// Writes the lines of the worked journal up to its steps.
+fn put_worked_head(text: &mut Vec<u8>, format: Format) -> bool {
+    put_head(text, format, 1, &[None; 26], 1).is_ok()
 }
 
-/// The lines of its step back.
-fn put_back(text: &mut Vec<u8>) -> Result<(), AllocError> {
-    put_step(text, 2, false, 1)?;
-    let mut put = Pulses::new(*text.allocator());
-    put.push(Pulse {
-        rise: 100,
-        fall: 120,
-    })?;
+/// The pulse that was deleted, to be inserted.
+fn deleted(alloc: Global) -> Result<Pulses, AllocError> {
+    let mut put = Pulses::new(alloc);
+    put.push(DELETED)?;
+    Ok(put)
+}
+
+/// Writes the lines of the change that inserts it.
+fn put_splice(text: &mut Vec<u8>) -> bool {
     let (at, count) = (1, 0);
-    put_lines(text, &Single::Splice { at, count, put })
+    match deleted(*text.allocator()) {
+        Ok(put) => put_lines(text, Single::Splice { at, count, put }),
+        Err(_) => false,
+    }
 }
 
-/// The lines of its step forward.
-fn put_forward(text: &mut Vec<u8>) -> Result<(), AllocError> {
-    put_future(text, 1)?;
-    put_step(text, 1, false, 1)?;
+/// Writes the lines of its step back.
+fn put_back(text: &mut Vec<u8>) -> bool {
+    put_step(text, 2, false, 1).is_ok() && put_splice(text)
+}
+
+/// Writes the lines of its step forward.
+fn put_forward(text: &mut Vec<u8>) -> bool {
     let (letter, time) = (Letter::new(0), Some(110));
-    put_lines(text, &Single::SetMark { letter, time })
+    put_future(text, 1).is_ok()
+        && put_step(text, 1, false, 1).is_ok()
+        && put_lines(text, Single::SetMark { letter, time })
 }
 
-/// A group of changes of other kinds.
-fn put_changes(text: &mut Vec<u8>) -> Result<(), AllocError> {
-    let mut marks = [false; 26];
-    marks[0] = true;
-    marks[25] = true;
-    put_step(text, 4, true, 3)?;
-    let (i, j, by) = (1, 2, -20);
-    put_lines(text, &Single::Shift { i, j, by, marks })?;
-    put_lines(text, &Single::Toggle { a: 5, b: 6 })?;
+/// The letters a and z.
+const MARKS: [bool; 26] = [
+    true, false, false, false, false, false, false, false, false, false, false, false, false,
+    false, false, false, false, false, false, false, false, false, false, false, false, true,
+];
+
+/// Writes the lines of a group of changes of other kinds.
+fn put_changes(text: &mut Vec<u8>) -> bool {
+    let (i, j, by, marks) = (1, 2, -20, MARKS);
     let (kind, expression) = (Kind::E, 1);
-    put_lines(text, &Single::SetFormat { kind, expression })
+    put_step(text, 4, true, 3).is_ok()
+        && put_lines(text, Single::Shift { i, j, by, marks })
+        && put_lines(text, Single::Toggle { a: 5, b: 6 })
+        && put_lines(text, Single::SetFormat { kind, expression })
 }
 
 /// Whether the lines of the worked journal are written into an empty text.
 fn is_worked_put(text: &mut Vec<u8>, format: Format) -> bool {
-    put_worked_head(text, format).is_ok()
-        && put_back(text).is_ok()
-        && put_forward(text).is_ok()
+    put_worked_head(text, format)
+        && put_back(text)
+        && put_forward(text)
         && text.as_slice() == WORKED
 }
 
+/// The lines of that group.
+const GROUP: &[u8] = b"at 4\ngroup 3\nshift 1 2 -20 az\ntoggle 5 6\nsetformat E 1\n";
+
 /// Whether the lines of that group are written into an empty text.
 fn is_group_put(text: &mut Vec<u8>) -> bool {
-    put_changes(text).is_ok()
-        && text.as_slice()
-            == b"at 4\ngroup 3\nshift 1 2 -20 az\ntoggle 5 6\nsetformat E 1\n".as_slice()
+    put_changes(text) && text.as_slice() == GROUP
+}
+
+/// Whether both are written, each into the emptied text.
+fn are_put(text: &mut Vec<u8>) -> bool {
+    let Ok(format) = Format::new(Kind::G, 2) else {
+        return false;
+    };
+    let worked = is_worked_put(text, format);
+    text.clear();
+    worked && is_group_put(text)
 }
 
 #[test]
 fn the_lines_are_written(rt: HostRuntime) {
     let mut text = Vec::new(rt.alloc());
-    let format = Format::new(Kind::G, 2).ok().expect(&rt, "permitted");
-    assert!(rt; is_worked_put(&mut text, format));
-    text.clear();
-    assert!(rt; is_group_put(&mut text));
+    assert!(rt; are_put(&mut text));
 }
