@@ -4,27 +4,32 @@ ghost use Rattle.std.specs.Prelude.{◌≤◌, ◌^◌, length};
 
 use super::Wanted::{Edges, Fault};
 use super::cuts::cuts_agree;
-use super::{Row, check, check_rows, dump_of};
+use super::{HEADER, Row, check_rows, dump_of, is_right};
 use irig_vcd::{VcdFault, read_parts};
 use std::alloc::Global;
-use std::process::Abort;
 
-/// Whether a dump gives the journal that is wanted, or the fault. It is short.
-fn gives(alloc: Global, dump: &[u8], want: Result<&[u8], VcdFault>) -> bool
+/// Whether a dump gives the journal that is wanted, or if none is, the fault of a second one. It is
+/// short.
+fn gives(alloc: Global, dump: &[u8], want: Option<&[u8]>) -> bool
     requires { length dump.now ≤ 2 ^ 28 }
 {
     match read_parts(alloc, dump, None) {
-        Ok((_, journal)) => journal.is_some() && journal == want.ok(),
-        Err(fault) => want == Err(fault),
+        Ok((_, journal)) => journal.is_some() && journal == want,
+        Err(fault) => want.is_none() && fault == VcdFault::BadJournal(1),
     }
 }
 
-/// The journal of the dump of these changes, or the fault, is what is wanted, wherever it is cut.
-fn check_journal(rt: &impl Abort, alloc: Global, changes: &str, want: Result<&[u8], VcdFault>) {
-    let dump = dump_of(alloc, changes).expect(rt, "a dump");
-    assert!(rt; dump.len() <= 1 << 28);
-    assert!(rt; gives(alloc, dump.as_slice(), want));
-    assert!(rt; cuts_agree(alloc, dump.as_slice(), None));
+/// Whether a dump gives that wherever it is cut.
+fn is_given(alloc: Global, dump: &[u8], want: Option<&[u8]>) -> bool {
+    dump.len() <= 1 << 28 && gives(alloc, dump, want) && cuts_agree(alloc, dump, None)
+}
+
+/// Whether the dump of these changes gives the journal that is wanted, or the fault.
+fn is_right_journal(alloc: Global, changes: &str, want: Option<&[u8]>) -> bool {
+    match dump_of(alloc, &[HEADER, changes]) {
+        Ok(dump) => is_given(alloc, dump.as_slice(), want),
+        Err(_) => false,
+    }
 }
 
 /// Changes with a comment, and the journal in it.
@@ -47,7 +52,7 @@ static JOURNALS: [(&str, &[u8]); 4] = [
 #[test]
 fn one_journal_is_given(rt: HostRuntime) {
     for (changes, journal) in JOURNALS.iter() {
-        check_journal(&rt, rt.alloc(), changes, Ok(journal));
+        assert!(rt; is_right_journal(rt.alloc(), changes, Some(journal)));
     }
 }
 
@@ -73,7 +78,7 @@ const BEFORE: &[u8] =
 #[test]
 fn other_comments_are_no_journal(rt: HostRuntime) {
     check_rows(&rt, rt.alloc(), &OTHERS);
-    check(&rt, rt.alloc(), BEFORE, None, &Edges(5, &[]));
+    assert!(rt; is_right(rt.alloc(), BEFORE, None, &Edges(5, &[])));
 }
 
 /// Changes with two journals.
@@ -85,6 +90,6 @@ static SECOND: [&str; 2] = [
 #[test]
 fn a_second_journal_is_told(rt: HostRuntime) {
     for changes in SECOND.iter() {
-        check_journal(&rt, rt.alloc(), changes, Err(VcdFault::BadJournal(1)));
+        assert!(rt; is_right_journal(rt.alloc(), changes, None));
     }
 }

@@ -49,16 +49,22 @@ impl Dump {
             _ => self.put_time(step.saturating_sub(2)),
         }
     }
+
+    /// Adds five steps, by the digits of a number to base five.
+    fn put_five(&mut self, steps: u64) -> Result<(), AllocError> {
+        let mut left = steps;
+        for _ in 0..5 {
+            self.put(left % 5)?;
+            left /= 5;
+        }
+        Ok(())
+    }
 }
 
 /// The dump of five steps, by the digits of a number to base five.
 fn small_dump(alloc: Global, steps: u64) -> Result<Dump, AllocError> {
     let mut dump = Dump::new(alloc)?;
-    let mut left = steps;
-    for _ in 0..5 {
-        dump.put(left % 5)?;
-        left /= 5;
-    }
+    dump.put_five(steps)?;
     Ok(dump)
 }
 

@@ -1,7 +1,7 @@
 //! What is written, and that it is read back.
 
 use super::Wanted::Edges;
-use super::check;
+use super::is_right;
 use irig_vcd::{Recording, VcdFault, read, text};
 use std::alloc::{AllocError, Global};
 
@@ -51,16 +51,17 @@ fn lines_are_written(rt: HostRuntime) {
     }
 }
 
+/// Whether the text of a length and edges is read as these.
+fn is_read_back(alloc: Global, length: u64, edges: &'static [u64]) -> bool {
+    match lines_of(alloc, length, edges) {
+        Ok(lines) => is_right(alloc, lines.as_slice(), None, &Edges(length, edges)),
+        Err(_) => false,
+    }
+}
+
 #[test]
 fn what_is_written_is_read(rt: HostRuntime) {
-    let lines = lines_of(rt.alloc(), 70, &[0, 5, 9, 70]).expect(&rt, "a text");
-    check(
-        &rt,
-        rt.alloc(),
-        lines.as_slice(),
-        None,
-        &Edges(70, &[0, 5, 9, 70]),
-    );
+    assert!(rt; is_read_back(rt.alloc(), 70, &[0, 5, 9, 70]));
 }
 
 /// The dump of a recording of 2^22 pulses, the most there may be: up from 0 on for a microsecond,
@@ -73,24 +74,29 @@ fn full_dump(alloc: Global) -> Result<Vec<u8>, AllocError> {
     lines_of(alloc, 1 << 23, edges.as_slice())
 }
 
-/// How many pulses are read, or the fault.
-fn count_of(alloc: Global, dump: &[u8]) -> Result<usize, VcdFault> {
+/// Whether that many pulses are read, or the fault.
+fn has_count(alloc: Global, dump: &[u8], want: Result<usize, VcdFault>) -> bool {
     if dump.len() > 1 << 28 {
-        return Err(VcdFault::Unclosed);
+        return false;
     }
     match read(alloc, dump, None) {
-        Ok(recording) => Ok(recording.pulses().len()),
-        Err(fault) => Err(fault),
+        Ok(recording) => want == Ok(recording.pulses().len()),
+        Err(fault) => want == Err(fault),
     }
 }
 
 /// The line after those of a full dump, of one more pulse.
 const MORE: &[u8] = b"1!\n#8388609\n0!\n";
 
+/// Whether a full dump is read, and is not with one pulse more.
+fn takes_no_more(alloc: Global, dump: &mut Vec<u8>) -> bool {
+    has_count(alloc, dump.as_slice(), Ok(1 << 22))
+        && dump.extend_from_slice(MORE).is_ok()
+        && has_count(alloc, dump.as_slice(), Err(VcdFault::TooManyPulses))
+}
+
 #[test]
 fn a_pulse_above_the_limit_is_told(rt: HostRuntime) {
     let mut dump = full_dump(rt.alloc()).expect(&rt, "a dump");
-    assert!(rt; count_of(rt.alloc(), dump.as_slice()) == Ok(1 << 22));
-    assert!(rt; dump.extend_from_slice(MORE).is_ok());
-    assert!(rt; count_of(rt.alloc(), dump.as_slice()) == Err(VcdFault::TooManyPulses));
+    assert!(rt; takes_no_more(rt.alloc(), &mut dump));
 }

@@ -2,9 +2,9 @@
 //! token, and say the same.
 
 use super::Wanted::{self, Edges, Fault};
-use super::check;
+use super::are_right;
 use irig_vcd::VcdFault;
-use std::alloc::{AllocError, Global};
+use std::alloc::Global;
 
 /// A comment that says nothing. Pulses with that many bytes after them are read in one step.
 const COMMENT: &str =
@@ -125,35 +125,26 @@ static UNITS: [(&str, &str, Wanted); 10] = [
     ),
 ];
 
-/// The dump of a wire in a unit, of two parts.
-fn dump_in(alloc: Global, unit: &str, first: &str, second: &str) -> Result<Vec<u8>, AllocError> {
-    let mut dump = Vec::from_slice(alloc, b"$timescale ")?;
-    dump.extend_from_slice(unit.as_bytes())?;
-    dump.extend_from_slice(b" $end\n$var wire 1 ! c $end\n$enddefinitions $end\n")?;
-    dump.extend_from_slice(first.as_bytes())?;
-    dump.extend_from_slice(second.as_bytes())?;
-    Ok(dump)
+/// The declarations of a wire after the unit, before the changes.
+const WIRE: &str = " $end\n$var wire 1 ! c $end\n$enddefinitions $end\n";
+
+/// Whether the dump of a wire in a unit is read as is wanted, alone and with the comment after it.
+fn are_right_in(alloc: Global, unit: &str, first: &str, second: &str, want: &Wanted) -> bool {
+    let short = ["$timescale ", unit, WIRE, first, second];
+    let longer = ["$timescale ", unit, WIRE, first, second, COMMENT];
+    are_right(alloc, &short, want) && are_right(alloc, &longer, want)
 }
 
 #[test]
 fn pulses_in_nanoseconds(rt: HostRuntime) {
     for (changes, want) in NANOSECONDS.iter() {
-        let dump = dump_in(rt.alloc(), "1 ns", FIRST, changes).expect(&rt, "a dump");
-        check(&rt, rt.alloc(), dump.as_slice(), None, want);
-        let mut longer = dump;
-        longer
-            .extend_from_slice(COMMENT.as_bytes())
-            .expect(&rt, "a longer dump");
-        check(&rt, rt.alloc(), longer.as_slice(), None, want);
+        assert!(rt; are_right_in(rt.alloc(), "1 ns", FIRST, changes, want));
     }
 }
 
 #[test]
 fn pulses_in_other_units(rt: HostRuntime) {
     for (unit, changes, want) in UNITS.iter() {
-        let short = dump_in(rt.alloc(), unit, changes, "").expect(&rt, "a dump");
-        check(&rt, rt.alloc(), short.as_slice(), None, want);
-        let longer = dump_in(rt.alloc(), unit, changes, COMMENT).expect(&rt, "a longer dump");
-        check(&rt, rt.alloc(), longer.as_slice(), None, want);
+        assert!(rt; are_right_in(rt.alloc(), unit, "", changes, want));
     }
 }

@@ -1,7 +1,7 @@
 //! Dumps, by hand from the format and from what simulators write.
 
 use super::Wanted::{self, Edges, Fault};
-use super::{Row, check, check_rows};
+use super::{Row, check_rows, is_right};
 use irig_vcd::VcdFault;
 
 const TWO_PULSES: &str = "$timescale 1 us $end
@@ -93,7 +93,7 @@ static WHOLE: [(&str, Option<&[u8]>, Wanted); 17] = [
 #[test]
 fn whole_dumps(rt: HostRuntime) {
     for (dump, wire, want) in WHOLE.iter() {
-        check(&rt, rt.alloc(), dump.as_bytes(), *wire, want);
+        assert!(rt; is_right(rt.alloc(), dump.as_bytes(), *wire, want));
     }
 }
 
@@ -143,7 +143,7 @@ static WIRES: [(Option<&[u8]>, Wanted); 6] = [
 #[test]
 fn wires_by_reference_and_by_code(rt: HostRuntime) {
     for (wire, want) in WIRES.iter() {
-        check(&rt, rt.alloc(), THREE_WIRES, *wire, want);
+        assert!(rt; is_right(rt.alloc(), THREE_WIRES, *wire, want));
     }
 }
 
@@ -161,6 +161,6 @@ static TORN: [(usize, Wanted); 6] = [
 fn a_torn_dump_says_what_is_left(rt: HostRuntime) {
     for (len, want) in TORN.iter() {
         let torn = TWO_PULSES.as_bytes().get(..*len).expect(&rt, "short");
-        check(&rt, rt.alloc(), torn, None, want);
+        assert!(rt; is_right(rt.alloc(), torn, None, want));
     }
 }
