@@ -14,7 +14,7 @@ mod whole;
 use crate::dumps::cuts::cuts_agree;
 use crate::edges::have_edges;
 use irig_vcd::{Recording, VcdFault, read, read_parts};
-use std::alloc::{AllocError, Global};
+use std::alloc::Global;
 use std::process::Abort;
 
 /// The declarations of one wire, 63 bytes, before the changes.
@@ -77,21 +77,20 @@ fn is_right(alloc: Global, dump: &[u8], wire: Option<&[u8]>, want: &Wanted) -> b
         && cuts_agree(alloc, dump, wire)
 }
 
-/// The dump of these texts, one after another.
-fn dump_of(alloc: Global, texts: &[&str]) -> Result<Vec<u8>, AllocError> {
-    let mut dump = Vec::new(alloc);
+/// Adds these texts to a dump, one after another.
+fn put_texts(dump: &mut Vec<u8>, texts: &[&str]) -> bool {
     for text in texts {
-        dump.extend_from_slice(text.as_bytes())?;
+        if dump.extend_from_slice(text.as_bytes()).is_err() {
+            return false;
+        }
     }
-    Ok(dump)
+    true
 }
 
 /// Whether the dump of these texts is read as is wanted.
 fn are_right(alloc: Global, texts: &[&str], want: &Wanted) -> bool {
-    match dump_of(alloc, texts) {
-        Ok(dump) => is_right(alloc, dump.as_slice(), None, want),
-        Err(_) => false,
-    }
+    let mut dump = Vec::new(alloc);
+    put_texts(&mut dump, texts) && is_right(alloc, dump.as_slice(), None, want)
 }
 
 /// Reads the dump of each row.

@@ -1,6 +1,8 @@
-//! Pulses and the edges that they have.
+//! Edges, and the pulses and the tracks that have them.
 
-use irig_vcd::Pulse;
+use irig_track::Track;
+use irig_vcd::{Pulse, Recording};
+use std::alloc::{AllocError, Global};
 
 /// Whether pulses have these edges, in order.
 pub(crate) fn have_edges(pulses: &[Pulse], edges: &[u64]) -> bool {
@@ -12,4 +14,22 @@ pub(crate) fn have_edges(pulses: &[Pulse], edges: &[u64]) -> bool {
         }
     }
     left.is_empty()
+}
+
+/// The track of a length and edges. These are a recording, or the error is that of memory.
+pub(crate) fn track_of(alloc: Global, length: u64, edges: &[u64]) -> Result<Track, AllocError> {
+    match Recording::new(alloc, length, edges)? {
+        Some(recording) => Track::new(recording),
+        None => Err(AllocError),
+    }
+}
+
+/// The edges of 2^22 pulses, the most there may be: up from 0 on for a microsecond, and down for
+/// one.
+pub(crate) fn most_edges(alloc: Global) -> Result<Vec<u64>, AllocError> {
+    let mut edges = Vec::with_capacity(alloc, 1 << 23)?;
+    for edge in 0..1u64 << 23 {
+        edges.push(edge)?;
+    }
+    Ok(edges)
 }

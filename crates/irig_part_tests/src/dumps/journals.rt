@@ -4,7 +4,7 @@ ghost use Rattle.std.specs.Prelude.{◌≤◌, ◌^◌, length};
 
 use super::Wanted::{Edges, Fault};
 use super::cuts::cuts_agree;
-use super::{HEADER, Row, check_rows, dump_of, is_right};
+use super::{HEADER, Row, check_rows, is_right, put_texts};
 use irig_vcd::{VcdFault, read_parts};
 use std::alloc::Global;
 
@@ -26,10 +26,8 @@ fn is_given(alloc: Global, dump: &[u8], want: Option<&[u8]>) -> bool {
 
 /// Whether the dump of these changes gives the journal that is wanted, or the fault.
 fn is_right_journal(alloc: Global, changes: &str, want: Option<&[u8]>) -> bool {
-    match dump_of(alloc, &[HEADER, changes]) {
-        Ok(dump) => is_given(alloc, dump.as_slice(), want),
-        Err(_) => false,
-    }
+    let mut dump = Vec::new(alloc);
+    put_texts(&mut dump, &[HEADER, changes]) && is_given(alloc, dump.as_slice(), want)
 }
 
 /// Changes with a comment, and the journal in it.

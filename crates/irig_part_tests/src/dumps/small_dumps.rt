@@ -4,7 +4,7 @@ use super::HEADER;
 use crate::dumps::plain::plain_edges;
 use crate::edges::have_edges;
 use irig_vcd::read;
-use std::alloc::{AllocError, Global};
+use std::alloc::Global;
 
 /// A dump, with the changes that it makes and its last time.
 #[derive(Drop)]
@@ -15,33 +15,31 @@ struct Dump {
 }
 
 impl Dump {
-    /// A dump of no step.
-    fn new(alloc: Global) -> Result<Dump, AllocError> {
-        let text = Vec::from_slice(alloc, HEADER.as_bytes())?;
-        Ok(Dump {
-            text,
+    /// A dump of no text.
+    fn new(alloc: Global) -> Dump {
+        Dump {
+            text: Vec::new(alloc),
             changes: Vec::new(alloc),
             time: 0,
-        })
+        }
     }
 
     /// Adds a change to a level, with its text.
-    fn put_change(&mut self, text: &[u8], high: bool) -> Result<(), AllocError> {
-        self.text.extend_from_slice(text)?;
-        self.changes.push((self.time, high))?;
-        Ok(())
+    fn put_change(&mut self, text: &[u8], high: bool) -> bool {
+        self.text.extend_from_slice(text).is_ok() && self.changes.push((self.time, high)).is_ok()
     }
 
     /// Adds a time, this much later.
-    fn put_time(&mut self, by: u64) -> Result<(), AllocError> {
+    fn put_time(&mut self, by: u64) -> bool {
         self.time = self.time.saturating_add(by);
         let tens = b'0' + (self.time / 10 % 10) as u8;
         let units = b'0' + (self.time % 10) as u8;
-        self.text.extend_from_slice(&[b'#', tens, units, b' '])
+        let text = [b'#', tens, units, b' '];
+        self.text.extend_from_slice(&text).is_ok()
     }
 
     /// Adds a step, by a digit to base five.
-    fn put(&mut self, step: u64) -> Result<(), AllocError> {
+    fn put(&mut self, step: u64) -> bool {
         match step {
             0 => self.put_change(b"1! ", true),
             1 => self.put_change(b"0! ", false),
@@ -50,22 +48,16 @@ impl Dump {
         }
     }
 
-    /// Adds five steps, by the digits of a number to base five.
-    fn put_five(&mut self, steps: u64) -> Result<(), AllocError> {
+    /// Adds the header and five steps, by the digits of a number to base five.
+    fn put_five(&mut self, steps: u64) -> bool {
+        let mut put = self.text.extend_from_slice(HEADER.as_bytes()).is_ok();
         let mut left = steps;
         for _ in 0..5 {
-            self.put(left % 5)?;
+            put &= self.put(left % 5);
             left /= 5;
         }
-        Ok(())
+        put
     }
-}
-
-/// The dump of five steps, by the digits of a number to base five.
-fn small_dump(alloc: Global, steps: u64) -> Result<Dump, AllocError> {
-    let mut dump = Dump::new(alloc)?;
-    dump.put_five(steps)?;
-    Ok(dump)
 }
 
 /// Whether a dump is read with these edges.
@@ -87,11 +79,16 @@ fn is_right(alloc: Global, dump: &Dump) -> bool {
     }
 }
 
+/// Whether the dump of five steps is read so. The steps are the digits of a number to base five.
+fn are_right(alloc: Global, steps: u64) -> bool {
+    let mut dump = Dump::new(alloc);
+    dump.put_five(steps) && dump.time < 100 && is_right(alloc, &dump)
+}
+
 // All 3,125 dumps of five steps.
 #[test]
 fn small_dumps_are_read_as_their_definition_says(rt: HostRuntime) {
     for steps in 0..3125 {
-        let dump = small_dump(rt.alloc(), steps).expect(&rt, "a dump");
-        assert!(rt; dump.time < 100 && is_right(rt.alloc(), &dump));
+        assert!(rt; are_right(rt.alloc(), steps));
     }
 }

@@ -2,6 +2,7 @@
 
 use super::Wanted::Edges;
 use super::is_right;
+use crate::edges::most_edges;
 use irig_vcd::{Recording, VcdFault, read, text};
 use std::alloc::{AllocError, Global};
 
@@ -64,13 +65,9 @@ fn what_is_written_is_read(rt: HostRuntime) {
     assert!(rt; is_read_back(rt.alloc(), 70, &[0, 5, 9, 70]));
 }
 
-/// The dump of a recording of 2^22 pulses, the most there may be: up from 0 on for a microsecond,
-/// and down for one. Its last line sets the time to 8,388,608 microseconds.
+/// The dump of a recording of 2^22 pulses. Its last line sets the time to 8,388,608 microseconds.
 fn full_dump(alloc: Global) -> Result<Vec<u8>, AllocError> {
-    let mut edges = Vec::with_capacity(alloc, 1 << 23)?;
-    for edge in 0..1u64 << 23 {
-        edges.push(edge)?;
-    }
+    let edges = most_edges(alloc)?;
     lines_of(alloc, 1 << 23, edges.as_slice())
 }
 

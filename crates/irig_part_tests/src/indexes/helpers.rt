@@ -4,11 +4,11 @@ ghost use Rattle.std.specs.Prelude.{◌≡◌, ◌<◌, ◌≤◌, IfOk, OnOk, M
 ghost use Rattle.irig_index.specs.Frames.{frames};
 ghost use Rattle.irig_track.specs.Splices.{IsSpan};
 
+use crate::edges::track_of;
 use irig_codes::{Format, Kind};
 use irig_gap::Gap;
 use irig_index::{Index, Record};
 use irig_track::{Span, Track};
-use irig_vcd::Recording;
 use std::alloc::{AllocError, Global};
 use std::process::Abort;
 
@@ -41,14 +41,6 @@ fn width(hundredths: u64, element: u64) -> u64
         50
     } else {
         20
-    }
-}
-
-/// The track of these edges.
-fn track_of(alloc: Global, length: u64, edges: &[u64]) -> Result<Track, AllocError> {
-    match Recording::new(alloc, length, edges)? {
-        Some(recording) => Track::new(recording),
-        None => Err(AllocError),
     }
 }
 

@@ -9,18 +9,6 @@ use irig_track::{Pulse, Span, Track};
 use irig_vcd::Recording;
 use std::alloc::{AllocError, Global};
 
-/// The track of a length and edges, if these are a recording.
-pub(crate) fn track_of(
-    alloc: Global,
-    length: u64,
-    edges: &[u64],
-) -> Result<Option<Track>, AllocError> {
-    match Recording::new(alloc, length, edges)? {
-        Some(recording) => Ok(Some(Track::new(recording)?)),
-        None => Ok(None),
-    }
-}
-
 /// The pulses of a track in a gap buffer.
 pub(crate) fn pulses_of(alloc: Global, track: &Track) -> Result<Gap<Pulse>, AllocError> {
     let mut pulses = Gap::new(alloc);

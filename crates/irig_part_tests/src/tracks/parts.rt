@@ -1,6 +1,6 @@
 //! The text of a track, part by part.
 
-use super::helpers::track_of;
+use crate::edges::track_of;
 use irig_text::Text;
 use irig_track::{Track, TrackText};
 use std::alloc::Global;
@@ -61,16 +61,18 @@ fn has_parts(alloc: Global, text: &mut TrackText<'_>, enough: usize, parts: &[us
     from == LINES.len() && is_part(alloc, text, enough, &[])
 }
 
-/// Whether a track has its text in these parts.
-fn comes_in_parts(alloc: Global, track: &Track, (enough, parts): &(usize, &[usize])) -> bool {
-    has_parts(alloc, &mut track.text_parts(), *enough, parts)
+/// Whether the text of a track comes in the parts of each row.
+fn comes_in_parts(alloc: Global, track: &Track) -> bool {
+    for (enough, parts) in PARTS.iter() {
+        if !has_parts(alloc, &mut track.text_parts(), *enough, parts) {
+            return false;
+        }
+    }
+    true
 }
 
 #[test]
 fn a_text_comes_in_parts(rt: HostRuntime) {
-    let made = track_of(rt.alloc(), 1000, EDGES).expect(&rt, "memory");
-    let track = made.expect(&rt, "a track");
-    for row in PARTS.iter() {
-        assert!(rt; comes_in_parts(rt.alloc(), &track, row));
-    }
+    let track = track_of(rt.alloc(), 1000, EDGES).expect(&rt, "a track");
+    assert!(rt; comes_in_parts(rt.alloc(), &track));
 }

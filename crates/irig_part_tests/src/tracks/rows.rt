@@ -1,6 +1,7 @@
 //! The worked rows of a track of two pulses, and a track at its limit.
 
-use super::helpers::{has_edges, pulses_of, shift, splices, toggle, track_of};
+use super::helpers::{has_edges, pulses_of, shift, splices, toggle};
+use crate::edges::{most_edges, track_of};
 use irig_gap::Gap;
 use irig_track::{Lens, Pulse, Span, Track};
 use std::alloc::{AllocError, Global};
@@ -34,7 +35,7 @@ fn span_of(place: Option<Place>) -> Option<Span> {
 }
 
 /// The track of length 1,000 with pulses 100-120 and 200-280, in microseconds.
-fn two_pulses(alloc: Global) -> Result<Option<Track>, AllocError> {
+fn two_pulses(alloc: Global) -> Result<Track, AllocError> {
     track_of(alloc, 1000, START)
 }
 
@@ -94,10 +95,8 @@ fn answers(alloc: Global, track: &mut Track, call: Call) -> bool {
 /// Whether a call on the track of two pulses is as its row says.
 fn is_right(alloc: Global, (call, edges): &Row) -> bool {
     match two_pulses(alloc) {
-        Ok(Some(mut track)) => {
-            answers(alloc, &mut track, *call) && has_edges(alloc, &track, edges)
-        }
-        _ => false,
+        Ok(mut track) => { answers(alloc, &mut track, *call) && has_edges(alloc, &track, edges) }
+        Err(_) => false,
     }
 }
 
@@ -190,34 +189,28 @@ fn a_shift_says_where_it_took_place(rt: HostRuntime) {
     check(&rt, rt.alloc(), &SHIFTS);
 }
 
-/// A track of 2^22 pulses, each a microsecond long and a microsecond apart.
-fn full_track(alloc: Global) -> Result<Option<Track>, AllocError> {
-    let mut edges = Vec::with_capacity(alloc, 1 << 23)?;
-    for time in 0..8_388_608 {
-        edges.push(time)?;
-    }
+/// A track of 2^22 pulses, with time for more in its length.
+fn full_track(alloc: Global) -> Result<Track, AllocError> {
+    let edges = most_edges(alloc)?;
     track_of(alloc, 8_388_618, edges.as_slice())
 }
 
-/// Whether a pulse comes into a full track only instead of another.
+/// Whether a pulse comes into a full track only instead of another, and an inversion is made only
+/// if it makes no further pulse.
 fn takes_no_further(track: &Track, put: &Gap<Pulse>) -> bool {
-    track.room() == 0 && !track.can_splice(4_194_304, 0, put) && track.can_splice(4_194_303, 1, put)
-}
-
-/// Whether an inversion of a full track is made only if it makes no further pulse.
-fn inverts_no_further(track: &Track) -> bool {
-    !track.can_toggle(8_388_610, 8_388_611)
+    track.room() == 0
+        && !track.can_splice(4_194_304, 0, put)
+        && track.can_splice(4_194_303, 1, put)
+        && !track.can_toggle(8_388_610, 8_388_611)
         && track.can_toggle(0, 1)
         && track.can_toggle(0, 8_388_610)
 }
 
 #[test]
 fn a_full_track_takes_no_further_pulse(rt: HostRuntime) {
-    let full = full_track(rt.alloc()).expect(&rt, "memory");
-    let track = full.expect(&rt, "a track");
-    let put = one_pulse(rt.alloc(), 8_388_610, 8_388_611).expect(&rt, "memory");
+    let track = full_track(rt.alloc()).expect(&rt, "a track");
+    let put = one_pulse(rt.alloc(), 8_388_610, 8_388_611).expect(&rt, "a pulse");
     assert!(rt; takes_no_further(&track, &put));
-    assert!(rt; inverts_no_further(&track));
 }
 
 /// Whether a lens on the track of two pulses shows a pulse.
@@ -234,18 +227,16 @@ fn counts_looks(track: &Track) -> bool {
         && lens.looks() == 2
 }
 
-/// Whether a track gives this many pulses.
-fn gives_pulses(alloc: Global, track: &Track, count: usize) -> bool {
+/// Whether that is so, and the track gives two pulses.
+fn shows_two(alloc: Global, track: &Track) -> bool {
     match pulses_of(alloc, track) {
-        Ok(pulses) => pulses.len() == count,
+        Ok(pulses) => pulses.len() == 2 && counts_looks(track),
         Err(_) => false,
     }
 }
 
 #[test]
 fn a_lens_counts_its_looks(rt: HostRuntime) {
-    let two = two_pulses(rt.alloc()).expect(&rt, "memory");
-    let track = two.expect(&rt, "a track");
-    assert!(rt; counts_looks(&track));
-    assert!(rt; gives_pulses(rt.alloc(), &track, 2));
+    let track = two_pulses(rt.alloc()).expect(&rt, "a track");
+    assert!(rt; shows_two(rt.alloc(), &track));
 }

@@ -4,21 +4,28 @@
 
 ghost use Rattle.std.specs.Prelude.{◌<◌};
 
-use super::helpers::{has_edges, pulses_of, shift, splices, toggle, track_of};
+use super::helpers::{has_edges, pulses_of, shift, splices, toggle};
+use crate::edges::track_of;
 use irig_gap::Gap;
 use irig_track::{Pulse, Span, Track};
 use std::alloc::{AllocError, Global};
 use std::process::Abort;
 
-/// The times whose bit is 1, in order.
-fn times_in(alloc: Global, bits: u64) -> Result<Vec<u64>, AllocError> {
-    let mut times = Vec::new(alloc);
+/// Adds the times whose bit is 1, in order.
+fn put_set(times: &mut Vec<u64>, bits: u64) -> bool {
     for time in 0..10 {
-        if (bits >> time) & 1 == 1 {
-            times.push(time)?;
+        if (bits >> time) & 1 == 1 && times.push(time).is_err() {
+            return false;
         }
     }
-    Ok(times)
+    true
+}
+
+/// Whether a set is the edges of a track of this length: even in number, and none above it.
+fn is_track(length: u64, bits: u64) -> bool
+    requires { length < 7 }
+{
+    bits >> (length + 1) == 0 && bits.count_ones() % 2 == 0
 }
 
 /// Whether times rise strictly and none is above the length.
@@ -34,52 +41,22 @@ fn may_be_edges(times: &[u64], length: u64) -> bool {
 }
 
 /// Adds the edges of the pulses from `from` on, before `to`.
-fn put_edges(
-    times: &mut Vec<u64>,
-    edges: &[u64],
-    from: usize,
-    to: usize,
-) -> Result<(), AllocError> {
+fn put_edges(times: &mut Vec<u64>, edges: &[u64], from: usize, to: usize) -> bool {
     for index in 0..edges.len() {
-        if from <= index / 2 && index / 2 < to {
-            times.push(edges[index])?;
+        let goes = from <= index / 2 && index / 2 < to;
+        if goes && times.push(edges[index]).is_err() {
+            return false;
         }
     }
-    Ok(())
+    true
 }
 
-/// Adds the edges with those of `count` pulses from `at` on replaced. False if one is not there.
-fn put_spliced(
-    times: &mut Vec<u64>,
-    edges: &[u64],
-    at: usize,
-    count: usize,
-    put: &[u64],
-) -> Result<bool, AllocError> {
-    let end = at.saturating_add(count);
-    put_edges(times, edges, 0, at)?;
-    times.extend_from_slice(put)?;
-    put_edges(times, edges, end, usize::MAX)?;
-    Ok(end <= edges.len() / 2)
-}
-
-/// Adds the edges with those of the pulses `i` to `j` moved. False if one is not there, or leaves
-/// the numbers.
-fn put_shifted(
-    times: &mut Vec<u64>,
-    edges: &[u64],
-    i: usize,
-    j: usize,
-    by: i64,
-) -> Result<bool, AllocError> {
-    for index in 0..edges.len() {
-        let moves = i <= index / 2 && index / 2 <= j;
-        match edges[index].checked_add_signed(if moves { by } else { 0 }) {
-            Some(time) => times.push(time)?,
-            None => return Ok(false),
-        }
+/// A time that is moved, or one above all lengths if it leaves the numbers.
+fn moved(time: u64, by: i64) -> u64 {
+    match time.checked_add_signed(by) {
+        Some(time) => time,
+        None => u64::MAX,
     }
-    Ok(i <= j && j < edges.len() / 2)
 }
 
 /// How many pulses rise at or before `rise` and fall from `from` on up to `to`.
@@ -94,26 +71,26 @@ fn count_of(track: &Track, rise: u64, from: u64, to: u64) -> usize {
     count
 }
 
-/// The track of a length and a set of edges, or None if they are no track.
-fn track_in(alloc: Global, length: u64, bits: u64) -> Result<Option<Track>, AllocError> {
-    let times = times_in(alloc, bits)?;
-    track_of(alloc, length, times.as_slice())
+/// The track of a length and a set of edges.
+fn track_in(alloc: Global, length: u64, bits: u64) -> Result<Track, AllocError> {
+    let mut times = Vec::new(alloc);
+    if put_set(&mut times, bits) {
+        track_of(alloc, length, times.as_slice())
+    } else {
+        Err(AllocError)
+    }
 }
 
-/// The pulses of a set of edges, or None if they are no track of length 6.
-fn pulses_in(alloc: Global, bits: u64) -> Result<Option<Gap<Pulse>>, AllocError> {
-    match track_in(alloc, 6, bits)? {
-        Some(track) => Ok(Some(pulses_of(alloc, &track)?)),
-        None => Ok(None),
-    }
+/// The pulses of a set of edges.
+fn pulses_in(alloc: Global, bits: u64) -> Result<Gap<Pulse>, AllocError> {
+    let track = track_in(alloc, 6, bits)?;
+    pulses_of(alloc, &track)
 }
 
 /// Whether a track has the edges of a set.
 fn has_set(alloc: Global, track: &Track, bits: u64) -> bool {
-    match times_in(alloc, bits) {
-        Ok(times) => has_edges(alloc, track, times.as_slice()),
-        Err(_) => false,
-    }
+    let mut times = Vec::new(alloc);
+    put_set(&mut times, bits) && has_edges(alloc, track, times.as_slice())
 }
 
 /// How many pulses end before a time.
@@ -150,11 +127,11 @@ fn toggles(alloc: Global, length: u64, bits: u64, a: u64, b: u64) -> bool
     requires { (a < 9) × (b < 9) }
 {
     match track_in(alloc, length, bits) {
-        Ok(Some(mut track)) => {
+        Ok(mut track) => {
             track.find(a) == count_of(&track, a, 0, u64::MAX)
                 && is_toggled(alloc, &mut track, length, bits, a, b)
         }
-        _ => false,
+        Err(_) => false,
     }
 }
 
@@ -169,10 +146,16 @@ struct ShiftCase {
 }
 
 impl ShiftCase {
-    /// Adds the edges with some moved. False if one is not there, or leaves the numbers.
-    fn put_times(&self, alloc: Global, times: &mut Vec<u64>) -> Result<bool, AllocError> {
-        let edges = times_in(alloc, self.bits)?;
-        put_shifted(times, edges.as_slice(), self.i, self.j, self.by)
+    /// Adds the edges with some moved.
+    fn put_times(&self, times: &mut Vec<u64>, edges: &[u64]) -> bool {
+        for index in 0..edges.len() {
+            let moves = self.i <= index / 2 && index / 2 <= self.j;
+            let by = if moves { self.by } else { 0 };
+            if times.push(moved(edges[index], by)).is_err() {
+                return false;
+            }
+        }
+        true
     }
 
     /// Where it takes place.
@@ -185,31 +168,31 @@ impl ShiftCase {
         }
     }
 
-    /// Whether it makes these times the edges and says where, or cannot be made if they cannot be
-    /// the edges.
-    fn leads_to(&self, alloc: Global, track: &mut Track, times: &[u64]) -> bool {
-        let may = may_be_edges(times, self.length);
+    /// Whether it makes these times the edges and says where, or cannot be made if a pulse is not
+    /// there or they cannot be the edges.
+    fn leads_to(&self, alloc: Global, track: &mut Track, edges: &[u64], times: &[u64]) -> bool {
+        let there = self.i <= self.j && self.j < edges.len() / 2;
+        let may = there && may_be_edges(times, self.length);
         match shift(track, self.i, self.j, self.by) {
             Some(span) => may && span == self.span() && has_edges(alloc, track, times),
             None => !may,
         }
     }
 
-    /// Whether it is right on its track.
+    /// Whether it is that of the list with some edges moved.
     fn is_right_on(&self, alloc: Global, track: &mut Track) -> bool {
+        let mut edges = Vec::new(alloc);
         let mut times = Vec::new(alloc);
-        match self.put_times(alloc, &mut times) {
-            Ok(true) => self.leads_to(alloc, track, times.as_slice()),
-            Ok(false) => shift(track, self.i, self.j, self.by).is_none(),
-            Err(_) => false,
-        }
+        put_set(&mut edges, self.bits)
+            && self.put_times(&mut times, edges.as_slice())
+            && self.leads_to(alloc, track, edges.as_slice(), times.as_slice())
     }
 
-    /// Whether it is that of the list with some edges moved.
+    /// Whether it is right on the track.
     fn is_right(&self, alloc: Global) -> bool {
         match track_in(alloc, self.length, self.bits) {
-            Ok(Some(mut track)) => self.is_right_on(alloc, &mut track),
-            _ => false,
+            Ok(mut track) => self.is_right_on(alloc, &mut track),
+            Err(_) => false,
         }
     }
 }
@@ -225,58 +208,66 @@ struct SpliceCase {
 }
 
 impl SpliceCase {
-    /// Adds the edges with some replaced. False if a pulse that goes is not there.
-    fn put_times(&self, alloc: Global, times: &mut Vec<u64>) -> Result<bool, AllocError> {
-        let edges = times_in(alloc, self.bits)?;
-        let put = times_in(alloc, self.come)?;
-        put_spliced(times, edges.as_slice(), self.at, self.count, put.as_slice())
+    /// Adds the edges with some replaced.
+    fn put_times(&self, times: &mut Vec<u64>, edges: &[u64]) -> bool {
+        let end = self.at.saturating_add(self.count);
+        put_edges(times, edges, 0, self.at)
+            && put_set(times, self.come)
+            && put_edges(times, edges, end, usize::MAX)
     }
 
-    /// Whether it makes these times the edges and says where, or cannot be made if they cannot be
-    /// the edges.
+    /// Where it takes place, or None if a pulse that goes is not there or these times cannot be the
+    /// edges.
+    fn span(&self, come: usize, edges: &[u64], times: &[u64]) -> Option<Span> {
+        let there = self.at.saturating_add(self.count) <= edges.len() / 2;
+        if there && may_be_edges(times, self.length) {
+            Some(Span {
+                at: self.at,
+                old: self.count,
+                new: come,
+            })
+        } else {
+            None
+        }
+    }
+
+    /// Whether it makes these times the edges and says where, or cannot be made if there is no
+    /// span.
     fn leads_to(
         &self,
         alloc: Global,
         track: &mut Track,
         put: &mut Gap<Pulse>,
+        span: Option<Span>,
         times: &[u64],
     ) -> bool {
-        if !may_be_edges(times, self.length) {
-            return splices(alloc, track, self.at, self.count, put, None);
-        }
-        let span = Span {
-            at: self.at,
-            old: self.count,
-            new: put.len(),
-        };
-        splices(alloc, track, self.at, self.count, put, Some(span))
-            && has_edges(alloc, track, times)
+        splices(alloc, track, self.at, self.count, put, span)
+            && (span.is_none() || has_edges(alloc, track, times))
     }
 
-    /// Whether it is right on its track, with these pulses to come.
-    fn is_right_on(&self, alloc: Global, track: &mut Track, put: &mut Gap<Pulse>) -> bool {
+    /// Whether it is that of the list with some edges replaced.
+    fn is_right_with(&self, alloc: Global, track: &mut Track, put: &mut Gap<Pulse>) -> bool {
+        let mut edges = Vec::new(alloc);
         let mut times = Vec::new(alloc);
-        match self.put_times(alloc, &mut times) {
-            Ok(true) => self.leads_to(alloc, track, put, times.as_slice()),
-            Ok(false) => splices(alloc, track, self.at, self.count, put, None),
+        if !put_set(&mut edges, self.bits) || !self.put_times(&mut times, edges.as_slice()) {
+            return false;
+        }
+        let span = self.span(put.len(), edges.as_slice(), times.as_slice());
+        self.leads_to(alloc, track, put, span, times.as_slice())
+    }
+
+    /// Whether it is right on its track.
+    fn is_right_on(&self, alloc: Global, track: &mut Track) -> bool {
+        match pulses_in(alloc, self.come) {
+            Ok(mut put) => self.is_right_with(alloc, track, &mut put),
             Err(_) => false,
         }
     }
 
-    /// Whether it is right with these pulses to come.
-    fn is_right_with(&self, alloc: Global, put: &mut Gap<Pulse>) -> bool {
-        match track_in(alloc, self.length, self.bits) {
-            Ok(Some(mut track)) => self.is_right_on(alloc, &mut track, put),
-            _ => false,
-        }
-    }
-
-    /// Whether it is that of the list with some edges replaced, if the edges that come are those
-    /// of a track.
+    /// Whether it is right.
     fn is_right(&self, alloc: Global) -> bool {
-        match pulses_in(alloc, self.come) {
-            Ok(Some(mut put)) => self.is_right_with(alloc, &mut put),
-            Ok(None) => true,
+        match track_in(alloc, self.length, self.bits) {
+            Ok(mut track) => self.is_right_on(alloc, &mut track),
             Err(_) => false,
         }
     }
@@ -315,7 +306,7 @@ fn check_splices(rt: &impl Abort, alloc: Global, length: u64, bits: u64, at: usi
             count,
             come,
         };
-        assert!(rt; case.is_right(alloc));
+        assert!(rt; !is_track(6, come) || case.is_right(alloc));
     }
 }
 
@@ -330,17 +321,11 @@ fn check(rt: &impl Abort, alloc: Global, length: u64, bits: u64) {
     }
 }
 
-/// Whether a set is the edges of a track of this length.
-fn is_track(rt: &impl Abort, alloc: Global, length: u64, bits: u64) -> bool {
-    let track = track_in(alloc, length, bits).expect(rt, "memory");
-    track.is_some()
-}
-
 #[test]
 fn every_edit_of_a_small_track_is_its_definition(rt: HostRuntime) {
     for length in 0..7 {
         for bits in 0..128 {
-            if is_track(&rt, rt.alloc(), length, bits) {
+            if is_track(length, bits) {
                 check(&rt, rt.alloc(), length, bits);
             }
         }
