@@ -128,7 +128,7 @@ fn is_splice(step: &Step) -> bool {
     let Change::One(Single::Splice { at, count, put }) = &step.change else {
         return false;
     };
-    (step.cursor, *at, *count) == (2, 1, 0) && is_deleted(put)
+    step.cursor == 2 && *at == 1 && *count == 0 && is_deleted(put)
 }
 
 /// Whether pulses are the one that was deleted.

@@ -138,10 +138,15 @@ fn fresh(alloc: Global, _stack: &Stack) -> Journal<Stack>
 
 /// Whether bytes, cursor, steps, turns and what is held are those of a row.
 fn is_left(journal: &Journal<Stack>, stack: &Stack, cursor: usize, row: &Row) -> bool {
-    let (_, _, bytes, place, back, forward, turns, held) = row;
+    let (_, _, bytes, place, back, forward, turns, (past, future)) = row;
+    let held = journal.weights();
     stack.items.as_slice() == *bytes
-        && (cursor, journal.steps_back(), journal.steps_forward()) == (*place, *back, *forward)
-        && (stack.turns, journal.weights()) == (*turns, *held)
+        && cursor == *place
+        && journal.steps_back() == *back
+        && journal.steps_forward() == *forward
+        && stack.turns == *turns
+        && held.0 == *past
+        && held.1 == *future
 }
 
 /// Obeys calls, and returns whether each answers and leaves what its row says.

@@ -1,6 +1,6 @@
 //! Tracks of format G, expression 2, their edits, and indexes that are kept next to them.
 
-ghost use Rattle.std.specs.Prelude.{◌≡◌, ◌<◌, ◌≤◌, IfOk, OnOk, MatchOption};
+ghost use Rattle.std.specs.Prelude.{◌≡◌, ◌<◌, ◌≤◌, IfOk, OnOk, MatchOption, IsTrue};
 ghost use Rattle.irig_index.specs.Frames.{frames};
 ghost use Rattle.irig_track.specs.Splices.{IsSpan};
 
@@ -8,7 +8,7 @@ use crate::edges::track_of;
 use irig_codes::{Format, Kind};
 use irig_gap::Gap;
 use irig_index::{Index, Record};
-use irig_track::{Span, Track};
+use irig_track::{Lens, Span, Track};
 use std::alloc::{AllocError, Global};
 use std::process::Abort;
 
@@ -44,26 +44,29 @@ fn width(hundredths: u64, element: u64) -> u64
     }
 }
 
-/// This many pulses of sound frames: element e of frame k rises at (100 k + e) * 100.
-pub(crate) fn sound(alloc: Global, count: u64) -> Result<Track, AllocError>
+/// A track of this many pulses, 100 microseconds apart: of sound frames, or all identifiers.
+fn pulses(alloc: Global, count: u64, are_sound: bool) -> Result<Track, AllocError>
     requires { count ≤ 1000000 }
 {
     let mut edges = Vec::new(alloc);
     for place in 0..count {
+        let sound = width(place / 100, place % 100);
         edges.push(100 * place)?;
-        edges.push(100 * place + width(place / 100, place % 100))?;
+        edges.push(100 * place + if are_sound { sound } else { 80 })?;
     }
     track_of(alloc, 100 * count, edges.as_slice())
 }
 
+/// This many pulses of sound frames: element e of frame k rises at (100 k + e) * 100.
+pub(crate) fn sound(alloc: Global, count: u64) -> Result<Track, AllocError>
+    requires { count ≤ 1000000 }
+{
+    pulses(alloc, count, true)
+}
+
 /// Eight position identifiers in step: all but the first are markers.
 pub(crate) fn positions(alloc: Global) -> Result<Track, AllocError> {
-    let mut edges = Vec::new(alloc);
-    for place in 0..8u64 {
-        edges.push(100 * place)?;
-        edges.push(100 * place + 80)?;
-    }
-    track_of(alloc, 800, edges.as_slice())
+    pulses(alloc, 8, false)
 }
 
 /// Removes `count` pulses from `at` on, if they are there.
@@ -112,40 +115,52 @@ pub(crate) fn back(edit: Edit) -> Edit {
 }
 
 /// Makes an edit, if it can be made, and repairs the index, which then has places for the frames
-/// afterwards and for no more. False if too many looks were made.
-pub(crate) fn repaired(
+/// afterwards and for no more. False if memory runs out, or too many looks were made.
+pub(crate) fn repairs(
     alloc: Global,
     track: &mut Track,
     index: &mut Index,
     format: Format,
     edit: Edit,
-) -> Result<bool, AllocError>
+) -> bool
     requires { index.old.records ≡ frames format track.old.pulses }
-    ensures { OnOk result (index.new.records ≡ frames format track.new.pulses) }
+    ensures { IsTrue result → index.new.records ≡ frames format track.new.pulses }
 {
     // Read for its bound alone.
     let _before = track.len();
-    let Some(span) = make(alloc, track, edit)? else {
-        return Ok(true);
+    let Ok(made) = make(alloc, track, edit) else {
+        return false;
+    };
+    let Some(span) = made else {
+        return true;
     };
     // Read for its bound alone.
     let _after = track.len();
     let before = index.looks();
     let count = Index::count(&mut track.lens(), format);
-    index.reserve(count.saturating_sub(index.len()))?;
+    if index.reserve(count.saturating_sub(index.len())).is_err() {
+        return false;
+    }
     let mut lens = track.lens();
     index.repair(&mut lens, format, span);
-    let few = lens.looks() <= 3 * (span.new as u64 + 200);
-    Ok(few && index.looks().wrapping_sub(before) == lens.looks())
+    took_few(&lens, index, before, span.new)
+}
+
+/// Whether a repair took few looks, and the index counted each. So many pulses came.
+fn took_few(lens: &Lens<'_>, index: &Index, before: u64, came: usize) -> bool {
+    let most = (came as u64).saturating_add(200).saturating_mul(3);
+    lens.looks() <= most && index.looks().wrapping_sub(before) == lens.looks()
 }
 
 /// Makes the index that of the track, by reading the whole of it.
-pub(crate) fn rebuilt(index: &mut Index, track: &Track, format: Format) -> Result<(), AllocError> {
+pub(crate) fn rebuilds(index: &mut Index, track: &Track, format: Format) -> bool {
     let mut lens = track.lens();
     let count = Index::count(&mut lens, format);
-    index.reserve(count)?;
+    if index.reserve(count).is_err() {
+        return false;
+    }
     index.rebuild(&mut lens, format);
-    Ok(())
+    true
 }
 
 /// Whether the index holds these records and no others.

@@ -1,55 +1,53 @@
 //! Repairs against indexes that are built from nothing.
 
-ghost use Rattle.std.specs.Prelude.{◌≡◌, OnOk};
+ghost use Rattle.std.specs.Prelude.{◌≡◌, IsTrue};
 ghost use Rattle.irig_index.specs.Frames.{frames};
 
-use super::helpers::{Edit, back, format_g, positions, repaired, same, sound};
+use super::helpers::{Edit, back, format_g, positions, repairs, same, sound};
 use irig_codes::Format;
 use irig_index::Index;
 use irig_track::Track;
-use std::alloc::{AllocError, Global};
+use std::alloc::Global;
 
-/// Makes an edit, if it can be made, and repairs the index. Whether one built from nothing is the
-/// same.
-fn agrees(
-    alloc: Global,
-    track: &mut Track,
-    index: &mut Index,
-    format: Format,
-    edit: Edit,
-) -> Result<bool, AllocError>
+/// Whether one index, repaired after an edit, and one built from nothing are the same. The edit is
+/// made if it can be.
+fn agrees(alloc: Global, track: &mut Track, index: &mut Index, format: Format, edit: Edit) -> bool
     requires { index.old.records ≡ frames format track.old.pulses }
-    ensures { OnOk result (index.new.records ≡ frames format track.new.pulses) }
+    ensures { IsTrue result → index.new.records ≡ frames format track.new.pulses }
 {
-    let few = repaired(alloc, track, index, format, edit)?;
-    let built = Index::build(alloc, &mut track.lens(), format)?;
-    Ok(few && same(index, &built))
+    repairs(alloc, track, index, format, edit) && is_built_so(alloc, track, index, format)
 }
 
-/// Makes edits in turn, and returns whether each repair agrees.
+/// Whether an index built from nothing is the same.
+fn is_built_so(alloc: Global, track: &Track, index: &Index, format: Format) -> bool {
+    match Index::build(alloc, &mut track.lens(), format) {
+        Ok(built) => same(index, &built),
+        Err(_) => false,
+    }
+}
+
+/// Whether each edit in turn agrees.
 fn each_agrees(
     alloc: Global,
     track: &mut Track,
     index: &mut Index,
     format: Format,
     edits: &[Edit],
-) -> Result<bool, AllocError>
+) -> bool
     requires { index.old.records ≡ frames format track.old.pulses }
 {
-    let mut agree = true;
     for edit in edits {
-        agree &= agrees(alloc, track, index, format, *edit)?;
+        if !agrees(alloc, track, index, format, *edit) {
+            return false;
+        }
     }
-    Ok(agree)
+    true
 }
 
 /// Edits in turn, each repaired and compared with an index built from nothing.
 fn all_agree(alloc: Global, track: &mut Track, format: Format, edits: &[Edit]) -> bool {
     match Index::build(alloc, &mut track.lens(), format) {
-        Ok(mut index) => matches!(
-            each_agrees(alloc, track, &mut index, format, edits),
-            Ok(true)
-        ),
+        Ok(mut index) => each_agrees(alloc, track, &mut index, format, edits),
         Err(_) => false,
     }
 }

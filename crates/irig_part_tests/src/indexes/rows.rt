@@ -1,15 +1,15 @@
 //! Tracks with the frames that they have, worked out by hand.
 
-ghost use Rattle.std.specs.Prelude.{◌≡◌, OnOk};
+ghost use Rattle.std.specs.Prelude.{◌≡◌, IsTrue};
 ghost use Rattle.irig_index.specs.Frames.{frames};
 
-use super::helpers::{Edit, back, format_g, holds, rebuilt, repaired, sound};
+use super::helpers::{Edit, back, format_g, holds, rebuilds, repairs, sound};
 use irig_codes::{Fields, Format, Note};
 use irig_index::{
     Cause, Index, Record, Verdict, frames_are_the_markers, verdicts_are_first_faults,
 };
 use irig_track::{Lens, Track};
-use std::alloc::{AllocError, Global};
+use std::alloc::Global;
 
 /// The verdict on the second frame of a sound track.
 const SECOND: Verdict = Verdict::Read(
@@ -32,7 +32,7 @@ static SOUND: [Record; 1] = [Record {
     verdict: SECOND,
 }];
 
-/// Makes an edit. Whether one index, repaired, and another, rebuilt, then hold these records.
+/// Whether one index, repaired after an edit, and another, rebuilt, hold these records.
 fn both_hold(
     alloc: Global,
     track: &mut Track,
@@ -41,13 +41,14 @@ fn both_hold(
     edit: Edit,
     records: &[Record],
     format: Format,
-) -> Result<bool, AllocError>
+) -> bool
     requires { index.old.records ≡ frames format track.old.pulses }
-    ensures { OnOk result (index.new.records ≡ frames format track.new.pulses) }
+    ensures { IsTrue result → index.new.records ≡ frames format track.new.pulses }
 {
-    let few = repaired(alloc, track, index, format, edit)?;
-    rebuilt(other, track, format)?;
-    Ok(few && holds(index, records) && holds(other, records))
+    repairs(alloc, track, index, format, edit)
+        && rebuilds(other, track, format)
+        && holds(index, records)
+        && holds(other, records)
 }
 
 /// Whether the two frames of a sound track are read, with as few looks as they take.
@@ -147,21 +148,23 @@ fn rows_hold(
     index: &mut Index,
     other: &mut Index,
     format: Format,
-) -> Result<bool, AllocError>
+) -> bool
     requires { index.old.records ≡ frames format track.old.pulses }
 {
-    let mut hold = true;
     for (edit, records) in ROWS.iter() {
-        hold &= both_hold(alloc, track, index, other, *edit, records, format)?;
-        hold &= both_hold(alloc, track, index, other, back(*edit), &SOUND, format)?;
+        if !both_hold(alloc, track, index, other, *edit, records, format)
+            || !both_hold(alloc, track, index, other, back(*edit), &SOUND, format)
+        {
+            return false;
+        }
     }
-    Ok(hold)
+    true
 }
 
 /// Whether an index of the sound track, repaired, and another hold the records of each row.
 fn is_repaired(alloc: Global, track: &mut Track, other: &mut Index, format: Format) -> bool {
     match Index::build(alloc, &mut track.lens(), format) {
-        Ok(mut index) => matches!(rows_hold(alloc, track, &mut index, other, format), Ok(true)),
+        Ok(mut index) => rows_hold(alloc, track, &mut index, other, format),
         Err(_) => false,
     }
 }

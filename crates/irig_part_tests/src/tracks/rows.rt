@@ -221,7 +221,9 @@ fn shows(lens: &mut Lens<'_>, track: &Track, index: usize) -> bool {
 /// Whether a lens on the track of two pulses shows it, and counts each look.
 fn counts_looks(track: &Track) -> bool {
     let mut lens = track.lens();
-    (lens.len(), lens.length(), lens.looks()) == (2, 1000, 0)
+    lens.len() == 2
+        && lens.length() == 1000
+        && lens.looks() == 0
         && shows(&mut lens, track, 0)
         && shows(&mut lens, track, 1)
         && lens.looks() == 2
