@@ -128,12 +128,7 @@ fn is_splice(step: &Step) -> bool {
     let Change::One(Single::Splice { at, count, put }) = &step.change else {
         return false;
     };
-    step.cursor == 2 && *at == 1 && *count == 0 && is_deleted(put)
-}
-
-/// Whether pulses are the one that was deleted.
-fn is_deleted(put: &Pulses) -> bool {
-    put.len() == 1 && put.get(0) == DELETED
+    step.cursor == 2 && *at == 1 && *count == 0 && put.len() == 1 && put.get(0) == DELETED
 }
 
 /// Whether a step leads to the first pulse and sets the mark a.
@@ -173,11 +168,6 @@ fn put_lines(text: &mut Vec<u8>, single: Single) -> bool {
     SingleLines::of(&single).fill(text, usize::MAX).is_ok()
 }
 
-/// Writes the lines of the worked journal up to its steps.
-fn put_worked_head(text: &mut Vec<u8>, format: Format) -> bool {
-    put_head(text, format, 1, &[None; 26], 1).is_ok()
-}
-
 /// The pulse that was deleted, to be inserted.
 fn deleted(alloc: Global) -> Result<Pulses, AllocError> {
     let mut put = Pulses::new(alloc);
@@ -192,11 +182,6 @@ fn put_splice(text: &mut Vec<u8>) -> bool {
         Ok(put) => put_lines(text, Single::Splice { at, count, put }),
         Err(_) => false,
     }
-}
-
-/// Writes the lines of its step back.
-fn put_back(text: &mut Vec<u8>) -> bool {
-    put_step(text, 2, false, 1).is_ok() && put_splice(text)
 }
 
 /// Writes the lines of its step forward.
@@ -225,8 +210,9 @@ fn put_changes(text: &mut Vec<u8>) -> bool {
 
 /// Whether the lines of the worked journal are written into an empty text.
 fn is_worked_put(text: &mut Vec<u8>, format: Format) -> bool {
-    put_worked_head(text, format)
-        && put_back(text)
+    put_head(text, format, 1, &[None; 26], 1).is_ok()
+        && put_step(text, 2, false, 1).is_ok()
+        && put_splice(text)
         && put_forward(text)
         && text.as_slice() == WORKED
 }

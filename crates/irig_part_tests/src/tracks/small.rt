@@ -9,7 +9,6 @@ use crate::edges::track_of;
 use irig_gap::Gap;
 use irig_track::{Pulse, Span, Track};
 use std::alloc::{AllocError, Global};
-use std::process::Abort;
 
 /// Adds the times whose bit is 1, in order.
 fn put_set(times: &mut Vec<u64>, bits: u64) -> bool {
@@ -273,17 +272,20 @@ impl SpliceCase {
     }
 }
 
-/// Every toggle of one track.
-fn check_toggles(rt: &impl Abort, alloc: Global, length: u64, bits: u64) {
+/// Whether every toggle of one track is right.
+fn all_toggles(alloc: Global, length: u64, bits: u64) -> bool {
     for a in 0..9 {
         for b in 0..9 {
-            assert!(rt; toggles(alloc, length, bits, a, b));
+            if !toggles(alloc, length, bits, a, b) {
+                return false;
+            }
         }
     }
+    true
 }
 
-/// Every shift of some pulses of one track.
-fn check_shifts(rt: &impl Abort, alloc: Global, length: u64, bits: u64, i: usize, j: usize) {
+/// Whether every shift of some pulses of one track is right.
+fn all_shifts(alloc: Global, length: u64, bits: u64, i: usize, j: usize) -> bool {
     for by in -8..9 {
         let case = ShiftCase {
             length,
@@ -292,12 +294,15 @@ fn check_shifts(rt: &impl Abort, alloc: Global, length: u64, bits: u64, i: usize
             j,
             by,
         };
-        assert!(rt; case.is_right(alloc));
+        if !case.is_right(alloc) {
+            return false;
+        }
     }
+    true
 }
 
-/// Every splice at one place of one track.
-fn check_splices(rt: &impl Abort, alloc: Global, length: u64, bits: u64, at: usize, count: usize) {
+/// Whether every splice at one place of one track is right.
+fn all_splices(alloc: Global, length: u64, bits: u64, at: usize, count: usize) -> bool {
     for come in 0..128 {
         let case = SpliceCase {
             length,
@@ -306,28 +311,30 @@ fn check_splices(rt: &impl Abort, alloc: Global, length: u64, bits: u64, at: usi
             count,
             come,
         };
-        assert!(rt; !is_track(6, come) || case.is_right(alloc));
-    }
-}
-
-/// Every call on one track.
-fn check(rt: &impl Abort, alloc: Global, length: u64, bits: u64) {
-    check_toggles(rt, alloc, length, bits);
-    for i in 0..5 {
-        for j in 0..5 {
-            check_shifts(rt, alloc, length, bits, i, j);
-            check_splices(rt, alloc, length, bits, i, j);
+        if is_track(6, come) && !case.is_right(alloc) {
+            return false;
         }
     }
+    true
+}
+
+/// Whether every call on one track is right.
+fn all_calls(alloc: Global, length: u64, bits: u64) -> bool {
+    for i in 0..5 {
+        for j in 0..5 {
+            if !all_shifts(alloc, length, bits, i, j) || !all_splices(alloc, length, bits, i, j) {
+                return false;
+            }
+        }
+    }
+    all_toggles(alloc, length, bits)
 }
 
 #[test]
 fn every_edit_of_a_small_track_is_its_definition(rt: HostRuntime) {
     for length in 0..7 {
         for bits in 0..128 {
-            if is_track(length, bits) {
-                check(&rt, rt.alloc(), length, bits);
-            }
+            assert!(rt; !is_track(length, bits) || all_calls(rt.alloc(), length, bits));
         }
     }
 }
