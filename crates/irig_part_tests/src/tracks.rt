@@ -3,4 +3,7 @@
 mod helpers;
 mod parts;
 mod rows;
+mod sets;
+mod shifts;
 mod small;
+mod splices;

@@ -19,7 +19,7 @@ fn gives(alloc: Global, dump: &[u8], want: Option<&[u8]>) -> bool
     }
 }
 
-/// Whether a dump gives that wherever it is cut.
+/// Whether a dump gives the same, wherever it is cut.
 fn is_given(alloc: Global, dump: &[u8], want: Option<&[u8]>) -> bool {
     dump.len() <= 1 << 28 && gives(alloc, dump, want) && cuts_agree(alloc, dump, None)
 }

@@ -146,7 +146,7 @@ pub(crate) fn repairs(
     took_few(&lens, index, before, span.new)
 }
 
-/// Whether a repair took few looks, and the index counted each. So many pulses came.
+/// Whether a repair took few looks for the pulses that came, and the index counted each look.
 fn took_few(lens: &Lens<'_>, index: &Index, before: u64, came: usize) -> bool {
     let most = (came as u64).saturating_add(200).saturating_mul(3);
     lens.looks() <= most && index.looks().wrapping_sub(before) == lens.looks()

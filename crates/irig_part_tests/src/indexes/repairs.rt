@@ -44,7 +44,7 @@ fn each_agrees(
     true
 }
 
-/// Edits in turn, each repaired and compared with an index built from nothing.
+/// Whether edits in turn agree with indexes built from nothing.
 fn all_agree(alloc: Global, track: &mut Track, format: Format, edits: &[Edit]) -> bool {
     match Index::build(alloc, &mut track.lens(), format) {
         Ok(mut index) => each_agrees(alloc, track, &mut index, format, edits),
@@ -52,7 +52,7 @@ fn all_agree(alloc: Global, track: &mut Track, format: Format, edits: &[Edit]) -
     }
 }
 
-/// The same of a short track.
+/// Whether edits of a short track agree.
 fn short_agrees(alloc: Global, format: Format, edits: &[Edit]) -> bool {
     match positions(alloc) {
         Ok(mut track) => all_agree(alloc, &mut track, format, edits),
@@ -60,7 +60,7 @@ fn short_agrees(alloc: Global, format: Format, edits: &[Edit]) -> bool {
     }
 }
 
-/// The same of a track of four frames.
+/// Whether edits of a track of four frames agree.
 fn long_agrees(alloc: Global, format: Format, edits: &[Edit]) -> bool {
     match sound(alloc, 400) {
         Ok(mut track) => all_agree(alloc, &mut track, format, edits),

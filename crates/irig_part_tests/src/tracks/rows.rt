@@ -229,7 +229,7 @@ fn counts_looks(track: &Track) -> bool {
         && lens.looks() == 2
 }
 
-/// Whether that is so, and the track gives two pulses.
+/// Whether a track gives two pulses, and a lens shows them.
 fn shows_two(alloc: Global, track: &Track) -> bool {
     match pulses_of(alloc, track) {
         Ok(pulses) => pulses.len() == 2 && counts_looks(track),

@@ -1,62 +1,13 @@
 //! The definitions, computed slowly, against the edits on every track of length up to 6.
-//!
-//! A set of edges is a number here: time t is an edge if bit t is 1.
 
 ghost use Rattle.std.specs.Prelude.{◌<◌};
 
-use super::helpers::{has_edges, pulses_of, shift, splices, toggle};
-use crate::edges::track_of;
-use irig_gap::Gap;
-use irig_track::{Pulse, Span, Track};
-use std::alloc::{AllocError, Global};
-
-/// Adds the times whose bit is 1, in order.
-fn put_set(times: &mut Vec<u64>, bits: u64) -> bool {
-    for time in 0..10 {
-        if (bits >> time) & 1 == 1 && times.push(time).is_err() {
-            return false;
-        }
-    }
-    true
-}
-
-/// Whether a set is the edges of a track of this length: even in number, and none above it.
-fn is_track(length: u64, bits: u64) -> bool
-    requires { length < 7 }
-{
-    bits >> (length + 1) == 0 && bits.count_ones() % 2 == 0
-}
-
-/// Whether times rise strictly and none is above the length.
-fn may_be_edges(times: &[u64], length: u64) -> bool {
-    let mut last = None;
-    for time in times {
-        if *time > length || Some(*time) <= last {
-            return false;
-        }
-        last = Some(*time);
-    }
-    true
-}
-
-/// Adds the edges of the pulses from `from` on, before `to`.
-fn put_edges(times: &mut Vec<u64>, edges: &[u64], from: usize, to: usize) -> bool {
-    for index in 0..edges.len() {
-        let goes = from <= index / 2 && index / 2 < to;
-        if goes && times.push(edges[index]).is_err() {
-            return false;
-        }
-    }
-    true
-}
-
-/// A time that is moved, or one above all lengths if it leaves the numbers.
-fn moved(time: u64, by: i64) -> u64 {
-    match time.checked_add_signed(by) {
-        Some(time) => time,
-        None => u64::MAX,
-    }
-}
+use super::helpers::toggle;
+use super::sets::{has_set, is_track, track_in};
+use super::shifts::ShiftCase;
+use super::splices::SpliceCase;
+use irig_track::{Span, Track};
+use std::alloc::Global;
 
 /// How many pulses rise at or before `rise` and fall from `from` on up to `to`.
 fn count_of(track: &Track, rise: u64, from: u64, to: u64) -> usize {
@@ -68,28 +19,6 @@ fn count_of(track: &Track, rise: u64, from: u64, to: u64) -> usize {
         }
     }
     count
-}
-
-/// The track of a length and a set of edges.
-fn track_in(alloc: Global, length: u64, bits: u64) -> Result<Track, AllocError> {
-    let mut times = Vec::new(alloc);
-    if put_set(&mut times, bits) {
-        track_of(alloc, length, times.as_slice())
-    } else {
-        Err(AllocError)
-    }
-}
-
-/// The pulses of a set of edges.
-fn pulses_in(alloc: Global, bits: u64) -> Result<Gap<Pulse>, AllocError> {
-    let track = track_in(alloc, 6, bits)?;
-    pulses_of(alloc, &track)
-}
-
-/// Whether a track has the edges of a set.
-fn has_set(alloc: Global, track: &Track, bits: u64) -> bool {
-    let mut times = Vec::new(alloc);
-    put_set(&mut times, bits) && has_edges(alloc, track, times.as_slice())
 }
 
 /// How many pulses end before a time.
@@ -131,144 +60,6 @@ fn toggles(alloc: Global, length: u64, bits: u64, a: u64, b: u64) -> bool
                 && is_toggled(alloc, &mut track, length, bits, a, b)
         }
         Err(_) => false,
-    }
-}
-
-/// A shift of the track of a length and a set of edges.
-#[derive(Clone, Copy)]
-struct ShiftCase {
-    length: u64,
-    bits: u64,
-    i: usize,
-    j: usize,
-    by: i64,
-}
-
-impl ShiftCase {
-    /// Adds the edges with some moved.
-    fn put_times(&self, times: &mut Vec<u64>, edges: &[u64]) -> bool {
-        for index in 0..edges.len() {
-            let moves = self.i <= index / 2 && index / 2 <= self.j;
-            let by = if moves { self.by } else { 0 };
-            if times.push(moved(edges[index], by)).is_err() {
-                return false;
-            }
-        }
-        true
-    }
-
-    /// Where it takes place.
-    fn span(&self) -> Span {
-        let count = self.j.saturating_sub(self.i).saturating_add(1);
-        Span {
-            at: self.i,
-            old: count,
-            new: count,
-        }
-    }
-
-    /// Whether it makes these times the edges and says where, or cannot be made if a pulse is not
-    /// there or they cannot be the edges.
-    fn leads_to(&self, alloc: Global, track: &mut Track, edges: &[u64], times: &[u64]) -> bool {
-        let there = self.i <= self.j && self.j < edges.len() / 2;
-        let may = there && may_be_edges(times, self.length);
-        match shift(track, self.i, self.j, self.by) {
-            Some(span) => may && span == self.span() && has_edges(alloc, track, times),
-            None => !may,
-        }
-    }
-
-    /// Whether it is that of the list with some edges moved.
-    fn is_right_on(&self, alloc: Global, track: &mut Track) -> bool {
-        let mut edges = Vec::new(alloc);
-        let mut times = Vec::new(alloc);
-        put_set(&mut edges, self.bits)
-            && self.put_times(&mut times, edges.as_slice())
-            && self.leads_to(alloc, track, edges.as_slice(), times.as_slice())
-    }
-
-    /// Whether it is right on the track.
-    fn is_right(&self, alloc: Global) -> bool {
-        match track_in(alloc, self.length, self.bits) {
-            Ok(mut track) => self.is_right_on(alloc, &mut track),
-            Err(_) => false,
-        }
-    }
-}
-
-/// A splice of the track of a length and a set of edges, with the set of edges that come.
-#[derive(Clone, Copy)]
-struct SpliceCase {
-    length: u64,
-    bits: u64,
-    at: usize,
-    count: usize,
-    come: u64,
-}
-
-impl SpliceCase {
-    /// Adds the edges with some replaced.
-    fn put_times(&self, times: &mut Vec<u64>, edges: &[u64]) -> bool {
-        let end = self.at.saturating_add(self.count);
-        put_edges(times, edges, 0, self.at)
-            && put_set(times, self.come)
-            && put_edges(times, edges, end, usize::MAX)
-    }
-
-    /// Where it takes place, or None if a pulse that goes is not there or these times cannot be the
-    /// edges.
-    fn span(&self, come: usize, edges: &[u64], times: &[u64]) -> Option<Span> {
-        let there = self.at.saturating_add(self.count) <= edges.len() / 2;
-        if there && may_be_edges(times, self.length) {
-            Some(Span {
-                at: self.at,
-                old: self.count,
-                new: come,
-            })
-        } else {
-            None
-        }
-    }
-
-    /// Whether it makes these times the edges and says where, or cannot be made if there is no
-    /// span.
-    fn leads_to(
-        &self,
-        alloc: Global,
-        track: &mut Track,
-        put: &mut Gap<Pulse>,
-        span: Option<Span>,
-        times: &[u64],
-    ) -> bool {
-        splices(alloc, track, self.at, self.count, put, span)
-            && (span.is_none() || has_edges(alloc, track, times))
-    }
-
-    /// Whether it is that of the list with some edges replaced.
-    fn is_right_with(&self, alloc: Global, track: &mut Track, put: &mut Gap<Pulse>) -> bool {
-        let mut edges = Vec::new(alloc);
-        let mut times = Vec::new(alloc);
-        if !put_set(&mut edges, self.bits) || !self.put_times(&mut times, edges.as_slice()) {
-            return false;
-        }
-        let span = self.span(put.len(), edges.as_slice(), times.as_slice());
-        self.leads_to(alloc, track, put, span, times.as_slice())
-    }
-
-    /// Whether it is right on its track.
-    fn is_right_on(&self, alloc: Global, track: &mut Track) -> bool {
-        match pulses_in(alloc, self.come) {
-            Ok(mut put) => self.is_right_with(alloc, track, &mut put),
-            Err(_) => false,
-        }
-    }
-
-    /// Whether it is right.
-    fn is_right(&self, alloc: Global) -> bool {
-        match track_in(alloc, self.length, self.bits) {
-            Ok(mut track) => self.is_right_on(alloc, &mut track),
-            Err(_) => false,
-        }
     }
 }
 
