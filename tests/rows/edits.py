@@ -55,6 +55,16 @@ ROWS = [
         "? E3 Touching; ? E3 Touching; ? E3 Touching; ? E3 Touching; 2 121 199 position",
     ),
     Row(
+        "a pulse from one neighbour to the next, at a fall, and of no width", G, TWO_PULSES,
+        "insert 121 199; write; insert 280 290; insert 290 290; undo; write",
+        "179; ? E3 Touching; ? E1 OutOfRange; 163",
+    ),
+    Row(
+        "an accepted edit empties what can be done again", G, TWO_PULSES,
+        "invert 100 120; undo; invert 1 2; redo; undo; undo",
+        "? E10 NothingToRedo; ? E9 NothingToUndo",
+    ),
+    Row(
         "undo and redo at their ends", G, TWO_PULSES,
         "undo; redo; 1 delete; undo; undo; redo; redo; info",
         "? E9 NothingToUndo; ? E10 NothingToRedo; ? E9 NothingToUndo; ? E10 NothingToRedo; "

@@ -16,6 +16,17 @@ ROWS = [
         "1 100 120 zero; 2 200 280 position; ? E2 NoPulse; ? S1 BadLine",
     ),
     Row(
+        "addresses with commands, and ranges from marks", G, TWO_PULSES,
+        "mark c 150; 'clist; 'c+list; $-list; $; .-1; .,+list;  'c , $; 'c,$list; -9",
+        "1 100 120 zero; 2 200 280 position; 1 100 120 zero; 2 200 280 position; 1 100 120 zero; 1 100 120 zero; "
+        "2 200 280 position; ? S1 BadLine; 1 100 120 zero; 2 200 280 position; ? E2 NoPulse",
+    ),
+    Row(
+        "a mark before the first pulse, and one that is taken off", G, TWO_PULSES,
+        "mark a 5; 'a; 'a+1; unmark a; 'a+1; marks",
+        "? E2 NoPulse; 1 100 120 zero; ? E2 NoPulse",
+    ),
+    Row(
         "an address is judged by its whole value", G, TWO_PULSES,
         "mark a 50; 'a; 'a+1; 'b+1; 5-4; 0+2; 3-2list",
         "? E2 NoPulse; 1 100 120 zero; ? E2 NoPulse; 1 100 120 zero; 2 200 280 position; 1 100 120 zero",
@@ -32,6 +43,12 @@ ROWS = [
         "1 100 120 zero; ? S1 BadLine; 1 100 120 zero; 2 200 280 position; 1 100 120 zero; "
         "2 200 280 position; ? S1 BadLine; ? S1 BadLine",
     ),
+    Row("blank lines and comments", G, TWO_PULSES, "\n \t\r\n# write\n  #", ""),
+    Row(
+        "white space between and around words", G, TWO_PULSES,
+        " \tinvert\t100  120 \r; write\r; \t1 , 2;  1 list ",
+        "147; ? S1 BadLine; 1 200 280 position",
+    ),
     Row(
         "ranges that are cut or turned round", G, TWO_PULSES,
         "2,1list; 1,list; ,2list; 1,1list; .,$list; 1; .,$list",
@@ -45,10 +62,26 @@ ROWS = [
         "; ".join(["? S1 BadLine"] * 21),
     ),
     Row(
+        "words that are missing, and words of wrong form", G, TWO_PULSES,
+        "invert; invert 1; invert 1 2 3; invert 1 b; quit 1; WRITE; format B; format C 2; format B 8; format B 12; "
+        "mark A 5; unmark ab; 1 force two; 1 shift 5x; 1 shift --5; 1,list; ,1 list; regen 0 2; write",
+        "? S1 BadLine; " * 18 + "163",
+    ),
+    Row(
+        "bytes that are no text", G, TWO_PULSES,
+        "\xff\xfe; \0; write \x80; write",
+        "? S1 BadLine; ? S1 BadLine; ? S1 BadLine; 163",
+    ),
+    Row(
         "marks as times", G, TWO_PULSES,
         "mark a 300; mark b 320; insert 'a 'b; mark c 'a; 3 split 'a 'b; invert 'a 'b; marks; mark d 1001; "
         "mark d 'e; unmark a; marks",
         "? E4 NotInside; a 300; b 320; c 300; ? E1 OutOfRange; ? E1 OutOfRange; b 320; c 300",
+    ),
+    Row(
+        "an edit from one mark to another", G, TWO_PULSES,
+        "mark a 110; mark b 250; invert 'a 'b; ,list; mark c 'b; marks; mark d 1001; mark e 'z",
+        "1 100 110 zero; 2 120 200 position; 3 250 280 zero; a 110; b 250; c 250; ? E1 OutOfRange; ? E1 OutOfRange",
     ),
     Row(
         "a line that is too long", G, TWO_PULSES,
@@ -56,4 +89,5 @@ ROWS = [
         "? S2 LineTooLong; 1 100 120 zero; ? S2 LineTooLong; 2 200 280 position",
     ),
     Row("nothing is obeyed behind a quit", G, TWO_PULSES, "1; quit; 2; lst", "1 100 120 zero"),
+    Row("nothing is obeyed after a quit with white space", G, TWO_PULSES, " quit\r; list", ""),
 ]

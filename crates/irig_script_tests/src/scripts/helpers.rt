@@ -1,9 +1,14 @@
-//! A session to obey scripts on.
+//! What scripts are obeyed on.
 
 use irig_codes::{Format, Kind};
 use irig_edit::Session;
 use irig_vcd::Recording;
 use std::alloc::Global;
+
+/// A dump of 1,000 microseconds with pulses 100 to 120 and 200 to 280.
+pub const TWO_PULSES: &[u8] =
+    b"$timescale 1 us $end $var wire 1 ! c $end $enddefinitions $end #100 1! #120 0! #200 1! #280 \
+    0! #1000";
 
 /// A session in format G 2 with pulses 100 to 120 and 200 to 280 in a track of 1,000 microseconds.
 pub fn two_pulses(alloc: Global) -> Option<Session> {

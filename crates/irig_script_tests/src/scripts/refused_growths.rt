@@ -1,16 +1,11 @@
 //! What a refused growth leaves: `tests/no_memory` runs it with each growth refused in turn.
 
-use crate::scripts::helpers::two_pulses;
+use crate::scripts::helpers::{TWO_PULSES, two_pulses};
 use irig_codes::{Format, Kind};
 use irig_edit::{Refusal, Session};
 use irig_script::{DumpRunFault, MemoryShelf, Status, run_on_dump};
 use irig_vcd::VcdFault;
 use std::alloc::Global;
-
-/// A dump of 1,000 microseconds with pulses 100-120 and 200-280.
-const DUMP: &[u8] =
-    b"$timescale 1 us $end $var wire 1 ! c $end $enddefinitions $end #100 1! #120 0! #200 1! #280 \
-    0! #1000";
 
 /// Whether a pulse is inserted; an error leaves pulses and steps, and the next call succeeds.
 fn inserts(session: &mut Session) -> bool {
@@ -66,7 +61,7 @@ static PRINTED: [&[u8]; 6] = [
 /// How a script ends on the dump; nothing if the dump itself found no room.
 fn ran(alloc: Global, out: &mut Vec<u8>) -> Option<Result<Status, DumpRunFault>> {
     let format = Format::new(Kind::G, 2).ok()?;
-    let dump = Vec::from_slice(alloc, DUMP).ok()?;
+    let dump = Vec::from_slice(alloc, TWO_PULSES).ok()?;
     let mut script = b"invert 100 120\nwrite\nundo\nwrite\n".as_slice();
     let mut shelf = MemoryShelf::new(alloc, None);
     Some(run_on_dump(alloc, dump, None, format, &mut script, out, &mut shelf))
