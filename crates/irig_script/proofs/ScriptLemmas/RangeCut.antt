@@ -1,6 +1,6 @@
 -- Where the range at the front of a text ends: the loop that looks for it, and the ranges that it finds.
 use Rattle.std.proofs.Common.{◌≡◌, ◌==◌, ℕ, ℤ, suc, ◌+◌, ◌<◌, ◌≤◌, ◌++◌, Bool, true, false, not, ◌&&◌, ◌||◌, List, [], ◌∷◌, length, take, drop, get_or, refl}
-use Rattle.std.proofs.Common.{sym, ap, ap₂, ◌∙◌, subst, arith, append_assoc, length-append, if◌then◌else◌}
+use Rattle.std.proofs.Common.{sym, ap, ap₂, ◌∙◌, subst, arith, append_assoc, length-append, if◌then◌else◌, drop-cons}
 use Rattle.std.proofs.Math.ListN.{drop_of_length-le}
 use Rattle.std.proofs.Math.Seq.{take-append_seam, drop-append_seam}
 use Rattle.std.proofs.lemmas.Bool.Decides.{nat_tests}
@@ -14,7 +14,6 @@ use Rattle.irig_script.specs.declared.script.address.Base.{Base}
 use Rattle.irig_script.specs.declared.script.address.Base.TheVariants.{Number, Current, Last, Mark}
 use Rattle.irig_script.specs.declared.script.range.Range.{Range}
 use Rattle.irig_script.specs.declared.script.range.Range.TheVariants.{One, Two}
-use Rattle.irig_script.proofs.ScriptLemmas.WordLemmas.{opened}
 
 -- white space ends the range of a line, and so does the first letter of a word, which is one that
 -- is after no apostrophe
@@ -27,7 +26,7 @@ range_length quoted [] = 0
 range_length quoted (b ∷ bs) = if ends_range quoted b then 0 else suc (range_length (b == 39) bs)
 
 pub range_stops : (quoted : Bool) (s : List ℕ) (i : ℕ) → i < length s → ends_range quoted (get_or s i 0) ≡ true → range_length quoted (drop i s) ≡ 0
-range_stops quoted s i h k = rw (opened s i h, k) refl
+range_stops quoted s i h k = rw (drop-cons s i 0, k) refl
 
 pub range_done : (quoted : Bool) (s : List ℕ) (i : ℕ) → length s ≤ i → range_length quoted (drop i s) ≡ 0
 range_done quoted s i h = rw (drop_of_length-le s h) refl

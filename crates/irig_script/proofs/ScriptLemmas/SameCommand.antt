@@ -1,13 +1,12 @@
 -- A range, a word and arguments ask for one command at most.
 use Rattle.std.proofs.Common.{◌≡◌, ◌+◌, ℕ, ℤ, List, [], ◌∷◌, Option, Some, refl, sym, ap, ap₂, ◌∙◌, subst, arith}
-use Rattle.irig_codes.specs.declared.format.Kind.{Kind}
-use Rattle.irig_codes.specs.declared.format.Kind.TheVariants as kind
 use Rattle.irig_codes.specs.declared.width.Element.{Element}
 use Rattle.irig_codes.specs.declared.width.Element.TheVariants as element
 use Rattle.irig_moment.specs.Moment.{MomentView}
 use Rattle.irig_moment.specs.Written.{moment_of}
 use Rattle.irig_codes.specs.Words.{element_word, kind_word}
 use Rattle.irig_saved.specs.Letters.{letter_word}
+use Rattle.irig_saved.proofs.SameWords.{same_kind}
 use Rattle.irig_script.specs.Script.Addresses.{IsTime}
 use Rattle.irig_script.specs.Script.Arguments.{AreControls, AreFrames, AreTimes, IsExpression}
 use Rattle.irig_script.specs.Script.Commands.{Asks}
@@ -71,24 +70,6 @@ element_one element.Position element.Zero h = cc
 element_one element.Position element.One h = cc
 element_one element.Position element.Position h = refl
 
-kind_one : (k l : Kind) → kind_word k ≡ kind_word l → k ≡ l
-kind_one kind.A kind.A h = refl
-kind_one kind.A kind.B h = absurd (omega (arith, ap first_of h))
-kind_one kind.A kind.E h = absurd (omega (arith, ap first_of h))
-kind_one kind.A kind.G h = absurd (omega (arith, ap first_of h))
-kind_one kind.B kind.A h = absurd (omega (arith, ap first_of h))
-kind_one kind.B kind.B h = refl
-kind_one kind.B kind.E h = absurd (omega (arith, ap first_of h))
-kind_one kind.B kind.G h = absurd (omega (arith, ap first_of h))
-kind_one kind.E kind.A h = absurd (omega (arith, ap first_of h))
-kind_one kind.E kind.B h = absurd (omega (arith, ap first_of h))
-kind_one kind.E kind.E h = refl
-kind_one kind.E kind.G h = absurd (omega (arith, ap first_of h))
-kind_one kind.G kind.A h = absurd (omega (arith, ap first_of h))
-kind_one kind.G kind.B h = absurd (omega (arith, ap first_of h))
-kind_one kind.G kind.E h = absurd (omega (arith, ap first_of h))
-kind_one kind.G kind.G h = refl
-
 expression_one : (text : List ℕ) (n m : ℕ) → IsExpression text n → IsExpression text m → n ≡ m
 expression_one text n m h k =
     let words : (48 + n) ∷ [] ≡ (48 + m) ∷ [] = sym h.0 ∙ k.0 in
@@ -128,7 +109,7 @@ asks_one word.Format range args c d h k =
     let name : kind_word h.0 ≡ kind_word k.0 = cc in
     let digit : h.2 ≡ k.2 = cc in
     let n = expression_one k.2 h.1 k.1 (subst (λ (w : List ℕ). IsExpression w h.1) digit h.6) k.6 in
-    h.3 ∙ ap₂ command.Format (kind_one h.0 k.0 name) n ∙ sym k.3
+    h.3 ∙ ap₂ command.Format (same_kind h.0 k.0 name) n ∙ sym k.3
 asks_one word.Mark range args c d h k =
     let words : letter_word h.0 ∷ h.2 ∷ [] ≡ letter_word k.0 ∷ k.2 ∷ [] = sym h.5 ∙ k.5 in
     let letter = letter_one h.0 k.0 cc in
