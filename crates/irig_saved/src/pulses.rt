@@ -18,14 +18,16 @@ pub struct Pulses {
 }
 
 impl Model for Pulses {
-    ghost use Rattle.std.specs.Prelude.{◌≤◌, ◌+◌, ◌*◌, List, length};
+    ghost use Rattle.std.specs.Prelude.{◌≡◌, ◌≤◌, ◌+◌, ◌*◌, List, length};
     ghost use Rattle.irig_vcd.specs.declared.pulse.Pulse.{Pulse};
 
     ghost Value = { List Pulse };
 
     ghost view = { λ pulses. pulses.items.items };
 
-    ghost invariant = { λ pulses. 2 * pulses.items.capacity ≤ 3 * length pulses.items.items + 2 };
+    ghost invariant = { λ pulses.
+        (2 * pulses.items.capacity ≤ 3 * length pulses.items.items + 2)
+        × (pulses.items.place ≡ length pulses.items.items) };
 }
 
 impl Pulses {
@@ -39,10 +41,11 @@ impl Pulses {
     }
 
     /// The pulses of a buffer. It has places for at most half as many more, and one.
-    pub fn of(items: Gap<Pulse>) -> Pulses
+    pub fn of(mut items: Gap<Pulse>) -> Pulses
         requires tight { 2 * items.capacity ≤ 3 * length items.items + 2 }
         ensures { result ≡ items.items }
     {
+        items.move_to(items.len());
         Pulses { items }
     }
 
@@ -67,7 +70,6 @@ impl Pulses {
         ensures unchanged { OnErr result (self.new ≡ self.old) }
     {
         self.items.reserve(1)?;
-        self.items.move_to(self.items.len());
         self.items.put(pulse);
         Ok(())
     }

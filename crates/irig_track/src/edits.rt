@@ -37,7 +37,7 @@ impl Track {
     }
 
     /// Replaces the `count` pulses from `at` on by the pulses of `put`. The replaced ones go to
-    /// `taken`. `at` counts from 0.
+    /// `taken`, whose place is then after them. `at` counts from 0.
     pub fn splice(
         &mut self,
         at: usize,
@@ -55,6 +55,7 @@ impl Track {
             replaced (edges_of taken.new.items) (edges_of put.old.items) t
             (is_edge t self.old.pulses) }
         ensures moved { (taken.new.items ≡ piece at count self.old.pulses) × (put.new.items ≡ []) }
+        ensures place { taken.new.place ≡ count }
         ensures rest { (self.new.micros ≡ self.old.micros)
             × (length self.new.pulses + self.new.spare ≡ length self.old.pulses + self.old.spare)
             × (put.new.capacity ≡ put.old.capacity) × (taken.new.capacity ≡ taken.old.capacity) }

@@ -22,6 +22,7 @@ pub(crate) fn replace(
     requires room { count ≤ taken.old.capacity }
     ensures pulses { pulses.new.items ≡ spliced at count put.old.items pulses.old.items }
     ensures taken { taken.new.items ≡ piece at count pulses.old.items }
+    ensures place { taken.new.place ≡ count }
     ensures put { put.new.items ≡ [] }
     ensures capacities { (pulses.new.capacity ≡ pulses.old.capacity)
         × (put.new.capacity ≡ put.old.capacity) × (taken.new.capacity ≡ taken.old.capacity) }
