@@ -176,7 +176,7 @@ impl Walk {
             (FitsSingle self.old.state single × (self.new ≡ changed self.old (One single)))
             (FitsSingle self.old.state single → ⊥)) }
     {
-        if !self.allows(&single) {
+        if !self.present.allows(&single) {
             return Ok(false);
         }
         self.change(alloc, single)?;

@@ -1,6 +1,6 @@
 //! A state on its way along steps.
 
-ghost use Rattle.std.specs.Prelude.{◌≡◌, ◌≢◌, ◌≤◌, ◌↔◌, ◌∷◌, IsTrue, Some, None, OnOk, []};
+ghost use Rattle.std.specs.Prelude.{◌≡◌, ◌≢◌, ◌≤◌, ◌∷◌, Some, None, OnOk, []};
 ghost use Rattle.std.specs.Prelude.{drop, length, take};
 ghost use Rattle.irig_journal.specs.Groups.{over};
 ghost use Rattle.irig_journal.specs.History.{step, stepped_back, turned_round};
@@ -67,13 +67,6 @@ impl Walk {
         ensures state { IsState self.now.state }
     {
         self.present.len()
-    }
-
-    /// Whether a single change can be made.
-    pub(crate) fn allows(&self, single: &Single) -> bool
-        ensures { IsTrue result ↔ FitsSingle self.now.state single.now }
-    {
-        self.present.allows(single)
     }
 
     /// Makes a single change, and stays at its cursor.
