@@ -11,7 +11,7 @@ use Rattle.irig_vcd.specs.declared.fault.VcdFault.{VcdFault}
 use Rattle.irig_vcd.specs.declared.fault.VcdFault.TheVariants.{OutOfMemory}
 use Rattle.irig_vcd.specs.declared.progress.Progress.{Progress}
 use Rattle.irig_vcd.specs.Answer.{Gives}
-use Rattle.irig_vcd.specs.Recording.{RecordingView}
+use Rattle.irig_recording.specs.Recording.{RecordingView}
 use Rattle.irig_ed.specs.Files.Reads.{AreRead, HasFewBytes, HasTaken, IsReadOf, Takes, parts_of}
 use Rattle.irig_ed.specs.declared.files.dump_file.DumpFileFault.{DumpFileFault}
 use Rattle.irig_ed.specs.declared.files.intake.Intake.{Intake}

@@ -4,7 +4,7 @@ use Rattle.std.proofs.Common.{length-append, slice_get, Some}
 use Rattle.std.proofs.lemmas.List.{length-map}
 use Rattle.irig_codes.specs.Format.{FormatView}
 use Rattle.irig_codes.specs.Width.{class_of, is_in_step}
-use Rattle.irig_vcd.specs.declared.pulse.Pulse.{Pulse}
+use Rattle.irig_recording.specs.declared.pulse.Pulse.{Pulse}
 use Rattle.irig_track.specs.Edges.{edges_of}
 use Rattle.irig_track.specs.Shifts.{StaysFromZero, ahead, back, moved as moved_pulses, moved_pulse}
 use Rattle.irig_track.proofs.Carried.{length-piece}

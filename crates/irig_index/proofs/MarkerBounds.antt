@@ -2,7 +2,7 @@
 use Rattle.std.proofs.Common.{◌≡◌, ℕ, suc, zero, ◌+◌, ◌<◌, ◌≤◌, Bool, true, false, cond, List, [], ◌∷◌, ◌++◌, length, take, drop, map, refl, ap, arith}
 use Rattle.std.proofs.Common.{length-append}
 use Rattle.irig_codes.specs.Format.{FormatView}
-use Rattle.irig_vcd.specs.declared.pulse.Pulse.{Pulse}
+use Rattle.irig_recording.specs.declared.pulse.Pulse.{Pulse}
 use Rattle.irig_index.specs.declared.record.Record.{Record}
 use Rattle.irig_index.specs.Frames.{record_after, record_of, records_in}
 use Rattle.irig_index.specs.Laws.{moved}

@@ -2,7 +2,7 @@
 use Rattle.std.proofs.Common.{ℕ, List, Option, Some, None}
 use Rattle.irig_codes.specs.Format.{FormatView}
 use Rattle.irig_codes.proofs.NarrowFields.{narrow-fields_read}
-use Rattle.irig_vcd.specs.declared.pulse.Pulse.{Pulse}
+use Rattle.irig_recording.specs.declared.pulse.Pulse.{Pulse}
 use Rattle.irig_index.specs.declared.record.Cause.{Cause}
 use Rattle.irig_index.specs.Kept.{IsNarrow}
 use Rattle.irig_index.specs.Verdict.{elements_of, first_fault, judged, verdict_of}

@@ -7,7 +7,7 @@ use Rattle.std.proofs.lemmas.List.{take-append-drop, length-take-le}
 use Rattle.irig_codes.specs.Format.{FormatView}
 use Rattle.std.proofs.Math.Seq.{take-append_seam, drop-append_seam}
 use Rattle.irig_gap.specs.Items.{GapView, gap_view}
-use Rattle.irig_vcd.specs.declared.pulse.Pulse.{Pulse}
+use Rattle.irig_recording.specs.declared.pulse.Pulse.{Pulse}
 use Rattle.irig_track.proofs.Carried.{length-piece}
 use Rattle.irig_track.proofs.Laws.{parts}
 use Rattle.irig_index.specs.declared.record.Record.{Record}

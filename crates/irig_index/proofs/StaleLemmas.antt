@@ -5,7 +5,7 @@ use Rattle.std.proofs.lemmas.Bool.{and_parts, cases_Bool}
 use Rattle.std.proofs.lemmas.List.{append-nil}
 use Rattle.std.proofs.lemmas.Option.{slice_get-get_or}
 use Rattle.irig_codes.specs.Format.{FormatView}
-use Rattle.irig_vcd.specs.declared.pulse.Pulse.{Pulse}
+use Rattle.irig_recording.specs.declared.pulse.Pulse.{Pulse}
 use Rattle.irig_index.specs.declared.record.Record.{Record}
 use Rattle.irig_index.specs.Frames.{record_after, records_in}
 use Rattle.irig_index.specs.Marker.{class_at, follows, is_marker, is_position}

@@ -2,7 +2,7 @@
 -- next to each other are not both position identifiers within a frame. This project's own.
 use Rattle.std.specs.Prelude.{◌≡◌, ℕ, ◌+◌, ◌-◌, ◌≤◌, ◌<◌, List, []}
 use Rattle.irig_codes.specs.Format.{FormatView}
-use Rattle.irig_vcd.specs.declared.pulse.Pulse.{Pulse}
+use Rattle.irig_recording.specs.declared.pulse.Pulse.{Pulse}
 use Rattle.irig_track.specs.Looks.{LensView}
 use Rattle.irig_index.specs.declared.record.Cause.TheVariants.{Ended, Step, Class}
 use Rattle.irig_index.specs.declared.record.Verdict.{Verdict}

@@ -13,7 +13,8 @@ mod whole;
 
 use crate::dumps::cuts::cuts_agree;
 use crate::edges::have_edges;
-use irig_vcd::{Recording, VcdFault, read, read_parts};
+use irig_recording::Recording;
+use irig_vcd::{VcdFault, read, read_parts};
 use std::alloc::Global;
 use std::process::Abort;
 

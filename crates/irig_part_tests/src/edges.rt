@@ -1,7 +1,7 @@
 //! Edges, and the pulses and the tracks that have them.
 
+use irig_recording::{Pulse, Recording};
 use irig_track::Track;
-use irig_vcd::{Pulse, Recording};
 use std::alloc::{AllocError, Global};
 
 /// Whether pulses have these edges, in order.

@@ -10,7 +10,7 @@ use Rattle.irig_saved.specs.SavedText.{counted_lines, saved_lines}
 use Rattle.irig_codes.specs.Words.{kind_word}
 use Rattle.irig_saved.specs.Ranges.{IsNumber, IsTime, IsPulse, IsSingle, IsChange, IsStep, AreSteps, IsSaved}
 use Rattle.irig_saved.specs.Reading.{Lacks}
-use Rattle.irig_vcd.specs.declared.pulse.Pulse.{Pulse}
+use Rattle.irig_recording.specs.declared.pulse.Pulse.{Pulse}
 use Rattle.irig_codes.specs.declared.format.Kind.{Kind}
 use Rattle.irig_saved.specs.declared.single.Single.{Single}
 use Rattle.irig_saved.specs.declared.single.Single.TheVariants.{Splice}

@@ -1,7 +1,7 @@
 -- The text of a saved journal is one that a dump can carry.
 use Rattle.std.proofs.Common.{◌≡◌, ◌==◌, ◌++◌, ◌∷◌, [], ℕ, true, not, List, drop, codes, refl, sym, ap, ◌∙◌, append_assoc}
 use Rattle.std.proofs.lemmas.Bool.{and_from}
-use Rattle.irig_vcd.specs.Parts.{IsJournalText, comment_text}
+use Rattle.irig_recording.specs.Comments.{IsJournalText, comment_text}
 use Rattle.irig_saved.specs.Lines.{text_of}
 use Rattle.irig_saved.specs.SavedText.{saved_lines, journal_text, journal_section}
 use Rattle.irig_saved.specs.Ranges.{IsSaved}

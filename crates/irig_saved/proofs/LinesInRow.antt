@@ -5,7 +5,7 @@ use Rattle.std.proofs.lemmas.List.{at_drop_all}
 use Rattle.irig_saved.specs.Lines.{text_of}
 use Rattle.irig_saved.specs.SavedText.{pulse_line, pulse_lines}
 use Rattle.irig_track.proofs.Items.{drop-item}
-use Rattle.irig_vcd.specs.declared.pulse.Pulse.{Pulse}
+use Rattle.irig_recording.specs.declared.pulse.Pulse.{Pulse}
 
 -- a line was written, of several
 pub line_first : (old new l : List ℕ) (ls : List (List ℕ)) → new ≡ old ++ (l ++ 10 ∷ [])

@@ -4,7 +4,7 @@ use Rattle.irig_saved.specs.Lines.{text_of}
 use Rattle.irig_saved.specs.SavedText.{pulse_line, pulse_lines}
 use Rattle.irig_saved.specs.Ranges.{IsPulse}
 use Rattle.irig_saved.specs.Reading.{Stops, Lacks}
-use Rattle.irig_vcd.specs.declared.pulse.Pulse.{Pulse}
+use Rattle.irig_recording.specs.declared.pulse.Pulse.{Pulse}
 use Rattle.irig_saved.proofs.Clean.{newline, pulse_lacks}
 use Rattle.irig_saved.proofs.Unique.{Same, same_pulses}
 use Rattle.irig_saved.proofs.Repeats.{Family}

@@ -6,7 +6,7 @@ use Rattle.irig_saved.specs.SavedText.{put_of, pulse_lines, single_lines, single
 use Rattle.irig_saved.specs.Ranges.{IsNumber, IsSingle, ArePulses}
 use Rattle.irig_saved.specs.Values.{AreThree, words_of_three}
 use Rattle.irig_saved.specs.Reading.{Reads, Stops, Lacks, IsShort}
-use Rattle.irig_vcd.specs.declared.pulse.Pulse.{Pulse}
+use Rattle.irig_recording.specs.declared.pulse.Pulse.{Pulse}
 use Rattle.irig_saved.specs.declared.single.Single.{Single}
 use Rattle.irig_saved.specs.declared.single.Single.TheVariants.{Splice, Toggle}
 use Rattle.irig_saved.proofs.Cuts.{AreWords}

@@ -9,7 +9,7 @@ use Rattle.irig_saved.specs.SavedText.{saved_lines, journal_text}
 use Rattle.irig_saved.specs.Ranges.{IsNumber, IsTime, IsPulse, IsSingle, IsChange, IsStep, AreSteps, IsSaved}
 use Rattle.irig_codes.specs.Words.{kind_word}
 use Rattle.irig_codes.specs.declared.format.Kind.{Kind}
-use Rattle.irig_vcd.specs.declared.pulse.Pulse.{Pulse}
+use Rattle.irig_recording.specs.declared.pulse.Pulse.{Pulse}
 use Rattle.irig_saved.specs.declared.single.Single.{Single}
 use Rattle.irig_saved.specs.declared.single.Single.TheVariants.{Splice}
 use Rattle.irig_saved.specs.declared.change.Change.{Change}

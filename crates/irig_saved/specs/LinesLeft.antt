@@ -5,7 +5,7 @@ use Rattle.irig_saved.specs.ChangeWords.{single_line}
 use Rattle.irig_saved.specs.Lines.{text_of}
 use Rattle.irig_saved.specs.SavedText.{pulse_lines}
 use Rattle.irig_saved.specs.declared.single.Single.{Single}
-use Rattle.irig_vcd.specs.declared.pulse.Pulse.{Pulse}
+use Rattle.irig_recording.specs.declared.pulse.Pulse.{Pulse}
 
 -- the first line of a change; none if there is no change
 abbrev pub first_left : Option (Bor Single) → List ℕ

@@ -19,7 +19,7 @@ pub struct Pulses {
 
 impl Model for Pulses {
     ghost use Rattle.std.specs.Prelude.{◌≡◌, ◌≤◌, ◌+◌, ◌*◌, List, length};
-    ghost use Rattle.irig_vcd.specs.declared.pulse.Pulse.{Pulse};
+    ghost use Rattle.irig_recording.specs.declared.pulse.Pulse.{Pulse};
 
     ghost Value = { List Pulse };
 

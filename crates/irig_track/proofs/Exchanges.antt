@@ -5,7 +5,7 @@ use Rattle.std.proofs.lemmas.List.{drop-drop, length-take-le}
 use Rattle.std.proofs.lemmas.List.Edits.{insert_end}
 use Rattle.std.proofs.lemmas.Option.{slice_get_within}
 use Rattle.irig_gap.specs.Items.{GapView, gap_view}
-use Rattle.irig_vcd.specs.declared.pulse.Pulse.{Pulse}
+use Rattle.irig_recording.specs.declared.pulse.Pulse.{Pulse}
 use Rattle.irig_track.specs.Splices.{spliced, piece}
 use Rattle.irig_track.proofs.Carried.{first_of_drop, length-piece}
 use Rattle.irig_track.proofs.Items.{take-item}

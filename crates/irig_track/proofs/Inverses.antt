@@ -5,8 +5,8 @@ use Rattle.std.proofs.Common.{sym, ap, ◌∙◌, subst, arith}
 use Rattle.std.proofs.lemmas.List.{length-take-le, length-map, take-append-drop}
 use lib.IntN.{neg_ℤ}
 use Rattle.std.proofs.Math.Seq.{take-append_seam, drop-append_seam, drop-append-add}
-use Rattle.irig_vcd.specs.Recording.{RisesFrom, UpTo, IsRecording}
-use Rattle.irig_vcd.specs.declared.pulse.Pulse.{Pulse}
+use Rattle.irig_recording.specs.Recording.{RisesFrom, UpTo, IsRecording}
+use Rattle.irig_recording.specs.declared.pulse.Pulse.{Pulse}
 use Rattle.irig_track.specs.Edges.{edges_of, pulse, has, inverted}
 use Rattle.irig_track.specs.Shifts.{moved_pulse, moved, ahead, back, count_to, shifted, StaysFromZero, CanShift}
 use Rattle.irig_track.specs.Splices.{spliced, piece, CanSplice}
@@ -18,7 +18,7 @@ use Rattle.irig_track.proofs.Places.{rise_within}
 use Rattle.irig_track.proofs.Carried.{length-spliced, length-piece}
 use Rattle.irig_track.proofs.Laws.{parts, has-toggled}
 use Rattle.irig_track.proofs.Recordings.{recording_of}
-use Rattle.irig_vcd.proofs.PulseEdges.{edges_of-append}
+use Rattle.irig_recording.proofs.PulseEdges.{edges_of-append}
 use Rattle.irig_track.proofs.RisingLists.{RisesFrom-flipped}
 use Rattle.irig_track.proofs.Sets.{only_list}
 

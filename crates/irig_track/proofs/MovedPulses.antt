@@ -3,7 +3,7 @@ use Rattle.std.proofs.Common.{◌≡◌, ℕ, suc, ◌+◌, ◌-◌, ◌<◌, Li
 use Rattle.std.proofs.Common.{slice_get, Some, refl, sym, ap, ◌∙◌, arith, append_assoc}
 use Rattle.std.proofs.lemmas.List.{map-append, set-append_right, length-take-le, length-map}
 use Rattle.std.proofs.lemmas.Option.{slice_get_within}
-use Rattle.irig_vcd.specs.declared.pulse.Pulse.{Pulse}
+use Rattle.irig_recording.specs.declared.pulse.Pulse.{Pulse}
 use Rattle.irig_track.specs.Shifts.{moved_pulse}
 use Rattle.irig_track.specs.Splices.{spliced, piece}
 use Rattle.irig_track.proofs.Carried.{first_of_drop, length-piece}

@@ -1,7 +1,7 @@
 -- Pulses that fit between two times.
 use Rattle.std.proofs.Common.{◌≡◌, ℕ, suc, zero, ◌+◌, ◌<◌, ◌≤◌, List, [], ◌∷◌, ◌++◌, take, drop, slice_get, Some, sym, ap, subst, arith}
-use Rattle.irig_vcd.specs.declared.pulse.Pulse.{Pulse}
-use Rattle.irig_vcd.specs.Recording.{RisesFrom}
+use Rattle.irig_recording.specs.declared.pulse.Pulse.{Pulse}
+use Rattle.irig_recording.specs.Recording.{RisesFrom}
 use Rattle.irig_track.specs.Edges.{edges_of}
 use Rattle.irig_track.specs.Free.{following}
 use Rattle.irig_track.proofs.RisingLists.{rises_right}

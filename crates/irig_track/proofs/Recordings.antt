@@ -1,12 +1,12 @@
 -- Tracks and recordings: pulses on the one side, edges on the other.
 use Rattle.std.proofs.Common.{◌≡◌, ℕ, ◌+◌, ◌^◌, ◌<◌, ◌≤◌, true, false, not, List, [], ◌∷◌, length, refl, sym, ap, ◌∙◌, subst, arith, inl, inr}
-use Rattle.irig_vcd.specs.Recording.{RisesFrom, IsRecording, is_even_long}
-use Rattle.irig_vcd.specs.declared.pulse.Pulse.{Pulse}
-use Rattle.irig_vcd.proofs.Lawful.{not-not}
+use Rattle.irig_recording.specs.Recording.{RisesFrom, IsRecording, is_even_long}
+use Rattle.irig_recording.specs.declared.pulse.Pulse.{Pulse}
+use Rattle.std.proofs.Math.Bool.{not-not}
 use Rattle.irig_track.specs.Edges.{edges_of, has, is_edge}
 use Rattle.irig_track.specs.Toggles.{flipped, toggled, CanToggle}
 use Rattle.irig_track.specs.Track.{IsTrack}
-use Rattle.irig_vcd.proofs.PulseEdges.{length-edges_of, even-edges_of}
+use Rattle.irig_recording.proofs.PulseEdges.{length-edges_of, even-edges_of}
 use Rattle.irig_track.proofs.RisingLists.{three, flip_low, flip_same, flip_high, has_here, has_there, has_none, has-flipped_other}
 use Rattle.irig_track.proofs.RisingLists.{RisesFrom-flipped, UpTo-flipped}
 

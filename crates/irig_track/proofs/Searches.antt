@@ -2,8 +2,8 @@
 use Rattle.std.proofs.Common.{◌≡◌, ℕ, suc, zero, ◌+◌, ◌-◌, ◌<◌, ◌≤◌, nat_le, Bool, true, false, cond, List, [], ◌∷◌, length, slice_get, Some, refl, ap}
 use Rattle.std.proofs.Common.{subst, arith, inl, inr}
 use Rattle.std.proofs.lemmas.Bool.{cases_lt, le-leb, le-ltb, lt-leb, lt-ltb}
-use Rattle.irig_vcd.specs.declared.pulse.Pulse.{Pulse}
-use Rattle.irig_vcd.specs.Recording.{RisesFrom}
+use Rattle.irig_recording.specs.declared.pulse.Pulse.{Pulse}
+use Rattle.irig_recording.specs.Recording.{RisesFrom}
 use Rattle.irig_track.specs.Edges.{edges_of}
 use Rattle.irig_track.specs.Splices.{risen_by, ended_before}
 

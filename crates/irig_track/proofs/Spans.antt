@@ -5,8 +5,8 @@ use Rattle.std.proofs.lemmas.Bool.{cases_lt}
 use Rattle.std.proofs.lemmas.List.{take-append-drop, length-take-le}
 use Rattle.std.proofs.Math.Seq.{take-append_seam, drop-append_seam, drop-append-add}
 use Rattle.irig_gap.specs.Items.{GapView, gap_view}
-use Rattle.irig_vcd.specs.declared.pulse.Pulse.{Pulse}
-use Rattle.irig_vcd.specs.Recording.{RisesFrom}
+use Rattle.irig_recording.specs.declared.pulse.Pulse.{Pulse}
+use Rattle.irig_recording.specs.Recording.{RisesFrom}
 use Rattle.irig_track.specs.Edges.{Under, edges_of}
 use Rattle.irig_track.specs.Toggles.{toggled}
 use Rattle.irig_track.specs.Splices.{spliced, piece, IsSpan, risen_by, ended_before}

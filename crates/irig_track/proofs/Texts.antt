@@ -1,11 +1,10 @@
 -- The text of a track, pulse by pulse.
 use Rattle.std.proofs.Common.{◌≡◌, ℕ, ◌+◌, ◌≤◌, ◌==◌, ◌++◌, true, false, List, [], ◌∷◌, length, drop, slice_get, Some, sym, ap, refl, ◌∙◌, append_assoc}
 use Rattle.std.proofs.lemmas.List.{drop_all}
-use Rattle.irig_vcd.specs.FileText.{file_text, header_text, begins_high, lines_at, length_line}
-use Rattle.irig_vcd.specs.Recording.{recording_view}
-use Rattle.irig_vcd.proofs.WrittenChanges.{last_or}
-use Rattle.irig_vcd.proofs.WrittenText.{all_lines, whole_text}
-use Rattle.irig_vcd.specs.declared.pulse.Pulse.{Pulse}
+use Rattle.irig_recording.specs.FileText.{file_text, header_text, begins_high, lines_at, length_line}
+use Rattle.irig_recording.specs.Recording.{recording_view}
+use Rattle.irig_recording.proofs.WrittenText.{last_or, all_lines, whole_text}
+use Rattle.irig_recording.specs.declared.pulse.Pulse.{Pulse}
 use Rattle.irig_track.specs.Edges.{edges_of}
 use Rattle.irig_track.specs.Texts.{lines_of, last_fall, lines_after}
 use Rattle.irig_track.specs.Track.{IsTrack}

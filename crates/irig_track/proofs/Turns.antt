@@ -5,12 +5,12 @@ use Rattle.std.proofs.lemmas.List.{take-append-drop, append-nil, length-take-le}
 use Rattle.std.proofs.lemmas.Option.{slice_get_within}
 use Rattle.std.proofs.Math.Seq.{take-append_seam, drop-append_seam, take-append-add, drop-append-add}
 use Rattle.irig_gap.specs.Items.{GapView, gap_view}
-use Rattle.irig_vcd.specs.declared.pulse.Pulse.{Pulse}
-use Rattle.irig_vcd.specs.Recording.{RisesFrom}
+use Rattle.irig_recording.specs.declared.pulse.Pulse.{Pulse}
+use Rattle.irig_recording.specs.Recording.{RisesFrom}
 use Rattle.irig_track.specs.Edges.{Under, edges_of, pulse}
 use Rattle.irig_track.specs.Toggles.{flipped}
 use Rattle.irig_track.specs.Sides.{left_of, right_of, waiting, RiseUpTo, Stays, Took, Wrote, Begun, Finished}
-use Rattle.irig_vcd.proofs.PulseEdges.{edges_of-append}
+use Rattle.irig_recording.proofs.PulseEdges.{edges_of-append}
 use Rattle.irig_track.proofs.Items.{drop-item, slice_get-drop}
 use Rattle.irig_track.proofs.RisingLists.{flip_low, flip_same, flip_high, flipped-past, Under-more, rises_right, rises_more}
 

@@ -1,8 +1,8 @@
 -- The edges of pulses: a rising list of times, and by membership a set. This project's own.
 use Rattle.std.specs.Prelude.{ℕ, ◌<◌, ◌==◌, nat_le, List, [], ◌∷◌, Bool, true, false, cond, not}
 use Rattle.std.specs.Prelude.{◌&&◌, ◌||◌}
-use Rattle.irig_vcd.specs.declared.pulse.Pulse.{Pulse}
-pub use Rattle.irig_vcd.specs.Pulses.{pulse, edges_of}
+use Rattle.irig_recording.specs.declared.pulse.Pulse.{Pulse}
+pub use Rattle.irig_recording.specs.Pulses.{pulse, edges_of}
 
 -- t is among the numbers
 abbrev pub has : ℕ → List ℕ → Bool

@@ -1,7 +1,7 @@
 -- What a splice makes of a list of pulses, and where an edit takes place. This project's own.
 use Rattle.std.specs.Prelude.{◌≡◌, ℕ, ◌+◌, ◌≤◌, List, [], ◌∷◌, ◌++◌, length, take, drop, nat_le}
 use Rattle.std.specs.Prelude.{nat_lt, cond}
-use Rattle.irig_vcd.specs.declared.pulse.Pulse.{Pulse}
+use Rattle.irig_recording.specs.declared.pulse.Pulse.{Pulse}
 use Rattle.irig_track.specs.Track.{IsTrack}
 
 -- the pulses with the count from at on replaced

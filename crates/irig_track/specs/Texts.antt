@@ -1,8 +1,8 @@
 -- The text of a track, pulse by pulse. This project's own.
 use Rattle.std.specs.Prelude.{◌++◌, ℕ, true, false, List, [], ◌∷◌, Option, Some, None, drop}
-use Rattle.irig_vcd.specs.FileText.{file_text, lines_at, length_line}
-use Rattle.irig_vcd.specs.Recording.{recording_view}
-use Rattle.irig_vcd.specs.declared.pulse.Pulse.{Pulse}
+use Rattle.irig_recording.specs.FileText.{file_text, lines_at, length_line}
+use Rattle.irig_recording.specs.Recording.{recording_view}
+use Rattle.irig_recording.specs.declared.pulse.Pulse.{Pulse}
 use Rattle.irig_track.specs.declared.track_text.Next.{Next}
 use Rattle.irig_track.specs.declared.track_text.Next.TheVariants.{Header, Lines, Nothing}
 use Rattle.irig_track.specs.Edges.{edges_of}

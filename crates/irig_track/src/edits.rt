@@ -18,7 +18,7 @@ use crate::stands::stands;
 use crate::toggle::toggle_right;
 use crate::track::Track;
 use irig_gap::Gap;
-use irig_vcd::Pulse;
+use irig_recording::Pulse;
 
 impl Track {
     /// Whether a splice leaves a track within the limits: false too if the pulses that would

@@ -6,7 +6,7 @@ ghost use Rattle.irig_track.specs.Splices.{risen_by};
 ghost use Rattle.irig_track.specs.Track.{IsTrack};
 
 use crate::track::Track;
-use irig_vcd::Pulse;
+use irig_recording::Pulse;
 use std::marker::Model;
 
 impl Track {

@@ -12,7 +12,7 @@ mod toggle;
 mod track;
 mod track_text;
 
-pub use irig_vcd::Pulse;
+pub use irig_recording::Pulse;
 pub use lens::Lens;
 pub use span::Span;
 pub use track::Track;

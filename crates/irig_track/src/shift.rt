@@ -2,13 +2,13 @@
 
 ghost use Rattle.std.specs.Prelude.{◌≡◌, ◌+◌, ◌-◌, ◌^◌, ◌<◌, ◌≤◌, length, map};
 ghost use Rattle.irig_gap.specs.Items.{gap_view};
-ghost use Rattle.irig_vcd.specs.Recording.{UpTo};
+ghost use Rattle.irig_recording.specs.Recording.{UpTo};
 ghost use Rattle.irig_track.specs.Edges.{edges_of};
 ghost use Rattle.irig_track.specs.Shifts.{moved_pulse, ahead, back};
 ghost use Rattle.irig_track.specs.Splices.{spliced, piece};
 
 use irig_gap::Gap;
-use irig_vcd::Pulse;
+use irig_recording::Pulse;
 
 /// By how many microseconds a distance goes on: 0 if it goes back.
 pub(crate) fn ahead_of(by: i64) -> u64

@@ -4,10 +4,10 @@ ghost use Rattle.std.specs.Prelude.{◌≡◌, ◌+◌, ◌<◌, ◌≤◌, ◌+
 ghost use Rattle.std.specs.Prelude.{IsSome};
 ghost use Rattle.irig_track.specs.Sides.{right_of, Took, Wrote};
 ghost use Rattle.irig_track.specs.Edges.{pulse};
-ghost use Rattle.irig_vcd.specs.declared.pulse.Pulse.{Pulse};
+ghost use Rattle.irig_recording.specs.declared.pulse.Pulse.{Pulse};
 
 use irig_gap::Gap;
-use irig_vcd::Pulse;
+use irig_recording::Pulse;
 
 /// The pulse right of the gap.
 pub(crate) fn next(pulses: &Gap<Pulse>) -> Option<Pulse>

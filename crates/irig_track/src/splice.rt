@@ -5,7 +5,7 @@ ghost use Rattle.irig_gap.specs.Items.{gap_view};
 ghost use Rattle.irig_track.specs.Splices.{spliced, piece};
 
 use irig_gap::Gap;
-use irig_vcd::Pulse;
+use irig_recording::Pulse;
 
 /// Replaces the `count` pulses from `at` on by those of `put`. The replaced ones go to `taken`.
 /// If as many come as go, no other pulse moves.

@@ -1,11 +1,11 @@
 //! Whether pulses fit between two times.
 
 ghost use Rattle.std.specs.Prelude.{◌≡◌, ◌+◌, ◌<◌, ◌≤◌, ◌++◌, ◌∷◌, [], IsTrue, ◌↔◌};
-ghost use Rattle.irig_vcd.specs.Recording.{RisesFrom};
+ghost use Rattle.irig_recording.specs.Recording.{RisesFrom};
 ghost use Rattle.irig_track.specs.Edges.{edges_of};
 
 use irig_gap::Gap;
-use irig_vcd::Pulse;
+use irig_recording::Pulse;
 
 /// Whether the pulses rise in order from `start` on, and end before `high`.
 pub(crate) fn stands(put: &Gap<Pulse>, start: u64, high: u64) -> bool

@@ -4,7 +4,7 @@
 //! for its fall, and pulses right of the gap.
 
 ghost use Rattle.std.specs.Prelude.{◌≡◌, ◌+◌, ◌-◌, ◌<◌, ◌≤◌, ◌++◌, ◌∷◌, [], length};
-ghost use Rattle.irig_vcd.specs.Recording.{RisesFrom};
+ghost use Rattle.irig_recording.specs.Recording.{RisesFrom};
 ghost use Rattle.irig_track.specs.Edges.{edges_of, Under};
 ghost use Rattle.irig_track.specs.Toggles.{toggled};
 ghost use Rattle.irig_track.specs.Sides.{left_of, right_of, waiting, ReachesFrom, Stays, Begun};
@@ -12,7 +12,7 @@ ghost use Rattle.irig_track.specs.Sides.{Finished};
 
 use crate::sides::{next, put_last, take_next};
 use irig_gap::Gap;
-use irig_vcd::Pulse;
+use irig_recording::Pulse;
 
 /// Toggles `a`, and returns the rise that waits.
 fn begin(pulses: &mut Gap<Pulse>, a: u64) -> u64

@@ -2,15 +2,15 @@
 
 ghost use Rattle.std.specs.Prelude.{◌≡◌, ◌+◌, ◌-◌, ◌^◌, ◌/◌, ◌<◌, ◌≤◌, length, slice_get, Some};
 ghost use Rattle.std.specs.Prelude.{true, max, IfOk, OnOk, OnErr};
-ghost use Rattle.irig_vcd.specs.FileText.{file_text, begins_high};
-ghost use Rattle.irig_vcd.specs.Recording.{recording_view};
+ghost use Rattle.irig_recording.specs.FileText.{file_text, begins_high};
+ghost use Rattle.irig_recording.specs.Recording.{recording_view};
 ghost use Rattle.irig_track.specs.Edges.{edges_of, is_edge};
 ghost use Rattle.irig_track.specs.Splices.{risen_by, ended_before};
 ghost use Rattle.irig_track.specs.Track.{IsTrack};
 
 use irig_gap::Gap;
+use irig_recording::{Pulse, Recording};
 use irig_text::whole;
-use irig_vcd::{Pulse, Recording};
 use std::alloc::{AllocError, Global};
 use std::marker::Model;
 
@@ -83,7 +83,8 @@ impl Track {
         Ok(edges)
     }
 
-    /// The text of the recording with the track's length and edges, as `irig_vcd::text` writes it.
+    /// The text of the recording with the track's length and edges, as `irig_recording::text`
+    /// writes it.
     pub fn text(&self, alloc: Global) -> Result<Vec<u8>, AllocError>
         ensures { IfOk result (λ text. text.items
             ≡ file_text (recording_view self.now.micros (edges_of self.now.pulses))) }

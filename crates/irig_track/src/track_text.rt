@@ -1,14 +1,14 @@
 //! The text of a track, in parts.
 
 ghost use Rattle.std.specs.Prelude.{◌≡◌, ◌≤◌, ◌<◌, ◌++◌, drop, length, vec_len, IfOk, IsSome};
-ghost use Rattle.irig_vcd.specs.FileText.{file_text};
-ghost use Rattle.irig_vcd.specs.Recording.{recording_view};
+ghost use Rattle.irig_recording.specs.FileText.{file_text};
+ghost use Rattle.irig_recording.specs.Recording.{recording_view};
 ghost use Rattle.irig_track.specs.Edges.{edges_of};
 ghost use Rattle.irig_track.specs.Texts.{coming, lines_after, still_to_come};
 
 use crate::track::Track;
+use irig_recording::TextWriter;
 use irig_text::Text;
-use irig_vcd::TextWriter;
 use std::alloc::AllocError;
 use std::marker::Model;
 

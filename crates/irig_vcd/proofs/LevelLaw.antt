@@ -9,7 +9,7 @@ use Rattle.std.proofs.lemmas.Bool.Decides.{nat_tests}
 use Rattle.irig_vcd.specs.Answer.{◌>>=◌}
 use Rattle.irig_vcd.specs.Dump.{dump, changes_of, recorded, TellsLevels}
 use Rattle.irig_vcd.specs.Level.{Change, level_by_changes, level_before, edges_below, edges_up_to, differs}
-use Rattle.irig_vcd.specs.Recording.{RecordingView, recording_view, is_even_long, level_by_edges}
+use Rattle.irig_recording.specs.Recording.{RecordingView, recording_view, is_even_long, level_by_edges}
 use Rattle.irig_vcd.specs.declared.fault.VcdFault.{VcdFault}
 use Rattle.irig_vcd.specs.declared.fault.VcdFault.TheVariants.{TooManyPulses}
 use Rattle.irig_vcd.proofs.Lawful.{not-not, even_below, Below, edges_are_below}

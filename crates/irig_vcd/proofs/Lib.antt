@@ -29,22 +29,15 @@ pub mod Levels
 pub mod PulseSteps
 pub mod Lawful
 pub mod LevelLaw
-pub mod RecordingLemmas
-pub mod PulseEdges
 -- The whole of a dump.
 pub mod WholeDump
 pub mod Gathered
 pub mod PartSteps
 pub mod IdleParts
 -- The text of a recording, its words and its changes: what is written is read back.
-pub mod TextParts
 pub mod WrittenWords
 pub mod WrittenEdges
 pub mod WrittenChanges
-pub mod WrittenText
-pub mod PulseText
-pub mod CountedUp
-pub mod TextLength
 pub mod ReadBack
 pub mod WrittenJournal
 -- Known values.

@@ -9,7 +9,7 @@ use Rattle.irig_vcd.specs.Code.Event.{is_hash}
 use Rattle.irig_vcd.specs.Code.Part.{moved}
 use Rattle.irig_vcd.specs.Code.Time.{units_of, IsTime}
 use Rattle.irig_vcd.specs.Code.Trace.{Follows}
-use Rattle.irig_vcd.specs.Code.Edges.{edges_kept}
+use Rattle.irig_recording.specs.Edges.{edges_kept}
 use Rattle.irig_vcd.specs.Digits.{is_digit, number_from}
 use Rattle.irig_vcd.specs.Events.{any_word}
 use Rattle.irig_vcd.specs.Level.{Change}

@@ -14,13 +14,14 @@ use Rattle.irig_vcd.specs.Times.{time_of, micros_of}
 use Rattle.irig_vcd.specs.Changes.{changes_from}
 use Rattle.irig_vcd.specs.Level.{edges_up_to, Change}
 use Rattle.irig_vcd.specs.Dump.{dump, recorded}
-use Rattle.irig_vcd.specs.FileText.{file_text, head_text, header_text, edge_lines, begins_high, later_edges, end_line}
-use Rattle.irig_vcd.specs.Recording.{RisesFrom, UpTo, RecordingView, recording_view, IsRecording}
+use Rattle.irig_recording.specs.FileText.{file_text, head_text, header_text, edge_lines, begins_high, later_edges, end_line}
+use Rattle.irig_recording.specs.Recording.{RisesFrom, UpTo, RecordingView, recording_view, IsRecording}
 use Rattle.irig_vcd.specs.Code.Along.{behind}
 use Rattle.irig_vcd.proofs.WholeDump.{behind_start}
 use Rattle.irig_vcd.proofs.WrittenEdges.{turns, high_edges, low_edges}
 use Rattle.irig_vcd.proofs.WrittenWords.{level_word}
-use Rattle.irig_vcd.proofs.WrittenChanges.{lines, regroup, last_or, last_top, last_up, rises_after, ending, SaysNothing, says_nothing}
+use Rattle.irig_recording.proofs.WrittenText.{last_or, last_up}
+use Rattle.irig_vcd.proofs.WrittenChanges.{lines, regroup, last_top, rises_after, ending, SaysNothing, says_nothing}
 
 -- the words after the declarations
 abbrev pub after_header : Bool → List Word → List Word

@@ -9,10 +9,11 @@ use Rattle.irig_vcd.specs.Code.Event.{level_read, is_hash}
 use Rattle.irig_vcd.specs.Answer.{pair_of}
 use Rattle.irig_vcd.specs.Changes.{changes_from}
 use Rattle.irig_vcd.specs.Events.{any_word}
-use Rattle.irig_vcd.specs.FileText.{time_line, level_line, edge_lines, end_line}
-use Rattle.irig_vcd.specs.Recording.{RisesFrom, UpTo, recording_view}
+use Rattle.irig_recording.specs.FileText.{time_line, level_line, edge_lines, end_line}
+use Rattle.irig_recording.specs.Recording.{RisesFrom, UpTo, recording_view}
 use Rattle.irig_vcd.specs.declared.fault.VcdFault.{VcdFault}
 use Rattle.irig_vcd.specs.Level.{Change}
+use Rattle.irig_recording.proofs.WrittenText.{last_or}
 use Rattle.irig_vcd.proofs.DecimalLemmas.{spells, decimal_is_number}
 use Rattle.irig_vcd.specs.Code.Along.{behind}
 use Rattle.irig_vcd.proofs.ChangeSteps.{on_time, on_level, behind_none}
@@ -30,11 +31,6 @@ unfolding time_of
 decimal_time last t offset later low =
     let s = spells t (omega arith) in
     rw (decimal_is_number t (omega arith), s.value, le-ltb t last later, same_micros t, le-ltb 1099511627776 t low) refl
-
--- the last of some edges
-abbrev pub last_or : ℕ → List ℕ → ℕ
-last_or last [] = last
-last_or last (edge ∷ edges) = last_or edge edges
 
 behind_behind : (xs ys : List Change) (read : Result (List Change × ℕ) VcdFault) → behind xs (behind ys read) ≡ behind (xs ++ ys) read
 behind_behind xs ys (Ok p) = ap (λ (cs : List Change). pair_of cs p.1) (sym (append_assoc xs ys p.0))
@@ -122,7 +118,3 @@ ending last at top edges rest says up low there = elim (cases_Bool (nat_lt 0 top
       ] in
       (rw none (says last at ∙ ap (λ t. pair_of [] t) (same_micros last ∙ same)))
 ]
-
-pub last_up : (edges : List ℕ) (last top : ℕ) → last ≤ top → UpTo top edges → last_or last edges ≤ top
-last_up [] last top le u = le
-last_up (edge ∷ edges) last top le u = last_up edges edge top u.0 u.1

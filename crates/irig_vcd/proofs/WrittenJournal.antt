@@ -9,17 +9,18 @@ use Rattle.std.proofs.Math.Seq.{take-append_seam, drop-append_seam}
 use Rattle.irig_vcd.specs.Code.Event.{is_hash, level_read}
 use Rattle.irig_vcd.specs.Code.Section.{after_end, end_read}
 use Rattle.irig_vcd.specs.Events.{is_mark}
-use Rattle.irig_vcd.specs.FileText.{time_line, level_line, edge_lines, end_line, file_text, header_text, begins_high, later_edges}
+use Rattle.irig_recording.specs.FileText.{time_line, level_line, edge_lines, end_line, file_text, header_text, begins_high, later_edges}
 use Rattle.irig_vcd.specs.Journals.{comment, journals_in, journals_among, text_of}
-use Rattle.irig_vcd.specs.Parts.{IsJournalText, comment_text, dump_parts, one_journal}
-use Rattle.irig_vcd.specs.Recording.{RecordingView, IsRecording, UpTo}
+use Rattle.irig_recording.specs.Comments.{IsJournalText, comment_text}
+use Rattle.irig_vcd.specs.Parts.{dump_parts, one_journal}
+use Rattle.irig_recording.specs.Recording.{RecordingView, IsRecording, UpTo}
 use Rattle.irig_vcd.specs.Words.{Word, words_from, before_space, kind_of_byte, is_space, dollar, other}
 use Rattle.irig_vcd.specs.declared.fault.VcdFault.{VcdFault}
 use Rattle.irig_vcd.proofs.ChangeSteps.{on_level}
 use Rattle.irig_vcd.proofs.JournalPlaces.{journals_behind}
 use Rattle.irig_vcd.proofs.JournalWords.{behind_end, in_comment, into_comment, past_time, past_level}
 use Rattle.irig_vcd.proofs.ReadBack.{after_header, declared, read_back, read_back_with}
-use Rattle.irig_vcd.proofs.TextLength.{length-header_text, later_up}
+use Rattle.irig_recording.proofs.TextLength.{length-header_text, later_up}
 use Rattle.irig_vcd.proofs.WholeDump.{with_journal}
 use Rattle.irig_vcd.proofs.WrittenChanges.{SaysNothing, regroup}
 use Rattle.irig_vcd.proofs.WrittenWords.{time_word, level_word, level_words}

@@ -2,7 +2,6 @@
 pub mod Token
 pub mod Short
 pub mod Lanes
-pub mod KeptPulse
 pub mod Section
 pub mod Variable
 pub mod Timescale
@@ -10,7 +9,6 @@ pub mod Header
 pub mod Time
 pub mod Event
 pub mod Journals
-pub mod Edges
 pub mod Joins
 pub mod Pending
 pub mod Trace

@@ -1,5 +1,3 @@
-pub mod Pulses
-pub mod Recording
 pub mod Words
 pub mod Digits
 pub mod Answer
@@ -17,5 +15,4 @@ pub mod Changes
 pub mod Dump
 pub mod Journals
 pub mod Parts
-pub mod FileText
 pub mod Code

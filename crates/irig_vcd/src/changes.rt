@@ -15,7 +15,6 @@ ghost use Rattle.irig_vcd.specs.Code.Journals.{Holds};
 ghost use Rattle.irig_vcd.specs.Events.{any_word};
 ghost use Rattle.irig_vcd.specs.Journals.{journals_among};
 
-use crate::edges::Edges;
 use crate::event::{take_level, take_open};
 use crate::fault::VcdFault;
 use crate::journals::Journals;
@@ -26,6 +25,7 @@ use crate::time::{Clock, micros, time};
 use crate::token::{Kind, Token, Tokens};
 use crate::trace::Trace;
 use crate::unit::Unit;
+use irig_recording::Edges;
 use std::alloc::Global;
 
 /// Whether a token sets a time.

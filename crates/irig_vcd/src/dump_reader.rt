@@ -20,8 +20,8 @@ use crate::part::whole_len;
 use crate::progress::Progress;
 use crate::reader::kept;
 use crate::reading::Reading;
-use crate::recording::Recording;
 use crate::unit::Unit;
+use irig_recording::Recording;
 use std::alloc::{AllocError, Global};
 use std::marker::Model;
 

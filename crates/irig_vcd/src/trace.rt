@@ -5,10 +5,10 @@ ghost use Rattle.std.specs.Prelude.{◌↔◌, OnOk, OnErr, IfOk};
 ghost use Rattle.std.specs.Prelude.{length, take, if◌then◌else◌};
 ghost use Rattle.irig_vcd.specs.Level.{Change, change, edges_up_to, differs};
 ghost use Rattle.irig_vcd.specs.Code.Along.{HasFallen};
-ghost use Rattle.irig_vcd.specs.Code.Edges.{edges_kept};
+ghost use Rattle.irig_recording.specs.Edges.{edges_kept};
 ghost use Rattle.irig_vcd.specs.Code.Trace.{Follows};
 
-use crate::edges::Edges;
+use irig_recording::Edges;
 use std::alloc::{AllocError, Global};
 
 /// A level that was followed up to a time: the edges before it, the level before it, and the level

@@ -5,7 +5,7 @@ use Rattle.std.specs.Prelude.{IfSome, length}
 use Rattle.irig_vcd.specs.Answer.{Gives, bytes_of}
 use Rattle.irig_vcd.specs.Code.DumpReader.{HasRead, bytes_read}
 use Rattle.irig_vcd.specs.Parts.{dump_parts}
-use Rattle.irig_vcd.specs.Recording.{RecordingView}
+use Rattle.irig_recording.specs.Recording.{RecordingView}
 use Rattle.irig_vcd.specs.declared.fault.VcdFault.{VcdFault}
 use Rattle.irig_vcd.specs.declared.progress.Progress.{Progress}
 use Rattle.irig_ed.specs.declared.files.intake.Intake.{Intake}

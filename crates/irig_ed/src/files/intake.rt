@@ -12,7 +12,8 @@ ghost use Rattle.irig_ed.specs.Files.Reads.{HasFewBytes, HasTaken, IsCounted, Ta
 ghost use Rattle.irig_ed.specs.declared.files.dump_file.DumpFileFault.TheVariants as file;
 
 use crate::files::dump_file::DumpFileFault;
-use irig_vcd::{DumpReader, Recording, VcdFault};
+use irig_recording::Recording;
+use irig_vcd::{DumpReader, VcdFault};
 use std::alloc::{AllocError, Global};
 use std::mem;
 

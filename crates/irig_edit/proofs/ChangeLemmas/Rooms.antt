@@ -3,7 +3,7 @@ use Rattle.std.proofs.Common.{suc, ◌≡◌, ◌≤◌, ◌+◌, ◌-◌, ℕ, 
 use Rattle.irig_index.specs.Frames.{frames}
 use Rattle.irig_index.specs.Index.{WereFrames}
 use Rattle.irig_index.proofs.FewFrames.{frames_few, frames_few_after, frames_moved}
-use Rattle.irig_vcd.specs.declared.pulse.Pulse.{Pulse}
+use Rattle.irig_recording.specs.declared.pulse.Pulse.{Pulse}
 use Rattle.irig_track.specs.Shifts.{count_to, moved}
 use Rattle.irig_track.specs.Splices.{IsSpan, ended_before, piece, risen_by, spliced}
 use Rattle.irig_track.proofs.Carried.{length-spliced}

@@ -1,6 +1,6 @@
 -- What a turn leaves is what the change says.
 use Rattle.std.proofs.Common.{suc, ◌≡◌, ℕ, ℤ, Bool, List, Option, ap, sym, subst, ◌∙◌}
-use Rattle.irig_vcd.specs.declared.pulse.Pulse.{Pulse}
+use Rattle.irig_recording.specs.declared.pulse.Pulse.{Pulse}
 use Rattle.irig_track.specs.Edges.{edges_of}
 use Rattle.irig_track.specs.Shifts.{shifted}
 use Rattle.irig_track.specs.Toggles.{toggled}

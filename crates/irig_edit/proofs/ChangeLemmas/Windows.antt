@@ -3,15 +3,15 @@ use Rattle.std.proofs.Common.{◌≡◌, ℕ, suc, zero, ◌+◌, ◌<◌, ◌�
 use Rattle.std.proofs.Common.{inl, inr}
 use Rattle.std.proofs.lemmas.Bool.{cases_lt, le-leb, lt-leb}
 use Rattle.std.proofs.Math.Bool.{and-true}
-use Rattle.irig_vcd.specs.Recording.{RisesFrom}
+use Rattle.irig_recording.specs.Recording.{RisesFrom}
 use Rattle.irig_track.specs.Edges.{edges_of}
 use Rattle.irig_track.specs.Looks.{after_looks, counted}
 use Rattle.irig_track.specs.Splices.{IsSpan, ended_before, risen_by}
 use Rattle.irig_track.specs.Toggles.{flipped, toggled}
-use Rattle.irig_vcd.specs.declared.pulse.Pulse.{Pulse}
+use Rattle.irig_recording.specs.declared.pulse.Pulse.{Pulse}
 use Rattle.irig_track.proofs.Recordings.{length-flipped_most}
 use Rattle.irig_track.proofs.Searches.{at_most_one, ended_no, ended_yes, risen_none, risen_yes}
-use Rattle.irig_vcd.proofs.PulseEdges.{length-edges_of}
+use Rattle.irig_recording.proofs.PulseEdges.{length-edges_of}
 use Rattle.irig_edit.specs.Changes.Looks.{standing_in}
 
 -- a pulse that ends before a is not there from a on

@@ -5,10 +5,10 @@ use Rattle.std.proofs.Math.Bool.{or-true}
 use Rattle.std.proofs.Math.Seq.{drop-nil}
 use Rattle.std.proofs.lemmas.Option.{slice_get_within, get_or_from_slice_get}
 use Rattle.std.proofs.lemmas.Bool.Decides.{nat_tests}
-use Rattle.irig_vcd.specs.Recording.{RisesFrom}
+use Rattle.irig_recording.specs.Recording.{RisesFrom}
 use Rattle.irig_codes.specs.declared.width.Element.{Element}
 use Rattle.irig_codes.specs.Width.{nominal_of}
-use Rattle.irig_vcd.specs.declared.pulse.Pulse.{Pulse}
+use Rattle.irig_recording.specs.declared.pulse.Pulse.{Pulse}
 use Rattle.irig_track.specs.Edges.{edges_of, pulse, is_edge, has, replaced, without_between}
 use Rattle.irig_track.specs.Splices.{spliced, piece, CanSplice}
 use Rattle.irig_track.proofs.Laws.{edges_of-parts, is_edge-spliced, is_edge-joined}

@@ -17,7 +17,7 @@ use Rattle.irig_index.specs.Marker.{class_at, follows, is_marker}
 use Rattle.irig_index.specs.Verdict.{verdict_of}
 use Rattle.irig_index.proofs.MarkerLaws.{frames_are_the_markers}
 use Rattle.irig_track.proofs.Items.{slice_get-part}
-use Rattle.irig_vcd.specs.declared.pulse.Pulse.{Pulse}
+use Rattle.irig_recording.specs.declared.pulse.Pulse.{Pulse}
 use Rattle.irig_edit.specs.Edits.Regenerated.{element_pulse, frame_pulses}
 use Rattle.irig_edit.proofs.EditLemmas.GeneratedPulses.{frame_many}
 use Rattle.irig_edit.proofs.EditLemmas.GeneratedFrames.{Tell, element_at, element_class, element_follows, first_marks, frame_reads, none_marks}

@@ -12,7 +12,7 @@ use Rattle.irig_index.specs.Frames.{frames}
 use Rattle.irig_index.specs.Marker.{class_at}
 use Rattle.irig_moment.specs.Generated.{frame_fields}
 use Rattle.irig_moment.specs.Moment.{MomentView}
-use Rattle.irig_vcd.specs.declared.pulse.Pulse.{Pulse}
+use Rattle.irig_recording.specs.declared.pulse.Pulse.{Pulse}
 use Rattle.irig_edit.specs.Edits.ReadBack.{frame_read, MadeFramesReadBack, FirstFrameReadsBack, NoOtherFrameIsRead}
 use Rattle.irig_edit.specs.Edits.Regenerated.{CanMake}
 use Rattle.irig_edit.specs.Edits.Regenerated.{frame_elements, frames_pulses, index_point}

@@ -24,7 +24,7 @@ use Rattle.irig_index.specs.declared.record.Verdict.TheVariants.{Read}
 use Rattle.irig_index.specs.Marker.{class_at, follows, is_digit, is_marker, is_position}
 use Rattle.irig_index.specs.Verdict.{elements_of, fault_at, fault_of, suits, verdict_of}
 use Rattle.irig_index.proofs.FaultLaws.{read_where_none_fails}
-use Rattle.irig_vcd.specs.declared.pulse.Pulse.{Pulse}
+use Rattle.irig_recording.specs.declared.pulse.Pulse.{Pulse}
 use Rattle.irig_edit.specs.Edits.Regenerated.{index_point, element_pulse, frame_pulses}
 use Rattle.irig_edit.proofs.EditLemmas.GeneratedPulses.{frame_many}
 use Rattle.irig_codes.proofs.WidthLemmas.{class_of-nominal_of, is_in_step-interval_of}

@@ -1,12 +1,12 @@
 -- A pulse that is inserted in free time.
 use Rattle.std.proofs.Common.{◌≡◌, ◌≤◌, ◌<◌, ◌+◌, ◌^◌, ℕ, List, [], ◌∷◌, ◌++◌, length, take, drop, refl, ap, sym, ◌∙◌, subst, arith, take-append-drop}
 use Rattle.std.proofs.Common.{length-take-le, false}
-use Rattle.irig_vcd.specs.Recording.{RisesFrom, UpTo}
-use Rattle.irig_vcd.specs.declared.pulse.Pulse.{Pulse}
+use Rattle.irig_recording.specs.Recording.{RisesFrom, UpTo}
+use Rattle.irig_recording.specs.declared.pulse.Pulse.{Pulse}
 use Rattle.irig_track.specs.Edges.{edges_of, pulse, Under}
 use Rattle.irig_track.specs.Splices.{spliced, risen_by, CanSplice}
 use Rattle.irig_track.specs.Track.{IsTrack}
-use Rattle.irig_vcd.proofs.PulseEdges.{edges_of-append}
+use Rattle.irig_recording.proofs.PulseEdges.{edges_of-append}
 use Rattle.irig_track.proofs.Laws.{is_edge-inserted}
 use Rattle.irig_edit.specs.State.State.{State, IsState, with_pulses}
 use Rattle.irig_edit.specs.Edits.Conditions.{is_touched}

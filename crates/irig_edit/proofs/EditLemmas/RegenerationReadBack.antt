@@ -13,7 +13,7 @@ use Rattle.irig_index.specs.Marker.{class_at}
 use Rattle.irig_track.proofs.Items.{take-item}
 use Rattle.irig_moment.specs.Generated.{starts_in}
 use Rattle.irig_moment.specs.Moment.{MomentView, IsMoment}
-use Rattle.irig_vcd.specs.declared.pulse.Pulse.{Pulse}
+use Rattle.irig_recording.specs.declared.pulse.Pulse.{Pulse}
 use Rattle.irig_track.specs.Splices.{spliced}
 use Rattle.irig_track.proofs.Sets.{only_pulses}
 use Rattle.irig_edit.specs.declared.session.refusal.Refusal.{Refusal}

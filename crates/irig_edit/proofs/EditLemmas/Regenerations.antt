@@ -1,14 +1,14 @@
 -- Frames instead of the pulses that rise in their time.
 use Rattle.std.proofs.Common.{◌≡◌, ◌≤◌, ◌+◌, ◌*◌, ◌^◌, ℕ, suc, false, List, [], ◌∷◌, ◌++◌, length, take, drop, refl, ap, sym, ◌∙◌, subst, arith, length-take-le}
-use Rattle.irig_vcd.specs.Recording.{RisesFrom, UpTo}
+use Rattle.irig_recording.specs.Recording.{RisesFrom, UpTo}
 use Rattle.irig_moment.specs.Moment.{MomentView}
-use Rattle.irig_vcd.specs.declared.pulse.Pulse.{Pulse}
+use Rattle.irig_recording.specs.declared.pulse.Pulse.{Pulse}
 use Rattle.irig_track.specs.Edges.{edges_of, Under, replaced, is_edge}
 use Rattle.irig_track.specs.Splices.{spliced, piece, CanSplice}
 use Rattle.irig_track.specs.Track.{IsTrack}
 use Rattle.irig_track.proofs.Carried.{length-spliced}
 use Rattle.irig_track.proofs.Laws.{edges_of-three, edges_of-parts, is_edge-spliced}
-use Rattle.irig_vcd.proofs.PulseEdges.{edges_of-append}
+use Rattle.irig_recording.proofs.PulseEdges.{edges_of-append}
 use Rattle.irig_track.proofs.RisingLists.{rises_left}
 use Rattle.irig_edit.specs.Edits.Becoming.{Becomes}
 use Rattle.irig_edit.specs.Session.Calls.Edit.{Regen}

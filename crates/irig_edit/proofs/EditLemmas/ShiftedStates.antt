@@ -1,12 +1,12 @@
 -- The state after a shift.
 use Rattle.std.proofs.Common.{◌≡◌, ◌≤◌, ◌<◌, ◌+◌, ◌-◌, ℕ, ℤ, suc, zero, List, [], ◌∷◌, length, map, take, drop, Option, refl, ap, sym, ◌∙◌, subst, arith}
 use Rattle.std.proofs.lemmas.List.{length-map}
-use Rattle.irig_vcd.specs.declared.pulse.Pulse.{Pulse}
+use Rattle.irig_recording.specs.declared.pulse.Pulse.{Pulse}
 use Rattle.irig_track.specs.Edges.{edges_of, is_edge, replaced}
 use Rattle.irig_track.specs.Shifts.{CanShift, ahead, back, moved, moved_pulse, shifted, count_to}
 use Rattle.irig_track.specs.Splices.{piece}
 use Rattle.irig_track.specs.Free.{following, first_or}
-use Rattle.irig_vcd.specs.Recording.{UpTo}
+use Rattle.irig_recording.specs.Recording.{UpTo}
 use Rattle.irig_track.proofs.Allowed.{shift_stands}
 use Rattle.irig_track.proofs.Carried.{length-spliced, length-piece}
 use Rattle.irig_track.proofs.Laws.{is_edge-spliced}

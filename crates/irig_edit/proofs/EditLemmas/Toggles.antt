@@ -5,7 +5,7 @@ use Rattle.irig_track.specs.Edges.{edges_of, has, is_edge}
 use Rattle.irig_track.specs.Splices.{risen_by}
 use Rattle.irig_track.specs.Toggles.{CanToggle, flipped}
 use Rattle.irig_track.proofs.Laws.{has-toggled}
-use Rattle.irig_vcd.proofs.PulseEdges.{length-edges_of}
+use Rattle.irig_recording.proofs.PulseEdges.{length-edges_of}
 use Rattle.irig_track.proofs.Recordings.{can_toggle_room, can_toggle_first, can_toggle_second, cannot_toggle, length-flipped_most}
 use Rattle.irig_edit.specs.Edits.Becoming.{Becomes}
 use Rattle.irig_edit.specs.Session.Calls.Edit.{Invert}

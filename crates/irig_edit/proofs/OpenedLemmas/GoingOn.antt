@@ -19,9 +19,10 @@ use Rattle.irig_saved.proofs.JournalTexts.{journal_is_text, section_is_comment}
 use Rattle.irig_saved.proofs.Unique.{same_journal}
 use Rattle.irig_track.proofs.Recordings as track
 use Rattle.irig_vcd.specs.Answer.{IsFaultOf}
-use Rattle.irig_vcd.specs.FileText.{file_text}
-use Rattle.irig_vcd.specs.Parts.{comment_text, dump_parts}
-use Rattle.irig_vcd.specs.Recording.{RecordingView}
+use Rattle.irig_recording.specs.FileText.{file_text}
+use Rattle.irig_recording.specs.Comments.{comment_text}
+use Rattle.irig_vcd.specs.Parts.{dump_parts}
+use Rattle.irig_recording.specs.Recording.{RecordingView}
 use Rattle.irig_vcd.specs.declared.fault.VcdFault.{VcdFault}
 use Rattle.irig_vcd.specs.declared.fault.VcdFault.TheVariants as fault
 use Rattle.irig_vcd.proofs.WrittenJournal.{journal_back}

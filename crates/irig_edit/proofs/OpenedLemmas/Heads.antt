@@ -5,7 +5,7 @@ use Rattle.std.proofs.lemmas.Bool.Decides.{nat_tests}
 use Rattle.std.specs.List.{AllByRecursion}
 use Rattle.irig_codes.specs.Format.{is_permitted}
 use Rattle.irig_saved.specs.declared.saved.Saved.{Saved}
-use Rattle.irig_vcd.specs.Recording.{RecordingView}
+use Rattle.irig_recording.specs.Recording.{RecordingView}
 use Rattle.irig_edit.specs.Changes.Laws.Edges.{pulses_of-edges_of}
 use Rattle.irig_edit.specs.Opened.Opened.{head_fault, mark_beyond, state_of}
 use Rattle.irig_edit.specs.Changes.Single.{pulses_of}

@@ -3,7 +3,7 @@ use Rattle.std.proofs.Common.{◌≡◌, ℕ, List, Option, Some, None, Result, 
 use Rattle.irig_codes.specs.Format.{FormatView}
 use Rattle.irig_saved.specs.declared.saved.Saved.{Saved}
 use Rattle.irig_vcd.specs.Parts.{dump_parts}
-use Rattle.irig_vcd.specs.Recording.{RecordingView}
+use Rattle.irig_recording.specs.Recording.{RecordingView}
 use Rattle.irig_vcd.specs.declared.fault.VcdFault.{VcdFault}
 use Rattle.irig_vcd.specs.declared.fault.VcdFault.TheVariants as fault
 use Rattle.irig_edit.specs.Opened.Opened.{IsLineAtFault, state_of}

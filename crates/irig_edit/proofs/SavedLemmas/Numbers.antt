@@ -6,12 +6,12 @@ use Rattle.std.proofs.lemmas.Bool.Decides.{nat_tests}
 use Rattle.irig_codes.specs.Format.{is_permitted}
 use Rattle.irig_codes.specs.declared.format.Kind.{Kind}
 use Rattle.irig_codes.specs.declared.format.Kind.TheVariants.{A, B, E, G}
-use Rattle.irig_vcd.specs.declared.pulse.Pulse.{Pulse}
+use Rattle.irig_recording.specs.declared.pulse.Pulse.{Pulse}
 use Rattle.irig_track.specs.Edges.{edges_of}
 use Rattle.irig_track.specs.Shifts.{CanShift, ahead, back}
 use Rattle.irig_track.proofs.Places.{pulse_within}
-use Rattle.irig_vcd.proofs.PulseEdges.{edges_of-append}
-use Rattle.irig_vcd.specs.Recording.{UpTo}
+use Rattle.irig_recording.proofs.PulseEdges.{edges_of-append}
+use Rattle.irig_recording.specs.Recording.{UpTo}
 use Rattle.irig_journal.specs.Turns.{FitAll}
 use Rattle.irig_saved.specs.Ranges.{IsDistance, IsPulse, IsTime}
 use Rattle.irig_saved.specs.Numbers.{NumbersOfChange, NumbersOfSingle}

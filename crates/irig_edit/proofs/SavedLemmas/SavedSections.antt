@@ -4,7 +4,7 @@ use Rattle.irig_journal.specs.Machine.{Machine}
 use Rattle.irig_saved.specs.Lines.{text_of}
 use Rattle.irig_saved.specs.SavedText.{journal_section, journal_text, saved_lines}
 use Rattle.irig_saved.proofs.Texts.{text_of_append}
-use Rattle.irig_vcd.specs.FileText.{file_text}
+use Rattle.irig_recording.specs.FileText.{file_text}
 use Rattle.irig_edit.specs.Session.Kept.{Kept}
 use Rattle.irig_edit.specs.Saved.SavedSession.{saved_of, saved_text}
 use Rattle.irig_edit.specs.State.State.{recording_of}

@@ -7,7 +7,7 @@ use Rattle.irig_journal.specs.Machine.{Machine, recorded, undone, redone}
 use Rattle.irig_journal.specs.Commands.{Command, accepted, after_all, after_one}
 use Rattle.irig_journal.specs.Commands.Command.{Undo as UndoStep, Redo as RedoStep}
 use Rattle.irig_journal.proofs.CommandLemmas.{made_again}
-use Rattle.irig_vcd.specs.declared.pulse.Pulse.{Pulse}
+use Rattle.irig_recording.specs.declared.pulse.Pulse.{Pulse}
 use Rattle.irig_track.proofs.Sets.{only_pulses}
 use Rattle.irig_edit.specs.Session.Calls.{Call, Edit}
 use Rattle.irig_edit.specs.Session.Calls.Call.{Make, Undo, Redo, Go, Begin, End, Abort}

@@ -5,8 +5,8 @@ use Rattle.std.proofs.Math.Bool.{or-false}
 use Rattle.std.proofs.lemmas.Bool.{and_right, cases_lt, or_parts}
 use Rattle.std.proofs.lemmas.Bool.Decides.{nat_tests}
 use Rattle.std.specs.List.{list_any}
-use Rattle.irig_vcd.specs.Recording.{RisesFrom}
-use Rattle.irig_vcd.specs.declared.pulse.Pulse.{Pulse}
+use Rattle.irig_recording.specs.Recording.{RisesFrom}
+use Rattle.irig_recording.specs.declared.pulse.Pulse.{Pulse}
 use Rattle.irig_track.specs.Edges.{edges_of, Under}
 use Rattle.irig_edit.specs.Edits.Conditions.{is_met}
 use Rattle.irig_edit.specs.Edits.Regenerated.{rising_before}

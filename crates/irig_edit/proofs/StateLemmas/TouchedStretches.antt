@@ -6,12 +6,12 @@ use Rattle.std.proofs.lemmas.Bool.{and_right, cases_lt, or_parts}
 use Rattle.std.proofs.lemmas.Bool.Decides.{nat_tests}
 use Rattle.std.proofs.lemmas.Option.{slice_get_within}
 use Rattle.std.specs.List.{list_any}
-use Rattle.irig_vcd.specs.Recording.{RisesFrom}
-use Rattle.irig_vcd.specs.declared.pulse.Pulse.{Pulse}
+use Rattle.irig_recording.specs.Recording.{RisesFrom}
+use Rattle.irig_recording.specs.declared.pulse.Pulse.{Pulse}
 use Rattle.irig_track.specs.Edges.{edges_of, Under}
 use Rattle.irig_track.specs.Splices.{risen_by}
 use Rattle.irig_track.proofs.Searches.{risen_none, risen_yes}
-use Rattle.irig_vcd.specs.Recording.{level_by_edges}
+use Rattle.irig_recording.specs.Recording.{level_by_edges}
 use Rattle.irig_edit.specs.State.State.{State, IsState}
 use Rattle.irig_edit.specs.Edits.Conditions.{is_touched}
 

@@ -6,7 +6,7 @@ use Rattle.irig_codes.specs.Format.{is_permitted}
 use Rattle.irig_saved.specs.declared.single.Single.{Single}
 use Rattle.irig_saved.specs.declared.single.Single.TheVariants.{Splice, Toggle, Shift, SetFormat}
 use Rattle.irig_saved.specs.declared.single.Single.TheVariants.{SetMark}
-use Rattle.irig_vcd.specs.declared.pulse.Pulse.{Pulse}
+use Rattle.irig_recording.specs.declared.pulse.Pulse.{Pulse}
 use Rattle.irig_track.specs.Edges.{pulse, edges_of}
 use Rattle.irig_track.specs.Shifts.{CanShift, shifted}
 use Rattle.irig_track.specs.Splices.{CanSplice, piece, spliced}

@@ -8,7 +8,7 @@ use Rattle.irig_track.specs.Shifts.{ahead, back}
 use Rattle.irig_edit.specs.Edits.Edits.{pulse_of}
 use Rattle.irig_edit.specs.State.Marks.{moved_time}
 use Rattle.irig_edit.specs.Edits.Regenerated.{frames_end, rising_in}
-use Rattle.irig_vcd.specs.Recording.{level_by_edges}
+use Rattle.irig_recording.specs.Recording.{level_by_edges}
 use Rattle.irig_edit.specs.State.State.{State}
 
 -- two times in order, none above the length

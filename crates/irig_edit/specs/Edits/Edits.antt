@@ -8,7 +8,7 @@ use Rattle.std.specs.Prelude.{◌≡◌, ◌+◌, ◌-◌, ◌*◌, ℕ, Bool, L
 use Rattle.std.specs.Prelude.{get_or, slice_set, min}
 use Rattle.irig_codes.specs.Format.{FormatView}
 use Rattle.irig_codes.specs.Width.{nominal_of}
-use Rattle.irig_vcd.specs.declared.pulse.Pulse.{Pulse}
+use Rattle.irig_recording.specs.declared.pulse.Pulse.{Pulse}
 use Rattle.irig_track.specs.Edges.{pulse, edges_of, is_edge, with_both, without, without_between}
 use Rattle.irig_track.specs.Edges.{inverted, replaced}
 use Rattle.irig_track.specs.Splices.{piece, risen_by}

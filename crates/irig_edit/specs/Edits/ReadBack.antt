@@ -13,7 +13,7 @@ use Rattle.irig_index.specs.Marker.{class_at}
 use Rattle.irig_journal.specs.Groups.{Grouped}
 use Rattle.irig_moment.specs.Generated.{frame_fields}
 use Rattle.irig_moment.specs.Moment.{MomentView, IsMoment}
-use Rattle.irig_vcd.specs.declared.pulse.Pulse.{Pulse}
+use Rattle.irig_recording.specs.declared.pulse.Pulse.{Pulse}
 use Rattle.irig_edit.specs.Session.Calls.Call.{Make}
 use Rattle.irig_edit.specs.Session.Calls.Edit.{Regen}
 use Rattle.irig_edit.specs.Session.Limits.{IsMachine}

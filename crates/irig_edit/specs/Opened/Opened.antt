@@ -6,7 +6,7 @@ use Rattle.irig_journal.specs.Groups.{over}
 use Rattle.irig_saved.specs.SavedText.{mark_lines, steps_lines}
 use Rattle.irig_saved.specs.declared.saved.Saved.{Saved}
 use Rattle.irig_saved.specs.declared.step.Step.{Step as SavedStep}
-use Rattle.irig_vcd.specs.Recording.{RecordingView}
+use Rattle.irig_recording.specs.Recording.{RecordingView}
 use Rattle.irig_edit.specs.Session.Keeping.{machine}
 use Rattle.irig_edit.specs.Session.Session.{SessionView, session_view}
 use Rattle.irig_edit.specs.Changes.Single.{pulses_of}

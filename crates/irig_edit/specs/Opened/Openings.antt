@@ -7,7 +7,7 @@ use Rattle.irig_saved.specs.SavedText.{journal_text}
 use Rattle.irig_saved.specs.declared.saved.Saved.{Saved}
 use Rattle.irig_vcd.specs.Answer.{IsFaultOf}
 use Rattle.irig_vcd.specs.Parts.{dump_parts}
-use Rattle.irig_vcd.specs.Recording.{RecordingView}
+use Rattle.irig_recording.specs.Recording.{RecordingView}
 use Rattle.irig_vcd.specs.declared.fault.VcdFault.{VcdFault}
 use Rattle.irig_vcd.specs.declared.fault.VcdFault.TheVariants.{BadJournal, OutOfMemory}
 use Rattle.irig_edit.specs.Session.Machine.{NoMarks}

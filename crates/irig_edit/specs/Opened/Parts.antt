@@ -3,7 +3,7 @@ use Rattle.std.specs.Prelude.{ℕ, List, Option, Some, None, IsTrue}
 use Rattle.irig_codes.specs.Format.{FormatView, is_permitted}
 use Rattle.irig_saved.specs.Faults.{IsFault}
 use Rattle.irig_saved.specs.declared.saved.Saved.{Saved}
-use Rattle.irig_vcd.specs.Recording.{RecordingView}
+use Rattle.irig_recording.specs.Recording.{RecordingView}
 use Rattle.irig_vcd.specs.declared.fault.VcdFault.{VcdFault}
 use Rattle.irig_edit.specs.Opened.Opened.{IsAccepted, IsLineAtFault, state_of}
 use Rattle.irig_edit.specs.Opened.Openings.{IsBad, IsStart, IsTextOf}

@@ -5,7 +5,7 @@ use Rattle.irig_journal.specs.History.{Step}
 use Rattle.irig_journal.specs.Journal.{Steps, future_of, past_of}
 use Rattle.irig_saved.specs.Lines.{text_of}
 use Rattle.irig_saved.specs.SavedText.{count_text, head_lines, singles_lines, steps_lines}
-use Rattle.irig_vcd.specs.FileText.{file_text}
+use Rattle.irig_recording.specs.FileText.{file_text}
 use Rattle.irig_saved.specs.declared.change.Change.{Change}
 use Rattle.irig_edit.specs.Changes.Held.{delta_of, deltas_of, single_of}
 use Rattle.irig_edit.specs.Saved.Saved.{saved_step}

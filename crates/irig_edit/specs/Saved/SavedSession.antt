@@ -5,7 +5,7 @@ use Rattle.irig_journal.specs.Machine.{Machine}
 use Rattle.irig_saved.specs.SavedText.{journal_section}
 use Rattle.irig_saved.specs.declared.saved.Saved.{Saved}
 use Rattle.irig_saved.specs.declared.step.Step.{Step}
-use Rattle.irig_vcd.specs.FileText.{file_text}
+use Rattle.irig_recording.specs.FileText.{file_text}
 use Rattle.irig_edit.specs.Session.Kept.{Kept}
 use Rattle.irig_edit.specs.Saved.Saved.{saved_step}
 use Rattle.irig_edit.specs.State.State.{recording_of}

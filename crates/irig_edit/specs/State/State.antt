@@ -1,9 +1,9 @@
 -- The state of a session: a track, a format and marks. This project's own.
 use Rattle.std.specs.Prelude.{◌≡◌, ◌≤◌, ℕ, IsTrue, List, Option, Some, None, length}
 use Rattle.std.specs.List.{AllByRecursion}
-use Rattle.irig_vcd.specs.Recording.{RecordingView, recording_view}
+use Rattle.irig_recording.specs.Recording.{RecordingView, recording_view}
 use Rattle.irig_codes.specs.Format.{FormatView, is_permitted}
-use Rattle.irig_vcd.specs.declared.pulse.Pulse.{Pulse}
+use Rattle.irig_recording.specs.declared.pulse.Pulse.{Pulse}
 use Rattle.irig_track.specs.Edges.{edges_of}
 use Rattle.irig_index.specs.declared.record.Record.{Record}
 use Rattle.irig_index.specs.Frames.{frames}

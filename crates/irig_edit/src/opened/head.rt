@@ -14,8 +14,9 @@ use crate::opened::walk::Walk;
 use crate::state::marks::Marks;
 use crate::state::present::Present;
 use irig_codes::Format;
+use irig_recording::Recording;
 use irig_saved::Saved;
-use irig_vcd::{Recording, VcdFault};
+use irig_vcd::VcdFault;
 use std::alloc::Global;
 
 /// The state of a recording with format, cursor and marks of a journal, with no steps, and the

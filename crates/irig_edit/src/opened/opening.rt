@@ -23,8 +23,9 @@ ghost use Rattle.irig_edit.specs.Opened.Parts.{IsSessionOf};
 use crate::opened::head::start;
 use crate::session::session::Session;
 use irig_codes::Format;
+use irig_recording::Recording;
 use irig_saved::{Fault, Saved, parse};
-use irig_vcd::{Recording, VcdFault, read_parts};
+use irig_vcd::{VcdFault, read_parts};
 use std::alloc::Global;
 
 impl Session {

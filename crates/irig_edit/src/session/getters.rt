@@ -2,7 +2,7 @@
 
 ghost use Rattle.std.specs.Prelude.{◌≡◌, ◌≤◌, ◌+◌, ◌-◌, length, Some, IfSome, IfOk, slice_get, ◌∷◌};
 ghost use Rattle.std.specs.List.{sum_by};
-ghost use Rattle.irig_vcd.specs.FileText.{file_text};
+ghost use Rattle.irig_recording.specs.FileText.{file_text};
 ghost use Rattle.irig_edit.specs.Session.Kept.{put_for, taken_for};
 ghost use Rattle.irig_edit.specs.State.State.{frames_of, recording_of};
 ghost use Rattle.irig_track.specs.Splices.{risen_by};

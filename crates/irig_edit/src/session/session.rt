@@ -25,8 +25,8 @@ use crate::state::present::Present;
 use irig_codes::Format;
 use irig_gap::Gap;
 use irig_journal::{Journal, JournalFault};
+use irig_recording::Recording;
 use irig_saved::{Letter, Pulses, Single};
-use irig_vcd::Recording;
 use std::alloc::{AllocError, Global};
 use std::marker::Model;
 

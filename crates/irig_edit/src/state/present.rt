@@ -3,7 +3,7 @@
 ghost use Rattle.std.specs.Prelude.{◌≡◌, ◌<◌, ◌≤◌, ◌+◌, ◌-◌, ◌*◌, ◌^◌, length, map, ◌↔◌, IsTrue};
 ghost use Rattle.std.specs.Prelude.{IfOk, Some, slice_get};
 ghost use Rattle.irig_track.specs.Splices.{risen_by};
-ghost use Rattle.irig_vcd.specs.FileText.{file_text};
+ghost use Rattle.irig_recording.specs.FileText.{file_text};
 ghost use Rattle.irig_edit.specs.Edits.Conditions.{is_touched};
 ghost use Rattle.irig_edit.specs.State.Marks.{stands};
 ghost use Rattle.irig_edit.specs.Edits.Edits.{pulse_of};
@@ -13,8 +13,8 @@ ghost use Rattle.irig_edit.specs.State.State.{IsMark, IsState, frames_of, record
 use crate::state::marks::{Letters, Marks, letters_from};
 use irig_codes::Format;
 use irig_index::{Index, Record};
+use irig_recording::Recording;
 use irig_track::{Pulse, Track, TrackText};
-use irig_vcd::Recording;
 use std::alloc::{AllocError, Global};
 use std::marker::Model;
 

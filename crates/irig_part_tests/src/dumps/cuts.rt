@@ -2,7 +2,8 @@
 
 ghost use Rattle.std.specs.Prelude.{◌≤◌, ◌^◌, length};
 
-use irig_vcd::{DumpReader, Recording, VcdFault, read_parts};
+use irig_recording::Recording;
+use irig_vcd::{DumpReader, VcdFault, read_parts};
 use std::alloc::Global;
 
 /// The sizes of parts that all are of one size, in bytes.

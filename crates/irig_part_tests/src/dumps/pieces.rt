@@ -1,7 +1,8 @@
 //! Recordings, tokens and faults by themselves.
 
 use crate::edges::have_edges;
-use irig_vcd::{Kind, Recording, Tokens, VcdFault};
+use irig_recording::Recording;
+use irig_vcd::{Kind, Tokens, VcdFault};
 use std::alloc::Global;
 
 /// A length and edges, and whether they make a recording.

@@ -3,7 +3,8 @@
 use super::Wanted::Edges;
 use super::is_right;
 use crate::edges::most_edges;
-use irig_vcd::{Recording, VcdFault, read, text};
+use irig_recording::{Recording, text};
+use irig_vcd::{VcdFault, read};
 use std::alloc::{AllocError, Global};
 
 /// The text of a length and edges.

@@ -5,8 +5,8 @@ ghost use Rattle.irig_track.specs.Splices.{CanSplice};
 
 use crate::edges::have_edges;
 use irig_gap::Gap;
+use irig_recording::Recording;
 use irig_track::{Pulse, Span, Track};
-use irig_vcd::Recording;
 use std::alloc::{AllocError, Global};
 
 /// The pulses of a track in a gap buffer.
@@ -44,7 +44,7 @@ fn have_one_text(alloc: Global, track: &Track, recording: &Recording) -> bool {
 
 /// Whether a recording has this text.
 fn is_text_of(alloc: Global, recording: &Recording, text: &[u8]) -> bool {
-    match irig_vcd::text(alloc, recording) {
+    match irig_recording::text(alloc, recording) {
         Ok(written) => written.as_slice() == text,
         Err(_) => false,
     }

@@ -7,7 +7,7 @@ use Rattle.irig_saved.proofs.Unique.{same_saved}
 use Rattle.irig_saved.specs.SavedText.{journal_text}
 use Rattle.irig_saved.specs.declared.saved.Saved.{Saved}
 use Rattle.irig_track.proofs.Sets.{edges_of-inj}
-use Rattle.irig_vcd.specs.Recording.{RecordingView}
+use Rattle.irig_recording.specs.Recording.{RecordingView}
 use Rattle.irig_vcd.specs.declared.fault.VcdFault.{VcdFault}
 use Rattle.irig_edit.specs.Session.Keeping.{machine}
 use Rattle.irig_edit.specs.Session.Kept.{Kept}

@@ -2,7 +2,7 @@
 -- out, and the shelf may fail. This project's own.
 use Rattle.std.specs.Prelude.{◌≡◌, ◌+◌, ◌-◌, ℕ, Bool, true, false, List, [], length, Result, Ok}
 use Rattle.std.specs.Prelude.{Err}
-use Rattle.irig_vcd.specs.FileText.{file_text}
+use Rattle.irig_recording.specs.FileText.{file_text}
 use Rattle.irig_codes.specs.Format.{FormatView}
 use Rattle.irig_codes.specs.declared.format.Kind.{Kind}
 use Rattle.irig_edit.specs.State.State.{recording_of}

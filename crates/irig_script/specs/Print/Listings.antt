@@ -4,7 +4,7 @@ use Rattle.std.specs.Prelude.{length, take}
 use Rattle.irig_codes.specs.Width.{class_of}
 use Rattle.irig_codes.specs.Format.{FormatView}
 use Rattle.irig_codes.specs.Words.{class_word, kind_word}
-use Rattle.irig_vcd.specs.declared.pulse.Pulse.{Pulse}
+use Rattle.irig_recording.specs.declared.pulse.Pulse.{Pulse}
 use Rattle.irig_track.specs.Splices.{piece}
 use Rattle.irig_saved.specs.Letters.{letter_word}
 use Rattle.irig_edit.specs.State.State.{State, frames_of}

@@ -16,7 +16,8 @@ use crate::obey::status::{RunFault, Status};
 use crate::shelf::shelf::Shelf;
 use irig_codes::Format;
 use irig_edit::Session;
-use irig_vcd::{Recording, VcdFault};
+use irig_recording::Recording;
+use irig_vcd::VcdFault;
 use std::alloc::Global;
 use std::io::{Read, Write};
 

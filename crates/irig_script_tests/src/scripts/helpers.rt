@@ -2,7 +2,7 @@
 
 use irig_codes::{Format, Kind};
 use irig_edit::Session;
-use irig_vcd::Recording;
+use irig_recording::Recording;
 use std::alloc::Global;
 
 /// A dump of 1,000 microseconds with pulses 100 to 120 and 200 to 280.

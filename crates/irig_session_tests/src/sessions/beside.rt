@@ -6,7 +6,7 @@ use super::plain::Plain;
 use super::telling::tells;
 use irig_codes::{Format, Kind};
 use irig_edit::Session;
-use irig_vcd::Recording;
+use irig_recording::Recording;
 use std::alloc::Global;
 
 /// A session and a machine that got the same calls.

@@ -3,7 +3,7 @@
 use irig_codes::{Element, Format, Kind};
 use irig_edit::{Refusal, Session};
 use irig_moment::Moment;
-use irig_vcd::Recording;
+use irig_recording::Recording;
 use std::alloc::Global;
 
 /// A call of the table. Frames are generated from the begin of 2024 on, without control bits.

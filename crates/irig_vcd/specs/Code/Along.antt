@@ -9,7 +9,7 @@ use Rattle.irig_vcd.specs.Digits.{is_number, number_from}
 use Rattle.irig_vcd.specs.Events.{Next, any_word}
 use Rattle.irig_vcd.specs.Journals.{journals_among}
 use Rattle.irig_vcd.specs.Level.{Change}
-use Rattle.irig_vcd.specs.Recording.{is_even_long}
+use Rattle.irig_recording.specs.Recording.{is_even_long}
 use Rattle.irig_vcd.specs.Times.{micros_of}
 use Rattle.irig_vcd.specs.Words.{Word, words_from, rest_of, hash, scalar}
 use Rattle.irig_vcd.specs.declared.fault.VcdFault.{VcdFault}

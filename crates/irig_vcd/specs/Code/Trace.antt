@@ -2,7 +2,7 @@
 use Rattle.std.specs.Prelude.{◌≡◌, ◌≤◌, ℕ, Bool, List, Result, Ok, Err, take}
 use Rattle.std.specs.List.{AllByRecursion}
 use Rattle.irig_vcd.specs.Answer.{IsFaultOf}
-use Rattle.irig_vcd.specs.Code.Edges.{edges_kept}
+use Rattle.irig_recording.specs.Edges.{edges_kept}
 use Rattle.irig_vcd.specs.Level.{Change, change, level_by_changes, level_before, edges_below}
 use Rattle.irig_vcd.specs.Level.{edges_up_to}
 use Rattle.irig_vcd.specs.declared.changes.Body.{Body}

@@ -1,6 +1,6 @@
 -- A single change of a state within the limits leaves one within them. This project's own.
 use Rattle.std.proofs.Common.{suc, ◌<◌, length, sym, subst, ◌∙◌, arith}
-use Rattle.irig_vcd.specs.Recording.{IsRecording}
+use Rattle.irig_recording.specs.Recording.{IsRecording}
 use Rattle.irig_track.specs.Edges.{edges_of}
 use Rattle.irig_track.specs.Toggles.{toggled}
 use Rattle.irig_track.proofs.Recordings.{track_of}

@@ -2,7 +2,7 @@ use Rattle.std.proofs.Common.{◌≡◌, ℕ, ◌+◌, ◌-◌, ◌*◌, ◌<◌
 use Rattle.std.proofs.lemmas.List.{append-nil}
 use Rattle.irig_codes.specs.Format.{FormatView}
 use Rattle.irig_gap.specs.Items.{GapView}
-use Rattle.irig_vcd.specs.declared.pulse.Pulse.{Pulse}
+use Rattle.irig_recording.specs.declared.pulse.Pulse.{Pulse}
 use Rattle.irig_index.specs.declared.record.Record.{Record}
 use Rattle.irig_index.specs.Checked.{Checked}
 use Rattle.irig_index.specs.Frames.{frame_at, record_after, records_in}

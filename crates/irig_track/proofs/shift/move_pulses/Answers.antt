@@ -1,6 +1,6 @@
 use Rattle.std.proofs.Common.{arith, ◌≡◌, ◌∙◌, ◌+◌, ◌-◌, ◌^◌, ap, sym, slice_get, slice_set, Some}
 use Rattle.irig_gap.specs.Items.{GapView, gap_view}
-use Rattle.irig_vcd.specs.declared.pulse.Pulse.{Pulse}
+use Rattle.irig_recording.specs.declared.pulse.Pulse.{Pulse}
 use Rattle.irig_track.specs.Edges.{pulse}
 use Rattle.irig_track.proofs.MovedPulses.{next_unmoved, more_moved}
 use Rattle.irig_track.proofs.Places.{rise_within, pulse_within}

@@ -1,5 +1,5 @@
 use Rattle.std.proofs.Common.{◌-◌, ◌≤◌, ◌++◌, ◌∷◌, [], length, drop}
-use Rattle.irig_vcd.specs.Recording.{RisesFrom}
+use Rattle.irig_recording.specs.Recording.{RisesFrom}
 use Rattle.irig_track.specs.Edges.{edges_of}
 use Rattle.irig_track.proofs.stands.stands.Given as goal
 

@@ -1,5 +1,5 @@
 use Rattle.std.proofs.Common.{arith, sym, ◌∙◌, ◌≡◌, ◌<◌, ◌≤◌, Some, None, subst}
-use Rattle.irig_vcd.specs.declared.pulse.Pulse.{Pulse}
+use Rattle.irig_recording.specs.declared.pulse.Pulse.{Pulse}
 use Rattle.irig_track.specs.Sides.{Took, ReachesFrom}
 use Rattle.irig_track.proofs.Turns.{begun_none, begun_rise, begun_fall, begun_both}
 use Rattle.irig_track.proofs.toggle.begin.Goals as goal

@@ -1,5 +1,5 @@
 use Rattle.std.proofs.Common.{arith, sym, ◌∙◌, ◌≡◌, Some, None, ap}
-use Rattle.irig_vcd.specs.declared.pulse.Pulse.{Pulse}
+use Rattle.irig_recording.specs.declared.pulse.Pulse.{Pulse}
 use Rattle.irig_track.specs.Sides.{right_of}
 use Rattle.irig_track.proofs.Turns.{NotHere, finished_some, finished_below, finished_above, finished_at}
 use Rattle.irig_track.proofs.toggle.finish.Goals as goal

@@ -1,5 +1,5 @@
 use Rattle.std.proofs.Common.{arith, sym, ◌∙◌, ◌+◌, subst}
-use Rattle.irig_vcd.specs.Recording.{RisesFrom}
+use Rattle.irig_recording.specs.Recording.{RisesFrom}
 use Rattle.irig_track.proofs.RisingLists.{RisesFrom-flipped, Under-more}
 use Rattle.irig_track.proofs.Turns.{stays_then, stays_up}
 use Rattle.irig_track.proofs.toggle.toggle_right.Goals as goal

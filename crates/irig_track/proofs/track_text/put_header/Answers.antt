@@ -1,5 +1,5 @@
 use Rattle.std.proofs.Common.{◌++◌, ap, sym, ◌∙◌, List, ℕ, append_assoc}
-use Rattle.irig_vcd.specs.FileText.{header_text}
+use Rattle.irig_recording.specs.FileText.{header_text}
 use Rattle.irig_track.specs.Texts.{lines_after, still_to_come}
 use Rattle.irig_track.proofs.Texts.{text_by_pulses}
 use Rattle.irig_track.proofs.track_text.put_header.Goals as goal

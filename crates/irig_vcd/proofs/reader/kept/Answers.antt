@@ -1,6 +1,6 @@
 use Rattle.std.proofs.Common.{◌∙◌, ◌≤◌, length, Ok, ap, sym, subst}
-use Rattle.irig_vcd.specs.Recording.{IsRecording, recording_view}
-use Rattle.irig_vcd.proofs.RecordingLemmas.{not_full}
+use Rattle.irig_recording.specs.Recording.{IsRecording, recording_view}
+use Rattle.irig_recording.proofs.RecordingLemmas.{not_full}
 use Rattle.irig_vcd.proofs.WholeDump.{few_edges, few_enough, is_lawful}
 use Rattle.irig_vcd.proofs.reader.kept.Goals as goal
 

@@ -2,7 +2,7 @@ use Rattle.std.proofs.Common.{ap, ◌∙◌, arith}
 use Rattle.irig_codes.specs.Encoding.{encoded}
 use Rattle.irig_codes.specs.declared.fields.Fields.{Fields}
 use Rattle.irig_gap.specs.Items.{GapView}
-use Rattle.irig_vcd.specs.declared.pulse.Pulse.{Pulse}
+use Rattle.irig_recording.specs.declared.pulse.Pulse.{Pulse}
 use Rattle.irig_edit.specs.Edits.Regenerated.{frame_elements}
 use Rattle.irig_edit.proofs.EditLemmas.GeneratedPulses.{frames_last, frames_room, frames_step, index_le, index_end}
 use Rattle.irig_edit.proofs.edits.frames.pulses_of.Goals as goal

@@ -1,5 +1,5 @@
 use Rattle.std.proofs.Common.{List, length, ap, sym, ◌∙◌, arith}
-use Rattle.irig_vcd.specs.declared.pulse.Pulse.{Pulse}
+use Rattle.irig_recording.specs.declared.pulse.Pulse.{Pulse}
 use Rattle.irig_edit.proofs.StateLemmas.Risings.{before-zero, risen-before}
 use Rattle.irig_edit.proofs.edits.regen.rising_before.Goals as goal
 

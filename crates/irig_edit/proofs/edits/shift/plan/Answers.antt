@@ -1,6 +1,6 @@
 use Rattle.std.proofs.Common.{suc, ℕ, rules, ◌≡◌, ◌+◌, ◌-◌, ℤ, neg_ℤ, List, Bool, length, map, ap, sym, ◌∙◌, subst, to_z, of_z, w64, arith, ◌≤◌}
 use Rattle.std.proofs.lemmas.Int.{to_z-of_z}
-use Rattle.irig_vcd.specs.declared.pulse.Pulse.{Pulse}
+use Rattle.irig_recording.specs.declared.pulse.Pulse.{Pulse}
 use Rattle.irig_track.specs.Shifts.{CanShift, count_to}
 use Rattle.irig_edit.specs.Edits.Becoming.{Becomes}
 use Rattle.irig_edit.specs.Session.Calls.Edit.{Shift}

@@ -1,5 +1,5 @@
 use Rattle.std.proofs.Common.{ap, ◌∙◌}
-use Rattle.irig_vcd.specs.FileText.{begins_high}
+use Rattle.irig_recording.specs.FileText.{begins_high}
 use Rattle.irig_track.specs.Edges.{edges_of}
 use Rattle.irig_track.specs.Track.{TrackView}
 use Rattle.irig_track.proofs.Texts.{first_high}

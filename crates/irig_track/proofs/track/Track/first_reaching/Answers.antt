@@ -1,5 +1,5 @@
 use Rattle.std.proofs.Common.{arith, sym, ◌≡◌, ◌∙◌, subst, ap, ◌-◌, ◌<◌, slice_get, Some}
-use Rattle.irig_vcd.specs.declared.pulse.Pulse.{Pulse}
+use Rattle.irig_recording.specs.declared.pulse.Pulse.{Pulse}
 use Rattle.irig_track.proofs.Searches.{ended_at_last, ended_all}
 use Rattle.irig_track.proofs.track.Track.first_reaching.Goals as goal
 use Rattle.irig_track.proofs.track.Track.first_reaching.Goals.{else-risen-gt0-via-then-risen-gt0+else-pulse-time, else-risen-gt0-via-else-risen-gt0}

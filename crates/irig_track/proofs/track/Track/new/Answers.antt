@@ -1,5 +1,5 @@
 use Rattle.std.proofs.Common.{◌≡◌, ◌∙◌, ap, arith, length, sym, subst}
-use Rattle.irig_vcd.specs.Recording.{IsRecording}
+use Rattle.irig_recording.specs.Recording.{IsRecording}
 use Rattle.irig_track.specs.Edges.{edges_of}
 use Rattle.irig_track.specs.Track.{IsTrack}
 use Rattle.irig_track.proofs.Recordings.{track_of}

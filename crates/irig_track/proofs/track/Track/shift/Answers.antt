@@ -2,7 +2,7 @@ use Rattle.std.proofs.Common.{rules, arith, sym, ◌≡◌, ◌∙◌, subst, ap
 use Rattle.std.proofs.lemmas.Int.{to_z-of_z}
 use Rattle.std.proofs.lemmas.List.{length-map}
 use Rattle.irig_gap.specs.Items.{GapView}
-use Rattle.irig_vcd.specs.declared.pulse.Pulse.{Pulse}
+use Rattle.irig_recording.specs.declared.pulse.Pulse.{Pulse}
 use Rattle.irig_track.specs.Edges.{edges_of, is_edge, replaced}
 use Rattle.irig_track.specs.Shifts.{moved, moved_pulse, count_to, ahead, back, shifted}
 use Rattle.irig_track.specs.Splices.{spliced, piece, IsSpan}

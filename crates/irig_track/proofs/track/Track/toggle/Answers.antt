@@ -1,6 +1,6 @@
 use Rattle.std.proofs.Common.{rules, arith, sym, ◌≡◌, ◌∙◌, subst, ap, ◌-◌, take, drop}
 use Rattle.irig_gap.specs.Items.{GapView}
-use Rattle.irig_vcd.specs.declared.pulse.Pulse.{Pulse}
+use Rattle.irig_recording.specs.declared.pulse.Pulse.{Pulse}
 use Rattle.irig_track.specs.Edges.{is_edge, inverted, edges_of, Under}
 use Rattle.irig_track.specs.Toggles.{toggled, CanToggle}
 use Rattle.irig_track.specs.Splices.{IsSpan, ended_before}

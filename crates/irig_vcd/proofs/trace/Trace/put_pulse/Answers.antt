@@ -1,5 +1,5 @@
 use Rattle.std.proofs.Common.{refl, ap, ◌∙◌}
-use Rattle.irig_vcd.specs.Recording.{is_even_long}
+use Rattle.irig_recording.specs.Recording.{is_even_long}
 use Rattle.irig_vcd.proofs.Lawful.{even-push_two}
 use Rattle.irig_vcd.proofs.PulseSteps.{pulse_put}
 use Rattle.irig_vcd.proofs.trace.Trace.put_pulse.Goals as goal

@@ -5,7 +5,7 @@ use Rattle.irig_journal.specs.Journal.{future_of, past_of, told}
 use Rattle.irig_saved.specs.Lines.{numbered, text_of}
 use Rattle.irig_saved.specs.SavedText.{counted_lines, head_lines, steps_lines}
 use Rattle.irig_saved.specs.declared.step.Step.{Step}
-use Rattle.irig_vcd.specs.FileText.{file_text}
+use Rattle.irig_recording.specs.FileText.{file_text}
 use Rattle.irig_saved.specs.declared.change.Change.{Change}
 use Rattle.irig_edit.specs.Changes.Held.{delta_of, deltas_of}
 use Rattle.irig_edit.specs.Session.Keeping.{machine_at}

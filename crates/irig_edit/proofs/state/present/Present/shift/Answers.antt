@@ -3,7 +3,7 @@ use Rattle.std.proofs.lemmas.Int.{to_z-of_z}
 use Rattle.irig_index.specs.Frames.{frames}
 use Rattle.irig_track.specs.Looks.{LensView}
 use Rattle.irig_track.specs.Shifts.{CanShift, shifted}
-use Rattle.irig_vcd.specs.declared.pulse.Pulse.{Pulse}
+use Rattle.irig_recording.specs.declared.pulse.Pulse.{Pulse}
 use Rattle.irig_edit.specs.State.Marks.{marks_moved}
 use Rattle.irig_edit.specs.State.Places.{HoldsState, places_in}
 use Rattle.irig_edit.specs.State.Present.{PresentView, state_in}

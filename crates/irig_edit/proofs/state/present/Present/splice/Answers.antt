@@ -2,7 +2,7 @@ use Rattle.std.proofs.Common.{List, ap, length, sym, subst, arith}
 use Rattle.irig_index.specs.Frames.{frames}
 use Rattle.irig_track.specs.Looks.{LensView}
 use Rattle.irig_track.specs.Splices.{CanSplice, spliced}
-use Rattle.irig_vcd.specs.declared.pulse.Pulse.{Pulse}
+use Rattle.irig_recording.specs.declared.pulse.Pulse.{Pulse}
 use Rattle.irig_track.proofs.Carried.{length-spliced}
 use Rattle.irig_edit.specs.State.Places.{HoldsState, places_in}
 use Rattle.irig_edit.specs.State.Present.{PresentView}

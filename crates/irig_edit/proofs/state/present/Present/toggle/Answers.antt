@@ -3,7 +3,7 @@ use Rattle.irig_index.specs.Frames.{frames}
 use Rattle.irig_track.specs.Edges.{edges_of}
 use Rattle.irig_track.specs.Looks.{LensView}
 use Rattle.irig_track.specs.Toggles.{toggled}
-use Rattle.irig_vcd.specs.declared.pulse.Pulse.{Pulse}
+use Rattle.irig_recording.specs.declared.pulse.Pulse.{Pulse}
 use Rattle.irig_edit.specs.Changes.Laws.Edges.{pulses_of-edges_of}
 use Rattle.irig_edit.specs.State.Places.{HoldsState, places_in}
 use Rattle.irig_edit.specs.State.Present.{PresentView, state_in}

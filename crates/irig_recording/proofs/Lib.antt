@@ -1,0 +1,9 @@
+-- Pulses and their edges.
+pub mod RecordingLemmas
+pub mod PulseEdges
+-- The text of a recording, and the lines of one pulse.
+pub mod TextParts
+pub mod TextLength
+pub mod WrittenText
+pub mod PulseText
+pub mod CountedUp

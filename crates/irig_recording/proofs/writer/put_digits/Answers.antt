@@ -1,0 +1,26 @@
+use Rattle.std.proofs.Common.{◌≡◌, ◌≤◌, ◌+◌, ◌-◌, ◌∷◌, ◌∙◌, length, decimal, drop, List, ℕ, arith, ap, lit<}
+use Rattle.std.proofs.lemmas.Fmt.{length-decimal-le}
+use Rattle.std.proofs.lemmas.List.{drop-set}
+use Rattle.irig_recording.proofs.writer.put_digits.Goals as goal
+
+pub write_digits-start-requires : goal.write_digits-start-requires
+write_digits-start-requires c =
+    let few : length (decimal c.args.time) ≤ 20 = length-decimal-le 20 c.args.time (lit< tt) (omega arith) (omega arith) in
+    (omega arith, c.requires.room)
+
+pub overflow_sub-start : goal.overflow_sub-start
+overflow_sub-start c =
+    let few : length (decimal c.args.time) ≤ 20 = length-decimal-le 20 c.args.time (lit< tt) (omega arith) (omega arith) in
+    omega arith
+
+pub returns-clause-written : goal.returns-clause-written
+returns-clause-written c =
+    let few : length (decimal c.args.time) ≤ 20 = length-decimal-le 20 c.args.time (lit< tt) (omega arith) (omega arith) in
+    let next : c.write_digits-start.result - 1 + 1 ≡ c.write_digits-start.result = omega arith in
+    drop-set c.write_digits-start.new.buf (c.write_digits-start.result - 1) 35 (omega arith)
+    ∙ ap (λ (l : List ℕ). 35 ∷ l) (ap (λ n. drop n c.write_digits-start.new.buf) next ∙ c.write_digits-start.ensures.written)
+
+pub returns-clause-start : goal.returns-clause-start
+returns-clause-start c =
+    let few : length (decimal c.args.time) ≤ 20 = length-decimal-le 20 c.args.time (lit< tt) (omega arith) (omega arith) in
+    omega arith

@@ -1,0 +1,143 @@
+//! Edges that are kept as pulses.
+
+ghost use Rattle.std.specs.Prelude.{◌≡◌, ◌≤◌, ◌<◌, ◌+◌, ◌^◌, ◌↔◌, ◌∷◌, [], ◌++◌, true, false, not};
+ghost use Rattle.std.specs.Prelude.{◌*◌, length, vec_capacity, vec_len, IsTrue, OnErr, OnOk};
+ghost use Rattle.irig_recording.specs.Edges.{edges_kept};
+ghost use Rattle.irig_recording.specs.Pulses.{edges_of};
+ghost use Rattle.irig_recording.specs.Recording.{is_even_long};
+
+use crate::pulse::Pulse;
+use std::alloc::{AllocError, Global};
+use std::marker::Model;
+
+/// The most pulses of a recording.
+const PULSES_LIMIT: usize = 1 << 22;
+
+/// How many pulses a first block has room for.
+const FIRST_ROOM: usize = 1024;
+
+/// The times at which a level rises and falls in turn, in microseconds. At most one more is kept
+/// than a recording may have.
+#[derive(Drop)]
+pub struct Edges {
+    pulses: Vec<Pulse>,
+    is_open: bool,
+    rise: u64,
+}
+
+impl Model for Edges {
+    ghost use Rattle.std.specs.Prelude.{ℕ, List, length, vec_capacity, vec_len, ◌≤◌, ◌^◌, ◌*◌};
+    ghost use Rattle.std.specs.Prelude.{◌+◌};
+    ghost use Rattle.irig_recording.specs.Edges.{kept_edges};
+
+    ghost Value = { List ℕ };
+
+    ghost view = { λ e. kept_edges e.pulses.items e.is_open e.rise };
+
+    ghost invariant = { λ e. (length e.pulses.items ≤ 2 ^ 22)
+        × (vec_capacity e.pulses ≤ 2 * vec_len e.pulses + 1024) };
+}
+
+impl Edges {
+    /// No edges.
+    pub fn new(alloc: Global) -> Edges
+        ensures { result ≡ [] }
+    {
+        Edges {
+            pulses: Vec::new(alloc),
+            is_open: false,
+            rise: 0,
+        }
+    }
+
+    /// Whether the last edge is a rise.
+    pub fn is_open(&self) -> bool
+        ensures { result ≡ not (is_even_long self.now) }
+    {
+        self.is_open
+    }
+
+    /// Whether there is one edge more than a recording may have.
+    pub fn is_full(&self) -> bool
+        ensures { IsTrue result ↔ (2 ^ 23 < length self.now) }
+    {
+        self.is_open && self.pulses.len() == PULSES_LIMIT
+    }
+
+    /// Whether two edges more are kept.
+    #[inline(always)]
+    pub fn has_room(&self) -> bool
+        ensures { result ≡ true ↔ (length self.now + 2 ≤ edges_kept) }
+    {
+        self.pulses.len() < PULSES_LIMIT
+    }
+
+    /// Adds an edge after the others. Only a fall takes memory.
+    pub fn push(&mut self, edge: u64) -> Result<(), AllocError>
+        requires { length self.old ≤ 2 ^ 23 }
+        ensures { OnOk result (self.new ≡ self.old ++ edge ∷ []) }
+    {
+        if self.is_open {
+            let rise = self.rise;
+            put(&mut self.pulses, Pulse { rise, fall: edge })?;
+            self.is_open = false;
+        } else {
+            self.rise = edge;
+            self.is_open = true;
+        }
+        Ok(())
+    }
+
+    /// Adds a fall and the next rise after the others.
+    #[inline(always)]
+    pub fn close_and_open(&mut self, fall: u64, rise: u64) -> Result<(), AllocError>
+        requires risen { is_even_long self.old ≡ false }
+        requires room { length self.old + 2 ≤ edges_kept }
+        ensures { OnOk result (self.new ≡ self.old ++ fall ∷ rise ∷ []) }
+    {
+        let last = self.rise;
+        put(&mut self.pulses, Pulse { rise: last, fall })?;
+        self.rise = rise;
+        Ok(())
+    }
+
+    /// The pulses of the edges, none of which is copied.
+    pub fn into_pulses(self) -> Vec<Pulse>
+        requires { is_even_long self ≡ true }
+        ensures edges { edges_of result.items ≡ self }
+        ensures room { vec_capacity result ≤ 2 * vec_len result + 1024 }
+    {
+        self.pulses
+    }
+}
+
+/// Adds a pulse after the others.
+#[inline(always)]
+fn put(pulses: &mut Vec<Pulse>, pulse: Pulse) -> Result<(), AllocError>
+    requires few { vec_len pulses.old ≤ 2 ^ 22 }
+    requires room { vec_capacity pulses.old ≤ 2 * vec_len pulses.old + 1024 }
+    ensures put { OnOk result (pulses.new.items ≡ pulses.old.items ++ pulse ∷ []) }
+    ensures refused { OnErr result (pulses.new.items ≡ pulses.old.items) }
+    ensures room { vec_capacity pulses.new ≤ 2 * vec_len pulses.new + 1024 }
+{
+    if pulses.len() == pulses.capacity() {
+        grow(pulses)?;
+    }
+    pulses.push_reserved(pulse);
+    Ok(())
+}
+
+/// Makes a full block twice as large, and adds the room of a first block. It never has more room
+/// than the most pulses and a first block.
+#[inline(never)]
+fn grow(pulses: &mut Vec<Pulse>) -> Result<(), AllocError>
+    requires few { vec_len pulses.old ≤ 2 ^ 22 }
+    requires full { vec_capacity pulses.old ≡ vec_len pulses.old }
+    ensures items { pulses.new.items ≡ pulses.old.items }
+    ensures grown { OnOk result (vec_len pulses.new < vec_capacity pulses.new) }
+    ensures room { vec_capacity pulses.new ≤ 2 * vec_len pulses.new + 1024 }
+{
+    let more = pulses.len() + FIRST_ROOM;
+    let left = PULSES_LIMIT + FIRST_ROOM - pulses.len();
+    pulses.reserve_exact(more.min(left))
+}

@@ -1,0 +1,13 @@
+//! Recordings of a digital wire: how long one is, its pulses, and the text of its dump.
+#![tactic(auto)]
+
+mod edges;
+mod kept_pulse;
+mod pulse;
+mod recording;
+mod writer;
+
+pub use edges::Edges;
+pub use pulse::Pulse;
+pub use recording::Recording;
+pub use writer::{TextWriter, text};

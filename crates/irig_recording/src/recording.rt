@@ -1,0 +1,137 @@
+//! A length and the pulses of a level.
+
+ghost use Rattle.std.specs.Prelude.{◌≡◌, ◌≤◌, ◌↔◌, ◌^◌, IsTrue, IsSome, IfOk, IfSome, OnErr};
+ghost use Rattle.std.specs.Prelude.{true, length, vec_capacity, vec_len, ◌≢◌, ◌*◌, ◌+◌, []};
+ghost use Rattle.irig_recording.specs.Pulses.{edges_of};
+ghost use Rattle.irig_recording.specs.Recording.{IsRecording, RecordingView, RisesFrom, UpTo};
+ghost use Rattle.irig_recording.specs.Recording.{is_even_long, recording_view};
+
+use crate::edges::Edges;
+use crate::pulse::Pulse;
+use std::alloc::{AllocError, Global};
+use std::marker::Model;
+
+/// The most microseconds of a recording.
+pub const LENGTH_LIMIT: u64 = 1 << 40;
+
+/// The most edges of a recording: two for each of 2^22 pulses.
+const EDGES_LIMIT: usize = 1 << 23;
+
+/// What is kept of one wire: a length, and the pulses, whose edges are the times at which the level
+/// changes, all in microseconds.
+#[derive(Drop)]
+pub struct Recording {
+    micros: u64,
+    pulses: Vec<Pulse>,
+}
+
+impl Model for Recording {
+    ghost Value = { RecordingView };
+
+    ghost view = { λ r. recording_view r.micros (edges_of r.pulses.items) };
+
+    ghost invariant = { λ r. IsRecording r.micros (edges_of r.pulses.items)
+        × (vec_capacity r.pulses ≤ 2 * vec_len r.pulses + 1024) };
+}
+
+impl Recording {
+    /// The recording of a length and edges, both in microseconds, if they make one. The edges have
+    /// to rise, to be even in number, at most 2^23, none of them above the length, and the length
+    /// at most 2^40.
+    pub fn new(alloc: Global, length: u64, edges: &[u64]) -> Result<Option<Recording>, AllocError>
+        ensures accepted { IfOk result (λ r. IsSome r ↔ IsRecording length edges.now) }
+        ensures view { IfOk result (λ r. IfSome r (λ made.
+            made ≡ recording_view length edges.now)) }
+        ensures refused { OnErr result (IsRecording length edges.now × (edges.now ≢ [])) }
+    {
+        if !is_recording(length, edges) {
+            return Ok(None);
+        }
+        let pulses = pulses_of(alloc, edges)?;
+        Ok(Some(Recording::from_parts(length, pulses)))
+    }
+
+    /// The recording of a length and pulses, both in microseconds, that are known to make one, in
+    /// a block that is not much larger.
+    pub fn from_parts(length: u64, pulses: Vec<Pulse>) -> Recording
+        requires lawful { IsRecording length (edges_of pulses.items) }
+        requires room { vec_capacity pulses ≤ 2 * vec_len pulses + 1024 }
+        ensures { result ≡ recording_view length (edges_of pulses.items) }
+    {
+        Recording {
+            micros: length,
+            pulses,
+        }
+    }
+
+    /// How long the recording is, in microseconds.
+    pub fn length(&self) -> u64
+        ensures exact { result ≡ self.now.micros }
+        ensures lawful { IsRecording self.now.micros self.now.edges }
+    {
+        self.micros
+    }
+
+    /// The pulses, in order.
+    pub fn pulses(&self) -> &[Pulse]
+        ensures exact { edges_of result.now ≡ self.now.edges }
+        ensures lawful { IsRecording self.now.micros self.now.edges }
+    {
+        self.pulses.as_slice()
+    }
+
+    /// The pulses, in order, without a copy. Their block is not much larger.
+    pub fn into_pulses(self) -> Vec<Pulse>
+        ensures exact { edges_of result.items ≡ self.edges }
+        ensures room { vec_capacity result ≤ 2 * vec_len result + 1024 }
+        ensures lawful { IsRecording self.micros self.edges }
+    {
+        self.pulses
+    }
+}
+
+/// The pulses of edges.
+fn pulses_of(alloc: Global, edges: &[u64]) -> Result<Vec<Pulse>, AllocError>
+    requires few { length edges.now ≤ 2 ^ 23 }
+    requires even { is_even_long edges.now ≡ true }
+    ensures edges { IfOk result (λ pulses. edges_of pulses.items ≡ edges.now) }
+    ensures room { IfOk result (λ pulses. vec_capacity pulses ≤ 2 * vec_len pulses + 1024) }
+    ensures refused { OnErr result (edges.now ≢ []) }
+{
+    let mut kept = Edges::new(alloc);
+    for edge in edges {
+        kept.push(*edge)?;
+    }
+    Ok(kept.into_pulses())
+}
+
+/// Whether these are the length and the edges of a recording.
+fn is_recording(length: u64, edges: &[u64]) -> bool
+    ensures { IsTrue result ↔ IsRecording length edges.now }
+{
+    if length > LENGTH_LIMIT {
+        return false;
+    }
+    if edges.len() > EDGES_LIMIT {
+        return false;
+    }
+    if edges.len() % 2 != 0 {
+        return false;
+    }
+    is_rising(length, edges)
+}
+
+/// Whether each edge is above the one before it, and none above the length.
+fn is_rising(length: u64, edges: &[u64]) -> bool
+    requires { length ≤ 2 ^ 40 }
+    ensures { IsTrue result ↔ (RisesFrom 0 edges.now × UpTo length edges.now) }
+{
+    let mut low = 0;
+    for edge in edges {
+        if *edge < low || *edge > length {
+            return false;
+        }
+        low = *edge + 1;
+    }
+    true
+}

@@ -1,0 +1,219 @@
+//! A recording is written.
+
+ghost use Rattle.std.specs.Prelude.{◌≡◌, ◌≤◌, ◌<◌, ◌^◌, ◌+◌, ◌/◌, true, false, ◌++◌, ◌∷◌};
+ghost use Rattle.std.specs.Prelude.{OnOk, IfOk, length, drop, decimal};
+ghost use Rattle.std.specs.Prelude.{vec_capacity, vec_len, IsOk};
+ghost use Rattle.irig_recording.specs.FileText.{EndsLines, begins_high, file_text, head_text};
+ghost use Rattle.irig_recording.specs.FileText.{header_text, length_line, level_line, lines_at};
+ghost use Rattle.irig_recording.specs.FileText.{time_line};
+ghost use Rattle.irig_recording.specs.Pulses.{edges_of};
+
+use crate::kept_pulse::KeptPulse;
+use crate::pulse::Pulse;
+use crate::recording::Recording;
+use itoa::write_digits;
+use std::alloc::{AllocError, Global};
+use std::marker::Model;
+
+/// Writes the text of a dump, edge by edge, after the bytes of a text that the caller has.
+#[derive(Drop)]
+pub struct TextWriter {
+    line: [u8; 48],
+    pulse: KeptPulse,
+    last: u64,
+}
+
+impl Model for TextWriter {
+    ghost use Rattle.irig_recording.specs.KeptPulse.{HoldsPulse};
+    ghost use Rattle.irig_recording.specs.FileText.{WriterView, writer_view, EndsLines};
+
+    ghost Value = { WriterView };
+
+    ghost view = { λ w. writer_view w.last };
+
+    ghost invariant = { λ w. EndsLines w.line × HoldsPulse w.pulse };
+}
+
+impl TextWriter {
+    /// A writer that has written nothing. It takes no memory.
+    pub fn new() -> TextWriter
+        ensures { result.last ≡ 0 }
+    {
+        let line = *b"                     \n0!\n                       ";
+        TextWriter {
+            line,
+            pulse: KeptPulse::new(),
+            last: 0,
+        }
+    }
+
+    /// Begins a text: writes the lines before the first edge above 0. `high` says that an edge is
+    /// at 0.
+    pub fn begin(&mut self, text: &mut Vec<u8>, high: bool) -> Result<(), AllocError>
+        ensures text { OnOk result (text.new.items ≡ text.old.items ++ header_text high) }
+        ensures last { self.new.last ≡ 0 }
+        ensures enough { vec_len text.old + 125 ≤ vec_capacity text.old → IsOk result }
+        ensures keeps { vec_capacity text.old ≤ vec_capacity text.new }
+    {
+        self.last = 0;
+        put_header(text, high)
+    }
+
+    /// Writes the lines of an edge, in microseconds, from which on the level is high or low.
+    #[inline(always)]
+    pub fn put_edge(&mut self, text: &mut Vec<u8>, edge: u64, high: bool) -> Result<(), AllocError>
+        ensures text { OnOk result (text.new.items ≡ text.old.items ++ lines_at high edge) }
+        ensures last { OnOk result (self.new.last ≡ edge) }
+        ensures enough { edge ≤ 2 ^ 40 → vec_len text.old + 25 ≤ vec_capacity text.old →
+            IsOk result × (vec_len text.new ≤ vec_len text.old + 18) }
+        ensures keeps { vec_capacity text.old ≤ vec_capacity text.new }
+    {
+        self.last = edge;
+        if edge == 0 {
+            return Ok(());
+        }
+        put_lines(text, &mut self.line, edge, high)
+    }
+
+    /// Writes the lines of a pulse: the level is high from its rise on and low from its fall on, in
+    /// microseconds. Most times have the last pulse's digits in front of the last four, or have
+    /// them after one digit counts up. Then only the last four are written.
+    #[inline(always)]
+    pub fn put_pulse(&mut self, text: &mut Vec<u8>, rise: u64, fall: u64) -> Result<(), AllocError>
+        ensures text { OnOk result
+            (text.new.items ≡ text.old.items ++ lines_at true rise ++ lines_at false fall) }
+        ensures last { OnOk result (self.new.last ≡ fall) }
+        ensures enough { rise ≤ 2 ^ 40 → fall ≤ 2 ^ 40 →
+            vec_len text.old + 48 ≤ vec_capacity text.old →
+            IsOk result × (vec_len text.new ≤ vec_len text.old + 36) }
+        ensures keeps { vec_capacity text.old ≤ vec_capacity text.new }
+    {
+        if !self.pulse.catch_up(rise, fall) {
+            if !share_front(rise, fall) {
+                self.put_edge(text, rise, true)?;
+                return self.put_edge(text, fall, false);
+            }
+            self.pulse.renew(&mut self.line, rise);
+        }
+        self.last = fall;
+        self.pulse.put(text, rise, fall)
+    }
+
+    /// Writes the line of the length, in microseconds, unless an edge is there.
+    pub fn finish(&self, text: &mut Vec<u8>, length: u64) -> Result<(), AllocError>
+        ensures text { OnOk result
+            (text.new.items ≡ text.old.items ++ length_line self.now.last length) }
+        ensures enough { length ≤ 2 ^ 40 → vec_len text.old + 15 ≤ vec_capacity text.old →
+            IsOk result }
+        ensures keeps { vec_capacity text.old ≤ vec_capacity text.new }
+    {
+        if self.last == length {
+            return Ok(());
+        }
+        put_time(text, length)
+    }
+}
+
+/// The canonical dump of a recording, as `docs/FORMATS.md` says: nine lines, two for each edge
+/// above 0, and one for the length if no edge is there. `read` gives the recording back.
+pub fn text(alloc: Global, recording: &Recording) -> Result<Vec<u8>, AllocError>
+    ensures written { IfOk result (λ text. text.items ≡ file_text recording.now) }
+    ensures short { IfOk result (λ text. length text.items ≤ 2 ^ 28) }
+{
+    let mut text = Vec::with_capacity(alloc, 36 * recording.pulses().len() + 140)?;
+    put_text(&mut text, recording)?;
+    Ok(text)
+}
+
+/// Writes the text of a recording.
+fn put_text(text: &mut Vec<u8>, recording: &Recording) -> Result<(), AllocError>
+    ensures { OnOk result (text.new.items ≡ text.old.items ++ file_text recording.now) }
+{
+    let pulses = recording.pulses();
+    let mut writer = TextWriter::new();
+    writer.begin(text, begins_high(pulses))?;
+    for pulse in pulses {
+        writer.put_pulse(text, pulse.rise, pulse.fall)?;
+    }
+    writer.finish(text, recording.length())
+}
+
+/// Whether two times of 5 to 15 digits have the same ones in front of the last four.
+fn share_front(rise: u64, fall: u64) -> bool
+    ensures same { result ≡ true → rise / 10000 ≡ fall / 10000 }
+    ensures some { result ≡ true → 10000 ≤ rise }
+    ensures few { result ≡ true → rise < 10 ^ 15 }
+{
+    10000 <= rise && rise < 1_000_000_000_000_000 && rise / 10000 == fall / 10000
+}
+
+/// Whether the first pulse rises at 0.
+fn begins_high(pulses: &[Pulse]) -> bool
+    ensures { result ≡ begins_high (edges_of pulses.now) }
+{
+    match pulses {
+        [first, ..] => first.rise == 0,
+        [] => false,
+    }
+}
+
+/// Writes the lines before the first edge above 0.
+#[tactic(auto, unfolding(crate::specs::FileText::head_text))]
+fn put_header(text: &mut Vec<u8>, high: bool) -> Result<(), AllocError>
+    ensures text { OnOk result (text.new.items ≡ text.old.items ++ header_text high) }
+    ensures enough { vec_len text.old + 125 ≤ vec_capacity text.old → IsOk result }
+    ensures keeps { vec_capacity text.old ≤ vec_capacity text.new }
+{
+    text.extend_from_slice(
+        b"$timescale 1 us $end\n$scope module irig $end\n$var wire 1 ! code $end\n\
+        $upscope $end\n$enddefinitions $end\n#0\n$dumpvars\n",
+    )?;
+    let line = [b'0' + high as u8, b'!', b'\n'];
+    text.extend_from_slice(&line)?;
+    text.extend_from_slice(b"$end\n")?;
+    Ok(())
+}
+
+/// Writes the two lines of an edge, by a buffer in which the time ends at 21. A fixed number of
+/// bytes is written, which is fast. Those too many are removed.
+#[inline(always)]
+fn put_lines(text: &mut Vec<u8>, line: &mut [u8], edge: u64, high: bool) -> Result<(), AllocError>
+    requires room { 48 ≤ length line.old }
+    requires lines { EndsLines line.old }
+    ensures text { OnOk result
+        (text.new.items ≡ text.old.items ++ (time_line edge ++ level_line high)) }
+    ensures enough { vec_len text.old + 25 ≤ vec_capacity text.old → IsOk result }
+    ensures keeps { vec_capacity text.old ≤ vec_capacity text.new }
+    ensures lines { EndsLines line.new }
+{
+    line[22] = b'0' + high as u8;
+    let start = put_digits(line, edge);
+    let len = text.len();
+    text.extend_from_slice(&line[start..start + 25])?;
+    text.truncate(len + (25 - start));
+    Ok(())
+}
+
+/// Writes a number sign and the digits of a time so that they end at 21. Returns where they start.
+pub(crate) fn put_digits(line: &mut [u8], time: u64) -> usize
+    requires room { 21 ≤ length line.old }
+    ensures within { result ≤ length line.new }
+    ensures start { result + 1 + length (decimal time) ≡ 21 }
+    ensures written { drop result line.new ≡ 35 ∷ decimal time ++ drop 21 line.old }
+{
+    let start = write_digits(time, line, 21) - 1;
+    line[start] = b'#';
+    start
+}
+
+/// Writes the line that sets a time, in microseconds.
+fn put_time(text: &mut Vec<u8>, time: u64) -> Result<(), AllocError>
+    ensures text { OnOk result (text.new.items ≡ text.old.items ++ time_line time) }
+    ensures enough { time ≤ 2 ^ 40 → vec_len text.old + 15 ≤ vec_capacity text.old → IsOk result }
+    ensures keeps { vec_capacity text.old ≤ vec_capacity text.new }
+{
+    let mut line = *b"                     \n";
+    let start = put_digits(&mut line, time);
+    text.extend_from_slice(&line[start..])?;
+    Ok(())
+}
