@@ -1,4 +1,3 @@
-pub mod ScriptLemmas
 pub mod ObeyLemmas
 pub mod LawLemmas
 pub mod PrintLemmas

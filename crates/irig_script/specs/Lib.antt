@@ -1,4 +1,3 @@
-pub mod Script
 pub mod Obey
 pub mod Print
 pub mod Shelf

@@ -1,7 +1,7 @@
 //! What holds of lines and of the runs of scripts.
 
 ghost use Rattle.irig_edit.specs.Opened.GoingOn.{IsShort};
-ghost use Rattle.irig_script.specs.Script.OneCommand.{OneCommand};
+ghost use Rattle.irig_lines.specs.OneCommand.{OneCommand};
 ghost use Rattle.irig_script.specs.Obey.OneDumpRun.{OneDumpRun};
 ghost use Rattle.irig_script.specs.Obey.OneRun.{OneRun};
 ghost use Rattle.irig_script.specs.Obey.SavedRun.{RunsOn};

@@ -3,6 +3,7 @@
 pub mod calls;
 pub mod dump_run;
 pub mod engine;
+pub mod line;
 pub mod obeying;
 pub mod pulse_numbers;
 pub mod status;

@@ -18,15 +18,15 @@ use Rattle.irig_script.specs.Obey.Obeying.{Obeys}
 use Rattle.irig_script.specs.Obey.Replies.{Calls, Formats, Lists, Shows, Writes, dump_text, format, reply_to}
 use Rattle.irig_script.specs.Obey.OneRun.{tells_failed_put, wants_memory}
 use Rattle.irig_script.specs.Obey.PulseNumbers.{base_of, counted, first_of, join_last_of, last_of, number_at, pulse_at, time_of}
-use Rattle.irig_script.specs.declared.script.address.Address.{Address}
-use Rattle.irig_script.specs.declared.script.address.Base.{Base}
-use Rattle.irig_script.specs.declared.script.address.Base.TheVariants.{Number, Current, Last, Mark}
-use Rattle.irig_script.specs.declared.script.command.Command.{Command}
-use Rattle.irig_script.specs.declared.script.command.Command.TheVariants as command
-use Rattle.irig_script.specs.declared.script.range.Range.{Range}
-use Rattle.irig_script.specs.declared.script.range.Range.TheVariants.{One, Two}
-use Rattle.irig_script.specs.declared.script.time.Time.{Time}
-use Rattle.irig_script.specs.declared.script.time.Time.TheVariants as time
+use Rattle.irig_lines.specs.declared.address.Address.{Address}
+use Rattle.irig_lines.specs.declared.address.Base.{Base}
+use Rattle.irig_lines.specs.declared.address.Base.TheVariants.{Number, Current, Last, Mark}
+use Rattle.irig_lines.specs.declared.command.Command.{Command}
+use Rattle.irig_lines.specs.declared.command.Command.TheVariants as command
+use Rattle.irig_lines.specs.declared.range.Range.{Range}
+use Rattle.irig_lines.specs.declared.range.Range.TheVariants.{One, Two}
+use Rattle.irig_lines.specs.declared.time.Time.{Time}
+use Rattle.irig_lines.specs.declared.time.Time.TheVariants as time
 use Rattle.irig_script.specs.declared.print.reply.Reply.{Reply}
 use Rattle.irig_script.specs.declared.print.reply.Reply.TheVariants as told
 

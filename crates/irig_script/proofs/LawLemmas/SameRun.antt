@@ -15,12 +15,12 @@ use Rattle.irig_script.specs.Obey.Replies.{texts_put}
 use Rattle.irig_script.specs.Obey.Run.{Runs}
 use Rattle.irig_script.specs.Print.Listings.{info_text, list_text, marks_text}
 use Rattle.irig_script.specs.Print.Printed.{Answer, frames_text, printed, reply_text}
-use Rattle.irig_script.specs.Script.Lines.{script_lines}
+use Rattle.irig_lines.specs.Lines.{script_lines}
 use Rattle.irig_script.specs.declared.print.reply.Reply.{Reply}
 use Rattle.irig_script.specs.declared.print.reply.Reply.TheVariants as told
-use Rattle.irig_script.specs.declared.script.command.Command.{Command}
-use Rattle.irig_script.specs.declared.script.command.Command.TheVariants as command
-use Rattle.irig_script.proofs.ScriptLemmas.Orders.{means_one}
+use Rattle.irig_lines.specs.declared.command.Command.{Command}
+use Rattle.irig_lines.specs.declared.command.Command.TheVariants as command
+use Rattle.irig_lines.proofs.LineOrders.{means_one}
 use Rattle.irig_script.proofs.LawLemmas.SameReply.{bare, dump_same, obeys_one, stays}
 
 -- what a reply prints and writes does not depend on the looks

@@ -5,7 +5,7 @@ use Rattle.std.proofs.Math.Seq.{take-add}
 use Rattle.std.proofs.lemmas.List.{length-drop}
 use Rattle.std.proofs.KnownBytes.{Appends-trans}
 use Rattle.std.specs.Io.KnownBytes.{Appends}
-use Rattle.irig_script.proofs.ScriptLemmas.WordLemmas.{rest_whole}
+use Rattle.irig_lines.proofs.WordLemmas.{rest_whole}
 
 -- before the end of a text, what is left of it is not nothing
 pub rest_some : (l : List ℕ) (done : ℕ) → done < length l → drop done l ≢ []

@@ -6,7 +6,7 @@ use Rattle.std.specs.List.{AllByRecursion}
 use Rattle.std.proofs.lemmas.List.{append-nil, take-append-drop, take_more}
 use Rattle.std.proofs.lemmas.Grind.{flat_map-append}
 use Rattle.irig_script.specs.Obey.Machine.{Machine}
-use Rattle.irig_script.specs.Script.Lines.{lines_of, until_quit, script_lines, is_quit}
+use Rattle.irig_lines.specs.Lines.{lines_of, until_quit, script_lines, is_quit}
 use Rattle.irig_script.specs.Obey.Answer.{Answered}
 use Rattle.irig_script.specs.Print.Printed.{Answer, printed}
 use Rattle.irig_script.specs.Obey.Desk.{Desk, desk, Tells, status_after}
@@ -14,7 +14,7 @@ use Rattle.irig_script.specs.Shelf.Shelved.{Shelved}
 use Rattle.irig_script.specs.Obey.Run.{Runs, Goes, IsPlain, IsObeyed, unlines}
 use Rattle.irig_script.specs.Obey.Progress.{Holds, Obeyed, BrokeIn}
 use Rattle.irig_script.specs.declared.obey.status.Status.{Status}
-use Rattle.irig_script.specs.declared.script.line.Line.{Line}
+use Rattle.irig_script.specs.declared.obey.line.Line.{Line}
 use Rattle.irig_script.proofs.ObeyLemmas.Desks.{status_after-append, tells_none, tells-tells, tells-answers}
 
 -- a byte before a text that has no newline

@@ -2,22 +2,22 @@
 use Rattle.std.proofs.Common.{◌≡◌, ◌≢◌, ◌<◌, ◌≤◌, ◌∷◌, ◌++◌, [], ℕ, Bool, true, false, not, List, length, nat_lt, refl, sym, ap, ◌∙◌, subst, arith, inl, inr}
 use Rattle.std.proofs.lemmas.Bool.Decides.{nat_tests}
 use Rattle.std.proofs.lemmas.Bool.{and_parts}
-use Rattle.irig_script.specs.Script.Commands.{Asks}
-use Rattle.irig_script.specs.Script.Grammar.{AsksIn, Does, IsOrder, Means}
-use Rattle.irig_script.specs.Script.Keywords.{keyword_of}
-use Rattle.irig_script.specs.Script.Lines.{are_quit, is_quit, is_quit_word}
-use Rattle.irig_script.specs.Script.Words.{before, onward, words_of}
-use Rattle.irig_script.specs.declared.script.cutting.Stop.TheVariants.{Blank, Text}
-use Rattle.irig_script.specs.declared.script.keyword.Keyword.{Keyword}
-use Rattle.irig_script.specs.declared.script.keyword.Keyword.TheVariants as word
-use Rattle.irig_script.specs.declared.script.command.Command.{Command}
-use Rattle.irig_script.specs.declared.script.command.Command.TheVariants as command
-use Rattle.irig_script.proofs.ScriptLemmas.KnownWords.{next_word}
-use Rattle.irig_script.proofs.ScriptLemmas.LineReading.{order_of}
-use Rattle.irig_script.proofs.ScriptLemmas.OrderParts.{found_words}
-use Rattle.irig_script.proofs.ScriptLemmas.Orders.{means_one, means_onward}
-use Rattle.irig_script.proofs.ScriptLemmas.Spacing.{words_onward}
-use Rattle.irig_script.proofs.ScriptLemmas.WordLemmas.{words_split}
+use Rattle.irig_lines.specs.Commands.{Asks}
+use Rattle.irig_lines.specs.Grammar.{AsksIn, Does, IsOrder, Means}
+use Rattle.irig_lines.specs.Keywords.{keyword_of}
+use Rattle.irig_lines.specs.Lines.{are_quit, is_quit, is_quit_word}
+use Rattle.irig_lines.specs.Words.{before, onward, words_of}
+use Rattle.irig_lines.specs.declared.cutting.Stop.TheVariants.{Blank, Text}
+use Rattle.irig_lines.specs.declared.keyword.Keyword.{Keyword}
+use Rattle.irig_lines.specs.declared.keyword.Keyword.TheVariants as word
+use Rattle.irig_lines.specs.declared.command.Command.{Command}
+use Rattle.irig_lines.specs.declared.command.Command.TheVariants as command
+use Rattle.irig_lines.proofs.KnownWords.{next_word}
+use Rattle.irig_lines.proofs.LineReading.{order_of}
+use Rattle.irig_lines.proofs.OrderParts.{found_words}
+use Rattle.irig_lines.proofs.LineOrders.{means_one, means_onward}
+use Rattle.irig_lines.proofs.Spacing.{words_onward}
+use Rattle.irig_lines.proofs.WordLemmas.{words_split}
 
 -- no other word asks for the end of a script
 only_quit : (k : Keyword) (range : List ℕ) (args : List (List ℕ)) → Asks k range args command.Quit → k ≡ word.Quit

@@ -7,7 +7,7 @@ use Rattle.irig_script.specs.Obey.Desk.{Desk}
 use Rattle.irig_script.specs.Obey.Progress.{Obeyed}
 use Rattle.irig_script.specs.Obey.Reading.{HasNoEnd, ReadsTo}
 use Rattle.irig_script.specs.declared.obey.status.Status.{Status}
-use Rattle.irig_script.specs.declared.script.line.Line.{Line}
+use Rattle.irig_script.specs.declared.obey.line.Line.{Line}
 
 -- bytes that were obeyed and do not end the script
 no_end : (a b : Desk) (st su : Status) (s t : Machine) (bytes : List ℕ) (line : Line) → Obeyed false a b st su s t bytes line → HasNoEnd bytes

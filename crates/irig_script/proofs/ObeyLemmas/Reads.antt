@@ -13,7 +13,7 @@ use Rattle.irig_script.specs.Obey.Reads.{IsUnderway, HasEnded, GoesOn, with_end}
 use Rattle.irig_script.specs.declared.obey.status.Status.{Status}
 use Rattle.irig_script.specs.declared.obey.status.Status.TheVariants.{AllAccepted}
 use Rattle.irig_script.specs.declared.obey.status.RunFault.TheVariants.{ReadFailed, PrintFailed}
-use Rattle.irig_script.specs.declared.script.line.Line.{Line}
+use Rattle.irig_script.specs.declared.obey.line.Line.{Line}
 use Rattle.irig_script.proofs.ObeyLemmas.LastLines.{ran_last, broke_last}
 use Rattle.irig_script.proofs.ObeyLemmas.Lines.{obeyed_more, broke_more}
 use Rattle.irig_script.proofs.ObeyLemmas.Reading.{reads_to}

@@ -5,13 +5,13 @@ use Rattle.std.specs.Io.KnownBytes.{Consumes, IsAtEnd}
 use Rattle.std.proofs.lemmas.List.{append-nil}
 use Rattle.std.proofs.lemmas.Grind.{flat_map-append}
 use Rattle.irig_script.specs.Obey.Machine.{Machine}
-use Rattle.irig_script.specs.Script.Lines.{until_quit, script_lines, lines_of}
+use Rattle.irig_lines.specs.Lines.{until_quit, script_lines, lines_of}
 use Rattle.irig_script.specs.Print.Printed.{Answer, printed}
 use Rattle.irig_script.specs.Obey.Desk.{Desk, Tells, status_after}
 use Rattle.irig_script.specs.Obey.Run.{Runs, Ran, Broke, unlines}
 use Rattle.irig_script.specs.Obey.Progress.{Holds, Obeyed, BrokeIn}
 use Rattle.irig_script.specs.declared.obey.status.Status.{Status}
-use Rattle.irig_script.specs.declared.script.line.Line.{Line}
+use Rattle.irig_script.specs.declared.obey.line.Line.{Line}
 use Rattle.irig_script.proofs.ObeyLemmas.Desks.{tells-tells, tells-answers, status_after-append}
 use Rattle.irig_script.proofs.ObeyLemmas.Lines.{first_line, lines_and, until_ended, runs-runs, answers_assoc}
 

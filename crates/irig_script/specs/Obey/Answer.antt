@@ -3,12 +3,12 @@ use Rattle.std.specs.Prelude.{◌≡◌, ◌<◌, ◌≤◌, ◌⊎◌, ℕ, Lis
 use Rattle.irig_edit.specs.Saved.SavedSession.{saved_text}
 use Rattle.irig_edit.specs.Session.Session.{machine_in}
 use Rattle.irig_script.specs.Obey.Machine.{Machine}
-use Rattle.irig_script.specs.Script.Grammar.{Means}
+use Rattle.irig_lines.specs.Grammar.{Means}
 use Rattle.irig_script.specs.Obey.Obeying.{Obeys}
 use Rattle.irig_script.specs.Obey.Replies.{dump_text, texts_put}
 use Rattle.irig_script.specs.Print.Printed.{Answer, reply_text}
-use Rattle.irig_script.specs.declared.script.command.Command.{Command}
-use Rattle.irig_script.specs.declared.script.command.Command.TheVariants as command
+use Rattle.irig_lines.specs.declared.command.Command.{Command}
+use Rattle.irig_lines.specs.declared.command.Command.TheVariants as command
 use Rattle.irig_script.specs.declared.print.reply.Reply.{Reply}
 use Rattle.irig_script.specs.declared.print.reply.Reply.TheVariants.{BadLine, LineTooLong}
 

@@ -9,8 +9,8 @@ use Rattle.irig_script.specs.Obey.Machine.{Machine}
 use Rattle.irig_script.specs.Obey.PulseNumbers.{number_at, first_of, last_of, join_last_of, time_of}
 use Rattle.irig_script.specs.Obey.Replies.{Calls, Formats, Lists, Makes, Shows, Writes}
 use Rattle.irig_script.specs.Obey.Replies.{dump_text, format}
-use Rattle.irig_script.specs.declared.script.command.Command.{Command}
-use Rattle.irig_script.specs.declared.script.command.Command.TheVariants as command
+use Rattle.irig_lines.specs.declared.command.Command.{Command}
+use Rattle.irig_lines.specs.declared.command.Command.TheVariants as command
 use Rattle.irig_script.specs.declared.print.reply.Reply.{Reply}
 use Rattle.irig_script.specs.declared.print.reply.Reply.TheVariants.{Silent}
 use Rattle.irig_script.specs.declared.print.reply.Reply.TheVariants as told

@@ -3,7 +3,7 @@
 use Rattle.std.specs.Prelude.{◌≡◌, ◌≢◌, ℕ, Bool, true, false, List, [], ◌∷◌, ◌++◌, length, take}
 use Rattle.std.specs.Prelude.{min, nat_lt, Option, Some, None}
 use Rattle.irig_script.specs.Obey.Machine.{Machine}
-use Rattle.irig_script.specs.Script.Lines.{is_quit}
+use Rattle.irig_lines.specs.Lines.{is_quit}
 use Rattle.irig_script.specs.Obey.Answer.{Step}
 use Rattle.irig_script.specs.Print.Printed.{Answer, printed}
 use Rattle.irig_script.specs.Obey.Desk.{Desk, Tells, failures_of, status_after}
@@ -11,7 +11,7 @@ use Rattle.irig_script.specs.Obey.Run.{Goes, IsPlain}
 use Rattle.irig_script.specs.Shelf.Shelved.{Shelved, Puts}
 use Rattle.irig_script.specs.declared.print.reply.Reply.{Reply}
 use Rattle.irig_script.specs.declared.obey.status.Status.{Status}
-use Rattle.irig_script.specs.declared.script.line.Line.{Line}
+use Rattle.irig_script.specs.declared.obey.line.Line.{Line}
 
 -- the line buffer holds the text, as far as it has room
 pub record Holds (text : List ℕ) (line : Line) : Type 0 where

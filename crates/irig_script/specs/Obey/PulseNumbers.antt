@@ -4,13 +4,13 @@ use Rattle.std.specs.Prelude.{unwrap_or, get_or, if◌then◌else◌}
 use Rattle.irig_track.specs.Shifts.{ahead, back}
 use Rattle.irig_track.specs.Splices.{risen_by}
 use Rattle.irig_script.specs.Obey.Machine.{Machine}
-use Rattle.irig_script.specs.declared.script.address.Base.{Base}
-use Rattle.irig_script.specs.declared.script.address.Base.TheVariants.{Number, Current, Last, Mark}
-use Rattle.irig_script.specs.declared.script.address.Address.{Address}
-use Rattle.irig_script.specs.declared.script.range.Range.{Range}
-use Rattle.irig_script.specs.declared.script.range.Range.TheVariants.{One, Two}
-use Rattle.irig_script.specs.declared.script.time.Time.{Time}
-use Rattle.irig_script.specs.declared.script.time.Time.TheVariants as time
+use Rattle.irig_lines.specs.declared.address.Base.{Base}
+use Rattle.irig_lines.specs.declared.address.Base.TheVariants.{Number, Current, Last, Mark}
+use Rattle.irig_lines.specs.declared.address.Address.{Address}
+use Rattle.irig_lines.specs.declared.range.Range.{Range}
+use Rattle.irig_lines.specs.declared.range.Range.TheVariants.{One, Two}
+use Rattle.irig_lines.specs.declared.time.Time.{Time}
+use Rattle.irig_lines.specs.declared.time.Time.TheVariants as time
 
 -- the time of a mark, if it is set
 abbrev pub mark_of : ℕ → Machine → Option ℕ

@@ -10,7 +10,7 @@ use Rattle.irig_script.specs.Obey.Reading.{ReadsTo}
 use Rattle.irig_script.specs.declared.obey.status.Status.{Status}
 use Rattle.irig_script.specs.declared.obey.status.Status.TheVariants.{AllAccepted}
 use Rattle.irig_script.specs.declared.obey.status.RunFault.{RunFault}
-use Rattle.irig_script.specs.declared.script.line.Line.{Line}
+use Rattle.irig_script.specs.declared.obey.line.Line.{Line}
 
 -- what a read gave after the front of a line; of no bytes, the newline that the line lacks
 abbrev pub with_end : List ℕ → List ℕ → List ℕ

@@ -10,11 +10,9 @@ ghost use Rattle.irig_script.specs.Obey.PulseNumbers.{time_of};
 
 use crate::obey::pulse_numbers::{ends, join_ends, number_at, time};
 use crate::print::reply::Reply;
-use crate::script::address::Address;
-use crate::script::range::Range;
-use crate::script::time::Time;
 use irig_codes::{Element, Format, Kind};
 use irig_edit::{Refusal, Session};
+use irig_lines::{Address, Range, Time};
 use irig_moment::Moment;
 use irig_saved::Letter;
 

@@ -14,11 +14,11 @@ ghost use Rattle.irig_script.specs.Obey.Progress.{BrokeIn, Holds, Obeyed};
 ghost use Rattle.irig_script.specs.Obey.Reads.{GoesOn, IsUnderway, with_end};
 ghost use Rattle.irig_script.specs.Print.Front.{Prints};
 
+use crate::obey::line::Line;
 use crate::obey::obeying::obey_line;
 use crate::obey::status::{RunFault, Status};
 use crate::print::output::PrintFault;
 use crate::print::reply::{Reply, print};
-use crate::script::line::Line;
 use crate::shelf::shelf::Shelf;
 use irig_edit::Session;
 use std::io::{Read, Write};

@@ -7,19 +7,18 @@ ghost use Rattle.irig_script.specs.Obey.Desk.{IsQuiet, failures_of};
 ghost use Rattle.irig_script.specs.Obey.Progress.{Answers};
 ghost use Rattle.irig_script.specs.Obey.Replies.{texts_put};
 ghost use Rattle.irig_script.specs.Shelf.Shelved.{Puts};
-ghost use Rattle.irig_script.specs.declared.script.command.Command.{Command};
+ghost use Rattle.irig_lines.specs.declared.command.Command.{Command};
 
 use crate::obey::calls::{
     abort, begin, delete, end, force, insert, invert, join, list, mark, redo, regen, set_format,
     shift, show, split, undo, unmark,
 };
+use crate::obey::line::Line;
 use crate::obey::writing::{write_dump, write_saved};
 use crate::print::reply::Reply;
-use crate::script::command::{BadLine, Command};
-use crate::script::line::Line;
-use crate::script::parsing::parse_line;
 use crate::shelf::shelf::Shelf;
 use irig_edit::Session;
+use irig_lines::{BadLine, Command, parse_line};
 
 /// Obeys a line; `None` if it ends the script.
 pub fn obey_line<S: Shelf>(line: &Line, session: &mut Session, shelf: &mut S) -> Option<Reply>

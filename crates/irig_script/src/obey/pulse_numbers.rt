@@ -5,10 +5,8 @@ ghost use Rattle.irig_track.specs.Shifts.{ahead, back};
 ghost use Rattle.irig_script.specs.Obey.PulseNumbers.{mark_of, base_of, pulse_at, number_at};
 ghost use Rattle.irig_script.specs.Obey.PulseNumbers.{first_of, last_of, join_last_of, time_of};
 
-use crate::script::address::{Address, Base};
-use crate::script::range::Range;
-use crate::script::time::Time;
 use irig_edit::Session;
+use irig_lines::{Address, Base, Range, Time};
 use irig_saved::Letter;
 
 /// The time of a mark in microseconds, if it is set.

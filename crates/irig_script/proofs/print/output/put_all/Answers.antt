@@ -2,7 +2,7 @@ use Rattle.std.proofs.Common.{take, drop, ◌+◌, sym, arith, length-drop}
 use Rattle.std.proofs.lemmas.List.{take-append-drop}
 use Rattle.std.proofs.KnownBytes.{Appends-kept}
 use Rattle.irig_script.proofs.ObeyLemmas.Known.{wrote_more, rest_some}
-use Rattle.irig_script.proofs.ScriptLemmas.WordLemmas.{rest_whole}
+use Rattle.irig_lines.proofs.WordLemmas.{rest_whole}
 use Rattle.irig_script.proofs.print.output.put_all.Goals as goal
 
 pub loop-done-preserved : goal.loop-done-preserved

@@ -1,7 +1,7 @@
 use Rattle.std.proofs.Common.{◌≡◌, ◌≤◌, ◌+◌, ◌-◌, ℕ, List, length, take, drop, min, ap, subst, ◌∙◌, arith}
 use Rattle.std.specs.Io.KnownBytes.{Appends}
 use Rattle.irig_script.specs.Print.Listings.{list_text}
-use Rattle.irig_script.proofs.ScriptLemmas.WordLemmas.{rest_whole}
+use Rattle.irig_lines.proofs.WordLemmas.{rest_whole}
 use Rattle.irig_script.proofs.PrintLemmas.Pieces.{listing_more, listing_front, listing_whole}
 use Rattle.irig_script.proofs.print.pulse_lines.print_in_blocks.Goals as goal
 

@@ -1,6 +1,6 @@
 use Rattle.std.proofs.Common.{rules, ◌≡◌, ◌++◌, ◌∷◌, ◌-◌, ◌∙◌, [], decimal, take, drop, length}
 use Rattle.std.proofs.lemmas.Fmt.{length-decimal-le}
-use Rattle.irig_script.proofs.ScriptLemmas.WordLemmas.{rest_whole}
+use Rattle.irig_lines.proofs.WordLemmas.{rest_whole}
 use Rattle.irig_script.proofs.print.reply.put_number.Goals as goal
 
 pub write_digits-start-requires : goal.write_digits-start-requires

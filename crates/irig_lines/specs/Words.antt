@@ -1,0 +1,53 @@
+-- How a text is cut at the first byte of some kind, and a line into its words. This project's own.
+use Rattle.std.specs.Prelude.{◌==◌, ℕ, Bool, false, not, ◌&&◌, ◌||◌, nat_le, List, [], ◌∷◌}
+use Rattle.std.specs.Prelude.{if◌then◌else◌}
+use Rattle.irig_lines.specs.Numbers.{is_sign}
+use Rattle.irig_lines.specs.declared.cutting.Stop.{Stop}
+use Rattle.irig_lines.specs.declared.cutting.Stop.TheVariants.{Blank, Text, Sign, Comma}
+
+-- the white space of a line: space, tab and carriage return
+abbrev pub is_space : ℕ → Bool
+is_space b = (b == 32) || ((b == 9) || (b == 13))
+
+-- the byte is one of a to z
+abbrev pub is_letter : ℕ → Bool
+is_letter b = nat_le 97 b && nat_le b 122
+
+-- a text is cut before such a byte
+abbrev pub is_stop : Stop → ℕ → Bool
+is_stop Blank b = is_space b
+is_stop Text b = not (is_space b)
+is_stop Sign b = is_sign b
+is_stop Comma b = b == 44
+
+-- what is before the first such byte
+abbrev pub before : Stop → List ℕ → List ℕ
+before stop [] = []
+before stop (b ∷ bs) = if is_stop stop b then [] else b ∷ before stop bs
+
+-- what is from the first such byte on
+abbrev pub onward : Stop → List ℕ → List ℕ
+onward stop [] = []
+onward stop (b ∷ bs) = if is_stop stop b then b ∷ bs else onward stop bs
+
+-- the first of some texts, with one more byte at its front
+abbrev pub onto_first : ℕ → List (List ℕ) → List (List ℕ)
+onto_first b [] = (b ∷ []) ∷ []
+onto_first b (line ∷ lines) = (b ∷ line) ∷ lines
+
+-- the text begins with a word
+abbrev pub begins_word : List ℕ → Bool
+begins_word [] = false
+begins_word (b ∷ bs) = not (is_space b)
+
+-- the words of a text: the longest runs of bytes that are no white space
+abbrev pub words_of : List ℕ → List (List ℕ)
+words_of [] = []
+words_of (b ∷ bs) =
+    if is_space b then words_of bs
+    else (if begins_word bs then onto_first b (words_of bs) else (b ∷ []) ∷ words_of bs)
+
+-- a word before others; no words at all if it has no byte
+abbrev pub word_and : List ℕ → List (List ℕ) → List (List ℕ)
+word_and [] words = []
+word_and (b ∷ bs) words = (b ∷ bs) ∷ words

@@ -1,0 +1,112 @@
+//! Addresses, ranges and times of a script, read.
+
+ghost use Rattle.std.specs.Prelude.{◌≡◌, ◌<◌};
+ghost use Rattle.irig_saved.specs.Letters.{letter_word};
+ghost use Rattle.irig_lines.specs.Findings.{Finds};
+ghost use Rattle.irig_lines.specs.Addresses.{IsBase, IsOffset, IsAddress, IsPair};
+ghost use Rattle.irig_lines.specs.Addresses.{IsAddressOrCursor, IsRange, IsTime, at};
+
+use crate::address::{Address, Base};
+use crate::command::BadLine;
+use crate::cutting::{Stop, cut, is_sign};
+use crate::numbers::{number, signed};
+use crate::range::Range;
+use crate::time::Time;
+use irig_saved::Letter;
+
+/// The letter of a mark, alone in a word.
+pub fn letter(word: &[u8]) -> Result<Letter, BadLine>
+    ensures { Finds (λ l. (word.now ≡ letter_word l) × (l < 26)) result }
+{
+    Letter::named(word).ok_or(BadLine)
+}
+
+/// A time: a number of microseconds, or a mark.
+pub fn time(word: &[u8]) -> Result<Time, BadLine>
+    ensures { Finds (IsTime word.now) result }
+{
+    match word {
+        [b'\'', name @ ..] => Ok(Time::Mark(letter(name)?)),
+        _ => Ok(Time::At(number(word)?)),
+    }
+}
+
+/// What an address counts from.
+fn base(text: &[u8]) -> Result<Base, BadLine>
+    ensures { Finds (IsBase text.now) result }
+{
+    match text {
+        [] | [b'.'] => Ok(Base::Current),
+        [b'$'] => Ok(Base::Last),
+        [b'\'', name @ ..] => Ok(Base::Mark(letter(name)?)),
+        _ => Ok(Base::Number(number(text)?)),
+    }
+}
+
+/// The offset of an address.
+fn offset(text: &[u8]) -> Result<i64, BadLine>
+    ensures { Finds (IsOffset text.now) result }
+{
+    match text {
+        [] => Ok(0),
+        [sign] if is_sign(*sign) => Ok(signed(*sign, 1)),
+        [sign, digits @ ..] if is_sign(*sign) => Ok(signed(*sign, number(digits)?)),
+        _ => Err(BadLine),
+    }
+}
+
+/// An address.
+pub fn address(text: &[u8]) -> Result<Address, BadLine>
+    ensures { Finds (IsAddress text.now) result }
+{
+    if text.is_empty() {
+        return Err(BadLine);
+    }
+    let (front, back) = cut(text, Stop::Sign);
+    Ok(Address {
+        base: base(front)?,
+        offset: offset(back)?,
+    })
+}
+
+/// The address of what it counts from.
+fn at(base: Base) -> Address
+    ensures { result ≡ at base }
+{
+    Address { base, offset: 0 }
+}
+
+/// An address, or that of the cursor if there is none.
+pub fn address_or_cursor(text: &[u8]) -> Result<Address, BadLine>
+    ensures { Finds (IsAddressOrCursor text.now) result }
+{
+    if text.is_empty() {
+        Ok(at(Base::Current))
+    } else {
+        address(text)
+    }
+}
+
+/// A range.
+pub fn range(text: &[u8]) -> Result<Range, BadLine>
+    ensures { Finds (IsRange text.now) result }
+{
+    let (first, rest) = cut(text, Stop::Comma);
+    match rest {
+        [] => Ok(Range::One(address_or_cursor(text)?)),
+        [_, second @ ..] => {
+            let (first, last) = pair(first, second)?;
+            Ok(Range::Two(first, last))
+        }
+    }
+}
+
+/// What is before a comma and after it; a comma alone is between the first and the last.
+fn pair(first: &[u8], second: &[u8]) -> Result<(Address, Address), BadLine>
+    ensures { Finds (λ p. IsPair first.now second.now p.0 p.1) result }
+{
+    if first.is_empty() && second.is_empty() {
+        return Ok((at(Base::Number(1)), at(Base::Last)));
+    }
+    Ok((address(first)?, address(second)?))
+}

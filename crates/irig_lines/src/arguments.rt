@@ -1,0 +1,70 @@
+//! The arguments of a line: times, moments, control functions and words that are known.
+
+ghost use Rattle.std.specs.Prelude.{◌≡◌, Some};
+ghost use Rattle.irig_moment.specs.Written.{moment_of};
+ghost use Rattle.irig_codes.specs.Words.{element_word, kind_word};
+ghost use Rattle.irig_lines.specs.Findings.{Finds};
+ghost use Rattle.irig_lines.specs.Arguments.{AreControls, AreTimes, IsExpression};
+ghost use Rattle.irig_lines.specs.Words.{words_of};
+
+use crate::addresses::time;
+use crate::command::BadLine;
+use crate::numbers::control;
+use crate::time::Time;
+use crate::words::{no_word, split_word, two_words};
+use irig_codes::{Element, Kind, element_named, kind_named};
+use irig_moment::Moment;
+
+/// Two times.
+pub fn times(arguments: &[u8]) -> Result<(Time, Time), BadLine>
+    ensures { Finds (λ t. AreTimes (words_of arguments.now) t.0 t.1) result }
+{
+    let (a, b) = two_words(arguments)?;
+    Ok((time(a)?, time(b)?))
+}
+
+/// The moment of a word.
+pub fn moment(word: &[u8]) -> Result<Moment, BadLine>
+    ensures { Finds (λ m. moment_of word.now ≡ Some m) result }
+{
+    match Moment::parse(word) {
+        Some(moment) => Ok(moment),
+        None => Err(BadLine),
+    }
+}
+
+/// The control functions at the end of a line; 0 if there are none.
+pub fn controls(text: &[u8]) -> Result<u64, BadLine>
+    ensures { Finds (AreControls (words_of text.now)) result }
+{
+    let (word, rest) = split_word(text);
+    if word.is_empty() {
+        return Ok(0);
+    }
+    no_word(rest)?;
+    control(word)
+}
+
+/// The element that a word names.
+pub fn element(word: &[u8]) -> Result<Element, BadLine>
+    ensures { Finds (λ e. word.now ≡ element_word e) result }
+{
+    element_named(word).ok_or(BadLine)
+}
+
+/// The kind of time code that a word names.
+pub fn kind(word: &[u8]) -> Result<Kind, BadLine>
+    ensures { Finds (λ k. word.now ≡ kind_word k) result }
+{
+    kind_named(word).ok_or(BadLine)
+}
+
+/// The number of an expression: one digit 0 to 7.
+pub fn expression(word: &[u8]) -> Result<u8, BadLine>
+    ensures { Finds (IsExpression word.now) result }
+{
+    match word {
+        [digit @ b'0'..=b'7'] => Ok(*digit - b'0'),
+        _ => Err(BadLine),
+    }
+}

@@ -1,0 +1,58 @@
+//! A text, cut before the first byte of some kind.
+
+ghost use Rattle.std.specs.Prelude.{◌≡◌};
+ghost use Rattle.irig_lines.specs.Words.{is_space, is_stop, before, onward};
+ghost use Rattle.irig_lines.specs.Numbers.{is_sign};
+
+/// Before which bytes a text is cut.
+#[derive(Clone, Copy)]
+pub enum Stop {
+    /// White space.
+    Blank,
+    /// What is no white space.
+    Text,
+    /// A plus or a minus.
+    Sign,
+    /// A comma.
+    Comma,
+}
+
+impl Stop {
+    /// Whether a text is cut before the byte.
+    fn is_at(self, byte: u8) -> bool
+        ensures { result ≡ is_stop self byte }
+    {
+        match self {
+            Stop::Blank => is_space(byte),
+            Stop::Text => !is_space(byte),
+            Stop::Sign => is_sign(byte),
+            Stop::Comma => byte == b',',
+        }
+    }
+}
+
+/// What is before the first byte of a kind, and what is from it on.
+pub fn cut(text: &[u8], stop: Stop) -> (&[u8], &[u8])
+    ensures before { result.0.now ≡ before stop text.now }
+    ensures onward { result.1.now ≡ onward stop text.now }
+{
+    let mut at = 0;
+    while at < text.len() && !stop.is_at(text[at]) {
+        at += 1;
+    }
+    (&text[..at], &text[at..])
+}
+
+/// Whether a byte is white space in a line.
+pub fn is_space(byte: u8) -> bool
+    ensures { result ≡ is_space byte }
+{
+    matches!(byte, b' ' | b'\t' | b'\r')
+}
+
+/// Whether a byte is a sign.
+pub fn is_sign(byte: u8) -> bool
+    ensures { result ≡ is_sign byte }
+{
+    matches!(byte, b'+' | b'-')
+}

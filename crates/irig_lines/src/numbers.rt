@@ -1,0 +1,93 @@
+//! Numbers of a script.
+
+ghost use Rattle.std.specs.Prelude.{◌≡◌, ◌<◌, ◌^◌, IfOk};
+ghost use Rattle.irig_lines.specs.Findings.{Finds};
+ghost use Rattle.irig_lines.specs.Numbers.{IsNumber, IsDistance, IsControl, IsSigned};
+ghost use Rattle.irig_lines.specs.Numbers.{is_digit, size, hex_digit};
+
+use crate::command::BadLine;
+use crate::cutting::is_sign;
+
+/// The most digits of a number in a script.
+const DIGITS_LIMIT: usize = 18;
+
+/// The most hexadecimal digits of control functions.
+const CONTROL_LIMIT: usize = 12;
+
+/// The number that a word of 1 to 18 digits is.
+pub fn number(word: &[u8]) -> Result<u64, BadLine>
+    ensures read { Finds (IsNumber word.now) result }
+    ensures small { IfOk result (λ n. n < 10 ^ 18) }
+{
+    if word.is_empty() || word.len() > DIGITS_LIMIT {
+        return Err(BadLine);
+    }
+    let mut number = 0;
+    for digit in word {
+        if !is_digit(*digit) {
+            return Err(BadLine);
+        }
+        number = 10 * number + u64::from(*digit - b'0');
+    }
+    Ok(number)
+}
+
+/// Whether a byte is a decimal digit.
+fn is_digit(byte: u8) -> bool
+    ensures { result ≡ is_digit byte }
+{
+    matches!(byte, b'0'..=b'9')
+}
+
+/// The distance that a word is: a number with an optional sign.
+pub fn distance(word: &[u8]) -> Result<i64, BadLine>
+    ensures { Finds (IsDistance word.now) result }
+{
+    match word {
+        [sign, digits @ ..] if is_sign(*sign) => Ok(signed(*sign, number(digits)?)),
+        _ => Ok(signed(b'+', number(word)?)),
+    }
+}
+
+/// A number after a sign.
+pub fn signed(sign: u8, number: u64) -> i64
+    requires { number < 2 ^ 63 }
+    ensures sign { IsSigned sign result }
+    ensures size { size result ≡ number }
+{
+    if sign == b'-' {
+        -(number as i64)
+    } else {
+        number as i64
+    }
+}
+
+/// The control functions that a word of 1 to 12 hexadecimal digits is.
+pub fn control(word: &[u8]) -> Result<u64, BadLine>
+    ensures { Finds (IsControl word.now) result }
+{
+    if word.is_empty() || word.len() > CONTROL_LIMIT {
+        return Err(BadLine);
+    }
+    let mut number = 0;
+    for byte in word {
+        let digit = hex_digit(*byte);
+        if digit > 15 {
+            return Err(BadLine);
+        }
+        number = 16 * number + digit;
+    }
+    Ok(number)
+}
+
+/// The hexadecimal digit that a byte is, of either case; 16 if it is none.
+fn hex_digit(byte: u8) -> u64
+    ensures { result ≡ hex_digit byte }
+{
+    match byte {
+        b'0'..=b'9' => u64::from(byte - b'0'),
+        b'a'..=b'f' => u64::from(byte - b'a' + 10),
+        b'A'..=b'F' => u64::from(byte - b'A' + 10),
+        _ => 16,
+    }
+}

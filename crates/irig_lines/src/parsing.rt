@@ -1,0 +1,129 @@
+//! Lines of a script as commands.
+
+ghost use Rattle.std.specs.Prelude.{◌≡◌, ◌++◌, ◌&&◌, ◌||◌, not, ℕ, List, [], true, IfOk, OnErr};
+ghost use Rattle.irig_lines.specs.Findings.{Finds};
+ghost use Rattle.irig_lines.specs.Addresses.{IsRange};
+ghost use Rattle.irig_lines.specs.Commands.{Asks, IsAlone};
+ghost use Rattle.irig_lines.specs.Words.{is_letter, is_space, words_of};
+ghost use Rattle.irig_lines.specs.declared.range.Range.{Range};
+ghost use Rattle.irig_lines.specs.Grammar.{Means, Orders, follows_range, is_nothing};
+ghost use Rattle.irig_lines.specs.declared.command.Command.{Command};
+
+use crate::command::{BadLine, Command};
+use crate::cutting::{Stop, cut, is_space};
+use crate::keyword::{Keyword, keyword_of};
+use crate::orders::{
+    delete, force, format, insert, invert, join, list, no_range, regen, set_mark, shift, show,
+    split, unmark,
+};
+use crate::words::{no_word, split_word};
+
+/// What a line asks for, its newline left out; `BadLine` if it is not valid.
+pub fn parse_line(line: &[u8]) -> Result<Command, BadLine>
+    ensures meant { IfOk result (λ command. Means command line.now) }
+    ensures bad { OnErr result ((command : Command) → Means command line.now → ⊥) }
+{
+    let (_, text) = cut(line, Stop::Text);
+    if is_nothing(text) {
+        Ok(Command::Nothing)
+    } else {
+        in_text(text)
+    }
+}
+
+/// Whether there is nothing, or a comment.
+fn is_nothing(text: &[u8]) -> bool
+    ensures { result ≡ is_nothing text.now }
+{
+    matches!(text, [] | [b'#', ..])
+}
+
+/// What a text asks for that begins with no white space.
+fn in_text(text: &[u8]) -> Result<Command, BadLine>
+    ensures { Finds (λ c. Orders c text.now) result }
+{
+    let (range, rest) = split_range(text);
+    let (word, arguments) = split_word(rest);
+    asked(range, keyword_of(word), arguments)
+}
+
+/// The front of a text up to where a range ends, and what is after it: a text that is a range
+/// and what may follow it is cut between them.
+fn split_range(text: &[u8]) -> (&[u8], &[u8])
+    ensures whole { text.now ≡ result.0.now ++ result.1.now }
+    ensures cut { (range : List ℕ) → (rest : List ℕ) → (r : Range) → text.now ≡ range ++ rest
+        → IsRange range r → follows_range rest ≡ true
+        → (result.0.now ≡ range) × (result.1.now ≡ rest) }
+{
+    let mut at = 0;
+    let mut quoted = false;
+    while at < text.len() && !ends_range(quoted, text[at]) {
+        quoted = text[at] == b'\'';
+        at += 1;
+    }
+    (&text[..at], &text[at..])
+}
+
+/// Whether a byte ends a range, after an apostrophe or not.
+fn ends_range(quoted: bool, byte: u8) -> bool
+    ensures { result ≡ (is_space byte || (not quoted && is_letter byte)) }
+{
+    is_space(byte) || !quoted && byte.is_ascii_lowercase()
+}
+
+/// What a range, a word and arguments ask for.
+fn asked(front: &[u8], word: Keyword, arguments: &[u8]) -> Result<Command, BadLine>
+    ensures { Finds (Asks word front.now (words_of arguments.now)) result }
+{
+    match word {
+        Keyword::Missing => show(front),
+        Keyword::List => list(front, arguments),
+        Keyword::Delete => delete(front, arguments),
+        Keyword::Shift => shift(front, arguments),
+        Keyword::Join => join(front, arguments),
+        Keyword::Split => split(front, arguments),
+        Keyword::Force => force(front, arguments),
+        Keyword::Insert => insert(front, arguments),
+        Keyword::Invert => invert(front, arguments),
+        Keyword::Regen => regen(front, arguments),
+        Keyword::Format => format(front, arguments),
+        Keyword::Mark => set_mark(front, arguments),
+        Keyword::Unmark => unmark(front, arguments),
+        Keyword::Unknown => Err(BadLine),
+        _ => asked_alone(front, word, arguments),
+    }
+}
+
+/// What a word asks for that takes neither a range nor an argument.
+fn asked_alone(front: &[u8], word: Keyword, arguments: &[u8]) -> Result<Command, BadLine>
+    requires { IsAlone word }
+    ensures { Finds (Asks word front.now (words_of arguments.now)) result }
+{
+    let Ok(()) = no_range(front) else {
+        return Err(BadLine);
+    };
+    let Ok(()) = no_word(arguments) else {
+        return Err(BadLine);
+    };
+    Ok(alone(word))
+}
+
+/// What a word asks for that is alone in a line.
+fn alone(word: Keyword) -> Command
+    requires { IsAlone word }
+    ensures { Asks word [] [] result }
+{
+    match word {
+        Keyword::Undo => Command::Undo,
+        Keyword::Redo => Command::Redo,
+        Keyword::Begin => Command::Begin,
+        Keyword::End => Command::End,
+        Keyword::Abort => Command::Abort,
+        Keyword::Frames => Command::Frames,
+        Keyword::Marks => Command::Marks,
+        Keyword::Info => Command::Info,
+        Keyword::Write => Command::Write,
+        Keyword::Save => Command::Save,
+        _ => Command::Quit,
+    }
+}

@@ -1,9 +1,0 @@
-use Rattle.std.proofs.Common.{length, ◌-◌, ◌≤◌}
-use Rattle.irig_script.proofs.ScriptLemmas.WordLemmas.{IsCut}
-use Rattle.irig_script.proofs.script.cutting.cut.Given as goal
-
-abbrev pub invariant-loop-at : goal.invariant-loop-at
-invariant-loop-at l = (l.at ≤ length l.text) × IsCut l.stop l.text l.at
-
-abbrev pub decreases-loop-at : goal.decreases-loop-at
-decreases-loop-at l = length l.text - l.at

@@ -1,4 +1,0 @@
-use Rattle.irig_script.proofs.script.orders.insert.Goals as goal
-
-pub returns-in_default-times : goal.returns-in_default-times
-returns-in_default-times c = λ asked a. c.in_default-times.ensures (a.0, a.1) a.4

@@ -1,9 +1,0 @@
--- That a line asks for one command at most. This project's own.
-use Rattle.std.specs.Prelude.{◌≡◌, ℕ, List}
-use Rattle.irig_script.specs.Script.Grammar.{Means}
-use Rattle.irig_script.specs.declared.script.command.Command.{Command}
-
--- two commands that a line asks for are the same
-abbrev pub OneCommand : Type 0
-OneCommand = (line : List ℕ) (one other : Command) → Means one line → Means other line
-    → one ≡ other
