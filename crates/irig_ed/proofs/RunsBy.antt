@@ -1,19 +1,18 @@
 -- An edit on the shelf of a file, as one by the settings.
-use Rattle.std.proofs.Common.{◌≡◌, ◌∷◌, ◌∙◌, [], ℕ, List, Option, Result, Err, inl, refl, subst, sym}
+use Rattle.std.proofs.Common.{◌≡◌, ◌∷◌, [], ℕ, List, Option, Result, Err, inl, refl, subst}
 use Rattle.std.specs.Prelude.{option_map}
-use Rattle.irig_vcd.specs.Declarations.{declarations_of}
 use Rattle.irig_vcd.specs.Parts.{dump_parts}
-use Rattle.irig_vcd.specs.Words.{words_of}
 use Rattle.irig_vcd.specs.declared.fault.VcdFault.{VcdFault}
-use Rattle.irig_vcd.proofs.WholeDump.{fails_now, no_parts}
+use Rattle.irig_vcd.proofs.WholeDump.{fails_now}
 use Rattle.irig_script.specs.Obey.Desk.{Desk, desk}
 use Rattle.irig_script.specs.Obey.DumpRun.{RunsOnDump}
-use Rattle.irig_script.specs.Shelf.Shelved.{shelved}
+use Rattle.irig_text.specs.Shelved.{shelved}
 use Rattle.irig_script.specs.declared.obey.status.Status.{Status}
 use Rattle.irig_script.specs.declared.obey.dump_run.DumpRunFault.{DumpRunFault}
 use Rattle.irig_script.specs.declared.obey.dump_run.DumpRunFault.TheVariants.{Dump}
+use Rattle.irig_files.proofs.Intakes.{tells_heading}
 use Rattle.irig_ed.specs.Ending.{Ends, RunsBy, ends}
-use Rattle.irig_ed.specs.Files.Puts.{Put, texts_at}
+use Rattle.irig_files.specs.Puts.{Put, texts_at}
 use Rattle.irig_ed.specs.declared.command_line.chosen.Settings.{Settings}
 
 -- the wire of the settings
@@ -40,10 +39,6 @@ runs_by chosen source out out_new script left path path_new label label_new puts
       (subst (λ (d : Desk). RunsOnDump (wire_in chosen) chosen.format source script left (desk out (shelved (texts_at path mid) failures label)) d result)
       (λ j. desk out_new (shelved (texts_at (q j) new) failures_new (e j))) h);
 }
-
-pub tells_heading : (wire : Option (List ℕ)) (bytes : List ℕ) (fault e : VcdFault) → dump_parts wire bytes ≡ Err fault
-    → declarations_of wire (words_of bytes) ≡ Err e → fault ≡ e
-tells_heading wire bytes fault e is h = let both = sym is ∙ no_parts wire bytes e h in cc
 
 -- of a dump with a fault nothing was run
 pub fails_by : (chosen : Settings) (source : List ℕ) (at : Ends) (fault : VcdFault) → dump_parts (wire_in chosen) source ≡ Err fault

@@ -5,16 +5,16 @@ use Rattle.std.specs.Prelude.{option_map}
 use Rattle.clap.specs.Words.{Text}
 use Rattle.irig_script.specs.Obey.Desk.{desk}
 use Rattle.irig_script.specs.Obey.DumpRun.{RunsOnDump}
-use Rattle.irig_script.specs.Shelf.Shelved.{shelved}
+use Rattle.irig_text.specs.Shelved.{shelved}
 use Rattle.irig_script.specs.declared.obey.status.Status.{Status}
 use Rattle.irig_script.specs.declared.obey.dump_run.DumpRunFault.{DumpRunFault}
 use Rattle.irig_ed.specs.CommandLine.Settings.{Reads}
-use Rattle.irig_ed.specs.Files.Puts.{Put, texts_at}
+use Rattle.irig_files.specs.Puts.{Put, texts_at}
 use Rattle.irig_ed.specs.Statuses.{HasStatus}
 use Rattle.irig_ed.specs.declared.command_line.chosen.Settings.{Settings}
 use Rattle.irig_ed.specs.declared.ending.Ending.{Ending}
 use Rattle.irig_ed.specs.declared.ending.Ending.TheVariants.{Usage, Unread, Ran}
-use Rattle.irig_ed.specs.declared.files.dump_file.DumpFileFault.TheVariants.{TooLong}
+use Rattle.irig_files.specs.declared.dump_file.DumpFileFault.TheVariants.{TooLong}
 
 -- what is known of the ends of the program: what was printed, what was written, and what is left of
 -- the script

@@ -4,9 +4,9 @@ use Rattle.clap.specs.declared.error.Error.{Error}
 use Rattle.clap.specs.Words.{kind_of}
 use Rattle.clap.specs.declared.error.kind.ErrorKind.TheVariants.{DisplayHelp, DisplayVersion}
 use Rattle.irig_ed.specs.declared.command_line.chosen.UsageFault.TheVariants.{Words, BadExpression}
-use Rattle.irig_ed.specs.declared.files.dump_file.DumpFileFault.{DumpFileFault}
-use Rattle.irig_ed.specs.declared.files.dump_file.DumpFileFault.TheVariants.{CannotBeRead, TooLong}
-use Rattle.irig_ed.specs.declared.files.dump_file.DumpFileFault.TheVariants.{OutOfMemory}
+use Rattle.irig_files.specs.declared.dump_file.DumpFileFault.{DumpFileFault}
+use Rattle.irig_files.specs.declared.dump_file.DumpFileFault.TheVariants.{CannotBeRead, TooLong}
+use Rattle.irig_files.specs.declared.dump_file.DumpFileFault.TheVariants.{OutOfMemory}
 use Rattle.irig_ed.specs.declared.ending.Ending.{Ending}
 use Rattle.irig_ed.specs.declared.ending.Ending.TheVariants.{Usage, Unread, Ran}
 use Rattle.irig_script.specs.declared.obey.status.Status.{Status}

@@ -1,7 +1,7 @@
 //! How the program ends.
 
 use crate::command_line::chosen::UsageFault;
-use crate::files::dump_file::DumpFileFault;
+use irig_files::DumpFileFault;
 use irig_script::{DumpRunFault, Status};
 
 /// How the program ends, before it is reported.

@@ -4,17 +4,13 @@ ghost use Rattle.std.specs.Prelude.{◌≡◌, ℕ, List, map, option_map, strin
 ghost use Rattle.irig_vcd.specs.Answer.{Gives, name_of};
 ghost use Rattle.irig_vcd.specs.Parts.{dump_parts};
 ghost use Rattle.irig_ed.specs.Ending.{RunsBy, EndsBy, Obeys, ends};
-ghost use Rattle.irig_ed.specs.Files.Keeps.{Keeps};
-ghost use Rattle.irig_ed.specs.Files.Reads.{HasFewBytes, parts_of};
+ghost use Rattle.irig_files.specs.Keeps.{Keeps};
+ghost use Rattle.irig_files.specs.Reads.{HasFewBytes, parts_of};
 
 use crate::command_line::chosen::Settings;
 use crate::command_line::command_line::settings;
 use crate::ending::Ending;
-use crate::files::disk::Disk;
-use crate::files::dump_file::DumpFileFault;
-use crate::files::file_shelf::FileShelf;
-use crate::files::intake::Parts;
-use crate::files::room::Room;
+use irig_files::{Disk, DumpFileFault, FileShelf, Parts, Room};
 use irig_script::{DumpRunFault, Status, run_on_parts};
 use irig_vcd::VcdFault;
 use std::alloc::Global;

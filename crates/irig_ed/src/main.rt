@@ -4,18 +4,16 @@
 mod command_line;
 mod ending;
 mod file_run;
-mod files;
 mod statuses;
 
 ghost use Rattle.std.specs.Prelude.{◌≡◌, map, string_bytes};
 ghost use Rattle.std.specs.Process.{exit_status};
 ghost use Rattle.irig_ed.specs.Ending.{Serves, ends};
-ghost use Rattle.irig_ed.specs.Files.Keeps.{Keeps};
+ghost use Rattle.irig_files.specs.Keeps.{Keeps};
 
 use command_line::command_line::not_text;
 use file_run::obey_words;
-use files::disk::Disk;
-use files::system::System;
+use irig_files::{Disk, System};
 use statuses::{explain, report, tell};
 use std::io::{Read, Write};
 use std::process::ExitCode;

@@ -6,7 +6,7 @@ ghost use Rattle.irig_ed.specs.Statuses.{IsHelp, IsMistake, HasStatus, status_nu
 
 use crate::command_line::chosen::UsageFault;
 use crate::ending::Ending;
-use crate::files::dump_file::DumpFileFault;
+use irig_files::DumpFileFault;
 use irig_script::{DumpRunFault, RunFault, Status};
 use std::fmt::Display;
 use std::process::ExitCode;

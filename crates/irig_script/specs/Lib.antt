@@ -1,3 +1,3 @@
 pub mod Obey
 pub mod Print
-pub mod Shelf
+pub mod ShelfView

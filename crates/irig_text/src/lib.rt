@@ -4,9 +4,11 @@
 mod block;
 mod bytes;
 mod collect;
+mod shelf;
 mod text;
 
 pub use block::{ENOUGH, new_block};
 pub use bytes::Bytes;
 pub use collect::whole;
+pub use shelf::{Shelf, ShelfFault};
 pub use text::Text;

@@ -7,7 +7,7 @@ use Rattle.irig_edit.specs.Saved.SavedSession.{saved_text}
 use Rattle.irig_edit.specs.Session.Session.{grouped_in}
 use Rattle.irig_script.specs.Obey.Answer.{Answered, IsBad, IsObeyedAs, IsTooLong, Step, texts_of}
 use Rattle.irig_script.specs.Obey.Desk.{status_after}
-use Rattle.irig_script.specs.Shelf.Shelved.{GrowsBy}
+use Rattle.irig_text.specs.Shelved.{GrowsBy}
 use Rattle.irig_script.specs.Obey.Machine.{Machine}
 use Rattle.irig_script.specs.Obey.Obeying.{Obeys}
 use Rattle.irig_script.specs.Obey.OneRun.{OneRun, tells_failed_put, wants_memory}

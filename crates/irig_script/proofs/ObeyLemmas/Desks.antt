@@ -5,7 +5,7 @@ use Rattle.std.specs.Io.KnownBytes.{Appends}
 use Rattle.std.proofs.lemmas.List.{append-nil}
 use Rattle.std.proofs.lemmas.Grind.{flat_map-append}
 use Rattle.irig_script.specs.Print.Printed.{Answer, printed}
-use Rattle.irig_script.specs.Shelf.Shelved.{Shelved, Puts, GrowsBy}
+use Rattle.irig_text.specs.Shelved.{Shelved, Puts, GrowsBy}
 use Rattle.irig_script.specs.Obey.Desk.{Desk, Tells, failures_in, failures_of, status_after}
 use Rattle.irig_script.specs.declared.obey.status.Status.{Status}
 

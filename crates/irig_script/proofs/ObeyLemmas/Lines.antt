@@ -10,7 +10,7 @@ use Rattle.irig_lines.specs.Lines.{lines_of, until_quit, script_lines, is_quit}
 use Rattle.irig_script.specs.Obey.Answer.{Answered}
 use Rattle.irig_script.specs.Print.Printed.{Answer, printed}
 use Rattle.irig_script.specs.Obey.Desk.{Desk, desk, Tells, status_after}
-use Rattle.irig_script.specs.Shelf.Shelved.{Shelved}
+use Rattle.irig_text.specs.Shelved.{Shelved}
 use Rattle.irig_script.specs.Obey.Run.{Runs, Goes, IsPlain, IsObeyed, unlines}
 use Rattle.irig_script.specs.Obey.Progress.{Holds, Obeyed, BrokeIn}
 use Rattle.irig_script.specs.declared.obey.status.Status.{Status}

@@ -1,7 +1,7 @@
 -- What a reply to a command writes.
 use Rattle.std.proofs.Common.{List, ℕ}
 use Rattle.irig_script.specs.Obey.Desk.{IsQuiet, failures_of}
-use Rattle.irig_script.specs.Shelf.Shelved.{Shelved, Puts}
+use Rattle.irig_text.specs.Shelved.{Shelved, Puts}
 use Rattle.irig_script.specs.Obey.Replies.{texts_put}
 use Rattle.irig_script.specs.declared.print.reply.Reply.{Reply}
 use Rattle.irig_script.specs.declared.print.reply.Reply.TheVariants as told

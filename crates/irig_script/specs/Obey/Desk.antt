@@ -4,7 +4,7 @@ use Rattle.std.specs.Prelude.{◌+◌, ℕ, Bool, true, false, List, [], ◌∷�
 use Rattle.std.specs.Prelude.{if◌then◌else◌}
 use Rattle.std.specs.Io.KnownBytes.{Appends}
 use Rattle.irig_script.specs.Print.Printed.{Answer}
-use Rattle.irig_script.specs.Shelf.Shelved.{Shelved, Puts}
+use Rattle.irig_text.specs.Shelved.{Shelved, Puts}
 use Rattle.irig_script.specs.declared.print.reply.Reply.{Reply}
 use Rattle.irig_script.specs.declared.print.reply.Reply.TheVariants.{Written, Refused}
 use Rattle.irig_script.specs.declared.print.reply.Reply.TheVariants.{BadLine, LineTooLong}

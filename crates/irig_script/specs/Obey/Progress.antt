@@ -8,7 +8,7 @@ use Rattle.irig_script.specs.Obey.Answer.{Step}
 use Rattle.irig_script.specs.Print.Printed.{Answer, printed}
 use Rattle.irig_script.specs.Obey.Desk.{Desk, Tells, failures_of, status_after}
 use Rattle.irig_script.specs.Obey.Run.{Goes, IsPlain}
-use Rattle.irig_script.specs.Shelf.Shelved.{Shelved, Puts}
+use Rattle.irig_text.specs.Shelved.{Shelved, Puts}
 use Rattle.irig_script.specs.declared.print.reply.Reply.{Reply}
 use Rattle.irig_script.specs.declared.obey.status.Status.{Status}
 use Rattle.irig_script.specs.declared.obey.line.Line.{Line}

@@ -13,10 +13,10 @@ ghost use Rattle.irig_script.specs.declared.obey.dump_run.DumpRunFault.TheVarian
 
 use crate::obey::engine;
 use crate::obey::status::{RunFault, Status};
-use crate::shelf::shelf::Shelf;
 use irig_codes::Format;
 use irig_edit::Session;
 use irig_recording::Recording;
+use irig_text::Shelf;
 use irig_vcd::VcdFault;
 use std::alloc::Global;
 use std::io::{Read, Write};

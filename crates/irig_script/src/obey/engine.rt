@@ -19,8 +19,8 @@ use crate::obey::obeying::obey_line;
 use crate::obey::status::{RunFault, Status};
 use crate::print::output::PrintFault;
 use crate::print::reply::{Reply, print};
-use crate::shelf::shelf::Shelf;
 use irig_edit::Session;
+use irig_text::Shelf;
 use std::io::{Read, Write};
 
 /// The most bytes of one read of a script.

@@ -6,7 +6,7 @@ ghost use Rattle.irig_script.specs.Obey.Answer.{texts_of};
 ghost use Rattle.irig_script.specs.Obey.Desk.{IsQuiet, failures_of};
 ghost use Rattle.irig_script.specs.Obey.Progress.{Answers};
 ghost use Rattle.irig_script.specs.Obey.Replies.{texts_put};
-ghost use Rattle.irig_script.specs.Shelf.Shelved.{Puts};
+ghost use Rattle.irig_text.specs.Shelved.{Puts};
 ghost use Rattle.irig_lines.specs.declared.command.Command.{Command};
 
 use crate::obey::calls::{
@@ -16,9 +16,9 @@ use crate::obey::calls::{
 use crate::obey::line::Line;
 use crate::obey::writing::{write_dump, write_saved};
 use crate::print::reply::Reply;
-use crate::shelf::shelf::Shelf;
 use irig_edit::Session;
 use irig_lines::{BadLine, Command, parse_line};
+use irig_text::Shelf;
 
 /// Obeys a line; `None` if it ends the script.
 pub fn obey_line<S: Shelf>(line: &Line, session: &mut Session, shelf: &mut S) -> Option<Reply>

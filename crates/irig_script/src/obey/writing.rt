@@ -5,12 +5,11 @@ ghost use Rattle.irig_edit.specs.Saved.SavedSession.{saved_text};
 ghost use Rattle.irig_edit.specs.Session.Session.{machine_in};
 ghost use Rattle.irig_script.specs.Obey.Desk.{failures_of};
 ghost use Rattle.irig_script.specs.Obey.Replies.{Writes, dump_text, texts_put};
-ghost use Rattle.irig_script.specs.Shelf.Shelved.{Puts};
+ghost use Rattle.irig_text.specs.Shelved.{Puts};
 
 use crate::print::reply::Reply;
-use crate::shelf::shelf::Shelf;
 use irig_edit::Session;
-use irig_text::Text;
+use irig_text::{Shelf, Text};
 
 /// Writes the text of the track. It takes no memory.
 ///

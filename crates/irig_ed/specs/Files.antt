@@ -1,4 +1,0 @@
--- Files.
-pub mod Keeps
-pub mod Puts
-pub mod Reads

@@ -1,0 +1,6 @@
+-- The dump that is read.
+pub mod Intakes
+-- The texts that are written.
+pub mod Blocks
+pub mod Passed
+pub mod PutsAt

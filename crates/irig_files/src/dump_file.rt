@@ -1,0 +1,175 @@
+//! The dump in a file, read in parts.
+
+ghost use Rattle.std.specs.Prelude.{◌≡◌, ◌≢◌, ◌<◌, ◌^◌, ◌↔◌, ℕ, List, None, IfOk, OnOk};
+ghost use Rattle.std.specs.Prelude.{IfErr, IfSome, IsErrOf, IsTrue, true, false, length};
+ghost use Rattle.std.specs.Fs.{IsFile, file_type, metadata_len};
+ghost use Rattle.std.specs.Io.KnownBytes.{Consumes, IsAtEnd};
+ghost use Rattle.irig_vcd.specs.Answer.{name_of};
+ghost use Rattle.irig_files.specs.Reads.{IsCounted, IsReadOf, Takes};
+ghost use Rattle.irig_files.specs.declared.dump_file.DumpFileFault.TheVariants.{TooLong};
+
+use crate::intake::{DUMP_LIMIT, Intake, Parts};
+use irig_vcd::VcdFault;
+use std::alloc::Global;
+use std::fs::{Metadata, OpenFile};
+use std::io::{ErrorKind, Read};
+use std::rt::Files;
+use std::{fs, io};
+
+/// How many bytes are read at a time.
+const PART: usize = 65_536;
+
+/// Why the dump in a file was not read.
+#[derive(Clone, Copy)]
+pub enum DumpFileFault {
+    /// The file is missing, or is none, or there is no permission to read it.
+    CannotBeRead,
+    /// The file has more than 2^28 bytes.
+    TooLong,
+    /// A growth was refused.
+    OutOfMemory,
+}
+
+impl From<io::Error> for DumpFileFault {
+    ghost from_gives = { λ _ e. e ≢ TooLong };
+
+    fn from(error: io::Error) -> DumpFileFault {
+        match error.kind() {
+            ErrorKind::OutOfMemory => DumpFileFault::OutOfMemory,
+            _ => DumpFileFault::CannotBeRead,
+        }
+    }
+}
+
+/// Whether an open file shows that it has more than 2^28 bytes.
+fn is_too_long<F: OpenFile>(file: &F) -> bool {
+    match file.metadata() {
+        Ok(described) => shows_more(&described),
+        Err(_) => false,
+    }
+}
+
+/// Whether a file that is so described has more than 2^28 bytes: only a regular one shows it.
+fn shows_more(described: &Metadata) -> bool
+    ensures { IsTrue result
+        ↔ (IsFile (file_type described.now) × (2 ^ 28 < metadata_len described.now)) }
+{
+    described.is_file() && described.len() > DUMP_LIMIT as u64
+}
+
+/// After an error more can be read only if it was an interruption. Any other is the fault.
+fn after_error(error: io::Error) -> Result<bool, DumpFileFault>
+    ensures more { IfOk result (λ is_more. is_more ≡ true) }
+    ensures read { IfErr result (λ fault. fault ≢ TooLong) }
+{
+    match error.kind() {
+        ErrorKind::Interrupted => Ok(true),
+        _ => Err(DumpFileFault::from(error)),
+    }
+}
+
+/// Takes in the next part that a reader gives, and returns whether it may have more.
+fn take_part<R: Read>(
+    dump: &mut Intake,
+    reader: &mut R,
+    part: &mut [u8],
+) -> Result<bool, DumpFileFault>
+    requires counted { IsCounted dump.old }
+    ensures part { length part.new ≡ length part.old }
+    ensures taken { OnOk result ((some : List ℕ) × Takes some dump.old dump.new
+        × Consumes (R.remaining reader.old) (R.remaining reader.new) some) }
+    ensures end { IfOk result (λ is_more. is_more ≡ false → 0 < length part.old
+        → 0 < dump.new.left → IsAtEnd (R.remaining reader.new)) }
+    ensures counted { OnOk result (IsCounted dump.new) }
+    ensures read { IfErr result (λ fault. fault ≢ TooLong) }
+{
+    let wanted = dump.wanted(part.len());
+    match reader.read(&mut part[..wanted]) {
+        Ok(0) => Ok(false),
+        Ok(count) => match dump.put(&part[..count]) {
+            Ok(()) => Ok(true),
+            Err(fault) => Err(fault),
+        },
+        Err(error) => after_error(error),
+    }
+}
+
+/// Takes in all that a reader has left, part by part, but no more than is wanted.
+fn take_all<R: Read>(
+    dump: &mut Intake,
+    reader: &mut R,
+    part: &mut [u8],
+) -> Result<(), DumpFileFault>
+    requires room { 0 < length part.old }
+    requires counted { IsCounted dump.old }
+    ensures taken { OnOk result ((some : List ℕ) × Takes some dump.old dump.new
+        × Consumes (R.remaining reader.old) (R.remaining reader.new) some) }
+    ensures end { OnOk result (0 < dump.new.left → IsAtEnd (R.remaining reader.new)) }
+    ensures counted { OnOk result (IsCounted dump.new) }
+    ensures read { IfErr result (λ fault. fault ≢ TooLong) }
+{
+    for _ in 0..u64::MAX {
+        match take_part(dump, reader, part) {
+            Ok(true) => {}
+            Ok(false) => return Ok(()),
+            Err(fault) => return Err(fault),
+        }
+    }
+    // no file has that many parts: only a reader that is interrupted again and again comes here
+    Err(DumpFileFault::CannotBeRead)
+}
+
+/// Reads a dump. Of one that is too long, one byte more is read than it has at most.
+fn read_whole<R: Read + Drop>(
+    alloc: Global,
+    mut reader: R,
+    wire: Option<&[u8]>,
+) -> Result<Result<Parts, VcdFault>, DumpFileFault>
+    ensures read { IfOk result (IsReadOf (R.remaining reader) (name_of wire.entry)) }
+    ensures long { IsErrOf result DumpFileFault.TooLong
+        → IfSome (R.remaining reader) (λ all. 2 ^ 28 < length all) }
+{
+    let mut part = [0; PART];
+    read_by_parts(alloc, &mut reader, &mut part, wire)
+}
+
+/// The same, part by part.
+fn read_by_parts<R: Read>(
+    alloc: Global,
+    reader: &mut R,
+    part: &mut [u8],
+    wire: Option<&[u8]>,
+) -> Result<Result<Parts, VcdFault>, DumpFileFault>
+    requires { 0 < length part.old }
+    ensures read { IfOk result (IsReadOf (R.remaining reader.old) (name_of wire.entry)) }
+    ensures long { IsErrOf result DumpFileFault.TooLong
+        → IfSome (R.remaining reader.old) (λ all. 2 ^ 28 < length all) }
+{
+    let Ok(mut dump) = Intake::new(alloc, wire) else {
+        return Err(DumpFileFault::OutOfMemory);
+    };
+    match take_all(&mut dump, reader, part) {
+        Ok(()) => dump.end(),
+        Err(fault) => {
+            dump.let_go();
+            Err(fault)
+        }
+    }
+}
+
+/// Reads the dump in the file at a path. At most one more byte than 2^28 is read, and none if the
+/// file's size is greater.
+pub fn read_dump<R: Files>(
+    rt: &R,
+    alloc: Global,
+    path: &str,
+    wire: Option<&[u8]>,
+) -> Result<Result<Parts, VcdFault>, DumpFileFault>
+    ensures { IfOk result (IsReadOf None (name_of wire.entry)) }
+{
+    let file = fs::open(rt, path)?;
+    if is_too_long(&file) {
+        return Err(DumpFileFault::TooLong);
+    }
+    read_whole(alloc, file, wire)
+}

@@ -1,0 +1,51 @@
+//! A shelf that is a file.
+
+ghost use Rattle.std.specs.Prelude.{◌≡◌, ◌∷◌};
+ghost use Rattle.irig_text.specs.Shelved.{shelved};
+ghost use Rattle.irig_files.specs.Puts.{texts_at};
+
+use crate::disk::Disk;
+use crate::room::Room;
+use irig_text::{Shelf, ShelfFault, Text};
+
+/// A shelf that is a file: each write replaces the file at a path whole.
+#[derive(Drop)]
+pub struct FileShelf<'d, 'p, D: Disk> {
+    disk: &'d mut D,
+    path: &'p str,
+    room: &'d mut Room,
+    failures: u64,
+}
+
+impl<'d, 'p, D: Disk> FileShelf<'d, 'p, D> {
+    /// The shelf of the file at a path, which does not have to be there. Each write uses the
+    /// room.
+    pub fn new(disk: &'d mut D, path: &'p str, room: &'d mut Room) -> FileShelf<'d, 'p, D>
+        ensures same_disk { result.disk.ghost_name ≡ disk.entry.ghost_name }
+        ensures disk { result.disk.now ≡ disk.old }
+        ensures path { result.path.now ≡ path.now }
+        ensures none_failed { result.failures ≡ 0 }
+    {
+        FileShelf {
+            disk,
+            path,
+            room,
+            failures: 0,
+        }
+    }
+}
+
+impl<'d, 'p, D: Disk> Shelf for FileShelf<'d, 'p, D> {
+    ghost known = { λ s. shelved (texts_at s.path.now (D.puts s.disk.now)) s.failures
+        (s.disk.ghost_name ∷ s.path.now) };
+
+    fn put<T: Text>(&mut self, text: &mut T) -> Result<u64, ShelfFault> {
+        match self.disk.put(self.path, text, self.room) {
+            Ok(written) => Ok(written.count()),
+            Err(fault) => {
+                self.failures = self.failures.saturating_add(1);
+                Err(fault)
+            }
+        }
+    }
+}

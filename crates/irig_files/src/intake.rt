@@ -1,0 +1,115 @@
+//! The dump in a file, as far as it is taken in.
+
+ghost use Rattle.std.specs.Prelude.{◌≡◌, ◌≢◌, ◌≤◌, ◌<◌, ◌⊎◌, [], ℕ, List, Option, None};
+ghost use Rattle.std.specs.Prelude.{Ok, Err, IfOk, IfErr, IsOk, IsErrOf, OnOk, OnErr, length, min};
+ghost use Rattle.irig_vcd.specs.Answer.{Gives, name_of};
+ghost use Rattle.irig_vcd.specs.Declarations.{declarations_of};
+ghost use Rattle.irig_vcd.specs.Parts.{dump_parts};
+ghost use Rattle.irig_vcd.specs.Words.{words_of};
+ghost use Rattle.irig_vcd.specs.declared.fault.VcdFault.{VcdFault};
+ghost use Rattle.irig_vcd.specs.declared.fault.VcdFault.TheVariants.{OutOfMemory};
+ghost use Rattle.irig_files.specs.Reads.{HasFewBytes, HasTaken, IsCounted, Takes, parts_of};
+ghost use Rattle.irig_files.specs.declared.dump_file.DumpFileFault.TheVariants as file;
+
+use crate::dump_file::DumpFileFault;
+use irig_recording::Recording;
+use irig_vcd::{DumpReader, VcdFault};
+use std::alloc::{AllocError, Global};
+use std::mem;
+
+/// What a dump says of a wire, and the text of the journal that it carries.
+pub type Parts = (Recording, Option<Vec<u8>>);
+
+/// The most bytes of a dump.
+pub const DUMP_LIMIT: usize = 268_435_456;
+
+/// The dump in a file, as far as it is taken in.
+#[derive(Drop)]
+pub struct Intake {
+    /// What is read of it; or its fault, and then more bytes are only counted.
+    dump: Result<DumpReader, VcdFault>,
+    /// How many bytes are still taken: in all, one more than a dump has.
+    left: usize,
+}
+
+impl Intake {
+    /// No byte of a dump, for the wire of a name, or for the one wire of one bit.
+    pub fn new(alloc: Global, wire: Option<&[u8]>) -> Result<Intake, AllocError>
+        ensures taken { IfOk result (HasTaken (name_of wire.entry) []) }
+        ensures counted { IfOk result IsCounted }
+    {
+        Ok(Intake {
+            dump: Ok(DumpReader::new(alloc, wire)?),
+            left: DUMP_LIMIT + 1,
+        })
+    }
+
+    /// How many bytes are taken at once, if there is room for that many.
+    pub fn wanted(&self, room: usize) -> usize
+        ensures { result ≡ min self.now.left room }
+    {
+        self.left.min(room)
+    }
+
+    /// Takes the next part of the dump. It fails only if memory runs out, and nothing is left then.
+    pub fn put(&mut self, part: &[u8]) -> Result<(), DumpFileFault>
+        requires wanted { length part.now ≤ self.old.left }
+        requires counted { IsCounted self.old }
+        ensures taken { OnOk result (Takes part.now self.old self.new) }
+        ensures counted { OnOk result (IsCounted self.new) }
+        ensures memory { IfErr result (λ fault. fault ≡ file.OutOfMemory) }
+    {
+        self.left -= part.len();
+        let dump = match mem::replace(&mut self.dump, Err(VcdFault::OutOfMemory)) {
+            Ok(reader) => unless_short(reader.put(part))?,
+            Err(fault) => Err(fault),
+        };
+        let_go(mem::replace(&mut self.dump, dump));
+        Ok(())
+    }
+
+    /// Frees what is taken in.
+    pub fn let_go(self) {
+        let_go(self.dump);
+    }
+
+    /// What the dump says, if nothing comes after its parts.
+    pub fn end(self) -> Result<Result<Parts, VcdFault>, DumpFileFault>
+        requires counted { IsCounted self }
+        ensures read { IfOk result (λ read. (wire : Option (List ℕ)) (bytes : List ℕ)
+            → HasTaken wire bytes self → Gives parts_of read (dump_parts wire bytes)) }
+        ensures within { IfOk result HasFewBytes }
+        ensures short { IfOk result (λ _. 0 < self.left) }
+        ensures long { IsErrOf result file.TooLong → self.left ≡ 0 }
+        ensures fault { IfErr result (λ fault. ((fault ≡ file.TooLong) × (self.left ≡ 0))
+            ⊎ ((fault ≡ file.OutOfMemory) × (0 < self.left) × IsOk self.dump)) }
+        // A fault of declarations that are held is reported as it is, even if memory runs out.
+        ensures heading { (wire : Option (List ℕ)) (bytes : List ℕ) (e : VcdFault)
+            → HasTaken wire bytes self → IfOk self.dump (λ reader. reader.unit ≡ None)
+            → 0 < self.left → e ≢ OutOfMemory
+            → declarations_of wire (words_of bytes) ≡ Err e → result ≡ Ok (Err e) }
+    {
+        if self.left == 0 {
+            return Err(DumpFileFault::TooLong);
+        }
+        match self.dump {
+            Ok(reader) => unless_short(reader.end()),
+            Err(fault) => Ok(Err(fault)),
+        }
+    }
+}
+
+/// Frees what is read.
+fn let_go(_dump: Result<DumpReader, VcdFault>) {}
+
+/// What reading gives, unless memory ran out.
+fn unless_short<T: Drop>(read: Result<T, VcdFault>) -> Result<Result<T, VcdFault>, DumpFileFault>
+    ensures same { IfOk result (λ given. (given ≡ read) × (given ≢ Err OutOfMemory)) }
+    ensures memory { IfErr result (λ fault. fault ≡ file.OutOfMemory) }
+    ensures only { OnErr result (read ≡ Err OutOfMemory) }
+{
+    match read {
+        Err(VcdFault::OutOfMemory) => Err(DumpFileFault::OutOfMemory),
+        read => Ok(read),
+    }
+}

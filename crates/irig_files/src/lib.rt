@@ -1,0 +1,22 @@
+//! Files: the dump that is read, and the shelf that is written.
+#![tactic(auto)]
+
+mod disk;
+mod dump_file;
+mod file_shelf;
+mod in_place;
+mod intake;
+mod links;
+mod put_file;
+mod room;
+mod system;
+mod whole;
+mod written;
+
+pub use disk::Disk;
+pub use dump_file::DumpFileFault;
+pub use file_shelf::FileShelf;
+pub use intake::Parts;
+pub use room::Room;
+pub use system::System;
+pub use written::Written;

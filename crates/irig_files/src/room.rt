@@ -1,0 +1,38 @@
+//! The memory of a write.
+
+ghost use Rattle.std.specs.Prelude.{◌≡◌, [], IfOk};
+
+use irig_text::new_block;
+use std::alloc::{AllocError, Global};
+use std::path::PathBuf;
+
+/// How many bytes a name has room for. A path of the system has at most 4,095, and one that leads
+/// from it through a link has no more than twice as many.
+const NAME: usize = 8192;
+
+/// What a write needs memory for. It is made once, so no write asks for more.
+#[derive(Drop)]
+pub struct Room {
+    /// The parts of a text wait here.
+    pub block: Vec<u8>,
+    /// The path of the file that is written.
+    pub target: PathBuf,
+    /// The path of a new file, but for its number.
+    pub stem: PathBuf,
+    /// The name of a new file.
+    pub name: String,
+}
+
+impl Room {
+    /// Room for any number of writes, one after another.
+    pub fn new(alloc: Global) -> Result<Room, AllocError>
+        ensures { IfOk result (λ room. room.block.items ≡ []) }
+    {
+        Ok(Room {
+            block: new_block(alloc)?,
+            target: PathBuf::with_capacity(alloc, NAME)?,
+            stem: PathBuf::with_capacity(alloc, NAME)?,
+            name: String::with_capacity(alloc, NAME)?,
+        })
+    }
+}

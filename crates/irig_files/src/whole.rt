@@ -1,0 +1,49 @@
+//! A text written whole to a regular file.
+
+ghost use Rattle.std.specs.Prelude.{◌≡◌, ◌⊎◌, length, Ok, IfOk, OnOk, OnErr, IsErr};
+ghost use Rattle.irig_disk.specs.Disk.{LeavesOnly};
+ghost use Rattle.irig_disk.specs.Put.{OldOrNewIfThere, IsKept, IsPut, SeenSameIfThere, held};
+
+use irig_disk::{Folder, Kept, put_text};
+use irig_text::{ShelfFault, Text};
+
+/// Writes a text to the target in a folder, by a new file that has the stem and a number as its
+/// name until it takes the target's. It takes the mode, if one is given. That name is written to
+/// `name`, and the parts of the text wait in the block.
+pub fn write_whole<F: Folder, T: Text>(
+    folder: &mut F,
+    name: &mut String,
+    target: &str,
+    stem: &str,
+    mode: Option<u32>,
+    text: &mut T,
+    block: &mut Vec<u8>,
+) -> Result<Kept, ShelfFault>
+    // A crash at any moment of the call leaves the old text at the target or the new one, whole,
+    // and each other name that was there as it was.
+    ensures any_moment { F.is_told → LeavesOnly (F.disk folder.old) (F.disk folder.new)
+        (OldOrNewIfThere (F.disk folder.old) target.now
+        (held F.usual_mode mode (T.rest text.old))) }
+    // After `Ok` each crash leaves the new text.
+    ensures ok { F.is_told → OnOk result (IsKept (F.disk folder.old) (F.disk folder.new)
+        target.now (held F.usual_mode mode (T.rest text.old))) }
+    // After a fault all is seen as it was, or the names could not be kept.
+    ensures err { F.is_told → OnErr result
+        (SeenSameIfThere (F.disk folder.old) (F.disk folder.new) target.now
+        ⊎ IsPut (F.disk folder.old) (F.disk folder.new) target.now
+        (held F.usual_mode mode (T.rest text.old))) }
+    ensures count { IfOk result (λ kept. kept.count ≡ length (T.rest text.old)) }
+{
+    or_shelf_fault(put_text(folder, name, target, stem, mode, text, block))
+}
+
+/// What a call gives; its error is not reported.
+pub fn or_shelf_fault<T: Drop, E: Drop>(outcome: Result<T, E>) -> Result<T, ShelfFault>
+    ensures given { IfOk result (λ value. outcome ≡ Ok value) }
+    ensures failed { OnErr result (IsErr outcome) }
+{
+    match outcome {
+        Ok(value) => Ok(value),
+        Err(_) => Err(ShelfFault),
+    }
+}

@@ -1,3 +1,0 @@
--- Where texts are written.
-pub mod Shelved
-pub mod ShelfView

@@ -1,0 +1,87 @@
+//! A shelf in memory.
+
+ghost use Rattle.std.specs.Prelude.{◌≡◌, ◌++◌, ◌∷◌, [], length, map, Some, IfOk, IsErr, IsFalse};
+ghost use Rattle.std.specs.Prelude.{IsTrue, OnErr, OnOk};
+ghost use Rattle.irig_script.specs.ShelfView.{known_of, next_put, shelf_view};
+ghost use Rattle.irig_text.specs.Shelved.{Puts};
+
+use irig_text::{Shelf, ShelfFault, Text, whole};
+use std::alloc::Global;
+use std::marker::Model;
+
+/// A shelf that keeps its texts, for tests: one write may be set to fail.
+#[derive(Drop)]
+pub struct MemoryShelf {
+    alloc: Global,
+    fail: Option<u64>,
+    puts: u64,
+    failures: u64,
+    texts: Vec<Vec<u8>>,
+}
+
+impl Model for MemoryShelf {
+    ghost use Rattle.std.specs.Prelude.{map};
+    ghost use Rattle.irig_script.specs.ShelfView.{ShelfView, shelf_view};
+
+    ghost Value = { ShelfView };
+
+    ghost view = { λ s.
+        shelf_view (map (λ t. t.items) s.texts.items) s.failures s.puts s.fail };
+}
+
+impl MemoryShelf {
+    /// An empty shelf. The write of this number, from 1, fails.
+    pub fn new(alloc: Global, fail: Option<u64>) -> MemoryShelf
+        ensures { result ≡ shelf_view [] 0 0 fail }
+    {
+        MemoryShelf {
+            alloc,
+            fail,
+            puts: 0,
+            failures: 0,
+            texts: Vec::new(alloc),
+        }
+    }
+
+    /// The texts written, in order.
+    pub fn texts(&self) -> &[Vec<u8>]
+        ensures { map (λ t. t.items) result.now ≡ self.now.texts }
+    {
+        self.texts.as_slice()
+    }
+}
+
+impl Shelf for MemoryShelf {
+    ghost known = { λ s. known_of s };
+
+    fn put<T: Text>(&mut self, text: &mut T) -> Result<u64, ShelfFault>
+        ensures count { IfOk result (λ count. count ≡ length (T.rest text.old)) }
+        ensures ok { OnOk result
+            (Puts (known_of self.old) (known_of self.new) (T.rest text.old ∷ []) 0) }
+        ensures err { OnErr result (Puts (known_of self.old) (known_of self.new) [] 1) }
+        ensures told { self.old.fail ≡ Some (next_put self.old) → IsErr result }
+        ensures puts { self.new.puts ≡ next_put self.old }
+        ensures fail { self.new.fail ≡ self.old.fail }
+    {
+        self.puts = self.puts.saturating_add(1);
+        if self.fail != Some(self.puts)
+            && let Ok(text) = whole(self.alloc, 0, text)
+        {
+            let count = text.len() as u64;
+            if keep(&mut self.texts, text) {
+                return Ok(count);
+            }
+        }
+        self.failures = self.failures.saturating_add(1);
+        Err(ShelfFault)
+    }
+}
+
+/// Adds a text, unless memory runs out, and returns whether it did.
+fn keep(texts: &mut Vec<Vec<u8>>, text: Vec<u8>) -> bool
+    ensures kept { IsTrue result → map (λ t. t.items) texts.new.items
+        ≡ map (λ t. t.items) texts.old.items ++ text.items ∷ [] }
+    ensures lost { IsFalse result → texts.new.items ≡ texts.old.items }
+{
+    texts.push(text).is_ok()
+}
