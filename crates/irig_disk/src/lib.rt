@@ -12,8 +12,6 @@ mod memory_fault;
 mod new_text;
 mod put;
 mod system;
-#[cfg(test)]
-mod tests;
 
 pub use call::Call;
 pub use fault::PutFault;

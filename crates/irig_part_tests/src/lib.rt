@@ -4,6 +4,8 @@
 #[cfg(test)]
 mod codes;
 #[cfg(test)]
+mod disks;
+#[cfg(test)]
 mod dumps;
 #[cfg(test)]
 mod edges;

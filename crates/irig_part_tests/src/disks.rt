@@ -2,13 +2,7 @@
 
 ghost use Rattle.std.specs.Prelude.{◌≡◌};
 
-use crate::call::Call;
-use crate::fault::PutFault;
-use crate::kept::Kept;
-use crate::left::{bytes_of, is_kept};
-use crate::memory::{Memory, file_at};
-use crate::memory_fault::MemoryFault;
-use crate::put::put_text;
+use irig_disk::{Call, Kept, Memory, MemoryFault, PutFault, bytes_of, file_at, is_kept, put_text};
 use irig_text::{Bytes, ENOUGH, Text};
 use std::alloc::{AllocError, Global};
 
