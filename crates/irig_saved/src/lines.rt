@@ -15,8 +15,8 @@ ghost use Rattle.irig_saved.specs.Values.{words_of_three, words_of_two};
 use crate::cut::word_of;
 use crate::letter::Letter;
 use crate::single::Single;
-use crate::words::{distance, expression, kind, moved, number, time};
-use irig_codes::Kind;
+use crate::words::{distance, expression, moved, number, time};
+use irig_codes::{Kind, kind_named};
 use irig_track::Pulse;
 
 /// What is in a line after a word and a space.
@@ -48,7 +48,7 @@ pub fn format(head: &[u8], text: &[u8]) -> Option<(Kind, u8)>
     ensures { Decodes IsFormat (λ f. line head.now (words_of_format f)) text.now result }
 {
     let (name, rest) = word_of(behind(head, text)?)?;
-    Some((kind(name)?, expression(rest)?))
+    Some((kind_named(name)?, expression(rest)?))
 }
 
 /// The time in the line of a mark, if it is the one of this letter.

@@ -2,12 +2,10 @@
 
 ghost use Rattle.std.specs.Prelude.{◌≡◌, ◌≤◌, decimal, length};
 ghost use Rattle.std.specs.Fmt.{signed_decimal};
-ghost use Rattle.irig_codes.specs.Words.{kind_word};
 ghost use Rattle.irig_saved.specs.Ranges.{IsNumber, IsDistance, IsTime};
 ghost use Rattle.irig_saved.specs.ChangeWords.{moved_word, time_word};
-ghost use Rattle.irig_saved.specs.Reading.{Decodes, AreLetters, Any};
+ghost use Rattle.irig_saved.specs.Reading.{Decodes, AreLetters};
 
-use irig_codes::{Kind, kind_named};
 use itoa::Buffer;
 
 /// The number that a word is in decimal, without a sign or leading zeros.
@@ -44,13 +42,6 @@ pub fn distance(word: &[u8]) -> Option<i64>
     } else {
         None
     }
-}
-
-/// The kind whose letter a word is.
-pub fn kind(word: &[u8]) -> Option<Kind>
-    ensures { Decodes Any (kind_word) word.now result }
-{
-    kind_named(word)
 }
 
 /// The expression that a word is: a digit 0 to 7.

@@ -114,7 +114,11 @@ impl Progress {
             × (self.new.gone ≡ self.old.gone) × (self.new.held ≡ self.old.held)
             × (self.new.wanted ≡ self.old.wanted) }
     {
-        match self.reading.first_journal(self.gone + whole) {
+        let first = self
+            .reading
+            .journals
+            .so_far(self.reading.pending, self.gone + whole);
+        match first {
             None => Ok(()),
             Some(place) => {
                 let read = &self.held[..whole];

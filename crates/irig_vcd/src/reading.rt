@@ -4,8 +4,7 @@ ghost use Rattle.std.specs.Prelude.{◌≡◌, ◌≤◌, ◌++◌, ◌^◌, [],
 ghost use Rattle.irig_vcd.specs.Answer.{IsFaultOf};
 ghost use Rattle.irig_vcd.specs.Changes.{changes_from, IsStill};
 ghost use Rattle.irig_vcd.specs.Code.Along.{Total};
-ghost use Rattle.irig_vcd.specs.Code.Gathered.{so_far};
-ghost use Rattle.irig_vcd.specs.Code.Journals.{Holds, place_view};
+ghost use Rattle.irig_vcd.specs.Code.Journals.{Holds};
 ghost use Rattle.irig_vcd.specs.Code.Reached.{HasReached, HasReachedFrom, IsOn, Told};
 ghost use Rattle.irig_vcd.specs.Code.Trace.{IsKept, KeepsEdges};
 ghost use Rattle.irig_vcd.specs.Events.{any_word};
@@ -16,7 +15,7 @@ ghost use Rattle.irig_vcd.specs.declared.fault.VcdFault.TheVariants.{OutOfMemory
 
 use crate::changes::{Body, follow};
 use crate::fault::VcdFault;
-use crate::journals::{Journals, Place};
+use crate::journals::Journals;
 use crate::pending::{Pending, closed};
 use crate::time::{Clock, micros};
 use crate::token::Tokens;
@@ -76,14 +75,6 @@ impl Reading {
             &mut self.pending,
         )?;
         Ok(())
-    }
-
-    /// The place of the first journal so far, if there is one: up to `top`, if it is open.
-    pub fn first_journal(&self, top: usize) -> Option<Place>
-        ensures { place_view result
-            ≡ so_far (place_view self.now.journals.first) self.now.pending top }
-    {
-        self.journals.so_far(self.pending, top)
     }
 
     /// What was read, if nothing comes after it.

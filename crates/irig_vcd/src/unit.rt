@@ -65,54 +65,38 @@ impl Unit {
     }
 
     /// The largest whole part of a time that is within 2^40 microseconds.
+    #[tactic(auto, unfolding(crate::specs::Code::Time::limit_of))]
     pub fn limit(self) -> u64
         ensures { result ≡ limit_of self }
     {
-        limit(self.exponent)
+        match self.exponent {
+            10 => 109951162777,
+            11 => 10995116277,
+            12 => 1099511627,
+            13 => 109951162,
+            14 => 10995116,
+            15 => 1099511,
+            16 => 109951,
+            17 => 10995,
+            _ => 1 << 40,
+        }
     }
 
     /// How many microseconds one of the whole part of a time counts.
+    #[tactic(auto, unfolding(crate::specs::Code::Time::factor_of))]
     pub fn factor(self) -> u64
         ensures { result ≡ factor_of self }
     {
-        factor(self.exponent)
-    }
-}
-
-/// The largest whole part of a time within 2^40 microseconds, by the power of ten of its unit.
-#[tactic(auto, unfolding(crate::specs::Code::Time::limit_of))]
-fn limit(exponent: u8) -> u64
-    requires { exponent ≤ 17 }
-    ensures { result ≡ limit_of exponent }
-{
-    match exponent {
-        10 => 109951162777,
-        11 => 10995116277,
-        12 => 1099511627,
-        13 => 109951162,
-        14 => 10995116,
-        15 => 1099511,
-        16 => 109951,
-        17 => 10995,
-        _ => 1 << 40,
-    }
-}
-
-/// How many microseconds one of the whole part counts, by the power of ten of the unit.
-#[tactic(auto, unfolding(crate::specs::Code::Time::factor_of))]
-fn factor(exponent: u8) -> u64
-    requires { exponent ≤ 17 }
-    ensures { result ≡ factor_of exponent }
-{
-    match exponent {
-        10 => 10,
-        11 => 100,
-        12 => 1000,
-        13 => 10000,
-        14 => 100000,
-        15 => 1000000,
-        16 => 10000000,
-        17 => 100000000,
-        _ => 1,
+        match self.exponent {
+            10 => 10,
+            11 => 100,
+            12 => 1000,
+            13 => 10000,
+            14 => 100000,
+            15 => 1000000,
+            16 => 10000000,
+            17 => 100000000,
+            _ => 1,
+        }
     }
 }

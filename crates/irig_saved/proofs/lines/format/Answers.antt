@@ -10,10 +10,10 @@ returns-in_err-name c =
     rw c.from_residual-in_err-name.ensures (λ f h e.
     headed_one c.args.text.now c.args.head.now c.in_ok-behind.field-0.now (kind_word f.0) (decimal f.1 ++ []) c.in_ok-behind.ensures c.in_err-name.ensures e)
 
-pub returns-in_err-kind : goal.returns-in_err-kind
-returns-in_err-kind c =
-    rw c.from_residual-in_err-kind.ensures (λ f h e.
-    c.in_err-kind.ensures f.0 tt (headed_words c.args.text.now c.args.head.now c.in_ok-behind.field-0.now c.in_ok-name.name.now c.in_ok-name.rest.now
+pub returns-in_err-kind_named : goal.returns-in_err-kind_named
+returns-in_err-kind_named c =
+    rw c.from_residual-in_err-kind_named.ensures (λ f h e.
+    c.in_err-kind_named.ensures.named f.0 (headed_words c.args.text.now c.args.head.now c.in_ok-behind.field-0.now c.in_ok-name.name.now c.in_ok-name.rest.now
     (kind_word f.0) (decimal f.1) c.in_ok-behind.ensures c.in_ok-name.ensures.0 c.in_ok-name.ensures.1 (wordy_lacks (kind_word f.0) (kind_is_word f.0)) e).0)
 
 pub returns-in_err-expression : goal.returns-in_err-expression
