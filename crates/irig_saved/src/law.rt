@@ -14,5 +14,6 @@ pub fn readable(saved: &Saved, other: &Saved)
         → journal_text saved.now ≡ journal_text other.now
         → saved.now ≡ other.now }
 {
+    // Read for the law of their type alone.
     let _ = saved.cursor == other.cursor;
 }

@@ -63,6 +63,7 @@ impl Track {
             × (result.new ≡ length put.old.items) }
         ensures spanned { IsSpan result.at result.old result.new self.old.pulses self.new.pulses }
     {
+        // Read for its bound alone.
         let _count = self.pulses.len();
         let come = put.len();
         replace(&mut self.pulses, at, count, put, taken);
@@ -144,6 +145,7 @@ impl Track {
         self.pulses.move_to(at);
         toggle_right(&mut self.pulses, a, b);
         let end = self.pulses.gap_at();
+        // Read for its bound alone.
         let _count = self.pulses.len();
         Span {
             at,

@@ -37,6 +37,7 @@ pub(crate) fn move_pulses(pulses: &mut Gap<Pulse>, at: usize, count: usize, on: 
         pulses.old.items)
         pulses.old.place pulses.old.capacity }
 {
+    // Read for its bound alone.
     let _count = pulses.len();
     let mut moved = 0;
     while moved < count {

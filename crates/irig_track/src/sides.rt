@@ -44,6 +44,7 @@ pub(crate) fn put_last(pulses: &mut Gap<Pulse>, rise: u64, fall: u64)
     ensures rest { (pulses.new.place ≡ pulses.old.place + 1)
         × (pulses.new.capacity ≡ pulses.old.capacity) }
 {
+    // Read for its bound alone.
     let _place = pulses.gap_at();
     pulses.put(Pulse { rise, fall });
 }

@@ -33,6 +33,7 @@ pub(crate) fn replace(
     if count == come {
         exchange(pulses, at, count, put, taken);
     } else {
+        // Read for its bound alone.
         let _count = pulses.len();
         pulses.move_to(at);
         carry(pulses, count, taken);
@@ -88,6 +89,7 @@ fn carry(from: &mut Gap<Pulse>, count: usize, to: &mut Gap<Pulse>)
         (to.old.place + count) to.old.capacity }
 {
     let mut moved = 0;
+    // Read for its bound alone.
     let _place = to.gap_at();
     while moved < count {
         match from.take_right() {

@@ -111,6 +111,7 @@ impl Track {
         ensures unchanged { OnErr result (self.new ≡ self.old) }
         ensures refused { OnErr result (self.old.spare < more) }
     {
+        // Read for its bound alone.
         let _count = self.pulses.len();
         self.pulses.reserve(more)
     }
