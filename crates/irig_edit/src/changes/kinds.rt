@@ -30,8 +30,10 @@ pub(crate) fn turn_toggle(track: &mut Track, a: u64, b: u64) -> Span
         × (result.new ≤ risen_by b track.old.pulses - risen_by a track.old.pulses + 2) }
     ensures spanned { IsSpan result.at result.old result.new track.old.pulses track.new.pulses }
 {
+    // Read for the law of its type alone.
     let _before = track.len();
     let span = track.toggle(a, b);
+    // Read for the law of its type alone.
     let _after = track.len();
     span
 }
@@ -58,6 +60,7 @@ pub(crate) fn turn_shift(
     ensures spanned { IsSpan result.at result.old result.new track.old.pulses track.new.pulses }
 {
     let distance = *by;
+    // Read for the law of its type alone.
     let _len = track.len();
     move_marks(marks, letters, distance);
     let span = track.shift(i, j, distance);

@@ -60,7 +60,8 @@ impl Reversible for Present {
     ghost gathered = { gathered };
 
     fn known(&self) {
-        let _len = self.len();
+        // Read for the law of its type alone.
+        let _track = self.track();
     }
 
     fn applies(&self, turn: &Turn) -> bool {

@@ -35,6 +35,7 @@ impl Present {
         ensures can { IsTrue result ↔ CanShift self.now.state.micros i j by self.now.state.pulses }
         ensures state { IsState self.now.state }
     {
+        // Read for the law of its type alone.
         let _len = self.track.len();
         self.track.can_shift(i, j, by)
     }
@@ -102,7 +103,7 @@ impl Present {
         ensures records { result ≡ records_for self.now.state single.now }
         ensures state { IsState self.now.state }
     {
-        let pulses = self.len();
+        let pulses = self.track().len();
         match single {
             Single::Splice { put, .. } => markers_among(put.as_gap(), self.format) + 2,
             Single::Toggle { a, b } => {

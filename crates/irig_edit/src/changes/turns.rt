@@ -38,7 +38,8 @@ impl Present {
         ensures places { KeepsPlaces self.old self.new }
         ensures back { HasRoomFor (places_in self.new) self.new.state turn.new }
     {
-        let _len = self.len();
+        // Read for the law of its type alone.
+        let _track = self.track();
         self.turn_single(&mut turn.single, &mut turn.taken);
     }
 
@@ -150,6 +151,7 @@ impl Present {
             self.new.index.looks }
         ensures places { KeepsPlaces self.old self.new }
     {
+        // Read for the law of its type alone.
         let _length = self.track.length();
         let mut back = by;
         let span = turn_shift(&mut self.track, &mut self.marks, i, j, &mut back, letters);

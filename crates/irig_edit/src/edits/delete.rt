@@ -24,7 +24,7 @@ fn plan(present: &Present, i: usize, j: usize) -> Result<usize, Refusal>
         (with_pulses (spliced (i - 1) (j + 1 - i) [] present.now.state.pulses)
         present.now.state) cursor) }
 {
-    let len = present.len();
+    let len = present.track().len();
     if i == 0 || i > j || j > len {
         return Err(Refusal::NoPulse);
     }

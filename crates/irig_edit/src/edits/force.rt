@@ -33,12 +33,13 @@ fn plan(present: &Present, i: usize, element: Element) -> Result<Pulse, Refusal>
     ensures change { IfOk result (λ p. One (Splice i 1 (p ∷ []))
         ≡ change_by (Force i element) present.now.state) }
 {
-    if i == 0 || i > present.len() {
+    let track = present.track();
+    if i == 0 || i > track.len() {
         return Err(Refusal::NoPulse);
     }
     let rise = present.pulse(i).rise;
     let fall = rise + nominal(present.format(), element);
-    if fall > present.length() {
+    if fall > track.length() {
         return Err(Refusal::OutOfRange);
     }
     if meets_next(present, i, fall) {
@@ -52,7 +53,7 @@ fn meets_next(present: &Present, i: usize, time: u64) -> bool
     requires { i ≤ length present.now.state.pulses }
     ensures { result ≡ meets_next i time present.now.state }
 {
-    i < present.len() && present.pulse(i + 1).rise <= time
+    i < present.track().len() && present.pulse(i + 1).rise <= time
 }
 
 impl Session {

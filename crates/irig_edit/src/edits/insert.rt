@@ -31,13 +31,14 @@ fn plan(present: &Present, a: u64, b: u64) -> Result<usize, Refusal>
     ensures change { IfOk result (λ i. One (Splice i 0 (pulse a b ∷ []))
         ≡ change_by (Insert a b) present.now.state) }
 {
-    if a >= b || b > present.length() {
+    let track = present.track();
+    if a >= b || b > track.length() {
         return Err(Refusal::OutOfRange);
     }
     if present.is_touched(a, b) {
         return Err(Refusal::Touching);
     }
-    if present.room() == 0 {
+    if track.room() == 0 {
         return Err(Refusal::TooMany);
     }
     Ok(present.find(b) + 1)

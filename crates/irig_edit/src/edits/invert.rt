@@ -18,7 +18,7 @@ fn plan(present: &Present, a: u64, b: u64) -> Result<(), Refusal>
     ensures allowed { OnOk result (judgement_of (Invert a b) present.now.state ≡ None) }
     ensures can { OnOk result (CanToggle present.now.state.micros a b present.now.state.pulses) }
 {
-    if a >= b || b > present.length() {
+    if a >= b || b > present.track().length() {
         return Err(Refusal::OutOfRange);
     }
     if present.can_toggle(a, b) {

@@ -31,7 +31,7 @@ fn plan(present: &Present, i: usize, j: usize) -> Result<Pulse, Refusal>
     ensures change { IfOk result (λ p. One (Splice i (j + 1 - i) (p ∷ []))
         ≡ change_by (Join i j) present.now.state) }
 {
-    if i == 0 || i >= j || j > present.len() {
+    if i == 0 || i >= j || j > present.track().len() {
         return Err(Refusal::NoPulse);
     }
     let first = present.pulse(i);

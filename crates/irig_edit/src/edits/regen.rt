@@ -39,7 +39,7 @@ fn end_of(present: &Present, start: u64, frames: u64) -> Option<u64>
     if frames == 0 || frames > 10_000 {
         return None;
     }
-    let length = present.length();
+    let length = present.track().length();
     let span = span(present.format(), frames);
     if start > length || span > length - start {
         return None;
@@ -53,7 +53,8 @@ fn rising_before(present: &Present, time: u64) -> usize
     ensures within { result ≤ length present.now.state.pulses }
     ensures state { IsState present.now.state }
 {
-    let _len = present.len();
+    // Read for the law of its type alone.
+    let _track = present.track();
     if time == 0 { 0 } else { present.find(time - 1) }
 }
 
@@ -63,7 +64,8 @@ fn is_met(present: &Present, risen: usize, time: u64) -> bool
     requires within { risen ≤ length present.now.state.pulses }
     ensures { result ≡ is_met time present.now.state }
 {
-    let _len = present.len();
+    // Read for the law of its type alone.
+    let _track = present.track();
     risen > 0 && present.pulse(risen).fall >= time
 }
 
@@ -108,7 +110,7 @@ fn plan(
         return Err(Refusal::Touching);
     }
     let count = rising_before(present, end) - at;
-    if 100 * frames as usize > present.room() + count {
+    if 100 * frames as usize > present.track().room() + count {
         return Err(Refusal::TooMany);
     }
     let format = present.format();

@@ -24,7 +24,7 @@ fn leaves(present: &Present, i: usize, j: usize, by: i64) -> bool
 {
     let rise = present.pulse(i).rise;
     let fall = present.pulse(j).fall;
-    let length = present.length();
+    let length = present.track().length();
     if by < 0 {
         let back = by.unsigned_abs();
         rise < back || length + back < fall
@@ -41,7 +41,7 @@ fn judge(present: &Present, i: usize, j: usize, by: i64) -> Result<(), Refusal>
     ensures can { OnOk result (
         CanShift present.now.state.micros (i - 1) (j - 1) by present.now.state.pulses) }
 {
-    if i == 0 || i > j || j > present.len() {
+    if i == 0 || i > j || j > present.track().len() {
         return Err(Refusal::NoPulse);
     }
     if leaves(present, i, j, by) {

@@ -32,17 +32,18 @@ fn plan(present: &Present, i: usize, a: u64, b: u64) -> Result<Pulse, Refusal>
     ensures change { IfOk result (λ p. One (Splice i 1
         (pulse p.rise a ∷ pulse b p.fall ∷ [])) ≡ change_by (Split i a b) present.now.state) }
 {
-    if a >= b || b > present.length() {
+    let track = present.track();
+    if a >= b || b > track.length() {
         return Err(Refusal::OutOfRange);
     }
-    if i == 0 || i > present.len() {
+    if i == 0 || i > track.len() {
         return Err(Refusal::NoPulse);
     }
     let pulse = present.pulse(i);
     if pulse.rise >= a || b >= pulse.fall {
         return Err(Refusal::NotInside);
     }
-    if present.room() == 0 {
+    if track.room() == 0 {
         return Err(Refusal::TooMany);
     }
     Ok(pulse)

@@ -80,7 +80,7 @@ impl Present {
             self.old.state.format saved.now.marks))))
             (λ line. head_fault self.old.state saved.now ≡ Some line) }
     {
-        if saved.cursor > self.len() as u64 {
+        if saved.cursor > self.track().len() as u64 {
             return Err(3);
         }
         match self.put_marks(&saved.marks) {
@@ -99,7 +99,7 @@ impl Present {
             ≡ state self.old.state.micros self.old.state.pulses self.old.state.format marks.now)))
             (λ line. mark_beyond self.old.state.micros 4 marks.now ≡ Some line) }
     {
-        let line = match line_behind(marks, self.length()) {
+        let line = match line_behind(marks, self.track().length()) {
             Ok(line) => line,
             Err(line) => return Err(line),
         };

@@ -42,6 +42,7 @@ impl Walk {
             × (self.new ≡ ahead_of self.old (steps_of (reverse steps))))
             (λ stop. IsStop self.old.state (reverse steps) stop) }
     {
+        // Read for the law of its type alone.
         let _len = self.len();
         let count = steps.len();
         self.take_all(alloc, steps)?;

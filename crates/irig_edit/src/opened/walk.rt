@@ -66,7 +66,7 @@ impl Walk {
         ensures len { result ≡ length self.now.state.pulses }
         ensures state { IsState self.now.state }
     {
-        self.present.len()
+        self.present.track().len()
     }
 
     /// Makes a single change, and stays at its cursor.
@@ -124,6 +124,7 @@ impl Walk {
         requires steps { CanTakeAll self.state self.past × CanTakeAll self.state self.future }
         ensures { result ≡ session_view (over None (machine self)) result.looks 0 }
     {
+        // Read for the law of its type alone.
         let _len = self.len();
         Session {
             alloc,

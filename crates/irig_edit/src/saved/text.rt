@@ -49,7 +49,7 @@ impl<'s> SavedText<'s> {
         ensures { result ≡ parts_text present.now.state cursor journal.now }
     {
         SavedText {
-            dump: present.text_parts(),
+            dump: present.track().text_parts(),
             present,
             cursor,
             journal,

@@ -20,14 +20,14 @@ impl Session {
     pub fn length(&self) -> u64
         ensures { result ≡ self.now.present.state.micros }
     {
-        self.present.length()
+        self.present.track().length()
     }
 
     /// How many pulses the track has.
     pub fn len(&self) -> usize
         ensures { result ≡ length self.now.present.state.pulses }
     {
-        self.present.len()
+        self.present.track().len()
     }
 
     /// A pulse, from 1.
@@ -102,7 +102,7 @@ impl Session {
     pub fn frames(&self) -> usize
         ensures { result ≡ length (frames_of self.now.present.state) }
     {
-        self.present.frames()
+        self.present.index().len()
     }
 
     /// The frame with a number, from 1.
@@ -111,7 +111,7 @@ impl Session {
         ensures { IfSome (slice_get (frames_of self.now.present.state) (number - 1))
             (λ r. (result.marker ≡ r.marker + 1) × (result.verdict ≡ r.verdict)) }
     {
-        let record = self.present.frame(number - 1);
+        let record = self.present.index().record(number - 1);
         Frame {
             marker: record.marker + 1,
             verdict: record.verdict,
@@ -130,6 +130,6 @@ impl Session {
     pub fn text_parts(&self) -> TrackText<'_>
         ensures { result ≡ file_text (recording_of self.now.present.state) }
     {
-        self.present.text_parts()
+        self.present.track().text_parts()
     }
 }

@@ -68,7 +68,7 @@ impl Session {
             × NoMarks s.present.state.marks) }
     {
         let present = Present::open(alloc, recording, format)?;
-        let cursor = present.len();
+        let cursor = present.track().len();
         Ok(Session {
             alloc,
             present,
@@ -144,7 +144,7 @@ impl Session {
         ensures step { Steps (Go pulse) self.old result self.new }
         ensures looks { LooksAfter (Go pulse) self.old result self.new }
     {
-        if pulse == 0 || pulse > self.present.len() {
+        if pulse == 0 || pulse > self.present.track().len() {
             return Err(Refusal::NoPulse);
         }
         self.cursor = pulse;

@@ -3,7 +3,6 @@
 ghost use Rattle.std.specs.Prelude.{◌≡◌, ◌<◌, ◌≤◌, ◌+◌, ◌-◌, ◌*◌, ◌^◌, length, map, ◌↔◌, IsTrue};
 ghost use Rattle.std.specs.Prelude.{IfOk, Some, slice_get};
 ghost use Rattle.irig_track.specs.Splices.{risen_by};
-ghost use Rattle.irig_recording.specs.FileText.{file_text};
 ghost use Rattle.irig_edit.specs.Edits.Conditions.{is_touched};
 ghost use Rattle.irig_edit.specs.State.Marks.{stands};
 ghost use Rattle.irig_edit.specs.Edits.Edits.{pulse_of};
@@ -12,9 +11,9 @@ ghost use Rattle.irig_edit.specs.State.State.{IsMark, IsState, frames_of, record
 
 use crate::state::marks::{Letters, Marks, letters_from};
 use irig_codes::Format;
-use irig_index::{Index, Record};
+use irig_index::Index;
 use irig_recording::Recording;
-use irig_track::{Pulse, Track, TrackText};
+use irig_track::{Pulse, Track};
 use std::alloc::{AllocError, Global};
 use std::marker::Model;
 
@@ -61,44 +60,23 @@ impl Present {
         })
     }
 
-    /// The text of the track's dump, in parts. It takes no memory.
-    pub(crate) fn text_parts(&self) -> TrackText<'_>
-        ensures { result ≡ file_text (recording_of self.now.state) }
-    {
-        self.track.text_parts()
-    }
-
     /// How many bytes to ask for at first, for all of that text.
     pub(crate) fn text_room(&self) -> usize
         ensures { result ≡ 36 * length self.now.state.pulses + 4096 }
     {
-        36 * self.len() + 4096
+        36 * self.track.len() + 4096
     }
 }
 
 /// The track.
 impl Present {
-    /// How long the track is, in microseconds.
-    pub(crate) fn length(&self) -> u64
-        ensures length { result ≡ self.now.state.micros }
+    /// The pulses and the length.
+    pub(crate) fn track(&self) -> &Track
+        ensures micros { result.now.micros ≡ self.now.state.micros }
+        ensures pulses { result.now.pulses ≡ self.now.state.pulses }
         ensures state { IsState self.now.state }
     {
-        self.track.length()
-    }
-
-    /// How many pulses there are.
-    pub(crate) fn len(&self) -> usize
-        ensures len { result ≡ length self.now.state.pulses }
-        ensures state { IsState self.now.state }
-    {
-        self.track.len()
-    }
-
-    /// How many more pulses the limit lets in.
-    pub(crate) fn room(&self) -> usize
-        ensures { result + length self.now.state.pulses ≡ 2 ^ 22 }
-    {
-        self.track.room()
+        &self.track
     }
 
     /// How many pulses rise at or before a time, in microseconds.
@@ -119,8 +97,8 @@ impl Present {
         ensures short { (result.rise < result.fall) × (result.fall ≤ 2 ^ 40) }
         ensures state { IsState self.now.state }
     {
-        let _len = self.len();
-        self.track.pulse(number - 1)
+        let track = self.track();
+        track.pulse(number - 1)
     }
 
     /// Whether a pulse rises at or before `b` and falls at or after `a`, in microseconds.
@@ -168,19 +146,11 @@ impl Present {
         }
     }
 
-    /// How many frames the track has.
-    pub(crate) fn frames(&self) -> usize
-        ensures { result ≡ length (frames_of self.now.state) }
+    /// The frames of the track.
+    pub(crate) fn index(&self) -> &Index
+        ensures { result.now.records ≡ frames_of self.now.state }
     {
-        self.index.len()
-    }
-
-    /// A frame, from 0.
-    pub(crate) fn frame(&self, number: usize) -> Record
-        requires { number < length (frames_of self.now.state) }
-        ensures { slice_get (frames_of self.now.state) number ≡ Some result }
-    {
-        self.index.record(number)
+        &self.index
     }
 
     /// How many looks at pulses its index has counted.

@@ -38,6 +38,7 @@ returns-then-frames-room-clause-refused c =
     (omega (
       arith,
       c.room.ensures,
+      ap length c.track.ensures.pulses,
       c.if-frames-room.true,
       before_end c.args.start (frames_end s.format c.args.start c.args.frames) s.pulses (omega arith),
       c.rising_before-at.ensures.count,
@@ -54,7 +55,7 @@ returns-then-not-starts-clause-refused c =
     let free : is_met c.args.start s ≡ false = sym c.is_met.ensures ∙ c.if-is_met.false in
     let is_end = c.rising_before.ensures.count ∙ ap (λ t. length (rising_before t s.pulses)) (sym said.1) in
     let few : length s.pulses + 100 * c.args.frames ≤ 2 ^ 22 + (c.rising_before.result - c.rising_before-at.result) =
-    omega (arith, c.room.ensures, c.if-frames-room.false) in
+    omega (arith, c.room.ensures, ap length c.track.ensures.pulses, c.if-frames-room.false) in
     let fit : are_too_many c.args.start c.args.frames s ≡ false =
     too_many_no c.args.start c.args.frames c.rising_before-at.result c.rising_before.result s c.rising_before-at.ensures.count is_end few in
     let bad : starts_in s.format c.args.moment ≡ false =
@@ -70,7 +71,7 @@ returns-then-control-control_count-gt0-clause-refused c =
     let free : is_met c.args.start s ≡ false = sym c.is_met.ensures ∙ c.if-is_met.false in
     let is_end = c.rising_before.ensures.count ∙ ap (λ t. length (rising_before t s.pulses)) (sym said.1) in
     let few : length s.pulses + 100 * c.args.frames ≤ 2 ^ 22 + (c.rising_before.result - c.rising_before-at.result) =
-    omega (arith, c.room.ensures, c.if-frames-room.false) in
+    omega (arith, c.room.ensures, ap length c.track.ensures.pulses, c.if-frames-room.false) in
     let fit : are_too_many c.args.start c.args.frames s ≡ false =
     too_many_no c.args.start c.args.frames c.rising_before-at.result c.rising_before.result s c.rising_before-at.ensures.count is_end few in
     let good : starts_in s.format c.args.moment ≡ true =
@@ -88,7 +89,7 @@ returns-clause-allowed c =
     let free : is_met c.args.start s ≡ false = sym c.is_met.ensures ∙ c.if-is_met.false in
     let is_end = c.rising_before.ensures.count ∙ ap (λ t. length (rising_before t s.pulses)) (sym said.1) in
     let few : length s.pulses + 100 * c.args.frames ≤ 2 ^ 22 + (c.rising_before.result - c.rising_before-at.result) =
-    omega (arith, c.room.ensures, c.if-frames-room.false) in
+    omega (arith, c.room.ensures, ap length c.track.ensures.pulses, c.if-frames-room.false) in
     let fit : are_too_many c.args.start c.args.frames s ≡ false =
     too_many_no c.args.start c.args.frames c.rising_before-at.result c.rising_before.result s c.rising_before-at.ensures.count is_end few in
     let good : starts_in s.format c.args.moment ≡ true =
@@ -106,7 +107,7 @@ returns-clause-can c =
     let free : is_met c.args.start s ≡ false = sym c.is_met.ensures ∙ c.if-is_met.false in
     let is_end = c.rising_before.ensures.count ∙ ap (λ t. length (rising_before t s.pulses)) (sym said.1) in
     let few : length s.pulses + 100 * c.args.frames ≤ 2 ^ 22 + (c.rising_before.result - c.rising_before-at.result) =
-    omega (arith, c.room.ensures, c.if-frames-room.false) in
+    omega (arith, c.room.ensures, ap length c.track.ensures.pulses, c.if-frames-room.false) in
     let within = (frames_said c.args.start c.args.frames s there).2 in
     let sum = before_end c.args.start (frames_end s.format c.args.start c.args.frames) s.pulses (omega arith) in
     let both : c.rising_before-at.result + (c.rising_before.result - c.rising_before-at.result) ≡ c.rising_before.result =
@@ -127,7 +128,7 @@ returns-clause-becomes c =
     let free : is_met c.args.start s ≡ false = sym c.is_met.ensures ∙ c.if-is_met.false in
     let is_end = c.rising_before.ensures.count ∙ ap (λ t. length (rising_before t s.pulses)) (sym said.1) in
     let few : length s.pulses + 100 * c.args.frames ≤ 2 ^ 22 + (c.rising_before.result - c.rising_before-at.result) =
-    omega (arith, c.room.ensures, c.if-frames-room.false) in
+    omega (arith, c.room.ensures, ap length c.track.ensures.pulses, c.if-frames-room.false) in
     let within = (frames_said c.args.start c.args.frames s there).2 in
     let sum = before_end c.args.start (frames_end s.format c.args.start c.args.frames) s.pulses (omega arith) in
     let both : c.rising_before-at.result + (c.rising_before.result - c.rising_before-at.result) ≡ c.rising_before.result =

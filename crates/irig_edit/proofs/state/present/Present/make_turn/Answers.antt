@@ -10,5 +10,5 @@ returns-clause-back c =
       empty = c.turn-1.given.0;
       tight = c.turn-1.given.1.0;
     } in
-    room_back c.args.self.now c.turn_single.new.self c.args.turn.now back c.len-len.ensures.state c.requires.fits c.requires.room
+    room_back c.args.self.now c.turn_single.new.self c.args.turn.now back c.track-track.ensures.state c.requires.fits c.requires.room
     c.turn_single.ensures.turned c.turn_single.ensures.places c.turn_single.ensures.takes.0
