@@ -3,55 +3,35 @@ use Rattle.irig_disk.specs.Parts.{ComesTo}
 use Rattle.irig_disk.specs.Put.{first_mode, held}
 use Rattle.irig_disk.proofs.Results.{if_ok_by}
 use Rattle.irig_disk.proofs.Steps.{called, comes_to_either, taken_at_first}
+use Rattle.irig_disk.proofs.put.put_text.Given as given
 use Rattle.irig_disk.proofs.put.put_text.Goals as goal
+use Rattle.irig_disk.proofs.put.put_text.Goals.{After-name-1}
+
+-- what a write that has its new file comes to
+comes : (g : given.Over) (c : After-name-1 g) → g.F.Folder.is_told → IfOk c.begin-begun.result
+    (λ _. ComesTo (g.F.Folder.disk c.args.folder.now) (g.F.Folder.disk c.put_begun.new.folder) c.args.target.now
+    (held g.F.Folder.usual_mode c.args.mode (g.T.Text.rest c.args.text.now)) c.put_begun.result)
+comes g c told =
+    let new = c.begin-begun.ensures in
+    if_ok_by c.begin-begun.result new.target new.mode (new.ok told) c.put_begun.ensures.put
+    (λ x target mode w ends. rw (target, mode) at (ends told c.args.folder.now []
+    (called _ _ _ _ _ _ _ _ _ _ _ refl target refl (ap (first_mode g.F.Folder.usual_mode) mode) w)))
 
 pub returns-clause-any_moment : goal.returns-clause-any_moment
 returns-clause-any_moment g c told =
-    let new = c.begin-begun.ensures in
-    let text = held g.F.Folder.usual_mode c.args.mode (g.T.Text.rest c.args.text.now) in
-    let old = g.F.Folder.disk c.args.folder.now in
-    let now = g.F.Folder.disk c.put_begun.new.folder in
-    let comes : IfOk c.begin-begun.result (λ _. ComesTo old now c.args.target.now text c.put_begun.result) =
-    if_ok_by c.begin-begun.result new.target new.mode (new.ok told) c.put_begun.ensures.put
-    (λ x target mode w ends. rw (target, mode) at (ends told c.args.folder.now []
-    (called _ _ _ _ _ _ _ _ _ _ _ refl target refl (ap (first_mode g.F.Folder.usual_mode) mode) w))) in
-    (comes_to_either g.F.Folder.disk c.begin-begun.result c.put_begun.result _ _ _ _ text comes
-    (new.err told) c.put_begun.ensures.err c.put_begun.ensures.same).0
+    (comes_to_either g.F.Folder.disk c.begin-begun.result c.put_begun.result _ _ _ _ _ (comes g c told)
+    (c.begin-begun.ensures.err told) c.put_begun.ensures.err c.put_begun.ensures.same).0
 
 pub returns-clause-ok : goal.returns-clause-ok
 returns-clause-ok g c told =
-    let new = c.begin-begun.ensures in
-    let text = held g.F.Folder.usual_mode c.args.mode (g.T.Text.rest c.args.text.now) in
-    let old = g.F.Folder.disk c.args.folder.now in
-    let now = g.F.Folder.disk c.put_begun.new.folder in
-    let comes : IfOk c.begin-begun.result (λ _. ComesTo old now c.args.target.now text c.put_begun.result) =
-    if_ok_by c.begin-begun.result new.target new.mode (new.ok told) c.put_begun.ensures.put
-    (λ x target mode w ends. rw (target, mode) at (ends told c.args.folder.now []
-    (called _ _ _ _ _ _ _ _ _ _ _ refl target refl (ap (first_mode g.F.Folder.usual_mode) mode) w))) in
-    (comes_to_either g.F.Folder.disk c.begin-begun.result c.put_begun.result _ _ _ _ text comes
-    (new.err told) c.put_begun.ensures.err c.put_begun.ensures.same).1
+    (comes_to_either g.F.Folder.disk c.begin-begun.result c.put_begun.result _ _ _ _ _ (comes g c told)
+    (c.begin-begun.ensures.err told) c.put_begun.ensures.err c.put_begun.ensures.same).1
 
 pub returns-clause-err : goal.returns-clause-err
 returns-clause-err g c told =
-    let new = c.begin-begun.ensures in
-    let text = held g.F.Folder.usual_mode c.args.mode (g.T.Text.rest c.args.text.now) in
-    let old = g.F.Folder.disk c.args.folder.now in
-    let now = g.F.Folder.disk c.put_begun.new.folder in
-    let comes : IfOk c.begin-begun.result (λ _. ComesTo old now c.args.target.now text c.put_begun.result) =
-    if_ok_by c.begin-begun.result new.target new.mode (new.ok told) c.put_begun.ensures.put
-    (λ x target mode w ends. rw (target, mode) at (ends told c.args.folder.now []
-    (called _ _ _ _ _ _ _ _ _ _ _ refl target refl (ap (first_mode g.F.Folder.usual_mode) mode) w))) in
-    (comes_to_either g.F.Folder.disk c.begin-begun.result c.put_begun.result _ _ _ _ text comes
-    (new.err told) c.put_begun.ensures.err c.put_begun.ensures.same).2
+    (comes_to_either g.F.Folder.disk c.begin-begun.result c.put_begun.result _ _ _ _ _ (comes g c told)
+    (c.begin-begun.ensures.err told) c.put_begun.ensures.err c.put_begun.ensures.same).2
 
 pub returns-clause-taken : goal.returns-clause-taken
 returns-clause-taken g c told =
-    let new = c.begin-begun.ensures in
-    let text = held g.F.Folder.usual_mode c.args.mode (g.T.Text.rest c.args.text.now) in
-    let old = g.F.Folder.disk c.args.folder.now in
-    let now = g.F.Folder.disk c.put_begun.new.folder in
-    let comes : IfOk c.begin-begun.result (λ _. ComesTo old now c.args.target.now text c.put_begun.result) =
-    if_ok_by c.begin-begun.result new.target new.mode (new.ok told) c.put_begun.ensures.put
-    (λ x target mode w ends. rw (target, mode) at (ends told c.args.folder.now []
-    (called _ _ _ _ _ _ _ _ _ _ _ refl target refl (ap (first_mode g.F.Folder.usual_mode) mode) w))) in
-    taken_at_first c.begin-begun.result c.put_begun.result _ _ _ text comes (new.taken told) c.put_begun.ensures.err
+    taken_at_first c.begin-begun.result c.put_begun.result _ _ _ _ (comes g c told) (c.begin-begun.ensures.taken told) c.put_begun.ensures.err

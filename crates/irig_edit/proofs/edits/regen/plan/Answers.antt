@@ -1,10 +1,11 @@
 use Rattle.std.proofs.Common.{ℕ, subst, ◌≡◌, ◌≤◌, ◌+◌, ◌-◌, ◌*◌, ◌^◌, true, false, length, refl, ap, sym, ◌∙◌, arith}
 use Rattle.irig_codes.specs.Format.{FormatView, control_count_of}
 use Rattle.irig_moment.specs.Generated.{starts_in}
+use Rattle.irig_moment.specs.Moment.{MomentView}
 use Rattle.irig_track.specs.Splices.{CanSplice, spliced}
 use Rattle.irig_edit.specs.Edits.Becoming.{Becomes}
 use Rattle.irig_edit.specs.Session.Calls.Edit.{Regen}
-use Rattle.irig_edit.specs.State.State.{with_pulses}
+use Rattle.irig_edit.specs.State.State.{IsState, State, with_pulses}
 use Rattle.irig_edit.specs.Edits.Conditions.{are_frames, is_met, are_too_many, is_wide}
 use Rattle.irig_edit.specs.Edits.Regenerated.{frame_elements, frames_end, frames_pulses, rising_before, rising_in}
 use Rattle.irig_saved.specs.declared.change.Change.TheVariants.{One}
@@ -14,143 +15,130 @@ use Rattle.irig_edit.proofs.EditLemmas.GenerationTests.{end_said, frames_said, t
 use Rattle.irig_edit.proofs.EditLemmas.Regenerations.{regenerated}
 use Rattle.irig_edit.proofs.StateLemmas.Risings.{before_end}
 use Rattle.irig_edit.proofs.edits.regen.plan.Goals as goal
+use Rattle.irig_edit.proofs.edits.regen.plan.Goals.{After-moment-1, After-rising_before}
 
-pub overflow_sub-count : goal.overflow_sub-count
-overflow_sub-count c =
+-- what is known of a state once the places of the start and of the end are found
+record Found (start frames at by : ℕ) (s : State) : Type 0 where
+  there : are_frames start frames s ≡ true
+  free : is_met start s ≡ false
+  is_at : at ≡ length (rising_before start s.pulses)
+  is_by : by ≡ length (rising_before (frames_end s.format start frames) s.pulses)
+  sum : length (rising_before start s.pulses) + length (rising_in start (frames_end s.format start frames) s.pulses)
+      ≡ length (rising_before (frames_end s.format start frames) s.pulses)
+
+found : (c : After-rising_before) → Found c.args.start c.args.frames c.rising_before-at.result c.rising_before.result c.args.present.now.state
+found c =
     let s = c.args.present.now.state in
     let said = end_said (are_frames c.args.start c.args.frames s) (frames_end s.format c.args.start c.args.frames) c.in-Some.end
     (sym c.end_of.ensures ∙ c.in-Some.is) in
-    let there : are_frames c.args.start c.args.frames s ≡ true = said.0 in
-    let free : is_met c.args.start s ≡ false = sym c.is_met.ensures ∙ c.if-is_met.false in
-    let is_end = c.rising_before.ensures.count ∙ ap (λ t. length (rising_before t s.pulses)) (sym said.1) in
-    omega (arith, before_end c.args.start (frames_end s.format c.args.start c.args.frames) s.pulses (omega arith), c.rising_before-at.ensures.count, is_end)
+    record {
+      there = said.0;
+      free = sym c.is_met.ensures ∙ c.if-is_met.false;
+      is_at = c.rising_before-at.ensures.count;
+      is_by = c.rising_before.ensures.count ∙ ap (λ t. length (rising_before t s.pulses)) (sym said.1);
+      sum = before_end c.args.start (frames_end s.format c.args.start c.args.frames) s.pulses (omega arith);
+    }
+
+-- the frames are not too many, if they were not refused as such
+few : (c : After-moment-1) → length c.args.present.now.state.pulses + 100 * c.args.frames ≤ 2 ^ 22 + (c.rising_before.result - c.rising_before-at.result)
+few c = omega (arith, c.room.ensures, ap length c.track.ensures.pulses, c.if-frames-room.false)
+
+fitting : {start frames at by : ℕ} {s : State} → Found start frames at by s → length s.pulses + 100 * frames ≤ 2 ^ 22 + (by - at)
+    → are_too_many start frames s ≡ false
+fitting {start} {frames} {at} {by} {s} f few = too_many_no start frames at by s f.is_at f.is_by few
+
+pub overflow_sub-count : goal.overflow_sub-count
+overflow_sub-count c =
+    let f = found (goal.at.overflow_sub-count c).After-rising_before in
+    omega (arith, f.sum, f.is_at, f.is_by)
 
 pub returns-then-frames-room-clause-refused : goal.returns-then-frames-room-clause-refused
 returns-then-frames-room-clause-refused c =
     let s = c.args.present.now.state in
-    let said = end_said (are_frames c.args.start c.args.frames s) (frames_end s.format c.args.start c.args.frames) c.in-Some.end
-    (sym c.end_of.ensures ∙ c.in-Some.is) in
-    let there : are_frames c.args.start c.args.frames s ≡ true = said.0 in
-    let free : is_met c.args.start s ≡ false = sym c.is_met.ensures ∙ c.if-is_met.false in
-    let is_end = c.rising_before.ensures.count ∙ ap (λ t. length (rising_before t s.pulses)) (sym said.1) in
+    let f = found (goal.at.returns-then-frames-room-clause-refused c).After-rising_before in
     let many : are_too_many c.args.start c.args.frames s ≡ true =
-    too_many_yes c.args.start c.args.frames c.rising_before-at.result c.rising_before.result s c.rising_before-at.ensures.count is_end
+    too_many_yes c.args.start c.args.frames c.rising_before-at.result c.rising_before.result s c.rising_before-at.ensures.count f.is_by
     (omega (
       arith,
       c.room.ensures,
       ap length c.track.ensures.pulses,
       c.if-frames-room.true,
-      before_end c.args.start (frames_end s.format c.args.start c.args.frames) s.pulses (omega arith),
+      f.sum,
       c.rising_before-at.ensures.count,
-      is_end,
+      f.is_by,
     )) in
-    rw there (rw free (rw many refl))
+    rw f.there (rw f.free (rw many refl))
 
 pub returns-then-not-starts-clause-refused : goal.returns-then-not-starts-clause-refused
 returns-then-not-starts-clause-refused c =
     let s = c.args.present.now.state in
-    let said = end_said (are_frames c.args.start c.args.frames s) (frames_end s.format c.args.start c.args.frames) c.in-Some.end
-    (sym c.end_of.ensures ∙ c.in-Some.is) in
-    let there : are_frames c.args.start c.args.frames s ≡ true = said.0 in
-    let free : is_met c.args.start s ≡ false = sym c.is_met.ensures ∙ c.if-is_met.false in
-    let is_end = c.rising_before.ensures.count ∙ ap (λ t. length (rising_before t s.pulses)) (sym said.1) in
-    let few : length s.pulses + 100 * c.args.frames ≤ 2 ^ 22 + (c.rising_before.result - c.rising_before-at.result) =
-    omega (arith, c.room.ensures, ap length c.track.ensures.pulses, c.if-frames-room.false) in
-    let fit : are_too_many c.args.start c.args.frames s ≡ false =
-    too_many_no c.args.start c.args.frames c.rising_before-at.result c.rising_before.result s c.rising_before-at.ensures.count is_end few in
+    let f = found (goal.at.returns-then-not-starts-clause-refused c).After-rising_before in
+    let fit = fitting f (few (goal.at.returns-then-not-starts-clause-refused c).After-moment-1) in
     let bad : starts_in s.format c.args.moment ≡ false =
     sym (ap (λ (f : FormatView). starts_in f c.args.moment) c.format-format.ensures) ∙ sym c.starts.ensures ∙ c.if-not-starts.true in
-    rw there (rw free (rw fit (rw bad refl)))
+    rw f.there (rw f.free (rw fit (rw bad refl)))
 
 pub returns-then-control-control_count-gt0-clause-refused : goal.returns-then-control-control_count-gt0-clause-refused
 returns-then-control-control_count-gt0-clause-refused c =
     let s = c.args.present.now.state in
-    let said = end_said (are_frames c.args.start c.args.frames s) (frames_end s.format c.args.start c.args.frames) c.in-Some.end
-    (sym c.end_of.ensures ∙ c.in-Some.is) in
-    let there : are_frames c.args.start c.args.frames s ≡ true = said.0 in
-    let free : is_met c.args.start s ≡ false = sym c.is_met.ensures ∙ c.if-is_met.false in
-    let is_end = c.rising_before.ensures.count ∙ ap (λ t. length (rising_before t s.pulses)) (sym said.1) in
-    let few : length s.pulses + 100 * c.args.frames ≤ 2 ^ 22 + (c.rising_before.result - c.rising_before-at.result) =
-    omega (arith, c.room.ensures, ap length c.track.ensures.pulses, c.if-frames-room.false) in
-    let fit : are_too_many c.args.start c.args.frames s ≡ false =
-    too_many_no c.args.start c.args.frames c.rising_before-at.result c.rising_before.result s c.rising_before-at.ensures.count is_end few in
+    let f = found (goal.at.returns-then-control-control_count-gt0-clause-refused c).After-rising_before in
+    let fit = fitting f (few (goal.at.returns-then-control-control_count-gt0-clause-refused c).After-moment-1) in
     let good : starts_in s.format c.args.moment ≡ true =
     sym (ap (λ (f : FormatView). starts_in f c.args.moment) c.format-format.ensures) ∙ sym c.starts.ensures ∙ c.if-not-starts.false in
     let count = c.control_count.ensures.value ∙ ap (λ (f : FormatView). control_count_of f) c.format-format.ensures in
     let wide : is_wide c.args.control s ≡ true = is_wide_yes c.args.control c.control_count.result s count c.if-control-control_count-gt0.true in
-    rw there (rw free (rw fit (rw good (rw wide refl))))
+    rw f.there (rw f.free (rw fit (rw good (rw wide refl))))
 
 pub returns-clause-allowed : goal.returns-clause-allowed
 returns-clause-allowed c =
     let s = c.args.present.now.state in
-    let said = end_said (are_frames c.args.start c.args.frames s) (frames_end s.format c.args.start c.args.frames) c.in-Some.end
-    (sym c.end_of.ensures ∙ c.in-Some.is) in
-    let there : are_frames c.args.start c.args.frames s ≡ true = said.0 in
-    let free : is_met c.args.start s ≡ false = sym c.is_met.ensures ∙ c.if-is_met.false in
-    let is_end = c.rising_before.ensures.count ∙ ap (λ t. length (rising_before t s.pulses)) (sym said.1) in
-    let few : length s.pulses + 100 * c.args.frames ≤ 2 ^ 22 + (c.rising_before.result - c.rising_before-at.result) =
-    omega (arith, c.room.ensures, ap length c.track.ensures.pulses, c.if-frames-room.false) in
-    let fit : are_too_many c.args.start c.args.frames s ≡ false =
-    too_many_no c.args.start c.args.frames c.rising_before-at.result c.rising_before.result s c.rising_before-at.ensures.count is_end few in
+    let f = found (goal.at.returns-clause-allowed c).After-rising_before in
+    let fit = fitting f (few (goal.at.returns-clause-allowed c).After-moment-1) in
     let good : starts_in s.format c.args.moment ≡ true =
     sym (ap (λ (f : FormatView). starts_in f c.args.moment) c.format-format.ensures) ∙ sym c.starts.ensures ∙ c.if-not-starts.false in
     let count = c.control_count.ensures.value ∙ ap (λ (f : FormatView). control_count_of f) c.format-format.ensures in
     let narrow : is_wide c.args.control s ≡ false = is_wide_no c.args.control c.control_count.result s count c.if-control-control_count-gt0.false in
-    rw there (rw free (rw fit (rw good (rw narrow refl))))
+    rw f.there (rw f.free (rw fit (rw good (rw narrow refl))))
+
+-- the frames come where the pulses go
+made : {start frames at by : ℕ} {s : State} (moment : MomentView) (control : ℕ) → Found start frames at by s → IsState s → by ≤ length s.pulses
+    → length s.pulses + 100 * frames ≤ 2 ^ 22 + (by - at)
+    → CanSplice s.micros at (by - at) (frames_pulses s.format start frames moment control) s.pulses
+    × Becomes (Regen start frames moment control) s
+    (with_pulses (spliced at (by - at) (frames_pulses s.format start frames moment control) s.pulses) s) (at + 100 * frames)
+made {start} {frames} {at} {by} {s} moment control f is within fit =
+    let both : at + (by - at) ≡ by = omega (arith, f.sum, f.is_at, f.is_by) in
+    regenerated s start frames moment control at (by - at) is (frames_said start frames s f.there).2 f.free fit f.is_at (both ∙ f.is_by)
+    (omega (arith, both, within))
 
 pub returns-clause-can : goal.returns-clause-can
 returns-clause-can c =
     let s = c.args.present.now.state in
-    let said = end_said (are_frames c.args.start c.args.frames s) (frames_end s.format c.args.start c.args.frames) c.in-Some.end
-    (sym c.end_of.ensures ∙ c.in-Some.is) in
-    let there : are_frames c.args.start c.args.frames s ≡ true = said.0 in
-    let free : is_met c.args.start s ≡ false = sym c.is_met.ensures ∙ c.if-is_met.false in
-    let is_end = c.rising_before.ensures.count ∙ ap (λ t. length (rising_before t s.pulses)) (sym said.1) in
-    let few : length s.pulses + 100 * c.args.frames ≤ 2 ^ 22 + (c.rising_before.result - c.rising_before-at.result) =
-    omega (arith, c.room.ensures, ap length c.track.ensures.pulses, c.if-frames-room.false) in
-    let within = (frames_said c.args.start c.args.frames s there).2 in
-    let sum = before_end c.args.start (frames_end s.format c.args.start c.args.frames) s.pulses (omega arith) in
-    let both : c.rising_before-at.result + (c.rising_before.result - c.rising_before-at.result) ≡ c.rising_before.result =
-    omega (arith, sum, c.rising_before-at.ensures.count, is_end) in
     let put = frames_pulses s.format c.args.start c.args.frames c.args.moment c.args.control in
     let gone = c.rising_before.result - c.rising_before-at.result in
     let place : c.rising_before-at.result ≡ c.rising_before-at.result + 1 - 1 = omega arith in
     subst (λ (n : ℕ). CanSplice s.micros n gone put s.pulses) place
-    (regenerated s c.args.start c.args.frames c.args.moment c.args.control c.rising_before-at.result (c.rising_before.result - c.rising_before-at.result)
-    c.rising_before.ensures.state within free few c.rising_before-at.ensures.count (both ∙ is_end) (omega (arith, both, c.rising_before.ensures.within))).0
+    (made c.args.moment c.args.control (found (goal.at.returns-clause-can c).After-rising_before) c.rising_before.ensures.state c.rising_before.ensures.within
+    (few (goal.at.returns-clause-can c).After-moment-1)).0
 
 pub returns-clause-becomes : goal.returns-clause-becomes
 returns-clause-becomes c =
     let s = c.args.present.now.state in
-    let said = end_said (are_frames c.args.start c.args.frames s) (frames_end s.format c.args.start c.args.frames) c.in-Some.end
-    (sym c.end_of.ensures ∙ c.in-Some.is) in
-    let there : are_frames c.args.start c.args.frames s ≡ true = said.0 in
-    let free : is_met c.args.start s ≡ false = sym c.is_met.ensures ∙ c.if-is_met.false in
-    let is_end = c.rising_before.ensures.count ∙ ap (λ t. length (rising_before t s.pulses)) (sym said.1) in
-    let few : length s.pulses + 100 * c.args.frames ≤ 2 ^ 22 + (c.rising_before.result - c.rising_before-at.result) =
-    omega (arith, c.room.ensures, ap length c.track.ensures.pulses, c.if-frames-room.false) in
-    let within = (frames_said c.args.start c.args.frames s there).2 in
-    let sum = before_end c.args.start (frames_end s.format c.args.start c.args.frames) s.pulses (omega arith) in
-    let both : c.rising_before-at.result + (c.rising_before.result - c.rising_before-at.result) ≡ c.rising_before.result =
-    omega (arith, sum, c.rising_before-at.ensures.count, is_end) in
     let put = frames_pulses s.format c.args.start c.args.frames c.args.moment c.args.control in
     let gone = c.rising_before.result - c.rising_before-at.result in
     let place : c.rising_before-at.result ≡ c.rising_before-at.result + 1 - 1 = omega arith in
     subst (λ (n : ℕ). Becomes (Regen c.args.start c.args.frames c.args.moment c.args.control) s (with_pulses (spliced n gone put s.pulses) s)
     (n + 100 * c.args.frames)) place
-    (regenerated s c.args.start c.args.frames c.args.moment c.args.control c.rising_before-at.result (c.rising_before.result - c.rising_before-at.result)
-    c.rising_before.ensures.state within free few c.rising_before-at.ensures.count (both ∙ is_end) (omega (arith, both, c.rising_before.ensures.within))).1
+    (made c.args.moment c.args.control (found (goal.at.returns-clause-becomes c).After-rising_before) c.rising_before.ensures.state c.rising_before.ensures.within
+    (few (goal.at.returns-clause-becomes c).After-moment-1)).1
 
 pub returns-clause-change : goal.returns-clause-change
 returns-clause-change c =
     let s = c.args.present.now.state in
-    let said = end_said (are_frames c.args.start c.args.frames s) (frames_end s.format c.args.start c.args.frames) c.in-Some.end
-    (sym c.end_of.ensures ∙ c.in-Some.is) in
-    let is_end = c.rising_before.ensures.count ∙ ap (λ t. length (rising_before t s.pulses)) (sym said.1) in
-    let sum = before_end c.args.start (frames_end s.format c.args.start c.args.frames) s.pulses (omega arith) in
+    let f = found (goal.at.returns-clause-change c).After-rising_before in
     let is_at = c.rising_before-at.ensures.count in
     let gone : c.rising_before.result - c.rising_before-at.result ≡ length (rising_in c.args.start (frames_end s.format c.args.start c.args.frames) s.pulses) =
-    omega arith in
+    omega (arith, f.sum, is_at, f.is_by) in
     (λ k. One (Splice (is_at k + 1) (gone k) (frames_pulses s.format c.args.start c.args.frames c.args.moment c.args.control)))
 
 pub returns-clause-many : goal.returns-clause-many

@@ -1,44 +1,34 @@
 use Rattle.std.proofs.Common.{◌≡◌, ◌∙◌, ◌++◌, ◌∷◌, ◌-◌, ◌/◌, [], ℕ, List, true, false, length, refl, ap, sym, arith}
-use Rattle.irig_recording.specs.KeptPulse.{last_four, front}
+use Rattle.irig_recording.specs.KeptPulse.{HoldsPulse, last_four, front}
 use Rattle.irig_recording.specs.FileText.{lines_at}
 use Rattle.irig_recording.proofs.PulseText.{digits_put, parts_put, edge_line}
 use Rattle.irig_recording.proofs.kept_pulse.KeptPulse.put.Goals as goal
+use Rattle.irig_recording.proofs.kept_pulse.KeptPulse.put.Goals.{After-put_four-2}
+
+-- the lines hold both times, whether or not they were written
+held : (c : After-put_four-2) → HoldsPulse (record c.args.self.now { bytes = c.put_four-2.new.bytes })
+held c =
+    let h = c.requires.holds in
+    let p = c.args.self.now in
+    record {
+      rise = last_four (c.args.rise - p.base);
+      fall = last_four (c.args.fall - p.base);
+      pad = h.pad;
+      is = digits_put p c.put_four.new.bytes c.put_four-2.new.bytes (last_four (c.args.rise - p.base)) (last_four (c.args.fall - p.base)) h refl
+          c.put_four.ensures.before c.put_four.ensures.written c.put_four-2.ensures.before c.put_four-2.ensures.written;
+      of_rise = refl;
+      of_fall = refl;
+      fits = h.fits;
+      short = h.short;
+      whole = h.whole;
+      some = h.some;
+    }
 
 pub returns-in_err-extend_from_slice-clause-holds : goal.returns-in_err-extend_from_slice-clause-holds
-returns-in_err-extend_from_slice-clause-holds c =
-    let h = c.requires.holds in
-    let p = c.args.self.now in
-    record {
-      rise = last_four (c.args.rise - p.base);
-      fall = last_four (c.args.fall - p.base);
-      pad = h.pad;
-      is = digits_put p c.put_four.new.bytes c.put_four-2.new.bytes (last_four (c.args.rise - p.base)) (last_four (c.args.fall - p.base)) h refl
-          c.put_four.ensures.before c.put_four.ensures.written c.put_four-2.ensures.before c.put_four-2.ensures.written;
-      of_rise = refl;
-      of_fall = refl;
-      fits = h.fits;
-      short = h.short;
-      whole = h.whole;
-      some = h.some;
-    }
+returns-in_err-extend_from_slice-clause-holds c = held (goal.at.returns-in_err-extend_from_slice-clause-holds c).After-put_four-2
 
 pub returns-clause-holds : goal.returns-clause-holds
-returns-clause-holds c =
-    let h = c.requires.holds in
-    let p = c.args.self.now in
-    record {
-      rise = last_four (c.args.rise - p.base);
-      fall = last_four (c.args.fall - p.base);
-      pad = h.pad;
-      is = digits_put p c.put_four.new.bytes c.put_four-2.new.bytes (last_four (c.args.rise - p.base)) (last_four (c.args.fall - p.base)) h refl
-          c.put_four.ensures.before c.put_four.ensures.written c.put_four-2.ensures.before c.put_four-2.ensures.written;
-      of_rise = refl;
-      of_fall = refl;
-      fits = h.fits;
-      short = h.short;
-      whole = h.whole;
-      some = h.some;
-    }
+returns-clause-holds c = held (goal.at.returns-clause-holds c).After-put_four-2
 
 pub returns-clause-text : goal.returns-clause-text
 returns-clause-text c =

@@ -73,23 +73,10 @@ returns-in-Ok-clause-ok c =
 
 pub returns-in-Ok-clause-step : goal.returns-in-Ok-clause-step
 returns-in-Ok-clause-step c =
-    let s = c.self.inside.present.state in
     let d = One c.args.single in
-    let same = ap (λ (m : SessionView). m.present.state) c.self.view_is in
-    let fits = subst (λ (x : State). Fits x d) (sym same) c.requires.fits in
-    let stands = ap (λ (m : Machine (journal.Kept State)). m.present.state) (c.in-Ok.ensures.machine 0) in
-    let made = machine-made s c.record.new.state.state d c.self.inside.cursor c.args.cursor (past_of delta_of c.self.inside.journal)
-    (future_of delta_of c.self.inside.journal)
-    (past_of delta_of c.record.new.self) (future_of delta_of c.record.new.self) c.self.invariant.0.machine.present.state fits stands c.in-Ok.ensures.steps.0
-    c.in-Ok.ensures.steps.1 in
-    let step = grouped-recorded (machine_at c.self.inside.present.state c.self.inside.cursor c.self.inside.journal)
-    (machine (history c.record.new.state.state c.args.cursor (past_of delta_of c.record.new.self) (future_of delta_of c.record.new.self)))
-    (kept (turned s d).0 c.args.cursor (exchange_of s d)) c.self.inside.journal.floor c.record.new.self.floor made c.in-Ok.ensures.steps.2
-    c.self.invariant.0.floor
-    ∙ ap (λ (m : SessionView). recorded_over (grouped_in m) (kept (turned m.present.state d).0 c.args.cursor (exchange_of m.present.state d))) c.self.view_is in
     λ edit none becomes exchanged.
     let now = c.args.self.now.present.state in
-    steps_becomes edit (grouped_in c.args.self.now) _ (Ok tt) (turned now d).0 c.args.cursor (exchange_of now d) none becomes exchanged step tt
+    steps_becomes edit (grouped_in c.args.self.now) _ (Ok tt) (turned now d).0 c.args.cursor (exchange_of now d) none becomes exchanged (returns-in-Ok-clause-ok c) tt
 
 pub returns-in-Ok-clause-looks : goal.returns-in-Ok-clause-looks
 returns-in-Ok-clause-looks c =
