@@ -23,20 +23,19 @@ abbrev is_bit : Slot → Bool
 is_bit (Bit d p) = true
 is_bit _ = false
 
+half : (n : ℕ) → 2 * n / 2 ≡ n
+half n = omega arith
+
 bit-used : (ss : List Slot) (i : ℕ) → bit_at (used_of ss) i ≡ cond (is_bit (get_or ss i Unused)) 1 0
 bit-used [] i = bit_at-zero i
 bit-used (Identifier ∷ ss) zero = omega arith
 bit-used (Unused ∷ ss) zero = omega arith
 bit-used (Bit d p ∷ ss) zero = omega arith
-bit-used (Identifier ∷ ss) (suc i) = bit_at-suc (2 * used_of ss) i ∙ ap (λ n. bit_at n i) (half (used_of ss)) ∙ bit-used ss i where
-  half : (n : ℕ) → 2 * n / 2 ≡ n
-  half n = omega arith
-bit-used (Unused ∷ ss) (suc i) = bit_at-suc (2 * used_of ss) i ∙ ap (λ n. bit_at n i) (half (used_of ss)) ∙ bit-used ss i where
-  half : (n : ℕ) → 2 * n / 2 ≡ n
-  half n = omega arith
-bit-used (Bit d p ∷ ss) (suc i) = bit_at-suc (1 + 2 * used_of ss) i ∙ ap (λ n. bit_at n i) (half (used_of ss)) ∙ bit-used ss i where
-  half : (n : ℕ) → (1 + 2 * n) / 2 ≡ n
-  half n = omega arith
+bit-used (Identifier ∷ ss) (suc i) = bit_at-suc (2 * used_of ss) i ∙ ap (λ n. bit_at n i) (half (used_of ss)) ∙ bit-used ss i
+bit-used (Unused ∷ ss) (suc i) = bit_at-suc (2 * used_of ss) i ∙ ap (λ n. bit_at n i) (half (used_of ss)) ∙ bit-used ss i
+bit-used (Bit d p ∷ ss) (suc i) = bit_at-suc (1 + 2 * used_of ss) i ∙ ap (λ n. bit_at n i) (half_odd (used_of ss)) ∙ bit-used ss i where
+  half_odd : (n : ℕ) → (1 + 2 * n) / 2 ≡ n
+  half_odd n = omega arith
 
 stray-here : (s : Slot) (x : Element) → counts x ≡ true → is_bit s ≡ false → is_stray_at s x ≡ true
 stray-here Identifier One h g = refl

@@ -1,12 +1,7 @@
 -- What one more call makes of a text that is being written.
-use Rattle.std.proofs.Common.{◌≡◌, ◌++◌, ℕ, List, [], append_assoc, append-nil}
+use Rattle.std.proofs.Common.{◌≡◌, ◌++◌, ℕ, List, append_assoc}
 use Rattle.irig_disk.specs.Disk.{Disk}
 use Rattle.irig_disk.specs.Parts.{Adds, Spoils}
-
-pub adds_nothing : {F : Type 0} (disk : F → Disk) (now : F) (beside : List ℕ) (file : ℕ) → Adds disk now now beside file []
-adds_nothing disk now beside file = record {
-  still = λ target mode start text w. rw (append-nil text) w;
-}
 
 -- the same names and the same file, by other words for them
 pub adds_more : {F : Type 0} (disk : F → Disk) (a b c : F) (beside beside' : List ℕ) (file file' : ℕ) (bytes more : List ℕ) → beside' ≡ beside → file' ≡ file

@@ -7,16 +7,12 @@ use Rattle.std.specs.declared.alloc.Global.{Global}
 use Rattle.std.proofs.lemmas.Bool.{cases_eq}
 use Rattle.std.proofs.lemmas.Bool.Decides.{Decides-eqb}
 use Rattle.std.proofs.lemmas.Slice.Eq.{bytes_eq-Decides}
-use Rattle.irig_disk.specs.Disk.{Held, Elapses}
-use Rattle.irig_disk.specs.Stays.{NamesStay, Stays}
-use Rattle.irig_disk.specs.Calls.{Made, Changed, SyncedFile, SyncedNames}
-use Rattle.irig_disk.specs.Moves.{Moved, Removed}
+use Rattle.irig_disk.specs.Disk.{Held}
+use Rattle.irig_disk.specs.Calls.{Made, SyncedFile, SyncedNames}
+use Rattle.irig_disk.specs.Moves.{Moved}
 use Rattle.irig_disk.specs.Log.{leads_in, holds_in, may_lead_in, may_hold_in, disk_of}
 use Rattle.irig_disk.specs.declared.call.Call.{Call}
 use Rattle.irig_disk.specs.declared.call.Call.TheVariants.{Make, Append, TakeMode, SyncFile, Rename, Remove, SyncNames}
-
-true_where : (P : Type 0) (r : Bool) → Decides r P → P → r ≡ true
-true_where P r d p = d.1 p
 
 false_where : (P : Type 0) (r : Bool) → Decides r P → (P → ⊥) → r ≡ false
 false_where P true d none = absurd (none (d.0 refl))
@@ -37,23 +33,6 @@ other_file k i ne = false_where (k ≡ i) (nat_eq k i) (Decides-eqb k i) (λ is.
 of_cond : {A R : Type 0} (b : Bool) (x y z : A) → cond b x y ≡ z → (x ≡ z → R) → (y ≡ z → R) → R
 of_cond true x y z is then other = then is
 of_cond false x y z is then other = other is
-
--- time
-pub log_elapses : (call : Call) (calls : List Call) → Elapses (disk_of calls) (disk_of (call ∷ calls))
-log_elapses call calls = record {
-  later = omega arith;
-  nothing_else = λ t n c le left. ⊎_elim (λ now. inr now) (λ past. inl past.1) left;
-  keeps = λ t n c le left. inr (le, left);
-}
-
-pub log_waits : (calls : List Call) → Elapses (disk_of calls) (disk_of calls)
-log_waits calls = record { later = omega arith; nothing_else = λ t n c le left. inl left; keeps = λ t n c le left. left }
-
-pub log_stays : (calls : List Call) → Stays (disk_of calls) (disk_of calls)
-log_stays calls = record {
-  names = record { seen = λ n. refl; left = λ n x l. l };
-  files = record { seen = λ i. refl; left = λ i h l. l };
-}
 
 -- a file's number is below the length of the log
 pub leads_below : (calls : List Call) (n : List ℕ) (i : ℕ) → leads_in calls n ≡ Some i → i < length calls
@@ -157,19 +136,6 @@ pub log_makes : (calls later : List Call) (v : Vec ℕ Global) (name : List ℕ)
     → leads_in calls name ≡ None → Made (disk_of calls) (disk_of later) name (length calls) mode
 log_makes calls later v name mode is grown free = rw (grown, ← is) (log_made calls v mode (rw is free))
 
--- a change of a file
-log_changed : (call : Call) (calls : List Call) (k : ℕ) (held : Held) → NamesStay (disk_of calls) (disk_of (call ∷ calls))
-    → ((i : ℕ) → holds_in (call ∷ calls) i ≡ cond (nat_eq k i) held (holds_in calls i))
-    → ((i : ℕ) (h : Held) → may_hold_in (call ∷ calls) i h → (i ≡ k) ⊎ may_hold_in calls i h) → Changed (disk_of calls) (disk_of (call ∷ calls)) k held
-log_changed call calls k held names holds left = record {
-  holds = holds k ∙ ap (λ b. cond b held (holds_in calls k)) (same_file k);
-  names = names;
-  files = record {
-    seen = λ i ne. holds i ∙ ap (λ b. cond b held (holds_in calls i)) (other_file k i ne);
-    left = λ i h ne l. ⊎_elim (λ is. absurd (ne is)) (λ was. was) (left i h l);
-  };
-}
-
 pub log_synced : (calls : List Call) (k : ℕ) → SyncedFile (disk_of calls) (disk_of (SyncFile k ∷ calls)) k
 log_synced calls k = record {
   left = λ h l. l.0 refl;
@@ -212,23 +178,6 @@ log_moved calls u v = record {
 pub log_moves : (calls later : List Call) (u v : Vec ℕ Global) («from» to : List ℕ) → u.items ≡ «from» → v.items ≡ to → later ≡ Rename u v ∷ calls
     → Moved (disk_of calls) (disk_of later) «from» to
 log_moves calls later u v «from» to is_from is_to grown = rw (grown, ← is_from, ← is_to) (log_moved calls u v)
-
-log_removed : (calls : List Call) (v : Vec ℕ Global) → Removed (disk_of calls) (disk_of (Remove v ∷ calls)) v.items
-log_removed calls v = record {
-  seen = ap (λ b. cond b None (leads_in calls v.items)) (same_name v.items);
-  may = record {
-    left = λ x l. ⊎_elim (λ was. inl was) (λ gone. inr gone.1) l;
-    names = record {
-      seen = λ n ne ne'. ap (λ b. cond b None (leads_in calls n)) (other_name v.items n ne);
-      left = λ n x ne ne' l. ⊎_elim (λ was. was) (λ gone. absurd (ne (sym gone.0))) l;
-    };
-    files = record { seen = λ i. refl; left = λ i h l. l };
-  };
-}
-
-pub log_removes : (calls later : List Call) (v : Vec ℕ Global) (name : List ℕ) → v.items ≡ name → later ≡ Remove v ∷ calls
-    → Removed (disk_of calls) (disk_of later) name
-log_removes calls later v name is grown = rw (grown, ← is) (log_removed calls v)
 
 pub log_syncs : (calls later : List Call) (k : ℕ) → later ≡ SyncFile k ∷ calls → SyncedFile (disk_of calls) (disk_of later) k
 log_syncs calls later k grown = rw grown (log_synced calls k)

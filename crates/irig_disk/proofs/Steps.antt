@@ -11,7 +11,7 @@ use Rattle.irig_disk.specs.Moves.{MayMove, Moved, NotMoved, MayRemove, Removed, 
 use Rattle.irig_disk.specs.Put.{OldOrNew, OldOrNewIfThere, OldIfThere, SeenSame, SeenSameIfThere, AfterFault, left_by, IsPut, IsKept}
 use Rattle.irig_disk.specs.Writing.{IsUnchanged, NotBegun, NotFinished, IsBeside, IsWriting, IsPlaced, IsStuck}
 use Rattle.irig_disk.specs.Parts.{IsPassed, ComesTo}
-use Rattle.irig_disk.proofs.Moments.{started, goes_on, weaker}
+use Rattle.irig_disk.proofs.Moments.{goes_on, weaker}
 use Rattle.irig_disk.proofs.Names.{same_or_not}
 
 -- a name that leads to the same file, which holds the same, shows the same
@@ -49,12 +49,6 @@ there_apart : (start : Disk) (beside target : List ℕ) → beside ≢ target �
     → n ≢ beside
 there_apart start beside target apart was_free n (inl at) is = apart (sym is ∙ at)
 there_apart start beside target apart was_free n (inr some) is = some (ap (λ m. start.leads m) is ∙ was_free)
-
-pub unchanged_starts : (start : Disk) → ((n : List ℕ) (c : Option Held) → start.left_since start.moment n c → MayLeave start n c) → IsUnchanged start start
-unchanged_starts start only_now = record {
-  stays = record { names = record { seen = λ n. refl; left = λ n x l. l }; files = record { seen = λ i. refl; left = λ i h l. l } };
-  moments = started start only_now;
-}
 
 pub unchanged_goes_on : (start a b : Disk) → IsUnchanged start a → Stays a b → Elapses a b → IsUnchanged start b
 unchanged_goes_on start a b same stays time = record {

@@ -1,5 +1,5 @@
 -- An edit on the shelf of a file, as one by the settings.
-use Rattle.std.proofs.Common.{◌≡◌, ◌∷◌, [], ℕ, List, Option, Result, Err, inl, refl, subst}
+use Rattle.std.proofs.Common.{◌≡◌, [], ℕ, List, Option, Result, Err, inl, refl, subst}
 use Rattle.std.specs.Prelude.{option_map}
 use Rattle.irig_vcd.specs.Parts.{dump_parts}
 use Rattle.irig_vcd.specs.declared.fault.VcdFault.{VcdFault}
@@ -18,10 +18,6 @@ use Rattle.irig_ed.specs.declared.command_line.chosen.Settings.{Settings}
 -- the wire of the settings
 abbrev wire_in : Settings → Option (List ℕ)
 wire_in chosen = option_map (λ w. w.now) chosen.wire
-
--- labels that are the same name the same path
-pub same_path : (x y : ℕ) (xs ys : List ℕ) → x ∷ xs ≡ y ∷ ys → xs ≡ ys
-same_path x y xs ys e = cc
 
 -- the shelf was at the path of the settings, from the start to the end
 pub runs_by : (chosen : Settings) (source : List ℕ) (out out_new script left : Option (List ℕ)) (path path_new label label_new : List ℕ)

@@ -7,9 +7,6 @@ use Rattle.std.proofs.lemmas.Slice.Eq.{bytes_eq-Decides}
 use Rattle.irig_text.specs.Shelved.{GrowsBy}
 use Rattle.irig_files.specs.Puts.{Put, kept, not_kept, with_text, texts_of, texts_at}
 
-same_path : (path : List ℕ) → bytes_eq path path ≡ true
-same_path path = (bytes_eq-Decides path path).1 refl
-
 -- a text at the end of others, whose first is at the path or is not, and was kept or was not
 behind : (here is_kept : Bool) (first text : List ℕ) (xs ys : Option (List (List ℕ))) → ys ≡ option_map (λ ts. ts ++ text ∷ []) xs
     → cond here (with_text is_kept first ys) None ≡ option_map (λ ts. ts ++ text ∷ []) (cond here (with_text is_kept first xs) None)
@@ -19,11 +16,11 @@ behind true true first text None ys e = rw e refl
 behind true true first text (Some ts) ys e = rw e refl
 
 texts_of-append : (path text : List ℕ) (puts : List Put) → texts_of path (puts ++ kept path text ∷ []) ≡ option_map (λ ts. ts ++ text ∷ []) (texts_of path puts)
-texts_of-append path text [] = rw (same_path path) refl
+texts_of-append path text [] = rw ((bytes_eq-Decides path path).1 refl) refl
 texts_of-append path text (put ∷ puts) = behind (bytes_eq put.path path) put.is_kept put.text text (texts_of path puts) _ (texts_of-append path text puts)
 
 texts_of-failed : (path text : List ℕ) (puts : List Put) → texts_of path (puts ++ not_kept path text ∷ []) ≡ texts_of path puts
-texts_of-failed path text [] = rw (same_path path) refl
+texts_of-failed path text [] = rw ((bytes_eq-Decides path path).1 refl) refl
 texts_of-failed path text (put ∷ puts) = ap (λ ts. cond (bytes_eq put.path path) (with_text put.is_kept put.text ts) None) (texts_of-failed path text puts)
 
 grown : (text : List ℕ) (xs ys : Option (List (List ℕ))) → ys ≡ option_map (λ ts. ts ++ text ∷ []) xs → GrowsBy xs ys (text ∷ [])

@@ -1,7 +1,8 @@
 -- The steps of a gap buffer, on the places of its block.
-use Rattle.std.proofs.Common.{◌≡◌, ℕ, suc, zero, ◌+◌, ◌-◌, ◌<◌, ◌≤◌, List, ◌++◌, map, length, take, drop, set, get_or, insert, remove, Option, Some, None}
-use Rattle.std.proofs.Common.{slice_get, replicate, refl, sym, ap, ◌∙◌, ◌⊎◌, inl, inr, arith}
+use Rattle.std.proofs.Common.{◌≡◌, ℕ, ◌+◌, ◌-◌, ◌<◌, ◌≤◌, List, ◌++◌, map, length, take, drop, set, get_or, insert, remove, Option, Some, None}
+use Rattle.std.proofs.Common.{slice_get, replicate, refl, sym, ap, ◌∙◌, inl, inr, arith}
 use Rattle.std.proofs.lemmas.List.{map-set, take-map, drop-map, length-map, length-set, drop-take, length-append, length-replicate}
+use Rattle.std.proofs.lemmas.Bool.{cases_lt}
 use Rattle.irig_gap.specs.Cells.{IsFull, IsRun, moved}
 use Rattle.irig_gap.specs.Items.{GapView, gap_view}
 use Rattle.irig_gap.specs.Slots.{somes, live, IsGap, view_of}
@@ -9,11 +10,6 @@ use Rattle.irig_gap.proofs.Live.{somes-map, read_map, map-insert, map-remove, cu
 use Rattle.irig_gap.proofs.Live.{live-set_right, read_left, read_right, live-of, live-none, live-up, live-down, length-moved, live-left_side, live-right_side}
 use Rattle.irig_gap.proofs.Live.{live-taken, live-taken_right, live-front}
 use Rattle.irig_gap.proofs.Copies.{copied, length-copied}
-
-below_or_not : (i n : ℕ) → (i < n) ⊎ (n ≤ i)
-below_or_not i zero = inr (omega arith)
-below_or_not zero (suc n) = inl (omega arith)
-below_or_not (suc i) (suc n) = elim (below_or_not i n) [ inl lt ↦ inl (omega arith) | inr le ↦ inr (omega arith) ]
 
 module _ {X : Type 0} where
   -- what the view of a gap buffer says of its fields
@@ -139,11 +135,11 @@ module _ {X : Type 0} where
     IsSlot i j = (i < g → j ≡ i) × (g ≤ i → j ≡ a + (i - g))
 
     pub slot_inside : (i j : ℕ) → IsSlot i j → i < length v.items → j < length cs
-    slot_inside i j k p = let s = shows cs g a v e h in elim (below_or_not i g)
+    slot_inside i j k p = let s = shows cs g a v e h in elim (cases_lt i g)
         [ inl lt ↦ (let q = k.0 lt in omega arith) | inr le ↦ (let q = k.1 le in omega arith) ]
 
     pub slot_holds : (i j : ℕ) → IsSlot i j → i < length v.items → get_or cs j None ≡ slice_get v.items i
-    slot_holds i j k p = elim (below_or_not i g) [
+    slot_holds i j k p = elim (cases_lt i g) [
       | inl lt ↦ ap (λ n. get_or cs n None) (k.0 lt) ∙ slot_left i p lt
       | inr le ↦ ap (λ n. get_or cs n None) (k.1 le) ∙ slot_right i p le
     ]
@@ -153,7 +149,7 @@ module _ {X : Type 0} where
 
     pub set_step : (i j : ℕ) (x : X) → IsSlot i j → i < length v.items → Holds (set cs j (Some x)) g a (gap_view (set v.items i x) v.place v.capacity)
     set_step i j x k p = let s = shows cs g a v e h in let long = length-set cs j (Some x) in
-        let there : live (set cs j (Some x)) g a ≡ set (live cs g a) i (Some x) = elim (below_or_not i g) [
+        let there : live (set cs j (Some x)) g a ≡ set (live cs g a) i (Some x) = elim (cases_lt i g) [
           | inl lt ↦ ap (λ n. live (set cs n (Some x)) g a) (k.0 lt) ∙ live-set_left cs g a i (Some x) lt (omega arith) (omega arith)
           | inr le ↦ ap (λ n. live (set cs n (Some x)) g a) (k.1 le) ∙ live-set_right cs g a i (Some x) le (omega arith) (omega arith)
         ] in

@@ -1,9 +1,9 @@
 -- Records by their place among all, whichever side of the gap they are on.
-use Rattle.std.proofs.Common.{◌≡◌, ℕ, suc, zero, ◌+◌, ◌<◌, ◌≤◌, List, [], ◌∷◌, ◌++◌, length, map, take, drop}
+use Rattle.std.proofs.Common.{◌≡◌, ℕ, suc, zero, ◌+◌, ◌<◌, ◌≤◌, List, [], ◌∷◌, ◌++◌, map, take, drop}
 use Rattle.std.proofs.Common.{slice_get, slice_set, Some, refl, sym, ap, subst, ◌∙◌, arith, add-one, append_assoc}
 use Rattle.irig_gap.specs.Items.{GapView, gap_view}
 use Rattle.irig_index.specs.declared.record.Record.{Record}
-use Rattle.irig_index.specs.Sides.{turned, left_of, right_of, shown, BeginsAfter}
+use Rattle.irig_index.specs.Sides.{turned, shown, BeginsAfter}
 use Rattle.irig_track.proofs.Items.{drop-item, take-item}
 use Rattle.irig_index.proofs.SideLemmas.{seen}
 
@@ -15,16 +15,6 @@ module _ {X : Type 0} where
   set-parts (z ∷ xs) (suc k) x y e = ap (λ zs. z ∷ zs) (set-parts xs k x y e)
 
   module _ (t : X → X) where
-    take-seen : (xs : List X) (p : ℕ) → p ≤ length xs → take p (seen t p xs) ≡ take p xs
-    take-seen xs zero le = refl
-    take-seen [] (suc p) le = absurd (omega arith)
-    take-seen (x ∷ xs) (suc p) le = ap (λ ys. x ∷ ys) (take-seen xs p (omega arith))
-
-    drop-seen : (xs : List X) (p : ℕ) → p ≤ length xs → drop p (seen t p xs) ≡ map t (drop p xs)
-    drop-seen xs zero le = refl
-    drop-seen [] (suc p) le = absurd (omega arith)
-    drop-seen (x ∷ xs) (suc p) le = drop-seen xs p (omega arith)
-
     map-slice_set : (xs : List X) (k : ℕ) (x : X) → map t (slice_set xs k x) ≡ slice_set (map t xs) k (t x)
     map-slice_set [] k x = refl
     map-slice_set (y ∷ xs) zero x = refl
@@ -41,14 +31,6 @@ module _ {X : Type 0} where
     seen-set_right [] (suc p) k x le = refl
     seen-set_right (y ∷ xs) (suc p) zero x le = absurd (omega arith)
     seen-set_right (y ∷ xs) (suc p) (suc k) x le = ap (λ ys. y ∷ ys) (seen-set_right xs p k x (omega arith))
-
--- the sides of the gap among all records
-module _ (pulses : ℕ) (g : GapView Record) (within : g.place ≤ length g.items) where
-  pub take-shown : take g.place (shown pulses g) ≡ left_of g
-  take-shown = take-seen (turned pulses) g.items g.place within
-
-  pub drop-shown : drop g.place (shown pulses g) ≡ right_of pulses g
-  drop-shown = drop-seen (turned pulses) g.items g.place within
 
 -- a record is set where it is
 module _ (pulses k : ℕ) (r : Record) (g h : GapView Record) (set : h ≡ gap_view (slice_set g.items k r) g.place g.capacity) where

@@ -1,5 +1,6 @@
 -- What the parser reads of a line is how the line is put together.
-use Rattle.std.proofs.Common.{◌≡◌, ℕ, ◌++◌, Bool, true, false, not, List, [], ◌∷◌, refl, sym, ap, ◌∙◌, subst, inl, inr}
+use Rattle.std.proofs.Common.{◌≡◌, ℕ, ◌++◌, true, false, not, List, [], ◌∷◌, refl, sym, ap, ◌∙◌, subst, inl, inr}
+use Rattle.std.proofs.lemmas.Bool.{not-true}
 use Rattle.std.proofs.lemmas.List.{append-nil}
 use Rattle.irig_lines.specs.Addresses.{IsRange}
 use Rattle.irig_lines.specs.Commands.{Asks}
@@ -30,7 +31,7 @@ order_of text front rest c e h = go (onward Text rest) refl (cut_begins Text res
         let order : IsOrder text front [] = record { blank = []; rest = rest; whole = e; between = refl; behind = blank } in
         (front, [], order, asks)
     go (b ∷ s) f begins asks =
-        let none : is_space b ≡ false = flipped (is_space b) begins in
+        let none : is_space b ≡ false = not-true (is_space b) begins in
         let name : before Blank (b ∷ s) ≡ b ∷ before Blank s = before_on Blank b s none in
         let after : onward Blank (b ∷ s) ≡ onward Blank s = onward_on Blank b s none in
         let all : rest ≡ before Text rest ++ (b ∷ s) = sym (cut_whole Text rest) ∙ ap (λ t. before Text rest ++ t) f in
@@ -42,10 +43,6 @@ order_of text front rest c e h = go (onward Text rest) refl (cut_begins Text res
         subst (λ (t : List ℕ). Asks (keyword_of t) front (words_of (onward Blank s)) c) name
         (subst (λ (t : List ℕ). Asks (keyword_of (before Blank (b ∷ s))) front (words_of t) c) after asks) in
         (front, (b ∷ before Blank s) ∷ words_of (onward Blank s), order, told)
-      where
-        flipped : (v : Bool) → not v ≡ true → v ≡ false
-        flipped true k = absurd (cc)
-        flipped false k = refl
 
 -- and if those ask for nothing, no order does
 pub no_order_of : (text front rest name args : List ℕ) (k : Keyword) → k ≡ keyword_of name

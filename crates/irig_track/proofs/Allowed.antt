@@ -68,9 +68,6 @@ module _ (micros at count start high : ℕ) (put ps : List Pulse) (there : at + 
       rw (starts, ends) (middle_stands micros (edges_of (take at ps)) (edges_of put) (edges_of (drop (at + count) ps)) (subst (RisesFrom 0) e can.track.rises)
       (subst (UpTo micros) e can.track.within))
 
-  pub splice_few : CanSplice micros at count put ps → length put + length ps ≤ 2 ^ 22 + count
-  splice_few can = omega (arith, can.track.few, length-spliced ps put at count there)
-
   -- pulses that fit there, and that are few enough, may be inserted
   pub stands_splice : length put + length ps ≤ 2 ^ 22 + count → RisesFrom start (edges_of put ++ high ∷ []) → CanSplice micros at count put ps
   stands_splice few m =

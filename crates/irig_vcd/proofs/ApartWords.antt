@@ -1,9 +1,8 @@
 -- Values on other codes, which say nothing.
-use Rattle.std.proofs.Common.{◌≡◌, ◌<◌, ◌≤◌, ◌+◌, ◌∷◌, ◌==◌, ◌&&◌, ◌⊎◌, [], ℕ, true, false, List, length, drop, get_or, nat_le, None, Ok, inl, inr}
+use Rattle.std.proofs.Common.{◌≡◌, ◌<◌, ◌≤◌, ◌+◌, ◌∷◌, ◌⊎◌, [], ℕ, true, false, List, length, drop, get_or, None, Ok, inl, inr}
 use Rattle.std.proofs.Common.{refl, ap, sym, ◌∙◌, arith}
 use Rattle.std.specs.Str.{bytes_eq}
-use Rattle.std.proofs.lemmas.Bool.{and_right, lt-leb, ne_eqb, or_from}
-use Rattle.irig_vcd.specs.Answer.{◌>>=◌}
+use Rattle.irig_vcd.specs.Answer.{◌>>=◌, pair_of}
 use Rattle.irig_vcd.specs.Changes.{changes_from}
 use Rattle.irig_vcd.specs.Code.Event.{is_hash, level_read}
 use Rattle.irig_vcd.specs.Code.Short.{TakesApart, TakesValue, takes_code}
@@ -13,7 +12,6 @@ use Rattle.irig_vcd.specs.Words.{Word, WordKind, is_space, kind_of_byte, words_f
 use Rattle.irig_vcd.specs.Words.{dollar, hash, scalar, vector, real, text, other}
 use Rattle.irig_vcd.proofs.ChangeSteps.{on_level}
 use Rattle.irig_vcd.proofs.CodeRuns.{apart_level, other_bytes}
-use Rattle.irig_vcd.proofs.Cuts.{pair_ok}
 use Rattle.irig_vcd.proofs.DigitRuns.{dark_above, none_before}
 use Rattle.irig_vcd.proofs.Runs.{begins, newline, skips}
 
@@ -84,7 +82,7 @@ no_time other is = absurd (cc is)
 
 -- a value and its code, read at once
 pub any_read : (kind : WordKind) (code : List ℕ) (w c : Word) (ws : List Word) → takes_code kind ≡ true
-    → level_read kind code w (c ∷ ws) ≡ (level_by kind code w c.bytes >>= λ x. pair_ok x ws)
+    → level_read kind code w (c ∷ ws) ≡ (level_by kind code w c.bytes >>= λ x. pair_of x ws)
 any_read vector code w c ws is = refl
 any_read real code w c ws is = refl
 any_read text code w c ws is = refl
@@ -99,7 +97,7 @@ pub apart_on : (code : List ℕ) (unit last : ℕ) (old new : List Word) → Tak
 apart_on code unit last old new takes = elim takes [
   | inl a ↦ on_level code unit last old a.word new new None a.left (ap is_hash a.kind) (apart_level code a.word new a.kind a.level)
   | inr v ↦ on_level code unit last old v.word (v.next ∷ new) new None v.left (no_time v.word.kind v.kind)
-      (any_read v.word.kind code v.word v.next new v.kind ∙ ap (λ r. r >>= λ x. pair_ok x new) v.level)
+      (any_read v.word.kind code v.word v.next new v.kind ∙ ap (λ r. r >>= λ x. pair_of x new) v.level)
 ]
 
 past_scalar : (left : List Word) (w : Word) (ws : List Word) → left ≡ w ∷ ws → w.kind ≡ scalar

@@ -6,56 +6,31 @@ use Rattle.std.proofs.lemmas.List.{append-nil}
 use Rattle.std.proofs.lemmas.Slice.Eq.{bytes_eq-Decides}
 use Rattle.irig_vcd.specs.Answer.{◌>>=◌, pair_of}
 use Rattle.irig_vcd.specs.Changes.{changes_from}
-use Rattle.irig_vcd.specs.Code.Event.{is_hash, level_read}
 use Rattle.irig_vcd.specs.Code.Journals.{Holds}
-use Rattle.irig_vcd.specs.Code.Pending.{Fails, IsValue, Means, Reads, ReadsTo}
+use Rattle.irig_vcd.specs.Code.Pending.{IsValue, Means, Reads, ReadsTo}
 use Rattle.irig_vcd.specs.Code.Section.{end_read}
 use Rattle.irig_vcd.specs.Code.Short.{takes_code}
 use Rattle.irig_vcd.specs.Events.{Next, gives_level, any_word, code_of_value, comment_word, is_comment, is_mark, level_by, word_event}
-use Rattle.irig_vcd.specs.Journals.{Comment, comment, comments_from, is_journal, next_after}
+use Rattle.irig_vcd.specs.Journals.{Comment, comment, comments_from, is_journal}
 use Rattle.irig_vcd.specs.Sections.{is_end}
-use Rattle.irig_vcd.specs.Values.{scalar_level}
 use Rattle.irig_vcd.specs.Words.{Word, WordKind, dollar, hash, scalar, vector, real, text, other}
 use Rattle.irig_vcd.specs.declared.fault.VcdFault.{VcdFault}
-use Rattle.irig_vcd.specs.declared.fault.VcdFault.TheVariants.{BadToken}
 use Rattle.irig_vcd.specs.declared.journals.Journals.{Journals}
 use Rattle.irig_vcd.specs.declared.pending.Pending.{Pending}
 use Rattle.irig_vcd.specs.declared.pending.Pending.TheVariants as pending
 use Rattle.irig_vcd.specs.declared.pending.Value.{Value}
 use Rattle.irig_vcd.proofs.ApartWords.{any_read, no_time, then_code}
-use Rattle.irig_vcd.proofs.ChangeSteps.{comment as past_comment, goes_on, on_level, on_word}
-use Rattle.irig_vcd.proofs.Cuts.{pair_ok}
+use Rattle.irig_vcd.proofs.ChangeSteps.{comment as past_comment, on_level}
 use Rattle.irig_vcd.proofs.JournalWords.{behind_end, closes, closed, mark_apart}
-
--- a value with its code in one word
-pub reads_scalar : (code : List ℕ) (w : Word) (ws : List Word) (level : Option Bool) → w.kind ≡ scalar → scalar_level code w ≡ Ok level
-    → Reads code any_word None (w ∷ ws) level [] any_word None ws
-reads_scalar code w ws level kind h = record {
-  changes = λ unit last more. on_level code unit last (w ∷ (ws ++ more)) w (ws ++ more) (ws ++ more) level refl (ap is_hash kind)
-      (ap (λ k. level_read k code w (ws ++ more)) kind ∙ ap (λ r. r >>= λ x. pair_ok x (ws ++ more)) h);
-  comments = λ more. ap (λ k. comments_from (next_after k w) None (ws ++ more)) kind;
-}
-
-pub fails_scalar : (code : List ℕ) (w : Word) (ws : List Word) (e : VcdFault) → w.kind ≡ scalar → scalar_level code w ≡ Err e
-    → Fails code any_word (w ∷ ws) e
-fails_scalar code w ws e kind h = λ unit last more.
-    on_word code unit last (w ∷ (ws ++ more)) w (ws ++ more) refl (ap is_hash kind)
-    ∙ ap (goes_on code unit last) (ap (λ k. level_read k code w (ws ++ more)) kind ∙ ap (λ r. r >>= λ x. pair_ok x (ws ++ more)) h)
 
 -- a value and its code
 pub reads_value : (code : List ℕ) (w c : Word) (ws : List Word) (level : Option Bool) → takes_code w.kind ≡ true → level_by w.kind code w c.bytes ≡ Ok level
     → Reads code any_word None (w ∷ c ∷ ws) level [] any_word None ws
 reads_value code w c ws level kind h = record {
   changes = λ unit last more. on_level code unit last (w ∷ c ∷ (ws ++ more)) w (c ∷ (ws ++ more)) (ws ++ more) level refl (no_time w.kind kind)
-      (any_read w.kind code w c (ws ++ more) kind ∙ ap (λ r. r >>= λ x. pair_ok x (ws ++ more)) h);
+      (any_read w.kind code w c (ws ++ more) kind ∙ ap (λ r. r >>= λ x. pair_of x (ws ++ more)) h);
   comments = λ more. ap (λ (n : Next). comments_from n None (c ∷ (ws ++ more))) (then_code w.kind w kind);
 }
-
-pub fails_value : (code : List ℕ) (w c : Word) (ws : List Word) (e : VcdFault) → takes_code w.kind ≡ true → level_by w.kind code w c.bytes ≡ Err e
-    → Fails code any_word (w ∷ c ∷ ws) e
-fails_value code w c ws e kind h = λ unit last more.
-    on_word code unit last (w ∷ c ∷ (ws ++ more)) w (c ∷ (ws ++ more)) refl (no_time w.kind kind)
-    ∙ ap (goes_on code unit last) (any_read w.kind code w c (ws ++ more) kind ∙ ap (λ r. r >>= λ x. pair_ok x (ws ++ more)) h)
 
 value_begins : (kind : WordKind) (code : List ℕ) (w : Word) → takes_code kind ≡ true → word_event kind code w ≡ pair_of (gives_level None) (code_of_value w)
 value_begins vector code w is = refl
@@ -73,21 +48,9 @@ reads_open code w kind = record {
   comments = λ more. ap (λ (n : Next). comments_from n None more) (then_code w.kind w kind);
 }
 
--- a code after its value
-pub reads_code : (code : List ℕ) (v c : Word) (ws : List Word) (level : Option Bool) → level_by v.kind code v c.bytes ≡ Ok level
-    → Reads code (code_of_value v) None (c ∷ ws) level [] any_word None ws
-reads_code code v c ws level h = record { changes = λ unit last more. rw h refl; comments = λ more. refl }
-
-pub fails_code : (code : List ℕ) (v c : Word) (ws : List Word) (e : VcdFault) → level_by v.kind code v c.bytes ≡ Err e → Fails code (code_of_value v) (c ∷ ws) e
-fails_code code v c ws e h = λ unit last more. rw h refl
-
 -- no word
 pub reads_none : (code : List ℕ) (n : Next) (first : Option Word) → Reads code n first [] None [] n first []
 reads_none code n first = record { changes = λ unit last more. refl; comments = λ more. refl }
-
--- no word is taken
-pub reads_same : (code : List ℕ) (n : Next) (first : Option Word) (ws : List Word) → Reads code n first ws None [] n first ws
-reads_same code n first ws = record { changes = λ unit last more. refl; comments = λ more. refl }
 
 -- a mark
 pub reads_mark : (code : List ℕ) (w : Word) (ws : List Word) → w.kind ≡ dollar → is_mark w.bytes ≡ true
@@ -106,13 +69,6 @@ reads_comment code w ws rest level found n first kind mark h r = record {
   comments = λ more. rw (kind, h) (r.comments more);
 }
 
-pub fails_dollar : (code : List ℕ) (w : Word) (ws : List Word) → w.kind ≡ dollar → is_mark w.bytes ≡ false → is_comment w.bytes ≡ false
-    → Fails code any_word (w ∷ ws) (BadToken w.offset)
-fails_dollar code w ws kind mark h = λ unit last more. rw (kind, mark, h) refl
-
-pub fails_other : (code : List ℕ) (w : Word) (ws : List Word) → w.kind ≡ other → Fails code any_word (w ∷ ws) (BadToken w.offset)
-fails_other code w ws kind = λ unit last more. rw kind refl
-
 -- a comment ends at once
 pub reads_shut : (code : List ℕ) (w : Word) (ws : List Word) → is_end w.bytes ≡ true
     → Reads code comment_word None (w ∷ ws) None (comment w w.offset ∷ []) any_word None ws
@@ -129,7 +85,7 @@ reads_first code w ws rest level found n first h r = record {
 
 more_ended : (ends : Bool) (offset end : ℕ) (ws rest more : List Word) → (end_read ws ≡ Ok (end, rest) → end_read (ws ++ more) ≡ Ok (end, rest ++ more))
     → cond ends (Ok (offset, ws)) (end_read ws) ≡ Ok (end, rest) → cond ends (Ok (offset, ws ++ more)) (end_read (ws ++ more)) ≡ Ok (end, rest ++ more)
-more_ended true offset end ws rest more ih h = ap (λ r. r >>= λ x. pair_ok x.0 (x.1 ++ more)) h
+more_ended true offset end ws rest more ih h = ap (λ r. r >>= λ x. pair_of x.0 (x.1 ++ more)) h
 more_ended false offset end ws rest more ih h = ih h
 
 -- an end stays the next one

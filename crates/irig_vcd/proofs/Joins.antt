@@ -2,7 +2,7 @@
 use Rattle.std.proofs.Common.{◌≡◌, ◌+◌, ◌++◌, ◌∷◌, [], ℕ, suc, Bool, true, false, not, cond, List, length, drop, refl, ap, sym, ◌∙◌, arith, append_assoc}
 use Rattle.std.proofs.lemmas.List.{append-nil}
 use Rattle.irig_vcd.specs.Code.Joins.{ends_inside, front_of, with_more}
-use Rattle.irig_vcd.specs.Words.{WordKind, Word, is_space, words_from, words_of, before_space, kind_of_byte}
+use Rattle.irig_vcd.specs.Words.{WordKind, Word, is_space, words_from, before_space, kind_of_byte}
 
 -- no bytes more
 pub with_more-none : (ws : List Word) → with_more [] ws ≡ ws
@@ -87,14 +87,6 @@ words_from-apart x y at inside outside =
     words_from-join x y at inside
     ∙ ap (λ i. with_more (front_of i y) (words_from at inside x) ++ words_from (at + length x) i y) outside
     ∙ ap (λ (l : List Word). l ++ words_from (at + length x) false y) (with_more-none (words_from at inside x))
-
--- the words of a text of two parts
-pub words_of-join : (x y : List ℕ) → words_of (x ++ y)
-    ≡ with_more (front_of (ends_inside false x) y) (words_of x) ++ words_from (length x) (ends_inside false x) y
-words_of-join x y =
-    words_from-join x y 0 false
-    ∙ ap (λ n. with_more (front_of (ends_inside false x) y) (words_of x) ++ words_from n (ends_inside false x) y)
-    (let e : 0 + length x ≡ length x = omega arith in e)
 
 inside_step : (space : Bool) (b at : ℕ) (y : List ℕ) → is_space b ≡ space
     → words_from (at + 1) true y ≡ words_from (at + 1 + length (before_space y)) false (drop (length (before_space y)) y)

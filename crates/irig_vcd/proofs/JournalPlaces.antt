@@ -1,7 +1,7 @@
 -- The places of the journals of a text: after its declarations, and within it.
 use Rattle.std.proofs.Common.{◌≡◌, ◌≤◌, ◌<◌, ◌+◌, ◌∷◌, [], ℕ, Bool, true, false, cond, List, Option, Some, None, Result, Ok, Err, IfSome, length, filter, ◌++◌}
 use Rattle.std.proofs.Common.{refl, ap, arith}
-use Rattle.irig_vcd.specs.Answer.{◌>>=◌}
+use Rattle.irig_vcd.specs.Answer.{◌>>=◌, pair_of}
 use Rattle.irig_vcd.specs.Code.Journals.{Holds, LiesIn, place_view, first_place}
 use Rattle.irig_vcd.specs.Cut.{Section, Stop, no_end, no_definitions, bad, ended, Cut, cut_from, then_cut, stop_at, is_stray, is_last}
 use Rattle.irig_vcd.specs.Declarations.{Heading, nothing, declarations_of, read_cut, judged, stopped, start_of}
@@ -9,14 +9,13 @@ use Rattle.irig_vcd.specs.Events.{Next, any_word, code_of_value, comment_word}
 use Rattle.irig_vcd.specs.Journals.{Comment, comment, comments_from, first_or, is_journal, journals_in, journals_among, next_after, words_behind}
 use Rattle.irig_vcd.specs.Sections.{is_end, section_of}
 use Rattle.irig_vcd.specs.Words.{Word, is_space, words_from, words_of, before_space, kind_of_byte}
-use Rattle.irig_vcd.proofs.Cuts.{pair_ok}
 use Rattle.irig_vcd.specs.declared.fault.VcdFault.{VcdFault}
 use Rattle.irig_vcd.specs.declared.journals.Journals.{Journals}
 use Rattle.irig_vcd.specs.declared.journals.Place.{Place}
 
 -- the words after the declarations do not depend on the wire
 
-ends_so : (r : Result (ℕ × List ℕ) VcdFault) (l ws : List Word) (s : ℕ × List ℕ) → (r >>= λ s. pair_ok s l) ≡ Ok (s, ws) → l ≡ ws
+ends_so : (r : Result (ℕ × List ℕ) VcdFault) (l ws : List Word) (s : ℕ × List ℕ) → (r >>= λ s. pair_of s l) ≡ Ok (s, ws) → l ≡ ws
 ends_so (Ok x) l ws s h = let same : ◌≡◌ {A = (ℕ × List ℕ) × List Word} (x, l) (s, ws) = cc h in ap (λ p. p.1) same
 ends_so (Err e) l ws s h = absurd (cc h)
 
@@ -27,7 +26,7 @@ stops_so h (bad offset) g ws is = absurd (cc is)
 stops_so h (ended words) g ws is = let same : ◌≡◌ {A = Heading × List Word} (h, words) (g, ws) = cc is in ap (λ p. p.1) same
 
 starts_so : (wire : Option (List ℕ)) (r : Result (Heading × List Word) VcdFault) (ws : List Word) (s : ℕ × List ℕ)
-    → (r >>= λ x. start_of wire x.0 >>= λ s. pair_ok s x.1) ≡ Ok (s, ws)
+    → (r >>= λ x. start_of wire x.0 >>= λ s. pair_of s x.1) ≡ Ok (s, ws)
     → (h : Heading) × (r ≡ Ok (h, ws))
 starts_so wire (Ok x) ws s h = (x.0, ap (λ l. Ok (x.0, l)) (ends_so (start_of wire x.0) x.1 ws s h))
 starts_so wire (Err e) ws s h = absurd (cc h)

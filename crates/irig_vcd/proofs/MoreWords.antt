@@ -1,12 +1,11 @@
 -- What was read of words is read of them with more words after them.
 use Rattle.std.proofs.Common.{◌≡◌, ◌∷◌, [], ◌++◌, ℕ, Bool, true, false, cond, List, Option, Some, None, Result, Ok, Err, refl, ap, ◌∙◌}
-use Rattle.irig_vcd.specs.Answer.{◌>>=◌}
+use Rattle.irig_vcd.specs.Answer.{◌>>=◌, pair_of}
 use Rattle.irig_vcd.specs.Cut.{Section, Stop, no_end, no_definitions, bad, ended, Cut, cut_from, stop_at, then_cut, is_stray, is_last}
 use Rattle.irig_vcd.specs.Declarations.{Heading, nothing, judged, stopped, read_cut, start_of, declarations_of}
 use Rattle.irig_vcd.specs.Sections.{is_end, section_of}
 use Rattle.irig_vcd.specs.Words.{Word}
 use Rattle.irig_vcd.specs.declared.fault.VcdFault.{VcdFault}
-use Rattle.irig_vcd.proofs.Cuts.{pair_ok}
 
 -- the declarations end in these sections, and those words are after them
 abbrev EndsIn : Cut → List Section → List Word → Type 0
@@ -67,17 +66,17 @@ read_more h g ws rest more is =
     let p = judged_so (judged h (cut_from None ws).sections) (cut_from None ws).stop g rest is in
     ap (read_cut h) (cut_more None ws rest more p.1) ∙ ap (λ r. r >>= λ k. stopped k (ended (rest ++ more))) p.0
 
-started_so : (r : Result (ℕ × List ℕ) VcdFault) (l more ws : List Word) (s : ℕ × List ℕ) → (r >>= λ x. pair_ok x l) ≡ Ok (s, ws)
-    → (r >>= λ x. pair_ok x (l ++ more)) ≡ Ok (s, ws ++ more)
+started_so : (r : Result (ℕ × List ℕ) VcdFault) (l more ws : List Word) (s : ℕ × List ℕ) → (r >>= λ x. pair_of x l) ≡ Ok (s, ws)
+    → (r >>= λ x. pair_of x (l ++ more)) ≡ Ok (s, ws ++ more)
 started_so (Ok x) l more ws s h =
     let same : ◌≡◌ {A = (ℕ × List ℕ) × List Word} (x, l) (s, ws) = cc h in
-    ap (λ (p : (ℕ × List ℕ) × List Word). pair_ok p.0 (p.1 ++ more)) same
+    ap (λ (p : (ℕ × List ℕ) × List Word). pair_of p.0 (p.1 ++ more)) same
 started_so (Err e) l more ws s h = absurd (cc h)
 
 starts_so : (wire : Option (List ℕ)) (r q : Result (Heading × List Word) VcdFault) (more ws : List Word) (s : ℕ × List ℕ)
     → ((x : Heading × List Word) → r ≡ Ok x → q ≡ Ok (x.0, x.1 ++ more))
-    → (r >>= λ x. start_of wire x.0 >>= λ s. pair_ok s x.1) ≡ Ok (s, ws)
-    → (q >>= λ x. start_of wire x.0 >>= λ s. pair_ok s x.1) ≡ Ok (s, ws ++ more)
+    → (r >>= λ x. start_of wire x.0 >>= λ s. pair_of s x.1) ≡ Ok (s, ws)
+    → (q >>= λ x. start_of wire x.0 >>= λ s. pair_of s x.1) ≡ Ok (s, ws ++ more)
 starts_so wire (Ok x) q more ws s longer h = rw (longer x refl) (started_so (start_of wire x.0) x.1 more ws s h)
 starts_so wire (Err e) q more ws s longer h = absurd (cc h)
 

@@ -1,5 +1,5 @@
 -- A dump that comes in parts: what is read of its words, part by part.
-use Rattle.std.proofs.Common.{◌≡◌, ◌++◌, ◌+◌, [], ℕ, false, List, Option, Some, None, Result, Ok, Err, OnOk, OnErr, IfOk, IfErr, length, take, refl, ap}
+use Rattle.std.proofs.Common.{◌≡◌, ◌++◌, ◌+◌, [], ℕ, false, List, Option, Some, None, Result, Ok, Err, IfErr, length, take, refl, ap}
 use Rattle.std.proofs.Common.{◌∙◌, sym, subst, append_assoc, drop, ◌≤◌, arith, length-append}
 use Rattle.std.proofs.lemmas.List.{append-nil, length-take-le, take-append-drop}
 use Rattle.irig_vcd.specs.Answer.{◌>>=◌, IsFaultOf, bytes_of}
@@ -94,33 +94,15 @@ words_begin wire words rest s r h new =
     (λ more. journals_among (rest ++ more)) (λ more. told_words (words ++ more)) r rest
     (λ more. read_after wire words rest more s h) (λ more. told_after wire words rest more s h) (new.start s.1 s.0 rest)
 
--- what follows from a result follows with it
-pub on_ok : {A P Q : Type 0} (r : Result A VcdFault) → (P → Q) → OnOk r P → OnOk r Q
-on_ok (Ok x) f h = f h
-on_ok (Err e) f h = tt
-
-pub on_err : {A B P Q : Type 0} (r : Result A B) → (P → Q) → OnErr r P → OnErr r Q
-on_err (Ok x) f h = tt
-on_err (Err e) f h = f h
-
+-- what follows from a fault follows with it
 pub if_err : {A : Type 0} {P Q : VcdFault → Type 0} (r : Result A VcdFault) → ((e : VcdFault) → P e → Q e) → IfErr r P → IfErr r Q
 if_err (Ok x) f h = tt
 if_err (Err e) f h = f e h
-
--- the first words that are read
-pub first_words : (name wire : Option (List ℕ)) (words : List Word) (gone whole : ℕ) (held bytes : List ℕ) (unit : ℕ) (code : List ℕ) (r : Reading)
-    → name ≡ wire → words ≡ [] → gone ≡ 0 → held ≡ bytes → HasReadWords name (words_of (take whole held)) unit code r
-    → HasReadWords wire (words ++ words_from gone false (take whole bytes)) unit code r
-first_words name wire words gone whole held bytes unit code r is none zero same h = rw (← is, none, zero, ← same) h
 
 pub first_fault : (name wire : Option (List ℕ)) (words more : List Word) (gone whole : ℕ) (held bytes : List ℕ) (e : VcdFault)
     → name ≡ wire → words ≡ [] → gone ≡ 0 → held ≡ bytes → IsFaultOf e (read_words name (words_of (take whole held) ++ more))
     → IsFaultOf e (read_words wire ((words ++ words_from gone false (take whole bytes)) ++ more))
 first_fault name wire words more gone whole held bytes e is none zero same h = rw (← is, none, zero, ← same) h
-
-pub first_early : (name wire : Option (List ℕ)) (whole : ℕ) (held bytes : List ℕ) (e : VcdFault) → name ≡ wire → held ≡ bytes
-    → declarations_of name (words_of (take whole held)) ≡ Err e → declarations_of wire (words_of (take whole bytes)) ≡ Err e
-first_early name wire whole held bytes e is same h = rw (← is, ← same) h
 
 -- the next words that are read
 pub next_words : (wire : Option (List ℕ)) (words : List Word) (gone whole : ℕ) (held bytes : List ℕ) (unit : ℕ) (code kept : List ℕ) (old new : Reading)
@@ -307,7 +289,3 @@ last_early wire bytes s whole e all none h r =
     let says : declarations_of wire (words_of bytes) ≡ Err e = ap (declarations_of wire) words
     ∙ (ap (λ w. declarations_of w (words_of (take whole s.held.items))) (sym r.name) ∙ h) in
     dump_fault wire bytes e (fails_now e (read_words wire (words_of bytes)) (ap (λ r. r >>= λ x. changes_from any_word x.0.1 x.0.0 0 x.1) says))
-
-pub if_ok : {A B : Type 0} {P Q : A → Type 0} (r : Result A B) → ((x : A) → P x → Q x) → IfOk r P → IfOk r Q
-if_ok (Ok x) f h = f x h
-if_ok (Err e) f h = tt

@@ -3,7 +3,7 @@ use Rattle.std.proofs.Common.{◌≡◌, ◌≤◌, ◌++◌, ◌∷◌, [], ℕ
 use Rattle.std.proofs.Common.{IfOk, IfErr, refl, ap, sym, subst, ◌∙◌, append_assoc, arith}
 use Rattle.std.proofs.lemmas.List.{append-nil}
 use Rattle.std.proofs.lemmas.List.Elements.{filter-append}
-use Rattle.irig_vcd.specs.Answer.{◌>>=◌, Gives, IsFaultOf}
+use Rattle.irig_vcd.specs.Answer.{◌>>=◌, Gives, IsFaultOf, pair_of}
 use Rattle.irig_vcd.specs.Changes.{changes_from, ended, IsStill, time_after, with_event, with_level}
 use Rattle.irig_vcd.specs.Code.Along.{behind, read_on, Along, SameJournals, Total}
 use Rattle.irig_vcd.specs.Code.Event.{is_hash}
@@ -30,7 +30,6 @@ use Rattle.irig_vcd.proofs.ApartWords.{apart_on, apart_comments}
 use Rattle.irig_vcd.proofs.ChangeSteps.{on_level, on_time, one_change}
 use Rattle.irig_vcd.proofs.Clocks.{later}
 use Rattle.irig_vcd.proofs.CodeRuns.{bit_level}
-use Rattle.irig_vcd.proofs.Cuts.{pair_ok}
 use Rattle.irig_vcd.proofs.EventSteps.{holds_none}
 use Rattle.irig_vcd.proofs.JournalWords.{past_time}
 use Rattle.irig_vcd.proofs.StillWires.{none_followed}
@@ -320,7 +319,7 @@ pub ended_well : (code : List ℕ) (unit : ℕ) (total : Total) (told : Told) (t
     (end : ℕ) → end ≡ micros_of unit (units_of unit clock) → ended n end ≡ Ok ([], end) → (h : Reached n first code unit total told t clock j [])
     → total [] ≡ Ok (h.0, end)
 ended_well code unit total told t clock j n first end same is h =
-    sym (h.2.rest []) ∙ (ap (λ k. behind h.0 (ended n k)) (sym same) ∙ (ap (behind h.0) is ∙ ap (λ (l : List Change). pair_ok l end) (append-nil h.0)))
+    sym (h.2.rest []) ∙ (ap (λ k. behind h.0 (ended n k)) (sym same) ∙ (ap (behind h.0) is ∙ ap (λ (l : List Change). pair_of l end) (append-nil h.0)))
 
 -- and the journals are those that are kept
 pub told_well : (result : Result Body VcdFault) (code : List ℕ) (unit : ℕ) (total : Total) (told : Told) (r : Reading)

@@ -1,11 +1,10 @@
 -- Where a turn takes place, and how often it looks.
-use Rattle.std.proofs.Common.{◌≡◌, ℕ, suc, zero, ◌+◌, ◌<◌, ◌≤◌, nat_le, ◌&&◌, cond, List, [], ◌∷◌, length, refl, ap, ◌∙◌, arith, length-drop}
+use Rattle.std.proofs.Common.{◌≡◌, ℕ, ◌+◌, ◌<◌, ◌≤◌, nat_le, ◌&&◌, cond, List, [], ◌∷◌, length, refl, ap, ◌∙◌, arith, length-drop}
 use Rattle.std.proofs.Common.{inl, inr}
 use Rattle.std.proofs.lemmas.Bool.{cases_lt, le-leb, lt-leb}
 use Rattle.std.proofs.Math.Bool.{and-true}
 use Rattle.irig_recording.specs.Recording.{RisesFrom}
 use Rattle.irig_track.specs.Edges.{edges_of}
-use Rattle.irig_track.specs.Looks.{after_looks, counted}
 use Rattle.irig_track.specs.Splices.{IsSpan, ended_before, risen_by}
 use Rattle.irig_track.specs.Toggles.{flipped, toggled}
 use Rattle.irig_recording.specs.declared.pulse.Pulse.{Pulse}
@@ -67,8 +66,3 @@ toggled_few a b old new edges =
     let both = length-flipped_most b (flipped a (edges_of old)) in
     let long = ap length edges in
     omega (arith, length-edges_of old, length-edges_of new)
-
--- a count that stays at its top counts at most what is counted
-pub after_looks_most : (n made : ℕ) → after_looks n made ≤ n + made
-after_looks_most n zero = omega arith
-after_looks_most n (suc made) = let most : counted n (made + 1) ≤ n + suc made = omega arith in most

@@ -1,5 +1,5 @@
 -- What a saved journal says above its steps.
-use Rattle.std.proofs.Common.{◌≡◌, ◌≤◌, ◌<◌, ◌+◌, ℕ, Bool, true, false, List, [], ◌∷◌, Option, Some, None, IsTrue, length, nat_lt, not, if◌then◌else◌, refl, ap}
+use Rattle.std.proofs.Common.{◌≡◌, ◌≤◌, ◌+◌, ℕ, Bool, true, false, List, [], ◌∷◌, Option, Some, None, IsTrue, length, nat_lt, not, if◌then◌else◌, refl, ap}
 use Rattle.std.proofs.Common.{sym, ◌∙◌, arith}
 use Rattle.std.proofs.lemmas.Bool.Decides.{nat_tests}
 use Rattle.std.specs.List.{AllByRecursion}
@@ -24,17 +24,8 @@ unless_is : {X : Type 0} (b : Bool) (x y : X) → IsTrue b → (if not b then x 
 unless_is true x y is = refl
 unless_is false x y is = let bad : false ≡ true = is in cc
 
-lt_yes : {X : Type 0} (m n : ℕ) (x y : X) → m < n → (if nat_lt m n then x else y) ≡ x
-lt_yes m n x y less = let yes : nat_lt m n ≡ true = grind (arith, nat_tests) in rw yes refl
-
 lt_no : {X : Type 0} (m n : ℕ) (x y : X) → n ≤ m → (if nat_lt m n then x else y) ≡ y
 lt_no m n x y more = let past : nat_lt m n ≡ false = grind (arith, nat_tests) in rw past refl
-
--- a cursor beyond the pulses
-pub head_cursor : (s : State) (saved : Saved) → IsTrue (is_permitted saved.kind saved.expression) → length s.pulses < saved.cursor
-    → head_fault s saved ≡ Some 3
-head_cursor s saved is less =
-    unless_is (is_permitted saved.kind saved.expression) _ _ is ∙ lt_yes (length s.pulses) saved.cursor _ _ less
 
 -- and then the marks
 pub head_marks : (s : State) (saved : Saved) → IsTrue (is_permitted saved.kind saved.expression) → saved.cursor ≤ length s.pulses

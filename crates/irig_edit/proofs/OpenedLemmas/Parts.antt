@@ -1,5 +1,5 @@
 -- A session of the parts of a dump is one of the dump.
-use Rattle.std.proofs.Common.{◌≡◌, ℕ, List, Option, Some, None, Result, Ok, Err, IfOk, IfErr, inl, inr}
+use Rattle.std.proofs.Common.{◌≡◌, ℕ, List, Option, Some, None, Result, Ok, Err, IfErr, inl, inr}
 use Rattle.irig_codes.specs.Format.{FormatView}
 use Rattle.irig_saved.specs.declared.saved.Saved.{Saved}
 use Rattle.irig_vcd.specs.Parts.{dump_parts}
@@ -12,10 +12,6 @@ use Rattle.irig_edit.specs.Opened.Parts.{HasNoSession, IsJournalOf, IsSessionOf}
 use Rattle.irig_edit.specs.Session.Machine.{NoMarks}
 use Rattle.irig_edit.specs.Session.Session.{SessionView, started}
 use Rattle.irig_edit.specs.State.State.{recording_of}
-
-pub ok_so : {X Y : Type 0} (P Q : X → Type 0) (r : Result X Y) → ((x : X) → P x → Q x) → IfOk r P → IfOk r Q
-ok_so P Q (Ok x) so h = so x h
-ok_so P Q (Err e) so h = tt
 
 pub err_so : {X Y : Type 0} (P Q : Y → Type 0) (r : Result X Y) → ((e : Y) → P e → Q e) → IfErr r P → IfErr r Q
 err_so P Q (Ok x) so h = tt

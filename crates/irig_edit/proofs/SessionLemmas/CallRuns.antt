@@ -1,8 +1,8 @@
 -- What calls one after the other come to.
-use Rattle.std.proofs.Common.{◌≡◌, ℕ, suc, zero, List, [], ◌∷◌, Option, Some, option_map, Result, Ok, Err, refl, ap, sym, ◌∙◌, subst, if◌then◌else◌}
+use Rattle.std.proofs.Common.{◌≡◌, ℕ, suc, zero, List, [], ◌∷◌, Option, Some, Result, Ok, Err, refl, ap, sym, ◌∙◌, subst, if◌then◌else◌}
 use Rattle.std.specs.Prelude.{replicate, is_ok}
 use Rattle.std.specs.Option.{option_and_then}
-use Rattle.irig_journal.specs.Groups.{Grouped, aborted, begun, ended, is_at_floor, over, redone_over, undone_over}
+use Rattle.irig_journal.specs.Groups.{Grouped, aborted, begun, ended, over, redone_over, undone_over}
 use Rattle.irig_journal.specs.Machine.{Machine, recorded, undone, redone}
 use Rattle.irig_journal.specs.Commands.{Command, accepted, after_all, after_one}
 use Rattle.irig_journal.specs.Commands.Command.{Undo as UndoStep, Redo as RedoStep}
@@ -19,7 +19,7 @@ use Rattle.irig_edit.specs.declared.session.refusal.Refusal.{Refusal}
 use Rattle.irig_edit.specs.declared.session.refusal.Refusal.TheVariants.{OutOfRange, NoPulse, Touching, NotInside, TooMany, BadExpression, BadTime, BadControl}
 use Rattle.irig_edit.specs.declared.session.refusal.Refusal.TheVariants.{NothingToUndo, NothingToRedo, GroupOpen, NoGroup, GroupFloor, OutOfMemory}
 use Rattle.irig_edit.specs.Session.Kept.{Kept, kept}
-use Rattle.irig_edit.proofs.SessionLemmas.MachineSteps.{allowed_some, over_some}
+use Rattle.irig_edit.proofs.SessionLemmas.MachineSteps.{redone_alone, undone_alone}
 
 -- a refused call changes nothing
 pub refused_same : (call : Call) (old new : Grouped Kept) (why : Refusal) → Steps call old (Err why) new → new ≡ old
@@ -79,16 +79,6 @@ one_outcome (one ∷ rest) old new other h g =
     let same : h.0 ≡ g.0 = steps_one one.call old h.0 g.0 one.result h.1.0 g.1.0 in
     let P : Grouped Kept → Type 0 = λ m. Runs rest m new in
     one_outcome rest g.0 new other (subst P same h.1.1) g.1.1
-
--- an accepted undo is one of the machine alone
-pub undone_alone : (g h : Grouped Kept) → Accepts Undo g h → (undone g.machine ≡ Some h.machine) × (h.floor ≡ g.floor)
-undone_alone g h step =
-    over_some g.floor (undone g.machine) h
-    (allowed_some (is_at_floor g.floor g.machine.past) (option_map (over g.floor) (undone g.machine)) h step).1
-
--- and so is an accepted redo
-pub redone_alone : (g h : Grouped Kept) → Accepts Redo g h → (redone g.machine ≡ Some h.machine) × (h.floor ≡ g.floor)
-redone_alone g h step = over_some g.floor (redone g.machine) h step
 
 -- an undo reverses an edit
 pub edit_back : EditIsTakenBack

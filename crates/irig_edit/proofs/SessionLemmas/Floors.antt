@@ -16,7 +16,7 @@ use Rattle.irig_edit.specs.State.Present.{PresentView}
 use Rattle.irig_edit.specs.State.State.{State, IsState}
 use Rattle.irig_edit.specs.declared.changes.turn.Turn.{Turn}
 use Rattle.irig_edit.proofs.SessionLemmas.Machines.{IsMachine-recorded, IsMachine-redone, IsMachine-undone}
-use Rattle.irig_edit.proofs.SessionLemmas.MachineSteps.{allowed_some, over_some}
+use Rattle.irig_edit.proofs.SessionLemmas.MachineSteps.{redone_alone, undone_above, undone_alone}
 
 -- a machine over the floor of its open group, if one is open
 abbrev pub over_opening : Option Opening → Machine Kept → Grouped Kept
@@ -90,15 +90,10 @@ grouped-undone m n old new back same above =
 
 pub IsGrouped-undone : (g h : Grouped Kept) → IsGrouped g → undone_over g ≡ Some h → IsGrouped h
 IsGrouped-undone g h is step = record {
-  machine = IsMachine-undone g.machine h.machine is.machine alone.0;
-  floor = subst (λ (f : Option (Floor Kept)). IsFloor (length h.machine.past) f) (sym alone.1) (by_floor g.floor is.floor allowed.0);
+  machine = IsMachine-undone g.machine h.machine is.machine (undone_alone g h step).0;
+  floor = subst (λ (f : Option (Floor Kept)). IsFloor (length h.machine.past) f) (sym (undone_alone g h step).1)
+      (by_floor g.floor is.floor (undone_above g h step).0);
 } where
-  allowed : (is_at_floor g.floor g.machine.past ≡ false) × (option_map (over g.floor) (undone g.machine) ≡ Some h)
-  allowed = allowed_some (is_at_floor g.floor g.machine.past) (option_map (over g.floor) (undone g.machine)) h step
-
-  alone : (undone g.machine ≡ Some h.machine) × (h.floor ≡ g.floor)
-  alone = over_some g.floor (undone g.machine) h allowed.1
-
   by_past : (height : ℕ) (past : List Kept) → taken_back past g.machine.present g.machine.future ≡ Some h.machine → nat_le (length past) height ≡ false
       → height ≤ length h.machine.past
   by_past height [] back above = absurd (cc)
@@ -111,7 +106,7 @@ IsGrouped-undone g h is step = record {
   by_floor : (floor : Option (Floor Kept)) → IsFloor (length g.machine.past) floor → is_at_floor floor g.machine.past ≡ false
       → IsFloor (length h.machine.past) floor
   by_floor None is above = tt
-  by_floor (Some f) is above = (by_past f.height g.machine.past alone.0 above, is.1)
+  by_floor (Some f) is above = (by_past f.height g.machine.past (undone_alone g h step).0 above, is.1)
 
 -- after a redo
 pub grouped-redone : (m n : Machine Kept) (old new : Option Opening) → redone m ≡ Some n → new ≡ old
@@ -133,12 +128,9 @@ grouped-redone m n old new again same stands =
 
 pub IsGrouped-redone : (g h : Grouped Kept) → IsGrouped g → redone_over g ≡ Some h → IsGrouped h
 IsGrouped-redone g h is step = record {
-  machine = IsMachine-redone g.machine h.machine is.machine alone.0;
-  floor = subst (λ (f : Option (Floor Kept)). IsFloor (length h.machine.past) f) (sym alone.1) (by_floor g.floor is.floor);
+  machine = IsMachine-redone g.machine h.machine is.machine (redone_alone g h step).0;
+  floor = subst (λ (f : Option (Floor Kept)). IsFloor (length h.machine.past) f) (sym (redone_alone g h step).1) (by_floor g.floor is.floor);
 } where
-  alone : (redone g.machine ≡ Some h.machine) × (h.floor ≡ g.floor)
-  alone = over_some g.floor (redone g.machine) h step
-
   by_future : (height : ℕ) (future : List Kept) → option_map mirrored (taken_back future g.machine.present g.machine.past) ≡ Some h.machine
       → height ≤ length g.machine.past → height ≤ length h.machine.past
   by_future height [] again stands = absurd (cc)
@@ -149,7 +141,7 @@ IsGrouped-redone g h is step = record {
 
   by_floor : (floor : Option (Floor Kept)) → IsFloor (length g.machine.past) floor → IsFloor (length h.machine.past) floor
   by_floor None is = tt
-  by_floor (Some f) is = (by_future f.height g.machine.future alone.0 is.0, is.1)
+  by_floor (Some f) is = (by_future f.height g.machine.future (redone_alone g h step).0 is.0, is.1)
 
 -- at another cursor
 behind-moved : (n : ℕ) (k : Kept) (cursor : ℕ) (past : List Kept) (o : Opening)

@@ -13,8 +13,8 @@ use Rattle.irig_edit.specs.Session.Kept.{Kept, kept}
 use Rattle.irig_edit.specs.Session.Machine.{Accepts, Steps, with_cursor, with_group}
 use Rattle.irig_edit.specs.Session.Runs.{Answered, Runs, accepted_of}
 use Rattle.irig_edit.specs.declared.session.refusal.Refusal.{Refusal}
-use Rattle.irig_edit.proofs.SessionLemmas.CallRuns.{redone_alone, refused_same}
-use Rattle.irig_edit.proofs.SessionLemmas.MachineSteps.{allowed_some, over_some}
+use Rattle.irig_edit.proofs.SessionLemmas.CallRuns.{refused_same}
+use Rattle.irig_edit.proofs.SessionLemmas.MachineSteps.{redone_alone, undone_above, undone_alone}
 
 -- the oldest of a state and those before it
 abbrev oldest_of : Kept → List Kept → Kept
@@ -47,15 +47,12 @@ one_more_in old g h future inside is = record {
 }
 
 redone_in : (old g h : Grouped Kept) → InGroup old g → redone_over g ≡ Some h → InGroup old h
-redone_in old g h inside is = by_future g.machine.future alone.0 where
-  alone : (redone g.machine ≡ Some h.machine) × (h.floor ≡ g.floor)
-  alone = redone_alone g h is
-
+redone_in old g h inside is = by_future g.machine.future (redone_alone g h is).0 where
   by_future : (future : List Kept) → option_map mirrored (taken_back future g.machine.present g.machine.past) ≡ Some h.machine → InGroup old h
-  by_future [] is = absurd (cc)
-  by_future (after ∷ future) is =
+  by_future [] again = absurd (cc)
+  by_future (after ∷ future) again =
       let same : record { past = g.machine.present ∷ g.machine.past; present = after; future = future } ≡ h.machine = cc in
-      let floor = alone.1 in
+      let floor = (redone_alone g h is).1 in
       let there : over g.floor (record { past = g.machine.present ∷ g.machine.past; present = after; future = future }) ≡ h =
       (λ i. over (sym floor i) (same i)) in
       subst (λ (x : Grouped Kept). InGroup old x) there
@@ -63,14 +60,8 @@ redone_in old g h inside is = by_future g.machine.future alone.0 where
 
 undone_in : (old g h : Grouped Kept) → InGroup old g → undone_over g ≡ Some h → InGroup old h
 undone_in old g h inside is = by_beyond inside.beyond inside.past inside.oldest where
-  allowed : (is_at_floor g.floor g.machine.past ≡ false) × (option_map (over g.floor) (undone g.machine) ≡ Some h)
-  allowed = allowed_some (is_at_floor g.floor g.machine.past) (option_map (over g.floor) (undone g.machine)) h is
-
-  alone : (undone g.machine ≡ Some h.machine) × (h.floor ≡ g.floor)
-  alone = over_some g.floor (undone g.machine) h allowed.1
-
   long : nat_le (length g.machine.past) (length old.machine.past) ≡ false
-  long = sym (ap (λ (f : Option (Floor Kept)). is_at_floor f g.machine.past) inside.floor) ∙ allowed.0
+  long = sym (ap (λ (f : Option (Floor Kept)). is_at_floor f g.machine.past) inside.floor) ∙ (undone_above g h is).0
 
   by_beyond : (beyond : List Kept) → g.machine.past ≡ beyond ++ old.machine.past → (oldest_of g.machine.present beyond).state ≡ old.machine.present.state
       → InGroup old h
@@ -80,10 +71,10 @@ undone_in old g h inside is = by_beyond inside.beyond inside.past inside.oldest 
       absurd (omega (arith, leb-false (length old.machine.past) (length old.machine.past) low))
   by_beyond (before ∷ ks) past oldest =
       let back : taken_back (before ∷ (ks ++ old.machine.past)) g.machine.present g.machine.future ≡ Some h.machine =
-      sym (ap (λ (xs : List Kept). taken_back xs g.machine.present g.machine.future) past) ∙ alone.0 in
+      sym (ap (λ (xs : List Kept). taken_back xs g.machine.present g.machine.future) past) ∙ (undone_alone g h is).0 in
       let same : record { past = ks ++ old.machine.past; present = before; future = g.machine.present ∷ g.machine.future } ≡ h.machine = cc in
       record {
-        floor = alone.1 ∙ inside.floor;
+        floor = (undone_alone g h is).1 ∙ inside.floor;
         beyond = ks;
         past = sym (ap (λ (m : Machine Kept). m.past) same);
         oldest = sym (ap (λ (m : Machine Kept). (oldest_of m.present ks).state) same) ∙ oldest;

@@ -59,18 +59,30 @@ allowed_some true o x is = absurd (cc)
 allowed_some false o x is = (refl, is)
 
 -- a move of the machine alone leaves the floor
-pub over_some : (floor : Option (Floor Kept)) (o : Option (Machine Kept)) (g : Grouped Kept) → option_map (over floor) o ≡ Some g
+over_some : (floor : Option (Floor Kept)) (o : Option (Machine Kept)) (g : Grouped Kept) → option_map (over floor) o ≡ Some g
     → (o ≡ Some g.machine) × (g.floor ≡ floor)
 over_some floor None g is = absurd (cc)
 over_some floor (Some m) g is =
     let same : over floor m ≡ g = cc in
     (ap (λ (x : Grouped Kept). Some x.machine) same, sym (ap (λ (x : Grouped Kept). x.floor) same))
 
+-- an undo that was made goes beyond no floor
+pub undone_above : (g h : Grouped Kept) → undone_over g ≡ Some h
+    → (is_at_floor g.floor g.machine.past ≡ false) × (option_map (over g.floor) (undone g.machine) ≡ Some h)
+undone_above g h step = allowed_some (is_at_floor g.floor g.machine.past) (option_map (over g.floor) (undone g.machine)) h step
+
+-- and is one of the machine alone
+pub undone_alone : (g h : Grouped Kept) → undone_over g ≡ Some h → (undone g.machine ≡ Some h.machine) × (h.floor ≡ g.floor)
+undone_alone g h step = over_some g.floor (undone g.machine) h (undone_above g h step).1
+
+-- and so is a redo
+pub redone_alone : (g h : Grouped Kept) → redone_over g ≡ Some h → (redone g.machine ≡ Some h.machine) × (h.floor ≡ g.floor)
+redone_alone g h step = over_some g.floor (redone g.machine) h step
+
 -- an undo that was made was allowed
 pub Steps-undone : (g h : Grouped Kept) → undone_over g ≡ Some h → Steps Undo g (Ok tt) h
 Steps-undone g h step =
-    let allowed = allowed_some (is_at_floor g.floor g.machine.past) (option_map (over g.floor) (undone g.machine)) h step in
-    (by_past g.machine.past (is_at_floor g.floor g.machine.past) allowed.0 (over_some g.floor (undone g.machine) h allowed.1).0, step) where
+    (by_past g.machine.past (is_at_floor g.floor g.machine.past) (undone_above g h step).0 (undone_alone g h step).0, step) where
       by_past : (past : List Kept) (test : Bool) → test ≡ false → taken_back past g.machine.present g.machine.future ≡ Some h.machine
           → first_of ((is_empty past, NothingToUndo) ∷ (test, GroupFloor) ∷ []) ≡ None
       by_past [] test is back = absurd (cc)
@@ -79,7 +91,7 @@ Steps-undone g h step =
 
 -- and so was a redo
 pub Steps-redone : (g h : Grouped Kept) → redone_over g ≡ Some h → Steps Redo g (Ok tt) h
-Steps-redone g h step = (by_future g.machine.future (over_some g.floor (redone g.machine) h step).0, step) where
+Steps-redone g h step = (by_future g.machine.future (redone_alone g h step).0, step) where
   by_future : (future : List Kept) → option_map mirrored (taken_back future g.machine.present g.machine.past) ≡ Some h.machine
       → (if is_empty future then Some NothingToRedo else None) ≡ None
   by_future [] step = absurd (cc)

@@ -1,5 +1,5 @@
 -- The pulses that rise before a time, and those that rise in a stretch of time.
-use Rattle.std.proofs.Common.{◌≡◌, ◌≤◌, ◌<◌, ◌+◌, ◌-◌, ℕ, true, false, ◌⊎◌, inl, inr, nat_lt, nat_le, List, [], ◌∷◌, length, refl, ap, ◌∙◌, subst}
+use Rattle.std.proofs.Common.{◌≡◌, ◌≤◌, ◌<◌, ◌+◌, ◌-◌, ℕ, true, false, ◌⊎◌, ⊎_elim, inl, inr, nat_lt, nat_le, List, [], ◌∷◌, length, refl, ap, ◌∙◌, subst}
 use Rattle.std.proofs.Common.{arith}
 use Rattle.std.proofs.lemmas.Bool.{and_right, cases_lt}
 use Rattle.std.proofs.lemmas.Bool.Decides.{nat_tests}
@@ -41,38 +41,35 @@ none_in s e low [] le h = refl
 none_in s e low (p ∷ ps) le h =
     in_late s e p ps (omega (arith, h.0)) ∙ none_in s e (p.fall + 1) ps (omega (arith, h.0, h.1.0)) h.1.1
 
+-- a pulse rises before a stretch, in it or after it
+by_time : {P : Type 0} (s e : ℕ) (p : Pulse) → (p.rise < s → P) → (s ≤ p.rise → p.rise < e → P) → (s ≤ p.rise → e ≤ p.rise → P) → P
+by_time s e p early in_it late = ⊎_elim early (λ from. ⊎_elim (in_it from) (late from) (cases_lt p.rise e)) (cases_lt p.rise s)
+
 -- those that rise before an end rise before a start or from it on
 pub before_end : (s e : ℕ) (ps : List Pulse) → s ≤ e
     → length (rising_before s ps) + length (rising_in s e ps) ≡ length (rising_before e ps)
 before_end s e [] le = refl
-before_end s e (p ∷ ps) le = by_case (cases_lt p.rise s) (cases_lt p.rise e) (before_end s e ps le) where
-  Same : List Pulse → Type 0
-  Same qs = length (rising_before s qs) + length (rising_in s e qs) ≡ length (rising_before e qs)
-
-  by_case : (p.rise < s) ⊎ (s ≤ p.rise) → (p.rise < e) ⊎ (e ≤ p.rise) → Same ps → Same (p ∷ ps)
-  by_case (inl early) _ rest = rw (before_yes s p ps early)
-      (rw (in_early s e p ps early) (rw (before_yes e p ps (omega (arith, early, le))) (omega (arith, rest))))
-  by_case (inr from) (inl to) rest = rw (before_no s p ps from) (rw (in_yes s e p ps from to) (rw (before_yes e p ps to) (omega (arith, rest))))
-  by_case (inr from) (inr late) rest = rw (before_no s p ps from) (rw (in_late s e p ps late) (rw (before_no e p ps late) rest))
+before_end s e (p ∷ ps) le =
+    let rest = before_end s e ps le in
+    by_time s e p
+    (λ early. rw (before_yes s p ps early) (rw (in_early s e p ps early) (rw (before_yes e p ps (omega (arith, early, le))) (omega (arith, rest)))))
+    (λ from to. rw (before_no s p ps from) (rw (in_yes s e p ps from to) (rw (before_yes e p ps to) (omega (arith, rest)))))
+    (λ from late. rw (before_no s p ps from) (rw (in_late s e p ps late) (rw (before_no e p ps late) rest)))
 
 -- they are next to each other
 pub piece_in : (s e low : ℕ) (ps : List Pulse) → s ≤ e → RisesFrom low (edges_of ps)
     → piece (length (rising_before s ps)) (length (rising_in s e ps)) ps ≡ rising_in s e ps
 piece_in s e low [] le h = refl
-piece_in s e low (p ∷ ps) le h = by_case (cases_lt p.rise s) (cases_lt p.rise e) (piece_in s e (p.fall + 1) ps le h.1.1) where
-  Same : List Pulse → Type 0
-  Same qs = piece (length (rising_before s qs)) (length (rising_in s e qs)) qs ≡ rising_in s e qs
-
-  by_case : (p.rise < s) ⊎ (s ≤ p.rise) → (p.rise < e) ⊎ (e ≤ p.rise) → Same ps → Same (p ∷ ps)
-  by_case (inl early) _ rest = rw (before_yes s p ps early) (rw (in_early s e p ps early) rest)
-  by_case (inr from) (inl to) rest =
-      let none : rising_before s ps ≡ [] = none_before s (p.fall + 1) ps (omega (arith, from, h.1.0)) h.1.1 in
-      let P : List Pulse → Type 0 = λ qs. piece (length qs) (length (rising_in s e ps)) ps ≡ rising_in s e ps in
-      let more = subst P none rest in
-      rw (before_no s p ps from) (rw (in_yes s e p ps from to) (rw none (ap (λ (qs : List Pulse). p ∷ qs) more)))
-  by_case (inr from) (inr late) rest =
-      let none : rising_in s e ps ≡ [] = none_in s e (p.fall + 1) ps (omega (arith, late, h.1.0)) h.1.1 in
-      rw (in_late s e p ps late) (rw none refl)
+piece_in s e low (p ∷ ps) le h =
+    let rest = piece_in s e (p.fall + 1) ps le h.1.1 in
+    by_time s e p
+    (λ early. rw (before_yes s p ps early) (rw (in_early s e p ps early) rest))
+    (λ from to. let none : rising_before s ps ≡ [] = none_before s (p.fall + 1) ps (omega (arith, from, h.1.0)) h.1.1 in
+    let P : List Pulse → Type 0 = λ qs. piece (length qs) (length (rising_in s e ps)) ps ≡ rising_in s e ps in
+    let more = subst P none rest in
+    rw (before_no s p ps from) (rw (in_yes s e p ps from to) (rw none (ap (λ (qs : List Pulse). p ∷ qs) more))))
+    (λ from late. let none : rising_in s e ps ≡ [] = none_in s e (p.fall + 1) ps (omega (arith, late, h.1.0)) h.1.1 in
+    rw (in_late s e p ps late) (rw none refl))
 
 -- how many rise at or before the time before a time
 pub risen-before : (t : ℕ) (ps : List Pulse) → 0 < t → risen_by (t - 1) ps ≡ length (rising_before t ps)

@@ -1,7 +1,6 @@
 -- A script by its lines, and what they make of a desk and a machine.
 use Rattle.std.proofs.Common.{◌≡◌, ◌≢◌, ◌==◌, ◌+◌, ◌<◌, ◌++◌, ◌∷◌, [], ℕ, Option, Bool, true, false, List, length, take, drop, get_or, refl, ap, sym, ◌∙◌}
 use Rattle.std.proofs.Common.{subst, append_assoc}
-use Rattle.std.specs.Prelude.{Result, Ok, Err, OnErr}
 use Rattle.std.specs.List.{AllByRecursion}
 use Rattle.std.proofs.lemmas.List.{append-nil, take-append-drop, take_more}
 use Rattle.std.proofs.lemmas.Grind.{flat_map-append}
@@ -251,7 +250,3 @@ broke_line a b text s t front back answer texts plain q h e n p =
       goes =
           goes_line text s t answer texts (plain, q) h;
     }
-
-pub given : {T E P : Type 0} (r : Result T E) → P → OnErr r P
-given (Ok x) p = tt
-given (Err e) p = p

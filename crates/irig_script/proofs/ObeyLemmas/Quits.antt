@@ -1,7 +1,7 @@
 -- Which lines end a script.
-use Rattle.std.proofs.Common.{◌≡◌, ◌≢◌, ◌<◌, ◌≤◌, ◌∷◌, ◌++◌, [], ℕ, Bool, true, false, not, List, length, nat_lt, refl, sym, ap, ◌∙◌, subst, arith, inl, inr}
+use Rattle.std.proofs.Common.{◌≡◌, ◌≢◌, ◌<◌, ◌≤◌, ◌∷◌, ◌++◌, [], ℕ, true, false, not, List, length, nat_lt, refl, sym, ap, ◌∙◌, subst, arith, inl, inr}
 use Rattle.std.proofs.lemmas.Bool.Decides.{nat_tests}
-use Rattle.std.proofs.lemmas.Bool.{and_parts}
+use Rattle.std.proofs.lemmas.Bool.{and_parts, false_from_ne_true}
 use Rattle.irig_lines.specs.Commands.{Asks}
 use Rattle.irig_lines.specs.Grammar.{AsksIn, Does, IsOrder, Means}
 use Rattle.irig_lines.specs.Keywords.{keyword_of}
@@ -94,19 +94,11 @@ quit_means text e =
 
 -- a line that asks for another command does not end the script
 pub other_goes_on : (c : Command) (text : List ℕ) → Means c text → c ≢ command.Quit → is_quit text ≡ false
-other_goes_on c text m n = go (is_quit text) refl
-  where
-    go : (v : Bool) → is_quit text ≡ v → is_quit text ≡ false
-    go true e = absurd (n (means_one text c command.Quit m (quit_means text e)))
-    go false e = e
+other_goes_on c text m n = false_from_ne_true (is_quit text) (λ e. n (means_one text c command.Quit m (quit_means text e)))
 
 -- nor does a line that is not valid
 pub bad_goes_on : (text : List ℕ) → ((c : Command) → Means c text → ⊥) → is_quit text ≡ false
-bad_goes_on text h = go (is_quit text) refl
-  where
-    go : (v : Bool) → is_quit text ≡ v → is_quit text ≡ false
-    go true e = absurd (h command.Quit (quit_means text e))
-    go false e = e
+bad_goes_on text h = false_from_ne_true (is_quit text) (λ e. h command.Quit (quit_means text e))
 
 -- nor does a line that is too long
 pub long_goes_on : (text : List ℕ) → 1000 < length text → is_quit text ≡ false

@@ -2,13 +2,14 @@ use Rattle.std.proofs.Common.{◌++◌, List, false, sym, subst}
 use Rattle.irig_vcd.specs.Code.DumpReader.{read_words, told_words}
 use Rattle.irig_vcd.specs.Code.Reached.{HasReachedFrom}
 use Rattle.irig_vcd.specs.Words.{Word, words_from}
-use Rattle.irig_vcd.proofs.PartSteps.{if_err, on_ok, words_next}
+use Rattle.std.proofs.lemmas.Result.{on_ok_weaker}
+use Rattle.irig_vcd.proofs.PartSteps.{if_err, words_next}
 use Rattle.irig_vcd.proofs.progress.go_on.Goals as goal
 
 pub returns-clause-read : goal.returns-clause-read
 returns-clause-read c =
     let ws = words_from c.args.gone false c.args.part.now in
-    on_ok c.read.result (λ goes wire words h.
+    on_ok_weaker c.read.result (λ goes wire words h.
     let total = λ (more : List Word). read_words wire ((words ++ ws) ++ more) in
     let told = λ (more : List Word). told_words ((words ++ ws) ++ more) in
     goes total told (subst (λ (l : List Word). HasReachedFrom c.args.code.now c.args.unit total told c.args.reading.now l) (sym c.after-tokens.ensures)

@@ -1,6 +1,6 @@
 use Rattle.std.proofs.Common.{None}
 use Rattle.irig_vcd.specs.Events.{any_word}
-use Rattle.irig_vcd.proofs.PartSteps.{if_ok, on_err}
+use Rattle.std.proofs.lemmas.Result.{IfOk-weaker, on_err_weaker}
 use Rattle.irig_vcd.proofs.ReachedSteps.{on_pulses, on_put, reached_bit, reached_pulses, reached_still}
 use Rattle.irig_vcd.proofs.short_way.take_bit.Goals as goal
 
@@ -13,7 +13,7 @@ returns-in-Ok-clause-time c =
     let put = c.in-Ok.ensures in
     let on = on_put c.args.unit c.args.trace.now c.put.new.self c.args.clock c.micros.result c.args.high c.requires.time
     c.micros.ensures.value put.time put.ok in
-    if_ok c.ahead.result (λ at along. on_pulses c.args.code.now c.args.unit c.put.new.self c.ahead.new.trace c.args.clock at c.args.tokens.now
+    IfOk-weaker c.ahead.result _ _ (λ at along. on_pulses c.args.code.now c.args.unit c.put.new.self c.ahead.new.trace c.args.clock at c.args.tokens.now
     c.ahead.new.tokens on along) c.ahead.ensures.along
 
 pub returns-in-Ok-clause-reached : goal.returns-in-Ok-clause-reached
@@ -21,7 +21,7 @@ returns-in-Ok-clause-reached c =
     let put = c.in-Ok.ensures in
     let on = on_put c.args.unit c.args.trace.now c.put.new.self c.args.clock c.micros.result c.args.high c.requires.time
     c.micros.ensures.value put.time put.ok in
-    if_ok c.ahead.result (λ at along words total told j p takes r.
+    IfOk-weaker c.ahead.result _ _ (λ at along words total told j p takes r.
     let q = reached_bit c.args.code.now c.args.unit total told c.args.trace.now c.put.new.self c.args.clock j p words c.args.tokens.now c.args.high
     c.micros.result c.requires.some takes c.micros.ensures.value put.ok r in
     reached_pulses c.args.code.now c.args.unit total told c.put.new.self c.ahead.new.trace c.args.clock at j p c.args.tokens.now c.ahead.new.tokens
@@ -29,7 +29,7 @@ returns-in-Ok-clause-reached c =
 
 pub returns-in-Ok-clause-memory : goal.returns-in-Ok-clause-memory
 returns-in-Ok-clause-memory c =
-    on_err c.ahead.result (λ no words more total told j p takes r still.
+    on_err_weaker c.ahead.result (λ no words more total told j p takes r still.
     let q = reached_bit c.args.code.now c.args.unit total told c.args.trace.now c.put.new.self c.args.clock j p words c.args.tokens.now c.args.high
     c.micros.result c.requires.some takes c.micros.ensures.value c.in-Ok.ensures.ok r in
     no (reached_still c.args.code.now c.args.unit total told c.put.new.self c.args.clock j any_word None c.args.tokens.now more q.1 still))

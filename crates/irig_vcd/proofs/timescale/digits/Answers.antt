@@ -2,11 +2,11 @@ use Rattle.std.proofs.Common.{◌≡◌, ◌+◌, ◌<◌, ◌≤◌, ℕ, List,
 use Rattle.std.specs.List.{prefix_len}
 use Rattle.std.proofs.lemmas.List.Sums.{prefix_len_passes, prefix_len_stops, prefix_len-le-length}
 use Rattle.irig_vcd.specs.Digits.{is_digit}
-use Rattle.irig_vcd.proofs.Steps.{above_or_not}
+use Rattle.std.proofs.lemmas.Bool.{cases_lt}
 use Rattle.irig_vcd.proofs.timescale.digits.Goals as goal
 
 further : (xs : List ℕ) (n : ℕ) → n ≤ prefix_len is_digit xs → n < length xs → is_digit (get_or xs n 0) ≡ true → n + 1 ≤ prefix_len is_digit xs
-further xs n upto inside digit = elim (above_or_not (prefix_len is_digit xs) n) [
+further xs n upto inside digit = elim (cases_lt n (prefix_len is_digit xs)) [
   | inl lt ↦ omega (arith, lt)
   | inr le ↦ (
       let same : prefix_len is_digit xs ≡ n = omega (arith, upto, le) in let stops = prefix_len_stops is_digit xs 0 (omega (arith, same, inside)) in
@@ -15,7 +15,7 @@ further xs n upto inside digit = elim (above_or_not (prefix_len is_digit xs) n) 
 ]
 
 ended : (xs : List ℕ) (n : ℕ) → n ≤ prefix_len is_digit xs → is_digit (get_or xs n 0) ≡ false → n ≡ prefix_len is_digit xs
-ended xs n upto other = elim (above_or_not (prefix_len is_digit xs) n) [
+ended xs n upto other = elim (cases_lt n (prefix_len is_digit xs)) [
   | inl lt ↦ (let both : true ≡ false = sym (prefix_len_passes is_digit xs n 0 lt) ∙ other in absurd (cc both))
   | inr le ↦ omega (arith, upto, le)
 ]

@@ -1,11 +1,12 @@
 use Rattle.std.proofs.Common.{◌≡◌, Err, None, ap, sym, subst}
 use Rattle.irig_vcd.specs.Code.DumpReader.{HasRead}
 use Rattle.irig_vcd.specs.declared.progress.Progress.{Progress}
-use Rattle.irig_vcd.proofs.PartSteps.{if_err, if_ok}
+use Rattle.std.proofs.lemmas.Result.{IfOk-weaker}
+use Rattle.irig_vcd.proofs.PartSteps.{if_err}
 use Rattle.irig_vcd.proofs.dump_reader.DumpReader.end.Goals as goal
 
 pub returns-in-Ok-clause-read : goal.returns-in-Ok-clause-read
-returns-in-Ok-clause-read c = if_ok c.finish.result (λ x says wire bytes r.
+returns-in-Ok-clause-read c = IfOk-weaker c.finish.result _ _ (λ x says wire bytes r.
     let h = c.in-Ok.ensures.read wire bytes (subst (λ d. HasRead wire bytes d) (sym c.self.view_is) r) in
     says wire bytes c.read_rest.new.progress.code.items h.0 h.1) c.finish.ensures.read
 

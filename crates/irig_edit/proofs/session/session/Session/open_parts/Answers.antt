@@ -1,11 +1,12 @@
 use Rattle.std.proofs.Common.{◌≡◌, ℕ, List, Option, Ok}
+use Rattle.std.proofs.lemmas.Result.{IfOk-weaker}
 use Rattle.irig_vcd.specs.Answer.{bytes_of}
 use Rattle.irig_vcd.specs.Parts.{dump_parts}
 use Rattle.irig_vcd.specs.declared.fault.VcdFault.{VcdFault}
 use Rattle.irig_edit.specs.Opened.Openings.{IsOpened, IsUnopened}
 use Rattle.irig_edit.specs.Opened.Parts.{HasNoSession, IsSessionOf}
 use Rattle.irig_edit.specs.Session.Session.{SessionView}
-use Rattle.irig_edit.proofs.OpenedLemmas.Parts.{err_so, ok_so, parts_of, parts_opened, parts_unopened}
+use Rattle.irig_edit.proofs.OpenedLemmas.Parts.{err_so, parts_of, parts_opened, parts_unopened}
 use Rattle.irig_edit.proofs.session.session.Session.open_parts.Goals as goal
 
 pub returns-in-Ok-clause-opened : goal.returns-in-Ok-clause-opened
@@ -14,7 +15,7 @@ returns-in-Ok-clause-opened c =
     → (wire : Option (List ℕ)) (bytes : List ℕ) → dump_parts wire bytes ≡ Ok (c.args.recording, bytes_of c.args.journal)
     → IsOpened wire bytes c.args.format s =
     λ s is wire bytes read. parts_opened wire bytes _ _ _ s (parts_of wire bytes _ _ _ c.in-Ok.ensures.saved read) is in
-    ok_so _ _ _ so c.session_with.ensures.opened
+    IfOk-weaker _ _ _ so c.session_with.ensures.opened
 
 pub returns-in-Ok-clause-fault : goal.returns-in-Ok-clause-fault
 returns-in-Ok-clause-fault c =
