@@ -11,7 +11,8 @@ returns-clause-can c =
     let some = (nominal_of-within c.args.present.now.state.format c.args.element).0 in
     (forced c.args.present.now.state c.args.i c.args.element c.pulse-rise.result (c.pulse-rise.result.rise + c.nominal.result) c.track-track.ensures.state
     (omega (arith, c.if-i-eq0.false)) (omega (arith, c.if-i-len.false, (c.len.ensures.len ∙ ap length c.track-track.ensures.pulses))) c.pulse-rise.ensures.there
-    (ap (λ n. c.pulse-rise.result.rise + n) width) (omega (arith, width, some)) (omega (arith, c.if-fall-length.false, (c.length.ensures.length ∙ c.track-track.ensures.micros)))
+    (ap (λ n. c.pulse-rise.result.rise + n) width) (omega (arith, width, some))
+    (omega (arith, c.if-fall-length.false, (c.length.ensures.length ∙ c.track-track.ensures.micros)))
     (next_free c.args.i (c.pulse-rise.result.rise + c.nominal.result) c.args.present.now.state (sym c.meets_next.ensures ∙ c.if-meets_next.false))).0
 
 pub returns-clause-becomes : goal.returns-clause-becomes
@@ -20,5 +21,6 @@ returns-clause-becomes c =
     let some = (nominal_of-within c.args.present.now.state.format c.args.element).0 in
     (forced c.args.present.now.state c.args.i c.args.element c.pulse-rise.result (c.pulse-rise.result.rise + c.nominal.result) c.track-track.ensures.state
     (omega (arith, c.if-i-eq0.false)) (omega (arith, c.if-i-len.false, (c.len.ensures.len ∙ ap length c.track-track.ensures.pulses))) c.pulse-rise.ensures.there
-    (ap (λ n. c.pulse-rise.result.rise + n) width) (omega (arith, width, some)) (omega (arith, c.if-fall-length.false, (c.length.ensures.length ∙ c.track-track.ensures.micros)))
+    (ap (λ n. c.pulse-rise.result.rise + n) width) (omega (arith, width, some))
+    (omega (arith, c.if-fall-length.false, (c.length.ensures.length ∙ c.track-track.ensures.micros)))
     (next_free c.args.i (c.pulse-rise.result.rise + c.nominal.result) c.args.present.now.state (sym c.meets_next.ensures ∙ c.if-meets_next.false))).1

@@ -13,8 +13,10 @@ returns-clause-can c =
     let put = pulse c.args.a c.args.b ∷ [] in
     let place : c.find.result ≡ c.find.result + 1 - 1 = omega arith in
     subst (λ (n : ℕ). CanSplice s.micros n 0 put s.pulses) place
-    (inserted s c.args.a c.args.b c.find.result c.track-track.ensures.state c.if-a-b.false (omega (arith, c.if-b-length.false, (c.length.ensures.length ∙ c.track-track.ensures.micros)))
-    (sym c.is_touched.ensures ∙ c.if-is_touched.false) (omega (arith, c.room.ensures, ap length c.track-track.ensures.pulses, c.if-room-eq0.false)) c.find.ensures.count c.find.ensures.within).0
+    (inserted s c.args.a c.args.b c.find.result c.track-track.ensures.state c.if-a-b.false
+    (omega (arith, c.if-b-length.false, (c.length.ensures.length ∙ c.track-track.ensures.micros)))
+    (sym c.is_touched.ensures ∙ c.if-is_touched.false) (omega (arith, c.room.ensures, ap length c.track-track.ensures.pulses, c.if-room-eq0.false))
+    c.find.ensures.count c.find.ensures.within).0
 
 pub returns-clause-becomes : goal.returns-clause-becomes
 returns-clause-becomes c =
@@ -22,5 +24,7 @@ returns-clause-becomes c =
     let put = pulse c.args.a c.args.b ∷ [] in
     let place : c.find.result ≡ c.find.result + 1 - 1 = omega arith in
     subst (λ (n : ℕ). Becomes (Insert c.args.a c.args.b) s (with_pulses (spliced n 0 put s.pulses) s) (c.find.result + 1)) place
-    (inserted s c.args.a c.args.b c.find.result c.track-track.ensures.state c.if-a-b.false (omega (arith, c.if-b-length.false, (c.length.ensures.length ∙ c.track-track.ensures.micros)))
-    (sym c.is_touched.ensures ∙ c.if-is_touched.false) (omega (arith, c.room.ensures, ap length c.track-track.ensures.pulses, c.if-room-eq0.false)) c.find.ensures.count c.find.ensures.within).1
+    (inserted s c.args.a c.args.b c.find.result c.track-track.ensures.state c.if-a-b.false
+    (omega (arith, c.if-b-length.false, (c.length.ensures.length ∙ c.track-track.ensures.micros)))
+    (sym c.is_touched.ensures ∙ c.if-is_touched.false) (omega (arith, c.room.ensures, ap length c.track-track.ensures.pulses, c.if-room-eq0.false))
+    c.find.ensures.count c.find.ensures.within).1

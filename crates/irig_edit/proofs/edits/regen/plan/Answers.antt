@@ -129,7 +129,8 @@ returns-clause-becomes c =
     let place : c.rising_before-at.result ≡ c.rising_before-at.result + 1 - 1 = omega arith in
     subst (λ (n : ℕ). Becomes (Regen c.args.start c.args.frames c.args.moment c.args.control) s (with_pulses (spliced n gone put s.pulses) s)
     (n + 100 * c.args.frames)) place
-    (made c.args.moment c.args.control (found (goal.at.returns-clause-becomes c).After-rising_before) c.rising_before.ensures.state c.rising_before.ensures.within
+    (made c.args.moment c.args.control (found (goal.at.returns-clause-becomes c).After-rising_before) c.rising_before.ensures.state
+    c.rising_before.ensures.within
     (few (goal.at.returns-clause-becomes c).After-moment-1)).1
 
 pub returns-clause-change : goal.returns-clause-change

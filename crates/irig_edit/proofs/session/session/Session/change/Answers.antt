@@ -76,7 +76,8 @@ returns-in-Ok-clause-step c =
     let d = One c.args.single in
     λ edit none becomes exchanged.
     let now = c.args.self.now.present.state in
-    steps_becomes edit (grouped_in c.args.self.now) _ (Ok tt) (turned now d).0 c.args.cursor (exchange_of now d) none becomes exchanged (returns-in-Ok-clause-ok c) tt
+    steps_becomes edit (grouped_in c.args.self.now) _ (Ok tt) (turned now d).0 c.args.cursor (exchange_of now d) none becomes exchanged
+    (returns-in-Ok-clause-ok c) tt
 
 pub returns-in-Ok-clause-looks : goal.returns-in-Ok-clause-looks
 returns-in-Ok-clause-looks c =
