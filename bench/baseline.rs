@@ -2,7 +2,7 @@
 //! docs/FORMATS.md and with no crate. It is what irig_ed is measured against, and proves nothing.
 //!
 //! `baseline [--wire NAME] TRACK OUT`: reads TRACK and writes the canonical dump of its pulses to OUT, durably.
-//! Where OUT is `-`, it reads alone.
+//! If OUT is `-`, it only reads.
 //!
 //! `baseline [--wire NAME] --list A|B|E|G TRACK`: reads TRACK and prints its pulses with their classes in that format.
 //!
@@ -390,7 +390,7 @@ fn put(path: &str, bytes: &[u8]) -> io::Result<()> {
     fs::rename(&new, path)
 }
 
-/// The value of an option, where the arguments begin with it.
+/// The value of an option, if the arguments begin with it.
 fn option(arguments: &mut Vec<String>, name: &str) -> Option<String> {
     if arguments.first().is_some_and(|word| word == name) {
         arguments.remove(0);

@@ -60,7 +60,7 @@ impl<T: Copy + Default> Gap<T> {
     }
 }
 
-/// Of each element the digit or number that it adds to, and its weight; no digit where no field uses it.
+/// For each element the digit or number that it adds to, and its weight; no digit if no field uses it.
 type Layout = [(u8, u32); 100];
 
 /// The digits: hundredths, seconds, minutes, hours and days, each from its units up; the year, seconds of the day, control.
@@ -146,14 +146,14 @@ impl Default for Verdict {
     }
 }
 
-/// A marker, from the front left of the gap and from the back right of it, and what its frame says.
+/// A marker and what its frame says. Left of the gap the marker counts from the front, right of it from the back.
 #[derive(Clone, Copy, Default)]
 struct Record {
     marker: usize,
     verdict: Verdict,
 }
 
-/// What an edit took away: from pulse `at` on, `count` pulses make way for `put`.
+/// What an edit took away: from pulse `at` on, `put` replaces `count` pulses.
 struct Splice {
     at: usize,
     count: usize,
@@ -199,7 +199,7 @@ impl Editor {
         10 * distance.abs_diff(self.interval) <= self.interval
     }
 
-    /// Puts a record for each marker from `from` up to, and not with, `to`.
+    /// Inserts a record for each marker from `from` up to, and not with, `to`.
     fn fill(&mut self, from: usize, to: usize) {
         let mut marker = from.max(1);
         while marker < to {

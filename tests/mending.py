@@ -26,7 +26,7 @@ class Case:
         self.length = self.damaged_length = self.recording.length
         self.exact = True  # whether the undamaged edges are to come back
         self.late = []  # by how much a rest was late, each time
-        self.steady = False  # whether irig_mend is told that control functions never change
+        self.steady = False  # whether irig_mend has to assume that control functions never change
         self.gone = 0  # elements that are cut out; what follows comes at once
 
     def damage(self, kinds, many):
@@ -105,7 +105,7 @@ def judge(case, options, true_path, damaged_path, script):
 
 
 def is_late(case, by):
-    """Whether a frame is late by what some of the late rests add up to: it is where the damage put it."""
+    """Whether a frame is late by what some of the late rests add up to: it is where the damage moved it."""
     sums = {0}
     for late in case.late:
         sums |= {each + late for each in sums}

@@ -1,8 +1,8 @@
 #!/usr/bin/env python3
 """A reference model: tests/model.py [--wire NAME] [--format X] [--expression N] [--out PATH] TRACK < SCRIPT
 
-It prints, writes and ends as irig_ed does where nothing outside of it fails, in the plainest way: every former state is
-kept whole, and all frames are told anew from the whole track. It was written from the documents and not from the
+It prints, writes and ends as irig_ed does if nothing outside of it fails, in the plainest way: every former state is
+kept whole, and all frames are read again from the whole track. It was written from the documents and not from the
 program; tests/scripts compares the two.
 """
 import argparse
@@ -25,7 +25,7 @@ class Run:
     """A script obeyed line by line. Each word that is no edit has a method, which answers the lines that it prints."""
 
     def __init__(self, opened, put):
-        """`put` takes a text and answers whether it was put."""
+        """`put` takes a text and returns whether it was written."""
         self.machine = opened
         self.put = put
         self.is_over = False
@@ -36,7 +36,7 @@ class Run:
         return b"".join(self.line(line) for line in text.split(b"\n"))
 
     def line(self, line):
-        """What one line prints; nothing behind a `quit`."""
+        """What one line prints; nothing after a `quit`."""
         if self.is_over:
             return b""
         try:
@@ -119,13 +119,13 @@ def settings(words):
 
 
 def opened(chosen, source):
-    """The machine that a dump tells; or a Fault."""
+    """The machine that a dump describes; or a Fault."""
     wire = None if chosen.wire is None else os.fsencode(chosen.wire)
     return journal.opened(source, wire, chosen.format, int(chosen.expression))
 
 
 def machine_of(chosen):
-    """The machine that the track tells, or what is said of it instead."""
+    """The machine that the track describes, or what is said of it instead."""
     try:
         with open(chosen.track, "rb") as track:
             source = track.read(dump.MOST_BYTES + 1)

@@ -46,7 +46,7 @@ def place(number: int, element: int) -> Place:
 
 
 def recording(frames: int, count: int, name: str = "track.vcd") -> Sheet:
-    """A recording with so many places, each in a frame of its own. Every fifth of these frames is lost."""
+    """A recording with that many places, each in a frame of its own. Every fifth of these frames is lost."""
     step = frames // max(1, count)
     places = tuple(place(number, number * step * 100 + 50) for number in range(count))
     script = ("# repairs",) + tuple(line for one in reversed(places) for line in one.lines)

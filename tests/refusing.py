@@ -9,7 +9,7 @@ SOURCE = os.path.join(os.path.dirname(os.path.abspath(__file__)), "refusing.c")
 
 
 def library_in(folder):
-    """The library, made in a folder by the C compiler (CC, or cc), or None where there is none."""
+    """The library, made in a folder by the C compiler (CC, or cc), or None if there is none."""
     compiler = os.environ.get("CC", "cc")
     if shutil.which(compiler) is None:
         return None
@@ -19,7 +19,7 @@ def library_in(folder):
 
 
 class Refusing(Talk):
-    """A command that runs with so many growths refused from that of a number on, and none where it is 0."""
+    """A command that runs with that many growths refused from that of a number on, and none if the number is 0."""
 
     def __init__(self, library, command, number, folder, count=1):
         self.heard, told = os.pipe()

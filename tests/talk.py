@@ -3,12 +3,12 @@ import subprocess
 
 from rows.language import LONGEST_LINE
 
-LAST = b"#" * (LONGEST_LINE + 1) + b"\n"  # too long: its answer comes behind those of the lines before it
+LAST = b"#" * (LONGEST_LINE + 1) + b"\n"  # too long: its answer comes after those of the lines before it
 LAST_ANSWER = b"? S2 LineTooLong\n"
 
 
 class Talk:
-    """A run of a command in a folder, with what else Popen is to be told."""
+    """A run of a command in a folder, with further arguments for Popen."""
 
     def __init__(self, command, folder, **how):
         self.run = subprocess.Popen(

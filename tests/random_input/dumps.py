@@ -48,7 +48,7 @@ def few(random, interval):
 
 
 def told(random, kind, expression):
-    """The elements of some frames that tell a time, now and then one of them wrongly."""
+    """The elements of some frames that show a time; now and then one of them shows a wrong one."""
     start = (random.randint(1, 3652058), 1000 * random.randrange(8640))
     control = random.choice((0, 1, random.getrandbits(16)))
     elements = []
@@ -64,7 +64,7 @@ def told(random, kind, expression):
 
 
 def arbitrary(random, kind, expression):
-    """The elements of some frames, zeros and ones as they fall."""
+    """The elements of some frames, zeros and ones at random."""
     weight = random.choice((0.05, 0.3, 0.5))
     return [
         "position" if place % 100 in timecode.PLACES_OF_POSITIONS else "one" if random.random() < weight else "zero"

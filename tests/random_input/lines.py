@@ -16,7 +16,7 @@ class Lines(Places):
     """Makes lines for the present state of a machine. Each word that has arguments or addresses has a method."""
 
     def some(self):
-        """The next line, or a run of steps taken back and done again, as bytes without newlines."""
+        """The next line, or a run of steps that are undone and redone, as bytes without newlines."""
         choice = self.random.random()
         if choice < 0.03 and "undo" in self.words and "redo" in self.words:
             count = self.random.randint(1, 1 + len(self.machine.past))

@@ -62,7 +62,7 @@ class Places:
         return max(0, random.choice(times) + random.choice((0, 0, 0, 0, 0, 1, -1, 2)))
 
     def as_time(self, time):
-        """A time as a number or as a mark that stands there; now and then a mark that is not set."""
+        """A time as a number or as a mark that is set there; now and then a mark that is not set."""
         if "mark" in self.words:
             letters = [letter for letter, marked in self.machine.present.marks.items() if marked == time]
             if letters and self.random.random() < 0.6:

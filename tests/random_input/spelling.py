@@ -5,7 +5,7 @@ LONGEST_LINE = 1000
 
 
 def spaced(random, line):
-    """The same line with other white space, as often as not just as long as may be or a byte longer."""
+    """The same line, now and then with other white space, also just as long as a line may be, or a byte longer."""
     if random.random() < 0.85:
         return line
     space = random.choice((b" ", b"\t", b"  ", b" \r\t"))
@@ -14,7 +14,7 @@ def spaced(random, line):
 
 
 def spoiled(random, line):
-    """A line with a byte or a word too many, too few or changed; most of them are none."""
+    """A line with a byte or a word too many, too few or changed; most of them are not valid."""
     place = random.randint(0, len(line))
     before, behind, odd = line[:place], line[place:], bytes([random.choice(ODD_BYTES)])
     length = random.choice((LONGEST_LINE, LONGEST_LINE + 1))

@@ -9,7 +9,7 @@ class CannotBeMade(Exception):
 
 
 class Splice(NamedTuple):
-    """So many pulses from `at` on go, and these come in their stead."""
+    """That many pulses from `at` on go, and these come instead."""
 
     at: int
     count: int
@@ -88,7 +88,7 @@ class SetFormat(NamedTuple):
 
 class SetMark(NamedTuple):
     letter: str
-    time: int  # or None, where the mark is cleared
+    time: int  # or None, if the mark is cleared
 
     def lines(self):
         return ["setmark %s %s" % (self.letter, "-" if self.time is None else self.time)]
@@ -124,7 +124,7 @@ class Group(NamedTuple):
 
 
 class Made(NamedTuple):
-    """What a step did: the change that makes it again, and the one that takes it back."""
+    """What a step did: the change that redoes it, and the one that undoes it."""
 
     on: tuple
     back: tuple
@@ -141,7 +141,7 @@ def with_edges(state, edges):
 
 
 def with_pulses(state, pulses):
-    """The state with these pulses, which have to lie in the track, one behind the other and none touching the next."""
+    """The state with these pulses. They have to lie in the track, one after the other, and none may touch the next."""
     edges = [edge for pulse in pulses for edge in pulse]
     need(all(first < second for first, second in zip(edges, edges[1:])))
     need(not edges or 0 <= edges[0] and edges[-1] <= state.length)
@@ -155,7 +155,7 @@ def made_by(word, before, arguments, after):
 
 
 def change_of(word, state, values, after):
-    """The change that an edit is. Most are the splice that takes the pulses they remove and puts those they bring."""
+    """The change that an edit is. Most are the splice that takes out the pulses they remove and inserts those they bring."""
     pulses = state.pulses()
     if word == "insert":
         return Splice(state.rising_by(values[0]) + 1, 0, (values,))
@@ -187,7 +187,7 @@ def change_of(word, state, values, after):
 
 
 def together(made):
-    """Several edits as one: the singles that make them again, and those that take them back, the newest first."""
+    """Several edits as one: the singles that redo them, and those that undo them, the newest first."""
     return Made(grouped([one.on for one in made]), grouped([one.back for one in reversed(made)]))
 
 

@@ -24,7 +24,7 @@ class Fault(Exception):
     def __init__(self, number, offset=None, line=None):
         at = "" if offset is None else " at %d" % offset
         super().__init__("V%d %s%s" % (number, FAULTS[number], at))
-        self.line = line  # of the journal, from 1: it is not told
+        self.line = line  # of the journal, from 1: it is not printed
 
 
 def read_parts(source, wire=None):
@@ -42,7 +42,7 @@ def read_parts(source, wire=None):
 
 
 def journals_in(source, tokens, at):
-    """The comments behind the declarations that are journals: from the first word up to the `$end`."""
+    """The comments after the declarations that are journals: from the first word up to the `$end`."""
     found = []
     while at < len(tokens):
         behind = section(tokens, at)[1] if tokens[at][1] == b"$comment" else None
@@ -53,7 +53,7 @@ def journals_in(source, tokens, at):
 
 
 def declarations(tokens, wire):
-    """The unit in femtoseconds, the code of the wire, and the number of the first token behind the declarations."""
+    """The unit in femtoseconds, the code of the wire, and the number of the first token after the declarations."""
     unit, variables, at = None, [], 0
     while at < len(tokens):
         offset, head = tokens[at]
@@ -72,7 +72,7 @@ def declarations(tokens, wire):
 
 
 def section(tokens, at):
-    """The words of the section that begins with this token, and the number of the token behind its `$end`."""
+    """The words of the section that begins with this token, and the number of the token after its `$end`."""
     words = []
     for place in range(at + 1, len(tokens)):
         if tokens[place][1] == b"$end":
@@ -111,7 +111,7 @@ def code_of(variables, wire):
 
 
 def changes(tokens, at, unit, code):
-    """The last level that is told at each microsecond where one is told, and the last microsecond."""
+    """The last level that is given at each microsecond that has one, and the last microsecond."""
     levels, units, time = {}, 0, 0
     while at < len(tokens):
         offset, token = tokens[at]
@@ -156,7 +156,7 @@ def last_digit(vector, offset):
 
 
 def edges_of(levels, length):
-    """Where the level differs from that of the microsecond before; a pulse that is high at the end ends there."""
+    """The times at which the level differs from that of the microsecond before. A pulse that is high at the end ends there."""
     edges, high = [], False
     for time in sorted(levels):
         if time < length and levels[time] != high:

@@ -1,4 +1,4 @@
-"""A journal as text, as docs/FORMATS.md has it under "The saved journal", and the machine that a dump with it tells."""
+"""A journal as text, as docs/FORMATS.md has it under "The saved journal", and the machine that a dump with it describes."""
 import re
 
 from reference import changes, dump, machine, timecode
@@ -9,7 +9,7 @@ BOUND = 2**64  # of every number
 
 
 def text(saved):
-    """What `save` puts of a machine: its dump, and behind it the journal in a comment."""
+    """What `save` writes of a machine: its dump, and after it the journal in a comment."""
     state = saved.present
     lines = [FIRST, "format %s %d" % (state.kind, state.expression), "cursor %d" % state.cursor]
     lines += ["mark %s %d" % mark for mark in sorted(state.marks.items())]
@@ -23,7 +23,7 @@ def text(saved):
 
 
 def opened(source, wire, kind, expression):
-    """The machine that a dump tells, in this format where it has no journal; or a Fault."""
+    """The machine that a dump describes, in this format if it has no journal; or a Fault."""
     length, edges, journal = dump.read_parts(source, wire)
     found = machine.Machine(length, edges, kind, expression)
     if journal is not None:
@@ -50,7 +50,7 @@ class Reader:
         return dump.Fault(13, line=self.number)
 
     def line(self, form, *values):
-        """What the next line has for the values of a form, each judged by a function that answers None for no value."""
+        """What the next line has for the values of a form, each judged by a function that returns None for no value."""
         found = None
         if self.number <= len(self.lines):
             found = re.fullmatch(form.replace("*", "([^ ]+)").encode(), self.lines[self.number - 1], re.DOTALL)

@@ -20,7 +20,7 @@ TIME = (rb"[0-9]{1,18}|'[a-z]", time_of)
 COUNT = (rb"[0-9]{1,18}", lambda state, text: int(text))
 DISTANCE = (rb"[+-]?[0-9]{1,18}", lambda state, text: int(text))
 CONTROL = (rb"[0-9A-Fa-f]{1,12}", lambda state, text: int(text, 16))
-MOMENT = (rb"[0-9T:.-]+", lambda state, text: timecode.moment(text))  # None where it is no moment
+MOMENT = (rb"[0-9T:.-]+", lambda state, text: timecode.moment(text))  # None if it is no moment
 LETTER = (rb"[a-z]", lambda state, text: text.decode())
 KIND = (rb"[ABEG]", lambda state, text: text.decode())
 EXPRESSION = (rb"[0-7]", lambda state, text: int(text))
@@ -75,7 +75,7 @@ def values(state, word, arguments, kinds):
 
 
 def places(state, written, most, word):
-    """The pulses that a line speaks of: by default that at the cursor, and of a join that one and the next."""
+    """The pulses that a line speaks of: by default that at the cursor, and for a join that one and the next."""
     if most == 0:
         return []
     first = pulse_of(state, written[0] if written else b".")
@@ -87,7 +87,7 @@ def places(state, written, most, word):
 
 
 def pulse_of(state, address):
-    """The pulse that an address stands for, from 1; 0 where there is none."""
+    """The pulse that an address stands for, from 1; 0 if there is none."""
     base, sign, offset = re.fullmatch(rb"([^+-]*)([+-]?)([0-9]*)", address).groups()
     value = base_of(state, base)
     if value is None:
@@ -98,7 +98,7 @@ def pulse_of(state, address):
 
 
 def base_of(state, base):
-    """What an address counts from; None where a mark is not set. A mark counts the pulses that rise by then."""
+    """What an address counts from; None if a mark is not set. A mark counts the pulses that rise by then."""
     if base in (b"", b"."):
         return state.cursor
     if base == b"$":

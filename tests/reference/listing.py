@@ -8,7 +8,7 @@ def pulses(state, i, j):
 
 
 def frames(state):
-    """A line for each frame, told anew from the whole track."""
+    """A line for each frame, read again from the whole track."""
     found = state.pulses()
     return ["%d %d %d %s" % (number, marker + 1, found[marker][0], told(state, found, marker))
             for number, marker in enumerate(timecode.markers(state.interval(), found), 1)]

@@ -1,7 +1,7 @@
 """The editor as a machine of whole states. Pulses count from 1; times are in microseconds.
 
-Each edit is a function of a state and its arguments that answers the next state or raises the first refusal that holds,
-the lower number first. What is said of a pulse holds only where there is one, so E2 may be asked before E1.
+Each edit is a function of a state and its arguments. It returns the next state or raises the first refusal that holds,
+the lower number first. What is said of a pulse holds only if there is one, so E2 may be tested before E1.
 """
 from typing import NamedTuple
 
@@ -29,7 +29,7 @@ def need(holds, number):
 
 
 class State(NamedTuple):
-    """Everything that an undo gives back."""
+    """Everything that an undo restores."""
 
     length: int
     edges: frozenset
@@ -142,7 +142,7 @@ def regen(state, start, frames, moment, control):
 
 
 def frame_edges(state, start, frames, moment, control):
-    """The edges of so many frames of nominal pulses from a start on."""
+    """The edges of that many frames of nominal pulses from a start on."""
     edges, interval = set(), state.interval()
     for k in range(frames):
         values = timecode.generated(state.kind, moment, k, control)
@@ -167,10 +167,10 @@ def unmark(state, letter):
 
 
 class Machine:
-    """All former states, the present one, the states that undos took back, the next to be redone last, and the floor.
+    """All former states, the present one, the states that were undone, the next to be redone last, and the floor.
 
-    The floor is None where no group is open; else the number of former states at its `begin`, and the state then. `made`
-    has for each former state what the step behind it did, and `unmade` for each later state what the step to it did:
+    The floor is None if no group is open; else the number of former states at its `begin`, and the state then. `made`
+    has for each former state what the step after it did, and `unmade` for each later state what the step to it did:
     a journal is saved from that, and nothing else here looks at it.
     """
 
@@ -203,7 +203,7 @@ class Machine:
         self.floor = len(self.past), self.present
 
     def end(self):
-        """Of the states since the `begin` the oldest alone stays: one undo leads back to it."""
+        """Of the states since the `begin` only the oldest stays: one undo leads back to it."""
         need(self.floor is not None, "E13")
         height = self.floor[0]
         self.past, self.floor = self.past[:height + 1], None

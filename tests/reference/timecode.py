@@ -82,7 +82,7 @@ def decode(kind, expression, ones):
 
 
 def encode(kind, expression, values):
-    """The classes of the 100 elements of a frame that tells these values."""
+    """The classes of the 100 elements of a frame that shows these values."""
     ones = set()
     for name, digits in layout(kind, expression).items():
         for rows in digits:
@@ -104,7 +104,7 @@ def markers(interval, pulses):
 
 
 def fault_of(interval, pulses, marker):
-    """The first element behind a marker that fails, and why; None where none does."""
+    """The first element after a marker that fails, and why; None if none does."""
     for k in range(1, 100):
         place = marker + k
         if place >= len(pulses):
@@ -123,7 +123,7 @@ def ones_of(interval, pulses, marker):
 
 
 def moment(text):
-    """The day number and the hundredths of a second since its midnight that a text tells; None where it tells none."""
+    """The day number and the hundredths of a second since its midnight that a text gives; None if it gives none."""
     form = rb"(\d{4})-(?:(\d{3})|(\d\d)-(\d\d))T(\d\d):(\d\d):(\d\d)(?:\.(\d\d))?"
     found = re.fullmatch(form, text)
     if not found:
@@ -136,7 +136,7 @@ def moment(text):
 
 
 def date_of_month(year, month, day):
-    """The date, where there is such a day in the years 1 to 9998."""
+    """The date, if there is such a day in the years 1 to 9998."""
     try:
         return datetime.date(year, month, day) if year <= 9998 else None
     except ValueError:
@@ -157,7 +157,7 @@ def starts(kind, hundredths):
 
 
 def generated(kind, start, k, control):
-    """The values of the k-th frame, from 0, behind a moment."""
+    """The values of the k-th frame, from 0, after a moment."""
     day, hundredths = start
     elapsed = hundredths + k * (INTERVAL[kind] // 100)
     date = datetime.date.fromordinal(day + elapsed // DAY)

@@ -16,7 +16,7 @@ SAVED = SECOND_PULSE + JOURNAL
 
 
 class TextRow(NamedTuple):
-    """A script on two pulses in format G, and the text that its last line puts."""
+    """A script on two pulses in format G, and the text that its last line writes."""
 
     name: str
     script: str

@@ -8,7 +8,7 @@ B_4 = "--expression 4"
 
 
 class Row(NamedTuple):
-    """A script, and what it prints. The lines of both are parted by "; "."""
+    """A script, and what it prints. The lines of both are separated by "; "."""
 
     name: str
     options: str
@@ -55,7 +55,7 @@ TWO_FRAMES = of_pulses(20000, frame(0, 100, {30}) + frame(10000, 100, {30, 50}))
 # Format B 4, day 61, 12:34:56, year 24, second 45,296 of the day.
 ONES_OF_A_MOMENT = {2, 3, 6, 8, 12, 15, 16, 21, 25, 30, 36, 37, 52, 56, 84, 85, 86, 87, 93, 94, 96}
 A_MOMENT = "1 101 1000000 061 12:34:56 year 24 sbs 45296 control 0 fine"
-# A pulse from 2 to 4 microseconds, in picoseconds, beside a vector that is no concern of ours.
+# A pulse from 2 to 4 microseconds, in picoseconds, next to a vector that is no concern of ours.
 OF_A_SIMULATOR = """$date today $end $version none $end $timescale
  1ps $end $scope module top $end $var wire 1 ! irig $end $var reg 8 " n [7:0] $end $upscope $end $enddefinitions $end
 #0 $dumpvars bU " x! $end #2000000 1! b1 " #4000000 0! #5000000

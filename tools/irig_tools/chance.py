@@ -40,7 +40,7 @@ def _place(zone: Zone, pulse: int) -> int:
 
 
 def _other(faults: Faults, zone: Zone, marker: int) -> Optional[int]:
-    """The first pulse of a frame that tells a time that is not of the one that its neighbours lead to."""
+    """The first pulse, in a frame that shows a time, that is not of the time that its neighbours lead to."""
     text, number = faults.track.classes[marker:marker + 100], _place(zone, marker) // 100
     moment = faults.times.moment(number)
     if faults.layout.decode(text) is None or moment is None:

@@ -31,7 +31,7 @@ class Arguments:
 
 
 class Usage(Exception):
-    """Arguments that cannot be."""
+    """Arguments that are not valid."""
 
 
 def parse(words: Sequence[str], own: Sequence[str], flags: Sequence[str] = ()) -> Arguments:

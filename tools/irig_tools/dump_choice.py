@@ -53,7 +53,7 @@ def _ranked(header: Header, name: str) -> List[Wire]:
 
 
 def _candidates(header: Header, name: str) -> Tuple[List[Signal], List[Wire]]:
-    """What the name means: wires and bits; and vectors of which it names no bit."""
+    """What the name means: wires and bits; and vectors, if it names no bit of them."""
     wires = _ranked(header, name)
     found = [Signal(wire.code, 0, wire.path) for wire in wires if wire.single]
     bit = BIT.fullmatch(name)

@@ -27,7 +27,7 @@ class Wire:
     """A variable of a dump, of one bit or more."""
 
     code: bytes
-    path: str  # with its scopes, parted by dots
+    path: str  # with its scopes, separated by dots
     size: int
     first: int  # the number of its leftmost bit
     last: int  # that of its rightmost

@@ -23,7 +23,7 @@ class Unit:
 
 
 def permitted(femtoseconds: int) -> Unit:
-    """The largest permitted unit of which this is a whole number."""
+    """The largest permitted unit that divides this without a remainder."""
     for name in NAMES:
         for number in (100, 10, 1):
             size = number * FEMTOSECONDS[name]

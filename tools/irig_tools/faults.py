@@ -12,7 +12,7 @@ from .track import Track
 LIKE = 0.08  # intervals: a level that differs from a class for less than that is this class
 LIKE_IN_BURST = 0.03  # the same in a burst of damage, which can look like a class by chance
 NOMINAL = 0.03  # intervals: a width that is no more off is the one of its class
-BURST = 2  # of the two places before and the two after one, so many are damaged in a burst
+BURST = 2  # of the two places before and the two after one, at least that many are damaged in a burst
 
 
 @dataclass

@@ -63,7 +63,7 @@ class Times:
         return base if self.calendar.with_year else (base - DAY) % (self.calendar.days * DAY) + DAY
 
     def _find_year_length(self) -> None:
-        """Without a year the day after 365 is told by the frames themselves."""
+        """Without a year the frames themselves show the day after 365."""
         if self.calendar.with_year:
             return
         agree = {}
@@ -98,7 +98,7 @@ class Times:
         gap: List[int] = []
         left: Optional[int] = None
         for number in self.texts:
-            if number in apart:  # no time goes on over that
+            if number in apart:  # no time continues over that
                 bases.update(fit(self, gap, left, None))
                 gap, left = [], None
             if number not in bases:
@@ -145,7 +145,7 @@ class Times:
         return None not in (before, after) and before != after
 
     def _agreed(self, numbers: Sequence[int]) -> Optional[int]:
-        """The base that most of three frames tell, or the only one there is."""
+        """The base that most of three frames show, or the only one there is."""
         often = Counter(self.own[number] for number in numbers).most_common(1)
         return often[0][0] if often and (often[0][1] > 1 or len(numbers) == 1) else None
 

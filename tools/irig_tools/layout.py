@@ -79,7 +79,7 @@ class Layout:
         return self._known[name, part]
 
     def _value_within(self, name: str, part: str, text: str) -> int:
-        """The number in a field, of which `part` is its part of the frame, or -1 if it is out of range."""
+        """The number in a field, or -1 if it is out of range; `part` is the field's part of the frame."""
         known = self._within.get((name, part))
         if known is None:
             known = self.value(name, text)

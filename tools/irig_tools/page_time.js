@@ -81,7 +81,7 @@ function span(time) {
   return Math.round(time) + " µs";
 }
 
-// The marks of an axis: 1, 2 or 5 and noughts apart, at most so many.
+// The marks of an axis: 1, 2 or 5 and zeros apart, at most that many.
 function marks(start, end, most) {
   let step = 1;
   while ((end - start) / step > most) step *= String(step)[0] === "2" ? 2.5 : 2;

@@ -1,5 +1,5 @@
-"""Position identifiers in a run of classes: with which element it begins, and where it goes on with another
-one.
+"""Position identifiers in a run of classes: with which element it begins, and where it continues with
+another one.
 
 A phase is the element, 0 to 99, of the first pulse of a text. `P` has to be at elements 0, 9, 19, .. 99 and
 nowhere else.
@@ -115,8 +115,7 @@ def _has_marker(phase: int, count: int) -> bool:
 
 
 def _turn(text: str, lefts: Sequence[int], rights: Sequence[int]) -> Optional[Place]:
-    """The first and last place at which the phase may change in a text of which at most one side's phase is
-    known."""
+    """The first and last place at which the phase may change in a text. At most one side's phase is known."""
     marks = Marks(text)
     whole = min(map(marks.faults, lefts if len(lefts) <= len(rights) else rights))
     if whole < 2 or len(text) > LONGEST_TURN:
@@ -132,7 +131,7 @@ def _turn(text: str, lefts: Sequence[int], rights: Sequence[int]) -> Optional[Pl
 
 
 def turns(classes: str) -> List[Place]:
-    """The places (first, last) at which a run goes on with another phase: between whole frames, before and
+    """The places (first, last) at which a run continues with another phase: between whole frames, before and
     after them."""
     whole = whole_frames(classes)
     text, every = classes.translate(ONLY_P), range(100)

@@ -53,7 +53,7 @@ def blocks(sheet: Sheet, most: int) -> Iterator[Block]:
 
 
 def shortened(words: str, most: int = 100) -> str:
-    """Words with so many letters at most, on one line."""
+    """Words with at most that many letters, on one line."""
     words = " ".join(plain(words).split())
     return words if len(words) <= most else words[:most // 2] + " … " + words[3 - most // 2:]
 

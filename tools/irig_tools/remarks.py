@@ -1,4 +1,4 @@
-"""What is said of a track beside its faulty places: what nothing decides, and what no edit repairs."""
+"""What is said of a track apart from its faulty places: what nothing decides, and what no edit repairs."""
 from __future__ import annotations
 
 from collections import Counter

@@ -24,7 +24,7 @@ Kind = Tuple[str, bool]  # a format, and whether the wire is upside down
 
 
 def kinds_of(edges: Sequence[int], rise_first: bool, steps: Dict[str, float]) -> Dict[Kind, float]:
-    """How much these edges look like each kind of time code, from 0 to 1; only what can be is there."""
+    """How much these edges look like each kind of time code, from 0 to 1; only what is possible is there."""
     found: Dict[Kind, float] = {}
     for inverted in (False, True):
         first = 0 if rise_first != inverted else 1

@@ -51,7 +51,7 @@ def parts(clock: Clock, classes: str) -> List[List[Run]]:
 
 
 def _trim(runs: List[Run], classes: str) -> List[Run]:
-    """Leaves runs at either end alone that are glued to their neighbour and too short to tell their phase."""
+    """Leaves runs at either end alone that are glued to their neighbour and too short to show their phase."""
     while len(runs) > 1 and runs[-1].glued and not tells_phase(_classes(runs[-1], classes)):
         runs.pop()
         runs[-1].ends += ">"

@@ -26,7 +26,7 @@ def _between(before: Span, after: Span) -> Iterator[int]:
 
 
 def _is_spliced(times: Times, number: int, left: int, right: int) -> bool:
-    """Whether a frame that can be read tells one time up to an element, another from there on, and neither
+    """Whether a frame that can be read shows one time up to an element, another from there on, and neither
     of them as a whole."""
     if not READABLE.fullmatch(times.texts[number]):
         return False

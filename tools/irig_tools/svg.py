@@ -27,7 +27,7 @@ class Scale:
         return LEFT + (RIGHT - LEFT) * (inside - self.start) / (self.end - self.start)
 
     def room(self, time: int) -> float:
-        """How many pixels so much time takes."""
+        """How many pixels that much time takes."""
         return (RIGHT - LEFT) * time / (self.end - self.start)
 
 
@@ -43,7 +43,7 @@ def rect(x: float, y: int, width: float, height: int, fill: str) -> str:
 
 
 def step_of(span: int, most: int) -> int:
-    """The distance of two marks of an axis: 1, 2 or 5 and noughts, and at most so many marks."""
+    """The distance of two marks of an axis: 1, 2 or 5 and zeros, and at most that many marks."""
     step = 1
     while span > step * most:
         step = step * 5 // 2 if str(step)[0] == "2" else step * 2

@@ -1,4 +1,4 @@
-"""Says which wires of a dump carry time code, and how to go on."""
+"""Says which wires of a dump carry time code, and how to continue."""
 from __future__ import annotations
 
 import os
@@ -100,7 +100,7 @@ class What:
         return len(self.found.probes) == 1 and self.found.dumps == 1 and self.carriers[0].fine > 0
 
     def command(self) -> str:
-        """The line to go on with, for the wire with the most fine frames."""
+        """The command to continue with, for the wire with the most fine frames."""
         carrier = self.carriers[0]
         number = carrier.best.expression if carrier.best else 2
         options = "--format %s --expression %d --out new.vcd" % (carrier.kind, number)

@@ -13,7 +13,7 @@ FAR_BELOW = 1000000  # keeps a quotient positive while it is rounded down
 
 
 def whole_steps(distance: float, interval: float) -> int:
-    """How many elements on a pulse is."""
+    """How many elements further a pulse is."""
     return int(distance / interval + FAR_BELOW + EARLY) - FAR_BELOW
 
 
