@@ -13,7 +13,7 @@ use Rattle.irig_script.specs.declared.obey.dump_run.DumpRunFault.TheVariants.{Du
 use Rattle.irig_files.proofs.Intakes.{tells_heading}
 use Rattle.irig_ed.specs.Ending.{Ends, RunsBy, ends}
 use Rattle.irig_files.specs.Puts.{Put, texts_at}
-use Rattle.irig_ed.specs.declared.command_line.chosen.Settings.{Settings}
+use Rattle.irig_settings.specs.declared.chosen.Settings.{Settings}
 
 -- the wire of the settings
 abbrev wire_in : Settings → Option (List ℕ)

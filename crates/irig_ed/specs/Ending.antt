@@ -8,10 +8,10 @@ use Rattle.irig_script.specs.Obey.DumpRun.{RunsOnDump}
 use Rattle.irig_text.specs.Shelved.{shelved}
 use Rattle.irig_script.specs.declared.obey.status.Status.{Status}
 use Rattle.irig_script.specs.declared.obey.dump_run.DumpRunFault.{DumpRunFault}
-use Rattle.irig_ed.specs.CommandLine.Settings.{Reads}
+use Rattle.irig_settings.specs.Settings.{Reads}
 use Rattle.irig_files.specs.Puts.{Put, texts_at}
 use Rattle.irig_ed.specs.Statuses.{HasStatus}
-use Rattle.irig_ed.specs.declared.command_line.chosen.Settings.{Settings}
+use Rattle.irig_settings.specs.declared.chosen.Settings.{Settings}
 use Rattle.irig_ed.specs.declared.ending.Ending.{Ending}
 use Rattle.irig_ed.specs.declared.ending.Ending.TheVariants.{Usage, Unread, Ran}
 use Rattle.irig_files.specs.declared.dump_file.DumpFileFault.TheVariants.{TooLong}

@@ -1,9 +1,7 @@
 -- The statuses of the program as a process. This project's own.
-use Rattle.std.specs.Prelude.{◌≡◌, ◌≢◌, ◌⊎◌, ℕ, List, Result, Ok, Err, codes}
-use Rattle.clap.specs.declared.error.Error.{Error}
-use Rattle.clap.specs.Words.{kind_of}
-use Rattle.clap.specs.declared.error.kind.ErrorKind.TheVariants.{DisplayHelp, DisplayVersion}
-use Rattle.irig_ed.specs.declared.command_line.chosen.UsageFault.TheVariants.{Words, BadExpression}
+use Rattle.std.specs.Prelude.{◌≡◌, ◌⊎◌, ℕ, List, Result, Ok, Err, codes}
+use Rattle.irig_settings.specs.Errors.{IsHelp, IsMistake}
+use Rattle.irig_settings.specs.declared.chosen.UsageFault.TheVariants.{Words, BadExpression}
 use Rattle.irig_files.specs.declared.dump_file.DumpFileFault.{DumpFileFault}
 use Rattle.irig_files.specs.declared.dump_file.DumpFileFault.TheVariants.{CannotBeRead, TooLong}
 use Rattle.irig_files.specs.declared.dump_file.DumpFileFault.TheVariants.{OutOfMemory}
@@ -20,14 +18,6 @@ status_number (Ok AllAccepted) = 0
 status_number (Ok SomeRefused) = 1
 status_number (Err (Dump fault)) = 3
 status_number (Err (Run fault)) = 4
-
--- an error of the command line that is no call for help
-abbrev pub IsMistake : Error → Type 0
-IsMistake error = (kind_of error ≢ DisplayHelp) × (kind_of error ≢ DisplayVersion)
-
--- a call for help, or for the version
-abbrev pub IsHelp : Error → Type 0
-IsHelp error = (kind_of error ≡ DisplayHelp) ⊎ (kind_of error ≡ DisplayVersion)
 
 -- what the program says of a track that it did not read
 abbrev pub unread_text : DumpFileFault → List ℕ

@@ -1,8 +1,8 @@
 //! How the program ends.
 
-use crate::command_line::chosen::UsageFault;
 use irig_files::DumpFileFault;
 use irig_script::{DumpRunFault, Status};
+use irig_settings::UsageFault;
 
 /// How the program ends, before it is reported.
 #[derive(Drop)]

@@ -7,11 +7,10 @@ ghost use Rattle.irig_ed.specs.Ending.{RunsBy, EndsBy, Obeys, ends};
 ghost use Rattle.irig_files.specs.Keeps.{Keeps};
 ghost use Rattle.irig_files.specs.Reads.{HasFewBytes, parts_of};
 
-use crate::command_line::chosen::Settings;
-use crate::command_line::command_line::settings;
 use crate::ending::Ending;
 use irig_files::{Disk, DumpFileFault, FileShelf, Parts, Room};
 use irig_script::{DumpRunFault, Status, run_on_parts};
+use irig_settings::{Settings, settings};
 use irig_vcd::VcdFault;
 use std::alloc::Global;
 use std::io::{Read, Write};

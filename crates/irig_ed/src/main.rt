@@ -1,7 +1,6 @@
 //! A line editor for recorded time tracks.
 #![tactic(auto)]
 
-mod command_line;
 mod ending;
 mod file_run;
 mod statuses;
@@ -11,9 +10,9 @@ ghost use Rattle.std.specs.Process.{exit_status};
 ghost use Rattle.irig_ed.specs.Ending.{Serves, ends};
 ghost use Rattle.irig_files.specs.Keeps.{Keeps};
 
-use command_line::command_line::not_text;
 use file_run::obey_words;
 use irig_files::{Disk, System};
+use irig_settings::not_text;
 use statuses::{explain, report, tell};
 use std::io::{Read, Write};
 use std::process::ExitCode;

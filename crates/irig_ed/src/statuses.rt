@@ -2,12 +2,13 @@
 
 ghost use Rattle.std.specs.Prelude.{◌≡◌, ◌⊎◌};
 ghost use Rattle.std.specs.Process.{exit_status};
-ghost use Rattle.irig_ed.specs.Statuses.{IsHelp, IsMistake, HasStatus, status_number, unread_text};
+ghost use Rattle.irig_ed.specs.Statuses.{HasStatus, status_number, unread_text};
+ghost use Rattle.irig_settings.specs.Errors.{IsHelp, IsMistake};
 
-use crate::command_line::chosen::UsageFault;
 use crate::ending::Ending;
 use irig_files::DumpFileFault;
 use irig_script::{DumpRunFault, RunFault, Status};
+use irig_settings::UsageFault;
 use std::fmt::Display;
 use std::process::ExitCode;
 

@@ -1,8 +1,8 @@
 use Rattle.std.specs.Prelude.{ℕ, List, Option, Ok}
 use Rattle.clap.specs.Words.{Text}
-use Rattle.irig_ed.specs.CommandLine.Settings.{Reads}
+use Rattle.irig_settings.specs.Settings.{Reads}
 use Rattle.irig_ed.specs.Ending.{Ends, EndsBy, Obeys}
-use Rattle.irig_ed.specs.declared.command_line.chosen.Settings.{Settings}
+use Rattle.irig_settings.specs.declared.chosen.Settings.{Settings}
 use Rattle.irig_ed.specs.declared.ending.Ending.{Ending}
 use Rattle.irig_ed.specs.declared.ending.Ending.TheVariants.{Usage, Unread, Ran}
 use Rattle.irig_ed.proofs.file_run.obey_words.Goals as goal

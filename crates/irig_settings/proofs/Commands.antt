@@ -6,7 +6,8 @@ use Rattle.clap.specs.declared.error.Error.{Error}
 use Rattle.clap.specs.declared.error.kind.ErrorKind.TheVariants.{OutOfMemory}
 use Rattle.clap.specs.declared.builder.value_parser.ValueParser.{ValueParser}
 use Rattle.std.specs.Prelude.{Some, codes}
-use Rattle.irig_ed.specs.CommandLine.Options.{IsCommand, MayRefuse, command_with, option}
+use Rattle.irig_settings.specs.Errors.{MayRefuse}
+use Rattle.irig_settings.specs.Options.{IsCommand, command_with, option}
 
 -- of any lists of values
 command_free : (letters digits : ValueParser)

@@ -1,12 +1,9 @@
 -- The command line: four options and the track. This project's own.
-use Rattle.std.specs.Prelude.{◌≡◌, ◌⊎◌, true, List, [], ◌∷◌, map, codes, Option, Some, None}
+use Rattle.std.specs.Prelude.{◌≡◌, true, List, [], ◌∷◌, map, codes, Option, Some, None}
 use Rattle.clap.specs.Words.{App, Rule, Text, new_app, new_rule, with_rule, HasMatchesOf}
-use Rattle.clap.specs.Words.{HasKind, fault_of, kind_of, takes}
 use Rattle.clap.specs.declared.builder.ArgAction.TheVariants.{Set}
 use Rattle.clap.specs.declared.builder.value_parser.ValueParser.{ValueParser}
 use Rattle.clap.specs.declared.builder.value_parser.ValueParser.TheVariants.{Names}
-use Rattle.clap.specs.declared.error.Error.{Error}
-use Rattle.clap.specs.declared.error.kind.ErrorKind.TheVariants.{OutOfMemory}
 use Rattle.clap.specs.declared.parser.matches.ArgMatches.{ArgMatches}
 use Rattle.irig_codes.specs.Words.{kind_word, kinds}
 
@@ -72,19 +69,3 @@ pub record IsParsed (words : List Text) (matches : ArgMatches) : Type 0 where
   pub app : App
   pub is_command : IsCommand app
   pub promised : HasMatchesOf app words matches
-
--- the error is that memory ran out
-abbrev pub WantsMemory : Error → Type 0
-WantsMemory error = kind_of error ≡ OutOfMemory
-
--- the command refuses the words with an error of this kind; if it takes them, only because memory
--- ran out
-pub record IsRefused (words : List Text) (error : Error) : Type 0 where
-  pub app : App
-  pub is_command : IsCommand app
-  pub taken : takes app words ≡ true → WantsMemory error
-  pub kind : HasKind (fault_of app words) error
-
--- an error that a parse of the words by the command may give
-abbrev pub MayRefuse : List Text → Error → Type 0
-MayRefuse words error = WantsMemory error ⊎ IsRefused words error

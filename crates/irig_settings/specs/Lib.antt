@@ -1,3 +1,3 @@
--- The command line.
+pub mod Errors
 pub mod Options
 pub mod Settings

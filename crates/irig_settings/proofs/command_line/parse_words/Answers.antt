@@ -1,7 +1,7 @@
 use Rattle.std.proofs.lemmas.Result.{IfOk-weaker}
 use Rattle.clap.specs.Words.{app_of}
-use Rattle.irig_ed.proofs.Commands.{may_refuse}
-use Rattle.irig_ed.proofs.command_line.command_line.parse_words.Goals as goal
+use Rattle.irig_settings.proofs.Commands.{may_refuse}
+use Rattle.irig_settings.proofs.command_line.parse_words.Goals as goal
 
 pub returns-clause-parsed : goal.returns-clause-parsed
 returns-clause-parsed c = IfOk-weaker c.try_get_matches_from.result _ _

@@ -3,13 +3,13 @@
 ghost use Rattle.std.specs.Prelude.{◌≡◌, IfErr, IfOk, None, false, codes, map, string_bytes};
 ghost use Rattle.std.specs.Prelude.{MatchOption, true};
 ghost use Rattle.clap.specs.Words.{Rule, app_of, found_of, new_app, rule_of, with_rule};
-ghost use Rattle.irig_ed.specs.CommandLine.Options.{IsCommand, IsReading, IsChoice, IsParsed};
-ghost use Rattle.irig_ed.specs.CommandLine.Options.{MayRefuse, letters, option, track};
-ghost use Rattle.irig_ed.specs.Statuses.{IsMistake};
-ghost use Rattle.irig_ed.specs.CommandLine.Settings.{Chooses, Reads, digit_named, expression_of};
-ghost use Rattle.irig_ed.specs.CommandLine.Settings.{is_chosen_format, kind_of, kind_or_b};
+ghost use Rattle.irig_settings.specs.Options.{IsCommand, IsReading, IsChoice, IsParsed};
+ghost use Rattle.irig_settings.specs.Options.{letters, option, track};
+ghost use Rattle.irig_settings.specs.Errors.{IsMistake, MayRefuse};
+ghost use Rattle.irig_settings.specs.Settings.{Chooses, Reads, digit_named, expression_of};
+ghost use Rattle.irig_settings.specs.Settings.{is_chosen_format, kind_of, kind_or_b};
 
-use crate::command_line::chosen::{Settings, UsageFault};
+use crate::chosen::{Settings, UsageFault};
 use clap::error::ErrorKind;
 use clap::{Arg, ArgAction, ArgMatches, Command, Error};
 use irig_codes::{Format, Kind, kind_named};

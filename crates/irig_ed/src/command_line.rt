@@ -1,4 +1,0 @@
-//! The command line.
-
-pub mod chosen;
-pub mod command_line;
