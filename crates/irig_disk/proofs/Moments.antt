@@ -2,10 +2,6 @@
 use Rattle.std.proofs.Common.{inl, inr, ⊎_elim, ℕ, List, Option, arith}
 use Rattle.irig_disk.specs.Disk.{Disk, Held, MayLeave, Elapses, LeavesOnly}
 
--- before the first call
-pub started : (old : Disk) → ((n : List ℕ) (c : Option Held) → old.left_since old.moment n c → MayLeave old n c) → LeavesOnly old old (MayLeave old)
-started old only_now = record { later = omega arith; each = only_now; before = λ t n c le left. inl left }
-
 -- one call more, after which a crash leaves what has P
 pub goes_on : (old mid new : Disk) (P : List ℕ → Option Held → Type 0) → LeavesOnly old mid P → Elapses mid new
     → ((n : List ℕ) (c : Option Held) → MayLeave new n c → P n c) → LeavesOnly old new P

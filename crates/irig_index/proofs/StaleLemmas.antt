@@ -31,11 +31,6 @@ module _ (f : FormatView) (ps : List Pulse) where
   LastMayBeStale-there settled (s ∷ []) r h = h
   LastMayBeStale-there settled (s ∷ t ∷ rs) r h = LastMayBeStale-there settled (t ∷ rs) r h
 
-  pub length-last_retold : (rs : List Record) → length (last_retold f ps rs) ≡ length rs
-  length-last_retold [] = refl
-  length-last_retold (r ∷ []) = refl
-  length-last_retold (r ∷ s ∷ rs) = ap suc (length-last_retold (s ∷ rs))
-
 -- a track that begins with these pulses
 abbrev pulse_at : List Pulse → ℕ → Pulse
 pulse_at a n = get_or a n (record { rise = 0; fall = 0 })

@@ -74,9 +74,6 @@ pub closed : (ps : List Pulse) (rise fall last : ℕ) → kept_edges (ps ++ puls
 closed ps rise fall last = append-nil (edges_of (ps ++ pulse rise fall ∷ [])) ∙ edges_of-append ps (pulse rise fall ∷ [])
     ∙ sym (append_assoc (edges_of ps) (rise ∷ []) (fall ∷ []))
 
-pub opened : (ps : List Pulse) (last rise : ℕ) → kept_edges ps true rise ≡ kept_edges ps false last ++ rise ∷ []
-opened ps last rise = ap (λ xs. xs ++ rise ∷ []) (sym (append-nil (edges_of ps)))
-
 -- a fall and the next rise after the others
 pub closed_and_opened : (ps : List Pulse) (last fall rise : ℕ)
     → kept_edges (ps ++ pulse last fall ∷ []) true rise ≡ kept_edges ps true last ++ fall ∷ rise ∷ []

@@ -54,10 +54,6 @@ longer : (micros : ℕ) (stands : Bool) → (micros ≡ 0 → ⊥)
     → (if nat_lt 0 micros && not stands then time_line micros else []) ≡ (if stands then [] else time_line micros)
 longer micros stands some = rw (lt-ltb 0 micros (omega (arith, some))) (turned stands (time_line micros))
 
--- no line if the length is 0
-none_long : (stands : Bool) → (if nat_lt 0 0 && not stands then time_line 0 else []) ≡ []
-none_long stands = refl
-
 stands_at : (micros : ℕ) (edges : List ℕ) → (micros ≡ 0 → ⊥) → RisesFrom 0 edges → UpTo micros edges
     → list_any (λ e. e == micros) edges ≡ (last_or 0 edges == micros)
 stands_at micros [] some r u = sym (ne_eqb 0 micros (λ e. some (sym e)))

@@ -1,23 +1,11 @@
 -- Laws of a rising list of edges.
 use Rattle.std.proofs.Common.{◌≡◌, ℕ, suc, zero, ◌+◌, ◌<◌, ◌≤◌, ◌≢◌, ◌==◌, true, false, cond}
-use Rattle.std.proofs.Common.{not, List, [], ◌∷◌, ◌++◌, length, get_or, refl, sym, ap, ◌∙◌, subst, ◌⊎◌, inl}
+use Rattle.std.proofs.Common.{not, List, [], ◌∷◌, ◌++◌, refl, sym, ap, ◌∙◌, subst, ◌⊎◌, inl}
 use Rattle.std.proofs.Common.{inr, arith}
 use Rattle.std.proofs.lemmas.Bool.Decides.{nat_tests}
 use Rattle.irig_recording.specs.Recording.{RisesFrom, UpTo}
 use Rattle.irig_track.specs.Edges.{Under, has}
 use Rattle.irig_track.specs.Toggles.{flipped}
-
-pub rises_low : (low : ℕ) (xs : List ℕ) (j : ℕ) → RisesFrom low xs → j < length xs → low ≤ get_or xs j 0
-rises_low low [] j h lt = absurd (omega arith)
-rises_low low (x ∷ xs) zero h lt = h.0
-rises_low low (x ∷ xs) (suc j) h lt = omega (arith, h.0, rises_low (x + 1) xs j h.1 (omega arith))
-
-pub rises_pairs : (low : ℕ) (xs : List ℕ) → RisesFrom low xs → (i j : ℕ) → i ≤ j → j < length xs → get_or xs i 0 ≤ get_or xs j 0
-rises_pairs low [] h i j le lt = absurd (omega arith)
-rises_pairs low (x ∷ xs) h zero zero le lt = omega arith
-rises_pairs low (x ∷ xs) h zero (suc j) le lt = omega (arith, rises_low (x + 1) xs j h.1 (omega arith))
-rises_pairs low (x ∷ xs) h (suc i) zero le lt = absurd (omega arith)
-rises_pairs low (x ∷ xs) h (suc i) (suc j) le lt = rises_pairs (x + 1) xs h.1 i j (omega arith) (omega arith)
 
 pub three : (a b : ℕ) → (a < b) ⊎ ((a ≡ b) ⊎ (b < a))
 three zero zero = inr (inl refl)
@@ -38,10 +26,6 @@ pub rises_more : (low high : ℕ) (xs : List ℕ) → high ≤ low → RisesFrom
 rises_more low high [] le h = tt
 rises_more low high (x ∷ xs) le h = (omega (arith, h.0), h.1)
 
-put_back : (t x : ℕ) (xs : List ℕ) → t ≡ x → RisesFrom (x + 1) xs → flipped t xs ≡ x ∷ xs
-put_back t x [] e h = ap (λ k. k ∷ []) e
-put_back t x (y ∷ ys) e h = flip_low t y ys (omega (arith, h.0)) ∙ ap (λ k. k ∷ y ∷ ys) e
-
 -- the order is kept
 pub RisesFrom-flipped : (low t : ℕ) (xs : List ℕ) → low ≤ t → RisesFrom low xs → RisesFrom low (flipped t xs)
 RisesFrom-flipped low t [] le h = (le, tt)
@@ -50,17 +34,6 @@ RisesFrom-flipped low t (x ∷ xs) le h = elim (three t x) [
   | inr r ↦ elim r [
     | inl e ↦ rw (flip_same t x xs e) (rises_more (x + 1) low xs (omega (arith, h.0)) h.1)
     | inr gt ↦ rw (flip_high t x xs gt) (h.0, RisesFrom-flipped (x + 1) t xs (omega arith) h.1)
-  ]
-]
-
--- a number twice flipped is as it was
-pub flipped-flipped : (low t : ℕ) (xs : List ℕ) → RisesFrom low xs → flipped t (flipped t xs) ≡ xs
-flipped-flipped low t [] h = flip_same t t [] refl
-flipped-flipped low t (x ∷ xs) h = elim (three t x) [
-  | inl lt ↦ ap (flipped t) (flip_low t x xs lt) ∙ flip_same t t (x ∷ xs) refl
-  | inr r ↦ elim r [
-    | inl e ↦ ap (flipped t) (flip_same t x xs e) ∙ put_back t x xs e h.1
-    | inr gt ↦ ap (flipped t) (flip_high t x xs gt) ∙ flip_high t x (flipped t xs) gt ∙ ap (λ ys. x ∷ ys) (flipped-flipped (x + 1) t xs h.1)
   ]
 ]
 
@@ -95,24 +68,6 @@ has-flipped_other t u (x ∷ xs) ne = elim (three t x) [
     | inr gt ↦ ap (has u) (flip_high t x xs gt) ∙ ap (λ b. cond (x == u) true b) (has-flipped_other t u xs ne)
   ]
 ]
-
--- what lies above t stays
-pub flipped-before : (t : ℕ) (xs ys : List ℕ) → ((k : ℕ) → k < length ys → t < get_or ys k 0) → flipped t (xs ++ ys) ≡ flipped t xs ++ ys
-flipped-before t [] [] h = refl
-flipped-before t [] (y ∷ ys) h = flip_low t y ys (h 0 (omega arith))
-flipped-before t (x ∷ xs) ys h = elim (three t x) [
-  | inl lt ↦ flip_low t x (xs ++ ys) lt ∙ ap (λ zs. zs ++ ys) (sym (flip_low t x xs lt))
-  | inr r ↦ elim r [
-    | inl e ↦ flip_same t x (xs ++ ys) e ∙ ap (λ zs. zs ++ ys) (sym (flip_same t x xs e))
-    | inr gt ↦ flip_high t x (xs ++ ys) gt ∙ ap (λ zs. x ∷ zs) (flipped-before t xs ys h) ∙ ap (λ zs. zs ++ ys) (sym (flip_high t x xs gt))
-  ]
-]
-
-pub rises_strict : (low : ℕ) (xs : List ℕ) → RisesFrom low xs → (i j : ℕ) → i < j → j < length xs → get_or xs i 0 < get_or xs j 0
-rises_strict low [] h i j le lt = absurd (omega arith)
-rises_strict low (x ∷ xs) h i zero le lt = absurd (omega arith)
-rises_strict low (x ∷ xs) h zero (suc j) le lt = omega (arith, rises_low (x + 1) xs j h.1 (omega arith))
-rises_strict low (x ∷ xs) h (suc i) (suc j) le lt = rises_strict (x + 1) xs h.1 i j (omega arith) (omega arith)
 
 pub UpTo-flipped : (high t : ℕ) (xs : List ℕ) → t ≤ high → UpTo high xs → UpTo high (flipped t xs)
 UpTo-flipped high t [] le h = (le, tt)

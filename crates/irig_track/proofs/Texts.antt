@@ -1,6 +1,5 @@
 -- The text of a track, pulse by pulse.
-use Rattle.std.proofs.Common.{◌≡◌, ℕ, ◌+◌, ◌≤◌, ◌==◌, ◌++◌, true, false, List, [], ◌∷◌, length, drop, slice_get, Some, sym, ap, refl, ◌∙◌, append_assoc}
-use Rattle.std.proofs.lemmas.List.{drop_all}
+use Rattle.std.proofs.Common.{◌≡◌, ℕ, ◌+◌, ◌==◌, ◌++◌, true, false, List, [], ◌∷◌, drop, slice_get, Some, sym, ap, refl, ◌∙◌, append_assoc}
 use Rattle.irig_recording.specs.FileText.{file_text, header_text, begins_high, lines_at, length_line}
 use Rattle.irig_recording.specs.Recording.{recording_view}
 use Rattle.irig_recording.proofs.WrittenText.{last_or, all_lines, whole_text}
@@ -43,7 +42,3 @@ more_put i micros last next p ps text longer is lines falls =
     ∙ (ap (λ n. ((text ++ lines_at true p.rise) ++ lines_at false p.fall) ++ lines_after n rest micros) falls
     ∙ (regroup text (lines_at true p.rise) (lines_at false p.fall) (lines_of rest) (length_line (last_fall p.fall rest) micros)
     ∙ ap (λ qs. text ++ lines_after last qs micros) (sym cut)))
-
--- all pulses written
-pub all_put : (i micros last : ℕ) (ps : List Pulse) → length ps ≤ i → lines_after last (drop i ps) micros ≡ length_line last micros
-all_put i micros last ps done = ap (λ qs. lines_after last qs micros) (drop_all i ps done)
