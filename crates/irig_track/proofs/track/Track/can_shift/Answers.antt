@@ -6,12 +6,18 @@ use Rattle.irig_track.specs.Free.{first_or}
 use Rattle.irig_track.specs.Shifts.{ahead, back}
 use Rattle.irig_track.proofs.Allowed.{shift_stands, stands_shift}
 use Rattle.irig_track.proofs.track.Track.can_shift.Goals as goal
+use Rattle.irig_track.proofs.track.Track.can_shift.Goals.{After-back_of-back}
+
+-- how far the pulses move
+distances : (c : After-back_of-back)
+    → (c.ahead_of.result ≡ ahead c.args.by) × (c.ahead_of-2.result ≡ ahead c.args.by) × (c.back_of-back.result ≡ back c.args.by)
+distances c =
+    let same = to_z-of_z w64 c.args.by c.ranges.by in
+    (c.ahead_of.ensures.distance ∙ ap ahead same, c.ahead_of-2.ensures.distance ∙ ap ahead same, c.back_of-back.ensures.distance ∙ ap back same)
 
 pub returns-then-free_from-back : goal.returns-then-free_from-back
 returns-then-free_from-back c =
-    let on : c.ahead_of.result ≡ ahead c.args.by = c.ahead_of.ensures.distance ∙ ap ahead (to_z-of_z w64 c.args.by c.ranges.by) in
-    let on2 : c.ahead_of-2.result ≡ ahead c.args.by = c.ahead_of-2.ensures.distance ∙ ap ahead (to_z-of_z w64 c.args.by c.ranges.by) in
-    let off : c.back_of-back.result ≡ back c.args.by = c.back_of-back.ensures.distance ∙ ap back (to_z-of_z w64 c.args.by c.ranges.by) in
+    let by = distances (goal.at.returns-then-free_from-back c).After-back_of-back in
     let ps = c.args.self.now.pulses in let micros = c.args.self.now.micros in
     let order : c.args.i ≤ c.args.j = omega arith in let there : c.args.j < length ps = omega arith in (
       λ e. let late = ltb-true _ _ e in
@@ -26,9 +32,7 @@ returns-then-free_from-back c =
 
 pub returns-else-free_from-back : goal.returns-else-free_from-back
 returns-else-free_from-back c =
-    let on : c.ahead_of.result ≡ ahead c.args.by = c.ahead_of.ensures.distance ∙ ap ahead (to_z-of_z w64 c.args.by c.ranges.by) in
-    let on2 : c.ahead_of-2.result ≡ ahead c.args.by = c.ahead_of-2.ensures.distance ∙ ap ahead (to_z-of_z w64 c.args.by c.ranges.by) in
-    let off : c.back_of-back.result ≡ back c.args.by = c.back_of-back.ensures.distance ∙ ap back (to_z-of_z w64 c.args.by c.ranges.by) in
+    let by = distances (goal.at.returns-else-free_from-back c).After-back_of-back in
     let ps = c.args.self.now.pulses in let micros = c.args.self.now.micros in
     let order : c.args.i ≤ c.args.j = omega arith in let there : c.args.j < length ps = omega arith in (
       λ e. absurd (omega (arith, leb-true _ _ e)),
