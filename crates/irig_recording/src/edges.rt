@@ -7,11 +7,9 @@ ghost use Rattle.irig_recording.specs.Pulses.{edges_of};
 ghost use Rattle.irig_recording.specs.Recording.{is_even_long};
 
 use crate::pulse::Pulse;
+use crate::recording::PULSES_LIMIT;
 use std::alloc::{AllocError, Global};
 use std::marker::Model;
-
-/// The most pulses of a recording.
-const PULSES_LIMIT: usize = 1 << 22;
 
 /// How many pulses a first block has room for.
 const FIRST_ROOM: usize = 1024;

@@ -9,5 +9,5 @@ mod writer;
 
 pub use edges::Edges;
 pub use pulse::Pulse;
-pub use recording::Recording;
+pub use recording::{PULSES_LIMIT, Recording};
 pub use writer::{TextWriter, text};

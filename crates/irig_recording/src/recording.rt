@@ -14,8 +14,11 @@ use std::marker::Model;
 /// The most microseconds of a recording.
 pub const LENGTH_LIMIT: u64 = 1 << 40;
 
-/// The most edges of a recording: two for each of 2^22 pulses.
-const EDGES_LIMIT: usize = 1 << 23;
+/// The most pulses of a recording.
+pub const PULSES_LIMIT: usize = 1 << 22;
+
+/// The most edges of a recording: two for each pulse.
+const EDGES_LIMIT: usize = 2 * PULSES_LIMIT;
 
 /// What is kept of one wire: a length, and the pulses, whose edges are the times at which the level
 /// changes, all in microseconds.

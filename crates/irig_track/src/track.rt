@@ -9,13 +9,10 @@ ghost use Rattle.irig_track.specs.Splices.{risen_by, ended_before};
 ghost use Rattle.irig_track.specs.Track.{IsTrack};
 
 use irig_gap::Gap;
-use irig_recording::{Pulse, Recording};
+use irig_recording::{PULSES_LIMIT, Pulse, Recording};
 use irig_text::whole;
 use std::alloc::{AllocError, Global};
 use std::marker::Model;
-
-/// The most pulses of a track.
-const PULSES_LIMIT: usize = 1 << 22;
 
 /// How many more pulses than it has a new track has room for, at least.
 const NEW_SPARE: usize = 1024;
