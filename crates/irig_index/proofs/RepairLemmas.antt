@@ -160,6 +160,20 @@ pub length-filled : (g h : GapView Record) (rs : List Record) → left_of h ≡ 
 length-filled g h rs left right =
     omega (arith, ap length left, length-append (left_of g) rs, ap length right, length-sides g, length-sides h)
 
+-- the records round a gap, with some more in it, are the frames of a track
+pub record Filled (f : FormatView) (ps : List Pulse) (number : ℕ) (g : GapView Record) (rs : List Record) : Type 0 where
+  pub shows : (h : GapView Record) → left_of h ≡ left_of g ++ rs → kept_right h ≡ kept_right g → shown number h ≡ frames f ps
+
+-- how many frames there then are
+pub frames_long : (f : FormatView) (ps : List Pulse) (number : ℕ) (g : GapView Record) (rs : List Record) → Filled f ps number g rs
+    → length (frames f ps) ≡ length g.items + length rs
+frames_long f ps number g rs filled =
+    let front = left_of g ++ rs in
+    let h = gap_view (front ++ kept_right g) (length front) 0 in
+    let left : left_of h ≡ front = take-append_seam front (kept_right g) in
+    let kept : kept_right h ≡ kept_right g = drop-append_seam front (kept_right g) in
+    omega (arith, ap length (filled.shows h left kept), length-shown number h, length-filled g h rs left kept)
+
 -- an edited track: the records of the window, between those that stay
 module _ (f : FormatView) (at gone come micros : ℕ) (records : List Record) (ps : List Pulse) (were : WereFrames f at gone come records micros ps)
     (few : length ps ≤ 2 ^ 22) (small : gone < 2 ^ 64) (from count : ℕ)
@@ -246,31 +260,20 @@ module _ (f : FormatView) (at gone come micros : ℕ) (records : List Record) (p
       sides_so : (s w r : List Record) → Parts from (length before + length went) told s w r → (left_of g ≡ s) × (right_of pulses g ≡ r)
       sides_so = subst (λ (n : ℕ). (s w r : List Record) → Parts from n told s w r → (left_of g ≡ s) × (right_of pulses g ≡ r)) last_gone sides
 
-      pub repaired : (number : ℕ) (h : GapView Record) → left_of h ≡ left_of g ++ records_in f ps place (to - place)
-          → kept_right h ≡ kept_right g → number ≡ ((pulses + (2 ^ 64 - gone)) % 2 ^ 64 + come) % 2 ^ 64 → shown number h ≡ frames f ps
-      repaired number h left kept is =
-          let same : number ≡ ((pulses + (2 ^ 64 - length went)) % 2 ^ 64 + length came) % 2 ^ 64 =
-          is ∙ λ i. ((pulses + (2 ^ 64 - sym went_long i)) % 2 ^ 64 + sym came_long i) % 2 ^ 64 in
-          ap (λ n. shown n h) same
-          ∙ (repaired_parts f before went came after from count order records stood_so ends begins told told_so
-          pulses g (omega (arith, went_long, small)) fits sides_so
-          h (left ∙ ap (λ rs. left_of g ++ rs) window) kept
-          ∙ ap (frames f) (sym whole))
+      -- the records that stay, with those of the window between them, are the frames
+      pub repaired : Filled f ps (((pulses + (2 ^ 64 - gone)) % 2 ^ 64 + come) % 2 ^ 64) g (records_in f ps place (to - place))
+      repaired = record {
+        shows = λ h left kept. (λ i. shown (((pulses + (2 ^ 64 - sym went_long i)) % 2 ^ 64 + sym came_long i) % 2 ^ 64) h)
+            ∙ (repaired_parts f before went came after from count order records stood_so ends begins told told_so
+            pulses g (omega (arith, went_long, small)) fits sides_so
+            h (left ∙ ap (λ rs. left_of g ++ rs) window) kept
+            ∙ ap (frames f) (sym whole));
+      }
 
-      -- how many frames an edited track has: those that stay, and those of the window
-      pub frames_long : length (frames f ps) ≡ length g.items + length (records_in f ps place (to - place))
-      frames_long =
-          let front = left_of g ++ records_in f ps place (to - place) in
-          let h = gap_view (front ++ kept_right g) (length front) 0 in
-          let left : left_of h ≡ front = take-append_seam front (kept_right g) in
-          let kept : kept_right h ≡ kept_right g = drop-append_seam front (kept_right g) in
-          let number = ((pulses + (2 ^ 64 - gone)) % 2 ^ 64 + come) % 2 ^ 64 in
-          omega (
-            arith,
-            ap length (repaired number h left kept refl),
-            length-shown number h,
-            length-filled g h (records_in f ps place (to - place)) left kept,
-          )
+-- the records of an index, as they are kept, were frames
+pub were_kept : (f : FormatView) (at gone come micros : ℕ) (ps : List Pulse) (g : GapView Record) (pulses looks : ℕ) (v : IndexView)
+    → index_view g pulses looks ≡ v → WereFrames f at gone come v.records micros ps → WereFrames f at gone come (shown pulses g) micros ps
+were_kept f at gone come micros ps g pulses looks v is were = subst (λ (w : IndexView). WereFrames f at gone come w.records micros ps) (sym is) were
 
 -- the room of an index
 pub all_room : (g : GapView Record) (pulses looks : ℕ) (v : IndexView) → index_view g pulses looks ≡ v → length g.items ≤ g.capacity

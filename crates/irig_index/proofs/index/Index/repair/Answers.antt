@@ -1,13 +1,14 @@
-use Rattle.std.proofs.Common.{◌≡◌, ℕ, ◌-◌, ◌+◌, ◌*◌, ◌%◌, ◌^◌, ◌≤◌, ◌<◌, ◌++◌, [], length, min, take, refl, ap, subst, ◌∙◌, sym, arith}
-use Rattle.irig_index.specs.Frames.{record_after, records_in}
-use Rattle.irig_index.specs.Index.{WereFrames}
+use Rattle.std.proofs.Common.{◌≡◌, ◌-◌, ◌+◌, ◌*◌, ◌%◌, ◌^◌, length, min, take, ap, subst, ◌∙◌, sym, arith}
+use Rattle.irig_index.specs.Frames.{records_in}
 use Rattle.irig_index.specs.Looked.{Looked}
-use Rattle.irig_index.specs.Sides.{left_of, shown}
+use Rattle.irig_index.specs.Sides.{shown}
 use Rattle.irig_index.specs.Stale.{LastMayBeStale}
 use Rattle.irig_index.proofs.LookLemmas.{looked_more}
-use Rattle.irig_index.proofs.RepairLemmas.{all_room, frames_long, kept_in_place, length-filled, repaired, stale}
+use Rattle.irig_index.proofs.PlaceLemmas.{passed_in}
+use Rattle.irig_index.proofs.RepairLemmas.{Filled, all_room, frames_long, kept_in_place, length-filled, repaired, stale, were_kept}
 use Rattle.irig_index.proofs.SideLemmas.{length-shown}
 use Rattle.irig_index.proofs.index.Index.repair.Goals as goal
+use Rattle.irig_index.proofs.index.Index.repair.Goals.{After-cut_out}
 
 pub retell_up_to-some_go-requires : goal.retell_up_to-some_go-requires
 retell_up_to-some_go-requires c = λ count before after.
@@ -15,28 +16,21 @@ retell_up_to-some_go-requires c = λ count before after.
     let e = c.args.edit in
     let ps = c.args.lens.now.track.pulses in
     let all = shown c.self.inside.pulses c.self.inside.records in
-    let were = subst (λ rs. WereFrames f e.at e.old e.new rs c.args.lens.now.track.micros ps) (sym (ap (λ v. v.records) c.self.view_is)) c.requires.were in
     let settled : e.at - 100 ≡ c.saturating_sub-from.result - 99 = omega (arith, c.saturating_sub-from.ensures) in
     subst (λ n. LastMayBeStale f ps n (take count all)) settled
-    (stale f e.at e.old e.new c.args.lens.now.track.micros all ps were c.last_place-to.ensures.few (omega arith) c.saturating_sub-from.result count
-    c.saturating_sub-from.ensures before after)
+    (stale f e.at e.old e.new _ all ps (were_kept _ _ _ _ _ _ _ _ _ _ c.self.view_is c.requires.were) c.last_place-to.ensures.few (omega arith)
+    c.saturating_sub-from.result count c.saturating_sub-from.ensures before after)
 
 pub returns-then-not-some_go-clause-frames : goal.returns-then-not-some_go-clause-frames
 returns-then-not-some_go-clause-frames c =
-    let f = c.args.format in
     let e = c.args.edit in
-    let ps = c.args.lens.now.track.pulses in
-    let all = shown c.self.inside.pulses c.self.inside.records in
-    let were = subst (λ rs. WereFrames f e.at e.old e.new rs c.args.lens.now.track.micros ps) (sym (ap (λ v. v.records) c.self.view_is)) c.requires.were in
-    let from = c.saturating_sub-from.result in
     let told = c.retell_up_to-some_go.ensures.told in
-    let to = c.last_place-to.result in
-    let place = c.next_marked-place.result in
-    let none : (k : ℕ) → from ≤ k → k < place → record_after f ps k ≡ [] =
-    λ k le lt. sym (ap (λ v. record_after f v.track.pulses k) c.retell_up_to-some_go.ensures.looked.lens) ∙ c.next_marked-place.ensures.passed.none k le lt in
-    kept_in_place f e.at e.old e.new c.args.lens.now.track.micros all ps were c.last_place-to.ensures.few (omega arith) from told.count
-    c.saturating_sub-from.ensures told.before told.after
-    to place c.last_place-to.ensures.least c.next_marked-place.ensures.passed.order c.next_marked-place.ensures.within none
+    let seen = ap (λ v. v.track.pulses) c.retell_up_to-some_go.ensures.looked.lens in
+    let passed = passed_in _ c.args.lens.now.track.pulses _ _ _ _ _ _ _ _ seen c.next_marked-place.ensures.passed in
+    kept_in_place c.args.format e.at e.old e.new _ _ c.args.lens.now.track.pulses
+    (were_kept _ _ _ _ _ _ _ _ _ _ c.self.view_is c.requires.were) c.last_place-to.ensures.few (omega arith)
+    c.saturating_sub-from.result told.count c.saturating_sub-from.ensures told.before told.after
+    c.last_place-to.result c.next_marked-place.result c.last_place-to.ensures.least passed.order c.next_marked-place.ensures.within passed.none
     (shown c.self.inside.pulses c.retell_up_to-some_go.new.records) told.told
     (omega arith) (omega arith) (told.none c.if-not-some_go.true)
 
@@ -48,59 +42,41 @@ returns-then-not-some_go-clause-looked c =
     (looked_more _ _ _ _ _ _ 100 sought most c.retell_up_to-some_go.ensures.looked c.next_marked-place.ensures.passed.looked
     (omega (arith, c.last_place-to.ensures.least, c.saturating_sub-from.ensures, c.next_marked-place.ensures.within)))
 
-pub refill-requires-clause-room : goal.refill-requires-clause-room
-refill-requires-clause-room c =
+-- the records that stay, with those of the window between them, are the frames
+filled : (c : After-cut_out) → Filled c.args.format c.args.lens.now.track.pulses
+    (((c.self.inside.pulses + (2 ^ 64 - c.args.edit.old)) % 2 ^ 64 + c.args.edit.new) % 2 ^ 64) c.cut_out.new.records
+    (records_in c.args.format c.next_marked-place.new.lens.track.pulses c.next_marked-place.result (c.last_place-to.result - c.next_marked-place.result))
+filled c =
     let f = c.args.format in
     let e = c.args.edit in
     let ps = c.args.lens.now.track.pulses in
-    let all = shown c.self.inside.pulses c.self.inside.records in
-    let were = subst (λ rs. WereFrames f e.at e.old e.new rs c.args.lens.now.track.micros ps) (sym (ap (λ v. v.records) c.self.view_is)) c.requires.were in
-    let from = c.saturating_sub-from.result in
     let told = c.retell_up_to-some_go.ensures.told in
-    let to = c.last_place-to.result in
+    let seen = ap (λ v. v.track.pulses) c.retell_up_to-some_go.ensures.looked.lens in
+    let passed = passed_in _ ps _ _ _ _ _ _ _ _ seen c.next_marked-place.ensures.passed in
     let place = c.next_marked-place.result in
-    let none : (k : ℕ) → from ≤ k → k < place → record_after f ps k ≡ [] =
-    λ k le lt. sym (ap (λ v. record_after f v.track.pulses k) c.retell_up_to-some_go.ensures.looked.lens) ∙ c.next_marked-place.ensures.passed.none k le lt in
-    let seen = ap (λ v. v.track.pulses) c.next_marked-place.ensures.passed.looked.lens ∙ ap (λ v. v.track.pulses) c.retell_up_to-some_go.ensures.looked.lens in
-    let room = all_room c.self.inside.records c.self.inside.pulses c.self.inside.looks c.args.self.now c.self.view_is c.retell_up_to-some_go.ensures.within in
-    let long = frames_long f e.at e.old e.new c.args.lens.now.track.micros all ps were c.last_place-to.ensures.few (omega arith) from told.count
-    c.saturating_sub-from.ensures told.before told.after
-    to place c.last_place-to.ensures.least c.next_marked-place.ensures.passed.order c.next_marked-place.ensures.within none
+    let to = c.last_place-to.result in
+    let wrapped = ((c.self.inside.pulses + (2 ^ 64 - e.old)) % 2 ^ 64 + e.new) % 2 ^ 64 in
+    subst (λ qs. Filled f ps wrapped c.cut_out.new.records (records_in f qs place (to - place)))
+    (sym (ap (λ v. v.track.pulses) passed.looked.lens ∙ seen))
+    (repaired f e.at e.old e.new _ _ ps (were_kept _ _ _ _ _ _ _ _ _ _ c.self.view_is c.requires.were) c.last_place-to.ensures.few (omega arith)
+    c.saturating_sub-from.result told.count c.saturating_sub-from.ensures told.before told.after
+    to place c.last_place-to.ensures.least passed.order c.next_marked-place.ensures.within passed.none
     (shown c.self.inside.pulses c.retell_up_to-some_go.new.records) told.told
-    c.self.inside.pulses c.cut_out.new.records c.cut_out.ensures.sides in
-    omega (
-      arith,
-      long,
-      room,
-      ap (λ qs. length (records_in f qs place (to - place))) seen,
-      c.requires.room,
-      c.retell_up_to-some_go.ensures.length,
-      c.retell_up_to-some_go.ensures.capacity,
-      c.cut_out.ensures.capacity,
-    )
+    c.self.inside.pulses c.cut_out.new.records c.cut_out.ensures.sides)
+
+pub refill-requires-clause-room : goal.refill-requires-clause-room
+refill-requires-clause-room c = omega (
+  arith,
+  frames_long _ _ _ _ _ (filled (goal.at.refill-requires-clause-room c).After-cut_out),
+  all_room c.self.inside.records c.self.inside.pulses c.self.inside.looks c.args.self.now c.self.view_is c.retell_up_to-some_go.ensures.within,
+  c.requires.room,
+  c.retell_up_to-some_go.ensures.length,
+  c.retell_up_to-some_go.ensures.capacity,
+  c.cut_out.ensures.capacity,
+)
 
 pub returns-clause-frames : goal.returns-clause-frames
-returns-clause-frames c =
-    let f = c.args.format in
-    let e = c.args.edit in
-    let ps = c.args.lens.now.track.pulses in
-    let all = shown c.self.inside.pulses c.self.inside.records in
-    let were = subst (λ rs. WereFrames f e.at e.old e.new rs c.args.lens.now.track.micros ps) (sym (ap (λ v. v.records) c.self.view_is)) c.requires.were in
-    let from = c.saturating_sub-from.result in
-    let told = c.retell_up_to-some_go.ensures.told in
-    let to = c.last_place-to.result in
-    let place = c.next_marked-place.result in
-    let none : (k : ℕ) → from ≤ k → k < place → record_after f ps k ≡ [] =
-    λ k le lt. sym (ap (λ v. record_after f v.track.pulses k) c.retell_up_to-some_go.ensures.looked.lens) ∙ c.next_marked-place.ensures.passed.none k le lt in
-    let seen = ap (λ v. v.track.pulses) c.next_marked-place.ensures.passed.looked.lens ∙ ap (λ v. v.track.pulses) c.retell_up_to-some_go.ensures.looked.lens in
-    let left : left_of c.refill.new.records ≡ left_of c.cut_out.new.records ++ records_in f ps place (to - place) =
-    c.refill.ensures.left ∙ ap (λ qs. left_of c.cut_out.new.records ++ records_in f qs place (to - place)) seen in
-    repaired f e.at e.old e.new c.args.lens.now.track.micros all ps were c.last_place-to.ensures.few (omega arith) from told.count
-    c.saturating_sub-from.ensures told.before told.after
-    to place c.last_place-to.ensures.least c.next_marked-place.ensures.passed.order c.next_marked-place.ensures.within none
-    (shown c.self.inside.pulses c.retell_up_to-some_go.new.records) told.told
-    c.self.inside.pulses c.cut_out.new.records c.cut_out.ensures.sides
-    _ c.refill.new.records left c.refill.ensures.right refl
+returns-clause-frames c = (filled (goal.at.returns-clause-frames c).After-cut_out).shows c.refill.new.records c.refill.ensures.left c.refill.ensures.right
 
 pub returns-clause-room : goal.returns-clause-room
 returns-clause-room c =
