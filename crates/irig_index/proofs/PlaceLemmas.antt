@@ -5,7 +5,9 @@ use Rattle.irig_codes.specs.Format.{FormatView}
 use Rattle.irig_recording.specs.declared.pulse.Pulse.{Pulse}
 use Rattle.irig_track.specs.Looks.{LensView}
 use Rattle.irig_index.specs.declared.record.Record.{Record}
+use Rattle.irig_index.specs.Checked.{Checked}
 use Rattle.irig_index.specs.Frames.{frame_at, record_after, records_in}
+use Rattle.irig_index.specs.Looked.{Looked}
 use Rattle.irig_index.specs.Marker.{class_at, is_position}
 use Rattle.irig_index.specs.Passed.{Passed, StandsAfter}
 use Rattle.irig_index.specs.Verdict.{verdict_of}
@@ -49,10 +51,21 @@ window_none f ps from place next order more none =
     ap (λ n. records_in f ps from (n - from)) is
     ∙ window_more f ps from place (next - place) order (λ k le lt. none k le (omega (arith, lt, is)))
 
--- the same track, under another name
-pub passed_in : (f : FormatView) (ps qs : List Pulse) (first next besides : ℕ) (a b : LensView) (l m : ℕ) → qs ≡ ps
-    → Passed f qs first next besides a b l m → Passed f ps first next besides a b l m
-passed_in f ps qs first next besides a b l m same passed = subst (λ rs. Passed f rs first next besides a b l m) same passed
+-- what is known of the pulses after some looks is known of those before them
+module _ {a b : LensView} {l m most : ℕ} (seen : Looked a b l m most) where
+  pub same_pulses : b.track.pulses ≡ a.track.pulses
+  same_pulses = ap (λ v. v.track.pulses) seen.lens
+
+  pub passed_in : {f : FormatView} {first next besides : ℕ} {c d : LensView} {n o : ℕ}
+      → Passed f b.track.pulses first next besides c d n o → Passed f a.track.pulses first next besides c d n o
+  passed_in {f} {first} {next} {besides} {c} {d} {n} {o} passed = subst (λ ps. Passed f ps first next besides c d n o) same_pulses passed
+
+  pub found_in : {f : FormatView} {before : ℕ} {p : Pulse} → StandsAfter f b.track.pulses before p → StandsAfter f a.track.pulses before p
+  found_in {f} {before} {p} found = subst (λ ps. StandsAfter f ps before p) same_pulses found
+
+  pub checked_in : {f : FormatView} {marker : ℕ} {c d : LensView} {n o : ℕ}
+      → Checked f b.track.pulses marker c d n o → Checked f a.track.pulses marker c d n o
+  checked_in {f} {marker} {c} {d} {n} {o} check = subst (λ ps. Checked f ps marker c d n o) same_pulses check
 
 -- the record of the marker after a place
 abbrev pub found_record : FormatView → List Pulse → ℕ → Record

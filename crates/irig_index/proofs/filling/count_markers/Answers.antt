@@ -1,9 +1,8 @@
-use Rattle.std.proofs.Common.{◌≡◌, ◌+◌, ◌*◌, ◌-◌, [], ◌∷◌, length, ap, sym, subst, ◌∙◌, arith, length-append}
+use Rattle.std.proofs.Common.{◌≡◌, ◌+◌, ◌*◌, ◌-◌, [], ◌∷◌, length, ap, sym, ◌∙◌, arith, length-append}
 use Rattle.irig_index.specs.Frames.{records_in}
-use Rattle.irig_index.specs.Passed.{StandsAfter}
 use Rattle.irig_index.proofs.FrameLemmas.{records_in-none}
 use Rattle.irig_index.proofs.LookLemmas.{looked_more, looked_none}
-use Rattle.irig_index.proofs.PlaceLemmas.{found_record, passed_in, window_found, window_none}
+use Rattle.irig_index.proofs.PlaceLemmas.{found_in, found_record, passed_in, window_found, window_none}
 use Rattle.irig_index.proofs.filling.count_markers.Goals as goal
 
 pub loop-before-init : goal.loop-before-init
@@ -21,9 +20,8 @@ loop-before-preserved c =
     let place = c.loop-before.place in
     let before = c.in-Some.before in
     let so_far = c.loop-before.invariant in
-    let seen = ap (λ v. v.track.pulses) so_far.looked.lens in
-    let passed = passed_in f ps _ place before 2 _ _ _ _ seen c.in-Some.ensures.passed in
-    let found = subst (λ qs. StandsAfter f qs before c.in-Some.field-0-1) seen c.in-Some.ensures.found.1 in
+    let passed = passed_in so_far.looked c.in-Some.ensures.passed in
+    let found = found_in so_far.looked c.in-Some.ensures.found.1 in
     let next = ap length (window_found f ps 0 place before c.in-Some.field-0-1 (omega arith) passed.order passed.none found) in
     record {
       looked = looked_more _ _ _ _ _ _ (2 * place) (2 * (before - place) + 2) (2 * (before + 1)) so_far.looked passed.looked (omega (arith, passed.order));
@@ -38,8 +36,7 @@ returns-clause-count c =
     let ps = c.args.lens.now.track.pulses in
     let so_far = c.loop-before.invariant in
     let to = c.saturating_sub-to.result in
-    let seen = ap (λ v. v.track.pulses) so_far.looked.lens in
-    let passed = passed_in f ps _ c.loop-before.place to 0 _ _ _ _ seen c.in_default.ensures.passed in
+    let passed = passed_in so_far.looked c.in_default.ensures.passed in
     let all : to - 0 ≡ length ps - 1 = omega (arith, c.saturating_sub-to.ensures, c.len.ensures.len) in
     so_far.count
     ∙ (ap length (sym (window_none f ps 0 c.loop-before.place to (omega arith) passed.order passed.none))

@@ -4,7 +4,6 @@ use Rattle.irig_codes.specs.Format.{FormatView}
 use Rattle.irig_gap.specs.Items.{GapView}
 use Rattle.irig_recording.specs.declared.pulse.Pulse.{Pulse}
 use Rattle.irig_index.specs.declared.record.Record.{Record}
-use Rattle.irig_index.specs.Checked.{Checked}
 use Rattle.irig_index.specs.Frames.{frame_at, record_after, records_in}
 use Rattle.irig_index.specs.Kept.{IsNarrow}
 use Rattle.irig_index.specs.Passed.{StandsAfter}
@@ -13,7 +12,7 @@ use Rattle.irig_index.specs.Verdict.{verdict_of}
 use Rattle.irig_index.proofs.FrameLemmas.{records_in-le, records_in-none}
 use Rattle.irig_index.proofs.LookLemmas.{looked_up}
 use Rattle.irig_index.proofs.NarrowVerdicts.{narrow-verdict_of}
-use Rattle.irig_index.proofs.PlaceLemmas.{found_record, passed_in, window_found, window_none}
+use Rattle.irig_index.proofs.PlaceLemmas.{checked_in, found_in, found_record, passed_in, same_pulses, window_found, window_none}
 use Rattle.irig_index.proofs.SideLemmas.{length-sides}
 use Rattle.irig_index.proofs.LookBounds.{spent_all, spent_checked, spent_none, spent_on, spent_passed}
 use Rattle.irig_index.proofs.filling.fill.Goals as goal
@@ -59,16 +58,14 @@ loop-before-preserved c =
     let before = c.in-Some.before in
     let first = c.in-Some.first in
     let so_far = c.loop-before.invariant in
-    let seen = ap (λ v. v.track.pulses) so_far.spent.looked.lens in
-    let seen_then = ap (λ v. v.track.pulses) c.in-Some.ensures.passed.looked.lens ∙ seen in
-    let passed = passed_in f ps _ c.loop-before.place before 2 _ _ _ _ seen c.in-Some.ensures.passed in
-    let found = subst (λ qs. StandsAfter f qs before first) seen c.in-Some.ensures.found.1 in
-    let check = subst (λ qs. Checked f qs (before + 1) c.next_marker.new.lens c.verdict-verdict.new.lens c.next_marker.new.looks c.verdict-verdict.new.looks)
-    seen_then c.verdict-verdict.ensures.looked in
-    let verdict = c.verdict-verdict.ensures.verdict ∙ ap (λ qs. verdict_of f (frame_at qs (before + 1))) seen_then in
+    let passed = passed_in so_far.spent.looked c.in-Some.ensures.passed in
+    let found = found_in so_far.spent.looked c.in-Some.ensures.found.1 in
+    let check = checked_in so_far.spent.looked (checked_in passed.looked c.verdict-verdict.ensures.looked) in
+    let seen = same_pulses passed.looked ∙ same_pulses so_far.spent.looked in
+    let verdict = c.verdict-verdict.ensures.verdict ∙ ap (λ qs. verdict_of f (frame_at qs (before + 1))) seen in
     let next = c.next_place-place.result in
     let alone : (k : ℕ) → before + 1 ≤ k → k < next → record_after f ps k ≡ [] =
-    λ k from to. ap (λ qs. record_after f qs k) (sym seen_then) ∙ c.verdict-verdict.ensures.alone k from (c.next_place-place.ensures.near k from to) in
+    λ k from to. ap (λ qs. record_after f qs k) (sym seen) ∙ c.verdict-verdict.ensures.alone k from (c.next_place-place.ensures.near k from to) in
     record {
       spent = spent_on f ps c.args.from (before + 1) next _ _ _ _ c.next_place-place.ensures.order
           (spent_checked f ps c.args.from place before _ _ _ _ _ _ _ _ so_far.spent passed check (some_after f ps before first found));
@@ -93,9 +90,8 @@ returns-in_err-put-clause-room c = λ enough.
     let ps = c.args.lens.now.track.pulses in
     let before = c.in-Some.before in
     let so_far = c.loop-before.invariant in
-    let seen = ap (λ v. v.track.pulses) so_far.spent.looked.lens in
-    let passed = passed_in f ps _ c.loop-before.place before 2 _ _ _ _ seen c.in-Some.ensures.passed in
-    let found = subst (λ qs. StandsAfter f qs before c.in-Some.first) seen c.in-Some.ensures.found.1 in
+    let passed = passed_in so_far.spent.looked c.in-Some.ensures.passed in
+    let found = found_in so_far.spent.looked c.in-Some.ensures.found.1 in
     let room = c.in_err-put.ensures.room (fits f ps c.args.from c.loop-before.place before c.args.to _ _ c.in-Some.first so_far.spent.order passed.order
     c.in-Some.ensures.found.0 passed.none found
     so_far.left so_far.right enough (so_far.room enough)) in
@@ -107,12 +103,9 @@ returns-in_err-put-clause-looked c =
     let ps = c.args.lens.now.track.pulses in
     let before = c.in-Some.before in
     let so_far = c.loop-before.invariant in
-    let seen = ap (λ v. v.track.pulses) so_far.spent.looked.lens in
-    let seen_then = ap (λ v. v.track.pulses) c.in-Some.ensures.passed.looked.lens ∙ seen in
-    let passed = passed_in f ps _ c.loop-before.place before 2 _ _ _ _ seen c.in-Some.ensures.passed in
-    let found = subst (λ qs. StandsAfter f qs before c.in-Some.first) seen c.in-Some.ensures.found.1 in
-    let check = subst (λ qs. Checked f qs (before + 1) c.next_marker.new.lens c.verdict-verdict.new.lens c.next_marker.new.looks c.verdict-verdict.new.looks)
-    seen_then c.verdict-verdict.ensures.looked in
+    let passed = passed_in so_far.spent.looked c.in-Some.ensures.passed in
+    let found = found_in so_far.spent.looked c.in-Some.ensures.found.1 in
+    let check = checked_in so_far.spent.looked (checked_in passed.looked c.verdict-verdict.ensures.looked) in
     let spent = spent_checked f ps c.args.from c.loop-before.place before _ _ _ _ _ _ _ _ so_far.spent passed check
     (some_after f ps before c.in-Some.first found) in
     let w = c.args.to - c.args.from in
@@ -123,8 +116,7 @@ returns-clause-left c =
     let f = c.args.format in
     let ps = c.args.lens.now.track.pulses in
     let so_far = c.loop-before.invariant in
-    let seen = ap (λ v. v.track.pulses) so_far.spent.looked.lens in
-    let passed = passed_in f ps _ c.loop-before.place c.args.to 0 _ _ _ _ seen c.in_default.ensures.passed in
+    let passed = passed_in so_far.spent.looked c.in_default.ensures.passed in
     so_far.left ∙ ap (λ rs. left_of c.args.records.now ++ rs)
     (sym (window_none f ps c.args.from c.loop-before.place c.args.to so_far.spent.order passed.order passed.none))
 
@@ -133,6 +125,5 @@ returns-clause-looked c =
     let f = c.args.format in
     let ps = c.args.lens.now.track.pulses in
     let so_far = c.loop-before.invariant in
-    let seen = ap (λ v. v.track.pulses) so_far.spent.looked.lens in
-    let passed = passed_in f ps _ c.loop-before.place c.args.to 0 _ _ _ _ seen c.in_default.ensures.passed in
+    let passed = passed_in so_far.spent.looked c.in_default.ensures.passed in
     spent_all f ps c.args.from c.args.to _ _ _ _ (spent_passed f ps c.args.from c.loop-before.place c.args.to _ _ _ _ _ _ so_far.spent passed)

@@ -4,7 +4,7 @@ use Rattle.irig_index.specs.Looked.{Looked}
 use Rattle.irig_index.specs.Sides.{shown}
 use Rattle.irig_index.specs.Stale.{LastMayBeStale}
 use Rattle.irig_index.proofs.LookLemmas.{looked_more}
-use Rattle.irig_index.proofs.PlaceLemmas.{passed_in}
+use Rattle.irig_index.proofs.PlaceLemmas.{passed_in, same_pulses}
 use Rattle.irig_index.proofs.RepairLemmas.{Filled, all_room, frames_long, kept_in_place, length-filled, repaired, stale, were_kept}
 use Rattle.irig_index.proofs.SideLemmas.{length-shown}
 use Rattle.irig_index.proofs.index.Index.repair.Goals as goal
@@ -25,8 +25,7 @@ pub returns-then-not-some_go-clause-frames : goal.returns-then-not-some_go-claus
 returns-then-not-some_go-clause-frames c =
     let e = c.args.edit in
     let told = c.retell_up_to-some_go.ensures.told in
-    let seen = ap (λ v. v.track.pulses) c.retell_up_to-some_go.ensures.looked.lens in
-    let passed = passed_in _ c.args.lens.now.track.pulses _ _ _ _ _ _ _ _ seen c.next_marked-place.ensures.passed in
+    let passed = passed_in c.retell_up_to-some_go.ensures.looked c.next_marked-place.ensures.passed in
     kept_in_place c.args.format e.at e.old e.new _ _ c.args.lens.now.track.pulses
     (were_kept _ _ _ _ _ _ _ _ _ _ c.self.view_is c.requires.were) c.last_place-to.ensures.few (omega arith)
     c.saturating_sub-from.result told.count c.saturating_sub-from.ensures told.before told.after
@@ -51,13 +50,12 @@ filled c =
     let e = c.args.edit in
     let ps = c.args.lens.now.track.pulses in
     let told = c.retell_up_to-some_go.ensures.told in
-    let seen = ap (λ v. v.track.pulses) c.retell_up_to-some_go.ensures.looked.lens in
-    let passed = passed_in _ ps _ _ _ _ _ _ _ _ seen c.next_marked-place.ensures.passed in
+    let passed = passed_in c.retell_up_to-some_go.ensures.looked c.next_marked-place.ensures.passed in
     let place = c.next_marked-place.result in
     let to = c.last_place-to.result in
     let wrapped = ((c.self.inside.pulses + (2 ^ 64 - e.old)) % 2 ^ 64 + e.new) % 2 ^ 64 in
     subst (λ qs. Filled f ps wrapped c.cut_out.new.records (records_in f qs place (to - place)))
-    (sym (ap (λ v. v.track.pulses) passed.looked.lens ∙ seen))
+    (sym (same_pulses passed.looked ∙ same_pulses c.retell_up_to-some_go.ensures.looked))
     (repaired f e.at e.old e.new _ _ ps (were_kept _ _ _ _ _ _ _ _ _ _ c.self.view_is c.requires.were) c.last_place-to.ensures.few (omega arith)
     c.saturating_sub-from.result told.count c.saturating_sub-from.ensures told.before told.after
     to place c.last_place-to.ensures.least passed.order c.next_marked-place.ensures.within passed.none
