@@ -1,7 +1,9 @@
 -- Places of lists: what is there, what is before it, and what follows.
-use Rattle.std.proofs.Common.{◌≡◌, ℕ, suc, zero, ◌+◌, ◌<◌, List, [], ◌∷◌, ◌++◌, take, drop, slice_get, Some, refl, ap, ◌∙◌, arith, add-one}
+use Rattle.std.proofs.Common.{◌≡◌, ℕ, suc, zero, ◌+◌, ◌<◌, ◌≤◌, List, [], ◌∷◌, ◌++◌, length, take, drop, insert, remove, slice_get, Some, refl, sym, ap}
+use Rattle.std.proofs.Common.{◌∙◌, arith, add-one}
+use Rattle.std.proofs.lemmas.List.{length-take-le}
 use Rattle.std.proofs.lemmas.Option.{get_or_from_slice_get, slice_get_within}
-use Rattle.std.proofs.Math.Seq.{drop-cons, take-suc}
+use Rattle.std.proofs.Math.Seq.{drop-append-add, drop-append_seam, drop-cons, take-append-add, take-append_seam, take-suc}
 
 module _ {X : Type 0} where
   -- from a place on: what is there, and what follows
@@ -31,3 +33,23 @@ module _ {X : Type 0} where
   pub take-item : (xs : List X) (k : ℕ) (x : X) → slice_get xs k ≡ Some x → take (k + 1) xs ≡ take k xs ++ x ∷ []
   take-item xs k x e = rw add-one
       (take-suc xs k x (slice_get_within xs k x e) ∙ ap (λ y. take k xs ++ y ∷ []) (get_or_from_slice_get xs k x x e))
+
+  -- what is put at a place is left of the next one
+  pub take-insert : (xs : List X) (p : ℕ) (x : X) → p ≤ length xs → take (p + 1) (insert xs p x) ≡ take p xs ++ x ∷ []
+  take-insert xs p x le = ap (λ k. take (k + 1) (insert xs p x)) (sym (length-take-le p xs le)) ∙ take-append-add (take p xs) (x ∷ drop p xs) 1
+
+  pub drop-insert : (xs : List X) (p : ℕ) (x : X) → p ≤ length xs → drop (p + 1) (insert xs p x) ≡ drop p xs
+  drop-insert xs p x le = ap (λ k. drop (k + 1) (insert xs p x)) (sym (length-take-le p xs le)) ∙ drop-append-add (take p xs) (x ∷ drop p xs) 1
+
+  -- what is removed is right of its place
+  pub take-remove : (xs : List X) (p : ℕ) → p ≤ length xs → take p (remove xs p) ≡ take p xs
+  take-remove xs p le = ap (λ k. take k (remove xs p)) (sym (length-take-le p xs le)) ∙ take-append_seam (take p xs) (drop (suc p) xs)
+
+  pub drop-remove : (xs : List X) (p : ℕ) → p ≤ length xs → drop p (remove xs p) ≡ drop (p + 1) xs
+  drop-remove xs p le = ap (λ k. drop k (remove xs p)) (sym (length-take-le p xs le)) ∙ drop-append_seam (take p xs) (drop (suc p) xs)
+      ∙ ap (λ k. drop k xs) (sym (add-one p))
+
+  pub drop-removed : (xs : List X) (p : ℕ) (x : X) → slice_get xs p ≡ Some x → drop p xs ≡ x ∷ drop p (remove xs p)
+  drop-removed xs p x e =
+      let inside = slice_get_within xs p x e in
+      drop-item xs p x e ∙ ap (λ ys. x ∷ ys) (sym (drop-remove xs p (omega arith)))

@@ -1,9 +1,8 @@
 -- A toggle turns one edge, then the other.
-use Rattle.std.proofs.Common.{◌≡◌, ℕ, suc, ◌+◌, ◌<◌, ◌≤◌, ◌≢◌, List, [], ◌∷◌, ◌++◌, length, take, drop, insert, remove, slice_get, Some, None, refl, sym}
-use Rattle.std.proofs.Common.{ap, ◌∙◌, subst, arith, add-one, append_assoc}
-use Rattle.std.proofs.lemmas.List.{take-append-drop, append-nil, length-take-le}
+use Rattle.std.proofs.Common.{◌≡◌, ℕ, ◌+◌, ◌<◌, ◌≤◌, ◌≢◌, List, [], ◌∷◌, ◌++◌, length, insert, remove, slice_get, Some, None, refl, sym}
+use Rattle.std.proofs.Common.{ap, ◌∙◌, subst, arith, append_assoc}
+use Rattle.std.proofs.lemmas.List.{take-append-drop, append-nil}
 use Rattle.std.proofs.lemmas.Option.{slice_get_within}
-use Rattle.std.proofs.Math.Seq.{take-append_seam, drop-append_seam, take-append-add, drop-append-add}
 use Rattle.irig_gap.specs.Items.{GapView, gap_view}
 use Rattle.irig_recording.specs.declared.pulse.Pulse.{Pulse}
 use Rattle.irig_recording.specs.Recording.{RisesFrom}
@@ -11,7 +10,7 @@ use Rattle.irig_track.specs.Edges.{Under, edges_of, pulse}
 use Rattle.irig_track.specs.Toggles.{flipped}
 use Rattle.irig_track.specs.Sides.{left_of, right_of, waiting, RiseUpTo, Stays, Took, Wrote, Begun, Finished}
 use Rattle.irig_recording.proofs.PulseEdges.{edges_of-append}
-use Rattle.irig_track.proofs.Items.{drop-item, slice_get-drop}
+use Rattle.irig_track.proofs.Items.{drop-insert, drop-removed, slice_get-drop, take-insert, take-remove}
 use Rattle.irig_track.proofs.RisingLists.{flip_low, flip_same, flip_high, flipped-past, Under-more, rises_right, rises_more}
 
 pub edges_of-sides : (v : GapView Pulse) → edges_of v.items ≡ edges_of (left_of v) ++ edges_of (right_of v)
@@ -70,24 +69,10 @@ pub took_step : (v : GapView Pulse) (p : Pulse) → slice_get (right_of v) 0 ≡
 took_step v p is =
     let at : slice_get v.items v.place ≡ Some p = sym (slice_get-drop v.place v.items 0 v.place (omega arith)) ∙ is in
     let lt : v.place < length v.items = slice_get_within v.items v.place p at in
-    let long : length (take v.place v.items) ≡ v.place = length-take-le v.place v.items (omega arith) in
-    let xs = take v.place v.items in
-    record {
-      left = ap (λ k. take k (remove v.items v.place)) (sym long) ∙ take-append_seam xs (drop (suc v.place) v.items);
-      right = drop-item v.items v.place p at ∙ ap (λ k. p ∷ drop k v.items) (add-one v.place) ∙ ap (λ ps. p ∷ ps)
-          (sym (ap (λ k. drop k (remove v.items v.place)) (sym long) ∙ drop-append_seam xs (drop (suc v.place) v.items)));
-      capacity = refl;
-    }
+    record { left = take-remove v.items v.place (omega arith); right = drop-removed v.items v.place p at; capacity = refl }
 
 pub wrote_step : (v : GapView Pulse) (p : Pulse) → v.place ≤ length v.items → Wrote p v (gap_view (insert v.items v.place p) (v.place + 1) v.capacity)
-wrote_step v p le =
-    let long : length (take v.place v.items) ≡ v.place = length-take-le v.place v.items le in
-    let xs = take v.place v.items in
-    record {
-      left = ap (λ k. take (k + 1) (insert v.items v.place p)) (sym long) ∙ take-append-add xs (p ∷ drop v.place v.items) 1;
-      right = ap (λ k. drop (k + 1) (insert v.items v.place p)) (sym long) ∙ drop-append-add xs (p ∷ drop v.place v.items) 1;
-      capacity = refl;
-    }
+wrote_step v p le = record { left = take-insert v.items v.place p le; right = drop-insert v.items v.place p le; capacity = refl }
 
 -- the first edge of the right is turned
 first_above : (a : ℕ) (ps : List Pulse) → ((p : Pulse) → slice_get ps 0 ≡ Some p → a < p.rise) → flipped a (edges_of ps) ≡ a ∷ edges_of ps
