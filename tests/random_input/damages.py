@@ -225,9 +225,6 @@ def stuck(rng, pulses, interval):
     pulses[at:at + many] = [[pulses[at][0], pulses[at + many - 1][1]]]
 
 
-STRETCHES = (noise, chatter, fade, stuck)
-
-
 # the whole recording
 
 

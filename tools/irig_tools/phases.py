@@ -9,7 +9,7 @@ from __future__ import annotations
 from collections import Counter
 from itertools import accumulate, cycle, islice
 from operator import add, ne
-from typing import Callable, Container, Iterable, List, Optional, Sequence, Set, Tuple
+from typing import Callable, Container, Iterable, List, Optional, Sequence, Tuple
 
 from .layout import POSITIONS
 
@@ -155,7 +155,3 @@ def turns(classes: str) -> List[Place]:
 def tells_phase(text: str) -> bool:
     """Whether just one phase fits best."""
     return len(Marks(text).best(0, 2)) == 1
-
-
-def phases_within(text: str) -> Set[int]:
-    return set(Marks(text).best(2, 20))
