@@ -1,4 +1,4 @@
-"""What both programs share: their arguments, where the track comes from, and how they end."""
+"""What the programs share: arguments, where the track comes from, and how they end."""
 from __future__ import annotations
 
 import gc
@@ -83,19 +83,26 @@ def kept(options: Sequence[str]) -> Iterator[List[str]]:
         yield [*options[:-1], copy.name]
 
 
-def run(
+def run_on_track(
     program: str, usage: str, own: Sequence[str], work: Callable[[Arguments], int], flags: Sequence[str] = ()
 ) -> int:
+    """Runs a program whose arguments are the editor's and some options of its own."""
+    gc.disable()  # millions of numbers, and nothing that refers to itself
+    return run(program, usage, lambda words: work(parse(words, own, flags)))
+
+
+def run(program: str, usage: str, work: Callable[[Sequence[str]], int]) -> int:
     """Runs a program: its help, its complaints, and its end if nobody reads what it prints."""
     if hasattr(signal, "SIGPIPE"):
         signal.signal(signal.SIGPIPE, signal.SIG_DFL)
-    gc.disable()  # millions of numbers, and nothing that refers to itself
     words = sys.argv[1:]
     if "--help" in words or "-h" in words:
         print(usage, end="")
         return 0
     try:
-        return work(parse(words, own, flags))
+        status = work(words)
+        sys.stdout.flush()
+        return status
     except Usage as error:
         complain("%s (%s --help says more)" % (error, program), program)
     except Problem as error:
@@ -103,12 +110,9 @@ def run(
     except KeyboardInterrupt:
         return 130
     except OSError as error:
-        complain(_of_file(error), program)
+        named = "%s: " % error.filename if error.filename else ""
+        complain(named + str(error.strerror or error), program)
     return NOT_READ
-
-
-def _of_file(error: OSError) -> str:
-    return "%s: %s" % (error.filename, error.strerror) if error.filename else str(error.strerror)
 
 
 def write(path: str, text: str) -> None:

@@ -4,7 +4,7 @@ from __future__ import annotations
 import os
 import sys
 
-from .command import FOUND, SOUND, Arguments, kept, run, write
+from .command import FOUND, SOUND, Arguments, kept, run_on_track, write
 from .damage import look
 from .editor import Editor, progress_to
 from .overview import sheet_of
@@ -39,7 +39,6 @@ def work(arguments: Arguments) -> int:
     if arguments.own:
         draw(arguments, sheet_of(os.path.basename(arguments.editor[-1]), seen))
     sys.stdout.write("".join(damage.line() + "\n" for damage in seen.damages))
-    sys.stdout.flush()
     return FOUND if seen.damages else SOUND
 
 
@@ -52,4 +51,4 @@ def draw(arguments: Arguments, sheet: Sheet) -> None:
 
 
 def main() -> int:
-    return run("irig_damage", USAGE, ("--page", "--picture"), work)
+    return run_on_track("irig_damage", USAGE, ("--page", "--picture"), work)

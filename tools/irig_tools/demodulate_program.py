@@ -5,10 +5,10 @@ import sys
 from typing import Iterator, Sequence, Union
 
 from .carrier import CARRIERS, Carrier
-from .command import FOUND, SOUND, Usage
+from .command import FOUND, SOUND, Usage, run
 from .cycles import Edge
 from .editor import complain
-from .options import Options, parse, run
+from .options import Options, parse
 from .samples import RAW, Samples, ranks
 
 USAGE = """\

@@ -4,7 +4,7 @@ from __future__ import annotations
 import os
 import sys
 
-from .command import FOUND, SOUND, Arguments, kept, run, write
+from .command import FOUND, SOUND, Arguments, kept, run_on_track, write
 from .damage import look
 from .editor import Editor, progress_to
 from .mend import propose, text
@@ -45,9 +45,8 @@ def work(arguments: Arguments) -> int:
                 page(sheet_of(os.path.basename(arguments.editor[-1]), look(editor, progress), script, after)),
             )
     sys.stdout.write(text(script))
-    sys.stdout.flush()
     return FOUND if script else SOUND
 
 
 def main() -> int:
-    return run("irig_mend", USAGE, ("--page",), work, ("--steady",))
+    return run_on_track("irig_mend", USAGE, ("--page",), work, ("--steady",))

@@ -1,13 +1,10 @@
-"""The options of the programs that read other files than the editor does, and how those programs end."""
+"""The options of the programs that read other files than the editor does."""
 from __future__ import annotations
 
-import signal
-import sys
 from dataclasses import dataclass, field
-from typing import Callable, Dict, List, Optional, Sequence
+from typing import Dict, List, Optional, Sequence
 
-from .command import NOT_READ, Usage
-from .editor import Problem, complain
+from .command import Usage
 
 
 @dataclass
@@ -53,27 +50,3 @@ def parse(words: Sequence[str], valued: Sequence[str], flags: Sequence[str] = ()
         else:
             found.names.append(word)
     return found
-
-
-def run(program: str, usage: str, work: Callable[[Sequence[str]], int]) -> int:
-    """Runs a program: its help, its complaints, and its end if nobody reads what it prints."""
-    if hasattr(signal, "SIGPIPE"):
-        signal.signal(signal.SIGPIPE, signal.SIG_DFL)
-    words = sys.argv[1:]
-    if "--help" in words or "-h" in words:
-        print(usage, end="")
-        return 0
-    try:
-        status = work(words)
-        sys.stdout.flush()
-        return status
-    except Usage as error:
-        complain("%s (%s --help says more)" % (error, program), program)
-    except Problem as error:
-        complain(str(error), program)
-    except KeyboardInterrupt:
-        return 130
-    except OSError as error:
-        named = "%s: " % error.filename if error.filename else ""
-        complain(named + str(error.strerror or error), program)
-    return NOT_READ

@@ -4,8 +4,8 @@ from __future__ import annotations
 import sys
 from typing import Sequence
 
-from .command import FOUND, SOUND, Usage, kept
-from .options import parse, run
+from .command import FOUND, SOUND, Usage, kept, run
+from .options import parse
 from .what import What
 
 USAGE = """\

@@ -4,9 +4,9 @@ from __future__ import annotations
 import sys
 from typing import Sequence
 
-from .command import FOUND, SOUND, Usage
+from .command import FOUND, SOUND, Usage, run
 from .editor import complain
-from .options import parse, run
+from .options import parse
 from .wire import Extract, Wish
 
 USAGE = """\
