@@ -1,8 +1,9 @@
 """What a row of the worked scripts is, and the dumps that many rows begin with."""
 from typing import NamedTuple
 
+from reference.timecode import PLACES_OF_POSITIONS
+
 HEADER = "$timescale 1 us $end $var wire 1 ! c $end $enddefinitions $end "
-POSITIONS = {0, 9, 19, 29, 39, 49, 59, 69, 79, 89, 99}
 G = "--format G"
 B_4 = "--expression 4"
 
@@ -36,7 +37,7 @@ def of_pulses(length, pulses):
 
 def frame(start, interval, ones):
     """The pulses of a frame with these elements One."""
-    tenths = [8 if e in POSITIONS else 5 if e in ones else 2 for e in range(100)]
+    tenths = [8 if e in PLACES_OF_POSITIONS else 5 if e in ones else 2 for e in range(100)]
     return [(start + e * interval, start + e * interval + tenths[e] * interval // 10) for e in range(100)]
 
 
