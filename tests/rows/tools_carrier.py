@@ -8,8 +8,9 @@ import subprocess
 import wave
 from array import array
 
+from reference import timecode
 from rows.in_process import run
-from rows.tools_what import INTERVALS, track
+from rows.tools_what import track
 
 CARRIER = {"A": 10000, "B": 1000, "E": 100}
 
@@ -17,7 +18,7 @@ CARRIER = {"A": 10000, "B": 1000, "E": 100}
 def signal(kind, rng, rate, hertz, ratio, noise, drift, fade, frames):
     """16-bit samples of some frames, and the true rises in microseconds."""
     edges, length = track(kind, frames)
-    clock, start = 1 + drift, rng.random() * INTERVALS[kind]
+    clock, start = 1 + drift, rng.random() * timecode.INTERVAL[kind]
     rises, values, place, level = [start + time for time, up in edges if up], array("h"), 0, 0
     count = int((length + start) * rate / 1000000)
     for number in range(count):

@@ -1,48 +1,29 @@
-"""Worked rows for irig_what: dumps with time code, made by an encoder of its own, and what is found in them."""
+"""Worked rows for irig_what: dumps with time code, made by the reference encoder, and what is found in them."""
 import os
 import random
 import shlex
 import subprocess
 import tempfile
 
+from reference import timecode
 from rows.in_process import run
 
-INTERVALS = {"A": 1000, "B": 10000, "E": 100000, "G": 100}  # microseconds
-IDENTIFIERS = (0, 9, 19, 29, 39, 49, 59, 69, 79, 89, 99)
-FIELDS = {"seconds": (1, 2, 3, 4, 6, 7, 8), "minutes": (10, 11, 12, 13, 15, 16, 17), "hours": (20, 21, 22, 23, 25, 26),
-          "year": (50, 51, 52, 53, 55, 56, 57, 58), "hundredths": (50, 51, 52, 53, 45, 46, 47, 48)}
+
+def frame(kind, expression, second, hundredths):
+    """The widths of a frame of day 61 of year 24, 12:34 and a second, in tenths of an interval."""
+    values = {"year": 24, "days": 61, "hours": 12, "minutes": 34, "seconds": second, "hundredths": hundredths,
+              "sbs": 45240 + second}
+    return [timecode.nominal(10, name) for name in timecode.encode(kind, expression, values)]
 
 
-def digits(elements, number):
-    """The elements that are one if a number has decimal digits of four bits there."""
-    bits = [number % 10 >> bit & 1 for bit in range(4)] + [number // 10 >> bit & 1 for bit in range(4)]
-    return {element for element, bit in zip(elements, bits) if bit}
-
-
-def frame(kind, second, hundredths=0, year=None, seconds=False):
-    """The widths of a frame of day 61, 12:34 and a second, in tenths of an interval."""
-    ones = digits(FIELDS["minutes"], 34) | digits(FIELDS["hours"], 12) | {30, 36, 37}  # day 61: 1, and 20 and 40
-    ones |= digits(FIELDS["seconds"], second)
-    if kind == "A":
-        ones |= digits(FIELDS["hundredths"][4:], hundredths // 10)
-    if kind == "G":
-        ones |= digits(FIELDS["hundredths"], hundredths)
-    if year is not None:
-        ones |= digits(FIELDS["year"], year)
-    if seconds:
-        number, places = 45240 + second, [*range(80, 89), *range(90, 98)]
-        ones |= {element for bit, element in enumerate(places) if number >> bit & 1}
-    return [8 if element in IDENTIFIERS else 5 if element in ones else 2 for element in range(100)]
-
-
-def track(kind, frames, start=0, jitter=None, **told):
+def track(kind, frames, start=0, jitter=None, expression=2):
     """The edges of a position identifier and some frames, in microseconds, and their length."""
-    step, edges = INTERVALS[kind], []
+    step, edges = timecode.INTERVAL[kind], []
     widths = [8]
     for number in range(frames):
         hundredths = number * (10 if kind == "A" else 1) if kind in "AG" else 0
         second = {"A": 20, "G": 20, "B": 20 + number, "E": 10 * (number % 6)}[kind]
-        widths += frame(kind, second, hundredths, **told)
+        widths += frame(kind, expression, second, hundredths)
     for place, width in enumerate(widths):
         rise = start + place * step + (jitter.randrange(-step // 50, step // 50) if jitter else 0)
         edges += [(rise, 1), (rise + width * step // 10, 0)]
@@ -56,7 +37,7 @@ def dump(edges, length, unit="1 us", scale=1, upside=False, declared="$var wire 
 
 
 B = track("B", 4, 30000)
-YEAR = track("B", 4, 30000, year=24, seconds=True)
+YEAR = track("B", 4, 30000, expression=7)
 SCOPES = "$scope module tb $end $var wire 1 c clock $end $var wire 1 ! irig $end $upscope $end"
 BUS = "$scope module tb $end $var wire 1 c clock $end $var reg 4 ! bus [3:0] $end $upscope $end"
 CLOCK = "".join("#%d %dc " % (i, i % 2) for i in range(3000))
