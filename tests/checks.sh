@@ -1,0 +1,21 @@
+# What tests/program, tests/start and tests/package begin with. They read this file with `.`; it is no test itself.
+# $top is the repository, $program what the first argument names, else what the gate left in crates/irig_ed/out. $work is a
+# folder that is removed at the end.
+top=$(cd -- "$(dirname -- "$(readlink -f -- "$0")")/.." && pwd) || exit 1
+program=$(readlink -f -- "${1:-$top/crates/irig_ed/out/irig_ed}")
+[ -x "$program" ] || { echo "no program at ${1:-crates/irig_ed/out/irig_ed}"; echo "0 passed, 1 failed"; exit 1; }
+work=$(mktemp -d) || exit 1
+trap 'chmod -R u+w "$work"; rm -rf "$work"' EXIT
+# nobody has to reach the folder
+chmod 755 "$work"
+passed=0
+failed=0
+# check NAME WANTED GOT
+check() {
+    if [ "$2" = "$3" ]; then
+        passed=$((passed + 1))
+    else
+        failed=$((failed + 1))
+        printf 'FAILED %s\n wanted: %s\n got:    %s\n' "$1" "$2" "$3"
+    fi
+}
