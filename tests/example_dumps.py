@@ -3,7 +3,7 @@ import glob
 import os
 import re
 
-TOP = os.path.dirname(os.path.dirname(os.path.abspath(__file__)))
+from built import TOP
 
 
 def dumps(pattern):

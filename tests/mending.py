@@ -7,8 +7,10 @@ import sys
 import tempfile
 
 sys.dont_write_bytecode = True
-TOP = os.path.dirname(os.path.dirname(os.path.abspath(__file__)))
-sys.path[:0] = [os.path.join(TOP, "tools"), os.path.join(TOP, "tests")]
+
+from built import TOP  # noqa: E402
+
+sys.path.insert(0, os.path.join(TOP, "tools"))
 
 from irig_tools import editor, mend  # noqa: E402
 from random_input import damages  # noqa: E402

@@ -1,0 +1,10 @@
+"""Where this repository is, and the program that a test runs."""
+import os
+
+TOP = os.path.dirname(os.path.dirname(os.path.abspath(__file__)))
+BUILT = os.path.join(TOP, "crates/irig_ed/out/irig_ed")
+
+
+def program_of(words):
+    """The program that the first word of a command line names, else what the gate built."""
+    return os.path.abspath(words[0]) if words else BUILT
