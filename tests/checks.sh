@@ -1,3 +1,4 @@
+#!/bin/bash
 # What tests/program, tests/start and tests/package begin with. They read this file with `.`; it is no test itself.
 # $top is the repository, $program what the first argument names, else what the gate left in crates/irig_ed/out. $work is a
 # folder that is removed at the end.
