@@ -204,10 +204,13 @@ def ends(top):
     with tempfile.TemporaryDirectory() as folder:
         whole = subprocess.run([top + "/tools/irig_wire"], stderr=subprocess.DEVNULL, check=False)
         unread = subprocess.run(["bash", "-c", "%s/tools/irig_wire --help | true" % top], check=False)
+        full = subprocess.run(
+            ["bash", "-c", "%s/tools/irig_wire --help > /dev/full" % top], capture_output=True, check=False)
         return [whole.returncode == 2, run("irig_wire", ["--help"])[0] == 0,
                 run("irig_wire", [])[0] == 2, run("irig_wire", [folder])[0] == 2,
                 run("irig_wire", [folder + "/none"])[0] == 2,
-                unread.returncode == 0]
+                unread.returncode == 0,
+                (full.returncode, full.stderr) == (2, b"irig_wire: No space left on device\n")]
 
 
 def check(top):

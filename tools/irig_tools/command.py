@@ -91,16 +91,20 @@ def run_on_track(
     return run(program, usage, lambda words: work(parse(words, own, flags)))
 
 
+def help_or(usage: str, work: Callable[[Sequence[str]], int], words: Sequence[str]) -> int:
+    """Prints the help if a word asks for it, and else works on the words."""
+    if "--help" not in words and "-h" not in words:
+        return work(words)
+    sys.stdout.write(usage)
+    return 0
+
+
 def run(program: str, usage: str, work: Callable[[Sequence[str]], int]) -> int:
     """Runs a program: its help, its complaints, and its end if nobody reads what it prints."""
     if hasattr(signal, "SIGPIPE"):
         signal.signal(signal.SIGPIPE, signal.SIG_DFL)
-    words = sys.argv[1:]
-    if "--help" in words or "-h" in words:
-        print(usage, end="")
-        return 0
     try:
-        status = work(words)
+        status = help_or(usage, work, sys.argv[1:])
         sys.stdout.flush()
         return status
     except Usage as error:
