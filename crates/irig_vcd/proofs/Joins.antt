@@ -1,5 +1,5 @@
 -- Words of two parts: those of the first and then those of the second, and a word that the cut goes through is one.
-use Rattle.std.proofs.Common.{◌≡◌, ◌+◌, ◌++◌, ◌∷◌, [], ℕ, suc, Bool, true, false, not, cond, List, length, drop, refl, ap, sym, ◌∙◌, arith, append_assoc}
+use Rattle.std.proofs.Common.{◌≡◌, ◌+◌, ◌++◌, ◌∷◌, [], ℕ, Bool, true, false, not, cond, List, length, refl, ap, sym, ◌∙◌, arith, append_assoc}
 use Rattle.std.proofs.lemmas.List.{append-nil}
 use Rattle.irig_vcd.specs.Code.Joins.{ends_inside, front_of, with_more}
 use Rattle.irig_vcd.specs.Words.{WordKind, Word, is_space, words_from, before_space, kind_of_byte}
@@ -87,23 +87,6 @@ words_from-apart x y at inside outside =
     words_from-join x y at inside
     ∙ ap (λ i. with_more (front_of i y) (words_from at inside x) ++ words_from (at + length x) i y) outside
     ∙ ap (λ (l : List Word). l ++ words_from (at + length x) false y) (with_more-none (words_from at inside x))
-
-inside_step : (space : Bool) (b at : ℕ) (y : List ℕ) → is_space b ≡ space
-    → words_from (at + 1) true y ≡ words_from (at + 1 + length (before_space y)) false (drop (length (before_space y)) y)
-    → cond space (words_from (at + 1) false y) (words_from (at + 1) true y)
-    ≡ words_from (at + length (cond space [] (b ∷ before_space y))) false (drop (length (cond space [] (b ∷ before_space y))) (b ∷ y))
-inside_step true b at y is later =
-    let e : at + 1 ≡ at + 0 + 1 = omega arith in
-    ap (λ n. words_from n false y) e ∙ rw is refl
-inside_step false b at y is later =
-    let n = length (before_space y) in
-    let e : at + 1 + n ≡ at + suc n = omega arith in
-    later ∙ ap (λ k. words_from k false (drop n y)) e
-
--- after a cut inside a word, the words are those after the rest of it
-pub words_from-inside : (y : List ℕ) (at : ℕ) → words_from at true y ≡ words_from (at + length (before_space y)) false (drop (length (before_space y)) y)
-words_from-inside [] at = refl
-words_from-inside (b ∷ y) at = inside_step (is_space b) b at y refl (words_from-inside y (at + 1))
 
 -- after white space no word goes on
 pub ends_inside-space : (x : List ℕ) (b : ℕ) (inside : Bool) → is_space b ≡ true → ends_inside inside (x ++ b ∷ []) ≡ false

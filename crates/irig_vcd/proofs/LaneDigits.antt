@@ -60,12 +60,6 @@ stay (b ∷ bs) (suc k) m long fits =
 abbrev pub keep : List ℕ
 keep = replicate 16 0 ++ replicate 16 255
 
-front_of : (n : ℕ) (xs : List ℕ) → length xs ≡ n → take n xs ≡ xs
-front_of zero [] h = refl
-front_of zero (x ∷ xs) h = absurd (omega arith)
-front_of (suc n) [] h = refl
-front_of (suc n) (x ∷ xs) h = ap (λ l. x ∷ l) (front_of n xs (omega arith))
-
 -- a window of sixteen lanes
 window : (c : ℕ) → c ≤ 16 → take 16 (take (32 - c) (drop c keep)) ≡ replicate (16 - c) 0 ++ replicate c 255
 window zero h = refl

@@ -99,11 +99,6 @@ pub if_err : {A : Type 0} {P Q : VcdFault → Type 0} (r : Result A VcdFault) �
 if_err (Ok x) f h = tt
 if_err (Err e) f h = f e h
 
-pub first_fault : (name wire : Option (List ℕ)) (words more : List Word) (gone whole : ℕ) (held bytes : List ℕ) (e : VcdFault)
-    → name ≡ wire → words ≡ [] → gone ≡ 0 → held ≡ bytes → IsFaultOf e (read_words name (words_of (take whole held) ++ more))
-    → IsFaultOf e (read_words wire ((words ++ words_from gone false (take whole bytes)) ++ more))
-first_fault name wire words more gone whole held bytes e is none zero same h = rw (← is, none, zero, ← same) h
-
 -- the next words that are read
 pub next_words : (wire : Option (List ℕ)) (words : List Word) (gone whole : ℕ) (held bytes : List ℕ) (unit : ℕ) (code kept : List ℕ) (old new : Reading)
     → held ≡ bytes → code ≡ kept
