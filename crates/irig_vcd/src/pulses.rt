@@ -11,14 +11,11 @@ use crate::lanes::lanes_end;
 use crate::time::{Clock, cut};
 use crate::token::Tokens;
 use crate::trace::Trace;
-use crate::unit::Unit;
+use crate::unit::{TIME_LIMIT, Unit};
 use std::alloc::AllocError;
 
 /// The most bytes that two edges have.
 const LONGEST_PULSE: usize = 64;
-
-/// The largest time in microseconds.
-const LAST_TIME: u64 = 1 << 40;
 
 /// A time with a value at it, and the place after both lines, in bytes from 0.
 #[derive(Clone, Copy)]
@@ -86,7 +83,7 @@ fn pulse_at(source: &[u8], at: usize, code: u8, unit: Unit, after: u64) -> Optio
         return None;
     };
     let (up, down) = (rise.time.whole, fall.time.whole);
-    if up <= after || down <= up || down > LAST_TIME {
+    if up <= after || down <= up || down > TIME_LIMIT {
         return None;
     }
     Some((rise, fall))

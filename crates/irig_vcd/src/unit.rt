@@ -5,6 +5,9 @@ ghost use Rattle.irig_vcd.specs.Code.Time.{factor_of, limit_of};
 
 use std::marker::Model;
 
+/// The last time in microseconds that a dump may have.
+pub const TIME_LIMIT: u64 = 1 << 40;
+
 /// A unit of time: a power of ten of femtoseconds, from 0 to 17.
 #[derive(Clone, Copy)]
 pub struct Unit {
@@ -78,7 +81,7 @@ impl Unit {
             15 => 1099511,
             16 => 109951,
             17 => 10995,
-            _ => 1 << 40,
+            _ => TIME_LIMIT,
         }
     }
 
