@@ -11,7 +11,6 @@ pub mod PartWords
 pub mod MovedWords
 -- Numbers of digits, and times in two parts.
 pub mod Digits
-pub mod Sizes
 pub mod DecimalLemmas
 pub mod Clocks
 pub mod TimeLemmas

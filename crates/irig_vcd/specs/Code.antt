@@ -3,6 +3,7 @@ pub mod Token
 pub mod Short
 pub mod Lanes
 pub mod Section
+pub mod Decimal
 pub mod Variable
 pub mod Timescale
 pub mod Header

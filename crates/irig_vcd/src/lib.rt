@@ -3,6 +3,7 @@
 
 mod apart;
 mod changes;
+mod decimal;
 mod dump_reader;
 mod event;
 mod fault;

@@ -1,8 +1,7 @@
 -- A time in two parts: the digits of its number of units above one microsecond, and those below.
 use Rattle.std.specs.Prelude.{◌≡◌, ◌+◌, ◌-◌, ◌*◌, ◌/◌, ◌^◌, ◌==◌, ◌&&◌, ◌||◌, ◌≤◌, ◌<◌, ℕ, Bool}
-use Rattle.std.specs.Prelude.{true, List, Option, Some, None, if◌then◌else◌, nat_lt, min}
-use Rattle.std.specs.List.{list_all}
-use Rattle.irig_vcd.specs.Digits.{is_digit, is_number, number_from}
+use Rattle.std.specs.Prelude.{true, List, nat_lt, min}
+use Rattle.irig_vcd.specs.Digits.{is_number, number_from}
 use Rattle.irig_vcd.specs.declared.time.Clock.{Clock}
 
 -- the number of units of a clock
@@ -21,11 +20,6 @@ limit_of unit = 1099511627776 / 10 ^ (unit - 9)
 pub record IsTime (unit : ℕ) (c : Clock) : Type 0 where
   pub whole : c.whole ≤ limit_of unit
   pub rest : c.rest < 10 ^ (9 - unit)
-
--- the number that digits spell after a number, or 2^41 if it is above
-abbrev pub capped_from : ℕ → List ℕ → Option ℕ
-capped_from n digits =
-    if list_all is_digit digits then Some (min (number_from n digits) 2199023255552) else None
 
 -- a clock shows what digits spell, its whole part capped
 pub record Shows (unit : ℕ) (digits : List ℕ) (c : Clock) : Type 0 where

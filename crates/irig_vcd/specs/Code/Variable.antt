@@ -1,10 +1,8 @@
 -- A variable, read word by word.
-use Rattle.std.specs.Prelude.{◌==◌, ℕ, Bool, List, [], ◌∷◌, Option, Some, None, Result, Ok, Err}
+use Rattle.std.specs.Prelude.{ℕ, List, [], ◌∷◌, Result, Ok, Err}
 use Rattle.std.specs.Prelude.{if◌then◌else◌}
-use Rattle.std.specs.List.{list_all}
 use Rattle.irig_vcd.specs.Answer.{◌>>=◌}
 use Rattle.irig_vcd.specs.Code.Section.{after_end}
-use Rattle.irig_vcd.specs.Digits.{is_digit, number_from}
 use Rattle.irig_vcd.specs.Sections.{is_end}
 use Rattle.irig_vcd.specs.Variables.{Declared, variable_of}
 use Rattle.irig_vcd.specs.Words.{Word}
@@ -15,10 +13,6 @@ use Rattle.irig_vcd.specs.declared.variable.Variable.{Variable}
 -- a variable without where its words lie in memory
 abbrev pub variable_view : Variable → Declared
 variable_view v = record { one_bit = v.one_bit; code = v.code.now; reference = v.reference.now }
-
--- whether the number that digits spell after a number is 1, if all are digits
-abbrev pub size_from : ℕ → List ℕ → Option Bool
-size_from n digits = if list_all is_digit digits then Some (number_from n digits == 1) else None
 
 -- the next word of a variable
 abbrev pub word_at : List Word → Result (List ℕ × List Word) VcdFault
