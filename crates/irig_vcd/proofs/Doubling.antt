@@ -5,21 +5,33 @@ use Rattle.std.specs.Int.Digits.{AllBelowBase, number_from_digits}
 use lib.Lanes.{number_l, digits_l}
 use Rattle.irig_vcd.specs.Code.Lanes.{joined}
 
+-- the lanes of a number, each two of them joined
+abbrev pairs_of : (ℕ → ℕ) → ℕ → ℕ → ℕ → List ℕ
+pairs_of join wide zero x = []
+pairs_of join wide (suc n) x = join (x % wide) ∷ pairs_of join wide n (x / wide)
+
+-- two lanes are the low part of a number, and joined they are one digit of the wider base
+abbrev JoinsTwo : (ℕ → ℕ) → ℕ → ℕ → ℕ → Type 0
+JoinsTwo join wide lane base = (a b rest : ℕ) → a < base → b < base → ((a + lane * (b + lane * rest)) % wide ≡ a + lane * b)
+    × ((a + lane * (b + lane * rest)) / wide ≡ rest) × (join (a + lane * b) ≡ base * a + b)
+
+-- the pairs of a number's lanes are those of its digits
+pairs_are : (join : ℕ → ℕ) (wide lane base : ℕ) → JoinsTwo join wide lane base → (n : ℕ) (xs : List ℕ) → length xs ≡ n + n → AllBelowBase base xs
+    → pairs_of join wide n (number_l lane xs) ≡ joined base xs
+pairs_are join wide lane base two zero [] long h = refl
+pairs_are join wide lane base two zero (x ∷ xs) long h = absurd (omega arith)
+pairs_are join wide lane base two (suc n) [] long h = absurd (omega arith)
+pairs_are join wide lane base two (suc n) (x ∷ []) long h = absurd (omega arith)
+pairs_are join wide lane base two (suc n) (a ∷ b ∷ xs) long h =
+    let t = two a b (number_l lane xs) h.0 h.1.0 in
+    (λ i. (ap join t.0 ∙ t.2) i ∷ pairs_of join wide n (t.1 i))
+    ∙ ap (λ l. (base * a + b) ∷ l) (pairs_are join wide lane base two n xs (omega arith) h.1.1)
+
 abbrev twos_of : ℕ → ℕ → List ℕ
-twos_of zero x = []
-twos_of (suc n) x = (x % 65536 * 2561 % 65536 / 256) ∷ twos_of n (x / 65536)
+twos_of = pairs_of (λ y. y * 2561 % 65536 / 256) 65536
 
 pub twos_are : (n : ℕ) (xs : List ℕ) → length xs ≡ n + n → AllBelowBase 10 xs → twos_of n (number_l 256 xs) ≡ joined 10 xs
-twos_are zero [] long h = refl
-twos_are zero (x ∷ xs) long h = absurd (omega arith)
-twos_are (suc n) [] long h = absurd (omega arith)
-twos_are (suc n) (x ∷ []) long h = absurd (omega arith)
-twos_are (suc n) (a ∷ b ∷ xs) long h =
-    let rest = number_l 256 xs in
-    let low : (a + 256 * (b + 256 * rest)) % 65536 ≡ a + 256 * b = omega (arith, h.0, h.1.0) in
-    let on : (a + 256 * (b + 256 * rest)) / 65536 ≡ rest = omega (arith, h.0, h.1.0) in
-    let two : (a + 256 * b) * 2561 % 65536 / 256 ≡ 10 * a + b = omega (arith, h.0, h.1.0) in
-    (λ i. (ap (λ y. y * 2561 % 65536 / 256) low ∙ two) i ∷ twos_of n (on i)) ∙ ap (λ l. (10 * a + b) ∷ l) (twos_are n xs (omega arith) h.1.1)
+twos_are = pairs_are (λ y. y * 2561 % 65536 / 256) 65536 256 10 (λ a b rest x y. (omega (arith, x, y), omega (arith, x, y), omega (arith, x, y)))
 
 -- ---- lanes that are read again as wider ones
 
@@ -30,20 +42,11 @@ number_of_digits p (suc n) x P h =
     rw (number_of_digits p n (x / p) P less) (omega (arith, div-add-mod' x p))
 
 abbrev fours_of : ℕ → ℕ → List ℕ
-fours_of zero x = []
-fours_of (suc n) x = (x % 4294967296 * 6553601 % 4294967296 / 65536) ∷ fours_of n (x / 4294967296)
+fours_of = pairs_of (λ y. y * 6553601 % 4294967296 / 65536) 4294967296
 
 fours_are : (n : ℕ) (xs : List ℕ) → length xs ≡ n + n → AllBelowBase 100 xs → fours_of n (number_l 65536 xs) ≡ joined 100 xs
-fours_are zero [] long h = refl
-fours_are zero (x ∷ xs) long h = absurd (omega arith)
-fours_are (suc n) [] long h = absurd (omega arith)
-fours_are (suc n) (x ∷ []) long h = absurd (omega arith)
-fours_are (suc n) (a ∷ b ∷ xs) long h =
-    let rest = number_l 65536 xs in
-    let low : (a + 65536 * (b + 65536 * rest)) % 4294967296 ≡ a + 65536 * b = omega (arith, h.0, h.1.0) in
-    let on : (a + 65536 * (b + 65536 * rest)) / 4294967296 ≡ rest = omega (arith, h.0, h.1.0) in
-    let two : (a + 65536 * b) * 6553601 % 4294967296 / 65536 ≡ 100 * a + b = omega (arith, h.0, h.1.0) in
-    (λ i. (ap (λ y. y * 6553601 % 4294967296 / 65536) low ∙ two) i ∷ fours_of n (on i)) ∙ ap (λ l. (100 * a + b) ∷ l) (fours_are n xs (omega arith) h.1.1)
+fours_are = pairs_are (λ y. y * 6553601 % 4294967296 / 65536) 4294967296 65536 100
+    (λ a b rest x y. (omega (arith, x, y), omega (arith, x, y), omega (arith, x, y)))
 
 short_of : (xs : List ℕ) → length xs ≡ 8 → AllBelowBase 100 xs → number_l 65536 xs < 256 ^ 16
 short_of (a ∷ b ∷ c ∷ d ∷ e ∷ f ∷ g ∷ k ∷ []) long h = omega (

@@ -1,5 +1,5 @@
 -- The digits of a number among sixteen bytes.
-use Rattle.std.proofs.Common.{◌≡◌, ◌<◌, ◌≤◌, ◌+◌, ◌-◌, ◌*◌, ◌%◌, ◌^◌, ◌++◌, ◌∷◌, [], ℕ, zero, suc, true, false, not, List, length, drop, take, get_or, map}
+use Rattle.std.proofs.Common.{◌≡◌, ◌<◌, ◌≤◌, ◌+◌, ◌-◌, ◌*◌, ◌%◌, ◌^◌, ◌++◌, ◌∷◌, [], ℕ, zero, suc, true, false, List, length, drop, take, get_or, map}
 use Rattle.std.proofs.Common.{replicate, nat_le, leb, cond, w8, Fits, refl, ap, subst, ◌∙◌, arith}
 use Rattle.std.specs.List.{list_all}
 use Rattle.std.specs.Int.Digits.{number_from_digits, number_from_digits_after, AllBelowBase}
@@ -7,8 +7,7 @@ use Rattle.std.proofs.lemmas.Nat.{and_mask, and_le_r}
 use Rattle.std.proofs.lemmas.Bool.{leb-false, leb-true, and_parts}
 use Rattle.std.proofs.lemmas.List.{drop-map, drop-take, drop-drop}
 use lib.Count.{count_trailing_zeros}
-use Rattle.std.specs.List.{prefix_len}
-use Rattle.std.proofs.lemmas.Simd.{trailing_mask_l, length-chunk, run_in_chunk_le, run_in_chunk_fails, zip2_splat, zip2_splat_left, tops_compared, map-map}
+use Rattle.std.proofs.lemmas.Simd.{length-chunk, zip2_splat, zip2_splat_left, tops_compared, map-map}
 use Rattle.std.proofs.lemmas.Simd.{mask_l-mod}
 use Rattle.std.proofs.lemmas.List.{length-map}
 use lib.Bits.{bit_and}
@@ -16,6 +15,7 @@ use lib.Lanes.{zip2, mask_l, top, Each1, chunk}
 use Rattle.irig_vcd.specs.Words.{words_from, before_space}
 use Rattle.irig_vcd.specs.Digits.{is_digit, number_from}
 use Rattle.irig_vcd.specs.Code.Lanes.{shows_none}
+use Rattle.irig_vcd.proofs.LaneCounts.{counted_fails}
 use Rattle.irig_vcd.proofs.Runs.{runs, more_front}
 use Rattle.irig_vcd.proofs.DigitRuns.{dark_digit, more_digits}
 
@@ -161,19 +161,11 @@ digit_run (suc c) s from i is le each =
 
 -- ---- the count
 
-counted : (s : List ℕ) (from m : ℕ) → from + 16 ≤ length s → m ≡ mask_l (map shows_none (chunk from 16 s)) → 0 < m
-    → count_trailing_zeros 64 m ≡ prefix_len (λ x. not (shows_none x)) (chunk from 16 s)
-counted s from m room is some = ap (count_trailing_zeros 64) is
-    ∙ trailing_mask_l shows_none 64 (chunk from 16 s) (omega (arith, length-chunk from 16 s room)) (omega (arith, is, some))
-
-pub counted_few : (s : List ℕ) (from m : ℕ) → from + 16 ≤ length s → m ≡ mask_l (map shows_none (chunk from 16 s)) → 0 < m → count_trailing_zeros 64 m ≤ 16
-counted_few s from m room is some = run_in_chunk_le shows_none s from 16 (count_trailing_zeros 64 m) 0 room (counted s from m room is some)
-
 pub counted_digits : (s : List ℕ) (from m : ℕ) → from + 16 ≤ length s → m ≡ mask_l (map shows_none (chunk from 16 s)) → 0 < m
     → ((k : ℕ) → Fits w8 (get_or s k 0))
     → (k : ℕ) → from ≤ k → k < from + count_trailing_zeros 64 m → (48 ≤ get_or s k 0) × (get_or s k 0 ≤ 57)
 counted_digits s from m room is some fits k a b = shows (get_or s k 0) (let f = fits k in omega (arith, f.fits))
-    (run_in_chunk_fails shows_none s from 16 (count_trailing_zeros 64 m) 0 room (counted s from m room is some) k a b)
+    (counted_fails shows_none s from m room is some k a b)
 
 pub kept_lanes : (s : List ℕ) (from c : ℕ) → 16 ≤ from + c → from + c ≤ length s
     → replicate (16 - c) 0 ++ drop (16 - c) (zip2 (λ a b. (a + (256 - b)) % 256) (chunk (from + c - 16) 16 s) (replicate 16 48)) ≡ kept s from c

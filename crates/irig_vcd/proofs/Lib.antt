@@ -3,6 +3,7 @@ pub mod Runs
 pub mod Joins
 pub mod DigitRuns
 pub mod Doubling
+pub mod LaneCounts
 pub mod LaneDigits
 pub mod CodeRuns
 pub mod ApartWords

@@ -14,7 +14,7 @@ use Rattle.irig_vcd.specs.Code.Short.{TakesApart, TakesBit, TakesValue}
 use Rattle.irig_vcd.specs.Code.Time.{IsTime, units_of}
 use Rattle.irig_vcd.specs.Code.Trace.{Follows}
 use Rattle.irig_vcd.specs.Events.{Next, any_word, comment_word, word_event}
-use Rattle.irig_vcd.specs.Journals.{comments_from, is_journal, next_after}
+use Rattle.irig_vcd.specs.Journals.{Comment, comments_from, is_journal, next_after}
 use Rattle.irig_vcd.specs.Level.{Change, change}
 use Rattle.irig_vcd.specs.Times.{micros_of, time_of}
 use Rattle.irig_vcd.specs.Words.{Word, WordKind, dollar, hash, scalar, vector, real, text, other, rest_of}
@@ -56,6 +56,14 @@ at_word code unit total told t clock j now w ws r =
     subst (λ (n : Next). Means now n None × Reached n None code unit total told t clock j (w ∷ ws)) next
     (subst (λ (f : Option Word). Means now r.0 f × Reached r.0 f code unit total told t clock j (w ∷ ws)) first (r.2.means, r.2.here))
 
+-- the journals that are read are before those of the words after them
+journals-read : (told old new : Told) (done found : List Comment) → ((more : List Word) → old more ≡ found ++ new more)
+    → ((more : List Word) → done ++ filter is_journal (old more) ≡ told more)
+    → (more : List Word) → (done ++ filter is_journal found) ++ filter is_journal (new more) ≡ told more
+journals-read told old new done found read all more =
+    append_assoc done (filter is_journal found) (filter is_journal (new more))
+    ∙ (ap (λ l. done ++ l) (sym (filter-append is_journal found (new more)) ∙ ap (filter is_journal) (sym (read more))) ∙ all more)
+
 -- tokens are read, and what they say is put
 pub reached_level : (code : List ℕ) (unit : ℕ) (total : Total) (told : Told) (old new : Trace) (clock : Clock) (j k : Journals) (n : Next)
     (first : Option Word) (words rest : List Word) (high : Bool) (now : Pending) (t : ℕ)
@@ -66,8 +74,7 @@ reached_level code unit total told old new clock j k n first words rest high now
     let last = units_of unit clock in
     let before = h.0 in
     let done = h.1 in
-    let found = r.2 in
-    let then_comments : List Word → _ = λ more. comments_from r.0 r.1 (rest ++ more) in (
+    let found = r.2 in (
       r.0,
       r.1,
       record {
@@ -82,9 +89,8 @@ reached_level code unit total told old new clock j k n first words rest high now
                 ∙ (ap (λ m. behind before (with_level (Some high) m (changes_from r.0 code unit last (rest ++ more)))) is
                 ∙ (ap (behind before) (sym (r.3.reads.changes unit last more)) ∙ h.2.rest more));
             holds = r.3.holds done h.2.holds;
-            found = λ more. append_assoc done (filter is_journal found) (filter is_journal (then_comments more))
-                ∙ (ap (λ l. done ++ l) (sym (filter-append is_journal found (then_comments more)) ∙ ap (filter is_journal) (sym (r.3.reads.comments more)))
-                ∙ h.2.found more);
+            found = journals-read told (λ more. comments_from n first (words ++ more)) (λ more. comments_from r.0 r.1 (rest ++ more)) done found
+                r.3.reads.comments h.2.found;
           },
         );
       },
@@ -99,8 +105,7 @@ reached_none code unit total told t clock j k n first words rest now r h =
     let last = units_of unit clock in
     let before = h.0 in
     let done = h.1 in
-    let found = r.2 in
-    let then_comments : List Word → _ = λ more. comments_from r.0 r.1 (rest ++ more) in (
+    let found = r.2 in (
       r.0,
       r.1,
       record {
@@ -113,9 +118,8 @@ reached_none code unit total told t clock j k n first words rest now r h =
             follows = h.2.follows;
             rest = λ more. ap (behind before) (sym (r.3.reads.changes unit last more)) ∙ h.2.rest more;
             holds = r.3.holds done h.2.holds;
-            found = λ more. append_assoc done (filter is_journal found) (filter is_journal (then_comments more))
-                ∙ (ap (λ l. done ++ l) (sym (filter-append is_journal found (then_comments more)) ∙ ap (filter is_journal) (sym (r.3.reads.comments more)))
-                ∙ h.2.found more);
+            found = journals-read told (λ more. comments_from n first (words ++ more)) (λ more. comments_from r.0 r.1 (rest ++ more)) done found
+                r.3.reads.comments h.2.found;
           },
         );
       },

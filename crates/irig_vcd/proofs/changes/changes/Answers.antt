@@ -15,41 +15,34 @@ use Rattle.irig_vcd.proofs.changes.changes.Goals as goal
 pub read-requires : goal.read-requires
 read-requires c = record { time = c.new-reading.ensures.time c.args.unit }
 
-pub returns-in-Ok-clause-exact : goal.returns-in-Ok-clause-exact
-returns-in-Ok-clause-exact c =
-    let total = λ (more : List Word). changes_from any_word c.args.code.now c.args.unit 0 (c.args.tokens.now ++ more) in
+pub returns-in-Ok : goal.returns-in-Ok
+returns-in-Ok c =
+    let read = λ (words : List Word). changes_from any_word c.args.code.now c.args.unit 0 words in
+    let all = append-nil c.args.tokens.now in
+    let total = λ (more : List Word). read (c.args.tokens.now ++ more) in
     let told = λ (more : List Word). journals_among (c.args.tokens.now ++ more) in
     let r = c.in-Ok.ensures.reached total told (c.new-reading.ensures.start c.args.code.now c.args.unit c.args.tokens.now) in
-    subst (λ (l : List Word). KeepsEdges c.finish.result (changes_from any_word c.args.code.now c.args.unit 0 l)) (append-nil c.args.tokens.now)
-    (c.finish.ensures.exact c.args.code.now total told r)
+    record {
+      exact = subst (λ (l : List Word). KeepsEdges c.finish.result (read l)) all (c.finish.ensures.exact c.args.code.now total told r);
+      journals = subst (λ (l : List Word). IfOk c.finish.result (λ x. Holds (journals_among l) x.journals)) all
+          (told_well c.finish.result c.args.code.now c.args.unit total told c.read.new.self c.finish.ensures.journals r);
+      short = c.finish.ensures.short;
+      memory = λ memory still. c.finish.ensures.memory memory c.args.code.now total told r
+          (subst (λ (l : List Word). IsStill (read l)) (sym all) still);
+    }
 
-pub returns-in-Ok-clause-journals : goal.returns-in-Ok-clause-journals
-returns-in-Ok-clause-journals c =
-    let total = λ (more : List Word). changes_from any_word c.args.code.now c.args.unit 0 (c.args.tokens.now ++ more) in
+pub returns-in-Err : goal.returns-in-Err
+returns-in-Err c =
+    let read = λ (words : List Word). changes_from any_word c.args.code.now c.args.unit 0 words in
+    let all = append-nil c.args.tokens.now in
+    let total = λ (more : List Word). read (c.args.tokens.now ++ more) in
     let told = λ (more : List Word). journals_among (c.args.tokens.now ++ more) in
-    let r = c.in-Ok.ensures.reached total told (c.new-reading.ensures.start c.args.code.now c.args.unit c.args.tokens.now) in
-    subst (λ (l : List Word). IfOk c.finish.result (λ x. Holds (journals_among l) x.journals)) (append-nil c.args.tokens.now)
-    (told_well c.finish.result c.args.code.now c.args.unit total told c.read.new.self c.finish.ensures.journals r)
-
-pub returns-in-Ok-clause-memory : goal.returns-in-Ok-clause-memory
-returns-in-Ok-clause-memory c = λ memory still.
-    let total = λ (more : List Word). changes_from any_word c.args.code.now c.args.unit 0 (c.args.tokens.now ++ more) in
-    let told = λ (more : List Word). journals_among (c.args.tokens.now ++ more) in
-    let r = c.in-Ok.ensures.reached total told (c.new-reading.ensures.start c.args.code.now c.args.unit c.args.tokens.now) in
-    c.finish.ensures.memory memory c.args.code.now total told r
-    (subst (λ (l : List Word). IsStill (changes_from any_word c.args.code.now c.args.unit 0 l)) (sym (append-nil c.args.tokens.now)) still)
-
-pub returns-in-Err-clause-exact : goal.returns-in-Err-clause-exact
-returns-in-Err-clause-exact c =
-    let total = λ (more : List Word). changes_from any_word c.args.code.now c.args.unit 0 (c.args.tokens.now ++ more) in
-    let told = λ (more : List Word). journals_among (c.args.tokens.now ++ more) in
-    subst (λ (l : List Word). IsFaultOf c.in-Err.fault (changes_from any_word c.args.code.now c.args.unit 0 l)) (append-nil c.args.tokens.now)
-    (c.in-Err.ensures.fault total told [] (c.new-reading.ensures.start c.args.code.now c.args.unit c.args.tokens.now))
-
-pub returns-in-Err-clause-memory : goal.returns-in-Err-clause-memory
-returns-in-Err-clause-memory c = λ memory still.
-    let total = λ (more : List Word). changes_from any_word c.args.code.now c.args.unit 0 (c.args.tokens.now ++ more) in
-    let told = λ (more : List Word). journals_among (c.args.tokens.now ++ more) in
-    let is : c.in-Err.fault ≡ OutOfMemory = cc memory in
-    c.in-Err.ensures.memory (ap Err is) total told [] (c.new-reading.ensures.start c.args.code.now c.args.unit c.args.tokens.now)
-    (subst (λ (l : List Word). IsStill (changes_from any_word c.args.code.now c.args.unit 0 l)) (sym (append-nil c.args.tokens.now)) still)
+    let start = c.new-reading.ensures.start c.args.code.now c.args.unit c.args.tokens.now in
+    record {
+      exact = subst (λ (l : List Word). IsFaultOf c.in-Err.fault (read l)) all (c.in-Err.ensures.fault total told [] start);
+      journals = tt;
+      short = tt;
+      memory = λ memory still.
+          let is : c.in-Err.fault ≡ OutOfMemory = cc memory in
+          c.in-Err.ensures.memory (ap Err is) total told [] start (subst (λ (l : List Word). IsStill (read l)) (sym all) still);
+    }

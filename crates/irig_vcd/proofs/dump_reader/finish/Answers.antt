@@ -1,6 +1,8 @@
-use Rattle.std.proofs.Common.{◌≡◌, ◌++◌, ◌∙◌, List, Some, IfSome, length, subst, sym}
+use Rattle.std.proofs.Common.{◌≡◌, ◌++◌, ◌∙◌, List, Ok, Option, ℕ, Some, IfSome, length, subst, sym}
 use Rattle.std.proofs.lemmas.Result.{err_from_is_err_and}
-use Rattle.irig_vcd.specs.Code.DumpReader.{read_words, told_words}
+use Rattle.irig_vcd.specs.Code.DumpReader.{HasReadWords, read_words, told_words}
+use Rattle.irig_vcd.specs.Code.Gathered.{gathered}
+use Rattle.irig_vcd.specs.Dump.{dump}
 use Rattle.irig_vcd.specs.Code.Journals.{Holds, text_at}
 use Rattle.irig_vcd.specs.Journals.{Comment, journals_in}
 use Rattle.irig_vcd.specs.Words.{Word, words_of}
@@ -9,6 +11,22 @@ use Rattle.irig_vcd.proofs.PartSteps.{dump_kept, end_fault, told_in}
 use Rattle.irig_vcd.proofs.WholeDump.{fails_now, many_journals, no_dump, with_journal}
 use Rattle.irig_vcd.proofs.Gathered.{whole_gathered}
 use Rattle.irig_vcd.proofs.dump_reader.finish.Goals as goal
+use Rattle.irig_vcd.proofs.dump_reader.finish.Goals.{After-one}
+
+-- what the dump is, its journals, and the bytes of the first one
+read_up : (c : After-one) (wire : Option (List ℕ)) (bytes code : List ℕ) → HasReadWords wire (words_of bytes) c.args.unit code c.args.reading
+    → c.args.journal.items ≡ gathered c.args.reading bytes
+    → (dump wire bytes ≡ Ok c.in-Ok.recording) × Holds (journals_in bytes) c.in_ok-end.field-0.journals
+    × IfSome c.in_ok-end.field-0.journals.first (λ p. text_at bytes (Some p) ≡ Some c.args.journal.items)
+read_up c wire bytes code h gathers =
+    let total = λ (m : List Word). read_words wire (words_of bytes ++ m) in
+    let told = λ (m : List Word). told_words (words_of bytes ++ m) in
+    let k = c.in_ok-end.ensures.exact code total told h in (
+      dump_kept wire bytes k.0 c.in_ok-end.field-0.end k.1 ∙ c.in-Ok.ensures.exact k.0 k.2,
+      subst (λ (all : List Comment). Holds all c.in_ok-end.field-0.journals) (told_in bytes) (c.in_ok-end.ensures.journals code total told h),
+      subst (λ (j : Journals). IfSome j.first (λ p. text_at bytes (Some p) ≡ Some c.args.journal.items)) (sym c.in_ok-end.ensures.same)
+          (whole_gathered c.args.reading.journals.first c.args.reading.pending (length bytes) bytes c.args.journal.items gathers),
+    )
 
 pub returns-in_err-end-clause-fault : goal.returns-in_err-end-clause-fault
 returns-in_err-end-clause-fault c =
@@ -28,23 +46,11 @@ returns-in-Err-clause-fault c = λ wire bytes code h gathers.
 
 pub returns-in-Ok-one-clause-read : goal.returns-in-Ok-one-clause-read
 returns-in-Ok-one-clause-read c = λ wire bytes code h gathers.
-    let total = λ (m : List Word). read_words wire (words_of bytes ++ m) in
-    let told = λ (m : List Word). told_words (words_of bytes ++ m) in
-    let k = c.in_ok-end.ensures.exact code total told h in
-    let holds = subst (λ (all : List Comment). Holds all c.in_ok-end.field-0.journals) (told_in bytes) (c.in_ok-end.ensures.journals code total told h) in
-    let gathered = subst (λ (j : Journals). IfSome j.first (λ p. text_at bytes (Some p) ≡ Some c.args.journal.items)) (sym c.in_ok-end.ensures.same)
-    (whole_gathered c.args.reading.journals.first c.args.reading.pending (length bytes) bytes c.args.journal.items gathers) in
-    with_journal wire bytes c.in-Ok.recording _ (dump_kept wire bytes k.0 c.in_ok-end.field-0.end k.1 ∙ c.in-Ok.ensures.exact k.0 k.2)
-    (c.in-Ok-one.ensures.one (journals_in bytes) bytes holds gathered)
+    let known = read_up (goal.at.returns-in-Ok-one-clause-read c).After-one wire bytes code h gathers in
+    with_journal wire bytes c.in-Ok.recording _ known.0 (c.in-Ok-one.ensures.one (journals_in bytes) bytes known.1 known.2)
 
 pub returns-in-Err-one-clause-fault : goal.returns-in-Err-one-clause-fault
 returns-in-Err-one-clause-fault c = λ wire bytes code h gathers.
-    let total = λ (m : List Word). read_words wire (words_of bytes ++ m) in
-    let told = λ (m : List Word). told_words (words_of bytes ++ m) in
-    let k = c.in_ok-end.ensures.exact code total told h in
-    let holds = subst (λ (all : List Comment). Holds all c.in_ok-end.field-0.journals) (told_in bytes) (c.in_ok-end.ensures.journals code total told h) in
-    let gathered = subst (λ (j : Journals). IfSome j.first (λ p. text_at bytes (Some p) ≡ Some c.args.journal.items)) (sym c.in_ok-end.ensures.same)
-    (whole_gathered c.args.reading.journals.first c.args.reading.pending (length bytes) bytes c.args.journal.items gathers) in
-    fails_now c.in-Err-one.fault _ (many_journals wire bytes c.in-Ok.recording c.in-Err-one.fault
-    (dump_kept wire bytes k.0 c.in_ok-end.field-0.end k.1 ∙ c.in-Ok.ensures.exact k.0 k.2)
-    (c.in-Err-one.ensures.one (journals_in bytes) bytes holds gathered))
+    let known = read_up (goal.at.returns-in-Err-one-clause-fault c).After-one wire bytes code h gathers in
+    fails_now c.in-Err-one.fault _ (many_journals wire bytes c.in-Ok.recording c.in-Err-one.fault known.0
+    (c.in-Err-one.ensures.one (journals_in bytes) bytes known.1 known.2))

@@ -10,14 +10,18 @@ use Rattle.irig_vcd.specs.Words.{words_from, words_of}
 use Rattle.irig_vcd.proofs.IdleParts.{no_place, not_idle}
 use Rattle.irig_vcd.proofs.PartSteps.{put_fault, put_read}
 use Rattle.irig_vcd.proofs.dump_reader.read_held.Goals as goal
+use Rattle.irig_vcd.proofs.dump_reader.read_held.Goals.{After-whole_len-whole}
+
+-- what is read ends outside a word
+outside : (c : After-whole_len-whole) → ends_inside false (take c.whole_len-whole.result c.args.progress.now.held.items) ≡ false
+outside c = ap (λ (l : List ℕ). ends_inside false (take c.whole_len-whole.result l)) (sym c.as_slice.ensures.value) ∙ c.whole_len-whole.ensures.outside
 
 pub returns-in-Err-clause-fault : goal.returns-in-Err-clause-fault
 returns-in-Err-clause-fault c = λ wire bytes more r.
     let s = c.args.progress.now in
     let e = c.in-Err.fault in
     let n = c.whole_len-whole.result in
-    let cut : ends_inside false (take n s.held.items) ≡ false =
-    ap (λ (l : List ℕ). ends_inside false (take n l)) (sym c.as_slice.ensures.value) ∙ c.whole_len-whole.ensures.outside in
+    let cut = outside (goal.at.returns-in-Err-clause-fault c).After-whole_len-whole in
     let stage = subst (λ (w : Option (List ℕ)). Stage w (words_of r.front) s.unit s.code.items s.reading) (sym r.name) r.stage in
     subst (λ (l : List ℕ). IsFaultOf e (dump_parts wire (l ++ more))) (sym r.whole)
     (subst (λ (w : Option (List ℕ)). IsFaultOf e (dump_parts w ((r.front ++ s.held.items) ++ more))) r.name
@@ -30,8 +34,7 @@ returns-in_ok-gather-in-Ok-Ok-clause-read c = λ wire bytes r.
     let s = c.args.progress.now in
     let held = s.held.items in
     let mid = c.read_to.new.self in
-    let cut : ends_inside false (take n held) ≡ false =
-    ap (λ (l : List ℕ). ends_inside false (take n l)) (sym c.as_slice.ensures.value) ∙ c.whole_len-whole.ensures.outside in
+    let cut = outside (goal.at.returns-in_ok-gather-in-Ok-Ok-clause-read c).After-whole_len-whole in
     let within : n ≤ length held = subst (λ (l : List ℕ). n ≤ length l) c.as_slice.ensures.value c.whole_len-whole.ensures.within in
     let kept = c.in-Ok-Ok.ensures.kept in
     let g = c.in_ok-gather-in-Ok-Ok.ensures in
@@ -60,8 +63,7 @@ pub returns-in-Err-clause-memory : goal.returns-in-Err-clause-memory
 returns-in-Err-clause-memory c = λ memory wire bytes more r.
     let s = c.args.progress.now in
     let n = c.whole_len-whole.result in
-    let cut : ends_inside false (take n s.held.items) ≡ false =
-    ap (λ (l : List ℕ). ends_inside false (take n l)) (sym c.as_slice.ensures.value) ∙ c.whole_len-whole.ensures.outside in
+    let cut = outside (goal.at.returns-in-Err-clause-memory c).After-whole_len-whole in
     not_idle wire bytes more s n cut r (λ none e is. let no = c.in-Err.ensures.heading none e is in absurd (cc no))
     (λ unit known words m h still none. c.in-Err.ensures.memory (ap Err (cc memory)) unit known words m h still)
 
@@ -70,8 +72,7 @@ returns-in_err-gather-in-Ok-Ok-clause-memory c = λ memory wire bytes more r.
     let s = c.args.progress.now in
     let mid = c.read_to.new.self in
     let n = c.whole_len-whole.result in
-    let cut : ends_inside false (take n s.held.items) ≡ false =
-    ap (λ (l : List ℕ). ends_inside false (take n l)) (sym c.as_slice.ensures.value) ∙ c.whole_len-whole.ensures.outside in
+    let cut = outside (goal.at.returns-in_err-gather-in-Ok-Ok-clause-memory c).After-whole_len-whole in
     let reads = rw c.in-Ok-Ok.field-0-is at c.in-Ok-Ok.ensures.read in
     not_idle wire bytes more s n cut r (λ none e is. let no = c.in-Ok-Ok.ensures.heading none e is in absurd (cc no))
     (λ unit known words m h still none. c.in_err-gather-in-Ok-Ok.ensures.memory
