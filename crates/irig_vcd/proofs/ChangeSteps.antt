@@ -3,8 +3,8 @@ use Rattle.std.proofs.Common.{◌≡◌, ◌++◌, ◌∷◌, [], ℕ, Bool, tru
 use Rattle.irig_vcd.specs.Words.{Word, WordKind, dollar, hash, scalar, vector, real, text, other, rest_of}
 use Rattle.irig_vcd.specs.Answer.{◌>>=◌, pair_of}
 use Rattle.irig_vcd.specs.Times.{micros_of, time_of}
-use Rattle.irig_vcd.specs.Sections.{is_end}
-use Rattle.irig_vcd.specs.Events.{gives_level, any_word, comment_word, word_event, is_mark, is_comment}
+use Rattle.irig_vcd.specs.Sections.{is_end, is_mark}
+use Rattle.irig_vcd.specs.Events.{gives_level, any_word, comment_word, word_event, is_comment}
 use Rattle.irig_vcd.specs.Values.{vector_level, scalar_level}
 use Rattle.irig_vcd.specs.Changes.{changes_from, time_after, with_event, with_level}
 use Rattle.irig_vcd.specs.Code.Along.{behind}

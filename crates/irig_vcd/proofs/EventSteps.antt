@@ -10,9 +10,9 @@ use Rattle.irig_vcd.specs.Code.Journals.{Holds}
 use Rattle.irig_vcd.specs.Code.Pending.{IsValue, Means, Reads, ReadsTo}
 use Rattle.irig_vcd.specs.Code.Section.{end_read}
 use Rattle.irig_vcd.specs.Code.Short.{takes_code}
-use Rattle.irig_vcd.specs.Events.{Next, gives_level, any_word, code_of_value, comment_word, is_comment, is_mark, level_by, word_event}
+use Rattle.irig_vcd.specs.Events.{Next, gives_level, any_word, code_of_value, comment_word, is_comment, level_by, word_event}
 use Rattle.irig_vcd.specs.Journals.{Comment, comment, comments_from, is_journal}
-use Rattle.irig_vcd.specs.Sections.{is_end}
+use Rattle.irig_vcd.specs.Sections.{is_end, is_mark}
 use Rattle.irig_vcd.specs.Words.{Word, WordKind, dollar, hash, scalar, vector, real, text, other}
 use Rattle.irig_vcd.specs.declared.fault.VcdFault.{VcdFault}
 use Rattle.irig_vcd.specs.declared.journals.Journals.{Journals}

@@ -6,9 +6,9 @@ use Rattle.std.proofs.lemmas.Slice.Eq.{bytes_eq-Decides}
 use Rattle.irig_vcd.specs.Answer.{◌>>=◌}
 use Rattle.irig_vcd.specs.Code.Event.{is_hash}
 use Rattle.irig_vcd.specs.Code.Section.{after_end, end_read}
-use Rattle.irig_vcd.specs.Events.{any_word, comment_word, is_comment, is_mark}
+use Rattle.irig_vcd.specs.Events.{any_word, comment_word, is_comment}
 use Rattle.irig_vcd.specs.Journals.{Comment, comment, comments_from, is_journal, journals_among, next_after}
-use Rattle.irig_vcd.specs.Sections.{is_end}
+use Rattle.irig_vcd.specs.Sections.{is_end, is_mark}
 use Rattle.irig_vcd.specs.Words.{Word, WordKind, dollar, hash, scalar, vector, real, text, other}
 use Rattle.irig_vcd.specs.declared.fault.VcdFault.{VcdFault}
 

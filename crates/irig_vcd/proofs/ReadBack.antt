@@ -4,12 +4,12 @@ use Rattle.std.proofs.Common.{subst}
 use Rattle.std.specs.List.{list_any}
 use Rattle.std.proofs.lemmas.Bool.{le-ltb, cases_eq, eq-eqb, ne_eqb}
 use Rattle.std.proofs.lemmas.List.{append-nil}
-use Rattle.irig_vcd.specs.Sections.{section_of}
+use Rattle.irig_vcd.specs.Sections.{section_of, is_mark}
 use Rattle.irig_vcd.specs.Words.{Word, words_from, words_of, dollar, hash}
 use Rattle.irig_vcd.specs.Scales.{exponent_of}
 use Rattle.irig_vcd.specs.Variables.{declared_by, variable_of}
 use Rattle.irig_vcd.specs.Declarations.{declarations_of}
-use Rattle.irig_vcd.specs.Events.{any_word, is_mark}
+use Rattle.irig_vcd.specs.Events.{any_word}
 use Rattle.irig_vcd.specs.Times.{time_of, micros_of}
 use Rattle.irig_vcd.specs.Changes.{changes_from}
 use Rattle.irig_vcd.specs.Level.{edges_up_to, Change}
@@ -34,7 +34,7 @@ after_header high ws =
 
 pub declared : (high : Bool) (rest : List ℕ) → declarations_of None (words_of (header_text high ++ rest))
     ≡ Ok ((9, codes "!"), after_header high (words_from 125 false rest))
-unfolding head_text declarations_of section_of exponent_of declared_by variable_of
+unfolding head_text declarations_of section_of is_mark exponent_of declared_by variable_of
 declared true rest = refl
 declared false rest = refl
 

@@ -8,7 +8,7 @@ use Rattle.std.proofs.lemmas.List.Folds.{list_all-append}
 use Rattle.std.proofs.Math.Seq.{take-append_seam, drop-append_seam}
 use Rattle.irig_vcd.specs.Code.Event.{is_hash, level_read}
 use Rattle.irig_vcd.specs.Code.Section.{after_end, end_read}
-use Rattle.irig_vcd.specs.Events.{is_mark}
+use Rattle.irig_vcd.specs.Sections.{is_mark}
 use Rattle.irig_recording.specs.FileText.{time_line, level_line, edge_lines, end_line, file_text, header_text, begins_high, later_edges}
 use Rattle.irig_vcd.specs.Journals.{comment, journals_in, journals_among, text_of}
 use Rattle.irig_recording.specs.Comments.{IsJournalText, comment_text}

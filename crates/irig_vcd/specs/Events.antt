@@ -1,9 +1,9 @@
 -- What a word of the changes says: IEEE 1364-2005, clause 18.
-use Rattle.std.specs.Prelude.{◌||◌, ℕ, Bool, List, Option, None, Result, Ok, Err}
+use Rattle.std.specs.Prelude.{ℕ, Bool, List, Option, None, Result, Ok, Err}
 use Rattle.std.specs.Prelude.{if◌then◌else◌, codes}
 use Rattle.std.specs.Str.{bytes_eq}
 use Rattle.irig_vcd.specs.Answer.{◌>>=◌, pair_of}
-use Rattle.irig_vcd.specs.Sections.{is_end}
+use Rattle.irig_vcd.specs.Sections.{is_end, is_mark}
 use Rattle.irig_vcd.specs.Values.{scalar_level, vector_level}
 use Rattle.irig_vcd.specs.Words.{Word, WordKind, dollar, hash, scalar, vector, real, text, other}
 use Rattle.irig_vcd.specs.Words.{rest_of}
@@ -25,13 +25,6 @@ pub data Next : Type 0 where
 abbrev pub level_by : WordKind → List ℕ → Word → List ℕ → Result (Option Bool) VcdFault
 level_by vector code w behind = vector_level code w behind
 level_by _ code w behind = Ok None
-
--- a word that begins or ends a list of values
-unfoldable pub is_mark : List ℕ → Bool
-is_mark word =
-    bytes_eq word (codes "$dumpvars") || bytes_eq word (codes "$dumpall")
-    || bytes_eq word (codes "$dumpon") || bytes_eq word (codes "$dumpoff")
-    || bytes_eq word (codes "$end")
 
 -- a word that begins a comment
 abbrev pub is_comment : List ℕ → Bool

@@ -3,7 +3,8 @@ use Rattle.std.specs.Prelude.{ℕ, Bool, true, false, List, [], ◌∷◌, Optio
 use Rattle.std.specs.Prelude.{if◌then◌else◌}
 use Rattle.irig_vcd.specs.Answer.{◌>>=◌, pair_of}
 use Rattle.irig_vcd.specs.Code.Section.{after_end}
-use Rattle.irig_vcd.specs.Events.{is_mark, is_comment}
+use Rattle.irig_vcd.specs.Events.{is_comment}
+use Rattle.irig_vcd.specs.Sections.{is_mark}
 use Rattle.irig_vcd.specs.Values.{scalar_level, vector_level}
 use Rattle.irig_vcd.specs.Words.{Word, WordKind, dollar, hash, scalar, vector, real, text, other}
 use Rattle.irig_vcd.specs.declared.fault.VcdFault.{VcdFault}

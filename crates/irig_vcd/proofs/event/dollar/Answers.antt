@@ -1,6 +1,7 @@
 use Rattle.std.proofs.Common.{◌≡◌, [], None, true, false, inl, refl, sym, rules, ◌∙◌}
 use Rattle.irig_vcd.specs.Code.Token.{word_of}
-use Rattle.irig_vcd.specs.Events.{any_word, is_comment, is_mark}
+use Rattle.irig_vcd.specs.Events.{any_word, is_comment}
+use Rattle.irig_vcd.specs.Sections.{is_mark}
 use Rattle.irig_vcd.proofs.EventSteps.{holds_none, reads_comment, reads_mark}
 use Rattle.irig_vcd.proofs.event.dollar.Goals as goal
 
