@@ -1,6 +1,6 @@
 //! What is open after a word.
 
-ghost use Rattle.std.specs.Prelude.{◌≡◌, ℕ, List, [], Option};
+ghost use Rattle.std.specs.Prelude.{ℕ, [], Option};
 ghost use Rattle.irig_vcd.specs.Answer.{Gives};
 ghost use Rattle.irig_vcd.specs.Changes.{ended};
 ghost use Rattle.irig_vcd.specs.Code.Pending.{Means};

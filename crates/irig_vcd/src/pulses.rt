@@ -1,6 +1,6 @@
 //! Pulses that are read in one step: a rise and a fall, each a time line and a level line.
 
-ghost use Rattle.std.specs.Prelude.{◌≡◌, ◌≤◌, ◌<◌, ◌+◌, ◌^◌, ◌∷◌, [], ℕ, List, true, false, Result};
+ghost use Rattle.std.specs.Prelude.{◌≡◌, ◌≤◌, ◌<◌, ◌+◌, ◌^◌, ◌∷◌, [], true, false};
 ghost use Rattle.std.specs.Prelude.{length, slice_index, IfSome, IfOk};
 ghost use Rattle.irig_vcd.specs.Code.Along.{Along, HasFallen, SameJournals, TakesEdge, Total};
 ghost use Rattle.irig_vcd.specs.Code.Along.{at_micros};
