@@ -170,6 +170,15 @@ put_fault wire front held more n gone e place closed cut fails =
     (subst (λ (l : List Word). IsFaultOf e (read_words wire l)) (sym (part_words front held more n gone place closed cut))
     (fails (words_from (length (front ++ take n held)) false (drop n held ++ more))))
 
+-- the bytes that are gathered are those of the part as it was before it was read
+pub gathers_same : (old mid : Progress) (place : ℕ → Option (ℕ × ℕ)) (n : ℕ) → mid.held ≡ old.held → mid.gone ≡ old.gone → mid.journal ≡ old.journal
+    → mid.journal.items ++ part_at (place (mid.gone + n)) mid.gone (take n mid.held.items)
+    ≡ old.journal.items ++ part_at (place (old.gone + n)) old.gone (take n old.held.items)
+gathers_same old mid place n held gone journal =
+    ap (λ v. v.items ++ part_at (place (mid.gone + n)) mid.gone (take n mid.held.items)) journal
+    ∙ (ap (λ k. old.journal.items ++ part_at (place (k + n)) k (take n mid.held.items)) gone
+    ∙ ap (λ v. old.journal.items ++ part_at (place (old.gone + n)) old.gone (take n v.items)) held)
+
 -- held bytes are read
 pub put_read : (wire : Option (List ℕ)) (bytes : List ℕ) (old mid new : Progress) (n unit : ℕ)
     → n ≤ length old.held.items → ends_inside false (take n old.held.items) ≡ false

@@ -1,14 +1,14 @@
 use Rattle.std.proofs.Common.{◌≡◌, ◌≤◌, ◌++◌, ◌+◌, ◌∙◌, false, Err, List, None, Option, Some, ℕ, length, take, drop, ap, sym, subst}
 use Rattle.irig_vcd.specs.Answer.{IsFaultOf, bytes_of}
 use Rattle.irig_vcd.specs.Code.DumpReader.{Stage}
-use Rattle.irig_vcd.specs.Code.Gathered.{part_at, so_far}
+use Rattle.irig_vcd.specs.Code.Gathered.{so_far}
 use Rattle.irig_vcd.specs.Code.Joins.{ends_inside}
 use Rattle.irig_vcd.specs.Code.Journals.{place_view}
 use Rattle.irig_vcd.specs.Code.NextPart.{IsDark, IsReadUp}
 use Rattle.irig_vcd.specs.Parts.{dump_parts}
 use Rattle.irig_vcd.specs.Words.{words_from, words_of}
 use Rattle.irig_vcd.proofs.IdleParts.{no_place, not_idle}
-use Rattle.irig_vcd.proofs.PartSteps.{put_fault, put_read}
+use Rattle.irig_vcd.proofs.PartSteps.{gathers_same, put_fault, put_read}
 use Rattle.irig_vcd.proofs.dump_reader.read_held.Goals as goal
 use Rattle.irig_vcd.proofs.dump_reader.read_held.Goals.{After-whole_len-whole}
 
@@ -38,11 +38,7 @@ returns-in_ok-gather-in-Ok-Ok-clause-read c = λ wire bytes r.
     let within : n ≤ length held = subst (λ (l : List ℕ). n ≤ length l) c.as_slice.ensures.value c.whole_len-whole.ensures.within in
     let kept = c.in-Ok-Ok.ensures.kept in
     let g = c.in_ok-gather-in-Ok-Ok.ensures in
-    let place = so_far (place_view mid.reading.journals.first) mid.reading.pending in
-    let gathers : c.gather.new.self.journal.items ≡ s.journal.items ++ part_at (place (s.gone + n)) s.gone (take n held) =
-    g.bytes ∙ (ap (λ v. v.items ++ part_at (place (mid.gone + n)) mid.gone (take n mid.held.items)) kept.3
-    ∙ (ap (λ k. s.journal.items ++ part_at (place (k + n)) k (take n mid.held.items)) kept.1
-    ∙ ap (λ v. s.journal.items ++ part_at (place (s.gone + n)) s.gone (take n v.items)) kept.0)) in
+    let gathers = g.bytes ∙ gathers_same s mid (so_far (place_view mid.reading.journals.first) mid.reading.pending) n kept.0 kept.1 kept.3 in
     let rest = c.let_go.ensures.rest in
     put_read wire bytes s mid c.let_go.new.self n c.in-Ok-Ok.field-0-0 within cut kept.0 kept.1 kept.2
     (c.let_go.ensures.held ∙ ap (λ v. drop n v.items) g.rest.5) (c.let_go.ensures.gone ∙ ap (λ k. k + n) g.rest.4)

@@ -1,8 +1,8 @@
-use Rattle.std.proofs.Common.{◌≡◌, ◌++◌, ◌+◌, ◌∙◌, length, take, ap, arith}
+use Rattle.std.proofs.Common.{◌≡◌, ◌∙◌, length, take, arith}
 use Rattle.std.proofs.lemmas.List.{take_all}
-use Rattle.irig_vcd.specs.Code.Gathered.{part_at, so_far}
+use Rattle.irig_vcd.specs.Code.Gathered.{so_far}
 use Rattle.irig_vcd.specs.Code.Journals.{place_view}
-use Rattle.irig_vcd.proofs.PartSteps.{last_early, last_fault, last_gathered, last_read}
+use Rattle.irig_vcd.proofs.PartSteps.{gathers_same, last_early, last_fault, last_gathered, last_read}
 use Rattle.irig_vcd.proofs.dump_reader.read_rest.Goals as goal
 
 pub returns-in-Err-clause-fault : goal.returns-in-Err-clause-fault
@@ -32,11 +32,7 @@ returns-in_ok-gather-in-Ok-Ok-clause-read c = λ wire bytes r.
     let kept = c.in-Ok-Ok.ensures.kept in
     let g = c.in_ok-gather-in-Ok-Ok.ensures in
     let journal = c.gather.new.self.journal.items in
-    let place = so_far (place_view mid.reading.journals.first) mid.reading.pending in
-    let gathers : journal ≡ s.journal.items ++ part_at (place (s.gone + n)) s.gone (take n s.held.items) =
-    g.bytes ∙ (ap (λ v. v.items ++ part_at (place (mid.gone + n)) mid.gone (take n mid.held.items)) kept.3
-    ∙ (ap (λ k. s.journal.items ++ part_at (place (k + n)) k (take n mid.held.items)) kept.1
-    ∙ ap (λ v. s.journal.items ++ part_at (place (s.gone + n)) s.gone (take n v.items)) kept.0)) in
+    let gathers = g.bytes ∙ gathers_same s mid (so_far (place_view mid.reading.journals.first) mid.reading.pending) n kept.0 kept.1 kept.3 in
     rw (g.rest.2, g.rest.3) (
       last_read wire bytes s n unit mid.code.items mid.reading all reads r,
       last_gathered wire bytes s n unit mid.code.items journal mid.reading long all gathers reads r,
