@@ -9,5 +9,5 @@ mod writer;
 
 pub use edges::Edges;
 pub use pulse::Pulse;
-pub use recording::{PULSES_LIMIT, Recording};
+pub use recording::{LENGTH_LIMIT, PULSES_LIMIT, Recording};
 pub use writer::{TextWriter, text};

@@ -11,7 +11,8 @@ use crate::lanes::lanes_end;
 use crate::time::{Clock, cut};
 use crate::token::Tokens;
 use crate::trace::Trace;
-use crate::unit::{TIME_LIMIT, Unit};
+use crate::unit::Unit;
+use irig_recording::LENGTH_LIMIT;
 use std::alloc::AllocError;
 
 /// The most bytes that two edges have.
@@ -83,7 +84,7 @@ fn pulse_at(source: &[u8], at: usize, code: u8, unit: Unit, after: u64) -> Optio
         return None;
     };
     let (up, down) = (rise.time.whole, fall.time.whole);
-    if up <= after || down <= up || down > TIME_LIMIT {
+    if up <= after || down <= up || down > LENGTH_LIMIT {
         return None;
     }
     Some((rise, fall))

@@ -3,10 +3,8 @@
 ghost use Rattle.std.specs.Prelude.{◌≡◌, ◌≤◌, ◌-◌, ◌==◌, nat_le};
 ghost use Rattle.irig_vcd.specs.Code.Time.{factor_of, limit_of};
 
+use irig_recording::LENGTH_LIMIT;
 use std::marker::Model;
-
-/// The last time in microseconds that a dump may have.
-pub const TIME_LIMIT: u64 = 1 << 40;
 
 /// A unit of time: a power of ten of femtoseconds, from 0 to 17.
 #[derive(Clone, Copy)]
@@ -81,7 +79,7 @@ impl Unit {
             15 => 1099511,
             16 => 109951,
             17 => 10995,
-            _ => TIME_LIMIT,
+            _ => LENGTH_LIMIT,
         }
     }
 
