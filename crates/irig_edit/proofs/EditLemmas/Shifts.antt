@@ -101,9 +101,6 @@ late_free j count next fall high on off zero_stays more fits = elim (cases_lt j 
   | inr le ↦ (let none : nat_lt j count ≡ false = grind (arith, nat_tests) in rw none refl)
 ]
 
-rises_low : (i : ℕ) (s : State) → IsState s → 1 ≤ i → i ≤ length s.pulses → (pulse_of i s).rise < (pulse_of i s).fall
-rises_low i s lawful first last = (pulse_after 0 (i - 1) (pulse_of i s) s.pulses lawful.track.rises (pulse_there i s first last)).1
-
 -- a pulse does not rise after the fall of a later one
 pub rise_before : (i j : ℕ) (s : State) → IsState s → 1 ≤ i → i ≤ j → j ≤ length s.pulses → (pulse_of i s).rise ≤ (pulse_of j s).fall
 rise_before i j s lawful first order last =

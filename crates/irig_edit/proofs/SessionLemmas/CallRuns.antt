@@ -3,7 +3,7 @@ use Rattle.std.proofs.Common.{◌≡◌, ℕ, suc, zero, List, [], ◌∷◌, Op
 use Rattle.std.specs.Prelude.{replicate, is_ok}
 use Rattle.std.specs.Option.{option_and_then}
 use Rattle.irig_journal.specs.Groups.{Grouped, aborted, begun, ended, over, redone_over, undone_over}
-use Rattle.irig_journal.specs.Machine.{Machine, recorded, undone, redone}
+use Rattle.irig_journal.specs.Machine.{Machine, recorded, undone}
 use Rattle.irig_journal.specs.Commands.{Command, accepted, after_all, after_one}
 use Rattle.irig_journal.specs.Commands.Command.{Undo as UndoStep, Redo as RedoStep}
 use Rattle.irig_journal.proofs.CommandLemmas.{made_again}

@@ -5,7 +5,7 @@ use Rattle.std.specs.List.{AllByRecursion}
 use Rattle.std.specs.Prelude.{is_ok}
 use Rattle.std.proofs.lemmas.Bool.{leb-false}
 use Rattle.irig_journal.specs.Groups.{Floor, Grouped, begun, dropped_over, floored, is_at_floor, joined_over, over, redone_over, undone_over}
-use Rattle.irig_journal.specs.Machine.{Machine, mirrored, redone, taken_back, undone}
+use Rattle.irig_journal.specs.Machine.{Machine, mirrored, taken_back}
 use Rattle.irig_edit.specs.Session.Calls.{Call}
 use Rattle.irig_edit.specs.Session.Calls.Call.{Make, Undo, Redo, Go, Begin, End, Abort}
 use Rattle.irig_edit.specs.Session.GroupRuns.{AbortGivesBack, EndLeavesOneStep, IsAtMostOneMore, IsInGroup, StaysOpen}

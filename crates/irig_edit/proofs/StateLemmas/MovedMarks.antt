@@ -2,9 +2,7 @@
 use Rattle.std.proofs.Common.{◌≡◌, ◌≤◌, ◌<◌, ◌+◌, ℕ, ℤ, suc, zero, Bool, true, false, ◌&&◌, nat_le, if◌then◌else◌, List, [], ◌∷◌, length, map, slice_set}
 use Rattle.std.proofs.Common.{get_or, Option, Some, None, refl, ap, ap₂, subst, ◌∙◌, arith}
 use Rattle.std.proofs.lemmas.Bool.Decides.{nat_tests}
-use Rattle.std.specs.List.{AllByRecursion}
 use Rattle.irig_track.specs.Shifts.{ahead, back}
-use Rattle.irig_edit.specs.State.State.{IsMark}
 use Rattle.irig_edit.specs.State.Marks.{AllMayMove, MayMove, marks_moved, moved_if, moved_mark, moved_time, stands}
 
 module _ {A B : Type 0} where
@@ -135,9 +133,3 @@ may_between micros low high d (Some t ∷ marks) early late =
             up_to : (w : Bool) → (w && nat_le t high) ≡ true → t ≤ high
             up_to false h = let bad : false ≡ true = h in cc
             up_to true h = grind (arith, nat_tests)
-
--- a mark within a length is within a longer one
-pub marks_wider : (micros top : ℕ) (marks : List (Option ℕ)) → micros ≤ top → AllByRecursion (IsMark micros) marks → AllByRecursion (IsMark top) marks
-marks_wider micros top [] wide within = tt
-marks_wider micros top (None ∷ marks) wide within = (tt, marks_wider micros top marks wide within.1)
-marks_wider micros top (Some t ∷ marks) wide within = (omega (arith, within.0), marks_wider micros top marks wide within.1)
