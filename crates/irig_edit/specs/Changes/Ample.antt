@@ -16,7 +16,9 @@ use Rattle.irig_edit.specs.declared.changes.turn.Turn.{Turn}
 abbrev pub PutsIn : Places → State → Single → Type 0
 PutsIn p s (Splice at count put) = length s.pulses + length put ≤ p.pulses + count
 PutsIn p s (Toggle a b) = length s.pulses + 2 ≤ p.pulses
-PutsIn p s single = Unit {0}
+PutsIn p s (Shift i j d named) = Unit {0}
+PutsIn p s (SetFormat kind expression) = Unit {0}
+PutsIn p s (SetMark letter time) = Unit {0}
 
 -- how many records a turn may bring, in addition to those there are: the frames that the pulses of
 -- a splice have alone, and two, of the pulses on either side

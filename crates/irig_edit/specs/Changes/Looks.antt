@@ -8,6 +8,7 @@ use Rattle.irig_saved.specs.declared.change.Change.TheVariants.{One, Group}
 use Rattle.irig_saved.specs.declared.single.Single.{Single}
 use Rattle.irig_edit.specs.Changes.Single.{turned_single}
 use Rattle.irig_saved.specs.declared.single.Single.TheVariants.{Splice, Toggle, Shift, SetFormat}
+use Rattle.irig_saved.specs.declared.single.Single.TheVariants.{SetMark}
 use Rattle.irig_edit.specs.State.State.{State}
 
 -- how many pulses are there from a to b: they rise at or before b and fall at or after a
@@ -26,7 +27,8 @@ looks_by (Splice at count put) after = window (length put)
 looks_by (Toggle a b) after = window (standing_in a b after)
 looks_by (Shift (suc i) (suc j) d named) after = window (count_to i j)
 looks_by (SetFormat kind expression) after = None
-looks_by _ after = Some 0
+looks_by (Shift i j d named) after = Some 0
+looks_by (SetMark letter time) after = Some 0
 
 -- the sum of two bounds, if there are both
 abbrev pub both : Option ℕ → Option ℕ → Option ℕ

@@ -5,7 +5,8 @@ use Rattle.irig_edit.specs.Changes.Held.{single_of}
 use Rattle.irig_edit.specs.State.Places.{HoldsState, Places}
 use Rattle.irig_saved.specs.declared.single.Single.{Single}
 use Rattle.irig_edit.specs.Changes.Single.{goes, turned_single}
-use Rattle.irig_saved.specs.declared.single.Single.TheVariants.{Toggle}
+use Rattle.irig_saved.specs.declared.single.Single.TheVariants.{Splice, Toggle, Shift, SetFormat}
+use Rattle.irig_saved.specs.declared.single.Single.TheVariants.{SetMark}
 use Rattle.irig_edit.specs.State.State.{State}
 use Rattle.irig_edit.specs.declared.changes.turn.Turn.{Turn}
 
@@ -16,7 +17,10 @@ TakesIn turn = goes (single_of turn) ≤ turn.taken.capacity
 -- how many places for pulses a turn needs on its way, in addition
 abbrev pub passing : Single → ℕ
 passing (Toggle a b) = 1
-passing d = 0
+passing (Splice at count put) = 0
+passing (Shift i j d named) = 0
+passing (SetFormat kind expression) = 0
+passing (SetMark letter time) = 0
 
 -- there is room for a turn of a single change, and for a turn of the one that leads back: places
 -- for the pulses that go, for the state before and for the state after

@@ -60,7 +60,10 @@ IsShift single = ⊥
 -- how many pulses go
 abbrev pub goes : Single → ℕ
 goes (Splice at count put) = count
-goes single = 0
+goes (Toggle a b) = 0
+goes (Shift i j d named) = 0
+goes (SetFormat kind expression) = 0
+goes (SetMark letter time) = 0
 
 -- a buffer has places for this many pulses, and for at most half as many more, and one
 abbrev pub IsRoomFor : ℕ → ℕ → Type 0
@@ -69,4 +72,7 @@ IsRoomFor count capacity = (count ≤ capacity) × (2 * capacity ≤ 3 * count +
 -- how many pulses it holds
 abbrev pub held_in : Single → ℕ
 held_in (Splice at count put) = length put
-held_in single = 0
+held_in (Toggle a b) = 0
+held_in (Shift i j d named) = 0
+held_in (SetFormat kind expression) = 0
+held_in (SetMark letter time) = 0

@@ -135,7 +135,7 @@ impl Present {
                 self.track.reserve(more)
             }
             Single::Toggle { .. } => self.track.reserve(2),
-            _ => Ok(()),
+            Single::Shift { .. } | Single::SetFormat { .. } | Single::SetMark { .. } => Ok(()),
         }
     }
 }

@@ -27,7 +27,10 @@ impl Turn {
     {
         match &self.single {
             Single::Splice { put, .. } => put.len(),
-            _ => 0,
+            Single::Toggle { .. }
+            | Single::Shift { .. }
+            | Single::SetFormat { .. }
+            | Single::SetMark { .. } => 0,
         }
     }
 
@@ -39,7 +42,10 @@ impl Turn {
     {
         match &self.single {
             Single::Splice { count, .. } => self.taken.reserve(*count as usize),
-            _ => Ok(()),
+            Single::Toggle { .. }
+            | Single::Shift { .. }
+            | Single::SetFormat { .. }
+            | Single::SetMark { .. } => Ok(()),
         }
     }
 }
