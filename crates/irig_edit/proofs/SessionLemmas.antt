@@ -3,6 +3,7 @@ pub mod Machines
 pub mod MachineSteps
 pub mod CallRuns
 pub mod Floors
+pub mod Refused
 pub mod Sums
 pub mod Aborts
 pub mod Endings

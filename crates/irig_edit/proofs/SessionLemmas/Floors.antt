@@ -7,26 +7,17 @@ use Rattle.irig_journal.specs.declared.opening.Opening.{Opening}
 use Rattle.irig_journal.specs.Groups.{Floor, Grouped, begun, floored, is_at_floor, over, recorded_over, redone_over, undone_over}
 use Rattle.irig_journal.specs.Machine.{Machine, mirrored, recorded, redone, taken_back, undone}
 use Rattle.irig_journal.specs.Openings.{AtFloor}
-use Rattle.irig_journal.specs.Journal.{Steps}
-use Rattle.irig_edit.specs.Session.Keeping.{behind, floor_at, floor_of, grouped_at}
+use Rattle.irig_edit.specs.Session.Keeping.{behind, floor_at, floor_of}
 use Rattle.irig_edit.specs.Session.Kept.{Exchange, Kept, kept}
 use Rattle.irig_edit.specs.Session.Limits.{IsFloor, IsGrouped}
 use Rattle.irig_edit.specs.Session.Machine.{with_cursor}
-use Rattle.irig_edit.specs.State.Present.{PresentView}
 use Rattle.irig_edit.specs.State.State.{State, IsState}
-use Rattle.irig_edit.specs.declared.changes.turn.Turn.{Turn}
 use Rattle.irig_edit.proofs.SessionLemmas.Machines.{IsMachine-recorded, IsMachine-redone, IsMachine-undone}
 use Rattle.irig_edit.proofs.SessionLemmas.MachineSteps.{redone_alone, undone_above, undone_alone}
 
 -- a machine over the floor of its open group, if one is open
 abbrev pub over_opening : Option Opening → Machine Kept → Grouped Kept
 over_opening opening m = over (option_map (floor_of m) opening) m
-
--- the same state, cursor and journal mean the same machine with its floor
-pub same_grouped : (p q : PresentView) (m n : ℕ) (i j : Steps Turn) → q ≡ p → n ≡ m → j ≡ i
-    → grouped_at q.state n j ≡ grouped_at p.state m i
-same_grouped p q m n i j here at steps = ap (λ (x : PresentView). grouped_at x.state n j) here
-    ∙ (ap (λ (x : ℕ). grouped_at p.state x j) at ∙ ap (grouped_at p.state m) steps)
 
 -- one more state is before the present
 floor_of-deeper : (o : Opening) (now present : Kept) (past : List Kept) → o.steps ≤ length past

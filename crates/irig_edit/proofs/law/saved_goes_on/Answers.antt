@@ -6,20 +6,14 @@ use Rattle.irig_edit.specs.Session.Session.{SessionView}
 use Rattle.irig_edit.proofs.OpenedLemmas.GoingOn.{always_opened, can_go_back, can_go_on, goes_on}
 use Rattle.irig_edit.proofs.law.saved_goes_on.Goals as goal
 
-pub returns-clause-same : goal.returns-clause-same
-returns-clause-same c =
+pub returns : goal.returns
+returns c =
     let s = c.session.inside in
     let h = history_of delta_of s.present.state s.cursor s.journal in
     let m = c.session.invariant.0.machine in
-    let fits = c.session.invariant.1.0 in
-    subst (λ (v : SessionView). IsShort v → GoesOn v) c.session.view_is
-    (goes_on h m.present.state m.present.cursor (can_go_back h.state h.past fits.0 m.past) (can_go_on h.state h.future fits.1 m.future))
-
-pub returns-clause-opened : goal.returns-clause-opened
-returns-clause-opened c =
-    let s = c.session.inside in
-    let h = history_of delta_of s.present.state s.cursor s.journal in
-    let m = c.session.invariant.0.machine in
-    let fits = c.session.invariant.1.0 in
-    subst (λ (v : SessionView). IsShort v → IsAlwaysOpened v) c.session.view_is
-    (always_opened h m.present.state m.present.cursor (can_go_back h.state h.past fits.0 m.past) (can_go_on h.state h.future fits.1 m.future))
+    let back = can_go_back h.state h.past c.session.invariant.1.0.0 m.past in
+    let on = can_go_on h.state h.future c.session.invariant.1.0.1 m.future in
+    record {
+      same = subst (λ (v : SessionView). IsShort v → GoesOn v) c.session.view_is (goes_on h m.present.state m.present.cursor back on);
+      opened = subst (λ (v : SessionView). IsShort v → IsAlwaysOpened v) c.session.view_is (always_opened h m.present.state m.present.cursor back on);
+    }

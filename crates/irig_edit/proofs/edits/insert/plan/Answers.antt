@@ -1,4 +1,4 @@
-use Rattle.std.proofs.Common.{◌≡◌, ◌+◌, ◌-◌, ℕ, [], ◌∷◌, arith, subst, sym, ◌∙◌, ap, length}
+use Rattle.std.proofs.Common.{rules, ◌≡◌, ◌+◌, ◌-◌, ℕ, [], ◌∷◌, arith, subst, sym, ◌∙◌, ap, length}
 use Rattle.irig_track.specs.Edges.{pulse}
 use Rattle.irig_track.specs.Splices.{CanSplice, spliced}
 use Rattle.irig_edit.specs.Edits.Becoming.{Becomes}
@@ -7,24 +7,20 @@ use Rattle.irig_edit.specs.State.State.{with_pulses}
 use Rattle.irig_edit.proofs.EditLemmas.Insertions.{inserted}
 use Rattle.irig_edit.proofs.edits.insert.plan.Goals as goal
 
-pub returns-clause-can : goal.returns-clause-can
-returns-clause-can c =
+pub returns : goal.returns
+returns c =
     let s = c.args.present.now.state in
     let put = pulse c.args.a c.args.b ∷ [] in
     let place : c.find.result ≡ c.find.result + 1 - 1 = omega arith in
-    subst (λ (n : ℕ). CanSplice s.micros n 0 put s.pulses) place
-    (inserted s c.args.a c.args.b c.find.result c.track-track.ensures.state c.if-a-b.false
+    let both = inserted s c.args.a c.args.b c.find.result c.track-track.ensures.state c.if-a-b.false
     (omega (arith, c.if-b-length.false, (c.length.ensures.length ∙ c.track-track.ensures.micros)))
     (sym c.is_touched.ensures ∙ c.if-is_touched.false) (omega (arith, c.room.ensures, ap length c.track-track.ensures.pulses, c.if-room-eq0.false))
-    c.find.ensures.count c.find.ensures.within).0
-
-pub returns-clause-becomes : goal.returns-clause-becomes
-returns-clause-becomes c =
-    let s = c.args.present.now.state in
-    let put = pulse c.args.a c.args.b ∷ [] in
-    let place : c.find.result ≡ c.find.result + 1 - 1 = omega arith in
-    subst (λ (n : ℕ). Becomes (Insert c.args.a c.args.b) s (with_pulses (spliced n 0 put s.pulses) s) (c.find.result + 1)) place
-    (inserted s c.args.a c.args.b c.find.result c.track-track.ensures.state c.if-a-b.false
-    (omega (arith, c.if-b-length.false, (c.length.ensures.length ∙ c.track-track.ensures.micros)))
-    (sym c.is_touched.ensures ∙ c.if-is_touched.false) (omega (arith, c.room.ensures, ap length c.track-track.ensures.pulses, c.if-room-eq0.false))
-    c.find.ensures.count c.find.ensures.within).1
+    c.find.ensures.count c.find.ensures.within in
+    record {
+      refused = tt;
+      allowed = search rules;
+      there = search rules;
+      can = subst (λ (n : ℕ). CanSplice s.micros n 0 put s.pulses) place both.0;
+      becomes = subst (λ (n : ℕ). Becomes (Insert c.args.a c.args.b) s (with_pulses (spliced n 0 put s.pulses) s) (c.find.result + 1)) place both.1;
+      change = search rules;
+    }

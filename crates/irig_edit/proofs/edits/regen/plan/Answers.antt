@@ -1,4 +1,4 @@
-use Rattle.std.proofs.Common.{ℕ, subst, ◌≡◌, ◌≤◌, ◌+◌, ◌-◌, ◌*◌, ◌^◌, true, false, length, refl, ap, sym, ◌∙◌, arith}
+use Rattle.std.proofs.Common.{rules, ℕ, subst, ◌≡◌, ◌≤◌, ◌+◌, ◌-◌, ◌*◌, ◌^◌, true, false, length, refl, ap, sym, ◌∙◌, arith}
 use Rattle.irig_codes.specs.Format.{FormatView, control_count_of}
 use Rattle.irig_moment.specs.Generated.{starts_in}
 use Rattle.irig_moment.specs.Moment.{MomentView}
@@ -6,7 +6,7 @@ use Rattle.irig_track.specs.Splices.{CanSplice, spliced}
 use Rattle.irig_edit.specs.Edits.Becoming.{Becomes}
 use Rattle.irig_edit.specs.Session.Calls.Edit.{Regen}
 use Rattle.irig_edit.specs.State.State.{IsState, State, with_pulses}
-use Rattle.irig_edit.specs.Edits.Conditions.{are_frames, is_met, are_too_many, is_wide}
+use Rattle.irig_edit.specs.Edits.Conditions.{are_frames, is_met, are_too_many}
 use Rattle.irig_edit.specs.Edits.Regenerated.{frame_elements, frames_end, frames_pulses, rising_before, rising_in}
 use Rattle.irig_saved.specs.declared.change.Change.TheVariants.{One}
 use Rattle.irig_saved.specs.declared.single.Single.TheVariants.{Splice}
@@ -15,7 +15,7 @@ use Rattle.irig_edit.proofs.EditLemmas.GenerationTests.{end_said, frames_said, t
 use Rattle.irig_edit.proofs.EditLemmas.Regenerations.{regenerated}
 use Rattle.irig_edit.proofs.StateLemmas.Risings.{before_end}
 use Rattle.irig_edit.proofs.edits.regen.plan.Goals as goal
-use Rattle.irig_edit.proofs.edits.regen.plan.Goals.{After-moment-1, After-rising_before}
+use Rattle.irig_edit.proofs.edits.regen.plan.Goals.{After-control_count, After-moment-1, After-rising_before, After-starts}
 
 -- what is known of a state once the places of the start and of the end are found
 record Found (start frames at by : ℕ) (s : State) : Type 0 where
@@ -69,36 +69,31 @@ returns-then-frames-room-clause-refused c =
     )) in
     rw f.there (rw f.free (rw many refl))
 
+-- whether the moment can be encoded, as it was asked
+starting : (c : After-starts) → starts_in c.args.present.now.state.format c.args.moment ≡ c.starts.result
+starting c = sym (ap (λ (f : FormatView). starts_in f c.args.moment) c.format-format.ensures) ∙ sym c.starts.ensures
+
+-- the count of control elements of the state's format
+counting : (c : After-control_count) → c.control_count.result ≡ control_count_of c.args.present.now.state.format
+counting c = c.control_count.ensures.value ∙ ap (λ (f : FormatView). control_count_of f) c.format-format.ensures
+
 pub returns-then-not-starts-clause-refused : goal.returns-then-not-starts-clause-refused
 returns-then-not-starts-clause-refused c =
-    let s = c.args.present.now.state in
-    let f = found (goal.at.returns-then-not-starts-clause-refused c).After-rising_before in
-    let fit = fitting f (few (goal.at.returns-then-not-starts-clause-refused c).After-moment-1) in
-    let bad : starts_in s.format c.args.moment ≡ false =
-    sym (ap (λ (f : FormatView). starts_in f c.args.moment) c.format-format.ensures) ∙ sym c.starts.ensures ∙ c.if-not-starts.true in
+    let at = goal.at.returns-then-not-starts-clause-refused c in
+    let f = found at.After-rising_before in
+    let fit = fitting f (few at.After-moment-1) in
+    let bad = starting at.After-starts ∙ c.if-not-starts.true in
     rw f.there (rw f.free (rw fit (rw bad refl)))
 
 pub returns-then-control-control_count-gt0-clause-refused : goal.returns-then-control-control_count-gt0-clause-refused
 returns-then-control-control_count-gt0-clause-refused c =
-    let s = c.args.present.now.state in
-    let f = found (goal.at.returns-then-control-control_count-gt0-clause-refused c).After-rising_before in
-    let fit = fitting f (few (goal.at.returns-then-control-control_count-gt0-clause-refused c).After-moment-1) in
-    let good : starts_in s.format c.args.moment ≡ true =
-    sym (ap (λ (f : FormatView). starts_in f c.args.moment) c.format-format.ensures) ∙ sym c.starts.ensures ∙ c.if-not-starts.false in
-    let count = c.control_count.ensures.value ∙ ap (λ (f : FormatView). control_count_of f) c.format-format.ensures in
-    let wide : is_wide c.args.control s ≡ true = is_wide_yes c.args.control c.control_count.result s count c.if-control-control_count-gt0.true in
+    let at = goal.at.returns-then-control-control_count-gt0-clause-refused c in
+    let f = found at.After-rising_before in
+    let fit = fitting f (few at.After-moment-1) in
+    let good = starting at.After-starts ∙ c.if-not-starts.false in
+    let wide = is_wide_yes c.args.control c.control_count.result c.args.present.now.state (counting at.After-control_count)
+    c.if-control-control_count-gt0.true in
     rw f.there (rw f.free (rw fit (rw good (rw wide refl))))
-
-pub returns-clause-allowed : goal.returns-clause-allowed
-returns-clause-allowed c =
-    let s = c.args.present.now.state in
-    let f = found (goal.at.returns-clause-allowed c).After-rising_before in
-    let fit = fitting f (few (goal.at.returns-clause-allowed c).After-moment-1) in
-    let good : starts_in s.format c.args.moment ≡ true =
-    sym (ap (λ (f : FormatView). starts_in f c.args.moment) c.format-format.ensures) ∙ sym c.starts.ensures ∙ c.if-not-starts.false in
-    let count = c.control_count.ensures.value ∙ ap (λ (f : FormatView). control_count_of f) c.format-format.ensures in
-    let narrow : is_wide c.args.control s ≡ false = is_wide_no c.args.control c.control_count.result s count c.if-control-control_count-gt0.false in
-    rw f.there (rw f.free (rw fit (rw good (rw narrow refl))))
 
 -- the frames come where the pulses go
 made : {start frames at by : ℕ} {s : State} (moment : MomentView) (control : ℕ) → Found start frames at by s → IsState s → by ≤ length s.pulses
@@ -111,38 +106,29 @@ made {start} {frames} {at} {by} {s} moment control f is within fit =
     regenerated s start frames moment control at (by - at) is (frames_said start frames s f.there).2 f.free fit f.is_at (both ∙ f.is_by)
     (omega (arith, both, within))
 
-pub returns-clause-can : goal.returns-clause-can
-returns-clause-can c =
+pub returns : goal.returns
+returns c =
     let s = c.args.present.now.state in
+    let at = goal.at.returns c in
+    let f = found at.After-rising_before in
+    let room = few at.After-moment-1 in
+    let good = starting at.After-starts ∙ c.if-not-starts.false in
+    let narrow = is_wide_no c.args.control c.control_count.result s (counting at.After-control_count) c.if-control-control_count-gt0.false in
     let put = frames_pulses s.format c.args.start c.args.frames c.args.moment c.args.control in
-    let gone = c.rising_before.result - c.rising_before-at.result in
-    let place : c.rising_before-at.result ≡ c.rising_before-at.result + 1 - 1 = omega arith in
-    subst (λ (n : ℕ). CanSplice s.micros n gone put s.pulses) place
-    (made c.args.moment c.args.control (found (goal.at.returns-clause-can c).After-rising_before) c.rising_before.ensures.state c.rising_before.ensures.within
-    (few (goal.at.returns-clause-can c).After-moment-1)).0
-
-pub returns-clause-becomes : goal.returns-clause-becomes
-returns-clause-becomes c =
-    let s = c.args.present.now.state in
-    let put = frames_pulses s.format c.args.start c.args.frames c.args.moment c.args.control in
-    let gone = c.rising_before.result - c.rising_before-at.result in
-    let place : c.rising_before-at.result ≡ c.rising_before-at.result + 1 - 1 = omega arith in
-    subst (λ (n : ℕ). Becomes (Regen c.args.start c.args.frames c.args.moment c.args.control) s (with_pulses (spliced n gone put s.pulses) s)
-    (n + 100 * c.args.frames)) place
-    (made c.args.moment c.args.control (found (goal.at.returns-clause-becomes c).After-rising_before) c.rising_before.ensures.state
-    c.rising_before.ensures.within
-    (few (goal.at.returns-clause-becomes c).After-moment-1)).1
-
-pub returns-clause-change : goal.returns-clause-change
-returns-clause-change c =
-    let s = c.args.present.now.state in
-    let f = found (goal.at.returns-clause-change c).After-rising_before in
-    let is_at = c.rising_before-at.ensures.count in
-    let gone : c.rising_before.result - c.rising_before-at.result ≡ length (rising_in c.args.start (frames_end s.format c.args.start c.args.frames) s.pulses) =
-    omega (arith, f.sum, is_at, f.is_by) in
-    (λ k. One (Splice (is_at k + 1) (gone k) (frames_pulses s.format c.args.start c.args.frames c.args.moment c.args.control)))
-
-pub returns-clause-many : goal.returns-clause-many
-returns-clause-many c =
-    let s = c.args.present.now.state in
-    sym (frames_many s.format c.args.start (frame_elements s.format c.args.moment c.args.control) 0 c.args.frames)
+    let first = c.rising_before-at.result in
+    let gone = c.rising_before.result - first in
+    let place : first ≡ first + 1 - 1 = omega arith in
+    let both = made c.args.moment c.args.control f c.rising_before.ensures.state c.rising_before.ensures.within room in
+    let counted : gone ≡ length (rising_in c.args.start (frames_end s.format c.args.start c.args.frames) s.pulses) = omega (arith, f.sum, f.is_at, f.is_by) in
+    record {
+      refused = tt;
+      allowed = rw f.there (rw f.free (rw (fitting f room) (rw good (rw narrow refl))));
+      frames = search rules;
+      there = search rules;
+      can = subst (λ (n : ℕ). CanSplice s.micros n gone put s.pulses) place both.0;
+      becomes = subst (λ (n : ℕ). Becomes (Regen c.args.start c.args.frames c.args.moment c.args.control) s (with_pulses (spliced n gone put s.pulses) s)
+          (n + 100 * c.args.frames)) place both.1;
+      few = search rules;
+      change = (λ k. One (Splice (f.is_at k + 1) (counted k) put));
+      many = sym (frames_many s.format c.args.start (frame_elements s.format c.args.moment c.args.control) 0 c.args.frames);
+    }

@@ -16,7 +16,6 @@ use Rattle.irig_edit.specs.Changes.Looks.{window}
 use Rattle.irig_edit.specs.State.Marks.{AllMayMove, stands}
 use Rattle.irig_edit.proofs.EditLemmas.ShiftedStates.{marks_may, shifted_becomes}
 use Rattle.irig_edit.proofs.edits.shift.plan.Goals as goal
-use Rattle.irig_edit.proofs.edits.shift.plan.Goals.{After-letters_from-marks}
 
 -- what holds of pulses that are one more than the places before them
 numbered : (P : ℕ → ℕ → Type 0) (i j : ℕ) → 1 ≤ i → i ≤ j → P (suc (i - 1)) (suc (j - 1)) → P i j
@@ -25,69 +24,42 @@ numbered P i j first order holds =
     let far : suc (j - 1) ≡ j = omega (arith, first, order) in
     subst (λ (n : ℕ). P n j) near (subst (λ (m : ℕ). P (suc (i - 1)) m) far holds)
 
--- the pulses may be moved by the distance that was asked for, and the letters are those of the marks from the first to the last
-asked : (c : After-letters_from-marks) → CanShift c.args.present.now.state.micros (c.args.i - 1) (c.args.j - 1) c.args.by c.args.present.now.state.pulses
-    × (c.letters_from-marks.result
-    ≡ map (stands (pulse_of c.args.i c.args.present.now.state).rise (pulse_of c.args.j c.args.present.now.state).fall) c.args.present.now.state.marks)
-asked c =
-    let s = c.args.present.now.state in
-    let rise = ap (λ (p : Pulse). p.rise) c.pulse-low.ensures.pulse in
-    let fall = ap (λ (p : Pulse). p.fall) c.pulse-high.ensures.pulse in (
-      subst (λ (e : ℤ). CanShift s.micros (c.args.i - 1) (c.args.j - 1) e s.pulses) (to_z-of_z w64 c.args.by c.ranges.by) c.in_ok-judge.ensures.can,
-      c.letters_from-marks.ensures ∙ (λ k. map (stands (rise k) (fall k)) s.marks),
-    )
-
-pub returns-clause-fits : goal.returns-clause-fits
-returns-clause-fits c =
+pub returns : goal.returns
+returns c =
     let i = c.args.i in
     let j = c.args.j in
     let d = c.args.by in
     let s = c.args.present.now.state in
     let there = c.in_ok-judge.ensures.there in
     let passed = to_z-of_z w64 d c.ranges.by in
-    let known = asked (goal.at.returns-clause-fits c).After-letters_from-marks in
-    let can = known.0 in
-    let letters = known.1 in
+    let can = subst (λ (e : ℤ). CanShift s.micros (i - 1) (j - 1) e s.pulses) passed c.in_ok-judge.ensures.can in
+    let rise = ap (λ (p : Pulse). p.rise) c.pulse-low.ensures.pulse in
+    let fall = ap (λ (p : Pulse). p.fall) c.pulse-high.ensures.pulse in
+    let named = map (stands (pulse_of i s).rise (pulse_of j s).fall) s.marks in
+    let letters : c.letters_from-marks.result ≡ named = c.letters_from-marks.ensures ∙ (λ k. map (stands (rise k) (fall k)) s.marks) in
     let may = marks_may i j d s c.pulse-low.ensures.state there.0 there.1 there.2 can in
+    let long : length c.letters_from-marks.result ≡ 26 = search rules in
     let P : ℤ → Type 0 = λ e. CanShift s.micros (i - 1) (j - 1) e s.pulses × AllMayMove s.micros e c.letters_from-marks.result s.marks
     × (length c.letters_from-marks.result ≡ 26) in
-    let long : length c.letters_from-marks.result ≡ 26 = search rules in
     let fits = subst P (sym passed) (can, subst (λ (ls : List Bool). AllMayMove s.micros d ls s.marks) (sym letters) may, long) in
-    numbered (λ n m. FitsSingle s (Shifted n m (to_z w64 (of_z w64 d)) c.letters_from-marks.result)) i j there.0 there.1 fits
-
-pub returns-clause-becomes : goal.returns-clause-becomes
-returns-clause-becomes c =
-    let i = c.args.i in
-    let j = c.args.j in
-    let d = c.args.by in
-    let s = c.args.present.now.state in
-    let there = c.in_ok-judge.ensures.there in
-    let passed = to_z-of_z w64 d c.ranges.by in
-    let known = asked (goal.at.returns-clause-becomes c).After-letters_from-marks in
-    let can = known.0 in
-    let letters = known.1 in
     let moved = shifted_becomes i j d s c.pulse-low.ensures.state there.0 there.1 there.2 can in
-    let named = subst (λ (ls : List Bool). Becomes (Shift i j d) s (turned_single s (Shifted (suc (i - 1)) (suc (j - 1)) d ls)).0 j) (sym letters) moved in
     let becomes = subst (λ (e : ℤ). Becomes (Shift i j d) s (turned_single s (Shifted (suc (i - 1)) (suc (j - 1)) e c.letters_from-marks.result)).0 j)
-    (sym passed) named in
-    numbered (λ n m. Becomes (Shift i j d) s (turned_single s (Shifted n m (to_z w64 (of_z w64 d)) c.letters_from-marks.result)).0 j) i j there.0 there.1
-    becomes
-
-pub returns-clause-exchange : goal.returns-clause-exchange
-returns-clause-exchange c =
-    let i = c.args.i in
-    let j = c.args.j in
-    let d = c.args.by in
-    let s = c.args.present.now.state in
-    let there = c.in_ok-judge.ensures.there in
-    let passed = to_z-of_z w64 d c.ranges.by in
-    let letters = (asked (goal.at.returns-clause-exchange c).After-letters_from-marks).1 in
+    (sym passed)
+    (subst (λ (ls : List Bool). Becomes (Shift i j d) s (turned_single s (Shifted (suc (i - 1)) (suc (j - 1)) d ls)).0 j) (sym letters) moved) in
     let size : count_to (i - 1) (j - 1) ≡ j + 1 - i = omega (arith, there.0, there.1) in
     let near : suc (i - 1) ≡ i = omega (arith, there.0) in
     let far : suc (j - 1) ≡ j = omega (arith, there.0, there.1) in
-    let letters_are = map (stands (pulse_of i s).rise (pulse_of j s).fall) s.marks in
     let most = window (j + 1 - i) in
-    let both : ℕ → ℕ → Exchange = λ n m. holding_none most most (turned s (One (Shifted n m d letters_are))).1 (One (Shifted n m d letters_are)) in
-    numbered (λ n m. exchange_of s (One (Shifted n m (to_z w64 (of_z w64 d)) c.letters_from-marks.result)) ≡ exchange_by (Shift i j d) s) i j there.0 there.1
-    ((λ k. holding_none (window (size k)) (window (size k)) (One (Shifted (suc (i - 1)) (suc (j - 1)) (neg_ℤ (passed k)) (letters k)))
-    (One (Shifted (suc (i - 1)) (suc (j - 1)) (passed k) (letters k)))) ∙ (λ k. both (near k) (far k)))
+    let both : ℕ → ℕ → Exchange = λ n m. holding_none most most (turned s (One (Shifted n m d named))).1 (One (Shifted n m d named)) in
+    record {
+      refused = tt;
+      allowed = search rules;
+      there = there.2;
+      fits = numbered (λ n m. FitsSingle s (Shifted n m (to_z w64 (of_z w64 d)) c.letters_from-marks.result)) i j there.0 there.1 fits;
+      becomes = numbered (λ n m. Becomes (Shift i j d) s (turned_single s (Shifted n m (to_z w64 (of_z w64 d)) c.letters_from-marks.result)).0 j)
+          i j there.0 there.1 becomes;
+      exchange = numbered (λ n m. exchange_of s (One (Shifted n m (to_z w64 (of_z w64 d)) c.letters_from-marks.result)) ≡ exchange_by (Shift i j d) s)
+          i j there.0 there.1
+          ((λ k. holding_none (window (size k)) (window (size k)) (One (Shifted (suc (i - 1)) (suc (j - 1)) (neg_ℤ (passed k)) (letters k)))
+          (One (Shifted (suc (i - 1)) (suc (j - 1)) (passed k) (letters k)))) ∙ (λ k. both (near k) (far k)));
+    }

@@ -4,6 +4,7 @@ use Rattle.irig_saved.specs.declared.single.Single.{Single}
 use Rattle.irig_edit.proofs.OpenedLemmas.TakenGroups.{MadeSoFar, enough_made, group_made, made_more, made_none, made_stops}
 use Rattle.irig_edit.proofs.OpenedLemmas.TakenSteps.{told_no, told_yes}
 use Rattle.irig_edit.proofs.opened.walk.Walk.make_all.Goals as goal
+use Rattle.irig_edit.proofs.opened.walk.Walk.make_all.Goals.{In-Some}
 
 -- the single changes in their order again
 pub loop-single-init : goal.loop-single-init
@@ -12,26 +13,21 @@ loop-single-init c =
     let singles = c.args.singles.items in
     subst (λ (l : List Single). MadeSoFar h singles h l) (sym (ap reverse c.reverse.ensures.items ∙ reverse-reverse singles)) (made_none h singles)
 
+-- the changes so far were made, and this one is the next
+next : (c : In-Some) → MadeSoFar c.args.self.now c.args.singles.items c.loop-single.self (c.in-Some.single ∷ reverse c.pop.new.self.items)
+next c = subst (λ (l : List Single). MadeSoFar c.args.self.now c.args.singles.items c.loop-single.self l)
+    (ap reverse c.in-Some.ensures.items ∙ reverse-append c.pop.new.self.items (c.in-Some.single ∷ [])) c.loop-single.invariant
+
 pub returns-in-Ok-false : goal.returns-in-Ok-false
 returns-in-Ok-false c =
-    let h = c.args.self.now in
-    let singles = c.args.singles.items in
-    let left = c.pop.new.self.items in
-    let x = c.in-Some.single in
-    let over : reverse c.loop-single.singles.items ≡ x ∷ reverse left = ap reverse c.in-Some.ensures.items ∙ reverse-append left (x ∷ []) in
-    let so_far = subst (λ (l : List Single). MadeSoFar h singles c.loop-single.self l) over c.loop-single.invariant in
-    made_stops h c.loop-single.self singles (reverse left) x so_far (told_no _ _ _ c.in-Ok-false.field-0-test c.in-Ok-false.ensures)
+    made_stops c.args.self.now c.loop-single.self c.args.singles.items (reverse c.pop.new.self.items) c.in-Some.single
+    (next (goal.at.returns-in-Ok-false c).In-Some) (told_no _ _ _ c.in-Ok-false.field-0-test c.in-Ok-false.ensures)
 
 pub loop-single-preserved : goal.loop-single-preserved
 loop-single-preserved c =
-    let h = c.args.self.now in
-    let singles = c.args.singles.items in
-    let left = c.pop.new.self.items in
-    let x = c.in-Some.single in
-    let over : reverse c.loop-single.singles.items ≡ x ∷ reverse left = ap reverse c.in-Some.ensures.items ∙ reverse-append left (x ∷ []) in
-    let so_far = subst (λ (l : List Single). MadeSoFar h singles c.loop-single.self l) over c.loop-single.invariant in
     let made = told_yes _ _ _ c.in-Ok-true.field-0-test c.in-Ok-true.ensures in
-    made_more h c.loop-single.self c.make_one.new.self singles (reverse left) x so_far made.0 made.1
+    made_more c.args.self.now c.loop-single.self c.make_one.new.self c.args.singles.items (reverse c.pop.new.self.items) c.in-Some.single
+    (next (goal.at.loop-single-preserved c).In-Some) made.0 made.1
 
 pub gather-requires : goal.gather-requires
 gather-requires c =

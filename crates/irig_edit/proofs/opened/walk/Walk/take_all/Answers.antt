@@ -1,48 +1,51 @@
-use Rattle.std.proofs.Common.{rules, ◌≡◌, ◌+◌, ◌<◌, ◌^◌, ◌∙◌, true, false, reverse, ap, arith}
+use Rattle.std.proofs.Common.{rules, ◌∷◌, length, ◌≡◌, ◌+◌, ◌<◌, ◌^◌, ◌∙◌, true, false, reverse, ap, arith}
 use Rattle.irig_journal.specs.History.{History}
 use Rattle.irig_saved.specs.declared.change.Change.{Change}
+use Rattle.irig_saved.specs.SavedText.{step_lines}
 use Rattle.irig_edit.specs.Opened.Taken.{steps_of}
 use Rattle.irig_edit.specs.State.State.{State}
-use Rattle.irig_edit.proofs.OpenedLemmas.TakenSteps.{lines_short, taken_more, taken_next, taken_stops, told_no, told_yes}
+use Rattle.irig_edit.proofs.OpenedLemmas.TakenSteps.{TakenSoFar, lines_short, taken_more, taken_next, taken_stops, told_no, told_yes}
 use Rattle.irig_edit.proofs.OpenedLemmas.Walks.{future_gone}
 use Rattle.irig_edit.proofs.opened.walk.Walk.take_all.Goals as goal
+use Rattle.irig_edit.proofs.opened.walk.Walk.take_all.Goals.{In-Some}
 
 pub take-requires : goal.take-requires
 take-requires c =
     let so_far = c.loop-step.invariant in
     record { ahead = ap (λ (h : History State Change). h.future) so_far.stands ∙ future_gone c.args.self.now (steps_of so_far.done) c.requires.ahead }
 
+-- the steps so far were taken, and this one is the next
+so_far : (c : In-Some)
+    → TakenSoFar c.args.self.now (reverse c.args.steps) c.loop-step.self (c.in-Some.step ∷ reverse c.pop.new.self) c.loop-step.before
+so_far c =
+    taken_next c.args.self.now c.loop-step.self (reverse c.args.steps) c.loop-step.steps c.pop.new.self c.in-Some.step c.loop-step.before
+    c.loop-step.invariant c.in-Some.ensures
+
+-- its lines are among all lines
+short : (c : In-Some) → c.loop-step.before + length (step_lines c.in-Some.step) < 2 ^ 63
+short c =
+    lines_short c.args.self.now c.loop-step.self (reverse c.args.steps) (reverse c.pop.new.self) c.in-Some.step c.loop-step.before (so_far c)
+    c.requires.lines
+
 pub lines-requires : goal.lines-requires
-lines-requires c =
-    let so_far = taken_next c.args.self.now c.loop-step.self (reverse c.args.steps) c.loop-step.steps c.pop.new.self c.in-Some.step c.loop-step.before
-    c.loop-step.invariant c.in-Some.ensures in
-    let short = lines_short c.args.self.now c.loop-step.self (reverse c.args.steps) (reverse c.pop.new.self) c.in-Some.step c.loop-step.before so_far
-    c.requires.lines in
-    omega (arith, short)
+lines-requires c = omega (arith, short (goal.at.lines-requires c).In-Some)
 
 pub overflow_add-behind : goal.overflow_add-behind
 overflow_add-behind c =
-    let so_far = taken_next c.args.self.now c.loop-step.self (reverse c.args.steps) c.loop-step.steps c.pop.new.self c.in-Some.step c.loop-step.before
-    c.loop-step.invariant c.in-Some.ensures in
-    let short = lines_short c.args.self.now c.loop-step.self (reverse c.args.steps) (reverse c.pop.new.self) c.in-Some.step c.loop-step.before so_far
-    c.requires.lines in
-    let within : c.loop-step.before + c.lines.result < 2 ^ 63 = omega (arith, short, c.lines.ensures) in
+    let within : c.loop-step.before + c.lines.result < 2 ^ 63 = omega (arith, short (goal.at.overflow_add-behind c).In-Some, c.lines.ensures) in
     search (rules, within)
 
 pub loop-step-preserved : goal.loop-step-preserved
 loop-step-preserved c =
-    let so_far = taken_next c.args.self.now c.loop-step.self (reverse c.args.steps) c.loop-step.steps c.pop.new.self c.in-Some.step c.loop-step.before
-    c.loop-step.invariant c.in-Some.ensures in
     let is : c.in-Ok-true.field-0 ≡ true = search rules in
     let took = told_yes c.in-Ok-true.field-0 _ _ is c.in-Ok-true.ensures in
     taken_more c.args.self.now c.loop-step.self c.take.new.self (reverse c.args.steps) (reverse c.pop.new.self) c.loop-step.before
     (c.loop-step.before + c.lines.result)
-    c.in-Some.step so_far took.0 took.1 (ap (λ n. c.loop-step.before + n) c.lines.ensures)
+    c.in-Some.step (so_far (goal.at.loop-step-preserved c).In-Some) took.0 took.1 (ap (λ n. c.loop-step.before + n) c.lines.ensures)
 
 pub returns-in-Ok-false : goal.returns-in-Ok-false
 returns-in-Ok-false c =
-    let so_far = taken_next c.args.self.now c.loop-step.self (reverse c.args.steps) c.loop-step.steps c.pop.new.self c.in-Some.step c.loop-step.before
-    c.loop-step.invariant c.in-Some.ensures in
     let is : c.in-Ok-false.field-0 ≡ false = search rules in
     taken_stops c.args.self.now c.loop-step.self (reverse c.args.steps) (reverse c.pop.new.self) c.loop-step.before (c.loop-step.before + c.lines.result)
-    c.in-Some.step so_far (told_no c.in-Ok-false.field-0 _ _ is c.in-Ok-false.ensures) (ap (λ n. c.loop-step.before + n) c.lines.ensures) c.requires.lines
+    c.in-Some.step (so_far (goal.at.returns-in-Ok-false c).In-Some) (told_no c.in-Ok-false.field-0 _ _ is c.in-Ok-false.ensures)
+    (ap (λ n. c.loop-step.before + n) c.lines.ensures) c.requires.lines

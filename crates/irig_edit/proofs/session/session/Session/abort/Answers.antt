@@ -1,50 +1,46 @@
-use Rattle.std.proofs.Common.{rules, IsErr, IsNone, Option, Ok, Bool, not, [], ◌∷◌, refl, sym, subst, ℕ, ◌-◌, ap, ◌∙◌, arith}
-use Rattle.irig_journal.specs.Groups.{Grouped}
+use Rattle.std.proofs.Common.{◌≡◌, Some, rules, IsErr, IsNone, Option, Ok, Bool, not, [], ◌∷◌, refl, sym, subst, ℕ, ◌-◌, ap, ◌∙◌, arith}
+use Rattle.irig_journal.specs.Groups.{aborted}
 use Rattle.irig_journal.specs.Journal.{past_of, future_of}
 use Rattle.irig_journal.specs.declared.opening.Opening.{Opening}
 use Rattle.irig_edit.specs.Session.Calls.Call.{Abort}
 use Rattle.irig_edit.specs.Changes.Held.{delta_of}
 use Rattle.irig_edit.specs.Session.Keeping.{grouped_at, machine_at}
-use Rattle.irig_edit.specs.Session.Kept.{Kept, looks_back}
-use Rattle.irig_edit.specs.Session.Limits.{IsGrouped}
+use Rattle.irig_edit.specs.Session.Kept.{looks_back}
 use Rattle.irig_edit.specs.Changes.Looks.{Within}
 use Rattle.irig_edit.specs.Session.Machine.{Steps}
-use Rattle.irig_edit.specs.State.Present.{PresentView}
-use Rattle.irig_edit.specs.Edits.Refusals.{first_of, refusal_of}
+use Rattle.irig_edit.specs.Edits.Refusals.{first_of}
 use Rattle.irig_edit.specs.Session.Session.{SessionView, grouped_in, machine_in, made_since}
 use Rattle.irig_edit.specs.declared.session.refusal.Refusal.TheVariants.{NoGroup}
 use Rattle.irig_edit.proofs.SessionLemmas.Aborts.{IsGrouped-aborted, aborted_rose, grouped-aborted}
 use Rattle.irig_edit.proofs.SessionLemmas.Endings.{is_open-none}
-use Rattle.irig_edit.proofs.SessionLemmas.Floors.{same_grouped}
 use Rattle.irig_edit.proofs.ChangeLemmas.LooksOfSteps.{never_fell, risen_within}
+use Rattle.irig_edit.proofs.SessionLemmas.Refused.{refused_stays, still_grouped}
 use Rattle.irig_edit.proofs.SessionLemmas.MachineSteps.{Steps-aborted}
 use Rattle.irig_edit.proofs.session.session.Session.abort.Goals as goal
+use Rattle.irig_edit.proofs.session.session.Session.abort.Goals.{In-Ok}
 
-pub invariant_of-self : goal.invariant_of-self
-invariant_of-self c =
+-- an accepted abort is one of the machine
+dropped : (c : In-Ok) → aborted (grouped_at c.self.inside.present.state c.self.inside.cursor c.self.inside.journal)
+    ≡ Some (grouped_at c.abort.new.state.state c.abort.new.cursor c.abort.new.self)
+dropped c =
     let s = c.self.inside in
     let t = c.abort.new in
-    let step = grouped-aborted s.present.state t.state.state s.cursor t.cursor (past_of delta_of s.journal) (future_of delta_of s.journal)
-    (past_of delta_of t.self) (future_of delta_of t.self) s.journal.floor t.self.floor c.in-Ok.ensures.grouped c.in-Ok.ensures.steps.1
-    c.in-Ok.ensures.steps.0 in (
-      IsGrouped-aborted (grouped_at s.present.state s.cursor s.journal) (grouped_at t.state.state t.cursor t.self) c.self.invariant.0 step,
-      c.abort.ensures.ready,
-    )
+    grouped-aborted s.present.state t.state.state s.cursor t.cursor (past_of delta_of s.journal) (future_of delta_of s.journal) (past_of delta_of t.self)
+    (future_of delta_of t.self) s.journal.floor t.self.floor c.in-Ok.ensures.grouped c.in-Ok.ensures.steps.1 c.in-Ok.ensures.steps.0
+
+pub invariant_of-self : goal.invariant_of-self
+invariant_of-self c = (IsGrouped-aborted _ _ c.self.invariant.0 (dropped (goal.at.invariant_of-self c).In-Ok), c.abort.ensures.ready)
 
 pub invariant_of-self-in-Err : goal.invariant_of-self-in-Err
 invariant_of-self-in-Err c =
     let same = c.in-Err.ensures.err in
-    (subst (λ (g : Grouped Kept). IsGrouped g) (sym (same_grouped _ _ _ _ _ _ same.2 same.3 same.1)) c.self.invariant.0, c.abort.ensures.ready)
+    (still_grouped _ _ _ _ _ _ c.self.invariant.0 same.2 same.3 same.1, c.abort.ensures.ready)
 
 pub returns-in-Ok-clause-step : goal.returns-in-Ok-clause-step
 returns-in-Ok-clause-step c =
-    let s = c.self.inside in
     let t = c.abort.new in
-    let step = grouped-aborted s.present.state t.state.state s.cursor t.cursor (past_of delta_of s.journal) (future_of delta_of s.journal)
-    (past_of delta_of t.self) (future_of delta_of t.self) s.journal.floor t.self.floor c.in-Ok.ensures.grouped c.in-Ok.ensures.steps.1
-    c.in-Ok.ensures.steps.0 in
     subst (λ (v : SessionView). Steps Abort (grouped_in v) (Ok tt) (grouped_at t.state.state t.cursor t.self)) c.self.view_is
-    (Steps-aborted (grouped_at s.present.state s.cursor s.journal) (grouped_at t.state.state t.cursor t.self) step)
+    (Steps-aborted _ _ (dropped (goal.at.returns-in-Ok-clause-step c).In-Ok))
 
 pub returns-in-Ok-clause-looks : goal.returns-in-Ok-clause-looks
 returns-in-Ok-clause-looks c =
@@ -69,13 +65,5 @@ returns-in-Err c =
     let shut = is_open-none (machine_at s.present.state s.cursor s.journal) s.journal.floor (c.abort.ensures.none.0 failed) in
     let refused = ap (λ (test : Bool). first_of ((not test, NoGroup) ∷ [])) shut in
     let same = c.in-Err.ensures.err in
-    record {
-      step = (
-        ap (λ (v : SessionView). refusal_of Abort (grouped_in v)) (sym c.self.view_is) ∙ refused,
-        same_grouped _ _ _ _ _ _ same.2 same.3 same.1 ∙ ap grouped_in c.self.view_is,
-      );
-      looks = (
-        ap (λ (p : PresentView). p.index.looks) same.2 ∙ ap (λ (v : SessionView). v.looks) c.self.view_is,
-        ap (λ (v : SessionView). v.last_looks) c.self.view_is,
-      );
-    }
+    let stays = refused_stays Abort NoGroup _ s.present _ s.cursor _ s.last_looks s.journal _ c.self.view_is refused same.2 same.3 same.1 in
+    record { step = stays.0; looks = stays.1 }
