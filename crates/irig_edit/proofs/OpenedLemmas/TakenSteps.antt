@@ -1,5 +1,5 @@
 -- The steps of a saved journal that were taken so far.
-use Rattle.std.proofs.Common.{Bool, true, false, ◌≡◌, ◌<◌, ◌^◌, ℕ, ◌+◌, ◌++◌, List, [], ◌∷◌, length, take, reverse, refl, ap}
+use Rattle.std.proofs.Common.{◌≡◌, ◌<◌, ◌^◌, ℕ, ◌+◌, ◌++◌, List, [], ◌∷◌, length, take, reverse, refl, ap}
 use Rattle.std.proofs.Common.{sym, ◌∙◌, subst, arith, append_assoc}
 use Rattle.std.proofs.Math.Seq.{take-append-add, take-append_seam}
 use Rattle.std.proofs.lemmas.List.{length-append, map-append, reverse-append}
@@ -8,7 +8,7 @@ use Rattle.irig_saved.specs.declared.step.Step.{Step as SavedStep}
 use Rattle.irig_journal.specs.History.{History, Step}
 use Rattle.irig_saved.specs.declared.change.Change.{Change}
 use Rattle.irig_edit.specs.State.State.{State}
-use Rattle.irig_edit.specs.Opened.Stops.{StopsAt, Told}
+use Rattle.irig_edit.specs.Opened.Stops.{StopsAt}
 use Rattle.irig_edit.specs.Opened.Taken.{CanTake, CanTakeAll, step_of, steps_of}
 use Rattle.irig_edit.specs.Opened.Walk.{gone_along, gone_on}
 use Rattle.irig_edit.proofs.OpenedLemmas.Walks.{can_take-append, can_take-next, gone_along-append}
@@ -102,12 +102,3 @@ lines_short h now names left s before so_far few =
       lines-append so_far.done (s ∷ left),
       length-append (step_lines s) (steps_lines left),
     )
-
--- what an answer says
-pub told_yes : (b : Bool) (P Q : Type 0) → b ≡ true → Told b P Q → P
-told_yes true P Q is h = h
-told_yes false P Q is h = absurd (cc)
-
-pub told_no : (b : Bool) (P Q : Type 0) → b ≡ false → Told b P Q → Q
-told_no true P Q is h = absurd (cc)
-told_no false P Q is h = h

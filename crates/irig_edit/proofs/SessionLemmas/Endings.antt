@@ -1,7 +1,7 @@
 -- What an end of a group leaves of the steps, and what these mean.
 use Rattle.std.proofs.Common.{◌≡◌, ◌≤◌, ◌<◌, ◌+◌, ◌-◌, ℕ, suc, zero, Bool, true, false, List, [], ◌∷◌, length, nat_le, drop, take, Option, Some, None}
 use Rattle.std.proofs.Common.{option_map, if◌then◌else◌, refl, ap, sym, ◌∙◌, subst, arith}
-use Rattle.std.specs.Prelude.{IfSome, IsNone, IsSome}
+use Rattle.std.specs.Prelude.{IfSome, is_some}
 use Rattle.std.proofs.lemmas.Bool.{leb-false}
 use Rattle.std.proofs.lemmas.Bool.Decides.{nat_tests}
 use Rattle.irig_journal.specs.declared.opening.Opening.{Opening}
@@ -20,7 +20,6 @@ use Rattle.irig_edit.specs.Session.Kept.{Kept, kept, together}
 use Rattle.irig_edit.specs.Changes.Laws.Groups.{turned-gathered}
 use Rattle.irig_edit.specs.Session.Limits.{IsGrouped}
 use Rattle.irig_edit.specs.Session.Machine.{with_group}
-use Rattle.irig_edit.specs.Edits.Refusals.{is_open}
 use Rattle.irig_edit.specs.State.State.{State, IsState}
 use Rattle.irig_edit.proofs.SessionLemmas.Floors.{grouped-begun, over_opening}
 use Rattle.irig_edit.proofs.SessionLemmas.Machines.{history, length-kept_back}
@@ -163,11 +162,7 @@ grouped-began s cursor past future all more None new opens same later =
           grouped-begun (machine (history s cursor past future)) o steps place
           ∙ (λ i. Some (over_opening (Some o) (machine (history s cursor (sym same i) (sym later i)))))
 
--- whether a group is open
-pub is_open-none : (m : Machine Kept) (opening : Option Opening) → IsNone opening → is_open (option_map (floor_of m) opening) ≡ false
-is_open-none m None is = refl
-is_open-none m (Some o) is = absurd (cc)
-
-pub is_open-some : (m : Machine Kept) (opening : Option Opening) → IsSome opening → is_open (option_map (floor_of m) opening) ≡ true
-is_open-some m None is = absurd (cc)
-is_open-some m (Some o) is = refl
+-- a group is open if the journal has an opening
+pub is_some-floor : (m : Machine Kept) (opening : Option Opening) → is_some (option_map (floor_of m) opening) ≡ is_some opening
+is_some-floor m None = refl
+is_some-floor m (Some o) = refl

@@ -1,6 +1,6 @@
 -- An edit that is made or refused is a step of the machine, and so is each other call.
 use Rattle.std.proofs.Common.{◌≡◌, ℕ, Bool, true, false, not, List, [], ◌∷◌, Option, Some, None, option_map, if◌then◌else◌, Result, Ok, Err, OnOk, OnErr}
-use Rattle.std.proofs.Common.{IsErrOf, refl, ap, sym, subst}
+use Rattle.std.proofs.Common.{IsErrOf, is_some, refl, ap, sym, subst}
 use Rattle.irig_journal.specs.History.{Step}
 use Rattle.irig_journal.specs.Groups.{Floor, Grouped, aborted, begun, dropped_over, ended, floored, is_at_floor, joined_over, over, recorded_over, redone_over}
 use Rattle.irig_journal.specs.Groups.{undone_over}
@@ -10,7 +10,7 @@ use Rattle.irig_edit.specs.Session.Calls.{Call, Edit}
 use Rattle.irig_edit.specs.Session.Calls.Call.{Make, Undo, Redo, Begin, End, Abort}
 use Rattle.irig_edit.specs.Session.Machine.{Steps, Accepts, Edits, MayWantMemory, with_group}
 use Rattle.irig_edit.specs.Edits.Becoming.{Becomes, judgement_of}
-use Rattle.irig_edit.specs.Edits.Refusals.{first_of, is_empty, is_open, refusal_of}
+use Rattle.irig_edit.specs.Edits.Refusals.{first_of, is_empty, refusal_of}
 use Rattle.irig_edit.specs.declared.session.refusal.Refusal.{Refusal}
 use Rattle.irig_edit.specs.declared.session.refusal.Refusal.TheVariants.{GroupFloor, GroupOpen, NoGroup, NothingToRedo, NothingToUndo, OutOfMemory}
 use Rattle.irig_saved.specs.declared.change.Change.{Change}
@@ -112,20 +112,20 @@ floor_refusal s (near ∷ steps) false some low = absurd (cc)
 -- a begin that was made was allowed
 pub Steps-begun : (g h : Grouped Kept) → begun g ≡ Some h → Steps Begin g (Ok tt) h
 Steps-begun g h step = (by_floor g.floor step, step) where
-  by_floor : (floor : Option (Floor Kept)) → floored floor g.machine ≡ Some h → first_of ((is_open floor, GroupOpen) ∷ []) ≡ None
+  by_floor : (floor : Option (Floor Kept)) → floored floor g.machine ≡ Some h → first_of ((is_some floor, GroupOpen) ∷ []) ≡ None
   by_floor None step = refl
   by_floor (Some f) step = absurd (cc)
 
 -- and so was an end
 pub Steps-ended : (g h : Grouped Kept) → ended (over g.floor (with_group g.floor g.machine)) ≡ Some h → Steps End g (Ok tt) h
 Steps-ended g h step = (by_floor g.floor step, step) where
-  by_floor : (floor : Option (Floor Kept)) → joined_over floor (with_group floor g.machine) ≡ Some h → first_of ((not (is_open floor), NoGroup) ∷ []) ≡ None
+  by_floor : (floor : Option (Floor Kept)) → joined_over floor (with_group floor g.machine) ≡ Some h → first_of ((not (is_some floor), NoGroup) ∷ []) ≡ None
   by_floor None step = absurd (cc)
   by_floor (Some f) step = refl
 
 -- and an abort
 pub Steps-aborted : (g h : Grouped Kept) → aborted g ≡ Some h → Steps Abort g (Ok tt) h
 Steps-aborted g h step = (by_floor g.floor step, step) where
-  by_floor : (floor : Option (Floor Kept)) → dropped_over floor g.machine ≡ Some h → first_of ((not (is_open floor), NoGroup) ∷ []) ≡ None
+  by_floor : (floor : Option (Floor Kept)) → dropped_over floor g.machine ≡ Some h → first_of ((not (is_some floor), NoGroup) ∷ []) ≡ None
   by_floor None step = absurd (cc)
   by_floor (Some f) step = refl

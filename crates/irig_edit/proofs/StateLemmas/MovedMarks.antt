@@ -1,9 +1,9 @@
 -- Marks moved one after the other.
-use Rattle.std.proofs.Common.{◌≡◌, ◌≤◌, ◌<◌, ◌+◌, ℕ, ℤ, suc, zero, Bool, true, false, ◌&&◌, nat_le, if◌then◌else◌, List, [], ◌∷◌, length, map, slice_set}
-use Rattle.std.proofs.Common.{get_or, Option, Some, None, refl, ap, ap₂, subst, ◌∙◌, arith}
+use Rattle.std.proofs.Common.{◌≡◌, ◌≤◌, ◌<◌, ◌+◌, ℕ, ℤ, suc, zero, Bool, true, false, ◌&&◌, nat_le, List, [], ◌∷◌, length, map, slice_set}
+use Rattle.std.proofs.Common.{get_or, Option, Some, None, refl, ap, subst, ◌∙◌, arith}
 use Rattle.std.proofs.lemmas.Bool.Decides.{nat_tests}
 use Rattle.irig_track.specs.Shifts.{ahead, back}
-use Rattle.irig_edit.specs.State.Marks.{AllMayMove, MayMove, marks_moved, moved_if, moved_mark, moved_time, stands}
+use Rattle.irig_edit.specs.State.Marks.{AllMayMove, MayMove, marks_moved, moved_if, moved_mark, stands}
 
 module _ {A B : Type 0} where
   -- the second list with its first items rebuilt from those of both
@@ -107,11 +107,7 @@ may_one micros d (suc n) (false ∷ named) (m ∷ marks) less there all is = may
 -- a shift moves the marks from a time to another
 pub moved_between : (low high : ℕ) (d : ℤ) (marks : List (Option ℕ)) → marks_moved d (map (stands low high) marks) marks ≡ map (moved_mark low high d) marks
 moved_between low high d [] = refl
-moved_between low high d (None ∷ marks) = ap (λ ms. None ∷ ms) (moved_between low high d marks)
-moved_between low high d (Some t ∷ marks) = ap₂ (λ m ms. m ∷ ms) (by_test (nat_le low t && nat_le t high)) (moved_between low high d marks) where
-  by_test : (v : Bool) → moved_if d v (Some t) ≡ (if v then Some (moved_time d t) else Some t)
-  by_test true = refl
-  by_test false = refl
+moved_between low high d (m ∷ marks) = ap (λ ms. moved_mark low high d m ∷ ms) (moved_between low high d marks)
 
 -- and they may be moved if the stretch stays within the track
 pub may_between : (micros low high : ℕ) (d : ℤ) (marks : List (Option ℕ)) → back d ≤ low + ahead d → high + ahead d ≤ micros + back d

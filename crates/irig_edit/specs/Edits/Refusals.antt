@@ -1,9 +1,9 @@
 -- When a call is refused: the tests of each call in their order, the first that holds being
 -- answered. Out of memory may be answered if none of them holds. This project's own.
 use Rattle.std.specs.Prelude.{Bool, true, false, not, ◌&&◌, nat_lt, List, [], ◌∷◌, Option, Some}
-use Rattle.std.specs.Prelude.{None, if◌then◌else◌}
+use Rattle.std.specs.Prelude.{None, if◌then◌else◌, is_some}
 use Rattle.irig_codes.specs.Width.{nominal_of}
-use Rattle.irig_journal.specs.Groups.{Floor, Grouped, is_at_floor}
+use Rattle.irig_journal.specs.Groups.{Grouped, is_at_floor}
 use Rattle.irig_moment.specs.Generated.{starts_in}
 use Rattle.irig_edit.specs.State.State.{State}
 use Rattle.irig_edit.specs.Edits.Conditions.{is_range, are_pulses, is_touched, is_inside, is_full}
@@ -60,11 +60,6 @@ abbrev pub is_empty : {S : Type 0} → List S → Bool
 is_empty [] = true
 is_empty (x ∷ xs) = false
 
--- whether a group is open
-abbrev pub is_open : Option (Floor Kept) → Bool
-is_open None = false
-is_open (Some floor) = true
-
 -- the refusal of a call
 abbrev pub refusal_of : Call → Grouped Kept → Option Refusal
 refusal_of (Make edit) g = first_of (tests_of edit g.machine.present.state)
@@ -73,6 +68,6 @@ refusal_of Undo g =
     ∷ (is_at_floor g.floor g.machine.past, GroupFloor) ∷ [])
 refusal_of Redo g = first_of ((is_empty g.machine.future, NothingToRedo) ∷ [])
 refusal_of (Go i) g = first_of ((not (are_pulses i i g.machine.present.state), NoPulse) ∷ [])
-refusal_of Begin g = first_of ((is_open g.floor, GroupOpen) ∷ [])
-refusal_of End g = first_of ((not (is_open g.floor), NoGroup) ∷ [])
-refusal_of Abort g = first_of ((not (is_open g.floor), NoGroup) ∷ [])
+refusal_of Begin g = first_of ((is_some g.floor, GroupOpen) ∷ [])
+refusal_of End g = first_of ((not (is_some g.floor), NoGroup) ∷ [])
+refusal_of Abort g = first_of ((not (is_some g.floor), NoGroup) ∷ [])

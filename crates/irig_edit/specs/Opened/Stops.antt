@@ -1,5 +1,5 @@
 -- Where the steps of a saved journal are no longer taken. This project's own.
-use Rattle.std.specs.Prelude.{◌≡◌, ◌<◌, ◌^◌, ◌+◌, ℕ, Bool, true, false, List, length, reverse, take}
+use Rattle.std.specs.Prelude.{◌≡◌, ◌<◌, ◌^◌, ◌+◌, ℕ, List, length, reverse, take}
 use Rattle.irig_saved.specs.SavedText.{steps_lines}
 use Rattle.irig_saved.specs.declared.step.Step.{Step as SavedStep}
 use Rattle.irig_journal.specs.History.{History}
@@ -9,11 +9,6 @@ use Rattle.irig_edit.specs.Opened.Taken.{CanTakeAll, StopsAfter, steps_of}
 use Rattle.irig_edit.specs.Opened.Walk.{walk}
 use Rattle.irig_edit.specs.declared.opened.taking.Stop.{Stop}
 use Rattle.irig_edit.specs.declared.opened.taking.Stop.TheVariants.{At, Memory}
-
--- one fact of an answer yes, another of no
-abbrev pub Told : Bool → Type 0 → Type 0 → Type 0
-Told true P Q = P
-Told false P Q = Q
 
 -- this many lines are before the step that is not taken, and this many up to its end
 pub record StopsAt (s : State) (saves : List SavedStep) (before behind : ℕ) : Type 0 where

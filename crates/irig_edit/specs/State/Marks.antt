@@ -7,15 +7,18 @@ use Rattle.irig_track.specs.Shifts.{ahead, back}
 abbrev pub moved_time : ℤ → ℕ → ℕ
 moved_time d t = t + ahead d - back d
 
--- a mark that is from the rise of pulse i to the fall of pulse j, moved
-abbrev pub moved_mark : ℕ → ℕ → ℤ → Option ℕ → Option ℕ
-moved_mark low high d None = None
-moved_mark low high d (Some t) =
-    if nat_le low t && nat_le t high then Some (moved_time d t) else Some t
-
 -- a mark moved by d, if it is named
 abbrev pub moved_if : ℤ → Bool → Option ℕ → Option ℕ
 moved_if d named mark = if named then option_map (moved_time d) mark else mark
+
+-- a mark is from a time to another
+abbrev pub stands : ℕ → ℕ → Option ℕ → Bool
+stands low high None = false
+stands low high (Some t) = nat_le low t && nat_le t high
+
+-- a mark that is from the rise of pulse i to the fall of pulse j, moved
+abbrev pub moved_mark : ℕ → ℕ → ℤ → Option ℕ → Option ℕ
+moved_mark low high d mark = moved_if d (stands low high mark) mark
 
 -- the marks with those named moved by d
 abbrev pub marks_moved : ℤ → List Bool → List (Option ℕ) → List (Option ℕ)
@@ -35,8 +38,3 @@ AllMayMove micros d (named ∷ more) [] = Unit {0}
 AllMayMove micros d (true ∷ more) (mark ∷ marks) =
     MayMove micros d mark × AllMayMove micros d more marks
 AllMayMove micros d (false ∷ more) (mark ∷ marks) = AllMayMove micros d more marks
-
--- a mark is from a time to another
-abbrev pub stands : ℕ → ℕ → Option ℕ → Bool
-stands low high None = false
-stands low high (Some t) = nat_le low t && nat_le t high

@@ -1,7 +1,7 @@
 //! The steps of a saved journal, taken one after another.
 
 ghost use Rattle.std.specs.Prelude.{◌≡◌, ◌+◌, ◌≤◌, ◌<◌, ◌^◌, List, [], IfErr, IfOk, None};
-ghost use Rattle.std.specs.Prelude.{MatchResult, OnOk, length, reverse};
+ghost use Rattle.std.specs.Prelude.{MatchBool, MatchResult, OnOk, length, reverse};
 ghost use Rattle.irig_journal.specs.History.{History, Step};
 ghost use Rattle.irig_journal.specs.Turns.{FitAll};
 ghost use Rattle.irig_saved.specs.SavedText.{mark_lines, saved_lines, steps_lines};
@@ -13,7 +13,7 @@ ghost use Rattle.irig_edit.specs.Opened.Opened.{IsAccepted, IsLineAtFault, IsSte
 ghost use Rattle.irig_edit.specs.Opened.Opened.{head_fault};
 ghost use Rattle.irig_edit.specs.Opened.Openings.{IsBad};
 ghost use Rattle.irig_edit.specs.State.State.{IsState, State};
-ghost use Rattle.irig_edit.specs.Opened.Stops.{HasTaken, IsStop, Told};
+ghost use Rattle.irig_edit.specs.Opened.Stops.{HasTaken, IsStop};
 ghost use Rattle.irig_edit.specs.Opened.Taken.{CanTake, CanTakeAll, step_of, steps_of};
 ghost use Rattle.irig_edit.specs.Opened.Walk.{ahead_of, changed, gone_along, gone_on, walk};
 
@@ -143,7 +143,7 @@ impl Walk {
     /// leaves.
     fn take(&mut self, alloc: Global, step: irig_saved::Step) -> Result<bool, AllocError>
         requires ahead { self.old.future ≡ [] }
-        ensures { IfOk result (λ taken. Told taken
+        ensures { IfOk result (λ taken. MatchBool taken
             (CanTake self.old.state (step_of step) × (self.new ≡ gone_on self.old (step_of step)))
             (CanTake self.old.state (step_of step) → ⊥)) }
     {
@@ -161,7 +161,7 @@ impl Walk {
     /// Makes the change of a step, stays at its cursor, and returns whether the change can be made.
     fn make(&mut self, alloc: Global, change: Change) -> Result<bool, AllocError>
         requires ahead { self.old.future ≡ [] }
-        ensures { IfOk result (λ made. Told made
+        ensures { IfOk result (λ made. MatchBool made
             (Fits self.old.state change × (self.new ≡ changed self.old change))
             (Fits self.old.state change → ⊥)) }
     {
@@ -173,7 +173,7 @@ impl Walk {
 
     /// Makes a single change.
     fn make_one(&mut self, alloc: Global, single: Single) -> Result<bool, AllocError>
-        ensures { IfOk result (λ made. Told made
+        ensures { IfOk result (λ made. MatchBool made
             (FitsSingle self.old.state single × (self.new ≡ changed self.old (One single)))
             (FitsSingle self.old.state single → ⊥)) }
     {
@@ -187,7 +187,7 @@ impl Walk {
     /// Makes single changes one after another, and makes one group of them.
     fn make_all(&mut self, alloc: Global, mut singles: Vec<Single>) -> Result<bool, AllocError>
         requires ahead { self.old.future ≡ [] }
-        ensures { IfOk result (λ made. Told made
+        ensures { IfOk result (λ made. MatchBool made
             (FitAll FitsSingle turned_single self.old.state singles.items
             × (self.new ≡ changed self.old (Group singles.items)))
             (FitAll FitsSingle turned_single self.old.state singles.items → ⊥)) }

@@ -1,8 +1,8 @@
 use Rattle.std.proofs.Common.{rules, ◌≡◌, ◌∷◌, [], List, reverse, ap, sym, subst, ◌∙◌, arith}
+use Rattle.std.proofs.lemmas.Bool.{MatchBool-at_false, MatchBool-at_true}
 use Rattle.std.proofs.lemmas.List.{reverse-append, reverse-reverse}
 use Rattle.irig_saved.specs.declared.single.Single.{Single}
 use Rattle.irig_edit.proofs.OpenedLemmas.TakenGroups.{MadeSoFar, enough_made, group_made, made_more, made_none, made_stops}
-use Rattle.irig_edit.proofs.OpenedLemmas.TakenSteps.{told_no, told_yes}
 use Rattle.irig_edit.proofs.opened.walk.Walk.make_all.Goals as goal
 use Rattle.irig_edit.proofs.opened.walk.Walk.make_all.Goals.{In-Some}
 
@@ -21,11 +21,11 @@ next c = subst (λ (l : List Single). MadeSoFar c.args.self.now c.args.singles.i
 pub returns-in-Ok-false : goal.returns-in-Ok-false
 returns-in-Ok-false c =
     made_stops c.args.self.now c.loop-single.self c.args.singles.items (reverse c.pop.new.self.items) c.in-Some.single
-    (next (goal.at.returns-in-Ok-false c).In-Some) (told_no _ _ _ c.in-Ok-false.field-0-test c.in-Ok-false.ensures)
+    (next (goal.at.returns-in-Ok-false c).In-Some) (MatchBool-at_false _ _ c.in-Ok-false.field-0-test c.in-Ok-false.ensures)
 
 pub loop-single-preserved : goal.loop-single-preserved
 loop-single-preserved c =
-    let made = told_yes _ _ _ c.in-Ok-true.field-0-test c.in-Ok-true.ensures in
+    let made = MatchBool-at_true _ _ c.in-Ok-true.field-0-test c.in-Ok-true.ensures in
     made_more c.args.self.now c.loop-single.self c.make_one.new.self c.args.singles.items (reverse c.pop.new.self.items) c.in-Some.single
     (next (goal.at.loop-single-preserved c).In-Some) made.0 made.1
 

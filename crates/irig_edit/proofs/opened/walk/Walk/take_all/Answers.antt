@@ -1,10 +1,11 @@
 use Rattle.std.proofs.Common.{rules, ◌∷◌, length, ◌≡◌, ◌+◌, ◌<◌, ◌^◌, ◌∙◌, true, false, reverse, ap, arith}
+use Rattle.std.proofs.lemmas.Bool.{MatchBool-at_false, MatchBool-at_true}
 use Rattle.irig_journal.specs.History.{History}
 use Rattle.irig_saved.specs.declared.change.Change.{Change}
 use Rattle.irig_saved.specs.SavedText.{step_lines}
 use Rattle.irig_edit.specs.Opened.Taken.{steps_of}
 use Rattle.irig_edit.specs.State.State.{State}
-use Rattle.irig_edit.proofs.OpenedLemmas.TakenSteps.{TakenSoFar, lines_short, taken_more, taken_next, taken_stops, told_no, told_yes}
+use Rattle.irig_edit.proofs.OpenedLemmas.TakenSteps.{TakenSoFar, lines_short, taken_more, taken_next, taken_stops}
 use Rattle.irig_edit.proofs.OpenedLemmas.Walks.{future_gone}
 use Rattle.irig_edit.proofs.opened.walk.Walk.take_all.Goals as goal
 use Rattle.irig_edit.proofs.opened.walk.Walk.take_all.Goals.{In-Some}
@@ -38,7 +39,7 @@ overflow_add-behind c =
 pub loop-step-preserved : goal.loop-step-preserved
 loop-step-preserved c =
     let is : c.in-Ok-true.field-0 ≡ true = search rules in
-    let took = told_yes c.in-Ok-true.field-0 _ _ is c.in-Ok-true.ensures in
+    let took = MatchBool-at_true _ _ is c.in-Ok-true.ensures in
     taken_more c.args.self.now c.loop-step.self c.take.new.self (reverse c.args.steps) (reverse c.pop.new.self) c.loop-step.before
     (c.loop-step.before + c.lines.result)
     c.in-Some.step (so_far (goal.at.loop-step-preserved c).In-Some) took.0 took.1 (ap (λ n. c.loop-step.before + n) c.lines.ensures)
@@ -47,5 +48,5 @@ pub returns-in-Ok-false : goal.returns-in-Ok-false
 returns-in-Ok-false c =
     let is : c.in-Ok-false.field-0 ≡ false = search rules in
     taken_stops c.args.self.now c.loop-step.self (reverse c.args.steps) (reverse c.pop.new.self) c.loop-step.before (c.loop-step.before + c.lines.result)
-    c.in-Some.step (so_far (goal.at.returns-in-Ok-false c).In-Some) (told_no c.in-Ok-false.field-0 _ _ is c.in-Ok-false.ensures)
+    c.in-Some.step (so_far (goal.at.returns-in-Ok-false c).In-Some) (MatchBool-at_false _ _ is c.in-Ok-false.ensures)
     (ap (λ n. c.loop-step.before + n) c.lines.ensures) c.requires.lines

@@ -12,7 +12,7 @@ use Rattle.irig_edit.specs.Edits.Refusals.{first_of}
 use Rattle.irig_edit.specs.Session.Session.{SessionView, grouped_in, machine_in, made_since}
 use Rattle.irig_edit.specs.declared.session.refusal.Refusal.TheVariants.{NoGroup}
 use Rattle.irig_edit.proofs.SessionLemmas.Aborts.{IsGrouped-aborted, aborted_rose, grouped-aborted}
-use Rattle.irig_edit.proofs.SessionLemmas.Endings.{is_open-none}
+use Rattle.irig_edit.proofs.SessionLemmas.Endings.{is_some-floor}
 use Rattle.irig_edit.proofs.ChangeLemmas.LooksOfSteps.{never_fell, risen_within}
 use Rattle.irig_edit.proofs.SessionLemmas.Refused.{refused_stays, still_grouped}
 use Rattle.irig_edit.proofs.SessionLemmas.MachineSteps.{Steps-aborted}
@@ -62,7 +62,7 @@ pub returns-in-Err : goal.returns-in-Err
 returns-in-Err c =
     let s = c.self.inside in
     let failed : IsErr c.abort.result = search rules in
-    let shut = is_open-none (machine_at s.present.state s.cursor s.journal) s.journal.floor (c.abort.ensures.none.0 failed) in
+    let shut = is_some-floor (machine_at s.present.state s.cursor s.journal) s.journal.floor ∙ c.abort.ensures.none.0 failed in
     let refused = ap (λ (test : Bool). first_of ((not test, NoGroup) ∷ [])) shut in
     let same = c.in-Err.ensures.err in
     let stays = refused_stays Abort NoGroup _ s.present _ s.cursor _ s.last_looks s.journal _ c.self.view_is refused same.2 same.3 same.1 in

@@ -1,4 +1,4 @@
-use Rattle.std.proofs.Common.{rules, IsErr, Ok, Bool, [], ◌∷◌, refl, subst, ap}
+use Rattle.std.proofs.Common.{rules, IsErr, Ok, Bool, [], ◌∷◌, refl, subst, ap, ◌∙◌}
 use Rattle.irig_edit.specs.Session.Calls.Call.{Begin}
 use Rattle.irig_edit.specs.Changes.Held.{deltas_of}
 use Rattle.irig_edit.specs.Session.Keeping.{grouped_at, machine_at}
@@ -7,7 +7,7 @@ use Rattle.irig_edit.specs.Changes.Ready.{StepsAreReady}
 use Rattle.irig_edit.specs.Edits.Refusals.{first_of}
 use Rattle.irig_edit.specs.Session.Session.{SessionView, grouped_in}
 use Rattle.irig_edit.specs.declared.session.refusal.Refusal.TheVariants.{GroupOpen}
-use Rattle.irig_edit.proofs.SessionLemmas.Endings.{grouped-began, is_open-some}
+use Rattle.irig_edit.proofs.SessionLemmas.Endings.{grouped-began, is_some-floor}
 use Rattle.irig_edit.proofs.SessionLemmas.Floors.{IsGrouped-begun}
 use Rattle.irig_edit.proofs.SessionLemmas.Refused.{refused_stays, still_grouped}
 use Rattle.irig_edit.proofs.SessionLemmas.MachineSteps.{Steps-begun}
@@ -43,7 +43,7 @@ returns-clause-step c =
           (Steps-begun _ _ step))
       | in-Err w ↦
           let failed : IsErr c.begin.result = search rules in
-          let open_now = is_open-some (machine_at s.present.state s.cursor s.journal) s.journal.floor (c.begin.ensures.open.0 failed) in
+          let open_now = is_some-floor (machine_at s.present.state s.cursor s.journal) s.journal.floor ∙ c.begin.ensures.open.0 failed in
           let refused = ap (λ (test : Bool). first_of ((test, GroupOpen) ∷ [])) open_now in
           let stays = refused_stays Begin GroupOpen _ s.present s.present s.cursor s.cursor s.last_looks s.journal _ c.self.view_is refused refl refl
           w.in-Err.ensures.err.1 in

@@ -1,4 +1,4 @@
-use Rattle.std.proofs.Common.{rules, IsErr, Ok, Bool, not, [], ◌∷◌, refl, subst, ap}
+use Rattle.std.proofs.Common.{rules, IsErr, Ok, Bool, not, [], ◌∷◌, refl, subst, ap, ◌∙◌}
 use Rattle.irig_journal.specs.Journal.{future_of}
 use Rattle.irig_edit.specs.Session.Calls.Call.{End}
 use Rattle.irig_edit.specs.Changes.Held.{delta_of, deltas_of}
@@ -7,7 +7,7 @@ use Rattle.irig_edit.specs.Session.Machine.{Steps}
 use Rattle.irig_edit.specs.Edits.Refusals.{first_of}
 use Rattle.irig_edit.specs.Session.Session.{SessionView, grouped_in}
 use Rattle.irig_edit.specs.declared.session.refusal.Refusal.TheVariants.{NoGroup}
-use Rattle.irig_edit.proofs.SessionLemmas.Endings.{IsGrouped-ended, grouped-ended, is_open-none}
+use Rattle.irig_edit.proofs.SessionLemmas.Endings.{IsGrouped-ended, grouped-ended, is_some-floor}
 use Rattle.irig_edit.proofs.SessionLemmas.Refused.{refused_stays, still_grouped}
 use Rattle.irig_edit.proofs.SessionLemmas.MachineSteps.{Steps-ended}
 use Rattle.irig_edit.proofs.session.session.Session.end.Goals.{in-Ok, in-Err}
@@ -37,7 +37,7 @@ returns-clause-step c =
           (Steps-ended _ _ step))
       | in-Err w ↦
           let failed : IsErr c.end.result = search rules in
-          let shut = is_open-none (machine_at s.present.state s.cursor s.journal) s.journal.floor (c.end.ensures.none.0 failed) in
+          let shut = is_some-floor (machine_at s.present.state s.cursor s.journal) s.journal.floor ∙ c.end.ensures.none.0 failed in
           let refused = ap (λ (test : Bool). first_of ((not test, NoGroup) ∷ [])) shut in
           let stays = refused_stays End NoGroup _ s.present s.present s.cursor s.cursor s.last_looks s.journal _ c.self.view_is refused refl refl
           w.in-Err.ensures.err.1 in
