@@ -10,7 +10,7 @@ use Rattle.irig_edit.specs.Session.Calls.{Call, Edit}
 use Rattle.irig_edit.specs.Session.Calls.Call.{Make, Undo, Redo, Begin, End, Abort}
 use Rattle.irig_edit.specs.Session.Machine.{Steps, Accepts, Edits, MayWantMemory, with_group}
 use Rattle.irig_edit.specs.Edits.Becoming.{Becomes, judgement_of}
-use Rattle.irig_edit.specs.Edits.Refusals.{first_of, is_empty, refusal_of}
+use Rattle.irig_edit.specs.Edits.Refusals.{first_holding, is_empty, refusal_of}
 use Rattle.irig_edit.specs.declared.session.refusal.Refusal.{Refusal}
 use Rattle.irig_edit.specs.declared.session.refusal.Refusal.TheVariants.{GroupFloor, GroupOpen, NoGroup, NothingToRedo, NothingToUndo, OutOfMemory}
 use Rattle.irig_saved.specs.declared.change.Change.{Change}
@@ -84,7 +84,7 @@ pub Steps-undone : (g h : Grouped Kept) → undone_over g ≡ Some h → Steps U
 Steps-undone g h step =
     (by_past g.machine.past (is_at_floor g.floor g.machine.past) (undone_above g h step).0 (undone_alone g h step).0, step) where
       by_past : (past : List Kept) (test : Bool) → test ≡ false → taken_back past g.machine.present g.machine.future ≡ Some h.machine
-          → first_of ((is_empty past, NothingToUndo) ∷ (test, GroupFloor) ∷ []) ≡ None
+          → first_holding ((is_empty past, NothingToUndo) ∷ (test, GroupFloor) ∷ []) ≡ None
       by_past [] test is back = absurd (cc)
       by_past (before ∷ past) true is back = absurd (cc)
       by_past (before ∷ past) false is back = refl
@@ -99,12 +99,12 @@ Steps-redone g h step = (by_future g.machine.future (redone_alone g h step).0, s
 
 -- if there are no steps forward, a redo is refused
 pub refusal_forward : (s : State) (steps : List (Step Change)) → steps ≡ []
-    → first_of ((is_empty (kept_forward s steps), NothingToRedo) ∷ []) ≡ Some NothingToRedo
-refusal_forward s steps none = ap (λ (l : List (Step Change)). first_of ((is_empty (kept_forward s l), NothingToRedo) ∷ [])) none
+    → first_holding ((is_empty (kept_forward s steps), NothingToRedo) ∷ []) ≡ Some NothingToRedo
+refusal_forward s steps none = ap (λ (l : List (Step Change)). first_holding ((is_empty (kept_forward s l), NothingToRedo) ∷ [])) none
 
 -- if there are steps back, an undo on the floor is refused
 pub floor_refusal : (s : State) (steps : List (Step Change)) (test : Bool) → (steps ≡ [] → ⊥) → test ≡ true
-    → first_of ((is_empty (kept_back s steps), NothingToUndo) ∷ (test, GroupFloor) ∷ []) ≡ Some GroupFloor
+    → first_holding ((is_empty (kept_back s steps), NothingToUndo) ∷ (test, GroupFloor) ∷ []) ≡ Some GroupFloor
 floor_refusal s [] test some low = absurd (some refl)
 floor_refusal s (near ∷ steps) true some low = refl
 floor_refusal s (near ∷ steps) false some low = absurd (cc)
@@ -112,20 +112,21 @@ floor_refusal s (near ∷ steps) false some low = absurd (cc)
 -- a begin that was made was allowed
 pub Steps-begun : (g h : Grouped Kept) → begun g ≡ Some h → Steps Begin g (Ok tt) h
 Steps-begun g h step = (by_floor g.floor step, step) where
-  by_floor : (floor : Option (Floor Kept)) → floored floor g.machine ≡ Some h → first_of ((is_some floor, GroupOpen) ∷ []) ≡ None
+  by_floor : (floor : Option (Floor Kept)) → floored floor g.machine ≡ Some h → first_holding ((is_some floor, GroupOpen) ∷ []) ≡ None
   by_floor None step = refl
   by_floor (Some f) step = absurd (cc)
 
 -- and so was an end
 pub Steps-ended : (g h : Grouped Kept) → ended (over g.floor (with_group g.floor g.machine)) ≡ Some h → Steps End g (Ok tt) h
 Steps-ended g h step = (by_floor g.floor step, step) where
-  by_floor : (floor : Option (Floor Kept)) → joined_over floor (with_group floor g.machine) ≡ Some h → first_of ((not (is_some floor), NoGroup) ∷ []) ≡ None
+  by_floor : (floor : Option (Floor Kept)) → joined_over floor (with_group floor g.machine) ≡ Some h
+      → first_holding ((not (is_some floor), NoGroup) ∷ []) ≡ None
   by_floor None step = absurd (cc)
   by_floor (Some f) step = refl
 
 -- and an abort
 pub Steps-aborted : (g h : Grouped Kept) → aborted g ≡ Some h → Steps Abort g (Ok tt) h
 Steps-aborted g h step = (by_floor g.floor step, step) where
-  by_floor : (floor : Option (Floor Kept)) → dropped_over floor g.machine ≡ Some h → first_of ((not (is_some floor), NoGroup) ∷ []) ≡ None
+  by_floor : (floor : Option (Floor Kept)) → dropped_over floor g.machine ≡ Some h → first_holding ((not (is_some floor), NoGroup) ∷ []) ≡ None
   by_floor None step = absurd (cc)
   by_floor (Some f) step = refl

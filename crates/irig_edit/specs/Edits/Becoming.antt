@@ -3,12 +3,12 @@ use Rattle.std.specs.Prelude.{◌≡◌, ◌≤◌, ℕ, Option, length}
 use Rattle.irig_edit.specs.State.State.{State}
 use Rattle.irig_edit.specs.Session.Calls.{Edit}
 use Rattle.irig_edit.specs.Edits.Edits.{IsAfter, cursor_after}
-use Rattle.irig_edit.specs.Edits.Refusals.{first_of, tests_of}
+use Rattle.irig_edit.specs.Edits.Refusals.{first_holding, tests_of}
 use Rattle.irig_edit.specs.declared.session.refusal.Refusal.{Refusal}
 
 -- the first refusal of an edit in a state
 abbrev pub judgement_of : Edit → State → Option Refusal
-judgement_of edit s = first_of (tests_of edit s)
+judgement_of edit s = first_holding (tests_of edit s)
 
 -- the edit turns one state into the other, and the cursor comes to a place
 pub record Becomes (edit : Edit) (old new : State) (place : ℕ) : Type 0 where

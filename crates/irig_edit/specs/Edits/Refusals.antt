@@ -27,9 +27,9 @@ use Rattle.irig_edit.specs.declared.session.refusal.Refusal.TheVariants.{GroupFl
 use Rattle.irig_edit.specs.Session.Kept.{Kept}
 
 -- the first whose test holds
-abbrev pub first_of : List (Bool × Refusal) → Option Refusal
-first_of [] = None
-first_of (test ∷ tests) = if test.0 then Some test.1 else first_of tests
+abbrev pub first_holding : List (Bool × Refusal) → Option Refusal
+first_holding [] = None
+first_holding (test ∷ tests) = if test.0 then Some test.1 else first_holding tests
 
 -- the tests of an edit in their order
 abbrev pub tests_of : Edit → State → List (Bool × Refusal)
@@ -62,12 +62,12 @@ is_empty (x ∷ xs) = false
 
 -- the refusal of a call
 abbrev pub refusal_of : Call → Grouped Kept → Option Refusal
-refusal_of (Make edit) g = first_of (tests_of edit g.machine.present.state)
+refusal_of (Make edit) g = first_holding (tests_of edit g.machine.present.state)
 refusal_of Undo g =
-    first_of ((is_empty g.machine.past, NothingToUndo)
+    first_holding ((is_empty g.machine.past, NothingToUndo)
     ∷ (is_at_floor g.floor g.machine.past, GroupFloor) ∷ [])
-refusal_of Redo g = first_of ((is_empty g.machine.future, NothingToRedo) ∷ [])
-refusal_of (Go i) g = first_of ((not (are_pulses i i g.machine.present.state), NoPulse) ∷ [])
-refusal_of Begin g = first_of ((is_some g.floor, GroupOpen) ∷ [])
-refusal_of End g = first_of ((not (is_some g.floor), NoGroup) ∷ [])
-refusal_of Abort g = first_of ((not (is_some g.floor), NoGroup) ∷ [])
+refusal_of Redo g = first_holding ((is_empty g.machine.future, NothingToRedo) ∷ [])
+refusal_of (Go i) g = first_holding ((not (are_pulses i i g.machine.present.state), NoPulse) ∷ [])
+refusal_of Begin g = first_holding ((is_some g.floor, GroupOpen) ∷ [])
+refusal_of End g = first_holding ((not (is_some g.floor), NoGroup) ∷ [])
+refusal_of Abort g = first_holding ((not (is_some g.floor), NoGroup) ∷ [])

@@ -7,8 +7,8 @@ use Rattle.irig_saved.specs.declared.change.Change.{Change}
 use Rattle.irig_edit.specs.State.State.{State}
 use Rattle.irig_edit.specs.Opened.Taken.{CanTakeAll, StopsAfter, steps_of}
 use Rattle.irig_edit.specs.Opened.Walk.{walk}
-use Rattle.irig_edit.specs.declared.opened.taking.Stop.{Stop}
-use Rattle.irig_edit.specs.declared.opened.taking.Stop.TheVariants.{At, Memory}
+use Rattle.irig_edit.specs.declared.opened.taking.NotTaken.{NotTaken}
+use Rattle.irig_edit.specs.declared.opened.taking.NotTaken.TheVariants.{At, Memory}
 
 -- this many lines are before the step that is not taken, and this many up to its end
 pub record StopsAt (s : State) (saves : List SavedStep) (before behind : ℕ) : Type 0 where
@@ -19,9 +19,9 @@ pub record StopsAt (s : State) (saves : List SavedStep) (before behind : ℕ) : 
   pub few : before < 2 ^ 63
 
 -- if memory runs out nothing is said
-abbrev pub IsStop : State → List SavedStep → Stop → Type 0
-IsStop s saves (At before behind) = StopsAt s saves before behind
-IsStop s saves Memory = Unit {0}
+abbrev pub IsNotTaken : State → List SavedStep → NotTaken → Type 0
+IsNotTaken s saves (At before behind) = StopsAt s saves before behind
+IsNotTaken s saves Memory = Unit {0}
 
 -- saved steps back and forward can be taken, and are the past and the future of the state
 pub record HasTaken (old : History State Change) (past future : List SavedStep)

@@ -13,7 +13,7 @@ ghost use Rattle.irig_edit.specs.Opened.Opened.{IsAccepted, IsLineAtFault, IsSte
 ghost use Rattle.irig_edit.specs.Opened.Opened.{head_fault};
 ghost use Rattle.irig_edit.specs.Opened.Openings.{IsBad};
 ghost use Rattle.irig_edit.specs.State.State.{IsState, State};
-ghost use Rattle.irig_edit.specs.Opened.Stops.{HasTaken, IsStop};
+ghost use Rattle.irig_edit.specs.Opened.Stops.{HasTaken, IsNotTaken};
 ghost use Rattle.irig_edit.specs.Opened.Taken.{CanTake, CanTakeAll, step_of, steps_of};
 ghost use Rattle.irig_edit.specs.Opened.Walk.{ahead_of, changed, gone_along, gone_on, walk};
 
@@ -25,7 +25,7 @@ use std::alloc::{AllocError, Global};
 
 /// Why steps were not all taken.
 #[derive(Drop)]
-pub(crate) enum Stop {
+pub(crate) enum NotTaken {
     /// One can't be: this many lines of steps are before it, and this many up to its end.
     At { before: usize, behind: usize },
     /// Memory ran out.
@@ -34,13 +34,13 @@ pub(crate) enum Stop {
 
 impl Walk {
     /// Takes steps, the last first, and goes back: they are ahead then.
-    fn follow(&mut self, alloc: Global, steps: Steps) -> Result<(), Stop>
+    fn follow(&mut self, alloc: Global, steps: Steps) -> Result<(), NotTaken>
         requires ahead { self.old.future ≡ [] }
         requires lines { length (steps_lines (reverse steps)) < 2 ^ 63 }
         ensures { MatchResult result
             (λ _. CanTakeAll self.old.state (steps_of (reverse steps))
             × (self.new ≡ ahead_of self.old (steps_of (reverse steps))))
-            (λ stop. IsStop self.old.state (reverse steps) stop) }
+            (λ why. IsNotTaken self.old.state (reverse steps) why) }
     {
         // Read for the law of its type alone.
         let _len = self.len();
@@ -92,36 +92,36 @@ impl Walk {
     {
         match self.follow(alloc, past) {
             Ok(()) => {}
-            Err(Stop::At { behind, .. }) => {
+            Err(NotTaken::At { behind, .. }) => {
                 return Err(VcdFault::BadJournal(line.saturating_sub(behind)));
             }
-            Err(Stop::Memory) => return Err(VcdFault::OutOfMemory),
+            Err(NotTaken::Memory) => return Err(VcdFault::OutOfMemory),
         }
         self.turn_round();
         future.reverse();
         match self.follow(alloc, future) {
             Ok(()) => Ok(()),
-            Err(Stop::At { before, .. }) => Err(VcdFault::BadJournal(line + 1 + before)),
-            Err(Stop::Memory) => Err(VcdFault::OutOfMemory),
+            Err(NotTaken::At { before, .. }) => Err(VcdFault::BadJournal(line + 1 + before)),
+            Err(NotTaken::Memory) => Err(VcdFault::OutOfMemory),
         }
     }
 
     /// Takes steps, the last first.
-    fn take_all(&mut self, alloc: Global, mut steps: Steps) -> Result<(), Stop>
+    fn take_all(&mut self, alloc: Global, mut steps: Steps) -> Result<(), NotTaken>
         requires ahead { self.old.future ≡ [] }
         requires lines { length (steps_lines (reverse steps)) < 2 ^ 63 }
         ensures { MatchResult result
             (λ _. CanTakeAll self.old.state (steps_of (reverse steps))
             × (self.new ≡ gone_along self.old (steps_of (reverse steps))))
-            (λ stop. IsStop self.old.state (reverse steps) stop) }
+            (λ why. IsNotTaken self.old.state (reverse steps) why) }
     {
         let mut before = 0;
         while let Some(step) = steps.pop() {
             let behind = before + step.lines();
             match self.take(alloc, step) {
                 Ok(true) => before = behind,
-                Ok(false) => return Err(Stop::At { before, behind }),
-                Err(_) => return Err(Stop::Memory),
+                Ok(false) => return Err(NotTaken::At { before, behind }),
+                Err(_) => return Err(NotTaken::Memory),
             }
         }
         Ok(())

@@ -8,7 +8,7 @@ use Rattle.irig_edit.specs.Session.Keeping.{grouped_at, machine_at}
 use Rattle.irig_edit.specs.Session.Kept.{looks_back}
 use Rattle.irig_edit.specs.Changes.Looks.{Within}
 use Rattle.irig_edit.specs.Session.Machine.{Steps}
-use Rattle.irig_edit.specs.Edits.Refusals.{first_of}
+use Rattle.irig_edit.specs.Edits.Refusals.{first_holding}
 use Rattle.irig_edit.specs.Session.Session.{SessionView, grouped_in, machine_in, made_since}
 use Rattle.irig_edit.specs.declared.session.refusal.Refusal.TheVariants.{NoGroup}
 use Rattle.irig_edit.proofs.SessionLemmas.Aborts.{IsGrouped-aborted, aborted_rose, grouped-aborted}
@@ -63,7 +63,7 @@ returns-in-Err c =
     let s = c.self.inside in
     let failed : IsErr c.abort.result = search rules in
     let shut = is_some-floor (machine_at s.present.state s.cursor s.journal) s.journal.floor ∙ c.abort.ensures.none.0 failed in
-    let refused = ap (λ (test : Bool). first_of ((not test, NoGroup) ∷ [])) shut in
+    let refused = ap (λ (test : Bool). first_holding ((not test, NoGroup) ∷ [])) shut in
     let same = c.in-Err.ensures.err in
     let stays = refused_stays Abort NoGroup _ s.present _ s.cursor _ s.last_looks s.journal _ c.self.view_is refused same.2 same.3 same.1 in
     record { step = stays.0; looks = stays.1 }

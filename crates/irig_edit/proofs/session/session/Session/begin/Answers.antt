@@ -4,7 +4,7 @@ use Rattle.irig_edit.specs.Changes.Held.{deltas_of}
 use Rattle.irig_edit.specs.Session.Keeping.{grouped_at, machine_at}
 use Rattle.irig_edit.specs.Session.Machine.{Steps}
 use Rattle.irig_edit.specs.Changes.Ready.{StepsAreReady}
-use Rattle.irig_edit.specs.Edits.Refusals.{first_of}
+use Rattle.irig_edit.specs.Edits.Refusals.{first_holding}
 use Rattle.irig_edit.specs.Session.Session.{SessionView, grouped_in}
 use Rattle.irig_edit.specs.declared.session.refusal.Refusal.TheVariants.{GroupOpen}
 use Rattle.irig_edit.proofs.SessionLemmas.Endings.{grouped-began, is_some-floor}
@@ -44,7 +44,7 @@ returns-clause-step c =
       | in-Err w ↦
           let failed : IsErr c.begin.result = search rules in
           let open_now = is_some-floor (machine_at s.present.state s.cursor s.journal) s.journal.floor ∙ c.begin.ensures.open.0 failed in
-          let refused = ap (λ (test : Bool). first_of ((test, GroupOpen) ∷ [])) open_now in
+          let refused = ap (λ (test : Bool). first_holding ((test, GroupOpen) ∷ [])) open_now in
           let stays = refused_stays Begin GroupOpen _ s.present s.present s.cursor s.cursor s.last_looks s.journal _ c.self.view_is refused refl refl
           w.in-Err.ensures.err.1 in
           rw w.result-is stays.0

@@ -4,7 +4,7 @@ use Rattle.irig_edit.specs.Session.Calls.Call.{End}
 use Rattle.irig_edit.specs.Changes.Held.{delta_of, deltas_of}
 use Rattle.irig_edit.specs.Session.Keeping.{grouped_at, machine_at}
 use Rattle.irig_edit.specs.Session.Machine.{Steps}
-use Rattle.irig_edit.specs.Edits.Refusals.{first_of}
+use Rattle.irig_edit.specs.Edits.Refusals.{first_holding}
 use Rattle.irig_edit.specs.Session.Session.{SessionView, grouped_in}
 use Rattle.irig_edit.specs.declared.session.refusal.Refusal.TheVariants.{NoGroup}
 use Rattle.irig_edit.proofs.SessionLemmas.Endings.{IsGrouped-ended, grouped-ended, is_some-floor}
@@ -38,7 +38,7 @@ returns-clause-step c =
       | in-Err w ↦
           let failed : IsErr c.end.result = search rules in
           let shut = is_some-floor (machine_at s.present.state s.cursor s.journal) s.journal.floor ∙ c.end.ensures.none.0 failed in
-          let refused = ap (λ (test : Bool). first_of ((not test, NoGroup) ∷ [])) shut in
+          let refused = ap (λ (test : Bool). first_holding ((not test, NoGroup) ∷ [])) shut in
           let stays = refused_stays End NoGroup _ s.present s.present s.cursor s.cursor s.last_looks s.journal _ c.self.view_is refused refl refl
           w.in-Err.ensures.err.1 in
           rw w.result-is stays.0

@@ -4,7 +4,7 @@ use Rattle.irig_edit.specs.Session.Calls.Call.{Go}
 use Rattle.irig_edit.specs.Edits.Conditions.{are_pulses}
 use Rattle.irig_edit.specs.Session.Keeping.{grouped_at, machine_at}
 use Rattle.irig_edit.specs.Session.Machine.{Steps}
-use Rattle.irig_edit.specs.Edits.Refusals.{first_of}
+use Rattle.irig_edit.specs.Edits.Refusals.{first_holding}
 use Rattle.irig_edit.specs.Session.Session.{SessionView, grouped_in}
 use Rattle.irig_edit.specs.declared.session.refusal.Refusal.TheVariants.{NoPulse}
 use Rattle.irig_edit.proofs.SessionLemmas.Floors.{IsGrouped-moved, grouped-moved}
@@ -22,6 +22,6 @@ returns-clause-step c =
     let first : 1 ≤ c.args.pulse = omega (arith, c.if-pulse-eq0.false) in
     let last : c.args.pulse ≤ length s.present.state.pulses = omega (arith, c.if-pulse-len.false, (c.len.ensures.len ∙ ap length c.track.ensures.pulses)) in
     let there : are_pulses c.args.pulse c.args.pulse s.present.state ≡ true = grind (arith, nat_tests) in
-    let none = ap (λ (test : Bool). first_of ((not test, NoPulse) ∷ [])) there in
+    let none = ap (λ (test : Bool). first_holding ((not test, NoPulse) ∷ [])) there in
     subst (λ (v : SessionView). Steps (Go c.args.pulse) (grouped_in v) (Ok tt) (grouped_at s.present.state c.args.pulse s.journal)) c.self.view_is
     (none, grouped-moved (machine_at s.present.state s.cursor s.journal) c.args.pulse s.journal.floor)
