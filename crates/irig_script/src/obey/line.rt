@@ -9,7 +9,7 @@ const LINE_LIMIT: usize = 1000;
 /// The bytes of a line so far, as long as they are at most 1,000.
 #[derive(Drop)]
 pub struct Line {
-    bytes: [u8; 1000],
+    bytes: [u8; LINE_LIMIT],
     len: usize,
     long: bool,
     ghost fits: { len ≤ 1000 },
@@ -23,7 +23,7 @@ impl Line {
         ensures { Holds [] result }
     {
         Line {
-            bytes: [0; 1000],
+            bytes: [0; LINE_LIMIT],
             len: 0,
             long: false,
         }

@@ -10,6 +10,15 @@ use std::marker::Model;
 /// The most bytes of a printed line.
 const ROW_LIMIT: usize = 256;
 
+/// The most decimal digits of a `u64`.
+const LONG_DIGITS: usize = 20;
+
+/// The most decimal digits of a `u32`.
+const SHORT_DIGITS: usize = 10;
+
+/// The most hexadecimal digits of a `u64`.
+const HEXADECIMAL_DIGITS: usize = 16;
+
 /// One printed line of at most 256 bytes, while it is put together. It takes no memory.
 #[derive(Drop)]
 pub struct Row {
@@ -69,8 +78,8 @@ impl Row {
         ensures text { self.new ≡ self.old ++ decimal number }
         ensures short { length self.new ≤ length self.old + 20 }
     {
-        let mut digits = [0; 20];
-        let start = itoa::write_digits(number, &mut digits, 20);
+        let mut digits = [0; LONG_DIGITS];
+        let start = itoa::write_digits(number, &mut digits, LONG_DIGITS);
         self.put(&digits[start..]);
     }
 
@@ -81,9 +90,9 @@ impl Row {
         ensures text { self.new ≡ self.old ++ padded width number }
         ensures short { length self.new ≤ length self.old + 10 }
     {
-        let mut digits = [0; 10];
-        let start = itoa::write_digits(number as u64, &mut digits, 10);
-        let zeros = width.saturating_sub(10 - start);
+        let mut digits = [0; SHORT_DIGITS];
+        let start = itoa::write_digits(number as u64, &mut digits, SHORT_DIGITS);
+        let zeros = width.saturating_sub(SHORT_DIGITS - start);
         self.put(&b"000"[..zeros]);
         self.put(&digits[start..]);
     }
@@ -94,9 +103,9 @@ impl Row {
         ensures text { self.new ≡ self.old ++ hexadecimal number }
         ensures short { length self.new ≤ length self.old + 16 }
     {
-        let mut digits = [0; 16];
+        let mut digits = [0; HEXADECIMAL_DIGITS];
         let mut rest = number;
-        let mut at = 15;
+        let mut at = HEXADECIMAL_DIGITS - 1;
         while rest >= 16 {
             digits[at] = glyph(rest % 16);
             rest /= 16;
