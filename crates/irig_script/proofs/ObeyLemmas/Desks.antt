@@ -60,6 +60,15 @@ tells-answers a b c rs qs ts us h k =
     subst (λ (l : List ℕ). Tells a c l (rs ++ qs) (ts ++ us)) (sym (flat_map-append (λ (answer : Answer). answer.text) rs qs))
     (tells-tells a b c (printed rs) (printed qs) rs qs ts us h k)
 
+-- an answer that was printed in front, after answers that were printed whole
+pub tells-part : (a b c : Desk) (rs qs : List Answer) (last : Answer) (front : List ℕ) (ts us : List (List ℕ)) → Tells a b (printed rs) rs ts
+    → Tells b c (printed qs ++ front) (qs ++ last ∷ []) us → Tells a c (printed (rs ++ qs) ++ front) ((rs ++ qs) ++ last ∷ []) (ts ++ us)
+tells-part a b c rs qs last front ts us h k =
+    let text : printed rs ++ (printed qs ++ front) ≡ printed (rs ++ qs) ++ front = sym (append_assoc (printed rs) (printed qs) front)
+    ∙ ap (λ l. l ++ front) (sym (flat_map-append (λ (answer : Answer). answer.text) rs qs)) in
+    subst (λ (l : List Answer). Tells a c (printed (rs ++ qs) ++ front) l (ts ++ us)) (sym (append_assoc rs qs (last ∷ [])))
+    (subst (λ (l : List ℕ). Tells a c l (rs ++ (qs ++ last ∷ [])) (ts ++ us)) text (tells-tells a b c _ _ _ _ _ _ h k))
+
 -- one answer, printed whole or in front
 pub tells_front : (a b : Desk) (texts : List (List ℕ)) (r : Answer) (front : List ℕ) → Appends a.out b.out front
     → Puts a.shelf b.shelf texts (failures_of r.reply) → Tells a b front (r ∷ []) texts

@@ -14,7 +14,7 @@ use Rattle.irig_script.specs.Obey.Run.{Runs, Goes, IsPlain, IsObeyed, unlines}
 use Rattle.irig_script.specs.Obey.Progress.{Holds, Obeyed, BrokeIn}
 use Rattle.irig_script.specs.declared.obey.status.Status.{Status}
 use Rattle.irig_script.specs.declared.obey.line.Line.{Line}
-use Rattle.irig_script.proofs.ObeyLemmas.Desks.{status_after-append, tells_none, tells-tells, tells-answers}
+use Rattle.irig_script.proofs.ObeyLemmas.Desks.{status_after-append, tells_none, tells-answers, tells-part}
 
 -- a byte before a text that has no newline
 pub plain_first : (b : ℕ) (text : List ℕ) → IsPlain (b ∷ text) → ((b == 10) ≡ false) × IsPlain text
@@ -154,23 +154,13 @@ obeyed_rest a b st su s t one more line h =
       );
     }
 
-pub answers_assoc : (x y z : List Answer) → (x ++ y) ++ z ≡ x ++ (y ++ z)
-answers_assoc x y z = append_assoc x y z
-
 -- a print that failed, after a part that was obeyed
 pub broke_more : (a b c : Desk) (st su : Status) (s t u : Machine) (one two : List ℕ) (mid : Line) → Obeyed false a b st su s t one mid
     → ((left : List ℕ) → Holds left mid → BrokeIn b c t u (left ++ two)) → BrokeIn a c s u (one ++ two)
 broke_more a b c st su s t u one two mid h k =
     let left = h.ends.0 in
     let m = k left h.ends.2 in
-    let back = sym (answers_assoc h.answers m.answers (m.last ∷ [])) in
-    let text : printed h.answers ++ (printed m.answers ++ m.front) ≡ printed (h.answers ++ m.answers) ++ m.front =
-    sym (append_assoc (printed h.answers) (printed m.answers) m.front)
-    ∙ ap (λ l. l ++ m.front) (sym (flat_map-append (λ (answer : Answer). answer.text) h.answers m.answers)) in
-    let all : Tells a c (printed h.answers ++ (printed m.answers ++ m.front)) (h.answers ++ (m.answers ++ m.last ∷ [])) (h.texts ++ m.texts) =
-    tells-tells a b c _ _ _ _ _ _ h.told m.told in
-    let some : Tells a c (printed (h.answers ++ m.answers) ++ m.front) (h.answers ++ (m.answers ++ m.last ∷ [])) (h.texts ++ m.texts) =
-    subst (λ (l : List ℕ). Tells a c l (h.answers ++ (m.answers ++ m.last ∷ [])) (h.texts ++ m.texts)) text all in
+    let back = sym (append_assoc h.answers m.answers (m.last ∷ [])) in
     record {
       answers = h.answers ++ m.answers;
       last = m.last;
@@ -180,7 +170,7 @@ broke_more a b c st su s t u one two mid h k =
       texts = h.texts ++ m.texts;
       part = m.part;
       missing = m.missing;
-      told = subst (λ (l : List Answer). Tells a c (printed (h.answers ++ m.answers) ++ m.front) l (h.texts ++ m.texts)) back some;
+      told = tells-part a b c h.answers m.answers m.last m.front h.texts m.texts h.told m.told;
       goes = subst (λ (l : List Answer). Goes (one ++ two) s l (h.texts ++ m.texts) u m.rest) back
           (goes-goes one two s t u left m.rest h.answers (m.answers ++ m.last ∷ []) h.texts m.texts h.ends.1 m.goes);
     }

@@ -3,17 +3,16 @@ use Rattle.std.proofs.Common.{◌≡◌, ◌++◌, ◌∷◌, [], ℕ, Option, S
 use Rattle.std.specs.Prelude.{IfSome}
 use Rattle.std.specs.Io.KnownBytes.{Consumes, IsAtEnd}
 use Rattle.std.proofs.lemmas.List.{append-nil}
-use Rattle.std.proofs.lemmas.Grind.{flat_map-append}
 use Rattle.irig_script.specs.Obey.Machine.{Machine}
 use Rattle.irig_lines.specs.Lines.{until_quit, script_lines, lines_of}
-use Rattle.irig_script.specs.Print.Printed.{Answer, printed}
-use Rattle.irig_script.specs.Obey.Desk.{Desk, Tells, status_after}
+use Rattle.irig_script.specs.Print.Printed.{Answer}
+use Rattle.irig_script.specs.Obey.Desk.{Desk, status_after}
 use Rattle.irig_script.specs.Obey.Run.{Runs, Ran, Broke, unlines}
 use Rattle.irig_script.specs.Obey.Progress.{Holds, Obeyed, BrokeIn}
 use Rattle.irig_script.specs.declared.obey.status.Status.{Status}
 use Rattle.irig_script.specs.declared.obey.line.Line.{Line}
-use Rattle.irig_script.proofs.ObeyLemmas.Desks.{tells-tells, tells-answers, status_after-append}
-use Rattle.irig_script.proofs.ObeyLemmas.Lines.{first_line, lines_and, until_ended, runs-runs, answers_assoc}
+use Rattle.irig_script.proofs.ObeyLemmas.Desks.{tells-answers, tells-part, status_after-append}
+use Rattle.irig_script.proofs.ObeyLemmas.Lines.{first_line, lines_and, until_ended, runs-runs}
 
 -- a script that was read to its end
 pub run_ended : (from to : Option (List ℕ)) (a b c : Desk) (st su sv : Status) (s t u : Machine) (read : List ℕ) (line : Line) → Consumes from to read
@@ -85,14 +84,7 @@ run_broken (Some input) (Some ys) a b c st su s t u read line p e h f =
     let goes = h.ends.1 in
     let m = f left h.ends.2 in
     let whole : input ≡ unlines goes.lines ++ left = p ∙ (ap (λ l. read ++ l) e ∙ (append-nil read ∙ goes.cut)) in
-    let back = sym (answers_assoc h.answers m.answers (m.last ∷ [])) in
-    let text : printed h.answers ++ (printed m.answers ++ m.front) ≡ printed (h.answers ++ m.answers) ++ m.front =
-    sym (append_assoc (printed h.answers) (printed m.answers) m.front)
-    ∙ ap (λ l. l ++ m.front) (sym (flat_map-append (λ (answer : Answer). answer.text) h.answers m.answers)) in
-    let all : Tells a c (printed h.answers ++ (printed m.answers ++ m.front)) (h.answers ++ (m.answers ++ m.last ∷ [])) (h.texts ++ m.texts) =
-    tells-tells a b c _ _ _ _ _ _ h.told m.told in
-    let some : Tells a c (printed (h.answers ++ m.answers) ++ m.front) (h.answers ++ (m.answers ++ m.last ∷ [])) (h.texts ++ m.texts) =
-    subst (λ (l : List ℕ). Tells a c l (h.answers ++ (m.answers ++ m.last ∷ [])) (h.texts ++ m.texts)) text all in
+    let back = sym (append_assoc h.answers m.answers (m.last ∷ [])) in
     record {
       lines = goes.lines ++ m.lines;
       others = m.others;
@@ -104,7 +96,7 @@ run_broken (Some input) (Some ys) a b c st su s t u read line p e h f =
       cut = ap script_lines whole ∙ (lines_and goes.lines left goes.each ∙ (ap (λ l. goes.lines ++ l) m.cut ∙ sym (append_assoc goes.lines m.lines m.others)));
       part = m.part;
       missing = m.missing;
-      told = subst (λ (l : List Answer). Tells a c (printed (h.answers ++ m.answers) ++ m.front) l (h.texts ++ m.texts)) back some;
+      told = tells-part a b c h.answers m.answers m.last m.front h.texts m.texts h.told m.told;
       runs = subst (λ (l : List Answer). Runs s (goes.lines ++ m.lines) l (h.texts ++ m.texts) u) back
           (runs-runs s t u goes.lines m.lines h.answers (m.answers ++ m.last ∷ []) h.texts m.texts goes.runs m.runs);
     }

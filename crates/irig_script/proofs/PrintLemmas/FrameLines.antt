@@ -7,6 +7,7 @@ use Rattle.irig_index.specs.declared.record.Cause.TheVariants.{Ended}
 use Rattle.irig_index.specs.declared.record.Verdict.TheVariants.{Broken}
 use Rattle.irig_index.proofs.MarkerLaws.{frames_are_the_markers}
 use Rattle.irig_edit.specs.State.State.{State, frames_of}
+use Rattle.irig_script.specs.Print.Printed.{record_line}
 
 -- the marker of a frame is a pulse of the track
 pub marker_within : (s : State) (k : ℕ) (r : Record) → slice_get (frames_of s) k ≡ Some r → r.marker < length s.pulses
@@ -22,8 +23,12 @@ marker_within s k r e =
 abbrev pub no_record : Record
 no_record = record { marker = 0; verdict = Broken 0 Ended }
 
--- the record of frame k + 1
-pub record_here : (rs : List Record) (k : ℕ) → k < length rs → slice_get rs (k + 1 - 1) ≡ Some (get_or rs k no_record)
-record_here rs k h =
+-- the line of frame k + 1 is the next one
+pub frame_listed : (s : State) (k : ℕ) (line row : List ℕ) → k < length (frames_of s) → line ≡ row
+    → ((r : Record) → slice_get (frames_of s) (k + 1 - 1) ≡ Some r → row ≡ record_line s (k + 1) r)
+    → line ≡ record_line s (1 + k) (get_or (frames_of s) k no_record)
+frame_listed s k line row h same is =
+    let r = get_or (frames_of s) k no_record in
     let place : k + 1 - 1 ≡ k = omega arith in
-    ap (slice_get rs) place ∙ slice_get-get_or rs k no_record h
+    let number : k + 1 ≡ 1 + k = omega arith in
+    same ∙ is r (ap (slice_get (frames_of s)) place ∙ slice_get-get_or (frames_of s) k no_record h) ∙ ap (λ n. record_line s n r) number

@@ -1,5 +1,5 @@
 -- The marks a to z, one after another.
-use Rattle.std.proofs.Common.{◌≡◌, ◌+◌, ◌-◌, ◌<◌, ℕ, List, Option, None, Some, length, take, get_or, slice_get, ap₂, sym, ◌∙◌}
+use Rattle.std.proofs.Common.{◌≡◌, ◌+◌, ◌-◌, ◌<◌, ℕ, List, Option, None, Some, length, take, get_or, slice_get, ap₂, sym, subst, ◌∙◌}
 use Rattle.std.proofs.Common.{arith}
 use Rattle.std.proofs.lemmas.List.{get_or-take, length-take, take_all}
 use Rattle.std.proofs.lemmas.Option.{get_or_from_slice_get, slice_get_within}
@@ -14,10 +14,11 @@ pub mark_named : (marks : List (Option ℕ)) (byte letter : ℕ) (mark : Option 
 mark_named marks byte letter mark e h = let place : byte - 97 ≡ letter = omega arith in rw place at h
 
 -- its line is the next one
-pub mark_listed : (marks : List (Option ℕ)) (letter k : ℕ) (mark : Option ℕ) (line row : List ℕ) → letter ≡ k → k < 26 → slice_get marks letter ≡ Some mark
-    → line ≡ row → row ≡ mark_line letter mark → (k < length (take 26 marks)) × (line ≡ mark_line (0 + k) (get_or (take 26 marks) k None))
-mark_listed marks letter k mark line row e h there same is =
-    let here = rw e at there in
+pub mark_listed : (marks : List (Option ℕ)) (byte letter k : ℕ) (mark : Option ℕ) (line row : List ℕ) → letter ≡ k → k < 26 → byte ≡ 97 + letter
+    → slice_get marks (byte - 97) ≡ Some mark → line ≡ row → row ≡ mark_line letter mark
+    → (k < length (take 26 marks)) × (line ≡ mark_line (0 + k) (get_or (take 26 marks) k None))
+mark_listed marks byte letter k mark line row e h named there same is =
+    let here = subst (λ (n : ℕ). slice_get marks n ≡ Some mark) e (mark_named marks byte letter mark named there) in
     let within = slice_get_within marks k mark here in
     let place : letter ≡ 0 + k = omega arith in
     let read : mark ≡ get_or (take 26 marks) k None = sym (get_or_from_slice_get marks k mark None here) ∙ sym (get_or-take 26 marks k None h) in

@@ -13,6 +13,7 @@ use Rattle.irig_edit.specs.State.State.{State}
 use Rattle.irig_script.specs.Print.Front.{AppendsFront}
 use Rattle.irig_script.specs.Print.Listings.{list_text, pulse_line}
 use Rattle.irig_script.specs.Print.Numbered.{numbered}
+use Rattle.irig_lines.proofs.WordLemmas.{rest_whole}
 use Rattle.irig_script.proofs.PrintLemmas.Blocks.{front_behind, front_longer}
 
 -- the first line of a listing, and those after it
@@ -53,6 +54,11 @@ listings_joined s m (suc d) k h =
     ∙ ap (λ l. first ++ l) rest
     ∙ sym (listing_opened s m (d + k) p there)
     ∙ ap (λ n. list_text m n s) count
+
+-- the lines at the end of a block
+pub piece_written : (s : State) (m k start : ℕ) (bytes : List ℕ) → drop start bytes ≡ list_text (m + k - k) k s
+    → take (length bytes - start) (drop start bytes) ≡ list_text m k s
+piece_written s m k start bytes h = let place : m + k - k ≡ m = omega arith in rest_whole bytes start ∙ h ∙ ap (λ n. list_text n k s) place
 
 -- one more piece was printed
 pub listing_more : (s : State) (m d k : ℕ) (a b c : Option (List ℕ)) → m + d ≤ length s.pulses → Appends a b (list_text m d s)

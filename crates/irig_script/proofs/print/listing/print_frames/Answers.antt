@@ -1,10 +1,10 @@
-use Rattle.std.proofs.Common.{rules, ◌≡◌, ◌<◌, ◌+◌, length, get_or, ap, ◌∙◌, arith}
+use Rattle.std.proofs.Common.{rules, ◌≡◌, ◌<◌, length}
 use Rattle.std.proofs.Math.Seq.{take-length}
 use Rattle.irig_edit.specs.State.State.{frames_of}
 use Rattle.irig_script.specs.Print.Numbered.{numbered}
 use Rattle.irig_script.specs.Print.Printed.{record_line}
 use Rattle.irig_script.proofs.PrintLemmas.Blocks.{prints_end}
-use Rattle.irig_script.proofs.PrintLemmas.FrameLines.{no_record, record_here}
+use Rattle.irig_script.proofs.PrintLemmas.FrameLines.{no_record, frame_listed}
 use Rattle.irig_script.proofs.PrintLemmas.Numbered.{listed_front, listed_more}
 use Rattle.irig_script.proofs.print.listing.print_frames.Goals as goal
 
@@ -14,9 +14,7 @@ returns-in_default g c =
     let k = c.loop-index.index in
     let rs = frames_of s in
     let within : k < length rs = search rules in
-    let place : k + 1 ≡ 1 + k = omega arith in
-    let line : c.text.result.now ≡ record_line s (1 + k) (get_or rs k no_record) =
-    c.text.ensures.text ∙ c.put_record.ensures _ (record_here rs k within) ∙ ap (λ n. record_line s n (get_or rs k no_record)) place in
+    let line = frame_listed s k _ _ within c.text.ensures.text c.put_record.ensures in
     listed_front (record_line s) 1 rs k no_record _ _ _ _ _ within line c.loop-index.invariant c.in_default.ensures.err
 
 pub loop-index-preserved : goal.loop-index-preserved
@@ -25,9 +23,7 @@ loop-index-preserved g c =
     let k = c.loop-index.index in
     let rs = frames_of s in
     let within : k < length rs = search rules in
-    let place : k + 1 ≡ 1 + k = omega arith in
-    let line : c.text.result.now ≡ record_line s (1 + k) (get_or rs k no_record) =
-    c.text.ensures.text ∙ c.put_record.ensures _ (record_here rs k within) ∙ ap (λ n. record_line s n (get_or rs k no_record)) place in
+    let line = frame_listed s k _ _ within c.text.ensures.text c.put_record.ensures in
     listed_more (record_line s) 1 rs k no_record _ _ _ _ _ _ within line c.loop-index.invariant c.in-Ok.ensures.ok
 
 pub returns : goal.returns

@@ -1,8 +1,8 @@
-use Rattle.std.proofs.Common.{rules, ◌≡◌, ◌<◌, None, take, arith}
+use Rattle.std.proofs.Common.{rules, ◌≡◌, None, take, arith}
 use Rattle.irig_script.specs.Print.Listings.{mark_line}
 use Rattle.irig_script.specs.Print.Numbered.{numbered}
 use Rattle.irig_script.proofs.PrintLemmas.Blocks.{prints_end}
-use Rattle.irig_script.proofs.PrintLemmas.MarkLines.{few_marks, mark_listed, mark_named}
+use Rattle.irig_script.proofs.PrintLemmas.MarkLines.{few_marks, mark_listed}
 use Rattle.irig_script.proofs.PrintLemmas.Numbered.{listed_front, listed_more}
 use Rattle.irig_script.proofs.print.mark_lines.print_marks.Goals as goal
 
@@ -10,20 +10,16 @@ pub returns-in_default : goal.returns-in_default
 returns-in_default g c =
     let ms = c.args.session.now.present.state.marks in
     let k = c.loop-place.place in
-    let few : k < 26 = omega (arith, c.loop-place-test.true) in
-    let named = mark_named ms c.byte.result c.new-letter.result c.mark_time.result c.byte.ensures.value c.mark_time.ensures in
-    let listed = mark_listed ms c.new-letter.result k c.mark_time.result c.text.result.now _ c.new-letter.ensures few named c.text.ensures.text
-    c.put_mark.ensures in
+    let listed = mark_listed ms _ _ k _ _ _ c.new-letter.ensures (omega (arith, c.loop-place-test.true)) c.byte.ensures.value c.mark_time.ensures
+    c.text.ensures.text c.put_mark.ensures in
     listed_front mark_line 0 (take 26 ms) k None _ _ _ _ _ listed.0 listed.1 c.loop-place.invariant c.in_default.ensures.err
 
 pub loop-place-preserved : goal.loop-place-preserved
 loop-place-preserved g c =
     let ms = c.args.session.now.present.state.marks in
     let k = c.loop-place.place in
-    let few : k < 26 = omega (arith, c.loop-place-test.true) in
-    let named = mark_named ms c.byte.result c.new-letter.result c.mark_time.result c.byte.ensures.value c.mark_time.ensures in
-    let listed = mark_listed ms c.new-letter.result k c.mark_time.result c.text.result.now _ c.new-letter.ensures few named c.text.ensures.text
-    c.put_mark.ensures in
+    let listed = mark_listed ms _ _ k _ _ _ c.new-letter.ensures (omega (arith, c.loop-place-test.true)) c.byte.ensures.value c.mark_time.ensures
+    c.text.ensures.text c.put_mark.ensures in
     listed_more mark_line 0 (take 26 ms) k None _ _ _ _ _ _ listed.0 listed.1 c.loop-place.invariant c.in-Ok.ensures.ok
 
 pub returns : goal.returns

@@ -1,8 +1,7 @@
-use Rattle.std.proofs.Common.{◌≡◌, ◌≤◌, ◌+◌, ◌-◌, ℕ, List, length, take, drop, min, ap, subst, ◌∙◌, arith}
+use Rattle.std.proofs.Common.{◌≡◌, ◌≤◌, ◌+◌, ◌-◌, ℕ, List, length, min, ap, subst, ◌∙◌, arith}
 use Rattle.std.specs.Io.KnownBytes.{Appends}
 use Rattle.irig_script.specs.Print.Listings.{list_text}
-use Rattle.irig_lines.proofs.WordLemmas.{rest_whole}
-use Rattle.irig_script.proofs.PrintLemmas.Pieces.{listing_more, listing_front, listing_whole}
+use Rattle.irig_script.proofs.PrintLemmas.Pieces.{listing_more, listing_front, listing_whole, piece_written}
 use Rattle.irig_script.proofs.print.pulse_lines.print_in_blocks.Goals as goal
 
 pub loop-done-preserved : goal.loop-done-preserved
@@ -11,13 +10,9 @@ loop-done-preserved g c =
     let b = c.args.before in
     let d = c.loop-done.done in
     let k = c.min-lines.result in
-    let bytes = c.write_pulses-start.new.bytes in
-    let start = c.write_pulses-start.result in
     let few : d + k ≤ c.min-there.result = omega (arith, c.min-lines.ensures, c.loop-done-test.true) in
     let within : b + d ≤ length s.pulses = omega (arith, c.loop-done-test.true, c.min-there.ensures, c.saturating_sub.ensures, c.len.ensures) in
-    let place : b + d + k - k ≡ b + d = omega arith in
-    let whole : take (length bytes - start) (drop start bytes) ≡ list_text (b + d) k s =
-    rest_whole bytes start ∙ c.write_pulses-start.ensures.written ∙ ap (λ m. list_text m k s) place in (
+    let whole = piece_written s (b + d) k c.write_pulses-start.result c.write_pulses-start.new.bytes c.write_pulses-start.ensures.written in (
       few,
       c.write_pulses-start.ensures.within.1 ∙ c.loop-done.invariant.1,
       listing_more s b d k _ _ _ within c.loop-done.invariant.2 (rw whole at c.in-Ok.ensures),
@@ -29,8 +24,6 @@ returns-in_default g c =
     let b = c.args.before in
     let d = c.loop-done.done in
     let k = c.min-lines.result in
-    let bytes = c.write_pulses-start.new.bytes in
-    let start = c.write_pulses-start.result in
     let few : d + k ≤ c.args.count = omega (arith, c.min-lines.ensures, c.loop-done-test.true, c.min-there.ensures) in
     let within : b + (d + k) ≤ length s.pulses = omega (
       arith,
@@ -40,9 +33,7 @@ returns-in_default g c =
       c.saturating_sub.ensures,
       c.len.ensures,
     ) in
-    let place : b + d + k - k ≡ b + d = omega arith in
-    let whole : take (length bytes - start) (drop start bytes) ≡ list_text (b + d) k s =
-    rest_whole bytes start ∙ c.write_pulses-start.ensures.written ∙ ap (λ m. list_text m k s) place in
+    let whole = piece_written s (b + d) k c.write_pulses-start.result c.write_pulses-start.new.bytes c.write_pulses-start.ensures.written in
     listing_front s b d k c.args.count _ _ _ within few c.loop-done.invariant.2 (rw whole at c.in_default.ensures)
 
 pub returns : goal.returns
