@@ -12,7 +12,7 @@ use Rattle.irig_lines.specs.Words.{before, is_letter, onward}
 use Rattle.irig_lines.specs.declared.address.Address.{Address}
 use Rattle.irig_lines.specs.declared.address.Base.{Base}
 use Rattle.irig_lines.specs.declared.address.Base.TheVariants.{Number, Current, Last, Mark}
-use Rattle.irig_lines.specs.declared.cutting.Stop.TheVariants.{Comma, Sign}
+use Rattle.irig_lines.specs.declared.cutting.Until.TheVariants.{Comma, Sign}
 use Rattle.irig_lines.specs.declared.range.Range.{Range}
 use Rattle.irig_lines.specs.declared.range.Range.TheVariants.{One, Two}
 use Rattle.irig_lines.proofs.WordLemmas.{BeginsAt, Lacks, before_front, cut_begins, cut_whole, onward_back}

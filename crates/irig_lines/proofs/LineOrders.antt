@@ -7,7 +7,7 @@ use Rattle.irig_lines.specs.Grammar.{AsksIn, Does, IsOrder, IsWord, Means, Order
 use Rattle.irig_lines.specs.Keywords.{keyword_of}
 use Rattle.irig_lines.specs.Words.{before, is_letter, is_space, onward, words_of}
 use Rattle.irig_lines.specs.declared.command.Command.{Command}
-use Rattle.irig_lines.specs.declared.cutting.Stop.TheVariants.{Text}
+use Rattle.irig_lines.specs.declared.cutting.Until.TheVariants.{Text}
 use Rattle.irig_lines.specs.declared.keyword.Keyword.TheVariants as word
 use Rattle.irig_lines.proofs.AddressCut.{is_range_byte, range_first}
 use Rattle.irig_lines.proofs.RangeCut.{range_found, range_length}

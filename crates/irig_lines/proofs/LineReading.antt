@@ -9,7 +9,7 @@ use Rattle.irig_lines.specs.Keywords.{keyword_of}
 use Rattle.irig_lines.specs.Words.{before, is_space, onward, word_and, words_of}
 use Rattle.irig_lines.specs.declared.command.Command.{Command}
 use Rattle.irig_lines.specs.declared.command.Command.TheVariants as command
-use Rattle.irig_lines.specs.declared.cutting.Stop.TheVariants.{Blank, Text}
+use Rattle.irig_lines.specs.declared.cutting.Until.TheVariants.{Blank, Text}
 use Rattle.irig_lines.specs.declared.keyword.Keyword.{Keyword}
 use Rattle.irig_lines.specs.declared.keyword.Keyword.TheVariants as word
 use Rattle.irig_lines.specs.declared.range.Range.{Range}

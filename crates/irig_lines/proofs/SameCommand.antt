@@ -10,7 +10,7 @@ use Rattle.irig_saved.proofs.SameWords.{same_kind}
 use Rattle.irig_lines.specs.Addresses.{IsTime}
 use Rattle.irig_lines.specs.Arguments.{AreControls, AreFrames, AreTimes, IsExpression}
 use Rattle.irig_lines.specs.Commands.{Asks}
-use Rattle.irig_lines.specs.Numbers.{IsDistance, IsNumber, first_of, size, unsigned}
+use Rattle.irig_lines.specs.Numbers.{IsDistance, IsNumber, sign_of, size, unsigned}
 use Rattle.irig_lines.specs.declared.command.Command.{Command}
 use Rattle.irig_lines.specs.declared.command.Command.TheVariants as command
 use Rattle.irig_lines.specs.declared.keyword.Keyword.{Keyword}
@@ -28,7 +28,7 @@ time_one text (time.Mark l) (time.At n) h k = absurd (number_not_mark text n l k
 time_one text (time.Mark l) (time.Mark m) h k = ap time.Mark (mark_one text l m h k)
 
 distance_one : (text : List ℕ) (d e : ℤ) → IsDistance text d → IsDistance text e → d ≡ e
-distance_one text d e h k = signed_one (first_of text) d e h.sign k.sign (number_one (unsigned text) (size d) (size e) h.size k.size)
+distance_one text d e h k = signed_one (sign_of text) d e h.sign k.sign (number_one (unsigned text) (size d) (size e) h.size k.size)
 
 times_one : (args : List (List ℕ)) (s t u v : Time) → AreTimes args s t → AreTimes args u v → (s ≡ u) × (t ≡ v)
 times_one args s t u v h k =

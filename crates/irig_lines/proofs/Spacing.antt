@@ -6,7 +6,7 @@ use Rattle.std.proofs.lemmas.List.Folds.{list_all-append}
 use Rattle.std.specs.List.{list_all}
 use Rattle.irig_lines.specs.Grammar.{AreArguments, AreWords, IsBlank, IsWord}
 use Rattle.irig_lines.specs.Words.{before, is_space, onward, words_of}
-use Rattle.irig_lines.specs.declared.cutting.Stop.TheVariants.{Blank, Text}
+use Rattle.irig_lines.specs.declared.cutting.Until.TheVariants.{Blank, Text}
 use Rattle.irig_lines.proofs.WordLemmas.{BeginsAt, Lacks, before_at, before_front, before_on, cut_whole}
 use Rattle.irig_lines.proofs.WordLemmas.{lacks_first, onward_at, onward_back}
 use Rattle.irig_lines.proofs.WordLemmas.{onward_on, words_begun, words_blank}

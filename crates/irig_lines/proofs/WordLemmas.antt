@@ -4,29 +4,29 @@ use Rattle.std.proofs.Common.{ap, ap₂, ◌∙◌, subst}
 use Rattle.std.proofs.Math.Seq.{take-length}
 use Rattle.std.proofs.lemmas.List.{length-drop}
 use Rattle.std.specs.List.{list_all}
-use Rattle.irig_lines.specs.Words.{is_space, is_stop, before, onward, begins_word, onto_first, words_of, word_and}
-use Rattle.irig_lines.specs.declared.cutting.Stop.{Stop}
-use Rattle.irig_lines.specs.declared.cutting.Stop.TheVariants.{Blank, Text}
+use Rattle.irig_lines.specs.Words.{is_space, is_at, before, onward, begins_word, onto_first, words_of, word_and}
+use Rattle.irig_lines.specs.declared.cutting.Until.{Until}
+use Rattle.irig_lines.specs.declared.cutting.Until.TheVariants.{Blank, Text}
 
 -- what is left of a text is all that is after a place
 pub rest_whole : (l : List ℕ) (done : ℕ) → take (length l - done) (drop done l) ≡ drop done l
 rest_whole l done = ap (λ n. take n (drop done l)) (sym (length-drop done l)) ∙ take-length (drop done l)
 
 -- how far a text is cut
-abbrev pub IsCut : Stop → List ℕ → ℕ → Type 0
-IsCut stop s i = (before stop s ≡ take i s ++ before stop (drop i s)) × (onward stop s ≡ onward stop (drop i s))
+abbrev pub IsCut : Until → List ℕ → ℕ → Type 0
+IsCut until s i = (before until s ≡ take i s ++ before until (drop i s)) × (onward until s ≡ onward until (drop i s))
 
-pub before_on : (stop : Stop) (b : ℕ) (s : List ℕ) → is_stop stop b ≡ false → before stop (b ∷ s) ≡ b ∷ before stop s
-before_on stop b s e = rw e refl
+pub before_on : (until : Until) (b : ℕ) (s : List ℕ) → is_at until b ≡ false → before until (b ∷ s) ≡ b ∷ before until s
+before_on until b s e = rw e refl
 
-pub onward_on : (stop : Stop) (b : ℕ) (s : List ℕ) → is_stop stop b ≡ false → onward stop (b ∷ s) ≡ onward stop s
-onward_on stop b s e = rw e refl
+pub onward_on : (until : Until) (b : ℕ) (s : List ℕ) → is_at until b ≡ false → onward until (b ∷ s) ≡ onward until s
+onward_on until b s e = rw e refl
 
-pub before_at : (stop : Stop) (b : ℕ) (s : List ℕ) → is_stop stop b ≡ true → before stop (b ∷ s) ≡ []
-before_at stop b s e = rw e refl
+pub before_at : (until : Until) (b : ℕ) (s : List ℕ) → is_at until b ≡ true → before until (b ∷ s) ≡ []
+before_at until b s e = rw e refl
 
-pub onward_at : (stop : Stop) (b : ℕ) (s : List ℕ) → is_stop stop b ≡ true → onward stop (b ∷ s) ≡ b ∷ s
-onward_at stop b s e = rw e refl
+pub onward_at : (until : Until) (b : ℕ) (s : List ℕ) → is_at until b ≡ true → onward until (b ∷ s) ≡ b ∷ s
+onward_at until b s e = rw e refl
 
 -- what a byte at the front does
 pub words_blank : (b : ℕ) (s : List ℕ) → is_space b ≡ true → words_of (b ∷ s) ≡ words_of s
@@ -66,55 +66,55 @@ words_split (b ∷ s) = go (is_space b) refl (words_split s)
         ∙ ap (λ l. (b ∷ before Blank s) ∷ words_of l) (onward_on Blank b s e))
 
 -- a text is what is before a cut and what is from it on
-pub cut_whole : (stop : Stop) (s : List ℕ) → before stop s ++ onward stop s ≡ s
-cut_whole stop [] = refl
-cut_whole stop (b ∷ s) = go (is_stop stop b) refl (cut_whole stop s)
+pub cut_whole : (until : Until) (s : List ℕ) → before until s ++ onward until s ≡ s
+cut_whole until [] = refl
+cut_whole until (b ∷ s) = go (is_at until b) refl (cut_whole until s)
   where
-    go : (v : Bool) → is_stop stop b ≡ v → before stop s ++ onward stop s ≡ s → before stop (b ∷ s) ++ onward stop (b ∷ s) ≡ b ∷ s
-    go true e h = ap₂ (λ x y. x ++ y) (before_at stop b s e) (onward_at stop b s e)
-    go false e h = ap₂ (λ x y. x ++ y) (before_on stop b s e) (onward_on stop b s e) ∙ ap (λ l. b ∷ l) h
+    go : (v : Bool) → is_at until b ≡ v → before until s ++ onward until s ≡ s → before until (b ∷ s) ++ onward until (b ∷ s) ≡ b ∷ s
+    go true e h = ap₂ (λ x y. x ++ y) (before_at until b s e) (onward_at until b s e)
+    go false e h = ap₂ (λ x y. x ++ y) (before_on until b s e) (onward_on until b s e) ∙ ap (λ l. b ∷ l) h
 
 -- a text is empty, or begins with such a byte
-abbrev pub BeginsAt : Stop → List ℕ → Type 0
-BeginsAt stop [] = Unit {0}
-BeginsAt stop (b ∷ s) = is_stop stop b ≡ true
+abbrev pub BeginsAt : Until → List ℕ → Type 0
+BeginsAt until [] = Unit {0}
+BeginsAt until (b ∷ s) = is_at until b ≡ true
 
-pub cut_begins : (stop : Stop) (s : List ℕ) → BeginsAt stop (onward stop s)
-cut_begins stop [] = tt
-cut_begins stop (b ∷ s) = go (is_stop stop b) refl (cut_begins stop s)
+pub cut_begins : (until : Until) (s : List ℕ) → BeginsAt until (onward until s)
+cut_begins until [] = tt
+cut_begins until (b ∷ s) = go (is_at until b) refl (cut_begins until s)
   where
-    go : (v : Bool) → is_stop stop b ≡ v → BeginsAt stop (onward stop s) → BeginsAt stop (onward stop (b ∷ s))
-    go true e h = subst (BeginsAt stop) (sym (onward_at stop b s e)) e
-    go false e h = subst (BeginsAt stop) (sym (onward_on stop b s e)) h
+    go : (v : Bool) → is_at until b ≡ v → BeginsAt until (onward until s) → BeginsAt until (onward until (b ∷ s))
+    go true e h = subst (BeginsAt until) (sym (onward_at until b s e)) e
+    go false e h = subst (BeginsAt until) (sym (onward_on until b s e)) h
 
 -- no byte of a text is such a byte
-abbrev pub Lacks : Stop → List ℕ → Type 0
-Lacks stop s = list_all (λ b. not (is_stop stop b)) s ≡ true
+abbrev pub Lacks : Until → List ℕ → Type 0
+Lacks until s = list_all (λ b. not (is_at until b)) s ≡ true
 
-pub lacks_first : (stop : Stop) (b : ℕ) (s : List ℕ) → Lacks stop (b ∷ s) → (is_stop stop b ≡ false) × Lacks stop s
-lacks_first stop b s h = go (is_stop stop b) h
+pub lacks_first : (until : Until) (b : ℕ) (s : List ℕ) → Lacks until (b ∷ s) → (is_at until b ≡ false) × Lacks until s
+lacks_first until b s h = go (is_at until b) h
   where
-    go : (v : Bool) → (not v && list_all (λ b. not (is_stop stop b)) s) ≡ true → (v ≡ false) × Lacks stop s
+    go : (v : Bool) → (not v && list_all (λ b. not (is_at until b)) s) ≡ true → (v ≡ false) × Lacks until s
     go true e = absurd (cc)
     go false e = (refl, e)
 
-before_end : (stop : Stop) (rest : List ℕ) → BeginsAt stop rest → before stop rest ≡ []
-before_end stop [] h = refl
-before_end stop (b ∷ s) h = before_at stop b s h
+before_end : (until : Until) (rest : List ℕ) → BeginsAt until rest → before until rest ≡ []
+before_end until [] h = refl
+before_end until (b ∷ s) h = before_at until b s h
 
-onward_end : (stop : Stop) (rest : List ℕ) → BeginsAt stop rest → onward stop rest ≡ rest
-onward_end stop [] h = refl
-onward_end stop (b ∷ s) h = onward_at stop b s h
+onward_end : (until : Until) (rest : List ℕ) → BeginsAt until rest → onward until rest ≡ rest
+onward_end until [] h = refl
+onward_end until (b ∷ s) h = onward_at until b s h
 
 -- a text of two parts is cut between them
-pub before_front : (stop : Stop) (s rest : List ℕ) → Lacks stop s → BeginsAt stop rest → before stop (s ++ rest) ≡ s
-before_front stop [] rest h k = before_end stop rest k
-before_front stop (b ∷ s) rest h k =
-    let first = lacks_first stop b s h in
-    before_on stop b (s ++ rest) first.0 ∙ ap (λ l. b ∷ l) (before_front stop s rest first.1 k)
+pub before_front : (until : Until) (s rest : List ℕ) → Lacks until s → BeginsAt until rest → before until (s ++ rest) ≡ s
+before_front until [] rest h k = before_end until rest k
+before_front until (b ∷ s) rest h k =
+    let first = lacks_first until b s h in
+    before_on until b (s ++ rest) first.0 ∙ ap (λ l. b ∷ l) (before_front until s rest first.1 k)
 
-pub onward_back : (stop : Stop) (s rest : List ℕ) → Lacks stop s → BeginsAt stop rest → onward stop (s ++ rest) ≡ rest
-onward_back stop [] rest h k = onward_end stop rest k
-onward_back stop (b ∷ s) rest h k =
-    let first = lacks_first stop b s h in
-    onward_on stop b (s ++ rest) first.0 ∙ onward_back stop s rest first.1 k
+pub onward_back : (until : Until) (s rest : List ℕ) → Lacks until s → BeginsAt until rest → onward until (s ++ rest) ≡ rest
+onward_back until [] rest h k = onward_end until rest k
+onward_back until (b ∷ s) rest h k =
+    let first = lacks_first until b s h in
+    onward_on until b (s ++ rest) first.0 ∙ onward_back until s rest first.1 k

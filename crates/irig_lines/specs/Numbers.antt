@@ -38,14 +38,14 @@ abbrev pub unsigned : List ℕ → List ℕ
 unsigned [] = []
 unsigned (b ∷ bs) = if is_sign b then bs else b ∷ bs
 
--- its first byte; a plus if it has none
-abbrev pub first_of : List ℕ → ℕ
-first_of [] = 43
-first_of (b ∷ bs) = b
+-- the byte that may be its sign: its first, or a plus if it has none
+abbrev pub sign_of : List ℕ → ℕ
+sign_of [] = 43
+sign_of (b ∷ bs) = b
 
 -- the word is a distance: a number with an optional sign
 pub record IsDistance (word : List ℕ) (d : ℤ) : Type 0 where
-  pub sign : IsSigned (first_of word) d
+  pub sign : IsSigned (sign_of word) d
   pub size : IsNumber (unsigned word) (size d)
 
 -- the digit that a byte is in hexadecimal, of either case; 16 if it is none

@@ -2,8 +2,8 @@
 use Rattle.std.specs.Prelude.{◌==◌, ℕ, Bool, false, not, ◌&&◌, ◌||◌, nat_le, List, [], ◌∷◌}
 use Rattle.std.specs.Prelude.{if◌then◌else◌}
 use Rattle.irig_lines.specs.Numbers.{is_sign}
-use Rattle.irig_lines.specs.declared.cutting.Stop.{Stop}
-use Rattle.irig_lines.specs.declared.cutting.Stop.TheVariants.{Blank, Text, Sign, Comma}
+use Rattle.irig_lines.specs.declared.cutting.Until.{Until}
+use Rattle.irig_lines.specs.declared.cutting.Until.TheVariants.{Blank, Text, Sign, Comma}
 
 -- the white space of a line: space, tab and carriage return
 abbrev pub is_space : ℕ → Bool
@@ -14,21 +14,21 @@ abbrev pub is_letter : ℕ → Bool
 is_letter b = nat_le 97 b && nat_le b 122
 
 -- a text is cut before such a byte
-abbrev pub is_stop : Stop → ℕ → Bool
-is_stop Blank b = is_space b
-is_stop Text b = not (is_space b)
-is_stop Sign b = is_sign b
-is_stop Comma b = b == 44
+abbrev pub is_at : Until → ℕ → Bool
+is_at Blank b = is_space b
+is_at Text b = not (is_space b)
+is_at Sign b = is_sign b
+is_at Comma b = b == 44
 
 -- what is before the first such byte
-abbrev pub before : Stop → List ℕ → List ℕ
-before stop [] = []
-before stop (b ∷ bs) = if is_stop stop b then [] else b ∷ before stop bs
+abbrev pub before : Until → List ℕ → List ℕ
+before until [] = []
+before until (b ∷ bs) = if is_at until b then [] else b ∷ before until bs
 
 -- what is from the first such byte on
-abbrev pub onward : Stop → List ℕ → List ℕ
-onward stop [] = []
-onward stop (b ∷ bs) = if is_stop stop b then b ∷ bs else onward stop bs
+abbrev pub onward : Until → List ℕ → List ℕ
+onward until [] = []
+onward until (b ∷ bs) = if is_at until b then b ∷ bs else onward until bs
 
 -- the first of some texts, with one more byte at its front
 abbrev pub onto_first : ℕ → List (List ℕ) → List (List ℕ)

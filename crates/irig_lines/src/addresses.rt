@@ -8,7 +8,7 @@ ghost use Rattle.irig_lines.specs.Addresses.{IsAddressOrCursor, IsRange, IsTime,
 
 use crate::address::{Address, Base};
 use crate::command::BadLine;
-use crate::cutting::{Stop, cut, is_sign};
+use crate::cutting::{Until, cut, is_sign};
 use crate::numbers::{number, signed};
 use crate::range::Range;
 use crate::time::Time;
@@ -62,7 +62,7 @@ pub fn address(text: &[u8]) -> Result<Address, BadLine>
     if text.is_empty() {
         return Err(BadLine);
     }
-    let (front, back) = cut(text, Stop::Sign);
+    let (front, back) = cut(text, Until::Sign);
     Ok(Address {
         base: base(front)?,
         offset: offset(back)?,
@@ -91,7 +91,7 @@ pub fn address_or_cursor(text: &[u8]) -> Result<Address, BadLine>
 pub fn range(text: &[u8]) -> Result<Range, BadLine>
     ensures { Finds (IsRange text.now) result }
 {
-    let (first, rest) = cut(text, Stop::Comma);
+    let (first, rest) = cut(text, Until::Comma);
     match rest {
         [] => Ok(Range::One(address_or_cursor(text)?)),
         [_, second @ ..] => {

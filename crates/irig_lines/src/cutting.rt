@@ -1,12 +1,12 @@
 //! A text, cut before the first byte of some kind.
 
 ghost use Rattle.std.specs.Prelude.{◌≡◌};
-ghost use Rattle.irig_lines.specs.Words.{is_space, is_stop, before, onward};
+ghost use Rattle.irig_lines.specs.Words.{is_space, is_at, before, onward};
 ghost use Rattle.irig_lines.specs.Numbers.{is_sign};
 
 /// Before which bytes a text is cut.
 #[derive(Clone, Copy)]
-pub enum Stop {
+pub enum Until {
     /// White space.
     Blank,
     /// What is no white space.
@@ -17,27 +17,27 @@ pub enum Stop {
     Comma,
 }
 
-impl Stop {
+impl Until {
     /// Whether a text is cut before the byte.
     fn is_at(self, byte: u8) -> bool
-        ensures { result ≡ is_stop self byte }
+        ensures { result ≡ is_at self byte }
     {
         match self {
-            Stop::Blank => is_space(byte),
-            Stop::Text => !is_space(byte),
-            Stop::Sign => is_sign(byte),
-            Stop::Comma => byte == b',',
+            Until::Blank => is_space(byte),
+            Until::Text => !is_space(byte),
+            Until::Sign => is_sign(byte),
+            Until::Comma => byte == b',',
         }
     }
 }
 
 /// What is before the first byte of a kind, and what is from it on.
-pub fn cut(text: &[u8], stop: Stop) -> (&[u8], &[u8])
-    ensures before { result.0.now ≡ before stop text.now }
-    ensures onward { result.1.now ≡ onward stop text.now }
+pub fn cut(text: &[u8], until: Until) -> (&[u8], &[u8])
+    ensures before { result.0.now ≡ before until text.now }
+    ensures onward { result.1.now ≡ onward until text.now }
 {
     let mut at = 0;
-    while at < text.len() && !stop.is_at(text[at]) {
+    while at < text.len() && !until.is_at(text[at]) {
         at += 1;
     }
     (&text[..at], &text[at..])

@@ -10,7 +10,7 @@ ghost use Rattle.irig_lines.specs.Grammar.{Means, Orders, follows_range, is_noth
 ghost use Rattle.irig_lines.specs.declared.command.Command.{Command};
 
 use crate::command::{BadLine, Command};
-use crate::cutting::{Stop, cut, is_space};
+use crate::cutting::{Until, cut, is_space};
 use crate::keyword::{Keyword, keyword_of};
 use crate::orders::{
     delete, force, format, insert, invert, join, list, no_range, regen, set_mark, shift, show,
@@ -23,7 +23,7 @@ pub fn parse_line(line: &[u8]) -> Result<Command, BadLine>
     ensures meant { IfOk result (λ command. Means command line.now) }
     ensures bad { OnErr result ((command : Command) → Means command line.now → ⊥) }
 {
-    let (_, text) = cut(line, Stop::Text);
+    let (_, text) = cut(line, Until::Text);
     if is_nothing(text) {
         Ok(Command::Nothing)
     } else {

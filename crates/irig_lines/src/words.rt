@@ -2,10 +2,10 @@
 
 ghost use Rattle.std.specs.Prelude.{◌≡◌, ℕ, List, [], ◌∷◌, IfOk, OnOk, OnErr};
 ghost use Rattle.irig_lines.specs.Words.{words_of, word_and, before, onward};
-ghost use Rattle.irig_lines.specs.declared.cutting.Stop.TheVariants.{Blank, Text};
+ghost use Rattle.irig_lines.specs.declared.cutting.Until.TheVariants.{Blank, Text};
 
 use crate::command::BadLine;
-use crate::cutting::{Stop, cut};
+use crate::cutting::{Until, cut};
 
 /// The first word of a text, and what is after it; an empty word if there is none.
 pub fn split_word(text: &[u8]) -> (&[u8], &[u8])
@@ -13,8 +13,8 @@ pub fn split_word(text: &[u8]) -> (&[u8], &[u8])
     ensures rest { result.1.now ≡ onward Blank (onward Text text.now) }
     ensures words { words_of text.now ≡ word_and result.0.now (words_of result.1.now) }
 {
-    let (_, text) = cut(text, Stop::Text);
-    cut(text, Stop::Blank)
+    let (_, text) = cut(text, Until::Text);
+    cut(text, Until::Blank)
 }
 
 /// Nothing, if there is no word.

@@ -7,7 +7,7 @@ use Rattle.irig_lines.specs.Grammar.{AsksIn, Does, IsOrder, Means}
 use Rattle.irig_lines.specs.Keywords.{keyword_of}
 use Rattle.irig_lines.specs.Lines.{are_quit, is_quit, is_quit_word}
 use Rattle.irig_lines.specs.Words.{before, onward, words_of}
-use Rattle.irig_lines.specs.declared.cutting.Stop.TheVariants.{Blank, Text}
+use Rattle.irig_lines.specs.declared.cutting.Until.TheVariants.{Blank, Text}
 use Rattle.irig_lines.specs.declared.keyword.Keyword.{Keyword}
 use Rattle.irig_lines.specs.declared.keyword.Keyword.TheVariants as word
 use Rattle.irig_lines.specs.declared.command.Command.{Command}

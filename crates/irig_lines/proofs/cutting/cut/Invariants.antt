@@ -3,7 +3,7 @@ use Rattle.irig_lines.proofs.WordLemmas.{IsCut}
 use Rattle.irig_lines.proofs.cutting.cut.Given as goal
 
 abbrev pub invariant-loop-at : goal.invariant-loop-at
-invariant-loop-at l = (l.at ≤ length l.text) × IsCut l.stop l.text l.at
+invariant-loop-at l = (l.at ≤ length l.text) × IsCut l.until l.text l.at
 
 abbrev pub decreases-loop-at : goal.decreases-loop-at
 decreases-loop-at l = length l.text - l.at
