@@ -3,8 +3,8 @@ use Rattle.std.proofs.Common.{◌≡◌, ℕ, ◌+◌, ◌-◌, ◌++◌, Bool, 
 use Rattle.std.proofs.Common.{ap, ap₂, ◌∙◌, subst}
 use Rattle.std.proofs.Math.Seq.{take-length}
 use Rattle.std.proofs.lemmas.List.{length-drop}
-use Rattle.std.specs.List.{list_all}
-use Rattle.irig_lines.specs.Words.{is_space, is_at, before, onward, begins_word, onto_first, words_of, word_and}
+use Rattle.std.specs.List.{list_all, onto_first}
+use Rattle.irig_lines.specs.Words.{is_space, is_at, before, onward, begins_word, words_of, word_and}
 use Rattle.irig_lines.specs.declared.cutting.Until.{Until}
 use Rattle.irig_lines.specs.declared.cutting.Until.TheVariants.{Blank, Text}
 

@@ -1,7 +1,8 @@
 -- The lines of a script, and which of them are obeyed. This project's own.
 use Rattle.std.specs.Prelude.{◌==◌, ℕ, Bool, true, false, not, ◌&&◌, List, [], ◌∷◌, length, nat_lt}
 use Rattle.std.specs.Prelude.{if◌then◌else◌}
-use Rattle.irig_lines.specs.Words.{onto_first, words_of}
+use Rattle.std.specs.List.{onto_first}
+use Rattle.irig_lines.specs.Words.{words_of}
 use Rattle.irig_lines.specs.Keywords.{keyword_of}
 use Rattle.irig_lines.specs.declared.keyword.Keyword.{Keyword}
 use Rattle.irig_lines.specs.declared.keyword.Keyword.TheVariants.{Quit}

@@ -1,6 +1,7 @@
 -- How a text is cut at the first byte of some kind, and a line into its words. This project's own.
 use Rattle.std.specs.Prelude.{◌==◌, ℕ, Bool, false, not, ◌&&◌, ◌||◌, nat_le, List, [], ◌∷◌}
 use Rattle.std.specs.Prelude.{if◌then◌else◌}
+use Rattle.std.specs.List.{onto_first}
 use Rattle.irig_lines.specs.Numbers.{is_sign}
 use Rattle.irig_lines.specs.declared.cutting.Until.{Until}
 use Rattle.irig_lines.specs.declared.cutting.Until.TheVariants.{Blank, Text, Sign, Comma}
@@ -29,11 +30,6 @@ before until (b ∷ bs) = if is_at until b then [] else b ∷ before until bs
 abbrev pub onward : Until → List ℕ → List ℕ
 onward until [] = []
 onward until (b ∷ bs) = if is_at until b then b ∷ bs else onward until bs
-
--- the first of some texts, with one more byte at its front
-abbrev pub onto_first : ℕ → List (List ℕ) → List (List ℕ)
-onto_first b [] = (b ∷ []) ∷ []
-onto_first b (line ∷ lines) = (b ∷ line) ∷ lines
 
 -- the text begins with a word
 abbrev pub begins_word : List ℕ → Bool
