@@ -1,5 +1,5 @@
 -- What the parser reads of a line is how the line is put together.
-use Rattle.std.proofs.Common.{◌≡◌, ℕ, ◌++◌, true, false, not, List, [], ◌∷◌, refl, sym, ap, ◌∙◌, subst, inl, inr}
+use Rattle.std.proofs.Common.{◌≡◌, ℕ, ◌++◌, true, false, List, [], ◌∷◌, refl, sym, ap, ◌∙◌, subst, inl, inr}
 use Rattle.std.proofs.lemmas.Bool.{not-true}
 use Rattle.std.proofs.lemmas.List.{append-nil}
 use Rattle.irig_lines.specs.Addresses.{IsRange}
