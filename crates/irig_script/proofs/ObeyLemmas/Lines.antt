@@ -11,7 +11,7 @@ use Rattle.irig_script.specs.Print.Printed.{Answer, printed}
 use Rattle.irig_script.specs.Obey.Desk.{Desk, desk, Tells, status_after}
 use Rattle.irig_text.specs.Shelved.{Shelved}
 use Rattle.irig_script.specs.Obey.Run.{Runs, Goes, IsPlain, IsObeyed, unlines}
-use Rattle.irig_script.specs.Obey.Progress.{Holds, Obeyed, BrokeIn}
+use Rattle.irig_script.specs.Obey.Progress.{Holds, Ends, Obeyed, BrokeIn}
 use Rattle.irig_script.specs.declared.obey.status.Status.{Status}
 use Rattle.irig_script.specs.declared.obey.line.Line.{Line}
 use Rattle.irig_script.proofs.ObeyLemmas.Desks.{status_after-append, tells_none, tells-answers, tells-part}
@@ -109,10 +109,17 @@ goes_rest one more s t rest rs ts h = record {
 pub obeyed_none : (a : Desk) (st : Status) (text : List ℕ) (s : Machine) (line : Line) → Holds text line → Obeyed false a a st st s s text line
 obeyed_none a st text s line h = record { answers = []; texts = []; status = refl; told = tells_none a; ends = (text, goes_none text s, h) }
 
+-- how one more part ends
+ends_more : (last : Bool) (s t u : Machine) (one two left : List ℕ) (rs qs : List Answer) (ts us : List (List ℕ)) (line : Line) → Goes one s rs ts t left
+    → Ends last (left ++ two) t qs us u line → Ends last (one ++ two) s (rs ++ qs) (ts ++ us) u line
+ends_more false s t u one two left rs qs ts us line h e = (e.0, goes-goes one two s t u left e.0 rs qs ts us h e.1, e.2)
+ends_more true s t u one two left rs qs ts us line h e =
+    (e.0, e.1, e.2, e.3, goes-goes one two s t u left (e.0 ++ 10 ∷ e.1) rs qs ts us h e.4)
+
 -- one more part, given what the next part makes of the line left
 pub obeyed_more : (last : Bool) (a b c : Desk) (st su sv : Status) (s t u : Machine) (one two : List ℕ) (mid line : Line) → Obeyed false a b st su s t one mid
     → ((left : List ℕ) → Holds left mid → Obeyed last b c su sv t u (left ++ two) line) → Obeyed last a c st sv s u (one ++ two) line
-obeyed_more false a b c st su sv s t u one two mid line h k =
+obeyed_more last a b c st su sv s t u one two mid line h k =
     let left = h.ends.0 in
     let more = k left h.ends.2 in
     record {
@@ -120,18 +127,7 @@ obeyed_more false a b c st su sv s t u one two mid line h k =
       texts = h.texts ++ more.texts;
       status = more.status ∙ ap (λ x. status_after x more.answers) h.status ∙ sym (status_after-append st h.answers more.answers);
       told = tells-answers a b c h.answers more.answers h.texts more.texts h.told more.told;
-      ends = (more.ends.0, goes-goes one two s t u left more.ends.0 h.answers more.answers h.texts more.texts h.ends.1 more.ends.1, more.ends.2);
-    }
-obeyed_more true a b c st su sv s t u one two mid line h k =
-    let left = h.ends.0 in
-    let more = k left h.ends.2 in
-    let q = more.ends in
-    record {
-      answers = h.answers ++ more.answers;
-      texts = h.texts ++ more.texts;
-      status = more.status ∙ ap (λ x. status_after x more.answers) h.status ∙ sym (status_after-append st h.answers more.answers);
-      told = tells-answers a b c h.answers more.answers h.texts more.texts h.told more.told;
-      ends = (q.0, q.1, q.2, q.3, goes-goes one two s t u left (q.0 ++ 10 ∷ q.1) h.answers more.answers h.texts more.texts h.ends.1 q.4);
+      ends = ends_more last s t u one two left h.answers more.answers h.texts more.texts line h.ends.1 more.ends;
     }
 
 -- what comes after the end is not obeyed
