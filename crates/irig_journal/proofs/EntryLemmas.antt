@@ -1,6 +1,6 @@
 -- Several entries made one: the steps that they are before, and the one step after.
 use Rattle.std.proofs.Common.{◌≡◌, ◌∷◌, ◌+◌, ◌<◌, ◌≤◌, ◌++◌, [], ℕ, suc, List, length, map, take, drop, get_or, reverse, refl, ap, ap₂, sym}
-use Rattle.std.proofs.Common.{◌∙◌, arith}
+use Rattle.std.proofs.Common.{subst, ◌∙◌, arith}
 use Rattle.std.proofs.Math.Seq.{drop-cons}
 use Rattle.std.proofs.lemmas.List.{length-map, length-reverse, length-take-le, map-append, reverse-append, take-append-drop}
 use Rattle.std.proofs.lemmas.List.Folds.{flat_map-map}
@@ -135,22 +135,24 @@ module _ {D : Type 0} where
 
 module _ {C D : Type 0} where
   -- the steps after an end
-  pub ended_steps : (delta : Parts C → D) (gathered : List D → D) → Gathers delta gathered → (cs : List C) (es : List Entry) (n : ℕ)
-      → HaveAll cs es
-      → map (told delta) (held_in cs (ended_beyond n es)) ≡ joined_beyond gathered n (map (told delta) (held_in cs es))
-  ended_steps delta gathered gathers cs es n all =
+  pub ended_steps : (delta : Parts C → D) (gathered : List D → D) → Gathers delta gathered → (cs : List C) (es fs : List Entry) (n : ℕ)
+      → fs ≡ ended_beyond n es → HaveAll cs es
+      → map (told delta) (held_in cs fs) ≡ joined_beyond gathered n (map (told delta) (held_in cs es))
+  ended_steps delta gathered gathers cs es fs n made all =
       let steps = map (told delta) (held_in cs es) in
       let long : length steps ≡ length es = length-told delta cs es in
-      ended_cases (λ (l : List Entry). map (told delta) (held_in cs l) ≡ joined_beyond gathered n steps) n es
+      ap (λ (l : List Entry). map (told delta) (held_in cs l)) made
+      ∙ ended_cases (λ (l : List Entry). map (told delta) (held_in cs l) ≡ joined_beyond gathered n steps) n es
       (λ few. sym (joined_few gathered n steps (omega (arith, few, long))))
       (λ many. joined_steps delta gathered gathers cs es n (get_or es n (entry size.Alone 0)).cursor (omega (arith, many)) all
       ∙ (ap (λ (k : ℕ). step (gathered (changes_of (beyond n steps))) k ∷ farthest n steps) (cursor_beyond delta cs es n (omega (arith, many)) all)
       ∙ sym (joined_many gathered n steps (omega (arith, many, long)))))
 
 module _ {C : Type 0} where
-  pub whole_ended : (cs : List C) (es : List Entry) (n : ℕ) → HaveAll cs es → HaveAll cs (ended_beyond n es)
-  whole_ended cs es n all =
-      ended_cases (HaveAll cs) n es (λ few. all) (λ many. whole_joined cs es n (get_or es n (entry size.Alone 0)).cursor all)
+  pub whole_ended : (cs : List C) (es fs : List Entry) (n : ℕ) → fs ≡ ended_beyond n es → HaveAll cs es → HaveAll cs fs
+  whole_ended cs es fs n made all =
+      subst (HaveAll cs) (sym made)
+      (ended_cases (HaveAll cs) n es (λ few. all) (λ many. whole_joined cs es n (get_or es n (entry size.Alone 0)).cursor all))
 
 module _ {S D : Type 0} where
   -- they fit

@@ -18,21 +18,14 @@ loop-turned-init g c =
       to_places = omega arith;
     }
 
-pub turn-requires-clause-fits : goal.turn-requires-clause-fits
-turn-requires-clause-fits g c =
+pub turn-requires : goal.turn-requires
+turn-requires g c =
     let r = g.R.Reversible in
-    (ready_nearest r.fits r.turned r.delta (r.has_room (r.places c.loop-turned.state)) (r.content c.loop-turned.state) c.unwrap-nearest.result
+    let near = ready_nearest r.fits r.turned r.delta (r.has_room (r.places c.loop-turned.state)) (r.content c.loop-turned.state) c.unwrap-nearest.result
     (reverse c.loop-turned.from.items) (reverse c.pop.new.self.items)
     (reverse-push c.loop-turned.from.items c.pop.new.self.items c.unwrap-nearest.result (rw c.unwrap-nearest.ensures at c.pop.ensures.items))
-    c.loop-turned.invariant.ready).0
-
-pub turn-requires-clause-room : goal.turn-requires-clause-room
-turn-requires-clause-room g c =
-    let r = g.R.Reversible in
-    (ready_nearest r.fits r.turned r.delta (r.has_room (r.places c.loop-turned.state)) (r.content c.loop-turned.state) c.unwrap-nearest.result
-    (reverse c.loop-turned.from.items) (reverse c.pop.new.self.items)
-    (reverse-push c.loop-turned.from.items c.pop.new.self.items c.unwrap-nearest.result (rw c.unwrap-nearest.ensures at c.pop.ensures.items))
-    c.loop-turned.invariant.ready).1
+    c.loop-turned.invariant.ready in
+    record { fits = near.0; room = near.1 }
 
 pub loop-turned-preserved : goal.loop-turned-preserved
 loop-turned-preserved g c =

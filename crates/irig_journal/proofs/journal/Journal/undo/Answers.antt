@@ -7,17 +7,8 @@ use Rattle.irig_journal.proofs.FloorLemmas.{floor_in, floor_kept, not_at_floor, 
 use Rattle.irig_journal.proofs.SideLemmas.{length-told}
 use Rattle.irig_journal.proofs.journal.Journal.undo.Goals as goal
 
-pub returns-then-is_at_floor-clause-nothing : goal.returns-then-is_at_floor-clause-nothing
-returns-then-is_at_floor-clause-nothing g c =
-    let d = g.R.Reversible.delta in
-    let side = c.self.inside.past in
-    let long = ap (λ j. length (past_of d j)) (sym c.self.view_is) ∙ length-told d side.changes.items side.entries.items in
-    let some : 0 < c.len.result = search rules in
-    let none : past_of d c.args.self.now ≡ [] → ⊥ = λ e. omega (arith, long, some, c.len.ensures, ap length e) in
-    search (rules, none)
-
-pub returns-then-is_at_floor-clause-at_floor : goal.returns-then-is_at_floor-clause-at_floor
-returns-then-is_at_floor-clause-at_floor g c =
+pub returns-then-is_at_floor : goal.returns-then-is_at_floor
+returns-then-is_at_floor g c =
     let d = g.R.Reversible.delta in
     let side = c.self.inside.past in
     let long = ap (λ j. length (past_of d j)) (sym c.self.view_is) ∙ length-told d side.changes.items side.entries.items in
@@ -27,7 +18,15 @@ returns-then-is_at_floor-clause-at_floor g c =
     let low : AtFloor c.args.self.now.floor (length (past_of d c.args.self.now)) =
     subst (λ o. AtFloor o (length (past_of d c.args.self.now))) (ap floor_in c.self.view_is)
     (subst (AtFloor c.self.inside.floor) (omega (arith, long, c.len.ensures)) at) in
-    search (rules, none, low)
+    record {
+      step = search rules;
+      grouped = search rules;
+      nothing = search (rules, none);
+      at_floor = search (rules, none, low);
+      faults = search rules;
+      err = search rules;
+      ready = search rules;
+    }
 
 pub returns-clause-at_floor : goal.returns-clause-at_floor
 returns-clause-at_floor g c =
