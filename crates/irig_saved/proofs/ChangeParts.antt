@@ -16,6 +16,7 @@ use Rattle.irig_saved.proofs.Unique.{lined, no_group, same_step}
 use Rattle.irig_saved.proofs.Bytes.{dark_lacks}
 use Rattle.irig_saved.proofs.Clean.{newline, counted_lacks, first_lacks, step_clean}
 use Rattle.irig_saved.proofs.Carried.{Differs, carried, first_line_stops, other_line, lineless}
+use Rattle.irig_saved.proofs.Rows.{step_row}
 use Rattle.irig_saved.proofs.Repeats.{Family}
 use Rattle.irig_saved.proofs.Sequences.{Both, both, line_behind_stops}
 use Rattle.irig_saved.proofs.SingleParts.{no_change, no_change_lawful}
@@ -118,8 +119,7 @@ no_step_stops text lacks =
 
 pub step_family : Family IsStep step_lines steps_lines
 step_family = record {
-  none = refl;
-  next = λ x xs. refl;
+  row = step_row;
   clean = step_clean newline;
   law = same_step;
   some = no_step;

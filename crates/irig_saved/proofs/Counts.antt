@@ -1,5 +1,5 @@
 -- The counts of a saved journal are bounded by its text.
-use Rattle.std.proofs.Common.{◌≡◌, ◌<◌, ◌≤◌, ◌^◌, ◌++◌, ◌∷◌, [], List, length, codes, arith, length-append}
+use Rattle.std.proofs.Common.{◌≡◌, ◌<◌, ◌≤◌, ◌^◌, ◌++◌, ◌∷◌, [], ℕ, List, length, codes, arith, length-append}
 use Rattle.std.specs.List.{AllByRecursion}
 use Rattle.irig_saved.specs.SavedText.{single_lines, singles_lines, change_lines, step_lines, steps_lines, mark_lines, counted_lines, saved_lines, journal_text}
 use Rattle.irig_saved.specs.Numbers.{NumbersOfChange, NumbersOfSingle, NumbersOfStep}
@@ -10,8 +10,24 @@ use Rattle.irig_saved.specs.declared.change.Change.{Change}
 use Rattle.irig_saved.specs.declared.change.Change.TheVariants.{One, Group}
 use Rattle.irig_saved.specs.declared.step.Step.{Step}
 use Rattle.irig_saved.specs.declared.saved.Saved.{Saved}
+use Rattle.irig_saved.proofs.Rows.{Row, length_next, single_row, step_row}
 use Rattle.irig_saved.proofs.Texts.{length-pulse_lines}
 use Rattle.irig_saved.proofs.FaultLines.{lines_fit}
+
+-- parts in a row
+module _ {X : Type 0} (lines : X → List (List ℕ)) (all : List X → List (List ℕ)) (row : Row lines all) where
+  -- each has a line
+  row_fits : ((x : X) → 0 < length (lines x)) → (xs : List X) → length xs ≤ length (all xs)
+  row_fits some [] = omega arith
+  row_fits some (x ∷ xs) = let more = row_fits some xs in omega (arith, more, some x, length_next lines all row x xs)
+
+  -- parts with lawful numbers are lawful, if their lines are fewer than 2 ^ 64
+  row_of_numbers : (Numbers Is : X → Type 0) → ((x : X) → IsNumber (length (lines x)) → Numbers x → Is x)
+      → (xs : List X) → IsNumber (length (all xs)) → AllByRecursion Numbers xs → AllByRecursion Is xs
+  row_of_numbers Numbers Is one [] few h = tt
+  row_of_numbers Numbers Is one (x ∷ xs) few h =
+      let sum = length_next lines all row x xs in
+      (one x (omega (arith, few, sum)) h.0, row_of_numbers Numbers Is one xs (omega (arith, few, sum)) h.1)
 
 -- changes
 
@@ -19,38 +35,23 @@ pub single_of_numbers : (x : Single) → IsNumber (length (single_lines x)) → 
 single_of_numbers (Splice at count put) few h = (h.0, h.1, omega (arith, few, length-pulse_lines put), h.2)
 single_of_numbers _ few h = h
 
-singles_fit : (xs : List Single) → length xs ≤ length (singles_lines xs)
-singles_fit [] = omega arith
-singles_fit (x ∷ xs) = let more = singles_fit xs in omega (arith, more, length-append (single_lines x) (singles_lines xs))
-
-singles_of_numbers : (xs : List Single) → IsNumber (length (singles_lines xs)) → AllByRecursion NumbersOfSingle xs → AllByRecursion IsSingle xs
-singles_of_numbers [] few h = tt
-singles_of_numbers (x ∷ xs) few h =
-    let sum = length-append (single_lines x) (singles_lines xs) in
-    (single_of_numbers x (omega (arith, few, sum)) h.0, singles_of_numbers xs (omega (arith, few, sum)) h.1)
-
 pub change_of_numbers : (c : Change) → IsNumber (length (change_lines c)) → NumbersOfChange c → IsChange c
 change_of_numbers (One x) few h = single_of_numbers x few h
-change_of_numbers (Group xs) few h = (omega (arith, few, singles_fit xs), singles_of_numbers xs (omega (arith, few)) h)
+change_of_numbers (Group xs) few h = (
+  omega (arith, few, row_fits single_lines singles_lines single_row (λ x. omega arith) xs),
+  row_of_numbers single_lines singles_lines single_row NumbersOfSingle IsSingle single_of_numbers xs (omega (arith, few)) h,
+)
 
 -- steps
 
 pub step_of_numbers : (t : Step) → IsNumber (length (step_lines t)) → NumbersOfStep t → IsStep t
 step_of_numbers t few h = (h.0, change_of_numbers t.change (omega (arith, few)) h.1)
 
--- each has a line
-steps_have_lines : (ss : List Step) → length ss ≤ length (steps_lines ss)
-steps_have_lines [] = omega arith
-steps_have_lines (s ∷ ss) = let more = steps_have_lines ss in omega (arith, more, length-append (step_lines s) (steps_lines ss))
-
-all_of_numbers : (ss : List Step) → IsNumber (length (steps_lines ss)) → AllByRecursion NumbersOfStep ss → AllByRecursion IsStep ss
-all_of_numbers [] few h = tt
-all_of_numbers (s ∷ ss) few h =
-    let sum = length-append (step_lines s) (steps_lines ss) in
-    (step_of_numbers s (omega (arith, few, sum)) h.0, all_of_numbers ss (omega (arith, few, sum)) h.1)
-
 pub steps_of_numbers : (ss : List Step) → IsNumber (length (steps_lines ss)) → AllByRecursion NumbersOfStep ss → AreSteps ss
-steps_of_numbers ss few h = (omega (arith, few, steps_have_lines ss), all_of_numbers ss few h)
+steps_of_numbers ss few h = (
+  omega (arith, few, row_fits step_lines steps_lines step_row (λ s. omega arith) ss),
+  row_of_numbers step_lines steps_lines step_row NumbersOfStep IsStep step_of_numbers ss few h,
+)
 
 -- a journal
 

@@ -4,6 +4,7 @@ pub mod Cuts
 pub mod PlainWords
 pub mod Decimals
 pub mod SameWords
+pub mod Rows
 pub mod Unique
 pub mod Bytes
 pub mod Parsed

@@ -1,18 +1,14 @@
 -- Lines of pulses.
-use Rattle.std.proofs.Common.{◌≡◌, ◌++◌, ◌∷◌, [], ℕ, List, get_or, refl, ap, lit<}
-use Rattle.irig_saved.specs.Lines.{text_of}
+use Rattle.std.proofs.Common.{◌≡◌, ◌++◌, ◌∷◌, ℕ, List, lit<}
 use Rattle.irig_saved.specs.SavedText.{pulse_line, pulse_lines}
 use Rattle.irig_saved.specs.Ranges.{IsPulse}
 use Rattle.irig_saved.specs.Reading.{Stops, Lacks}
 use Rattle.irig_recording.specs.declared.pulse.Pulse.{Pulse}
 use Rattle.irig_saved.proofs.Clean.{newline, pulse_lacks}
-use Rattle.irig_saved.proofs.Unique.{Same, same_pulses}
+use Rattle.irig_saved.proofs.Rows.{one_line, pulse_row}
+use Rattle.irig_saved.proofs.Unique.{same_pulse}
 use Rattle.irig_saved.proofs.Repeats.{Family}
 use Rattle.irig_saved.proofs.Sequences.{line_stops, no_line_stops}
-
--- the line of a pulse
-abbrev pub one_line : Pulse → List (List ℕ)
-one_line p = pulse_line p ∷ []
 
 pub no_pulse : Pulse
 no_pulse = record { rise = 0; fall = 0 }
@@ -21,15 +17,9 @@ pub no_pulse_lawful : IsPulse no_pulse
 unfolding no_pulse
 no_pulse_lawful = (lit< tt, lit< tt)
 
-same_pulse : (p q : Pulse) (r s : List ℕ) → IsPulse p → IsPulse q → text_of (one_line p) ++ r ≡ text_of (one_line q) ++ s → Same p q r s
-same_pulse p q r s hp hq e =
-    let t = same_pulses (p ∷ []) (q ∷ []) r s refl (hp, tt) (hq, tt) e in
-    record { value = ap (λ (l : List Pulse). get_or l 0 p) t.value; rest = t.rest }
-
 pub pulse_family : Family IsPulse one_line pulse_lines
 pulse_family = record {
-  none = refl;
-  next = λ p ps. refl;
+  row = pulse_row;
   clean = λ p h. (pulse_lacks newline p h, tt);
   law = same_pulse;
   some = no_pulse;

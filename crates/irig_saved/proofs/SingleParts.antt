@@ -15,6 +15,7 @@ use Rattle.irig_saved.proofs.SameWords.{unlike, head_is_word, words_are_words}
 use Rattle.irig_saved.proofs.Unique.{lined, same_single}
 use Rattle.irig_saved.proofs.Clean.{newline, number_lacks, line_lacks, first_lacks, single_clean}
 use Rattle.irig_saved.proofs.Carried.{Differs, carried, first_line_stops, other_line, lineless}
+use Rattle.irig_saved.proofs.Rows.{single_row}
 use Rattle.irig_saved.proofs.Repeats.{Family}
 use Rattle.irig_saved.proofs.Sequences.{Both, both, line_behind_stops}
 
@@ -114,8 +115,7 @@ no_single_stops text lacks =
 
 pub single_family : Family IsSingle single_lines singles_lines
 single_family = record {
-  none = refl;
-  next = λ x xs. refl;
+  row = single_row;
   clean = single_clean newline;
   law = same_single;
   some = no_change;

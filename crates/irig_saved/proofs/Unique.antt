@@ -19,6 +19,7 @@ use Rattle.irig_saved.specs.declared.saved.Saved.{Saved}
 use Rattle.irig_saved.proofs.Cuts.{IsWord, AreWords, SameLine, same_line}
 use Rattle.irig_saved.proofs.Decimals.{number_is_word, same_number}
 use Rattle.irig_saved.proofs.Texts.{text_of_append}
+use Rattle.irig_saved.proofs.Rows.{Row, one_line, pulse_row, single_row, step_row}
 use Rattle.irig_saved.proofs.SameWords.{unlike, small_is_number, word_at, byte_at, byte_is_word, kind_is_word, same_kind, head_is_word, words_are_words, Alike}
 use Rattle.irig_saved.proofs.SameWords.{alike}
 
@@ -34,26 +35,48 @@ lined h g ws vs ls ms r s hh hg hw hv e =
     same_line h g ws vs (text_of ls ++ r) (text_of ms ++ s) hh hg hw hv
     (sym (append_assoc (line h ws) (10 ∷ text_of ls) r) ∙ e ∙ append_assoc (line g vs) (10 ∷ text_of ms) s)
 
+-- a text of some lines and others
+pub regroup : (ls ms : List (List ℕ)) (r : List ℕ) → text_of (ls ++ ms) ++ r ≡ text_of ls ++ (text_of ms ++ r)
+regroup ls ms r = ap (λ t. t ++ r) (text_of_append ls ms) ∙ append_assoc (text_of ls) (text_of ms) r
+
+-- parts in a row are determined if each is
+module _ {X : Type 0} (Is : X → Type 0) (lines : X → List (List ℕ)) (all : List X → List (List ℕ)) (row : Row lines all)
+    (law : (x y : X) (r s : List ℕ) → Is x → Is y → text_of (lines x) ++ r ≡ text_of (lines y) ++ s → Same x y r s) where
+  -- the lines of the first, and those of the others
+  one_more : (x : X) (xs : List X) (r : List ℕ) → text_of (all (x ∷ xs)) ++ r ≡ text_of (lines x) ++ (text_of (all xs) ++ r)
+  one_more x xs r = ap (λ (l : List (List ℕ)). text_of l ++ r) (row.next x xs) ∙ regroup (lines x) (all xs) r
+
+  -- two rows of one length with one text are the same
+  pub same_row : (xs ys : List X) (r s : List ℕ) → length xs ≡ length ys → AllByRecursion Is xs → AllByRecursion Is ys
+      → text_of (all xs) ++ r ≡ text_of (all ys) ++ s → Same xs ys r s
+  same_row [] [] r s n hx hy e =
+      record { value = refl; rest = subst (λ (l : List (List ℕ)). text_of l ++ r ≡ text_of l ++ s) row.none e }
+  same_row [] (y ∷ ys) r s n hx hy e = absurd (omega (arith, n))
+  same_row (x ∷ xs) [] r s n hx hy e = absurd (omega (arith, n))
+  same_row (x ∷ xs) (y ∷ ys) r s n hx hy e =
+      let one = law x y (text_of (all xs) ++ r) (text_of (all ys) ++ s) hx.0 hy.0 (sym (one_more x xs r) ∙ e ∙ one_more y ys s) in
+      let t = same_row xs ys r s (omega (arith, n)) hx.1 hy.1 one.rest in
+      record { value = ap₂ (λ (a : X) (l : List X). a ∷ l) one.value t.value; rest = t.rest }
+
 -- RISE FALL
 
 pulse : ℕ → ℕ → Pulse
 pulse rise fall = record { rise = rise; fall = fall }
 
-same_pulse : (p q : Pulse) → p.rise ≡ q.rise → p.fall ≡ q.fall → p ≡ q
+-- pulses with the same times are one
+same_times : (p q : Pulse) → p.rise ≡ q.rise → p.fall ≡ q.fall → p ≡ q
 unfolding pulse
-same_pulse p q rise fall = ap₂ pulse rise fall
+same_times p q rise fall = ap₂ pulse rise fall
 
-pub same_pulses : (ps qs : List Pulse) (r s : List ℕ) → length ps ≡ length qs → AllByRecursion IsPulse ps → AllByRecursion IsPulse qs
-    → text_of (pulse_lines ps) ++ r ≡ text_of (pulse_lines qs) ++ s → Same ps qs r s
-same_pulses [] [] r s n hp hq e = record { value = refl; rest = e }
-same_pulses [] (q ∷ qs) r s n hp hq e = absurd (omega (arith, n))
-same_pulses (p ∷ ps) [] r s n hp hq e = absurd (omega (arith, n))
-same_pulses (p ∷ ps) (q ∷ qs) r s n hp hq e =
-    let l = lined (decimal p.rise) (decimal q.rise) (decimal p.fall ∷ []) (decimal q.fall ∷ []) (pulse_lines ps) (pulse_lines qs) r s
-    (number_is_word p.rise hp.0.0) (number_is_word q.rise hq.0.0) (number_is_word p.fall hp.0.1, tt) (number_is_word q.fall hq.0.1, tt) e in
-    let t = same_pulses ps qs r s (omega (arith, n)) hp.1 hq.1 l.rest in
-    let one = same_pulse p q (same_number p.rise q.rise hp.0.0 hq.0.0 l.head) (same_number p.fall q.fall hp.0.1 hq.0.1 (word_at 0 _ _ l.words)) in
-    record { value = ap₂ (λ (a : Pulse) (l : List Pulse). a ∷ l) one t.value; rest = t.rest }
+-- the line of a pulse determines it
+pub same_pulse : (p q : Pulse) (r s : List ℕ) → IsPulse p → IsPulse q → text_of (one_line p) ++ r ≡ text_of (one_line q) ++ s → Same p q r s
+same_pulse p q r s hp hq e =
+    let l = lined (decimal p.rise) (decimal q.rise) (decimal p.fall ∷ []) (decimal q.fall ∷ []) [] [] r s
+    (number_is_word p.rise hp.0) (number_is_word q.rise hq.0) (number_is_word p.fall hp.1, tt) (number_is_word q.fall hq.1, tt) e in
+    record {
+      value = same_times p q (same_number p.rise q.rise hp.0 hq.0 l.head) (same_number p.fall q.fall hp.1 hq.1 (word_at 0 _ _ l.words));
+      rest = l.rest;
+    }
 
 -- one change
 
@@ -61,7 +84,8 @@ same_put : (x y : Single) (r s : List ℕ) → IsSingle x → IsSingle y → Ali
     → text_of (pulse_lines (put_of x)) ++ r ≡ text_of (pulse_lines (put_of y)) ++ s → Same x y r s
 same_put x (Splice at count put) r s hx hy a e =
     let h : IsSingle (Splice at count a.0) = subst IsSingle a.1 hx in
-    let t = same_pulses a.0 put r s a.2 h.3 hy.3 (ap (λ (l : Single). text_of (pulse_lines (put_of l)) ++ r) (sym a.1) ∙ e) in
+    let t = same_row IsPulse one_line pulse_lines pulse_row same_pulse a.0 put r s a.2 h.3 hy.3
+    (ap (λ (l : Single). text_of (pulse_lines (put_of l)) ++ r) (sym a.1) ∙ e) in
     record { value = a.1 ∙ ap (λ (ps : List Pulse). Splice at count ps) t.value; rest = t.rest }
 same_put x y r s hx hy same e = record { value = same; rest = ap (λ (l : Single). text_of (pulse_lines (put_of l)) ++ r) (sym same) ∙ e }
 
@@ -71,21 +95,6 @@ same_single x y r s hx hy e =
     let l = lined (head_of x) (head_of y) (words_of x) (words_of y) (pulse_lines (put_of x)) (pulse_lines (put_of y)) r s
     (head_is_word x) (head_is_word y) (words_are_words x hx) (words_are_words y hy) e in
     same_put x y r s hx hy (alike x y hx hy l.head l.words) l.rest
-
--- a text of some lines and others
-pub regroup : (ls ms : List (List ℕ)) (r : List ℕ) → text_of (ls ++ ms) ++ r ≡ text_of ls ++ (text_of ms ++ r)
-regroup ls ms r = ap (λ t. t ++ r) (text_of_append ls ms) ∙ append_assoc (text_of ls) (text_of ms) r
-
-pub same_singles : (xs ys : List Single) (r s : List ℕ) → length xs ≡ length ys → AllByRecursion IsSingle xs → AllByRecursion IsSingle ys
-    → text_of (singles_lines xs) ++ r ≡ text_of (singles_lines ys) ++ s → Same xs ys r s
-same_singles [] [] r s n hx hy e = record { value = refl; rest = e }
-same_singles [] (y ∷ ys) r s n hx hy e = absurd (omega (arith, n))
-same_singles (x ∷ xs) [] r s n hx hy e = absurd (omega (arith, n))
-same_singles (x ∷ xs) (y ∷ ys) r s n hx hy e =
-    let one = same_single x y (text_of (singles_lines xs) ++ r) (text_of (singles_lines ys) ++ s) hx.0 hy.0
-    (sym (regroup (single_lines x) (singles_lines xs) r) ∙ e ∙ regroup (single_lines y) (singles_lines ys) s) in
-    let t = same_singles xs ys r s (omega (arith, n)) hx.1 hy.1 one.rest in
-    record { value = ap₂ (λ (a : Single) (l : List Single). a ∷ l) one.value t.value; rest = t.rest }
 
 -- a change
 
@@ -112,7 +121,8 @@ same_change (Group xs) (One y) r s hc hd e =
 same_change (Group xs) (Group ys) r s hc hd e =
     let l = lined (codes "group") (codes "group") (decimal (length xs) ∷ []) (decimal (length ys) ∷ []) (singles_lines xs) (singles_lines ys) r s
     refl refl (counted_is_words (length xs) hc.0) (counted_is_words (length ys) hd.0) e in
-    let t = same_singles xs ys r s (same_number (length xs) (length ys) hc.0 hd.0 (word_at 0 _ _ l.words)) hc.1 hd.1 l.rest in
+    let t = same_row IsSingle single_lines singles_lines single_row same_single xs ys r s
+    (same_number (length xs) (length ys) hc.0 hd.0 (word_at 0 _ _ l.words)) hc.1 hd.1 l.rest in
     record { value = ap Group t.value; rest = t.rest }
 
 -- steps
@@ -132,24 +142,14 @@ same_step x y r s hx hy e =
     let t = same_change x.change y.change r s hx.1 hy.1 l.rest in
     record { value = same_parts x y (same_number x.cursor y.cursor hx.0 hy.0 (word_at 0 _ _ l.words)) t.value; rest = t.rest }
 
-pub same_steps : (xs ys : List Step) (r s : List ℕ) → length xs ≡ length ys → AllByRecursion IsStep xs → AllByRecursion IsStep ys
-    → text_of (steps_lines xs) ++ r ≡ text_of (steps_lines ys) ++ s → Same xs ys r s
-same_steps [] [] r s n hx hy e = record { value = refl; rest = e }
-same_steps [] (y ∷ ys) r s n hx hy e = absurd (omega (arith, n))
-same_steps (x ∷ xs) [] r s n hx hy e = absurd (omega (arith, n))
-same_steps (x ∷ xs) (y ∷ ys) r s n hx hy e =
-    let one = same_step x y (text_of (steps_lines xs) ++ r) (text_of (steps_lines ys) ++ s) hx.0 hy.0
-    (sym (regroup (step_lines x) (steps_lines xs) r) ∙ e ∙ regroup (step_lines y) (steps_lines ys) s) in
-    let t = same_steps xs ys r s (omega (arith, n)) hx.1 hy.1 one.rest in
-    record { value = ap₂ (λ (a : Step) (l : List Step). a ∷ l) one.value t.value; rest = t.rest }
-
 -- a word, how many steps there are, and the steps
 pub same_counted : (h : List ℕ) (xs ys : List Step) (r s : List ℕ) → IsWord h → AreSteps xs → AreSteps ys
     → text_of (counted_lines h xs) ++ r ≡ text_of (counted_lines h ys) ++ s → Same xs ys r s
 same_counted h xs ys r s hh hx hy e =
     let l = lined h h (decimal (length xs) ∷ []) (decimal (length ys) ∷ []) (steps_lines xs) (steps_lines ys) r s
     hh hh (counted_is_words (length xs) hx.0) (counted_is_words (length ys) hy.0) e in
-    same_steps xs ys r s (same_number (length xs) (length ys) hx.0 hy.0 (word_at 0 _ _ l.words)) hx.1 hy.1 l.rest
+    same_row IsStep step_lines steps_lines step_row same_step xs ys r s
+    (same_number (length xs) (length ys) hx.0 hy.0 (word_at 0 _ _ l.words)) hx.1 hy.1 l.rest
 
 -- marks
 

@@ -4,7 +4,8 @@ use Rattle.irig_saved.specs.SavedText.{pulse_line, pulse_lines}
 use Rattle.irig_saved.specs.Reading.{Reads}
 use Rattle.irig_saved.proofs.Repeats.{row_begins, row_next, row_stops}
 use Rattle.irig_saved.proofs.Sequences.{line_reads}
-use Rattle.irig_saved.proofs.PulseParts.{one_line, pulse_family, pulse_stops, no_pulse_stops}
+use Rattle.irig_saved.proofs.Rows.{one_line}
+use Rattle.irig_saved.proofs.PulseParts.{pulse_family, pulse_stops, no_pulse_stops}
 use Rattle.irig_saved.proofs.parts.pulses.Goals as goal
 
 pub loop-init : goal.loop-init
