@@ -57,13 +57,12 @@ module _ {D : Type 0} where
       ap (λ (k : ℕ). drop k (near ∷ steps)) count
 
 module _ {S D : Type 0} where
-  pub FitInTurn-parts : (fits : S → D → Type 0) (turned : S → D → S × D) (s : S) (near rest : List (Step D))
-      → FitInTurn fits turned s (near ++ rest)
-      → (FitAll fits turned s (changes_of near))
-      × (FitInTurn fits turned (left_by turned s (changes_of near)) rest)
-  FitInTurn-parts fits turned s [] rest fit = (tt, fit)
-  FitInTurn-parts fits turned s (d ∷ near) rest fit =
-      let parts = FitInTurn-parts fits turned (turned s d.change).0 near rest fit.1 in
+  -- the first changes fit in turn, and the others after them
+  FitAll-parts : (fits : S → D → Type 0) (turned : S → D → S × D) (s : S) (ds es : List D) → FitAll fits turned s (ds ++ es)
+      → FitAll fits turned s ds × FitAll fits turned (left_by turned s ds) es
+  FitAll-parts fits turned s [] es fit = (tt, fit)
+  FitAll-parts fits turned s (d ∷ ds) es fit =
+      let parts = FitAll-parts fits turned (turned s d).0 ds es fit.1 in
       ((fit.0, parts.0), parts.1)
 
   -- the steps beyond the farthest fit one after another, and the farthest where they lead to
@@ -72,8 +71,9 @@ module _ {S D : Type 0} where
       → (FitAll fits turned s (changes_of (beyond n steps)))
       × (FitInTurn fits turned (left_by turned s (changes_of (beyond n steps))) (farthest n steps))
   fit_parts fits turned s n steps fit =
-      FitInTurn-parts fits turned s (beyond n steps) (farthest n steps)
-      (subst (λ (l : List (Step D)). FitInTurn fits turned s l) (sym (beyond-farthest n steps)) fit)
+      FitAll-parts fits turned s (changes_of (beyond n steps)) (changes_of (farthest n steps))
+      (subst (FitAll fits turned s)
+      (ap changes_of (sym (beyond-farthest n steps)) ∙ map-append (λ (d : Step D). d.change) (beyond n steps) (farthest n steps)) fit)
 
   -- the joined step fits, and the farthest fit after it
   pub fit_joined : (fits : S → D → Type 0) (turned : S → D → S × D) (gathered : List D → D) (s : S) (n : ℕ)
@@ -92,9 +92,5 @@ module _ {S C D : Type 0} where
   pub fit_first : (fits : S → D → Type 0) (turned : S → D → S × D) (one : C → D) (s : S) (all near rest : List C)
       → all ≡ near ++ rest → FitAll fits turned s (map one all) → FitAll fits turned s (map one near)
   fit_first fits turned one s all near rest parts fit =
-      FitAll-first fits turned s (map one near) (map one rest)
-      (subst (FitAll fits turned s) (ap (map one) parts ∙ map-append one near rest) fit) where
-        FitAll-first : (fits : S → D → Type 0) (turned : S → D → S × D) (s : S) (ds es : List D)
-            → FitAll fits turned s (ds ++ es) → FitAll fits turned s ds
-        FitAll-first fits turned s [] es fit = tt
-        FitAll-first fits turned s (d ∷ ds) es fit = (fit.0, FitAll-first fits turned (turned s d).0 ds es fit.1)
+      (FitAll-parts fits turned s (map one near) (map one rest)
+      (subst (FitAll fits turned s) (ap (map one) parts ∙ map-append one near rest) fit)).0

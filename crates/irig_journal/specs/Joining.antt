@@ -1,7 +1,8 @@
 -- Several steps made one. This project's own.
-use Rattle.std.specs.Prelude.{◌≡◌, ℕ, ◌+◌, ◌-◌, List, [], ◌∷◌, drop, if◌then◌else◌, length, map}
+use Rattle.std.specs.Prelude.{ℕ, ◌+◌, ◌-◌, List, [], ◌∷◌, drop, if◌then◌else◌, length, map}
 use Rattle.std.specs.Prelude.{nat_le, take}
 use Rattle.irig_journal.specs.History.{Step, step}
+use Rattle.irig_journal.specs.Turns.{CountsAll}
 
 module _ {D : Type 0} where
   -- the changes of steps
@@ -35,7 +36,4 @@ module _ {S D T : Type 0} where
   -- the tally moved by a turn of each step, one after another, the nearest first
   abbrev pub CountsAlong : (S → D → T → T → Type 0) → (S → D → S × D) → S → List (Step D) → T → T
       → Type 0
-  CountsAlong counted turned s [] old new = new ≡ old
-  CountsAlong counted turned s (near ∷ steps) old new = (between : T)
-      × counted s near.change old between
-      × CountsAlong counted turned (turned s near.change).0 steps between new
+  CountsAlong counted turned s steps old new = CountsAll counted turned s (changes_of steps) old new
