@@ -8,6 +8,7 @@ ghost use Rattle.irig_saved.specs.SavedText.{pulse_line};
 ghost use Rattle.irig_saved.specs.declared.single.Single.TheVariants.{Toggle, Shift, SetFormat};
 ghost use Rattle.irig_saved.specs.declared.single.Single.TheVariants.{SetMark};
 
+use crate::letter::Letters;
 use crate::single::Single;
 use crate::word_writer::{
     put_formatted, put_lettered, put_number, put_numbered, put_numbers, put_word,
@@ -58,13 +59,7 @@ fn put_toggle(text: &mut Vec<u8>, a: u64, b: u64) -> Result<(), AllocError>
 
 /// The line of a shift of the pulses `i` to `j`, from 1, by this many microseconds, with the marks
 /// of the given letters.
-fn put_shift(
-    text: &mut Vec<u8>,
-    i: u64,
-    j: u64,
-    by: i64,
-    marks: &[bool; 26],
-) -> Result<(), AllocError>
+fn put_shift(text: &mut Vec<u8>, i: u64, j: u64, by: i64, marks: &Letters) -> Result<(), AllocError>
     ensures { OnOk result (text.new.items
         ≡ text.old.items ++ (single_line (Shift i j by marks.now) ++ 10 ∷ [])) }
 {
@@ -86,7 +81,7 @@ fn put_shifted(text: &mut Vec<u8>, i: u64, j: u64, by: i64) -> Result<(), AllocE
 }
 
 /// A space and the letters of the marks that move, or `-` if none does.
-fn put_moved(text: &mut Vec<u8>, marks: &[bool; 26]) -> Result<(), AllocError>
+fn put_moved(text: &mut Vec<u8>, marks: &Letters) -> Result<(), AllocError>
     ensures { OnOk result (text.new.items ≡ text.old.items ++ 32 ∷ moved_word marks.now) }
 {
     let mut letters = [0; 26];

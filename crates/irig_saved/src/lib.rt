@@ -24,7 +24,7 @@ mod writer;
 
 pub use change::Change;
 pub use law::readable;
-pub use letter::Letter;
+pub use letter::{Letter, Letters, Marks};
 pub use pulses::Pulses;
 pub use reader::{Fault, parse};
 pub use saved::Saved;

@@ -13,7 +13,7 @@ ghost use Rattle.irig_saved.specs.Values.{words_of_format, words_of_mark, words_
 ghost use Rattle.irig_saved.specs.Values.{words_of_three, words_of_two};
 
 use crate::cut::word_of;
-use crate::letter::Letter;
+use crate::letter::{Letter, Letters};
 use crate::single::Single;
 use crate::words::{distance, expression, moved, number, time};
 use irig_codes::{Kind, kind_named};
@@ -155,7 +155,7 @@ fn set_mark(text: &[u8]) -> Option<(Letter, Option<u64>)>
 }
 
 /// The pulses that move, by how much, and the marks that move with them, in the line of a shift.
-fn shift(text: &[u8]) -> Option<(u64, u64, i64, [bool; 26])>
+fn shift(text: &[u8]) -> Option<(u64, u64, i64, Letters)>
     ensures { Decodes IsShift (λ t. line (codes "shift") (words_of_shift t)) text.now result }
 {
     let Some(words) = behind(b"shift", text) else {
@@ -172,7 +172,7 @@ fn shift(text: &[u8]) -> Option<(u64, u64, i64, [bool; 26])>
 }
 
 /// A distance and the marks that move by it.
-fn move_in(text: &[u8]) -> Option<(i64, [bool; 26])>
+fn move_in(text: &[u8]) -> Option<(i64, Letters)>
     ensures { Decodes IsMove
         (λ t. line (signed_decimal t.0) (moved_word t.1 ∷ [])) text.now result }
 {

@@ -12,6 +12,7 @@ ghost use Rattle.irig_saved.specs.Leading.{BeginsSome, BeginsStep, BeginsSteps, 
 
 use crate::change::Change;
 use crate::cut::line_of;
+use crate::letter::Marks;
 use crate::lines::{counted, mark, pulse, short, splice};
 use crate::pulses::Pulses;
 use crate::single::Single;
@@ -153,7 +154,7 @@ pub fn counted_steps<'a>(
 }
 
 /// The marks whose lines are at the head of a text, a to z.
-pub fn marks(text: &[u8]) -> ([Option<u64>; 26], &[u8])
+pub fn marks(text: &[u8]) -> (Marks, &[u8])
     ensures { (length result.0 ≡ 26) × Leads 97 result.0 text.now result.1.now }
 {
     let mut marks = [None; 26];

@@ -1,5 +1,6 @@
 //! What a saved journal says.
 
+use crate::letter::Marks;
 use crate::steps::Steps;
 use irig_codes::Kind;
 
@@ -13,7 +14,7 @@ pub struct Saved {
     /// The cursor, from 1; 0 if there is no pulse.
     pub cursor: u64,
     /// The marks a to z, each unset or a time in microseconds.
-    pub marks: [Option<u64>; 26],
+    pub marks: Marks,
     /// The steps that an undo takes, the oldest first.
     pub past: Steps,
     /// The steps that a redo takes, the next first.

@@ -3,7 +3,7 @@
 ghost use Rattle.std.specs.Prelude.{◌≡◌, ◌<◌, ◌^◌, length};
 ghost use Rattle.irig_saved.specs.SavedText.{single_lines};
 
-use crate::letter::Letter;
+use crate::letter::{Letter, Letters};
 use crate::pulses::Pulses;
 use irig_codes::Kind;
 
@@ -27,7 +27,7 @@ pub enum Single {
         i: u64,
         j: u64,
         by: i64,
-        marks: [bool; 26],
+        marks: Letters,
     },
     /// Sets a format, which may be none that is permitted.
     SetFormat {

@@ -6,6 +6,7 @@ ghost use Rattle.irig_saved.specs.Ranges.{IsNumber, IsDistance, IsTime};
 ghost use Rattle.irig_saved.specs.ChangeWords.{moved_word, time_word};
 ghost use Rattle.irig_saved.specs.Reading.{Decodes, AreLetters};
 
+use crate::letter::Letters;
 use itoa::Buffer;
 
 /// The number that a word is in decimal, without a sign or leading zeros.
@@ -66,7 +67,7 @@ pub fn time(word: &[u8]) -> Option<Option<u64>>
 }
 
 /// The marks whose letters a word has in order; `-` if there are none.
-pub fn moved(word: &[u8]) -> Option<[bool; 26]>
+pub fn moved(word: &[u8]) -> Option<Letters>
     ensures { Decodes AreLetters moved_word word.now result }
 {
     let mut marks = [false; 26];

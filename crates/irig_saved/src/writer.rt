@@ -5,6 +5,7 @@ ghost use Rattle.irig_codes.specs.Words.{kind_word};
 ghost use Rattle.irig_saved.specs.Lines.{line, numbered, text_of};
 ghost use Rattle.irig_saved.specs.SavedText.{count_text, head_lines, mark_lines, step_head};
 
+use crate::letter::Marks;
 use crate::word_writer::{put_formatted, put_lettered, put_number, put_numbered};
 use irig_codes::{Format, Kind};
 use std::alloc::AllocError;
@@ -15,7 +16,7 @@ pub fn put_head(
     text: &mut Vec<u8>,
     format: Format,
     cursor: u64,
-    marks: &[Option<u64>; 26],
+    marks: &Marks,
     past: u64,
 ) -> Result<(), AllocError>
     ensures { OnOk result (text.new.items ≡ text.old.items
@@ -80,7 +81,7 @@ fn put_cursor(text: &mut Vec<u8>, cursor: u64) -> Result<(), AllocError>
 }
 
 /// A line for each mark that is set, a to z. A mark is a time in microseconds.
-fn put_marks(text: &mut Vec<u8>, marks: &[Option<u64>; 26]) -> Result<(), AllocError>
+fn put_marks(text: &mut Vec<u8>, marks: &Marks) -> Result<(), AllocError>
     ensures { OnOk result (text.new.items
         ≡ text.old.items ++ text_of (mark_lines 97 marks.now)) }
 {
