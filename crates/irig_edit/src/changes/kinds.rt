@@ -13,8 +13,9 @@ ghost use Rattle.irig_edit.specs.State.Marks.{marks_moved};
 ghost use Rattle.irig_edit.specs.Changes.Looks.{standing_in};
 ghost use Rattle.irig_edit.specs.State.State.{IsMark};
 
-use crate::state::marks::{Letters, Marks, move_marks};
+use crate::state::marks::move_marks;
 use irig_codes::{Format, Kind};
+use irig_saved::{Letters, Marks};
 use irig_track::{Span, Track};
 
 /// Turns a toggle, and returns the pulses that it touched.

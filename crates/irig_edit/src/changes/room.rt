@@ -14,11 +14,11 @@ ghost use Rattle.irig_edit.specs.State.State.{IsState};
 
 use crate::changes::kinds::permitted;
 use crate::changes::turn::Turn;
-use crate::state::marks::{Letters, all_may_move};
+use crate::state::marks::all_may_move;
 use crate::state::present::Present;
 use irig_codes::Format;
 use irig_index::{Index, markers_among};
-use irig_saved::{Pulses, Single};
+use irig_saved::{Letters, Pulses, Single};
 use std::alloc::AllocError;
 
 /// Whether a change can be made.

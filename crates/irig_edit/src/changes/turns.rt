@@ -17,11 +17,10 @@ ghost use Rattle.irig_edit.specs.State.State.{IsState, state, with_pulses};
 
 use crate::changes::kinds::{permitted, turn_mark, turn_shift, turn_toggle};
 use crate::changes::turn::Turn;
-use crate::state::marks::Letters;
 use crate::state::present::Present;
 use irig_codes::Kind;
 use irig_gap::Gap;
-use irig_saved::{Pulses, Single};
+use irig_saved::{Letters, Pulses, Single};
 use irig_track::Pulse;
 
 /// The turns that move pulses or frames.

@@ -11,11 +11,10 @@ ghost use Rattle.irig_edit.specs.State.State.{recording_of, state};
 ghost use Rattle.irig_edit.specs.Opened.Walk.{walk};
 
 use crate::opened::walk::Walk;
-use crate::state::marks::Marks;
 use crate::state::present::Present;
 use irig_codes::Format;
 use irig_recording::Recording;
-use irig_saved::Saved;
+use irig_saved::{Marks, Saved};
 use irig_vcd::VcdFault;
 use std::alloc::Global;
 

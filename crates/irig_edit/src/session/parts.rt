@@ -2,13 +2,12 @@
 
 use crate::changes::turn::Turn;
 use crate::session::session::Session;
-use crate::state::marks::{Letters, Marks};
 use crate::state::present::Present;
 use irig_codes::{Format, Kind};
 use irig_gap::Gap;
 use irig_index::Index;
 use irig_journal::{Journal, Step};
-use irig_saved::{Letter, Pulses, Single};
+use irig_saved::{Letter, Letters, Marks, Pulses, Single};
 use irig_track::{Pulse, Track};
 use std::alloc::Global;
 

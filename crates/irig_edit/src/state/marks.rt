@@ -7,11 +7,7 @@ ghost use Rattle.irig_edit.specs.State.Marks.{moved_time};
 ghost use Rattle.irig_edit.specs.State.Marks.{stands};
 ghost use Rattle.irig_edit.specs.State.State.{IsMark};
 
-/// The marks a to z: each unset, or a time in microseconds.
-pub(crate) type Marks = [Option<u64>; 26];
-
-/// For each letter a to z whether it is named.
-pub(crate) type Letters = [bool; 26];
+use irig_saved::{Letters, Marks};
 
 /// A time moved by `by`, both in microseconds: 0 if it would come before 0.
 pub(crate) fn moved_time(time: u64, by: i64) -> u64

@@ -9,10 +9,11 @@ ghost use Rattle.irig_edit.specs.Edits.Edits.{pulse_of};
 ghost use Rattle.irig_edit.specs.Session.Machine.{NoMarks};
 ghost use Rattle.irig_edit.specs.State.State.{IsMark, IsState, frames_of, recording_of};
 
-use crate::state::marks::{Letters, Marks, letters_from};
+use crate::state::marks::letters_from;
 use irig_codes::Format;
 use irig_index::Index;
 use irig_recording::Recording;
+use irig_saved::{Letters, Marks};
 use irig_track::{Pulse, Track};
 use std::alloc::{AllocError, Global};
 use std::marker::Model;
