@@ -1,17 +1,12 @@
 -- Values on other codes, which say nothing.
-use Rattle.std.proofs.Common.{◌≡◌, ◌<◌, ◌≤◌, ◌+◌, ◌∷◌, ◌⊎◌, [], ℕ, true, false, List, length, drop, get_or, None, Ok, inl, inr}
+use Rattle.std.proofs.Common.{◌≡◌, ◌<◌, ◌≤◌, ◌+◌, ◌∷◌, [], ℕ, true, false, List, length, drop, get_or, None, Ok}
 use Rattle.std.proofs.Common.{refl, ap, sym, ◌∙◌, arith}
 use Rattle.std.specs.Str.{bytes_eq}
-use Rattle.irig_vcd.specs.Answer.{◌>>=◌, pair_of}
-use Rattle.irig_vcd.specs.Changes.{changes_from}
-use Rattle.irig_vcd.specs.Code.Event.{is_hash, level_read}
-use Rattle.irig_vcd.specs.Code.Short.{TakesApart, TakesValue, takes_code}
-use Rattle.irig_vcd.specs.Events.{Next, any_word, code_of_value, level_by}
-use Rattle.irig_vcd.specs.Journals.{comments_from, next_after}
+use Rattle.irig_vcd.specs.Code.Short.{TakesValue, takes_code}
+use Rattle.irig_vcd.specs.Values.{level_by}
 use Rattle.irig_vcd.specs.Words.{Word, WordKind, is_space, kind_of_byte, words_from, before_space}
 use Rattle.irig_vcd.specs.Words.{dollar, hash, scalar, vector, real, text, other}
-use Rattle.irig_vcd.proofs.ChangeSteps.{on_level}
-use Rattle.irig_vcd.proofs.CodeRuns.{apart_level, other_bytes}
+use Rattle.irig_vcd.proofs.CodeRuns.{other_bytes}
 use Rattle.irig_vcd.proofs.DigitRuns.{dark_above, none_before}
 use Rattle.irig_vcd.proofs.Runs.{begins, newline, skips}
 
@@ -54,60 +49,3 @@ value_word s code start mid byte lt room dark kind dots gap at line low apart =
       kind = kind;
       level = other_level (kind_of_byte (get_or s start 0)) code w (byte ∷ []) (other_bytes code byte apart);
     }
-
--- after a vector, a real or a text comes its code
-pub then_code : (kind : WordKind) (w : Word) → takes_code kind ≡ true → next_after kind w ≡ code_of_value w
-then_code vector w is = refl
-then_code real w is = refl
-then_code text w is = refl
-then_code dollar w is = absurd (cc is)
-then_code hash w is = absurd (cc is)
-then_code scalar w is = absurd (cc is)
-then_code other w is = absurd (cc is)
-
--- a value and its code are no comment
-past_value : (left : List Word) (w c : Word) (ws : List Word) → left ≡ w ∷ c ∷ ws → takes_code w.kind ≡ true
-    → comments_from any_word None left ≡ comments_from any_word None ws
-past_value left w c ws is h = ap (comments_from any_word None) is ∙ ap (λ (n : Next). comments_from n None (c ∷ ws)) (then_code w.kind w h)
-
--- a value sets no time
-pub no_time : (kind : WordKind) → takes_code kind ≡ true → is_hash kind ≡ false
-no_time vector is = refl
-no_time real is = refl
-no_time text is = refl
-no_time dollar is = absurd (cc is)
-no_time hash is = absurd (cc is)
-no_time scalar is = absurd (cc is)
-no_time other is = absurd (cc is)
-
--- a value and its code, read at once
-pub any_read : (kind : WordKind) (code : List ℕ) (w c : Word) (ws : List Word) → takes_code kind ≡ true
-    → level_read kind code w (c ∷ ws) ≡ (level_by kind code w c.bytes >>= λ x. pair_of x ws)
-any_read vector code w c ws is = refl
-any_read real code w c ws is = refl
-any_read text code w c ws is = refl
-any_read dollar code w c ws is = absurd (cc is)
-any_read hash code w c ws is = absurd (cc is)
-any_read scalar code w c ws is = absurd (cc is)
-any_read other code w c ws is = absurd (cc is)
-
--- the changes after a value on another code are those at it
-pub apart_on : (code : List ℕ) (unit last : ℕ) (old new : List Word) → TakesApart old new code ⊎ TakesValue old new code
-    → changes_from any_word code unit last old ≡ changes_from any_word code unit last new
-apart_on code unit last old new takes = elim takes [
-  | inl a ↦ on_level code unit last old a.word new new None a.left (ap is_hash a.kind) (apart_level code a.word new a.kind a.level)
-  | inr v ↦ on_level code unit last old v.word (v.next ∷ new) new None v.left (no_time v.word.kind v.kind)
-      (any_read v.word.kind code v.word v.next new v.kind ∙ ap (λ r. r >>= λ x. pair_of x new) v.level)
-]
-
-past_scalar : (left : List Word) (w : Word) (ws : List Word) → left ≡ w ∷ ws → w.kind ≡ scalar
-    → comments_from any_word None left ≡ comments_from any_word None ws
-past_scalar left w ws is h = ap (comments_from any_word None) is ∙ ap (λ k. comments_from (next_after k w) None ws) h
-
--- and so are the comments
-pub apart_comments : (code : List ℕ) (old new : List Word) → TakesApart old new code ⊎ TakesValue old new code
-    → comments_from any_word None old ≡ comments_from any_word None new
-apart_comments code old new takes = elim takes [
-  | inl a ↦ past_scalar old a.word new a.left a.kind
-  | inr v ↦ past_value old v.word v.next new v.left v.kind
-]

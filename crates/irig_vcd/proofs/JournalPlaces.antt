@@ -1,19 +1,25 @@
 -- The places of the journals of a text: after its declarations, and within it.
-use Rattle.std.proofs.Common.{◌≡◌, ◌≤◌, ◌<◌, ◌+◌, ◌∷◌, [], ℕ, Bool, true, false, cond, List, Option, Some, None, Result, Ok, Err, IfSome, length, filter, ◌++◌}
-use Rattle.std.proofs.Common.{refl, ap, arith}
+use Rattle.std.proofs.Common.{◌≡◌, ◌≤◌, ◌<◌, ◌+◌, ◌∷◌, [], ℕ, Bool, true, false, cond, List, Option, Some, None, Result, Ok, Err, IfSome, length, ◌++◌}
+use Rattle.std.proofs.Common.{refl, ap, arith, subst}
 use Rattle.irig_vcd.specs.Answer.{◌>>=◌, pair_of}
 use Rattle.irig_vcd.specs.Code.Journals.{Holds, LiesIn, place_view, first_place}
 use Rattle.irig_vcd.specs.Cut.{Section, Stop, no_end, no_definitions, bad, ended, Cut, cut_from, then_cut, stop_at, is_stray, is_last}
 use Rattle.irig_vcd.specs.Declarations.{Heading, nothing, declarations_of, read_cut, judged, stopped, start_of}
-use Rattle.irig_vcd.specs.Events.{Next, any_word, code_of_value, comment_word}
-use Rattle.irig_vcd.specs.Journals.{Comment, comment, comments_from, first_or, is_journal, journals_in, journals_among, next_after, words_behind}
+use Rattle.irig_vcd.specs.Journals.{Comment, comment, first_or, is_journal}
+use Rattle.irig_vcd.specs.Scan.{Open, closed, code_of, comment_of, Scan, start, scan_words}
 use Rattle.irig_vcd.specs.Sections.{is_end, section_of}
 use Rattle.irig_vcd.specs.Words.{Word, is_space, words_from, words_of, before_space, kind_of_byte}
 use Rattle.irig_vcd.specs.declared.fault.VcdFault.{VcdFault}
+use Rattle.irig_vcd.proofs.WordSteps.{Plain, next_always}
 use Rattle.irig_vcd.specs.declared.journals.Journals.{Journals}
 use Rattle.irig_vcd.specs.declared.journals.Place.{Place}
 
--- the words after the declarations do not depend on the wire
+-- the words after the declarations, if these end
+abbrev words_behind : Stop → List Word
+words_behind no_end = []
+words_behind no_definitions = []
+words_behind (bad offset) = []
+words_behind (ended words) = words
 
 ends_so : (r : Result (ℕ × List ℕ) VcdFault) (l ws : List Word) (s : ℕ × List ℕ) → (r >>= λ s. pair_of s l) ≡ Ok (s, ws) → l ≡ ws
 ends_so (Ok x) l ws s h = let same : ◌≡◌ {A = (ℕ × List ℕ) × List Word} (x, l) (s, ws) = cc h in ap (λ p. p.1) same
@@ -41,11 +47,6 @@ unfolding declarations_of
 words_after wire words s ws h =
     let read = starts_so wire (read_cut nothing (cut_from None words)) ws s h in
     cuts_so (judged nothing (cut_from None words).sections) (cut_from None words).stop read.0 ws read.1
-
-pub journals_behind : (wire : Option (List ℕ)) (bytes : List ℕ) (s : ℕ × List ℕ) (ws : List Word) → declarations_of wire (words_of bytes) ≡ Ok (s, ws)
-    → journals_in bytes ≡ journals_among ws
-unfolding journals_in
-journals_behind wire bytes s ws h = ap journals_among (words_after wire (words_of bytes) s ws h)
 
 -- the words of a text are in their order, from a place on and before another
 abbrev pub Ordered : ℕ → ℕ → List Word → Type 0
@@ -96,59 +97,77 @@ behind_ordered (Some s) (w ∷ ws) low top o =
     (cut_from (Some (record { kind = s.kind; words = s.words ++ w.bytes ∷ [] })) ws) rest (behind_ordered None ws low top rest)
     (behind_ordered (Some (record { kind = s.kind; words = s.words ++ w.bytes ∷ [] })) ws low top rest)
 
+-- the words after the declarations are in their order
+pub rest_ordered : (wire : Option (List ℕ)) (bytes : List ℕ) (s : ℕ × List ℕ) (ws : List Word) → declarations_of wire (words_of bytes) ≡ Ok (s, ws)
+    → Ordered 0 (length bytes) ws
+rest_ordered wire bytes s ws h =
+    subst (Ordered 0 (length bytes)) (words_after wire (words_of bytes) s ws h)
+    (behind_ordered None (words_of bytes) 0 (length bytes) (words_ordered bytes 0 0 (length bytes) false (omega arith) (omega arith)))
+
 -- each comment begins before it ends, and ends within the text
 abbrev Lie : ℕ → List Comment → Type 0
 Lie top [] = Unit {0}
 Lie top (c ∷ cs) = (c.first.offset ≤ c.end) × (c.end ≤ top) × Lie top cs
 
--- the first word of a comment was before
-abbrev Was : Option Word → ℕ → Type 0
-Was None low = Unit {0}
-Was (Some first) low = first.offset ≤ low
+lie_more : (top : ℕ) (b : Bool) (cs : List Comment) (c : Comment) → Lie top cs → c.first.offset ≤ c.end → c.end ≤ top
+    → Lie top (cs ++ cond b (c ∷ []) [])
+lie_more top true [] c h le within = (le, within, tt)
+lie_more top false [] c h le within = tt
+lie_more top b (d ∷ ds) c h le within = (h.0, h.1, lie_more top b ds c h.2 le within)
 
-was_first : (first : Option Word) (w : Word) (low : ℕ) → Was first low → low ≤ w.offset → (first_or first w).offset ≤ w.offset
+-- the first word of a comment was before
+abbrev Was : Open → ℕ → Type 0
+Was closed low = Unit {0}
+Was (code_of v) low = Unit {0}
+Was (comment_of None) low = Unit {0}
+Was (comment_of (Some first)) low = first.offset ≤ low
+
+abbrev Lies : ℕ → ℕ → Scan → Type 0
+Lies top low s = Lie top s.journals × Was s.opened low
+
+was_plain : (now : Open) (low : ℕ) → Plain now → Was now low
+was_plain closed low h = tt
+was_plain (code_of v) low h = tt
+was_plain (comment_of None) low h = tt
+was_plain (comment_of (Some w)) low h = absurd h
+
+was_later : (now : Open) (low top : ℕ) → low ≤ top → Was now low → Was now top
+was_later closed low top le h = tt
+was_later (code_of v) low top le h = tt
+was_later (comment_of None) low top le h = tt
+was_later (comment_of (Some w)) low top le h = omega (arith, le, h)
+
+was_first : (first : Option Word) (w : Word) (low : ℕ) → Was (comment_of first) low → low ≤ w.offset → (first_or first w).offset ≤ w.offset
 was_first None w low was le = omega arith
 was_first (Some first) w low was le = omega (arith, was, le)
 
-one_comment : (ends : Bool) (top : ℕ) (c : Comment) (cs ds : List Comment) → c.first.offset ≤ c.end → c.end ≤ top → Lie top cs → Lie top ds
-    → Lie top (cond ends (c ∷ cs) ds)
-one_comment true top c cs ds le within h k = (le, within, h)
-one_comment false top c cs ds le within h k = k
+scan_lies : (code : List ℕ) (unit top low : ℕ) (ws : List Word) (s : Scan) → Ordered low top ws → Lies top low s
+    → Lie top (scan_words code unit s ws).0.journals
+scan_lies code unit top low [] s o h = h.0
+scan_lies code unit top low (w ∷ ws) s o h =
+    let began : (first : Option Word) → s.opened ≡ comment_of first → (first_or first w).offset ≤ w.offset =
+    λ first is. was_first first w low (subst (λ now. Was now low) is h.1) o.0 in
+    next_always code unit s w (Lies top w.offset) (λ end. Lie top end.0.journals) (λ t. scan_words code unit t ws) (record {
+      same = (h.0, was_later s.opened low w.offset o.0 h.1);
+      timed = λ plain t read. (h.0, was_plain s.opened w.offset plain);
+      levels = λ plain level. (h.0, tt);
+      opens = λ plain now also. (h.0, was_plain now w.offset also);
+      ends = λ first is. let c = comment (first_or first w) w.offset in
+          (lie_more top (is_journal c) s.journals c h.0 (began first is) (omega (arith, o.1)), tt);
+      goes = λ first is. (h.0, began first is);
+    }) (λ t. scan_lies code unit top w.offset ws t o.2) (λ e. h.0)
 
-comments_lie : (words : List Word) (next : Next) (first : Option Word) (low top : ℕ) → Ordered low top words → Was first low
-    → Lie top (comments_from next first words)
-comments_lie [] next first low top o was = tt
-comments_lie (w ∷ ws) any_word first low top o was = comments_lie ws (next_after w.kind w) None w.offset top o.2 tt
-comments_lie (w ∷ ws) (code_of_value value) first low top o was = comments_lie ws any_word None w.offset top o.2 tt
-comments_lie (w ∷ ws) comment_word first low top o was =
-    let began = was_first first w low was o.0 in
-    one_comment (is_end w.bytes) top (comment (first_or first w) w.offset) (comments_from any_word None ws)
-    (comments_from comment_word (Some (first_or first w)) ws) began (omega (arith, o.1))
-    (comments_lie ws any_word None w.offset top o.2 tt) (comments_lie ws comment_word (Some (first_or first w)) w.offset top o.2 began)
-
-one_lies : (is : Bool) (top : ℕ) (c : Comment) (cs : List Comment) → c.first.offset ≤ c.end → c.end ≤ top → Lie top cs → Lie top (cond is (c ∷ cs) cs)
-one_lies true top c cs le within h = (le, within, h)
-one_lies false top c cs le within h = h
-
-journals_lie : (cs : List Comment) (top : ℕ) → Lie top cs → Lie top (filter is_journal cs)
-journals_lie [] top h = tt
-journals_lie (c ∷ cs) top h = one_lies (is_journal c) top c (filter is_journal cs) h.0 h.1 (journals_lie cs top h.2)
-
-first_lies : (place : Option Place) (all : List Comment) (text : List ℕ) → place_view place ≡ first_place all → Lie (length text) all
-    → IfSome place (λ p. (p.start ≤ p.end) × (p.end ≤ length text))
-first_lies None all text is h = tt
-first_lies (Some p) [] text is h = absurd (cc is)
-first_lies (Some p) (c ∷ cs) text is h =
+first_lies : (place : Option Place) (all : List Comment) (bytes : List ℕ) → place_view place ≡ first_place all → Lie (length bytes) all
+    → IfSome place (λ p. (p.start ≤ p.end) × (p.end ≤ length bytes))
+first_lies None all bytes is h = tt
+first_lies (Some p) [] bytes is h = absurd (cc is)
+first_lies (Some p) (c ∷ cs) bytes is h =
     let same : ◌≡◌ {A = ℕ × ℕ} (p.start, p.end) (c.first.offset, c.end) = cc is in
     let start : p.start ≡ c.first.offset = ap (λ x. x.0) same in
     let end : p.end ≡ c.end = ap (λ x. x.1) same in
     (omega (arith, start, end, h.0), omega (arith, end, h.1))
 
-pub kept_lies : (bytes : List ℕ) (j : Journals) → Holds (journals_in bytes) j → LiesIn bytes j
-unfolding journals_in
-kept_lies bytes j holds =
-    let words = words_ordered bytes 0 0 (length bytes) false (omega arith) (omega arith) in
-    let behind = behind_ordered None (words_of bytes) 0 (length bytes) words in
-    let comments = comments_lie (words_behind (cut_from None (words_of bytes)).stop) any_word None 0 (length bytes) behind tt in
-    first_lies j.first (journals_in bytes) bytes holds.first
-    (journals_lie (comments_from any_word None (words_behind (cut_from None (words_of bytes)).stop)) (length bytes) comments)
+pub kept_lies : (wire : Option (List ℕ)) (bytes : List ℕ) (s : ℕ × List ℕ) (ws : List Word) (j : Journals)
+    → declarations_of wire (words_of bytes) ≡ Ok (s, ws) → Holds (scan_words s.1 s.0 start ws).0.journals j → LiesIn bytes j
+kept_lies wire bytes s ws j h holds =
+    first_lies j.first _ bytes holds.first (scan_lies s.1 s.0 (length bytes) 0 ws start (rest_ordered wire bytes s ws h) (tt, tt))

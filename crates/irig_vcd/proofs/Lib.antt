@@ -20,10 +20,11 @@ pub mod Cuts
 pub mod Steps
 pub mod MoreWords
 -- The changes, a word at a time, and the edges of their level.
-pub mod ChangeSteps
-pub mod JournalWords
-pub mod EventSteps
-pub mod ReachedSteps
+pub mod Scans
+pub mod WordSteps
+pub mod Sound
+pub mod EarlyEdges
+pub mod ScanSteps
 pub mod JournalPlaces
 pub mod Levels
 pub mod PulseSteps
@@ -33,7 +34,6 @@ pub mod LevelLaw
 pub mod WholeDump
 pub mod Gathered
 pub mod PartSteps
-pub mod IdleParts
 -- The text of a recording, its words and its changes: what is written is read back.
 pub mod WrittenWords
 pub mod WrittenEdges
@@ -42,4 +42,3 @@ pub mod ReadBack
 pub mod WrittenJournal
 -- Known values.
 pub mod StandardFacts
-pub mod StillWires

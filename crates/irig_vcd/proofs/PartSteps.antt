@@ -1,98 +1,63 @@
 -- A dump that comes in parts: what is read of its words, part by part.
-use Rattle.std.proofs.Common.{◌≡◌, ◌++◌, ◌+◌, [], ℕ, false, List, Option, Some, None, Result, Ok, Err, IfErr, length, take, refl, ap}
-use Rattle.std.proofs.Common.{◌∙◌, sym, subst, append_assoc, drop, ◌≤◌, arith, length-append}
-use Rattle.std.proofs.lemmas.List.{append-nil, length-take-le, take-append-drop}
-use Rattle.irig_vcd.specs.Answer.{◌>>=◌, IsFaultOf, bytes_of}
-use Rattle.irig_vcd.specs.Changes.{IsStill, changes_from}
-use Rattle.irig_vcd.specs.Code.Along.{Total}
-use Rattle.irig_vcd.specs.Code.DumpReader.{HasRead, HasReadWords, IsNew, Stage, read_words, told_words}
+use Rattle.std.proofs.Common.{◌≡◌, ◌⊎◌, ◌++◌, ◌+◌, [], ℕ, false, List, Option, Some, None, Result, Ok, Err, IfErr, OnOk, length, take, refl, ap, inl, inr}
+use Rattle.std.proofs.Common.{◌∙◌, sym, subst, append_assoc, drop, ◌≤◌, arith, length-append, ◌≢◌}
+use Rattle.std.proofs.lemmas.List.{length-take-le, take-append-drop}
+use Rattle.irig_vcd.specs.Answer.{◌>>=◌, IsFaultOf, bytes_of, pair_of}
+use Rattle.irig_vcd.specs.Code.DumpReader.{HasRead, HasReadWords, ScansTo, Stage, StopsAt, StopsIn}
 use Rattle.irig_vcd.specs.Code.Gathered.{gathered, part_at, so_far}
 use Rattle.irig_vcd.specs.Code.Joins.{ends_inside}
 use Rattle.irig_vcd.specs.Code.Journals.{place_view}
-use Rattle.irig_vcd.specs.Code.Reached.{HasReached, HasReachedFrom, Told}
+use Rattle.irig_vcd.specs.Code.NextPart.{TakesMemory}
+use Rattle.irig_vcd.specs.Code.Trace.{EdgeBefore}
+use Rattle.irig_vcd.specs.Times.{micros_of}
+use Rattle.irig_vcd.specs.Code.Scanned.{HasScanned, StandsAt, Stops}
 use Rattle.irig_vcd.specs.Declarations.{declarations_of}
-use Rattle.irig_vcd.specs.Dump.{dump, recorded}
-use Rattle.irig_vcd.specs.Events.{any_word}
-use Rattle.irig_vcd.specs.Journals.{journals_among, journals_in}
-use Rattle.irig_vcd.specs.Level.{Change}
+use Rattle.irig_vcd.specs.Dump.{changes_before, dump, recorded, scan_of, scanned}
+use Rattle.irig_vcd.specs.Level.{Change, HasEdge}
 use Rattle.irig_vcd.specs.Parts.{dump_parts}
+use Rattle.irig_vcd.specs.Scan.{Scan, scan_ended, scan_words, start}
 use Rattle.irig_vcd.specs.Words.{Word, words_from, words_of}
 use Rattle.irig_vcd.specs.declared.progress.Progress.{Progress}
 use Rattle.irig_vcd.specs.declared.fault.VcdFault.{VcdFault}
+use Rattle.irig_vcd.specs.declared.fault.VcdFault.TheVariants as fault
 use Rattle.irig_vcd.specs.declared.reading.Reading.{Reading}
-use Rattle.irig_vcd.proofs.Gathered.{more_gathered}
-use Rattle.irig_vcd.proofs.JournalPlaces.{words_after}
+use Rattle.irig_vcd.proofs.Gathered.{more_gathered, so_far_is}
 use Rattle.irig_vcd.proofs.Joins.{ends_inside-append, words_from-apart}
 use Rattle.irig_vcd.proofs.MoreWords.{declared_more}
-use Rattle.irig_vcd.proofs.WholeDump.{fails_behind, fails_now, no_dump}
-
--- the same under other names
-pub reached_as : (code : List ℕ) (unit : ℕ) (total other : Total) (told others : Told) (r : Reading) (words : List Word)
-    → ((more : List Word) → total more ≡ other more) → ((more : List Word) → told more ≡ others more)
-    → HasReachedFrom code unit total told r words → HasReachedFrom code unit other others r words
-reached_as code unit total other told others r words e f h = (
-  h.0,
-  h.1,
-  record {
-    means = h.2.means;
-    here = (
-      h.2.here.0,
-      h.2.here.1,
-      record {
-        follows = h.2.here.2.follows;
-        rest = λ more. h.2.here.2.rest more ∙ e more;
-        holds = h.2.here.2.holds;
-        found = λ more. h.2.here.2.found more ∙ f more;
-      },
-    );
-  },
-)
-
--- words that come after all that was read are now here
-pub reached_next : (code : List ℕ) (unit : ℕ) (total : Total) (told : Told) (r : Reading) (words : List Word) → HasReached code unit total told r []
-    → HasReachedFrom code unit (λ more. total (words ++ more)) (λ more. told (words ++ more)) r words
-reached_next code unit total told r words h = (
-  h.0,
-  h.1,
-  record {
-    means = h.2.means;
-    here = (
-      h.2.here.0,
-      h.2.here.1,
-      record {
-        follows = h.2.here.2.follows;
-        rest = λ more. h.2.here.2.rest (words ++ more);
-        holds = h.2.here.2.holds;
-        found = λ more. h.2.here.2.found (words ++ more);
-      },
-    );
-  },
-)
+use Rattle.irig_vcd.proofs.ScanSteps.{edges_on}
+use Rattle.irig_vcd.proofs.Scans.{after, scan-append}
+use Rattle.irig_vcd.proofs.WholeDump.{fails_now, no_dump}
 
 -- a part comes after the words that are read
-pub words_next : (wire : Option (List ℕ)) (words part : List Word) (unit : ℕ) (code : List ℕ) (r : Reading) → HasReadWords wire words unit code r
-    → HasReachedFrom code unit (λ more. read_words wire ((words ++ part) ++ more)) (λ more. told_words ((words ++ part) ++ more)) r part
-words_next wire words part unit code r h =
-    reached_as code unit (λ more. read_words wire (words ++ (part ++ more))) (λ more. read_words wire ((words ++ part) ++ more))
-    (λ more. told_words (words ++ (part ++ more))) (λ more. told_words ((words ++ part) ++ more)) r part
-    (λ more. ap (read_words wire) (sym (append_assoc words part more))) (λ more. ap told_words (sym (append_assoc words part more)))
-    (reached_next code unit (λ more. read_words wire (words ++ more)) (λ more. told_words (words ++ more)) r part h)
+pub scans_next : (wire : Option (List ℕ)) (words part : List Word) (unit : ℕ) (code : List ℕ) (r : Reading) (h : HasReadWords wire words unit code r)
+    → ScansTo wire (words ++ part) unit code (scan_words code unit h.0 part)
+scans_next wire words part unit code r h = (
+  h.1.0 ++ part,
+  declared_more wire words h.1.0 part (unit, code) h.1.1,
+  scan-append code unit start h.1.0 part ∙ ap (λ x. after x (λ t. scan_words code unit t part)) h.1.2,
+)
 
-read_after : (wire : Option (List ℕ)) (words rest more : List Word) (s : ℕ × List ℕ) → declarations_of wire words ≡ Ok (s, rest)
-    → changes_from any_word s.1 s.0 0 (rest ++ more) ≡ read_words wire (words ++ more)
-read_after wire words rest more s h = sym (ap (λ r. r >>= λ x. changes_from any_word x.0.1 x.0.0 0 x.1) (declared_more wire words rest more s h))
+pub words_next : (wire : Option (List ℕ)) (words part : List Word) (unit : ℕ) (code : List ℕ) (old new : Reading) (h : HasReadWords wire words unit code old)
+    → (t : Scan) × (scan_words code unit h.0 part ≡ (t, None)) × StandsAt unit t new → HasReadWords wire (words ++ part) unit code new
+words_next wire words part unit code old new h r =
+    (r.0, subst (λ x. ScansTo wire (words ++ part) unit code x) r.1 (scans_next wire words part unit code old h), r.2)
 
-told_after : (wire : Option (List ℕ)) (words rest more : List Word) (s : ℕ × List ℕ) → declarations_of wire words ≡ Ok (s, rest)
-    → journals_among (rest ++ more) ≡ told_words (words ++ more)
-told_after wire words rest more s h = ap journals_among (sym (words_after wire (words ++ more) s (rest ++ more) (declared_more wire words rest more s h)))
+pub stops_next : (wire : Option (List ℕ)) (words part : List Word) (unit : ℕ) (code : List ℕ) (r : Reading) (e : VcdFault)
+    → (h : HasReadWords wire words unit code r) → Stops unit (scan_words code unit h.0 part) e → StopsIn wire (words ++ part) e
+stops_next wire words part unit code r e h stops = (unit, code, scan_words code unit h.0 part, scans_next wire words part unit code r h, stops)
 
--- the declarations are read
-pub words_begin : (wire : Option (List ℕ)) (words rest : List Word) (s : ℕ × List ℕ) (r : Reading) → declarations_of wire words ≡ Ok (s, rest) → IsNew r
-    → HasReachedFrom s.1 s.0 (λ more. read_words wire (words ++ more)) (λ more. told_words (words ++ more)) r rest
-words_begin wire words rest s r h new =
-    reached_as s.1 s.0 (λ more. changes_from any_word s.1 s.0 0 (rest ++ more)) (λ more. read_words wire (words ++ more))
-    (λ more. journals_among (rest ++ more)) (λ more. told_words (words ++ more)) r rest
-    (λ more. read_after wire words rest more s h) (λ more. told_after wire words rest more s h) (new.start s.1 s.0 rest)
+-- the same of what a function read
+pub goes_on : {X : Type 0} (r : Result X VcdFault) (unit : ℕ) (code : List ℕ) (part : List Word) (old new : Reading)
+    → ((s : Scan) → StandsAt unit s old → HasScanned code unit s part r new)
+    → OnOk r ((wire : Option (List ℕ)) (words : List Word) → HasReadWords wire words unit code old → HasReadWords wire (words ++ part) unit code new)
+goes_on (Ok x) unit code part old new scans = λ wire words h. words_next wire words part unit code old new h (scans h.0 h.2)
+goes_on (Err e) unit code part old new scans = tt
+
+pub goes_wrong : {X : Type 0} (r : Result X VcdFault) (unit : ℕ) (code : List ℕ) (part : List Word) (old new : Reading)
+    → ((s : Scan) → StandsAt unit s old → HasScanned code unit s part r new)
+    → IfErr r (λ e. (wire : Option (List ℕ)) (words : List Word) → HasReadWords wire words unit code old → StopsIn wire (words ++ part) e)
+goes_wrong (Ok x) unit code part old new scans = tt
+goes_wrong (Err e) unit code part old new scans = λ wire words h. stops_next wire words part unit code old e h (scans h.0 h.2)
 
 -- what follows from a fault follows with it
 pub if_err : {A : Type 0} {P Q : VcdFault → Type 0} (r : Result A VcdFault) → ((e : VcdFault) → P e → Q e) → IfErr r P → IfErr r Q
@@ -109,24 +74,14 @@ next_words wire words gone whole held bytes unit code kept old new same is reads
     subst (λ (k : List ℕ). HasReadWords wire (words ++ words_from gone false (take whole bytes)) unit k new) is
     (subst (λ (l : List ℕ). HasReadWords wire (words ++ words_from gone false (take whole l)) unit code new) same there)
 
-pub next_fault : (wire : Option (List ℕ)) (words more : List Word) (gone whole : ℕ) (held bytes : List ℕ) (unit : ℕ) (code kept : List ℕ) (old : Reading)
+-- the same of a fault
+pub next_fault : (wire : Option (List ℕ)) (words : List Word) (gone whole : ℕ) (held bytes : List ℕ) (unit : ℕ) (code kept : List ℕ) (old : Reading)
     (e : VcdFault) → held ≡ bytes → code ≡ kept
-    → ((words more : List Word) → HasReadWords wire words unit code old
-    → IsFaultOf e (read_words wire ((words ++ words_from gone false (take whole held)) ++ more)))
-    → HasReadWords wire words unit kept old → IsFaultOf e (read_words wire ((words ++ words_from gone false (take whole bytes)) ++ more))
-next_fault wire words more gone whole held bytes unit code kept old e same is fails h =
-    subst (λ (l : List ℕ). IsFaultOf e (read_words wire ((words ++ words_from gone false (take whole l)) ++ more))) same
-    (fails words more (subst (λ (k : List ℕ). HasReadWords wire words unit k old) (sym is) h))
-
-pub next_still : (wire : Option (List ℕ)) (words more : List Word) (gone whole : ℕ) (held bytes : List ℕ) (unit known : ℕ) (code kept : List ℕ) (old : Reading)
-    → ◌≡◌ {A = Option ℕ} (Some unit) (Some known) → held ≡ bytes → code ≡ kept
-    → ((words more : List Word) → HasReadWords wire words unit code old
-    → IsStill (read_words wire ((words ++ words_from gone false (take whole held)) ++ more)) → ⊥)
-    → HasReadWords wire words known kept old → IsStill (read_words wire ((words ++ words_from gone false (take whole bytes)) ++ more)) → ⊥
-next_still wire words more gone whole held bytes unit known code kept old one same is takes h still =
-    let that : unit ≡ known = cc one in
-    takes words more (subst (λ n. HasReadWords wire words n code old) (sym that) (subst (λ (k : List ℕ). HasReadWords wire words known k old) (sym is) h))
-    (subst (λ (l : List ℕ). IsStill (read_words wire ((words ++ words_from gone false (take whole l)) ++ more))) (sym same) still)
+    → ((words : List Word) → HasReadWords wire words unit code old → StopsIn wire (words ++ words_from gone false (take whole held)) e)
+    → HasReadWords wire words unit kept old → StopsIn wire (words ++ words_from gone false (take whole bytes)) e
+next_fault wire words gone whole held bytes unit code kept old e same is fails h =
+    subst (λ (l : List ℕ). StopsIn wire (words ++ words_from gone false (take whole l)) e) same
+    (fails words (subst (λ (k : List ℕ). HasReadWords wire words unit k old) (sym is) h))
 
 -- no word goes on after two parts
 outside_both : (x y : List ℕ) → ends_inside false x ≡ false → ends_inside false y ≡ false → ends_inside false (x ++ y) ≡ false
@@ -145,11 +100,6 @@ split front held more n =
     ap (λ (l : List ℕ). (front ++ l) ++ more) (sym (take-append-drop n held))
     ∙ (ap (λ (l : List ℕ). l ++ more) (sym (append_assoc front (take n held) (drop n held))) ∙ append_assoc (front ++ take n held) (drop n held) more)
 
--- a fault of the words is one of the dump
-pub dump_fault : (wire : Option (List ℕ)) (bytes : List ℕ) (e : VcdFault) → IsFaultOf e (read_words wire (words_of bytes)) → IsFaultOf e (dump_parts wire bytes)
-unfolding dump
-dump_fault wire bytes e h = no_dump wire bytes e (fails_behind e (read_words wire (words_of bytes)) (λ x. recorded x.0 x.1) h)
-
 -- the words of all bytes, as those that are read, those of the part that is read next, and others
 pub part_words : (front held more : List ℕ) (n gone : ℕ) → length front ≡ gone → ends_inside false front ≡ false → ends_inside false (take n held) ≡ false
     → words_of ((front ++ held) ++ more)
@@ -160,15 +110,114 @@ part_words front held more n gone place closed cut =
     ap words_of (split front held more n) ∙ (front_words x y (length x) refl (outside_both front (take n held) closed cut)
     ∙ ap (λ (l : List Word). l ++ words_from (length x) false y) (front_words front (take n held) gone place closed))
 
--- a fault of a part is one of the dump, whatever comes
-pub put_fault : (wire : Option (List ℕ)) (front held more : List ℕ) (n gone : ℕ) (e : VcdFault) → length front ≡ gone → ends_inside false front ≡ false
-    → ends_inside false (take n held) ≡ false
-    → ((m : List Word) → IsFaultOf e (read_words wire ((words_of front ++ words_from gone false (take n held)) ++ m)))
-    → IsFaultOf e (dump_parts wire ((front ++ held) ++ more))
-put_fault wire front held more n gone e place closed cut fails =
-    dump_fault wire ((front ++ held) ++ more) e
-    (subst (λ (l : List Word). IsFaultOf e (read_words wire l)) (sym (part_words front held more n gone place closed cut))
-    (fails (words_from (length (front ++ take n held)) false (drop n held ++ more))))
+-- what stops among words stops in all of them
+more_stops : (code : List ℕ) (unit : ℕ) (end : Scan × Option VcdFault) (more : List Word) (e : VcdFault) → end.1 ≡ Some e
+    → (after end (λ t. scan_words code unit t more)).1 ≡ Some e
+more_stops code unit (s, Some f) more e h = h
+more_stops code unit (s, None) more e h = absurd (cc h)
+
+more_edges : (code : List ℕ) (unit : ℕ) (end : Scan × Option VcdFault) (more : List Word) → EdgeBefore (micros_of unit end.0.last) end.0.changes
+    → HasEdge (after end (λ t. scan_words code unit t more)).0.changes
+more_edges code unit (s, Some f) more e = (e.at, e.high)
+more_edges code unit (s, None) more e = let k = edges_on code unit more s e in (k.at, k.high)
+
+ends_so : (unit : ℕ) (end : Scan × Option VcdFault) (e : VcdFault) → end.1 ≡ Some e → scan_ended unit end ≡ Err e
+ends_so unit end e h = rw h refl
+
+scans_all : (wire : Option (List ℕ)) (bytes : List ℕ) (words more : List Word) (unit : ℕ) (code : List ℕ) (end : Scan × Option VcdFault)
+    → words_of bytes ≡ words ++ more → ScansTo wire words unit code end
+    → ScansTo wire (words_of bytes) unit code (after end (λ t. scan_words code unit t more))
+scans_all wire bytes words more unit code end is h = rw is (
+  h.0 ++ more,
+  declared_more wire words h.0 more (unit, code) h.1,
+  scan-append code unit start h.0 more ∙ ap (λ x. after x (λ t. scan_words code unit t more)) h.2,
+)
+
+-- a dump, by the scan of its words
+scan_so : (wire : Option (List ℕ)) (bytes : List ℕ) (unit : ℕ) (code : List ℕ) (end : Scan × Option VcdFault)
+    → ScansTo wire (words_of bytes) unit code end → scan_of wire bytes ≡ Ok (unit, end)
+scan_so wire bytes unit code end h =
+    ap (λ r. r >>= λ b. pair_of b.0.0 (scan_words b.0.1 b.0.0 start b.1)) h.1 ∙ ap (λ x. Ok (unit, x)) h.2
+
+pub dump_scanned : (wire : Option (List ℕ)) (bytes : List ℕ) (unit : ℕ) (code : List ℕ) (end : Scan × Option VcdFault)
+    → ScansTo wire (words_of bytes) unit code end → dump wire bytes ≡ (scan_ended unit end >>= λ x. recorded x.0 x.1)
+unfolding dump
+dump_scanned wire bytes unit code end h = ap (λ r. (r >>= λ x. scan_ended x.0 x.1) >>= λ x. recorded x.0 x.1) (scan_so wire bytes unit code end h)
+
+-- what stops is a fault of the dump, whatever comes
+pub stops_dump : (wire : Option (List ℕ)) (bytes : List ℕ) (words more : List Word) (e : VcdFault) → words_of bytes ≡ words ++ more
+    → StopsIn wire words e → IsFaultOf e (dump_parts wire bytes)
+stops_dump wire bytes words more fault.OutOfMemory is h = tt
+stops_dump wire bytes words more e is h =
+    let all = scans_all wire bytes words more h.0 h.1 h.2 is h.3 in
+    no_dump wire bytes e (fails_now e (dump wire bytes) (dump_scanned wire bytes h.0 h.1 _ all
+    ∙ ap (λ r. r >>= λ x. recorded x.0 x.1) (ends_so h.0 _ e (more_stops h.1 h.0 h.2 more e h.4))))
+
+pub stops_at : (known : Option ℕ) (wire : Option (List ℕ)) (bytes : List ℕ) (words more : List Word) (e : VcdFault) → words_of bytes ≡ words ++ more
+    → StopsAt known wire words e → IsFaultOf e (dump_parts wire bytes)
+stops_at (Some unit) wire bytes words more e is h = stops_dump wire bytes words more e is h
+stops_at None wire bytes words more e is (inl h) = stops_dump wire bytes words more e is h
+stops_at None wire bytes words more e is (inr h) = rw h.0 tt
+
+-- the changes before the first fault, by the scan of the words
+pub before_scanned : (wire : Option (List ℕ)) (bytes : List ℕ) (unit : ℕ) (code : List ℕ) (end : Scan × Option VcdFault)
+    → ScansTo wire (words_of bytes) unit code end → changes_before wire bytes ≡ end.0.changes
+before_scanned wire bytes unit code end h = ap (λ r. (scanned r).changes) (scan_so wire bytes unit code end h)
+
+-- memory for an edge
+pub edge_dump : (wire : Option (List ℕ)) (bytes : List ℕ) (words more : List Word) → words_of bytes ≡ words ++ more
+    → StopsIn wire words fault.OutOfMemory → HasEdge (changes_before wire bytes)
+edge_dump wire bytes words more is h =
+    let all = scans_all wire bytes words more h.0 h.1 h.2 is h.3 in
+    subst HasEdge (sym (before_scanned wire bytes h.0 h.1 _ all)) (more_edges h.1 h.0 h.2 more h.4)
+
+-- memory for an edge or the code
+pub memory_at : (known : Option ℕ) (wire : Option (List ℕ)) (bytes front rest : List ℕ) (more : List Word) → bytes ≡ front ++ rest
+    → (ends_inside false front ≡ false) ⊎ (rest ≡ []) → words_of bytes ≡ words_of front ++ more → StopsAt known wire (words_of front) fault.OutOfMemory → TakesMemory wire known bytes
+memory_at (Some unit) wire bytes front rest more whole outside is h = inl (edge_dump wire bytes (words_of front) more is h)
+memory_at None wire bytes front rest more whole outside is (inl h) = inl (edge_dump wire bytes (words_of front) more is h)
+memory_at None wire bytes front rest more whole outside is (inr h) =
+    inr (record { front = front; rest = rest; whole = whole; outside = outside; unit = h.1; code = h.2; s = h.3; read = h.4; kept = inl refl })
+
+-- memory for a journal
+pub memory_journal : (known : Option ℕ) (wire : Option (List ℕ)) (bytes front rest : List ℕ) (unit top : ℕ) (code : List ℕ) (r : Reading)
+    → bytes ≡ front ++ rest → (ends_inside false front ≡ false) ⊎ (rest ≡ []) → HasReadWords wire (words_of front) unit code r → (so_far (place_view r.journals.first) r.pending top ≢ None)
+    → TakesMemory wire known bytes
+memory_journal known wire bytes front rest unit top code r whole outside h some = inr (record {
+  front = front;
+  rest = rest;
+  whole = whole;
+  outside = outside;
+  unit = unit;
+  code = code;
+  s = h.0;
+  read = h.1;
+  kept = inr (top, λ none. some (so_far_is h.0 r.journals r.pending top h.2.keeps ∙ none));
+})
+
+-- the bytes that are read with the next part, and those that are left
+pub record Next (wire : Option (List ℕ)) (bytes : List ℕ) (r : Progress) (n : ℕ) (front : List ℕ) : Type 0 where
+  pub bytes_so : bytes ≡ (front ++ take n r.held.items) ++ drop n r.held.items
+  pub closed : ends_inside false (front ++ take n r.held.items) ≡ false
+  pub words_so : words_of (front ++ take n r.held.items) ≡ words_of front ++ words_from r.gone false (take n r.held.items)
+  pub more : List Word
+  pub all : words_of bytes ≡ words_of (front ++ take n r.held.items) ++ more
+
+pub next_bytes : (wire : Option (List ℕ)) (bytes : List ℕ) (r : Progress) (n : ℕ) → ends_inside false (take n r.held.items) ≡ false
+    → (h : HasRead wire bytes r) → Next wire bytes r n h.front
+next_bytes wire bytes r n cut h =
+    let part = take n r.held.items in
+    let left = drop n r.held.items in
+    let front = h.front ++ part in
+    let whole : bytes ≡ front ++ left = h.whole ∙ (ap (λ (l : List ℕ). h.front ++ l) (sym (take-append-drop n r.held.items))
+    ∙ sym (append_assoc h.front part left)) in
+    record {
+      bytes_so = whole;
+      closed = outside_both h.front part h.closed cut;
+      words_so = front_words h.front part r.gone h.place h.closed;
+      more = words_from (length front) false left;
+      all = ap words_of whole ∙ front_words front left (length front) refl (outside_both h.front part h.closed cut);
+    }
 
 -- the bytes that are gathered are those of the part as it was before it was read
 pub gathers_same : (old mid : Progress) (place : ℕ → Option (ℕ × ℕ)) (n : ℕ) → mid.held ≡ old.held → mid.gone ≡ old.gone → mid.journal ≡ old.journal
@@ -223,19 +272,21 @@ put_read wire bytes old mid new n unit within cut mheld mgone mwire nheld ngone 
     }
 
 -- what the dump is, after all words are read
-pub dump_kept : (wire : Option (List ℕ)) (bytes : List ℕ) (changes : List Change) (end : ℕ) → read_words wire (words_of bytes ++ []) ≡ Ok (changes, end)
-    → dump wire bytes ≡ recorded changes end
-unfolding dump
-dump_kept wire bytes changes end h = ap (λ r. r >>= λ x. recorded x.0 x.1) (ap (read_words wire) (sym (append-nil (words_of bytes))) ∙ h)
+pub dump_kept : (wire : Option (List ℕ)) (bytes : List ℕ) (unit : ℕ) (code : List ℕ) (r : Reading) (changes : List Change) (end : ℕ)
+    → (h : HasReadWords wire (words_of bytes) unit code r) → scan_ended unit (h.0, None) ≡ Ok (changes, end) → dump wire bytes ≡ recorded changes end
+dump_kept wire bytes unit code r changes end h is =
+    dump_scanned wire bytes unit code (h.0, None) h.1 ∙ ap (λ r. r >>= λ x. recorded x.0 x.1) is
 
-pub end_fault : (wire : Option (List ℕ)) (bytes : List ℕ) (e : VcdFault) → IsFaultOf e (read_words wire (words_of bytes ++ []))
-    → IsFaultOf e (dump_parts wire bytes)
-end_fault wire bytes e h = dump_fault wire bytes e (subst (λ (l : List Word). IsFaultOf e (read_words wire l)) (append-nil (words_of bytes)) h)
+pub end_fault : (wire : Option (List ℕ)) (bytes : List ℕ) (unit : ℕ) (code : List ℕ) (r : Reading) (e : VcdFault)
+    → (h : HasReadWords wire (words_of bytes) unit code r) → IsFaultOf e (scan_ended unit (h.0, None)) → IsFaultOf e (dump_parts wire bytes)
+end_fault wire bytes unit code r fault.OutOfMemory h is = tt
+end_fault wire bytes unit code r e h is =
+    no_dump wire bytes e (fails_now e (dump wire bytes) (dump_scanned wire bytes unit code (h.0, None) h.1 ∙ ap (λ r. r >>= λ x. recorded x.0 x.1) is))
 
 -- the journals of the dump, after all words are read
-pub told_in : (bytes : List ℕ) → told_words (words_of bytes ++ []) ≡ journals_in bytes
-unfolding journals_in
-told_in bytes = ap told_words (append-nil (words_of bytes))
+pub told_in : (wire : Option (List ℕ)) (bytes : List ℕ) (unit : ℕ) (code : List ℕ) (r : Reading) → (h : HasReadWords wire (words_of bytes) unit code r)
+    → h.0.journals ≡ (scanned (scan_of wire bytes)).journals
+told_in wire bytes unit code r h = sym (ap (λ r. (scanned r).journals) (scan_so wire bytes unit code (h.0, None) h.1))
 
 -- the words of all bytes
 pub all_words : (wire : Option (List ℕ)) (bytes : List ℕ) (s : Progress) (whole : ℕ) → take whole s.held.items ≡ s.held.items → HasRead wire bytes s
@@ -245,14 +296,13 @@ all_words wire bytes s whole all h r =
     ∙ ap (λ (l : List ℕ). words_of r.front ++ words_from s.gone false l) (sym all))
 
 pub last_fault : (wire : Option (List ℕ)) (bytes : List ℕ) (s : Progress) (whole : ℕ) (e : VcdFault) → take whole s.held.items ≡ s.held.items
-    → ((words more : List Word) → Stage (bytes_of s.wire) words s.unit s.code.items s.reading → (s.unit ≡ None → s.gone ≡ 0)
-    → IsFaultOf e (read_words (bytes_of s.wire) ((words ++ words_from s.gone false (take whole s.held.items)) ++ more)))
-    → HasRead wire bytes s → IsFaultOf e (dump_parts wire bytes)
+    → ((words : List Word) → Stage (bytes_of s.wire) words s.unit s.code.items s.reading → (s.unit ≡ None → s.gone ≡ 0)
+    → StopsAt s.unit (bytes_of s.wire) (words ++ words_from s.gone false (take whole s.held.items)) e)
+    → HasRead wire bytes s → StopsAt s.unit wire (words_of bytes) e
 last_fault wire bytes s whole e all fails r =
     let stage = subst (λ (w : Option (List ℕ)). Stage w (words_of r.front) s.unit s.code.items s.reading) (sym r.name) r.stage in
-    end_fault wire bytes e (subst (λ (w : Option (List ℕ)). IsFaultOf e (read_words w (words_of bytes ++ []))) r.name
-    (subst (λ (l : List Word). IsFaultOf e (read_words (bytes_of s.wire) (l ++ []))) (sym (all_words wire bytes s whole all r r))
-    (fails (words_of r.front) [] stage r.none)))
+    subst (λ (w : Option (List ℕ)). StopsAt s.unit w (words_of bytes) e) r.name
+    (subst (λ (l : List Word). StopsAt s.unit (bytes_of s.wire) l e) (sym (all_words wire bytes s whole all r r)) (fails (words_of r.front) stage r.none))
 
 pub last_read : (wire : Option (List ℕ)) (bytes : List ℕ) (s : Progress) (whole unit : ℕ) (code : List ℕ) (reading : Reading)
     → take whole s.held.items ≡ s.held.items
@@ -284,12 +334,10 @@ last_gathered wire bytes s whole unit code journal reading long all is reads r =
 -- the declarations of all bytes are at fault
 pub last_early : (wire : Option (List ℕ)) (bytes : List ℕ) (s : Progress) (whole : ℕ) (e : VcdFault) → take whole s.held.items ≡ s.held.items
     → s.unit ≡ None → declarations_of (bytes_of s.wire) (words_of (take whole s.held.items)) ≡ Err e
-    → HasRead wire bytes s → IsFaultOf e (dump_parts wire bytes)
+    → HasRead wire bytes s → declarations_of wire (words_of bytes) ≡ Err e
 last_early wire bytes s whole e all none h r =
     let stage = subst (λ (u : Option ℕ). Stage wire (words_of r.front) u s.code.items s.reading) none r.stage in
     let words : words_of bytes ≡ words_of (take whole s.held.items) =
     all_words wire bytes s whole all r r ∙ (ap (λ (l : List Word). l ++ words_from s.gone false (take whole s.held.items)) stage.0
     ∙ ap (λ n. words_from n false (take whole s.held.items)) (r.none none)) in
-    let says : declarations_of wire (words_of bytes) ≡ Err e = ap (declarations_of wire) words
-    ∙ (ap (λ w. declarations_of w (words_of (take whole s.held.items))) (sym r.name) ∙ h) in
-    dump_fault wire bytes e (fails_now e (read_words wire (words_of bytes)) (ap (λ r. r >>= λ x. changes_from any_word x.0.1 x.0.0 0 x.1) says))
+    ap (declarations_of wire) words ∙ (ap (λ w. declarations_of w (words_of (take whole s.held.items))) (sym r.name) ∙ h)

@@ -1,29 +1,28 @@
 -- A rise and a fall in one step.
 use Rattle.std.proofs.Common.{◌≡◌, ◌<◌, ◌≤◌, ◌+◌, ◌-◌, cond, ◌++◌, ◌∷◌, [], ℕ, Bool, true, false, List, length, drop, take, get_or, ◌/◌, ◌%◌, ◌^◌}
-use Rattle.std.proofs.Common.{Some, map, refl, ap, sym, subst, ◌∙◌, arith, append_assoc}
+use Rattle.std.proofs.Common.{Some, Ok, map, refl, ap, sym, subst, ◌∙◌, arith, append_assoc}
 use Rattle.std.specs.List.{list_all}
 use Rattle.std.proofs.lemmas.List.{length-append}
-use Rattle.irig_vcd.specs.Changes.{changes_from, with_level}
-use Rattle.irig_vcd.specs.Code.Along.{behind, read_on, Along, HasFallen, SameJournals, TakesEdge, Total, at_micros}
-use Rattle.irig_vcd.specs.Code.Event.{is_hash}
+use Rattle.irig_vcd.specs.Answer.{◌>>=◌}
+use Rattle.irig_vcd.specs.Code.Along.{HasFallen, TakesEdge, at_micros}
 use Rattle.irig_vcd.specs.Code.Part.{moved}
+use Rattle.irig_vcd.specs.Code.Scanned.{IsTraced, Passes}
 use Rattle.irig_vcd.specs.Code.Time.{units_of, IsTime}
 use Rattle.irig_vcd.specs.Code.Trace.{Follows}
 use Rattle.irig_recording.specs.Edges.{edges_kept}
 use Rattle.irig_vcd.specs.Digits.{is_digit, number_from}
-use Rattle.irig_vcd.specs.Events.{any_word}
-use Rattle.irig_vcd.specs.Level.{Change}
+use Rattle.irig_vcd.specs.Level.{Change, change}
+use Rattle.irig_vcd.specs.Scan.{Scan, closed, given, scan_words}
 use Rattle.irig_vcd.specs.Times.{micros_of}
-use Rattle.irig_vcd.specs.Words.{Word, words_from, before_space, is_space, is_code, kind_of_byte, hash, scalar}
+use Rattle.irig_vcd.specs.Words.{Word, words_from, before_space, is_space, is_code, kind_of_byte, hash, scalar, rest_of}
 use Rattle.irig_vcd.specs.declared.pulses.Edge.{Edge}
 use Rattle.irig_vcd.specs.declared.time.Clock.{Clock}
 use Rattle.irig_vcd.specs.declared.trace.Trace.{Trace}
-use Rattle.irig_vcd.proofs.ChangeSteps.{on_time, on_level, one_change}
 use Rattle.irig_vcd.proofs.Clocks.{micros_fine}
 use Rattle.irig_vcd.proofs.CodeRuns.{bit_level, bit_word}
 use Rattle.irig_vcd.proofs.DigitRuns.{hash_word}
-use Rattle.irig_vcd.proofs.JournalWords.{past_time, past_level}
 use Rattle.irig_vcd.proofs.Levels.{advanced, changed, kept_more}
+use Rattle.irig_vcd.proofs.ScanSteps.{one_word, own}
 use Rattle.irig_vcd.proofs.Runs.{opened, newline, behind_newline}
 use Rattle.irig_vcd.proofs.TimeLemmas.{units_cut, shown_time, fine_time, rest_low, later_read}
 
@@ -53,71 +52,71 @@ pulse_put cs old new rise fall fallen room first second added time before now h 
 abbrev pub words_here : ℕ → List ℕ → ℕ → List Word
 words_here base s at = map (moved base) (words_from at false (drop at s))
 
-edge_words : (base code unit : ℕ) (s : List ℕ) (at : ℕ) (high : Bool) (e : Edge) (more : List Word) → (k : TakesEdge s at high code unit e)
-    → words_here base s at ++ more ≡ moved base k.sign ∷ moved base k.level ∷ (words_here base s e.end ++ more)
-edge_words base code unit s at high e more k = ap (λ (l : List Word). map (moved base) l ++ more) k.left
-
 -- an edge is two words
-on_edge : (base code unit : ℕ) (last : Clock) (s : List ℕ) (at : ℕ) (high : Bool) (e : Edge) (more : List Word)
-    → unit ≤ 9 → TakesEdge s at high code unit e → IsTime unit last → last.whole < e.time.whole → e.time.whole ≤ 1099511627776
-    → changes_from any_word (code ∷ []) unit (units_of unit last) (words_here base s at ++ more)
-    ≡ with_level (Some high) e.time.whole (changes_from any_word (code ∷ []) unit (units_of unit e.time) (words_here base s e.end ++ more))
-on_edge base code unit last s at high e more fine k was lt top =
-    let ws = words_here base s e.end ++ more in
+on_edge : (base code unit : ℕ) (last : Clock) (s : List ℕ) (at : ℕ) (high : Bool) (e : Edge) (from : Scan)
+    → unit ≤ 9 → TakesEdge s at high code unit e → IsTime unit last → units_of unit last ≡ from.last → from.opened ≡ closed
+    → last.whole < e.time.whole → e.time.whole ≤ 1099511627776
+    → scan_words (code ∷ []) unit from (words_here base s at)
+    ≡ scan_words (code ∷ []) unit (record from { last = units_of unit e.time; changes = from.changes ++ change e.time.whole high ∷ []; opened = closed })
+    (words_here base s e.end)
+on_edge base code unit last s at high e from fine k was is none lt top =
+    let ws = words_here base s e.end in
     let now = units_of unit e.time in
+    let sign = moved base k.sign in
+    let level = moved base k.level in
+    let mid : Scan = record from { last = now } in
     let time = fine_time unit e.time fine top k.rest in
-    let a = on_time (code ∷ []) unit (units_of unit last) (words_here base s at ++ more) (moved base k.sign) (moved base k.level ∷ ws) now
-    (edge_words base code unit s at high e more k) (ap is_hash k.is_hash)
-    (later_read unit last e.time _ (base + k.sign.offset) (shown_time unit _ e.time top k.rest k.digits k.value) was time lt) in
-    let b = on_level (code ∷ []) unit now (moved base k.level ∷ ws) (moved base k.level) ws ws (Some high) refl (ap is_hash k.is_scalar)
-    (bit_level high (code ∷ []) (moved base k.level) ws (omega arith) k.is_scalar k.bytes) in
-    a ∙ (b ∙ ap (λ t. with_level (Some high) t (changes_from any_word (code ∷ []) unit now ws)) (micros_fine unit e.time fine time))
+    let read = later_read unit last e.time (rest_of k.sign.bytes) (base + k.sign.offset) (shown_time unit (rest_of k.sign.bytes) e.time top k.rest k.digits k.value) was time lt in
+    let one = own (code ∷ []) unit from sign hash none k.is_hash ∙ rw (sym is, read) refl in
+    let two = own (code ∷ []) unit mid level scalar none k.is_scalar
+    ∙ ap (λ r. r >>= λ l. Ok (given unit mid l)) (bit_level high (code ∷ []) level (omega arith) k.bytes) in
+    ap (λ (l : List Word). scan_words (code ∷ []) unit from (map (moved base) l)) k.left
+    ∙ (one_word (code ∷ []) unit from mid sign (level ∷ ws) one ∙ (one_word (code ∷ []) unit mid (given unit mid (Some high)) level ws two
+    ∙ ap (λ t. scan_words (code ∷ []) unit (record from { last = now; changes = from.changes ++ change t high ∷ []; opened = closed }) ws)
+    (micros_fine unit e.time fine time)))
 
 pub fewer_left : (base : ℕ) (s : List ℕ) (at : ℕ) (high : Bool) (code unit : ℕ) (e : Edge) → TakesEdge s at high code unit e
     → length (words_here base s e.end) ≤ length (words_here base s at)
 fewer_left base s at high code unit e k = let long = ap (λ (l : List Word). length (map (moved base) l)) k.left in omega (arith, long)
 
--- an edge is no journal
-pub past_edge : (base : ℕ) (s : List ℕ) (at : ℕ) (high : Bool) (code unit : ℕ) (e : Edge) → TakesEdge s at high code unit e
-    → SameJournals (words_here base s at) (words_here base s e.end)
-past_edge base s at high code unit e k = λ more.
-    let ws = words_here base s e.end ++ more in
-    past_time (words_here base s at ++ more) (moved base k.sign) (moved base k.level ∷ ws) (edge_words base code unit s at high e more k) (ap is_hash k.is_hash)
-    ∙ past_level (moved base k.level ∷ ws) (moved base k.level) ws refl k.is_scalar
-
 -- reading continues by a pulse
-pub along_pulse : (base code unit : ℕ) (from : Clock) (total : Total) (old new : Trace) (s : List ℕ) (at : ℕ) (rise fall : Edge)
+pub passes_pulse : (base code unit : ℕ) (from : Clock) (old new : Trace) (s : List ℕ) (at : ℕ) (rise fall : Edge) (was : Scan)
     → unit ≤ 9 → TakesEdge s at true code unit rise → TakesEdge s rise.end false code unit fall
     → from.whole < rise.time.whole → rise.time.whole < fall.time.whole → fall.time.whole ≤ 1099511627776
     → ((changes : List Change) → Follows changes old
     → Follows (changes ++ record { time = rise.time.whole; high = true } ∷ record { time = fall.time.whole; high = false } ∷ []) new)
-    → new.time ≡ fall.time.whole
-    → Along (code ∷ []) unit total old from (words_here base s at)
-    → Along (code ∷ []) unit total new fall.time (words_here base s fall.end)
-along_pulse base code unit from total old new s at rise fall fine up down first second top follows time is =
-    let before = is.0 in
-    let i = is.1 in
+    → new.time ≡ fall.time.whole → was.opened ≡ closed → IsTraced unit was old from
+    → Passes (code ∷ []) unit was (words_here base s at) new fall.time (words_here base s fall.end)
+passes_pulse base code unit from old new s at rise fall was fine up down first second top follows time none is =
     let high : Change = record { time = rise.time.whole; high = true } in
     let low : Change = record { time = fall.time.whole; high = false } in
     let risen = fine_time unit rise.time fine (omega (arith, second, top)) up.rest in
     let fallen = fine_time unit fall.time fine top down.rest in
-    let two : (more : List Word) → read_on any_word ((before ++ high ∷ []) ++ low ∷ []) (code ∷ []) unit (units_of unit fall.time)
-    (words_here base s fall.end) more ≡ total more = λ more.
-    let k = on_edge base code unit from s at true rise more fine up i.time first (omega (arith, second, top)) in
-    let j = on_edge base code unit rise.time s rise.end false fall more fine down risen second top in
-    let left = changes_from any_word (code ∷ []) unit (units_of unit fall.time) (words_here base s fall.end ++ more) in
-    let one : behind before (with_level (Some true) rise.time.whole (with_level (Some false) fall.time.whole left)) ≡ total more =
-    ap (λ r. behind before (with_level (Some true) rise.time.whole r)) (sym j) ∙ (ap (behind before) (sym k) ∙ i.rest more) in
-    sym (one_change (before ++ high ∷ []) fall.time.whole false left)
-    ∙ (sym (one_change before rise.time.whole true (with_level (Some false) fall.time.whole left)) ∙ one) in (
-      before ++ high ∷ low ∷ [],
-      record {
+    let mid : Scan = record was { last = units_of unit rise.time; changes = was.changes ++ high ∷ []; opened = closed } in
+    record {
+      now = record was { last = units_of unit fall.time; changes = (was.changes ++ high ∷ []) ++ low ∷ []; opened = closed };
+      same = on_edge base code unit from s at true rise was fine up is.time is.last none first (omega (arith, second, top))
+          ∙ on_edge base code unit rise.time s rise.end false fall mid fine down risen refl refl second top;
+      traced = record {
         time = fallen;
         late = rw (micros_fine unit fall.time fine fallen) (omega (arith, time));
-        follows = follows before i.follows;
-        rest = rw (sym (append_assoc before (high ∷ []) (low ∷ []))) two;
-      },
-    )
+        last = refl;
+        follows = rw (append_assoc was.changes (high ∷ []) (low ∷ [])) (follows was.changes is.follows);
+      };
+      journals = refl;
+      opened = sym none;
+    }
+
+-- words that are passed, and others after them
+pub passes_then : (code : List ℕ) (unit : ℕ) (s : Scan) (words ws rest : List Word) (t u : Trace) (c d : Clock) → (p : Passes code unit s words t c ws)
+    → Passes code unit p.now ws u d rest → Passes code unit s words u d rest
+passes_then code unit s words ws rest t u c d p q = record {
+  now = q.now;
+  same = p.same ∙ q.same;
+  traced = q.traced;
+  journals = q.journals ∙ p.journals;
+  opened = q.opened ∙ p.opened;
+}
 
 bit_dark : (high : Bool) → is_space (cond high 49 48) ≡ false
 bit_dark true = refl
@@ -174,23 +173,21 @@ one_byte (x ∷ []) one = refl
 pub whole_9 : (c : Clock) → IsTime 9 c → c ≡ at_micros c.whole
 whole_9 c h = let none : c.rest ≡ 0 = omega (arith, h.rest) in λ i. record { whole = c.whole; rest = none i }
 
-pub along_micros : (code : List ℕ) (total : Total) (t : Trace) (c : Clock) (ws : List Word)
-    → Along code 9 total t c ws → Along code 9 total t (at_micros c.whole) ws
-along_micros code total t c ws is = subst (λ (d : Clock). Along code 9 total t d ws) (whole_9 c is.1.time) is
+pub traced_micros : (s : Scan) (t : Trace) (c : Clock) → IsTraced 9 s t c → IsTraced 9 s t (at_micros c.whole)
+traced_micros s t c is = subst (λ (d : Clock). IsTraced 9 s t d) (whole_9 c is.time) is
 
--- a step in microseconds is one in the unit
-pub step_micros : (code : List ℕ) (unit : ℕ) (c : Clock) (whole : ℕ) (total : Total) (old new : Trace) (ws vs : List Word)
-    → unit ≡ 9
-    → (Along code 9 total old (at_micros c.whole) ws → Along code 9 total new (at_micros whole) vs)
-    → Along code unit total old c ws → Along code unit total new (at_micros whole) vs
-step_micros code unit c whole total old new ws vs is go along =
-    let there : Along code 9 total old c ws = subst (λ (u : ℕ). Along code u total old c ws) is along in
-    subst (λ (u : ℕ). Along code u total new (at_micros whole) vs) (sym is) (go (along_micros code total old c ws there))
+-- words that are passed in microseconds are passed in the unit
+pub step_micros : (code : List ℕ) (unit : ℕ) (c : Clock) (whole : ℕ) (s : Scan) (old new : Trace) (ws vs : List Word)
+    → unit ≡ 9 → (IsTraced 9 s old (at_micros c.whole) → Passes code 9 s ws new (at_micros whole) vs)
+    → IsTraced unit s old c → Passes code unit s ws new (at_micros whole) vs
+step_micros code unit c whole s old new ws vs is go traced =
+    subst (λ (u : ℕ). Passes code u s ws new (at_micros whole) vs) (sym is)
+    (go (traced_micros s old c (subst (λ (u : ℕ). IsTraced u s old c) is traced)))
 
 -- and the other way
-pub micros_step : (code : List ℕ) (unit : ℕ) (c d : Clock) (total : Total) (old new : Trace) (ws vs : List Word)
-    → unit ≡ 9
-    → (Along code unit total old c ws → Along code unit total new d vs)
-    → Along code 9 total old c ws → Along code 9 total new (at_micros d.whole) vs
-micros_step code unit c d total old new ws vs is go along =
-    along_micros code total new d vs (subst (λ (u : ℕ). Along code u total new d vs) is (go (subst (λ (u : ℕ). Along code u total old c ws) (sym is) along)))
+pub micros_step : (code : List ℕ) (unit : ℕ) (c d : Clock) (s : Scan) (old new : Trace) (ws vs : List Word)
+    → unit ≡ 9 → (IsTraced unit s old c → Passes code unit s ws new d vs)
+    → IsTraced 9 s old c → Passes code 9 s ws new (at_micros d.whole) vs
+micros_step code unit c d s old new ws vs is go traced =
+    let p = subst (λ (u : ℕ). Passes code u s ws new d vs) is (go (subst (λ (u : ℕ). IsTraced u s old c) (sym is) traced)) in
+    record { now = p.now; same = p.same; traced = traced_micros p.now new d p.traced; journals = p.journals; opened = p.opened }

@@ -14,6 +14,7 @@ pub mod Joins
 pub mod Pending
 pub mod Trace
 pub mod Along
+pub mod Scanned
 pub mod Reached
 pub mod Part
 pub mod Gathered

@@ -10,9 +10,8 @@ pub mod Declarations
 pub mod Level
 pub mod Times
 pub mod Values
-pub mod Events
-pub mod Changes
-pub mod Dump
 pub mod Journals
+pub mod Scan
+pub mod Dump
 pub mod Parts
 pub mod Code

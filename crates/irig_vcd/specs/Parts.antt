@@ -1,8 +1,7 @@
 -- What a dump says of a wire, and the journal that it carries. This project's own.
 use Rattle.std.specs.Prelude.{ℕ, List, [], ◌∷◌, Option, Some, None, Result, Ok, Err}
 use Rattle.irig_vcd.specs.Answer.{◌>>=◌, name_of, pair_of}
-use Rattle.irig_vcd.specs.Dump.{dump}
-use Rattle.irig_vcd.specs.Journals.{journals_of}
+use Rattle.irig_vcd.specs.Dump.{dump, journals_of}
 use Rattle.irig_recording.specs.Recording.{RecordingView}
 use Rattle.irig_vcd.specs.declared.fault.VcdFault.{VcdFault}
 use Rattle.irig_vcd.specs.declared.fault.VcdFault.TheVariants.{BadJournal}
@@ -20,7 +19,7 @@ unfoldable pub dump_parts : Option (List ℕ) → List ℕ
     → Result (RecordingView × Option (List ℕ)) VcdFault
 dump_parts wire bytes = do
   recording ← dump wire bytes
-  journal ← one_journal (journals_of bytes)
+  journal ← one_journal (journals_of wire bytes)
   pair_of recording journal
 
 -- a recording, and the text of a journal without where it lies in memory

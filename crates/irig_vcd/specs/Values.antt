@@ -3,7 +3,7 @@
 use Rattle.std.specs.Prelude.{◌-◌, ◌==◌, ℕ, Bool, not, List, [], ◌∷◌, length, slice_index}
 use Rattle.std.specs.Prelude.{Option, Some, None, Result, Ok, Err, if◌then◌else◌, nat_lt}
 use Rattle.std.specs.Str.{bytes_eq}
-use Rattle.irig_vcd.specs.Words.{Word, is_value, rest_of}
+use Rattle.irig_vcd.specs.Words.{Word, WordKind, vector, is_value, rest_of}
 use Rattle.irig_vcd.specs.declared.fault.VcdFault.{VcdFault}
 use Rattle.irig_vcd.specs.declared.fault.VcdFault.TheVariants.{BadToken}
 
@@ -36,3 +36,8 @@ vector_level code w behind =
     if not (bytes_eq behind code) then Ok None
     else (if nat_lt (length w.bytes) 2 then Err (BadToken w.offset)
     else value_level w.offset (slice_index w.bytes (length w.bytes - 1)))
+
+-- a value and the word after it, its code: real and text values say nothing
+abbrev pub level_by : WordKind → List ℕ → Word → List ℕ → Result (Option Bool) VcdFault
+level_by vector code w behind = vector_level code w behind
+level_by _ code w behind = Ok None

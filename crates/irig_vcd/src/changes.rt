@@ -1,19 +1,18 @@
 //! The changes of a wire.
 
-ghost use Rattle.std.specs.Prelude.{◌≡◌, ◌≤◌, ◌^◌, ◌∷◌, [], List, Err};
-ghost use Rattle.std.specs.Prelude.{length, IfOk, IfErr, OnOk};
+ghost use Rattle.std.specs.Prelude.{◌≡◌, ◌≤◌, ◌^◌, ◌∷◌, [], Option, None, Err};
+ghost use Rattle.std.specs.Prelude.{length, IfOk, OnOk};
+ghost use Rattle.irig_vcd.specs.Level.{HasEdge};
 ghost use Rattle.irig_vcd.specs.Code.Token.{kind_view, word_of};
-ghost use Rattle.irig_vcd.specs.Answer.{IsFaultOf};
-ghost use Rattle.irig_vcd.specs.Words.{Word, rest_of};
-ghost use Rattle.irig_vcd.specs.Changes.{changes_from, IsStill};
+ghost use Rattle.irig_vcd.specs.Words.{rest_of};
 ghost use Rattle.irig_vcd.specs.Code.Event.{is_hash};
 ghost use Rattle.irig_vcd.specs.Code.Trace.{KeepsEdges};
-ghost use Rattle.irig_vcd.specs.Code.Along.{Total};
-ghost use Rattle.irig_vcd.specs.Code.Reached.{IsOn, ReachedBy, ReachedFrom, Told};
+ghost use Rattle.irig_vcd.specs.Code.Reached.{IsOn};
+ghost use Rattle.irig_vcd.specs.Code.Scanned.{IsAt, Leads, Scans};
+ghost use Rattle.irig_vcd.specs.Scan.{Scan, scan_ended, scan_words, start};
+ghost use Rattle.irig_vcd.specs.declared.fault.VcdFault.{VcdFault};
 ghost use Rattle.irig_vcd.specs.declared.fault.VcdFault.TheVariants.{OutOfMemory};
 ghost use Rattle.irig_vcd.specs.Code.Journals.{Holds};
-ghost use Rattle.irig_vcd.specs.Events.{any_word};
-ghost use Rattle.irig_vcd.specs.Journals.{journals_among};
 
 use crate::event::{take_level, take_open};
 use crate::fault::VcdFault;
@@ -60,19 +59,12 @@ fn take(
 ) -> Result<Clock, VcdFault>
     requires time { IsOn unit trace.old clock }
     ensures time { IfOk result (λ now. IsOn unit trace.new now) }
-    ensures reached { IfOk result (λ now. (total : Total) (told : Told)
-        → ReachedBy code.now unit total told trace.old clock journals.old pending.old
+    ensures scans { (end : Scan × Option VcdFault)
+        → Leads code.now unit end trace.old clock journals.old pending.old
         (word_of token.entry ∷ tokens.old)
-        → ReachedBy code.now unit total told trace.new now journals.new pending.new tokens.new) }
+        → Scans unit end result
+        (λ now. Leads code.now unit end trace.new now journals.new pending.new tokens.new) }
     ensures fewer { length tokens.new ≤ length tokens.old }
-    ensures fault { IfErr result (λ e. (total : Total) (told : Told) (more : List Word)
-        → ReachedBy code.now unit total told trace.old clock journals.old pending.old
-        (word_of token.entry ∷ tokens.old)
-        → IsFaultOf e (total more)) }
-    ensures memory { result ≡ Err OutOfMemory → (total : Total) (told : Told) (more : List Word)
-        → ReachedBy code.now unit total told trace.old clock journals.old pending.old
-        (word_of token.entry ∷ tokens.old)
-        → IsStill (total more) → ⊥ }
 {
     if is_hash(token.kind) {
         return time(unit, clock, digits_of(token.slice), token.offset);
@@ -95,17 +87,11 @@ fn resume(
 ) -> Result<(), VcdFault>
     requires time { IsOn unit trace.old clock }
     ensures time { OnOk result (IsOn unit trace.new clock) }
-    ensures reached { OnOk result ((total : Total) (told : Told)
-        → ReachedFrom code.now unit total told trace.old clock journals.old pending.old tokens.old
-        → ReachedBy code.now unit total told trace.new clock journals.new pending.new
-        tokens.new) }
+    ensures scans { (s : Scan) → IsAt unit s trace.old clock journals.old pending.old
+        → Scans unit (scan_words code.now unit s tokens.old) result
+        (λ _. Leads code.now unit (scan_words code.now unit s tokens.old) trace.new clock
+        journals.new pending.new tokens.new) }
     ensures fewer { length tokens.new ≤ length tokens.old }
-    ensures fault { IfErr result (λ e. (total : Total) (told : Told) (more : List Word)
-        → ReachedFrom code.now unit total told trace.old clock journals.old pending.old tokens.old
-        → IsFaultOf e (total more)) }
-    ensures memory { result ≡ Err OutOfMemory → (total : Total) (told : Told) (more : List Word)
-        → ReachedFrom code.now unit total told trace.old clock journals.old pending.old tokens.old
-        → IsStill (total more) → ⊥ }
 {
     if let Some(high) = take_open(code, tokens, journals, pending)? {
         trace.put(micros(unit, clock), high)?;
@@ -135,15 +121,10 @@ pub fn follow(
 ) -> Result<Clock, VcdFault>
     requires time { IsOn unit trace.old from }
     ensures time { IfOk result (λ now. IsOn unit trace.new now) }
-    ensures reached { IfOk result (λ now. (total : Total) (told : Told)
-        → ReachedFrom code.now unit total told trace.old from journals.old pending.old tokens.old
-        → ReachedBy code.now unit total told trace.new now journals.new pending.new []) }
-    ensures fault { IfErr result (λ e. (total : Total) (told : Told) (more : List Word)
-        → ReachedFrom code.now unit total told trace.old from journals.old pending.old tokens.old
-        → IsFaultOf e (total more)) }
-    ensures memory { result ≡ Err OutOfMemory → (total : Total) (told : Told) (more : List Word)
-        → ReachedFrom code.now unit total told trace.old from journals.old pending.old tokens.old
-        → IsStill (total more) → ⊥ }
+    ensures scans { (s : Scan) → IsAt unit s trace.old from journals.old pending.old
+        → Scans unit (scan_words code.now unit s tokens.old) result
+        (λ now. Leads code.now unit (scan_words code.now unit s tokens.old) trace.new now
+        journals.new pending.new []) }
 {
     match resume(tokens, unit, code, from, trace, journals, pending) {
         Ok(()) => follow_on(tokens, unit, code, from, trace, journals, pending),
@@ -164,15 +145,10 @@ fn follow_on(
 ) -> Result<Clock, VcdFault>
     requires time { IsOn unit trace.old from }
     ensures time { IfOk result (λ now. IsOn unit trace.new now) }
-    ensures reached { IfOk result (λ now. (total : Total) (told : Told)
-        → ReachedBy code.now unit total told trace.old from journals.old pending.old tokens.old
-        → ReachedBy code.now unit total told trace.new now journals.new pending.new []) }
-    ensures fault { IfErr result (λ e. (total : Total) (told : Told) (more : List Word)
-        → ReachedBy code.now unit total told trace.old from journals.old pending.old tokens.old
-        → IsFaultOf e (total more)) }
-    ensures memory { result ≡ Err OutOfMemory → (total : Total) (told : Told) (more : List Word)
-        → ReachedBy code.now unit total told trace.old from journals.old pending.old tokens.old
-        → IsStill (total more) → ⊥ }
+    ensures scans { (end : Scan × Option VcdFault)
+        → Leads code.now unit end trace.old from journals.old pending.old tokens.old
+        → Scans unit end result
+        (λ now. Leads code.now unit end trace.new now journals.new pending.new []) }
 {
     let is_plain = is_plain(code);
     let is_quick = is_quick(is_plain, unit, code);
@@ -200,11 +176,13 @@ pub fn changes(
     code: &[u8],
 ) -> Result<Body, VcdFault>
     ensures exact { KeepsEdges result
-        (changes_from any_word code.now unit 0 tokens.old) }
-    ensures journals { IfOk result (λ x. Holds (journals_among tokens.old) x.journals) }
+        (scan_ended unit (scan_words code.now unit start tokens.old)) }
+    ensures journals { IfOk result
+        (λ x. Holds (scan_words code.now unit start tokens.old).0.journals x.journals) }
+    ensures whole { OnOk result ((scan_words code.now unit start tokens.old).1 ≡ None) }
     ensures short { IfOk result (λ x. x.end ≤ 2 ^ 40) }
-    ensures memory { result ≡ Err OutOfMemory →
-        IsStill (changes_from any_word code.now unit 0 tokens.old) → ⊥ }
+    ensures memory { result ≡ Err OutOfMemory
+        → HasEdge (scan_words code.now unit start tokens.old).0.changes }
 {
     let mut reading = Reading::new(alloc);
     match reading.read(tokens, unit, code) {

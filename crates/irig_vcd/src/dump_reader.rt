@@ -1,14 +1,16 @@
 //! A dump that comes in parts.
 
-ghost use Rattle.std.specs.Prelude.{◌≡◌, ◌≤◌, ◌<◌, ◌+◌, ◌*◌, ◌++◌, ◌^◌, ◌↔◌, [], ℕ, List, Option};
-ghost use Rattle.std.specs.Prelude.{Some, None, Ok, IfOk, IfErr, IfSome, IsTrue, OnOk};
+ghost use Rattle.std.specs.Prelude.{◌≡◌, ◌≤◌, ◌<◌, ◌+◌, ◌*◌, ◌++◌, ◌^◌, ◌⊎◌, ◌↔◌, [], ℕ, List, Option};
+ghost use Rattle.std.specs.Prelude.{Some, None, Ok, Err, IfOk, IfErr, IfSome, IsTrue, OnOk};
 ghost use Rattle.std.specs.Prelude.{length, vec_capacity, vec_len};
 ghost use Rattle.irig_vcd.specs.Answer.{IsFaultOf, bytes_of, name_of};
 ghost use Rattle.irig_vcd.specs.Code.DumpReader.{HasRead, HasReadWords, IsReader, bytes_read};
 ghost use Rattle.irig_vcd.specs.Code.Gathered.{gathered};
-ghost use Rattle.irig_vcd.specs.Code.NextPart.{HasReadEnough, IsIdle, IsReadUp};
+ghost use Rattle.irig_vcd.specs.Code.NextPart.{HasReadEnough, IsReadUp, TakesMemory};
 ghost use Rattle.irig_vcd.specs.Code.Reached.{IsOn};
 ghost use Rattle.irig_vcd.specs.Declarations.{declarations_of};
+ghost use Rattle.irig_vcd.specs.Dump.{changes_before};
+ghost use Rattle.irig_vcd.specs.Level.{HasEdge};
 ghost use Rattle.irig_vcd.specs.Parts.{dump_parts};
 ghost use Rattle.irig_vcd.specs.Words.{words_of};
 ghost use Rattle.irig_vcd.specs.declared.fault.VcdFault.{VcdFault};
@@ -78,8 +80,8 @@ impl DumpReader {
     }
 
     /// Reads the next part of the dump, or holds it until there is enough to read. A fault is one
-    /// of the dump, whatever comes after the part. After the declarations, if the wire never
-    /// changes and there is no journal, only the bytes that are held take memory.
+    /// of the dump, whatever comes after the part. Memory runs out only for the bytes that are held, for an
+    /// edge before the first fault, and, if there is no fault so far, for the code and a journal.
     pub fn put(self, part: &[u8]) -> Result<DumpReader, VcdFault>
         requires short { bytes_read self + length part.now ≤ 2 ^ 48 }
         ensures read { IfOk result (λ r. (wire : Option (List ℕ)) (bytes : List ℕ)
@@ -89,9 +91,9 @@ impl DumpReader {
             → HasRead wire bytes self
             → IsFaultOf e (dump_parts wire ((bytes ++ part.now) ++ more))) }
         ensures memory { result ≡ Err OutOfMemory
-            → (wire : Option (List ℕ)) (bytes more : List ℕ) → HasRead wire bytes self
-            → IsIdle wire self.unit (bytes ++ part.now) more
-            → vec_capacity self.held < vec_len self.held + length part.now }
+            → (wire : Option (List ℕ)) (bytes : List ℕ) → HasRead wire bytes self
+            → (vec_capacity self.held < vec_len self.held + length part.now)
+            ⊎ TakesMemory wire self.unit (bytes ++ part.now) }
         ensures enough { IfOk result (HasReadEnough self.wanted) }
     {
         let mut progress = self.progress;
@@ -113,6 +115,9 @@ impl DumpReader {
             → declarations_of wire (words_of bytes) ≡ Err e → result ≡ Err e }
         ensures within { IfOk result
             (λ x. IfSome x.1 (λ journal. vec_len journal ≤ bytes_read self)) }
+        ensures memory { result ≡ Err OutOfMemory
+            → (wire : Option (List ℕ)) (bytes : List ℕ) → HasRead wire bytes self
+            → TakesMemory wire self.unit bytes }
     {
         let mut progress = self.progress;
         match read_rest(&mut progress) {
@@ -135,9 +140,9 @@ fn put_part(progress: &mut Progress, part: &[u8]) -> Result<(), VcdFault>
         → HasRead wire bytes progress.old
         → IsFaultOf e (dump_parts wire ((bytes ++ part.now) ++ more))) }
     ensures memory { result ≡ Err OutOfMemory
-        → (wire : Option (List ℕ)) (bytes more : List ℕ) → HasRead wire bytes progress.old
-        → IsIdle wire progress.old.unit (bytes ++ part.now) more
-        → vec_capacity progress.old.held < vec_len progress.old.held + length part.now }
+        → (wire : Option (List ℕ)) (bytes : List ℕ) → HasRead wire bytes progress.old
+        → (vec_capacity progress.old.held < vec_len progress.old.held + length part.now)
+        ⊎ TakesMemory wire progress.old.unit (bytes ++ part.now) }
     ensures enough { OnOk result (HasReadEnough progress.old.wanted progress.new) }
 {
     progress.held.extend_from_slice(part)?;
@@ -160,8 +165,8 @@ fn read_held(progress: &mut Progress) -> Result<(), VcdFault>
     ensures fault { IfErr result (λ e. (wire : Option (List ℕ)) (bytes more : List ℕ)
         → HasRead wire bytes progress.old → IsFaultOf e (dump_parts wire (bytes ++ more))) }
     ensures memory { result ≡ Err OutOfMemory
-        → (wire : Option (List ℕ)) (bytes more : List ℕ) → HasRead wire bytes progress.old
-        → IsIdle wire progress.old.unit bytes more → ⊥ }
+        → (wire : Option (List ℕ)) (bytes : List ℕ) → HasRead wire bytes progress.old
+        → TakesMemory wire progress.old.unit bytes }
 {
     let whole = whole_len(progress.held.as_slice());
     match progress.read_to(whole) {
@@ -193,6 +198,9 @@ fn read_rest(progress: &mut Progress) -> Result<Unit, VcdFault>
         → HasRead wire bytes progress.old → progress.old.unit ≡ None
         → declarations_of wire (words_of bytes) ≡ Err e → result ≡ Err e }
     ensures within { OnOk result (vec_len progress.new.journal ≤ bytes_read progress.old) }
+    ensures memory { result ≡ Err OutOfMemory
+        → (wire : Option (List ℕ)) (bytes : List ℕ) → HasRead wire bytes progress.old
+        → TakesMemory wire progress.old.unit bytes }
 {
     let all = progress.held.len();
     match progress.read_to(all) {
@@ -222,6 +230,9 @@ fn finish(
         → IsFaultOf e (dump_parts wire bytes)) }
     ensures within { IfOk result
         (λ x. IfSome x.1 (λ kept. vec_len kept ≤ vec_len journal)) }
+    ensures memory { result ≡ Err OutOfMemory → (wire : Option (List ℕ)) (bytes code : List ℕ)
+        → HasReadWords wire (words_of bytes) unit code reading
+        → HasEdge (changes_before wire bytes) }
 {
     let Body {
         end,

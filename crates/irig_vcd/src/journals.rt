@@ -7,11 +7,12 @@ ghost use Rattle.std.specs.Str.{bytes_eq};
 ghost use Rattle.irig_vcd.specs.Answer.{Gives, bytes_of, name_of};
 ghost use Rattle.irig_vcd.specs.Code.Gathered.{part_at, so_far};
 ghost use Rattle.irig_vcd.specs.Code.Journals.{Holds, LiesIn, place_view, text_at};
-ghost use Rattle.irig_vcd.specs.Code.Pending.{Begins, ReadsTo};
+ghost use Rattle.irig_vcd.specs.Code.Pending.{Begins};
+ghost use Rattle.irig_vcd.specs.Code.Scanned.{Keeps, Reaches};
 ghost use Rattle.irig_vcd.specs.Code.Token.{word_of};
-ghost use Rattle.irig_vcd.specs.Events.{comment_word};
 ghost use Rattle.irig_vcd.specs.Journals.{Comment, text_of};
-ghost use Rattle.irig_vcd.specs.Words.{Word};
+ghost use Rattle.irig_vcd.specs.Scan.{Scan};
+ghost use Rattle.irig_vcd.specs.declared.pending.Pending.TheVariants as pending;
 ghost use Rattle.irig_vcd.specs.Parts.{one_journal};
 
 use crate::fault::VcdFault;
@@ -71,9 +72,8 @@ impl Journals {
     /// Goes past the `$end` of a comment whose first word was read, and keeps its place if it is a
     /// journal. `journal` is where that begins, in bytes of the dump from 0.
     pub fn take_rest(&mut self, journal: Option<usize>, tokens: &mut Tokens) -> Pending
-        ensures read { (code : List ℕ) (w : Word) → Begins journal w
-            → ReadsTo code comment_word (Some w) tokens.old None result tokens.new
-            self.old self.new }
+        ensures read { (code : List ℕ) (unit : ℕ) (s : Scan) → Keeps s self.old (pending.Rest journal)
+            → Reaches code unit s tokens.old None tokens.new self.new result }
         ensures fewer { length tokens.new ≤ length tokens.old }
     {
         let end = match end_at(tokens) {
@@ -88,8 +88,8 @@ impl Journals {
 
     /// The same of a comment from its first word on.
     pub fn take_comment(&mut self, tokens: &mut Tokens) -> Pending
-        ensures read { (code : List ℕ) → ReadsTo code comment_word None tokens.old None
-            result tokens.new self.old self.new }
+        ensures read { (code : List ℕ) (unit : ℕ) (s : Scan) → Keeps s self.old pending.Comment
+            → Reaches code unit s tokens.old None tokens.new self.new result }
         ensures fewer { length tokens.new ≤ length tokens.old }
     {
         let Some(first) = tokens.next() else {
@@ -121,6 +121,7 @@ impl Journals {
         ensures one { (all : List Comment) (dump : List ℕ) → Holds all self
             → IfSome self.first (λ p. text_at dump (Some p) ≡ Some bytes.items)
             → Gives bytes_of result (one_journal (map (text_of dump) all)) }
+        ensures told { IfErr result (λ e. e ≡ BadJournal 1) }
         ensures within { IfOk result
             (λ journal. IfSome journal (λ kept. vec_len kept ≤ vec_len bytes)) }
     {

@@ -1,11 +1,7 @@
 //! What is open after a word.
 
-ghost use Rattle.std.specs.Prelude.{ℕ, [], Option};
-ghost use Rattle.irig_vcd.specs.Answer.{Gives};
-ghost use Rattle.irig_vcd.specs.Changes.{ended};
 ghost use Rattle.irig_vcd.specs.Code.Pending.{Means};
-ghost use Rattle.irig_vcd.specs.Events.{Next};
-ghost use Rattle.irig_vcd.specs.Words.{Word};
+ghost use Rattle.irig_vcd.specs.Scan.{IsClosed, Open, left_open};
 
 use crate::fault::VcdFault;
 
@@ -29,8 +25,7 @@ pub enum Pending {
 
 /// What is at fault if a dump ends here.
 pub fn closed(pending: Pending) -> Result<(), VcdFault>
-    ensures { (next : Next) (first : Option Word) (time : ℕ) → Means pending next first
-        → Gives (λ _. ([], time)) result (ended next time) }
+    ensures { (now : Open) → Means pending now → IsClosed result (left_open now) }
 {
     match pending {
         Pending::Nothing => Ok(()),

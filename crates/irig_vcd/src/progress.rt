@@ -3,16 +3,15 @@
 ghost use Rattle.std.specs.Prelude.{◌≡◌, ◌≢◌, ◌≤◌, ◌+◌, ◌*◌, ◌++◌, ◌^◌, [], ℕ, List, Option, Some};
 ghost use Rattle.std.specs.Prelude.{None, Ok, Err, IfOk, IfErr, OnErr, OnOk, false};
 ghost use Rattle.std.specs.Prelude.{length, take, drop, vec_len};
-ghost use Rattle.irig_vcd.specs.Answer.{IsFaultOf, bytes_of, name_of};
-ghost use Rattle.irig_vcd.specs.Changes.{IsStill};
-ghost use Rattle.irig_vcd.specs.Code.DumpReader.{HasReadWords, IsNew, IsReady, Stage, read_words};
+ghost use Rattle.irig_vcd.specs.Answer.{bytes_of, name_of};
+ghost use Rattle.irig_vcd.specs.Code.DumpReader.{HasReadWords, IsNew, IsReady, Stage, StopsAt};
+ghost use Rattle.irig_vcd.specs.Code.DumpReader.{StopsIn};
 ghost use Rattle.irig_vcd.specs.Code.Gathered.{part_at, so_far};
 ghost use Rattle.irig_vcd.specs.Code.Journals.{place_view};
 ghost use Rattle.irig_vcd.specs.Code.Reached.{IsOn};
 ghost use Rattle.irig_vcd.specs.Declarations.{declarations_of};
 ghost use Rattle.irig_vcd.specs.Words.{Word, words_from, words_of};
 ghost use Rattle.irig_vcd.specs.declared.fault.VcdFault.{VcdFault};
-ghost use Rattle.irig_vcd.specs.declared.fault.VcdFault.TheVariants.{OutOfMemory};
 
 use crate::fault::VcdFault;
 use crate::header::{Start, declarations};
@@ -63,16 +62,11 @@ impl Progress {
         ensures heading { self.old.unit ≡ None → (e : VcdFault)
             → declarations_of (bytes_of self.old.wire) (words_of (take whole self.old.held.items))
             ≡ Err e → result ≡ Ok (Err e) }
-        ensures fault { IfErr result (λ e. (words more : List Word)
+        ensures fault { IfErr result (λ e. (words : List Word)
             → Stage (bytes_of self.old.wire) words self.old.unit self.old.code.items
             self.old.reading → (self.old.unit ≡ None → self.old.gone ≡ 0)
-            → IsFaultOf e (read_words (bytes_of self.old.wire) ((words
-            ++ words_from self.old.gone false (take whole self.old.held.items)) ++ more))) }
-        ensures memory { result ≡ Err OutOfMemory → (unit : ℕ) → self.old.unit ≡ Some unit
-            → (words more : List Word) → HasReadWords (bytes_of self.old.wire) words unit
-            self.old.code.items self.old.reading
-            → IsStill (read_words (bytes_of self.old.wire) ((words
-            ++ words_from self.old.gone false (take whole self.old.held.items)) ++ more)) → ⊥ }
+            → StopsAt self.old.unit (bytes_of self.old.wire)
+            (words ++ words_from self.old.gone false (take whole self.old.held.items)) e) }
     {
         match self.unit {
             Some(unit) => {
@@ -187,15 +181,15 @@ fn begin(
     ensures heading { (e : VcdFault)
         → declarations_of (name_of wire.entry) (words_of part.now) ≡ Err e
         → result ≡ Ok (Err e) }
-    ensures fault { IfErr result (λ e. IsNew reading.old → (more : List Word)
-        → IsFaultOf e (read_words (name_of wire.entry) (words_of part.now ++ more))) }
+    ensures fault { IfErr result (λ e. IsNew reading.old
+        → StopsAt None (name_of wire.entry) (words_of part.now) e) }
 {
     let mut tokens = Tokens::new(part);
     match declarations(&mut tokens, wire) {
         Err(fault) => Ok(Err(fault)),
         Ok(start) => {
-            code.extend_from_slice(start.code)?;
             reading.read(&mut tokens, start.unit, start.code)?;
+            code.extend_from_slice(start.code)?;
             Ok(Ok(start.unit))
         }
     }
@@ -216,13 +210,9 @@ fn go_on(
         → HasReadWords wire words unit code.now reading.old
         → HasReadWords wire (words ++ words_from gone false part.now) unit code.now
         reading.new) }
-    ensures fault { IfErr result (λ e. (wire : Option (List ℕ)) (words more : List Word)
+    ensures fault { IfErr result (λ e. (wire : Option (List ℕ)) (words : List Word)
         → HasReadWords wire words unit code.now reading.old
-        → IsFaultOf e (read_words wire ((words ++ words_from gone false part.now) ++ more))) }
-    ensures memory { result ≡ Err OutOfMemory
-        → (wire : Option (List ℕ)) (words more : List Word)
-        → HasReadWords wire words unit code.now reading.old
-        → IsStill (read_words wire ((words ++ words_from gone false part.now) ++ more)) → ⊥ }
+        → StopsIn wire (words ++ words_from gone false part.now) e) }
 {
     let mut tokens = Tokens::after(part, gone);
     reading.read(&mut tokens, unit, code)

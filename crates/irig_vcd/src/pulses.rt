@@ -2,8 +2,9 @@
 
 ghost use Rattle.std.specs.Prelude.{◌≡◌, ◌≤◌, ◌<◌, ◌+◌, ◌^◌, ◌∷◌, [], true, false};
 ghost use Rattle.std.specs.Prelude.{length, slice_index, IfSome, IfOk};
-ghost use Rattle.irig_vcd.specs.Code.Along.{Along, HasFallen, SameJournals, TakesEdge, Total};
-ghost use Rattle.irig_vcd.specs.Code.Along.{at_micros};
+ghost use Rattle.irig_vcd.specs.Code.Along.{HasFallen, TakesEdge, at_micros};
+ghost use Rattle.irig_vcd.specs.Code.Scanned.{IsTraced, Passes};
+ghost use Rattle.irig_vcd.specs.Scan.{Scan, closed};
 ghost use Rattle.irig_vcd.specs.Code.Time.{IsTime};
 ghost use Rattle.irig_vcd.specs.Words.{is_code};
 
@@ -104,11 +105,10 @@ fn pulses_in(
     requires dark { is_code (code ∷ []) ≡ true }
     requires fallen { HasFallen trace.old }
     requires late { trace.old.time ≤ from.whole }
-    ensures along { IfOk result (λ now. (total : Total)
-        → Along (code ∷ []) unit total trace.old from tokens.old
-        → Along (code ∷ []) unit total trace.new now tokens.new) }
+    ensures passes { IfOk result (λ now. (s : Scan) → s.opened ≡ closed
+        → IsTraced unit s trace.old from
+        → Passes (code ∷ []) unit s tokens.old trace.new now tokens.new) }
     ensures fewer { length tokens.new ≤ length tokens.old }
-    ensures journals { SameJournals tokens.old tokens.new }
 {
     let source = tokens.source;
     let base = tokens.base;
@@ -144,11 +144,10 @@ fn pulses_in_micros(
     requires dark { is_code (code ∷ []) ≡ true }
     requires fallen { HasFallen trace.old }
     requires late { trace.old.time ≤ from }
-    ensures along { IfOk result (λ time. (total : Total)
-        → Along (code ∷ []) 9 total trace.old (at_micros from) tokens.old
-        → Along (code ∷ []) 9 total trace.new (at_micros time) tokens.new) }
+    ensures passes { IfOk result (λ time. (s : Scan) → s.opened ≡ closed
+        → IsTraced 9 s trace.old (at_micros from)
+        → Passes (code ∷ []) 9 s tokens.old trace.new (at_micros time) tokens.new) }
     ensures fewer { length tokens.new ≤ length tokens.old }
-    ensures journals { SameJournals tokens.old tokens.new }
 {
     let from = Clock {
         whole: from,
@@ -173,11 +172,10 @@ pub fn pulses(
     requires fallen { HasFallen trace.old }
     requires late { trace.old.time ≤ from.whole }
     requires time { IsTime unit from }
-    ensures along { IfOk result (λ now. (total : Total)
-        → Along (code ∷ []) unit total trace.old from tokens.old
-        → Along (code ∷ []) unit total trace.new now tokens.new) }
+    ensures passes { IfOk result (λ now. (s : Scan) → s.opened ≡ closed
+        → IsTraced unit s trace.old from
+        → Passes (code ∷ []) unit s tokens.old trace.new now tokens.new) }
     ensures fewer { length tokens.new ≤ length tokens.old }
-    ensures journals { SameJournals tokens.old tokens.new }
 {
     if unit.is_microsecond() {
         let whole = pulses_in_micros(tokens, code, from.whole, trace)?;

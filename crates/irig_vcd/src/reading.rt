@@ -1,16 +1,12 @@
 //! What was read after the declarations.
 
-ghost use Rattle.std.specs.Prelude.{◌≡◌, ◌≤◌, ◌++◌, ◌^◌, [], ℕ, List, Err, IfOk, IfErr, OnOk};
-ghost use Rattle.irig_vcd.specs.Answer.{IsFaultOf};
-ghost use Rattle.irig_vcd.specs.Changes.{changes_from, IsStill};
-ghost use Rattle.irig_vcd.specs.Code.Along.{Total};
+ghost use Rattle.std.specs.Prelude.{◌≡◌, ◌≤◌, ◌^◌, ℕ, List, None, Err, IfOk, OnOk};
 ghost use Rattle.irig_vcd.specs.Code.Journals.{Holds};
-ghost use Rattle.irig_vcd.specs.Code.Reached.{HasReached, HasReachedFrom, IsOn, Told};
+ghost use Rattle.irig_vcd.specs.Code.Reached.{IsOn};
+ghost use Rattle.irig_vcd.specs.Code.Scanned.{HasScanned, StandsAt};
 ghost use Rattle.irig_vcd.specs.Code.Trace.{IsKept, KeepsEdges};
-ghost use Rattle.irig_vcd.specs.Events.{any_word};
-ghost use Rattle.irig_vcd.specs.Journals.{journals_among};
-ghost use Rattle.irig_vcd.specs.Level.{Change};
-ghost use Rattle.irig_vcd.specs.Words.{Word};
+ghost use Rattle.irig_vcd.specs.Level.{HasEdge, Change};
+ghost use Rattle.irig_vcd.specs.Scan.{Scan, scan_ended, start};
 ghost use Rattle.irig_vcd.specs.declared.fault.VcdFault.TheVariants.{OutOfMemory};
 
 use crate::changes::{Body, follow};
@@ -36,9 +32,7 @@ pub struct Reading {
 impl Reading {
     /// Nothing is read yet.
     pub fn new(alloc: Global) -> Reading
-        ensures start { (code : List ℕ) (unit : ℕ) (words : List Word) → HasReachedFrom code unit
-            (λ more. changes_from any_word code unit 0 (words ++ more))
-            (λ more. journals_among (words ++ more)) result words }
+        ensures start { (unit : ℕ) → StandsAt unit start result }
         ensures time { (unit : ℕ) → IsOn unit result.trace result.clock }
     {
         Reading {
@@ -54,16 +48,8 @@ impl Reading {
     pub fn read(&mut self, tokens: &mut Tokens, unit: Unit, code: &[u8]) -> Result<(), VcdFault>
         requires time { IsOn unit self.old.trace self.old.clock }
         ensures time { OnOk result (IsOn unit self.new.trace self.new.clock) }
-        ensures reached { OnOk result ((total : Total) (told : Told)
-            → HasReachedFrom code.now unit total told self.old tokens.old
-            → HasReached code.now unit total told self.new []) }
-        ensures fault { IfErr result (λ e. (total : Total) (told : Told) (more : List Word)
-            → HasReachedFrom code.now unit total told self.old tokens.old
-            → IsFaultOf e (total more)) }
-        ensures memory { result ≡ Err OutOfMemory
-            → (total : Total) (told : Told) (more : List Word)
-            → HasReachedFrom code.now unit total told self.old tokens.old
-            → IsStill (total more) → ⊥ }
+        ensures scans { (s : Scan) → StandsAt unit s self.old
+            → HasScanned code.now unit s tokens.old result self.new }
     {
         self.clock = follow(
             tokens,
@@ -80,17 +66,15 @@ impl Reading {
     /// What was read, if nothing comes after it.
     pub fn finish(self, unit: Unit) -> Result<Body, VcdFault>
         requires time { IsOn unit self.trace self.clock }
-        ensures exact { (code : List ℕ) (total : Total) (told : Told)
-            → HasReached code unit total told self [] → KeepsEdges result (total []) }
-        ensures journals { IfOk result (λ x. (code : List ℕ) (total : Total) (told : Told)
-            → HasReached code unit total told self [] → Holds (told []) x.journals) }
+        ensures exact { (s : Scan) → StandsAt unit s self → KeepsEdges result (scan_ended unit (s, None)) }
+        ensures journals { IfOk result (λ x. (s : Scan) → StandsAt unit s self
+            → Holds s.journals x.journals) }
         ensures kept { IfOk result (λ x. (changes : List Change)
             × IsKept changes x.end x.edges) }
         ensures short { IfOk result (λ x. x.end ≤ 2 ^ 40) }
         ensures same { IfOk result (λ x. x.journals ≡ self.journals) }
-        ensures memory { result ≡ Err OutOfMemory
-            → (code : List ℕ) (total : Total) (told : Told)
-            → HasReached code unit total told self [] → IsStill (total []) → ⊥ }
+        ensures memory { result ≡ Err OutOfMemory → (s : Scan)
+            → StandsAt unit s self → HasEdge s.changes }
     {
         match closed(self.pending) {
             Ok(()) => {}

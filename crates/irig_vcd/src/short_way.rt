@@ -1,17 +1,17 @@
 //! The tokens of a wire's changes that are taken in one step.
 
-ghost use Rattle.std.specs.Prelude.{◌≡◌, ◌↔◌, ◌≤◌, ◌<◌, [], List, Err};
-ghost use Rattle.std.specs.Prelude.{true, length, slice_index, IfOk, IfErr, OnErr};
-ghost use Rattle.irig_vcd.specs.Answer.{IsFaultOf};
-ghost use Rattle.irig_vcd.specs.Changes.{IsStill};
-ghost use Rattle.irig_vcd.specs.Code.Along.{Along, SameJournals, Total};
-ghost use Rattle.irig_vcd.specs.Code.Reached.{IsOn, ReachedBy, Told};
+ghost use Rattle.std.specs.Prelude.{◌≡◌, ◌↔◌, ◌≤◌, ◌<◌, List, Option};
+ghost use Rattle.std.specs.Prelude.{true, length, slice_index, IfOk, OnErr};
+ghost use Rattle.irig_vcd.specs.Code.Reached.{IsOn};
+ghost use Rattle.irig_vcd.specs.Code.Scanned.{IsTraced, Leads, Passes, Puts, Scans};
 ghost use Rattle.irig_vcd.specs.Code.Short.{TakesBit};
 ghost use Rattle.irig_vcd.specs.Code.Time.{IsTime, units_of};
-ghost use Rattle.irig_vcd.specs.Code.Trace.{Follows};
+ghost use Rattle.irig_vcd.specs.Code.Trace.{EdgeBefore, Follows};
+ghost use Rattle.irig_vcd.specs.Level.{Change};
+ghost use Rattle.irig_vcd.specs.Scan.{Scan, closed};
 ghost use Rattle.irig_vcd.specs.Times.{micros_of};
 ghost use Rattle.irig_vcd.specs.Words.{Word, is_code};
-ghost use Rattle.irig_vcd.specs.declared.fault.VcdFault.TheVariants.{OutOfMemory};
+ghost use Rattle.irig_vcd.specs.declared.fault.VcdFault.{VcdFault};
 ghost use Rattle.irig_vcd.specs.declared.journals.Journals.{Journals};
 ghost use Rattle.irig_vcd.specs.declared.pending.Pending.{Pending};
 
@@ -62,19 +62,11 @@ pub fn follow_short(
     requires one { is_quick ≡ true → length code.now ≡ 1 }
     requires time { IsOn unit trace.old from }
     ensures time { IfOk result (λ now. IsOn unit trace.new now) }
-    ensures reached { IfOk result (λ now. (total : Total) (told : Told) (journals : Journals)
-        (pending : Pending)
-        → ReachedBy code.now unit total told trace.old from journals pending tokens.old
-        → ReachedBy code.now unit total told trace.new now journals pending tokens.new) }
+    ensures scans { (end : Scan × Option VcdFault) (journals : Journals) (pending : Pending)
+        → Leads code.now unit end trace.old from journals pending tokens.old
+        → Scans unit end result
+        (λ now. Leads code.now unit end trace.new now journals pending tokens.new) }
     ensures fewer { length tokens.new ≤ length tokens.old }
-    ensures fault { IfErr result (λ e. (total : Total) (told : Told) (more : List Word)
-        (journals : Journals) (pending : Pending)
-        → ReachedBy code.now unit total told trace.old from journals pending tokens.old
-        → IsFaultOf e (total more)) }
-    ensures memory { result ≡ Err OutOfMemory → (total : Total) (told : Told) (more : List Word)
-        (journals : Journals) (pending : Pending)
-        → ReachedBy code.now unit total told trace.old from journals pending tokens.old
-        → IsStill (total more) → ⊥ }
 {
     let mut clock = from;
     'tokens: loop {
@@ -116,12 +108,12 @@ fn ahead(
     requires dark { is_quick ≡ true → is_code code.now ≡ true }
     requires time { IsTime unit clock }
     requires late { trace.old.time ≤ micros_of unit (units_of unit clock) }
-    ensures along { IfOk result (λ now. (total : Total)
-        → Along code.now unit total trace.old clock tokens.old
-        → Along code.now unit total trace.new now tokens.new) }
+    ensures passes { IfOk result (λ now. (s : Scan) → s.opened ≡ closed
+        → IsTraced unit s trace.old clock
+        → Passes code.now unit s tokens.old trace.new now tokens.new) }
     ensures fewer { length tokens.new ≤ length tokens.old }
-    ensures journals { SameJournals tokens.old tokens.new }
-    ensures memory { OnErr result (Follows [] trace.old → ⊥) }
+    ensures memory { OnErr result ((changes : List Change) → Follows changes trace.old
+        → EdgeBefore (micros_of unit (units_of unit clock)) changes) }
 {
     if is_quick && trace.has_fallen() && has_sign(tokens.source, tokens.at) {
         let now = pulses(tokens, code[0], unit, clock, trace)?;
@@ -147,15 +139,12 @@ fn take_bit(
     requires some { 0 < length code.now }
     requires time { IsOn unit trace.old clock }
     ensures time { IfOk result (λ now. IsOn unit trace.new now) }
-    ensures reached { IfOk result (λ now. (words : List Word) (total : Total) (told : Told)
-        (journals : Journals) (pending : Pending) → TakesBit words tokens.old code.now high
-        → ReachedBy code.now unit total told trace.old clock journals pending words
-        → ReachedBy code.now unit total told trace.new now journals pending tokens.new) }
+    ensures scans { (words : List Word) (end : Scan × Option VcdFault) (journals : Journals)
+        (pending : Pending) → TakesBit words tokens.old code.now high
+        → Leads code.now unit end trace.old clock journals pending words
+        → Puts unit end result
+        (λ now. Leads code.now unit end trace.new now journals pending tokens.new) }
     ensures fewer { length tokens.new ≤ length tokens.old }
-    ensures memory { OnErr result ((words more : List Word) (total : Total) (told : Told)
-        (journals : Journals) (pending : Pending) → TakesBit words tokens.old code.now high
-        → ReachedBy code.now unit total told trace.old clock journals pending words
-        → IsStill (total more) → ⊥) }
 {
     match trace.put(micros(unit, clock), high) {
         Ok(()) => ahead(is_quick, tokens, unit, code, clock, trace),

@@ -6,7 +6,7 @@ ghost use Rattle.std.specs.Prelude.{length, take, if◌then◌else◌};
 ghost use Rattle.irig_vcd.specs.Level.{Change, change, edges_up_to, differs};
 ghost use Rattle.irig_vcd.specs.Code.Along.{HasFallen};
 ghost use Rattle.irig_recording.specs.Edges.{edges_kept};
-ghost use Rattle.irig_vcd.specs.Code.Trace.{Follows};
+ghost use Rattle.irig_vcd.specs.Code.Trace.{EdgeBefore, Follows};
 
 use irig_recording::Edges;
 use std::alloc::{AllocError, Global};
@@ -42,7 +42,8 @@ impl Trace {
             ((changes : List Change) → Follows changes self.old → Follows changes self.new) }
         ensures time { OnOk result (self.new.time ≡ time) }
         ensures refused { OnErr result (length self.old.edges ≤ 2 ^ 23) }
-        ensures memory { OnErr result (Follows [] self.old → ⊥) }
+        ensures memory { OnErr result
+            ((changes : List Change) → Follows changes self.old → EdgeBefore time changes) }
     {
         if time <= self.time {
             return Ok(());
@@ -61,7 +62,8 @@ impl Trace {
             → Follows (changes ++ change time high ∷ []) self.new) }
         ensures time { OnOk result (self.new.time ≡ time) }
         ensures refused { OnErr result (length self.old.edges ≤ 2 ^ 23) }
-        ensures memory { OnErr result (Follows [] self.old → ⊥) }
+        ensures memory { OnErr result
+            ((changes : List Change) → Follows changes self.old → EdgeBefore time changes) }
     {
         self.advance(time)?;
         self.now = high;
@@ -107,7 +109,8 @@ impl Trace {
         ensures edges { IfOk result
             (λ edges. (changes : List Change) → Follows changes self
             → edges ≡ take edges_kept (edges_up_to changes end)) }
-        ensures memory { OnErr result (Follows [] self → ⊥) }
+        ensures memory { OnErr result
+            ((changes : List Change) → Follows changes self → EdgeBefore end changes) }
     {
         self.advance(end)?;
         keep(&mut self.edges, self.before, end)?;

@@ -6,9 +6,9 @@ ghost use Rattle.irig_codes.specs.Format.{is_permitted};
 ghost use Rattle.irig_saved.specs.Faults.{IsFault, ReachesSteps};
 ghost use Rattle.irig_saved.specs.SavedText.{saved_lines};
 ghost use Rattle.irig_vcd.specs.Answer.{bytes_of, name_of};
-ghost use Rattle.irig_vcd.specs.Changes.{IsStill};
 ghost use Rattle.irig_vcd.specs.Declarations.{declarations_of};
-ghost use Rattle.irig_vcd.specs.Dump.{changes_of};
+ghost use Rattle.irig_vcd.specs.Dump.{changes_before};
+ghost use Rattle.irig_vcd.specs.Level.{HasEdge};
 ghost use Rattle.irig_vcd.specs.Parts.{dump_parts};
 ghost use Rattle.irig_vcd.specs.Words.{words_of};
 ghost use Rattle.irig_vcd.specs.declared.fault.VcdFault.{VcdFault};
@@ -46,7 +46,7 @@ impl Session {
             → declarations_of (name_of wire.entry) (words_of bytes.items) ≡ Err e
             → result ≡ Err e }
         ensures fault { IfErr result (λ e. IsUnopened (name_of wire.entry) bytes.items e) }
-        ensures memory { IsStill (changes_of (name_of wire.entry) bytes.items)
+        ensures memory { (HasEdge (changes_before (name_of wire.entry) bytes.items) → ⊥)
             → result ≡ Err OutOfMemory → MayBeShort (dump_parts (name_of wire.entry) bytes.items) }
     {
         match parts_of(alloc, bytes, wire) {
@@ -95,7 +95,7 @@ fn parts_of(
     ensures heading { (e : VcdFault)
         → declarations_of (name_of wire.entry) (words_of bytes.items) ≡ Err e → result ≡ Err e }
     ensures fault { IfErr result (λ e. IsUnopened (name_of wire.entry) bytes.items e) }
-    ensures memory { IsStill (changes_of (name_of wire.entry) bytes.items)
+    ensures memory { (HasEdge (changes_before (name_of wire.entry) bytes.items) → ⊥)
         → result ≡ Err OutOfMemory → MayBeShort (dump_parts (name_of wire.entry) bytes.items) }
 {
     match read_parts(alloc, bytes.as_slice(), wire) {

@@ -1,43 +1,48 @@
 -- What a reader of parts has read.
-use Rattle.std.specs.Prelude.{◌≡◌, ◌≤◌, ◌+◌, ◌*◌, ◌++◌, ◌^◌, ℕ, false, List, [], Option, Some, None}
-use Rattle.std.specs.Prelude.{Result, length, vec_len}
-use Rattle.irig_vcd.specs.Answer.{◌>>=◌, bytes_of}
-use Rattle.irig_vcd.specs.Changes.{changes_from}
+use Rattle.std.specs.Prelude.{◌≡◌, ◌≤◌, ◌⊎◌, ◌+◌, ◌*◌, ◌++◌, ◌^◌, ℕ, false, List, [], Option, Some, None}
+use Rattle.std.specs.Prelude.{Ok, length, vec_len}
+use Rattle.irig_vcd.specs.Answer.{bytes_of}
 use Rattle.irig_vcd.specs.Code.Gathered.{gathered}
 use Rattle.irig_vcd.specs.Code.Joins.{ends_inside}
-use Rattle.irig_vcd.specs.Code.Reached.{HasReached, HasReachedFrom, IsOn}
-use Rattle.irig_vcd.specs.Cut.{cut_from}
+use Rattle.irig_vcd.specs.Code.Reached.{IsOn}
+use Rattle.irig_vcd.specs.Code.Scanned.{StandsAt, Stops}
 use Rattle.irig_vcd.specs.Declarations.{declarations_of}
-use Rattle.irig_vcd.specs.Events.{any_word}
-use Rattle.irig_vcd.specs.Journals.{Comment, journals_among, words_behind}
-use Rattle.irig_vcd.specs.Level.{Change}
+use Rattle.irig_vcd.specs.Scan.{Scan, scan_words, start}
 use Rattle.irig_vcd.specs.Words.{Word, words_of}
 use Rattle.irig_vcd.specs.declared.fault.VcdFault.{VcdFault}
+use Rattle.irig_vcd.specs.declared.fault.VcdFault.TheVariants.{OutOfMemory}
 use Rattle.irig_vcd.specs.declared.progress.Progress.{Progress}
 use Rattle.irig_vcd.specs.declared.reading.Reading.{Reading}
 
--- the changes that the words of a dump say of a wire, and the last time, or the first fault
-abbrev pub read_words : Option (List ℕ) → List Word → Result (List Change × ℕ) VcdFault
-read_words wire words = do
-  start ← declarations_of wire words
-  changes_from any_word start.0.1 start.0.0 0 start.1
+-- the declarations are read, and the words after them up to the first fault
+abbrev pub ScansTo : Option (List ℕ) → List Word → ℕ → List ℕ → Scan × Option VcdFault → Type 0
+ScansTo wire words unit code end =
+    (rest : List Word) × (declarations_of wire words ≡ Ok ((unit, code), rest))
+    × (scan_words code unit start rest ≡ end)
 
--- the journals among the words of a dump
-abbrev pub told_words : List Word → List Comment
-told_words words = journals_among (words_behind (cut_from None words).stop)
-
--- nothing is read after the declarations
-pub record IsNew (r : Reading) : Type 0 where
-  pub start : (code : List ℕ) (unit : ℕ) (words : List Word) → HasReachedFrom code unit
-      (λ more. changes_from any_word code unit 0 (words ++ more))
-      (λ more. journals_among (words ++ more)) r words
-  pub time : (unit : ℕ) → IsOn unit r.trace r.clock
-
--- the declarations and words after them are read, whatever comes after these
+-- the declarations and words after them are read
 abbrev pub HasReadWords : Option (List ℕ) → List Word → ℕ → List ℕ → Reading → Type 0
 HasReadWords wire words unit code r =
-    HasReached code unit (λ more. read_words wire (words ++ more))
-    (λ more. told_words (words ++ more)) r []
+    (s : Scan) × ScansTo wire words unit code (s, None) × StandsAt unit s r
+
+-- a fault is the first one after the declarations, or memory runs out for an edge before it
+abbrev pub StopsIn : Option (List ℕ) → List Word → VcdFault → Type 0
+StopsIn wire words e =
+    (unit : ℕ) × (code : List ℕ) × (end : Scan × Option VcdFault)
+    × ScansTo wire words unit code end × Stops unit end e
+
+-- the same of a reader that knows the unit or not; if not, memory may run out for the code, when
+-- all words are read
+abbrev pub StopsAt : Option ℕ → Option (List ℕ) → List Word → VcdFault → Type 0
+StopsAt (Some unit) wire words e = StopsIn wire words e
+StopsAt None wire words e =
+    StopsIn wire words e
+    ⊎ ((e ≡ OutOfMemory) × (unit : ℕ) × (code : List ℕ) × (s : Scan)
+    × ScansTo wire words unit code (s, None))
+
+-- nothing is read after the declarations
+abbrev pub IsNew : Reading → Type 0
+IsNew r = (unit : ℕ) → StandsAt unit start r
 
 -- these words are read; none, if the unit is not known yet
 abbrev pub Stage : Option (List ℕ) → List Word → Option ℕ → List ℕ → Reading → Type 0

@@ -1,6 +1,9 @@
 -- The bytes of the first journal, while its dump comes in parts. This project's own.
-use Rattle.std.specs.Prelude.{◌-◌, ℕ, List, [], Option, Some, None, length, take, drop}
+use Rattle.std.specs.Prelude.{◌-◌, ◌≢◌, ℕ, List, [], ◌∷◌, Option, Some, None, length, take, drop}
+use Rattle.std.specs.Prelude.{if◌then◌else◌}
 use Rattle.irig_vcd.specs.Code.Journals.{place_view}
+use Rattle.irig_vcd.specs.Journals.{Comment, comment, is_journal}
+use Rattle.irig_vcd.specs.Scan.{Open, closed, code_of, comment_of, Scan}
 use Rattle.irig_vcd.specs.declared.pending.Pending.{Pending}
 use Rattle.irig_vcd.specs.declared.pending.Pending.TheVariants as pending
 use Rattle.irig_vcd.specs.declared.reading.Reading.{Reading}
@@ -17,6 +20,22 @@ so_far None pending.Nothing top = None
 so_far None (pending.Code v) top = None
 so_far None pending.Comment top = None
 so_far None (pending.Rest start) top = open_place start top
+
+-- the same of a scan
+abbrev pub place_by : List Comment → Open → ℕ → Option (ℕ × ℕ)
+place_by (c ∷ cs) now top = Some (c.first.offset, c.end)
+place_by [] closed top = None
+place_by [] (code_of value) top = None
+place_by [] (comment_of None) top = None
+place_by [] (comment_of (Some w)) top =
+    if is_journal (comment w top) then Some (w.offset, top) else None
+
+abbrev pub place_in : Scan → ℕ → Option (ℕ × ℕ)
+place_in s top = place_by s.journals s.opened top
+
+-- a journal has begun
+abbrev pub HasBegun : Scan → Type 0
+HasBegun s = (top : ℕ) × (place_in s top ≢ None)
 
 -- the bytes at such a place
 abbrev pub bytes_at : Option (ℕ × ℕ) → List ℕ → List ℕ

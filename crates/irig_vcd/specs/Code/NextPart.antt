@@ -1,12 +1,15 @@
 -- What a reader of parts does with the next part.
-use Rattle.std.specs.Prelude.{◌≡◌, ◌<◌, ◌*◌, ◌++◌, ◌⊎◌, ℕ, not, true, List, [], Option, Some, None}
+use Rattle.std.specs.Prelude.{◌≡◌, ◌<◌, ◌*◌, ◌++◌, ◌⊎◌, ℕ, not, true, false, List, [], Option, Some, None}
 use Rattle.std.specs.Prelude.{Err, drop, take, vec_len}
 use Rattle.std.specs.List.{list_all}
 use Rattle.irig_vcd.specs.Answer.{bytes_of}
-use Rattle.irig_vcd.specs.Changes.{IsStill}
+use Rattle.irig_vcd.specs.Code.DumpReader.{ScansTo}
+use Rattle.irig_vcd.specs.Code.Gathered.{HasBegun}
+use Rattle.irig_vcd.specs.Code.Joins.{ends_inside}
 use Rattle.irig_vcd.specs.Declarations.{declarations_of}
-use Rattle.irig_vcd.specs.Dump.{changes_of}
-use Rattle.irig_vcd.specs.Journals.{journals_in}
+use Rattle.irig_vcd.specs.Dump.{changes_before}
+use Rattle.irig_vcd.specs.Level.{HasEdge}
+use Rattle.irig_vcd.specs.Scan.{Scan}
 use Rattle.irig_vcd.specs.Words.{is_space, words_of}
 use Rattle.irig_vcd.specs.declared.fault.VcdFault.{VcdFault}
 use Rattle.irig_vcd.specs.declared.progress.Progress.{Progress}
@@ -15,12 +18,23 @@ use Rattle.irig_vcd.specs.declared.progress.Progress.{Progress}
 abbrev pub IsDark : List ℕ → Type 0
 IsDark bytes = list_all (λ b. not (is_space b)) bytes ≡ true
 
--- reading bytes takes no memory: their declarations are at fault, or do not end; or a unit was read
--- before them, and with more bytes the wire never changes and there is no journal
-abbrev pub IsIdle : Option (List ℕ) → Option ℕ → List ℕ → List ℕ → Type 0
-IsIdle wire None bytes more = (e : VcdFault) × (declarations_of wire (words_of bytes) ≡ Err e)
-IsIdle wire (Some unit) bytes more =
-    IsStill (changes_of wire (bytes ++ more)) × (journals_in (bytes ++ more) ≡ [])
+-- bytes up to a place outside a word, or to the end, were read without a fault, and the code was not known before, or a journal has
+-- begun
+pub record KeepsMore (wire : Option (List ℕ)) (known : Option ℕ) (bytes : List ℕ) : Type 0 where
+  pub front : List ℕ
+  pub rest : List ℕ
+  pub whole : bytes ≡ front ++ rest
+  pub outside : (ends_inside false front ≡ false) ⊎ (rest ≡ [])
+  pub unit : ℕ
+  pub code : List ℕ
+  pub s : Scan
+  pub read : ScansTo wire (words_of front) unit code (s, None)
+  pub kept : (known ≡ None) ⊎ HasBegun s
+
+-- reading bytes takes memory: for an edge before the first fault, or for the code or a journal
+abbrev pub TakesMemory : Option (List ℕ) → Option ℕ → List ℕ → Type 0
+TakesMemory wire known bytes =
+    HasEdge (changes_before wire bytes) ⊎ KeepsMore wire known bytes
 
 -- nothing more can be read of what is held: it is a word without its end; or it is all that came,
 -- and its declarations, up to the last white space, are at fault, or do not end

@@ -1,5 +1,5 @@
 -- What a trace has kept of the changes that it followed.
-use Rattle.std.specs.Prelude.{◌≡◌, ◌≤◌, ℕ, Bool, List, Result, Ok, Err, take}
+use Rattle.std.specs.Prelude.{◌≡◌, ◌≤◌, ◌<◌, ℕ, Bool, true, List, Result, Ok, Err, take}
 use Rattle.std.specs.List.{AllByRecursion}
 use Rattle.irig_vcd.specs.Answer.{IsFaultOf}
 use Rattle.irig_recording.specs.Edges.{edges_kept}
@@ -19,6 +19,12 @@ pub record Follows (changes : List Change) (t : Trace) : Type 0 where
   pub before : t.before ≡ level_before changes t.time
   pub now : t.now ≡ level_by_changes changes t.time
   pub edges : t.edges ≡ take edges_kept (edges_below changes t.time)
+
+-- the level is high at some time before another, so that there is an edge
+pub record EdgeBefore (time : ℕ) (changes : List Change) : Type 0 where
+  pub at : ℕ
+  pub before : at < time
+  pub high : level_by_changes changes at ≡ true
 
 -- the edges of changes up to an end, up to the most that are kept
 abbrev pub IsKept : List Change → ℕ → List ℕ → Type 0

@@ -1,15 +1,12 @@
-use Rattle.std.proofs.Common.{◌≡◌, ◌++◌, [], List, Err, ap, subst, sym}
-use Rattle.std.proofs.lemmas.List.{append-nil}
-use Rattle.irig_vcd.specs.Answer.{IsFaultOf}
-use Rattle.irig_vcd.specs.Changes.{changes_from, IsStill}
+use Rattle.std.proofs.Common.{◌≡◌, ap, sym, subst}
+use Rattle.std.proofs.lemmas.Result.{IfOk-weaker}
+use Rattle.irig_vcd.specs.Code.Scanned.{Stops}
 use Rattle.irig_vcd.specs.Code.Journals.{Holds}
 use Rattle.irig_vcd.specs.Code.Trace.{KeepsEdges}
-use Rattle.irig_vcd.specs.Events.{any_word}
-use Rattle.irig_vcd.specs.Journals.{journals_among}
-use Rattle.irig_vcd.specs.Words.{Word}
+use Rattle.irig_vcd.specs.Level.{HasEdge}
+use Rattle.irig_vcd.specs.Scan.{scan_ended, scan_words, start}
 use Rattle.irig_vcd.specs.declared.fault.VcdFault.TheVariants.{OutOfMemory}
-use Rattle.irig_vcd.proofs.ReachedSteps.{told_well}
-use Rattle.std.proofs.Common.{IfOk}
+use Rattle.irig_vcd.proofs.ScanSteps.{stopped_so}
 use Rattle.irig_vcd.proofs.changes.changes.Goals as goal
 
 pub read-requires : goal.read-requires
@@ -17,32 +14,28 @@ read-requires c = record { time = c.new-reading.ensures.time c.args.unit }
 
 pub returns-in-Ok : goal.returns-in-Ok
 returns-in-Ok c =
-    let read = λ (words : List Word). changes_from any_word c.args.code.now c.args.unit 0 words in
-    let all = append-nil c.args.tokens.now in
-    let total = λ (more : List Word). read (c.args.tokens.now ++ more) in
-    let told = λ (more : List Word). journals_among (c.args.tokens.now ++ more) in
-    let r = c.in-Ok.ensures.reached total told (c.new-reading.ensures.start c.args.code.now c.args.unit c.args.tokens.now) in
+    let r = c.in-Ok.ensures.scans start (c.new-reading.ensures.start c.args.unit) in
+    let f = c.finish.ensures in
+    let end = sym r.1 in
     record {
-      exact = subst (λ (l : List Word). KeepsEdges c.finish.result (read l)) all (c.finish.ensures.exact c.args.code.now total told r);
-      journals = subst (λ (l : List Word). IfOk c.finish.result (λ x. Holds (journals_among l) x.journals)) all
-          (told_well c.finish.result c.args.code.now c.args.unit total told c.read.new.self c.finish.ensures.journals r);
-      short = c.finish.ensures.short;
-      memory = λ memory still. c.finish.ensures.memory memory c.args.code.now total told r
-          (subst (λ (l : List Word). IsStill (read l)) (sym all) still);
+      exact = subst (λ x. KeepsEdges c.finish.result (scan_ended c.args.unit x)) end (f.exact r.0 r.2);
+      journals = IfOk-weaker c.finish.result _ _ (λ x holds. subst (λ y. Holds y.0.journals x.journals) end (holds r.0 r.2)) f.journals;
+      whole = IfOk-weaker c.finish.result _ _ (λ x short. ap (λ y. y.1) r.1) f.short;
+      short = f.short;
+      memory = λ memory. subst (λ x. HasEdge x.0.changes) end (f.memory memory r.0 r.2);
     }
 
 pub returns-in-Err : goal.returns-in-Err
 returns-in-Err c =
-    let read = λ (words : List Word). changes_from any_word c.args.code.now c.args.unit 0 words in
-    let all = append-nil c.args.tokens.now in
-    let total = λ (more : List Word). read (c.args.tokens.now ++ more) in
-    let told = λ (more : List Word). journals_among (c.args.tokens.now ++ more) in
-    let start = c.new-reading.ensures.start c.args.code.now c.args.unit c.args.tokens.now in
+    let end = scan_words c.args.code.now c.args.unit start c.args.tokens.now in
+    let stops = c.in-Err.ensures.scans start (c.new-reading.ensures.start c.args.unit) in
     record {
-      exact = subst (λ (l : List Word). IsFaultOf c.in-Err.fault (read l)) all (c.in-Err.ensures.fault total told [] start);
+      exact = stopped_so end c.args.unit c.in-Err.fault stops;
       journals = tt;
+      whole = tt;
       short = tt;
-      memory = λ memory still.
+      memory = λ memory.
           let is : c.in-Err.fault ≡ OutOfMemory = cc memory in
-          c.in-Err.ensures.memory (ap Err is) total told [] start (subst (λ (l : List Word). IsStill (read l)) (sym all) still);
+          let e = subst (λ f. Stops c.args.unit end f) is stops in
+          (e.at, e.high);
     }

@@ -1,13 +1,15 @@
-use Rattle.std.proofs.Common.{◌≡◌, ◌++◌, ◌∙◌, List, Ok, Option, ℕ, Some, IfSome, length, subst, sym}
+use Rattle.std.proofs.Common.{◌≡◌, ◌∙◌, List, None, Ok, Err, Option, ℕ, Some, IfSome, length, ap, subst, sym}
 use Rattle.std.proofs.lemmas.Result.{err_from_is_err_and}
-use Rattle.irig_vcd.specs.Code.DumpReader.{HasReadWords, read_words, told_words}
+use Rattle.irig_vcd.specs.Code.DumpReader.{HasReadWords}
 use Rattle.irig_vcd.specs.Code.Gathered.{gathered}
-use Rattle.irig_vcd.specs.Dump.{dump}
 use Rattle.irig_vcd.specs.Code.Journals.{Holds, text_at}
-use Rattle.irig_vcd.specs.Journals.{Comment, journals_in}
-use Rattle.irig_vcd.specs.Words.{Word, words_of}
+use Rattle.irig_vcd.specs.Dump.{dump, scan_of, scanned}
+use Rattle.irig_vcd.specs.Journals.{Comment}
+use Rattle.irig_vcd.specs.Level.{HasEdge}
+use Rattle.irig_vcd.specs.Words.{words_of}
+use Rattle.irig_vcd.specs.declared.fault.VcdFault.TheVariants.{OutOfMemory}
 use Rattle.irig_vcd.specs.declared.journals.Journals.{Journals}
-use Rattle.irig_vcd.proofs.PartSteps.{dump_kept, end_fault, told_in}
+use Rattle.irig_vcd.proofs.PartSteps.{before_scanned, dump_kept, end_fault, told_in}
 use Rattle.irig_vcd.proofs.WholeDump.{fails_now, many_journals, no_dump, with_journal}
 use Rattle.irig_vcd.proofs.Gathered.{whole_gathered}
 use Rattle.irig_vcd.proofs.dump_reader.finish.Goals as goal
@@ -16,14 +18,14 @@ use Rattle.irig_vcd.proofs.dump_reader.finish.Goals.{After-one}
 -- what the dump is, its journals, and the bytes of the first one
 read_up : (c : After-one) (wire : Option (List ℕ)) (bytes code : List ℕ) → HasReadWords wire (words_of bytes) c.args.unit code c.args.reading
     → c.args.journal.items ≡ gathered c.args.reading bytes
-    → (dump wire bytes ≡ Ok c.in-Ok.recording) × Holds (journals_in bytes) c.in_ok-end.field-0.journals
+    → (dump wire bytes ≡ Ok c.in-Ok.recording) × Holds (scanned (scan_of wire bytes)).journals c.in_ok-end.field-0.journals
     × IfSome c.in_ok-end.field-0.journals.first (λ p. text_at bytes (Some p) ≡ Some c.args.journal.items)
 read_up c wire bytes code h gathers =
-    let total = λ (m : List Word). read_words wire (words_of bytes ++ m) in
-    let told = λ (m : List Word). told_words (words_of bytes ++ m) in
-    let k = c.in_ok-end.ensures.exact code total told h in (
-      dump_kept wire bytes k.0 c.in_ok-end.field-0.end k.1 ∙ c.in-Ok.ensures.exact k.0 k.2,
-      subst (λ (all : List Comment). Holds all c.in_ok-end.field-0.journals) (told_in bytes) (c.in_ok-end.ensures.journals code total told h),
+    let unit = c.args.unit in
+    let k = c.in_ok-end.ensures.exact h.0 h.2 in (
+      dump_kept wire bytes unit code c.args.reading k.0 c.in_ok-end.field-0.end h k.1 ∙ c.in-Ok.ensures.exact k.0 k.2,
+      subst (λ (all : List Comment). Holds all c.in_ok-end.field-0.journals) (told_in wire bytes unit code c.args.reading h)
+          (c.in_ok-end.ensures.journals h.0 h.2),
       subst (λ (j : Journals). IfSome j.first (λ p. text_at bytes (Some p) ≡ Some c.args.journal.items)) (sym c.in_ok-end.ensures.same)
           (whole_gathered c.args.reading.journals.first c.args.reading.pending (length bytes) bytes c.args.journal.items gathers),
     )
@@ -31,26 +33,31 @@ read_up c wire bytes code h gathers =
 pub returns-in_err-end-clause-fault : goal.returns-in_err-end-clause-fault
 returns-in_err-end-clause-fault c =
     let p = err_from_is_err_and c.from_residual.result c.from_residual.ensures.1 in
-    let e = c.in_err-end.field-0.0 in
-    rw (p.1, p.2) (λ wire bytes code h gathers. end_fault wire bytes e
-    (c.in_err-end.ensures.exact code (λ (m : List Word). read_words wire (words_of bytes ++ m))
-    (λ (m : List Word). told_words (words_of bytes ++ m)) h))
+    rw (p.1, p.2) (λ wire bytes code h gathers. end_fault wire bytes c.args.unit code c.args.reading c.in_err-end.field-0.0 h
+    (c.in_err-end.ensures.exact h.0 h.2))
+
+pub returns-in_err-end-clause-memory : goal.returns-in_err-end-clause-memory
+returns-in_err-end-clause-memory c = λ memory wire bytes code h.
+    let p = err_from_is_err_and c.from_residual.result c.from_residual.ensures.1 in
+    let is : c.in_err-end.field-0.0 ≡ OutOfMemory = cc (rw (p.1, p.2) at memory) in
+    subst HasEdge (sym (before_scanned wire bytes c.args.unit code (h.0, None) h.1)) (c.in_err-end.ensures.memory (ap Err is) h.0 h.2)
 
 pub kept-requires-clause-kept : goal.kept-requires-clause-kept
 kept-requires-clause-kept c = c.in_ok-end.ensures.kept
 
 pub returns-in-Err-clause-fault : goal.returns-in-Err-clause-fault
 returns-in-Err-clause-fault c = λ wire bytes code h gathers.
-    let k = c.in_ok-end.ensures.exact code (λ (m : List Word). read_words wire (words_of bytes ++ m)) (λ (m : List Word). told_words (words_of bytes ++ m)) h in
-    no_dump wire bytes c.in-Err.fault (fails_now c.in-Err.fault _ (dump_kept wire bytes k.0 c.in_ok-end.field-0.end k.1 ∙ c.in-Err.ensures.exact k.0 k.2))
+    let k = c.in_ok-end.ensures.exact h.0 h.2 in
+    no_dump wire bytes c.in-Err.fault (fails_now c.in-Err.fault _ (dump_kept wire bytes c.args.unit code c.args.reading k.0 c.in_ok-end.field-0.end h k.1
+    ∙ c.in-Err.ensures.exact k.0 k.2))
 
 pub returns-in-Ok-one-clause-read : goal.returns-in-Ok-one-clause-read
 returns-in-Ok-one-clause-read c = λ wire bytes code h gathers.
     let known = read_up (goal.at.returns-in-Ok-one-clause-read c).After-one wire bytes code h gathers in
-    with_journal wire bytes c.in-Ok.recording _ known.0 (c.in-Ok-one.ensures.one (journals_in bytes) bytes known.1 known.2)
+    with_journal wire bytes c.in-Ok.recording _ known.0 (c.in-Ok-one.ensures.one (scanned (scan_of wire bytes)).journals bytes known.1 known.2)
 
 pub returns-in-Err-one-clause-fault : goal.returns-in-Err-one-clause-fault
 returns-in-Err-one-clause-fault c = λ wire bytes code h gathers.
     let known = read_up (goal.at.returns-in-Err-one-clause-fault c).After-one wire bytes code h gathers in
     fails_now c.in-Err-one.fault _ (many_journals wire bytes c.in-Ok.recording c.in-Err-one.fault known.0
-    (c.in-Err-one.ensures.one (journals_in bytes) bytes known.1 known.2))
+    (c.in-Err-one.ensures.one (scanned (scan_of wire bytes)).journals bytes known.1 known.2))

@@ -1,32 +1,39 @@
-use Rattle.std.proofs.Common.{◌≡◌, ◌≤◌, ◌++◌, ◌+◌, ◌∙◌, false, Err, List, None, Option, Some, ℕ, length, take, drop, ap, sym, subst}
+use Rattle.std.proofs.Common.{◌≡◌, ◌≤◌, ◌++◌, ◌+◌, ◌∙◌, false, inl, List, Option, Some, ℕ, length, take, drop, ap, sym, subst}
 use Rattle.irig_vcd.specs.Answer.{IsFaultOf, bytes_of}
-use Rattle.irig_vcd.specs.Code.DumpReader.{Stage}
+use Rattle.irig_vcd.specs.Code.DumpReader.{HasRead, HasReadWords, Stage, StopsAt}
 use Rattle.irig_vcd.specs.Code.Gathered.{so_far}
 use Rattle.irig_vcd.specs.Code.Joins.{ends_inside}
 use Rattle.irig_vcd.specs.Code.Journals.{place_view}
 use Rattle.irig_vcd.specs.Code.NextPart.{IsDark, IsReadUp}
 use Rattle.irig_vcd.specs.Parts.{dump_parts}
-use Rattle.irig_vcd.specs.Words.{words_from, words_of}
-use Rattle.irig_vcd.proofs.IdleParts.{no_place, not_idle}
-use Rattle.irig_vcd.proofs.PartSteps.{gathers_same, put_fault, put_read}
+use Rattle.irig_vcd.specs.Words.{Word, words_from, words_of}
+use Rattle.irig_vcd.specs.declared.fault.VcdFault.TheVariants.{OutOfMemory}
+use Rattle.irig_vcd.proofs.PartSteps.{gathers_same, memory_at, memory_journal, next_bytes, part_words, put_read, stops_at}
 use Rattle.irig_vcd.proofs.dump_reader.read_held.Goals as goal
-use Rattle.irig_vcd.proofs.dump_reader.read_held.Goals.{After-whole_len-whole}
+use Rattle.irig_vcd.proofs.dump_reader.read_held.Goals.{After-whole_len-whole, In-Err}
 
 -- what is read ends outside a word
 outside : (c : After-whole_len-whole) → ends_inside false (take c.whole_len-whole.result c.args.progress.now.held.items) ≡ false
 outside c = ap (λ (l : List ℕ). ends_inside false (take c.whole_len-whole.result l)) (sym c.as_slice.ensures.value) ∙ c.whole_len-whole.ensures.outside
 
+-- what stops the reading
+stops : (c : In-Err) (wire : Option (List ℕ)) (bytes : List ℕ) → (r : HasRead wire bytes c.args.progress.now)
+    → StopsAt c.args.progress.now.unit wire (words_of r.front ++ words_from c.args.progress.now.gone false
+    (take c.whole_len-whole.result c.args.progress.now.held.items)) c.in-Err.fault
+stops c wire bytes r =
+    let s = c.args.progress.now in
+    let stage = subst (λ (w : Option (List ℕ)). Stage w (words_of r.front) s.unit s.code.items s.reading) (sym r.name) r.stage in
+    subst (λ (w : Option (List ℕ)). StopsAt s.unit w (words_of r.front ++ words_from s.gone false (take c.whole_len-whole.result s.held.items)) c.in-Err.fault)
+    r.name (c.in-Err.ensures.fault (words_of r.front) stage r.none)
+
 pub returns-in-Err-clause-fault : goal.returns-in-Err-clause-fault
 returns-in-Err-clause-fault c = λ wire bytes more r.
     let s = c.args.progress.now in
-    let e = c.in-Err.fault in
     let n = c.whole_len-whole.result in
     let cut = outside (goal.at.returns-in-Err-clause-fault c).After-whole_len-whole in
-    let stage = subst (λ (w : Option (List ℕ)). Stage w (words_of r.front) s.unit s.code.items s.reading) (sym r.name) r.stage in
-    subst (λ (l : List ℕ). IsFaultOf e (dump_parts wire (l ++ more))) (sym r.whole)
-    (subst (λ (w : Option (List ℕ)). IsFaultOf e (dump_parts w ((r.front ++ s.held.items) ++ more))) r.name
-    (put_fault (bytes_of s.wire) r.front s.held.items more n s.gone e r.place r.closed cut
-    (λ m. c.in-Err.ensures.fault (words_of r.front) m stage r.none)))
+    subst (λ (l : List ℕ). IsFaultOf c.in-Err.fault (dump_parts wire (l ++ more))) (sym r.whole)
+    (stops_at s.unit wire ((r.front ++ s.held.items) ++ more) _ _ c.in-Err.fault (part_words r.front s.held.items more n s.gone r.place r.closed cut)
+    (stops (goal.at.returns-in-Err-clause-fault c).In-Err wire bytes r))
 
 pub returns-in_ok-gather-in-Ok-Ok-clause-read : goal.returns-in_ok-gather-in-Ok-Ok-clause-read
 returns-in_ok-gather-in-Ok-Ok-clause-read c = λ wire bytes r.
@@ -56,22 +63,28 @@ returns-in_ok-gather-in-Ok-Ok-clause-held c =
     subst (λ (u : Option ℕ). IsReadUp u now) (sym known) (subst IsDark (sym held) c.whole_len-whole.ensures.dark)
 
 pub returns-in-Err-clause-memory : goal.returns-in-Err-clause-memory
-returns-in-Err-clause-memory c = λ memory wire bytes more r.
+returns-in-Err-clause-memory c = λ memory wire bytes r.
     let s = c.args.progress.now in
     let n = c.whole_len-whole.result in
-    let cut = outside (goal.at.returns-in-Err-clause-memory c).After-whole_len-whole in
-    not_idle wire bytes more s n cut r (λ none e is. let no = c.in-Err.ensures.heading none e is in absurd (cc no))
-    (λ unit known words m h still none. c.in-Err.ensures.memory (ap Err (cc memory)) unit known words m h still)
+    let is : c.in-Err.fault ≡ OutOfMemory = cc memory in
+    let next = next_bytes wire bytes s n (outside (goal.at.returns-in-Err-clause-memory c).After-whole_len-whole) r in
+    memory_at s.unit wire bytes (r.front ++ take n s.held.items) (drop n s.held.items) next.more next.bytes_so (inl next.closed) next.all
+    (subst (λ (l : List Word). StopsAt s.unit wire l OutOfMemory) (sym next.words_so)
+    (subst (λ e. StopsAt s.unit wire (words_of r.front ++ words_from s.gone false (take n s.held.items)) e) is
+    (stops (goal.at.returns-in-Err-clause-memory c).In-Err wire bytes r)))
 
 pub returns-in_err-gather-in-Ok-Ok-clause-memory : goal.returns-in_err-gather-in-Ok-Ok-clause-memory
-returns-in_err-gather-in-Ok-Ok-clause-memory c = λ memory wire bytes more r.
+returns-in_err-gather-in-Ok-Ok-clause-memory c = λ memory wire bytes r.
     let s = c.args.progress.now in
     let mid = c.read_to.new.self in
     let n = c.whole_len-whole.result in
-    let cut = outside (goal.at.returns-in_err-gather-in-Ok-Ok-clause-memory c).After-whole_len-whole in
-    let reads = rw c.in-Ok-Ok.field-0-is at c.in-Ok-Ok.ensures.read in
-    not_idle wire bytes more s n cut r (λ none e is. let no = c.in-Ok-Ok.ensures.heading none e is in absurd (cc no))
-    (λ unit known words m h still none. c.in_err-gather-in-Ok-Ok.ensures.memory
-    (no_place (bytes_of s.wire) (words ++ words_from s.gone false (take n s.held.items)) m c.in-Ok-Ok.field-0-0 (mid.gone + n) mid.code.items mid.reading
-    (reads words (subst (λ (u : Option ℕ). Stage (bytes_of s.wire) words u s.code.items s.reading) (sym known) h)
-    (λ empty. let no : Some unit ≡ None = sym known ∙ empty in absurd (cc no))) still none))
+    let unit = c.in-Ok-Ok.field-0-0 in
+    let front = r.front ++ take n s.held.items in
+    let next = next_bytes wire bytes s n (outside (goal.at.returns-in_err-gather-in-Ok-Ok-clause-memory c).After-whole_len-whole) r in
+    let stage = subst (λ (w : Option (List ℕ)). Stage w (words_of r.front) s.unit s.code.items s.reading) (sym r.name) r.stage in
+    let got = (rw c.in-Ok-Ok.field-0-is at c.in-Ok-Ok.ensures.read) (words_of r.front) stage r.none in
+    memory_journal s.unit wire bytes front (drop n s.held.items) unit (mid.gone + n) mid.code.items mid.reading next.bytes_so
+    (inl next.closed)
+    (subst (λ (w : Option (List ℕ)). HasReadWords w (words_of front) unit mid.code.items mid.reading) r.name
+    (subst (λ (l : List Word). HasReadWords (bytes_of s.wire) l unit mid.code.items mid.reading) (sym next.words_so) got))
+    c.in_err-gather-in-Ok-Ok.ensures.memory

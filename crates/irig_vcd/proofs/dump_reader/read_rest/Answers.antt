@@ -1,24 +1,56 @@
-use Rattle.std.proofs.Common.{◌≡◌, ◌∙◌, length, take, arith}
-use Rattle.std.proofs.lemmas.List.{take_all}
+use Rattle.std.proofs.Common.{◌≡◌, ◌∙◌, ◌+◌, [], inr, refl, length, take, arith, sym, subst}
+use Rattle.std.proofs.lemmas.List.{append-nil, take_all}
 use Rattle.irig_vcd.specs.Code.Gathered.{so_far}
 use Rattle.irig_vcd.specs.Code.Journals.{place_view}
-use Rattle.irig_vcd.proofs.PartSteps.{gathers_same, last_early, last_fault, last_gathered, last_read}
+use Rattle.irig_vcd.specs.Code.DumpReader.{StopsAt}
+use Rattle.irig_vcd.specs.Words.{words_of}
+use Rattle.irig_vcd.specs.declared.fault.VcdFault.TheVariants.{OutOfMemory}
+use Rattle.irig_vcd.proofs.PartSteps.{gathers_same, last_early, last_fault, last_gathered, last_read, memory_at, memory_journal, stops_at}
+use Rattle.irig_vcd.proofs.Sound.{never_declared}
+use Rattle.irig_vcd.proofs.WholeDump.{fails_now, no_parts}
 use Rattle.irig_vcd.proofs.dump_reader.read_rest.Goals as goal
+use Rattle.irig_vcd.proofs.dump_reader.read_rest.Goals.{After-len-all}
+
+-- all bytes that are held
+all_held : (c : After-len-all) → take c.len-all.result c.args.progress.now.held.items ≡ c.args.progress.now.held.items
+all_held c = let s = c.args.progress.now in take_all c.len-all.result s.held.items (omega (arith, c.len-all.ensures, s.held.ok.0))
 
 pub returns-in-Err-clause-fault : goal.returns-in-Err-clause-fault
 returns-in-Err-clause-fault c = λ wire bytes r.
     let s = c.args.progress.now in
-    let n = c.len-all.result in
-    let all : take n s.held.items ≡ s.held.items = take_all n s.held.items (omega (arith, c.len-all.ensures, s.held.ok.0)) in
-    last_fault wire bytes s n c.in-Err.fault all c.in-Err.ensures.fault r
+    stops_at s.unit wire bytes (words_of bytes) [] c.in-Err.fault (sym (append-nil (words_of bytes)))
+    (last_fault wire bytes s c.len-all.result c.in-Err.fault (all_held (goal.at.returns-in-Err-clause-fault c).After-len-all) c.in-Err.ensures.fault r)
+
+pub returns-in-Err-clause-memory : goal.returns-in-Err-clause-memory
+returns-in-Err-clause-memory c = λ memory wire bytes r.
+    let s = c.args.progress.now in
+    let is : c.in-Err.fault ≡ OutOfMemory = cc memory in
+    memory_at s.unit wire bytes bytes [] [] (sym (append-nil bytes)) (inr refl) (sym (append-nil (words_of bytes)))
+    (subst (λ e. StopsAt s.unit wire (words_of bytes) e) is (last_fault wire bytes s c.len-all.result c.in-Err.fault
+    (all_held (goal.at.returns-in-Err-clause-memory c).After-len-all) c.in-Err.ensures.fault r))
 
 pub returns-in-Ok-Err-clause-fault : goal.returns-in-Ok-Err-clause-fault
 returns-in-Ok-Err-clause-fault c = λ wire bytes r.
     let s = c.args.progress.now in
-    let n = c.len-all.result in
-    let all : take n s.held.items ≡ s.held.items = take_all n s.held.items (omega (arith, c.len-all.ensures, s.held.ok.0)) in
     let early = rw c.in-Ok-Err.field-0-is at c.in-Ok-Err.ensures.early in
-    last_early wire bytes s n c.in-Ok-Err.fault all early.0 early.1 r
+    fails_now c.in-Ok-Err.fault _ (no_parts wire bytes c.in-Ok-Err.fault (last_early wire bytes s c.len-all.result c.in-Ok-Err.fault
+    (all_held (goal.at.returns-in-Ok-Err-clause-fault c).After-len-all) early.0 early.1 r))
+
+pub returns-in-Ok-Err-clause-memory : goal.returns-in-Ok-Err-clause-memory
+returns-in-Ok-Err-clause-memory c = λ memory wire bytes r.
+    let s = c.args.progress.now in
+    let early = rw c.in-Ok-Err.field-0-is at c.in-Ok-Err.ensures.early in
+    absurd (never_declared wire (words_of bytes) c.in-Ok-Err.fault (last_early wire bytes s c.len-all.result c.in-Ok-Err.fault
+    (all_held (goal.at.returns-in-Ok-Err-clause-memory c).After-len-all) early.0 early.1 r) (cc memory))
+
+pub returns-in_err-gather-in-Ok-Ok-clause-memory : goal.returns-in_err-gather-in-Ok-Ok-clause-memory
+returns-in_err-gather-in-Ok-Ok-clause-memory c = λ memory wire bytes r.
+    let s = c.args.progress.now in
+    let mid = c.read_to.new.self in
+    let n = c.len-all.result in
+    memory_journal s.unit wire bytes bytes [] c.in-Ok-Ok.unit (mid.gone + n) mid.code.items mid.reading (sym (append-nil bytes)) (inr refl)
+    (last_read wire bytes s n c.in-Ok-Ok.unit mid.code.items mid.reading (all_held (goal.at.returns-in_err-gather-in-Ok-Ok-clause-memory c).After-len-all)
+    (rw c.in-Ok-Ok.field-0-is at c.in-Ok-Ok.ensures.read) r) c.in_err-gather-in-Ok-Ok.ensures.memory
 
 pub returns-in_ok-gather-in-Ok-Ok-clause-read : goal.returns-in_ok-gather-in-Ok-Ok-clause-read
 returns-in_ok-gather-in-Ok-Ok-clause-read c = λ wire bytes r.

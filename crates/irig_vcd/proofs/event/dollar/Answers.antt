@@ -1,36 +1,22 @@
-use Rattle.std.proofs.Common.{◌≡◌, [], None, true, false, inl, refl, sym, rules, ◌∙◌}
+use Rattle.std.proofs.Common.{◌≡◌, None, true, false, inl, refl, sym, rules, ◌∙◌}
 use Rattle.irig_vcd.specs.Code.Token.{word_of}
-use Rattle.irig_vcd.specs.Events.{any_word, is_comment}
+use Rattle.irig_vcd.specs.Sections.{is_comment}
+use Rattle.irig_vcd.specs.Scan.{comment_of}
 use Rattle.irig_vcd.specs.Sections.{is_mark}
-use Rattle.irig_vcd.proofs.EventSteps.{holds_none, reads_comment, reads_mark}
+use Rattle.irig_vcd.proofs.ScanSteps.{past_mark, stays, to_comment, via, via_same}
 use Rattle.irig_vcd.proofs.event.dollar.Goals as goal
 
-pub returns-then-is_mark-clause-read : goal.returns-then-is_mark-clause-read
-returns-then-is_mark-clause-read c = λ means code. (
-  any_word,
-  None,
-  [],
-  record {
-    means = means;
-    ends = inl refl;
-    reads = reads_mark code (word_of c.args.token) c.args.tokens.now c.requires (sym c.is_mark.ensures ∙ c.if-is_mark.true);
-    holds = holds_none c.args.journals.now;
-  },
-)
+pub returns-then-is_mark-clause-takes : goal.returns-then-is_mark-clause-takes
+returns-then-is_mark-clause-takes c = λ code unit s none k.
+    let w = word_of c.args.token in
+    via_same code unit s _ _ None c.args.tokens.now c.args.journals.now c.args.pending.now
+    (past_mark code unit s w c.args.tokens.now none c.requires (sym c.is_mark.ensures ∙ c.if-is_mark.true))
+    (stays code unit s c.args.tokens.now c.args.journals.now c.args.pending.now (inl none) k)
 
-pub returns-clause-read : goal.returns-clause-read
-returns-clause-read c = λ means code.
+pub returns-clause-takes : goal.returns-clause-takes
+returns-clause-takes c = λ code unit s none k.
     let w = word_of c.args.token in
     let mark : is_mark c.args.token.slice.now ≡ false = sym c.is_mark.ensures ∙ c.if-is_mark.false in
     let begins : is_comment c.args.token.slice.now ≡ true = search rules in
-    let r = c.take_comment.ensures.read code in (
-      r.0,
-      r.1,
-      r.2,
-      record {
-        means = r.3.means;
-        ends = r.3.ends;
-        reads = reads_comment code w c.args.tokens.now _ None r.2 r.0 r.1 c.requires mark begins r.3.reads;
-        holds = r.3.holds;
-      },
-    )
+    via code unit s (comment_of None) _ c.args.tokens.now None _ _ _ (to_comment code unit s w c.args.tokens.now none c.requires mark begins)
+    (c.take_comment.ensures.read code unit (record s { opened = comment_of None }) (record { holds = k.holds; means = refl }))

@@ -1,5 +1,5 @@
 use Rattle.std.proofs.Common.{◌∙◌, arith}
-use Rattle.irig_vcd.proofs.PulseSteps.{along_pulse, fewer_left, past_edge}
+use Rattle.irig_vcd.proofs.PulseSteps.{fewer_left, passes_pulse, passes_then}
 use Rattle.irig_vcd.proofs.pulses.pulses_in.Goals as goal
 
 pub loop-at-preserved : goal.loop-at-preserved
@@ -18,8 +18,8 @@ loop-at-preserved c =
       fallen = put.fallen;
       late = omega (arith, put.time);
       fewer = omega (arith, fewer_left b _ c.loop-at.at _ _ _ rise up, fewer_left b _ rise.end _ _ _ fall down, i.fewer);
-      journals = λ more. i.journals more ∙ (past_edge b _ c.loop-at.at _ _ _ rise up more ∙ past_edge b _ rise.end _ _ _ fall down more);
-      along = λ total h.
-          along_pulse b c.args.code c.args.unit c.loop-at.clock total c.loop-at.trace c.put_pulse.new.self _ c.loop-at.at
-          rise fall c.requires.unit up down late.0 late.1 late.2 put.ok put.time (i.along total h);
+      passes = λ s none traced.
+          let p = i.passes s none traced in
+          passes_then _ c.args.unit s _ _ _ _ _ _ _ p (passes_pulse b c.args.code c.args.unit c.loop-at.clock c.loop-at.trace c.put_pulse.new.self
+          _ c.loop-at.at rise fall p.now c.requires.unit up down late.0 late.1 late.2 put.ok put.time (p.opened ∙ none) p.traced);
     }

@@ -1,5 +1,7 @@
-use Rattle.std.proofs.Common.{◌≤◌, ◌-◌, ◌∷◌, [], length}
-use Rattle.irig_vcd.specs.Code.Along.{Along, HasFallen, SameJournals, Total}
+use Rattle.std.proofs.Common.{◌≡◌, ◌≤◌, ◌-◌, ◌∷◌, [], length}
+use Rattle.irig_vcd.specs.Code.Along.{HasFallen}
+use Rattle.irig_vcd.specs.Code.Scanned.{IsTraced, Passes}
+use Rattle.irig_vcd.specs.Scan.{Scan, closed}
 use Rattle.irig_vcd.proofs.PulseSteps.{words_here}
 use Rattle.irig_vcd.proofs.pulses.pulses_in.Given as goal
 
@@ -10,9 +12,8 @@ invariant-loop-at l = record {
   fallen : HasFallen l.trace;
   late : l.trace.time ≤ l.clock.whole;
   fewer : length (words_here l.base l.source l.at) ≤ length l.fn.tokens;
-  journals : SameJournals l.fn.tokens (words_here l.base l.source l.at);
-  along : (total : Total) → Along (l.code ∷ []) l.unit total l.fn.trace l.fn.from l.fn.tokens
-      → Along (l.code ∷ []) l.unit total l.trace l.clock (words_here l.base l.source l.at);
+  passes : (s : Scan) → s.opened ≡ closed → IsTraced l.unit s l.fn.trace l.fn.from
+      → Passes (l.code ∷ []) l.unit s l.fn.tokens l.trace l.clock (words_here l.base l.source l.at);
 }
 
 abbrev pub decreases-loop-at : goal.decreases-loop-at

@@ -3,8 +3,8 @@ use Rattle.irig_vcd.specs.Code.Along.{at_micros}
 use Rattle.irig_vcd.proofs.PulseSteps.{micros_step}
 use Rattle.irig_vcd.proofs.pulses.pulses_in_micros.Goals as goal
 
-pub returns-clause-along : goal.returns-clause-along
-returns-clause-along c = λ total along.
-    micros_step (c.args.code ∷ []) c.new.result (at_micros c.args.from) c.in_ok-clock.clock total
+pub returns-clause-passes : goal.returns-clause-passes
+returns-clause-passes c = λ s none.
+    micros_step (c.args.code ∷ []) c.new.result (at_micros c.args.from) c.in_ok-clock.clock s
     c.args.trace.now c.pulses_in.new.trace c.args.tokens.now c.pulses_in.new.tokens
-    c.new.ensures (c.in_ok-clock.ensures.along total) along
+    c.new.ensures (c.in_ok-clock.ensures.passes s none)

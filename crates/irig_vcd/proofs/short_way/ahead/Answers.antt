@@ -1,14 +1,26 @@
-use Rattle.std.proofs.Common.{ℕ, List, subst}
-use Rattle.irig_vcd.specs.Code.Along.{Along, Total}
+use Rattle.std.proofs.Common.{◌≡◌, ℕ, List, refl, subst, sym, ◌∙◌}
+use Rattle.std.proofs.lemmas.Result.{err_from_is_err_and}
+use Rattle.irig_vcd.specs.Code.Scanned.{IsTraced, Passes}
+use Rattle.irig_vcd.specs.Scan.{Scan, closed}
 use Rattle.irig_vcd.proofs.PulseSteps.{late_fine, one_byte}
+use Rattle.irig_vcd.proofs.EarlyEdges.{high_before}
 use Rattle.irig_vcd.proofs.short_way.ahead.Goals as goal
 
 pub pulses-requires-clause-late : goal.pulses-requires-clause-late
 pulses-requires-clause-late c = late_fine c.args.unit c.args.clock c.args.trace.now.time (c.requires.unit c.if-is_quick.true) c.requires.time c.requires.late
 
-pub returns-then-has_sign-clause-along : goal.returns-then-has_sign-clause-along
-returns-then-has_sign-clause-along c =
+pub returns-then-has_sign-clause-passes : goal.returns-then-has_sign-clause-passes
+returns-then-has_sign-clause-passes c =
     subst
-    (λ (code : List ℕ). (total : Total) → Along code c.args.unit total c.args.trace.now c.args.clock c.args.tokens.now
-    → Along code c.args.unit total c.pulses.new.trace c.in_ok-now.now c.pulses.new.tokens)
-    (one_byte c.args.code.now (c.requires.one c.if-is_quick.true)) c.in_ok-now.ensures.along
+    (λ (code : List ℕ). (s : Scan) → s.opened ≡ closed → IsTraced c.args.unit s c.args.trace.now c.args.clock
+    → Passes code c.args.unit s c.args.tokens.now c.pulses.new.trace c.in_ok-now.now c.pulses.new.tokens)
+    (one_byte c.args.code.now (c.requires.one c.if-is_quick.true)) c.in_ok-now.ensures.passes
+
+pub returns-clause-passes : goal.returns-clause-passes
+returns-clause-passes c = λ s none traced. record { now = s; same = refl; traced = traced; journals = refl; opened = refl }
+
+pub returns-in_err-now-clause-memory : goal.returns-in_err-now-clause-memory
+returns-in_err-now-clause-memory c =
+    let p = err_from_is_err_and c.from_residual.result c.from_residual.ensures.1 in
+    let fallen = c.has_fallen.ensures c.if-has_fallen.true in
+    rw p.1 (λ changes h. high_before changes c.args.trace.now.time _ c.requires.late (sym h.before ∙ fallen.before))

@@ -1,30 +1,24 @@
-use Rattle.std.proofs.Common.{None}
-use Rattle.irig_vcd.specs.Events.{any_word}
-use Rattle.std.proofs.lemmas.Result.{IfOk-weaker, on_err_weaker}
-use Rattle.irig_vcd.proofs.ReachedSteps.{on_pulses, on_put, reached_bit, reached_pulses, reached_still}
+use Rattle.std.proofs.Common.{ap, ◌∙◌}
+use Rattle.irig_vcd.specs.Times.{micros_of}
+use Rattle.irig_vcd.proofs.ScanSteps.{leads_short, on_passed, on_put, put_bit, puts_passed}
 use Rattle.irig_vcd.proofs.short_way.take_bit.Goals as goal
 
-pub returns-in-Err-clause-memory : goal.returns-in-Err-clause-memory
-returns-in-Err-clause-memory c = λ words more total told j p takes r still.
-    c.in-Err.ensures.memory (reached_still c.args.code.now c.args.unit total told c.args.trace.now c.args.clock j r.0 r.1 words more r.2.here still)
+pub returns-in-Err-clause-scans : goal.returns-in-Err-clause-scans
+returns-in-Err-clause-scans c = λ words end j p takes l.
+    leads_short c.args.code.now c.args.unit end l.s words c.micros.result
+    (c.micros.ensures.value ∙ ap (micros_of c.args.unit) l.here.traced.last) (c.in-Err.ensures.memory l.s.changes l.here.traced.follows) l.left
 
-pub returns-in-Ok : goal.returns-in-Ok
-returns-in-Ok c =
+pub returns-in-Ok-clause-time : goal.returns-in-Ok-clause-time
+returns-in-Ok-clause-time c =
     let put = c.in-Ok.ensures in
     let on = on_put c.args.unit c.args.trace.now c.put.new.self c.args.clock c.micros.result c.args.high c.requires.time
     c.micros.ensures.value put.time put.ok in
-    record {
-      time = IfOk-weaker c.ahead.result _ _ (λ at along. on_pulses c.args.code.now c.args.unit c.put.new.self c.ahead.new.trace c.args.clock at
-          c.args.tokens.now c.ahead.new.tokens on along) c.ahead.ensures.along;
-      reached = IfOk-weaker c.ahead.result _ _ (λ at along words total told j p takes r.
-          let q = reached_bit c.args.code.now c.args.unit total told c.args.trace.now c.put.new.self c.args.clock j p words c.args.tokens.now c.args.high
-          c.micros.result c.requires.some takes c.micros.ensures.value put.ok r in
-          reached_pulses c.args.code.now c.args.unit total told c.put.new.self c.ahead.new.trace c.args.clock at j p c.args.tokens.now c.ahead.new.tokens
-          on (along total) c.ahead.ensures.journals q) c.ahead.ensures.along;
-      fewer = c.ahead.ensures.fewer;
-      memory = on_err_weaker c.ahead.result (λ no words more total told j p takes r still.
-          let q = reached_bit c.args.code.now c.args.unit total told c.args.trace.now c.put.new.self c.args.clock j p words c.args.tokens.now c.args.high
-          c.micros.result c.requires.some takes c.micros.ensures.value put.ok r in
-          no (reached_still c.args.code.now c.args.unit total told c.put.new.self c.args.clock j any_word None c.args.tokens.now more q.1 still))
-          c.ahead.ensures.memory;
-    }
+    on_passed c.ahead.result c.args.code.now c.args.unit c.put.new.self c.ahead.new.trace c.args.clock c.args.tokens.now c.ahead.new.tokens on
+    c.ahead.ensures.passes
+
+pub returns-in-Ok-clause-scans : goal.returns-in-Ok-clause-scans
+returns-in-Ok-clause-scans c = λ words end j p takes l.
+    let put = c.in-Ok.ensures in
+    puts_passed c.ahead.result c.args.code.now c.args.unit end c.put.new.self c.ahead.new.trace c.args.clock j p c.args.tokens.now c.ahead.new.tokens
+    c.ahead.ensures.passes c.ahead.ensures.memory (put_bit c.args.code.now c.args.unit end c.args.trace.now c.put.new.self c.args.clock j p
+    words c.args.tokens.now c.args.high c.micros.result c.requires.some takes c.micros.ensures.value put.time put.ok l)

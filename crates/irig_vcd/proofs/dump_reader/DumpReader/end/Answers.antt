@@ -1,4 +1,4 @@
-use Rattle.std.proofs.Common.{◌≡◌, Err, None, ap, sym, subst}
+use Rattle.std.proofs.Common.{◌≡◌, Err, None, inl, ap, sym, subst}
 use Rattle.irig_vcd.specs.Code.DumpReader.{HasRead}
 use Rattle.irig_vcd.specs.declared.progress.Progress.{Progress}
 use Rattle.std.proofs.lemmas.Result.{IfOk-weaker}
@@ -14,6 +14,11 @@ pub returns-in-Ok-clause-fault : goal.returns-in-Ok-clause-fault
 returns-in-Ok-clause-fault c = if_err c.finish.result (λ e says wire bytes r.
     let h = c.in-Ok.ensures.read wire bytes (subst (λ d. HasRead wire bytes d) (sym c.self.view_is) r) in
     says wire bytes c.read_rest.new.progress.code.items h.0 h.1) c.finish.ensures.fault
+
+pub returns-in-Ok-clause-memory : goal.returns-in-Ok-clause-memory
+returns-in-Ok-clause-memory c = λ memory wire bytes r.
+    let h = c.in-Ok.ensures.read wire bytes (subst (λ d. HasRead wire bytes d) (sym c.self.view_is) r) in
+    inl (c.finish.ensures.memory memory wire bytes c.read_rest.new.progress.code.items h.0)
 
 pub returns-in-Err-clause-heading : goal.returns-in-Err-clause-heading
 returns-in-Err-clause-heading c = λ wire bytes e r none is.

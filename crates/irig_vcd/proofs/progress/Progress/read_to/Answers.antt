@@ -1,16 +1,16 @@
-use Rattle.std.proofs.Common.{◌∙◌, Err, Option, ℕ, ap, subst, sym}
+use Rattle.std.proofs.Common.{Option, ℕ, subst}
 use Rattle.irig_vcd.specs.Answer.{bytes_of}
 use Rattle.irig_vcd.specs.Code.DumpReader.{Stage}
-use Rattle.irig_vcd.proofs.PartSteps.{next_fault, next_still, next_words}
+use Rattle.irig_vcd.proofs.PartSteps.{next_fault, next_words}
 use Rattle.irig_vcd.proofs.progress.Progress.read_to.Goals as goal
 
 pub returns-in-Err-clause-fault : goal.returns-in-Err-clause-fault
-returns-in-Err-clause-fault c = λ words more stage zero.
+returns-in-Err-clause-fault c = λ words stage zero.
     let s = c.args.self.now in
-    next_fault (bytes_of s.wire) words more s.gone c.args.whole c.deref.result.now s.held.items c.in-Some.unit
+    rw c.in-Some.is (next_fault (bytes_of s.wire) words s.gone c.args.whole c.deref.result.now s.held.items c.in-Some.unit
     c.as_slice-code.result.now s.code.items s.reading c.in-Err.fault c.deref.ensures.value c.as_slice-code.ensures.value
     (c.in-Err.ensures.fault (bytes_of s.wire))
-    (subst (λ (u : Option ℕ). Stage (bytes_of s.wire) words u s.code.items s.reading) c.in-Some.is stage)
+    (subst (λ (u : Option ℕ). Stage (bytes_of s.wire) words u s.code.items s.reading) c.in-Some.is stage))
 
 pub returns-in-Ok-clause-read : goal.returns-in-Ok-clause-read
 returns-in-Ok-clause-read c = λ words stage zero.
@@ -19,10 +19,3 @@ returns-in-Ok-clause-read c = λ words stage zero.
     c.as_slice-code.result.now s.code.items s.reading c.go_on.new.reading c.deref.ensures.value c.as_slice-code.ensures.value
     (c.in-Ok.ensures.read (bytes_of s.wire))
     (subst (λ (u : Option ℕ). Stage (bytes_of s.wire) words u s.code.items s.reading) c.in-Some.is stage)
-
-pub returns-in-Err-clause-memory : goal.returns-in-Err-clause-memory
-returns-in-Err-clause-memory c = λ memory unit known words more h still.
-    let s = c.args.self.now in
-    next_still (bytes_of s.wire) words more s.gone c.args.whole c.deref.result.now s.held.items c.in-Some.unit unit
-    c.as_slice-code.result.now s.code.items s.reading (sym c.in-Some.is ∙ known) c.deref.ensures.value c.as_slice-code.ensures.value
-    (c.in-Err.ensures.memory (ap Err (cc memory)) (bytes_of s.wire)) h still
