@@ -15,3 +15,4 @@ pub mod GeneratedFrames
 pub mod FramesAmongPulses
 pub mod FramesReadBack
 pub mod RegenerationReadBack
+pub mod Holds

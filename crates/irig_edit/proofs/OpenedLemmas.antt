@@ -4,5 +4,4 @@ pub mod TakenSteps
 pub mod TakenGroups
 pub mod Heads
 pub mod Parts
-pub mod OpenedMachines
 pub mod GoingOn

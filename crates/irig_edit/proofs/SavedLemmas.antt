@@ -1,5 +1,4 @@
 -- The text that a session is saved as.
 pub mod Numbers
 pub mod Rests
-pub mod SavedSteps
 pub mod SavedSections

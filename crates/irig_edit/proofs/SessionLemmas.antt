@@ -1,10 +1,6 @@
--- The machine of whole states that a session means.
-pub mod Machines
+-- Facts on the session as a machine.
+pub mod Works
 pub mod MachineSteps
-pub mod CallRuns
-pub mod Floors
 pub mod Refused
-pub mod Sums
-pub mod Aborts
-pub mod Endings
+pub mod CallRuns
 pub mod GroupLaws

@@ -11,7 +11,9 @@ mod state;
 
 pub use irig_index::{Cause, Verdict};
 pub use irig_track::Pulse;
-pub use law::{calls_give_back, generated_frames_read_back, groups_give_back, saved_goes_on};
+pub use law::{
+    calls_give_back, generated_frames_read_back, groups_give_back, saved_goes_on, steps_hold_pulses,
+};
 pub use saved::SavedText;
 pub use session::frame::Frame;
 pub use session::refusal::Refusal;

@@ -2,7 +2,7 @@
 
 ghost use Rattle.std.specs.Prelude.{◌≡◌, IfOk};
 ghost use Rattle.irig_edit.specs.Saved.SavedSession.{saved_text};
-ghost use Rattle.irig_edit.specs.Session.Session.{machine_in};
+ghost use Rattle.irig_edit.specs.Session.Session.{work_in};
 
 mod change_lines;
 mod stage;
@@ -18,7 +18,7 @@ impl Session {
     /// The text of the track's dump with the journal after it, as `docs/FORMATS.md` says under
     /// "The saved journal". The steps of an open group are saved one by one.
     pub fn saved(&self) -> Result<Vec<u8>, AllocError>
-        ensures { IfOk result (λ text. text.items ≡ saved_text (machine_in self.now)) }
+        ensures { IfOk result (λ text. text.items ≡ saved_text (work_in self.now)) }
     {
         whole(
             self.alloc,
@@ -29,7 +29,7 @@ impl Session {
 
     /// That text in parts. It takes no memory.
     pub fn saved_parts(&self) -> SavedText<'_>
-        ensures { result ≡ saved_text (machine_in self.now) }
+        ensures { result ≡ saved_text (work_in self.now) }
     {
         SavedText::new(&self.present, self.cursor, &self.journal)
     }

@@ -28,6 +28,10 @@ impl<R: Reversible> Journal<R> {
             begun (grouped_of R.turned R.delta s cursor self.old)
             ≡ Some (grouped_of R.turned R.delta s cursor self.new)) }
         ensures steps { (self.new.past ≡ self.old.past) × (self.new.future ≡ self.old.future) }
+        ensures floor { OnOk result (self.new.floor ≡ Some (record {
+          steps = length (past_of R.delta self.old);
+          cursor = cursor;
+        })) }
         ensures open { IsErr result ↔ IsSome self.old.floor }
         ensures err { OnErr result (IsErrOf result JournalFault.GroupOpen
             × (self.new ≡ self.old)) }
@@ -52,6 +56,7 @@ impl<R: Reversible> Journal<R> {
         ensures steps { OnOk result (IfSome self.old.floor (λ opening. past_of R.delta self.new
             ≡ joined_beyond R.gathered opening.steps (past_of R.delta self.old))) }
         ensures stays { self.new.future ≡ self.old.future }
+        ensures floor { OnOk result (self.new.floor ≡ None) }
 
         ensures none { IsErr result ↔ IsNone self.old.floor }
         ensures err { OnErr result (IsErrOf result JournalFault.NoGroup
@@ -113,6 +118,11 @@ impl<R: Reversible> Journal<R> {
         ensures steps { OnOk result ((future_of R.delta self.new ≡ [])
             × IfSome self.old.floor (λ opening. past_of R.delta self.new
             ≡ farthest opening.steps (past_of R.delta self.old))) }
+        ensures left { OnOk result (IfSome self.old.floor (λ opening.
+            (R.content state.new ≡ left_by R.turned (R.content state.old)
+            (changes_of (beyond opening.steps (past_of R.delta self.old))))
+            × (cursor.new ≡ opening.cursor))) }
+        ensures floor { OnOk result (self.new.floor ≡ None) }
         ensures once { OnOk result (IfSome self.old.floor (λ opening.
             CountsAlong R.counted R.turned (R.content state.old)
             (beyond opening.steps (past_of R.delta self.old))

@@ -151,10 +151,10 @@ module _ (s new : State) (start count : â„•) (moment : MomentView) (control : â„
 
 pub regen_reads_back : RegenReadsBack
 regen_reads_back start count control moment old new r lawful in_years step behind within =
-    found_again old.machine.present.state new.machine.present.state start count moment control lawful.present.state
-    (asked old.machine.present.state start count moment control step.0) step.1.0.after in_years r behind within
+    found_again old.state new.state start count moment control lawful
+    (asked old.state start count moment control step.0) step.1.after in_years r behind within
 
 pub regen_reads_first_back : RegenReadsFirstBack
 regen_reads_first_back start count control n moment old new p lawful in_years step last there class on =
-    first_again old.machine.present.state new.machine.present.state start count moment control lawful.present.state
-    (asked old.machine.present.state start count moment control step.0) step.1.0.after in_years n p last there class on
+    first_again old.state new.state start count moment control lawful
+    (asked old.state start count moment control step.0) step.1.after in_years n p last there class on

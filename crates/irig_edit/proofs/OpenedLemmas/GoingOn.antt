@@ -5,8 +5,7 @@ use Rattle.std.specs.List.{AllByRecursion}
 use Rattle.std.proofs.lemmas.Bool.Decides.{nat_tests}
 use Rattle.std.proofs.lemmas.List.{length-append, reverse-append, reverse-reverse, take-map}
 use Rattle.irig_codes.specs.Format.{FormatView}
-use Rattle.irig_journal.specs.Groups.{over}
-use Rattle.irig_journal.specs.History.{FitInTurn, History, Step}
+use Rattle.irig_journal.specs.History.{Step}
 use Rattle.irig_saved.specs.Faults.{IsFault}
 use Rattle.irig_saved.specs.Ranges.{IsSaved}
 use Rattle.irig_saved.specs.SavedText.{journal_text}
@@ -27,22 +26,20 @@ use Rattle.irig_vcd.specs.declared.fault.VcdFault.{VcdFault}
 use Rattle.irig_vcd.specs.declared.fault.VcdFault.TheVariants as fault
 use Rattle.irig_vcd.proofs.WrittenJournal.{journal_back}
 use Rattle.irig_saved.specs.declared.change.Change.{Change}
-use Rattle.irig_edit.specs.Changes.Delta.{Fits, turned}
-use Rattle.irig_edit.specs.Session.Keeping.{kept_back, kept_forward, machine}
+use Rattle.irig_edit.specs.Changes.Delta.{turned}
 use Rattle.irig_edit.specs.Changes.Laws.Edges.{pulses_of-edges_of}
-use Rattle.irig_edit.specs.Session.Limits.{IsKept}
+use Rattle.irig_edit.specs.Session.Limits.{IsWork}
 use Rattle.irig_edit.specs.Opened.Opened.{IsAccepted, IsLineAtFault, head_fault, mark_beyond, state_of}
 use Rattle.irig_edit.specs.Opened.Openings.{IsBad, IsJournalFault, IsOpened, IsTextOf, IsUnopened}
 use Rattle.irig_edit.specs.Saved.Saved.{saved_step}
 use Rattle.irig_edit.specs.Saved.SavedSession.{saved_of, saved_text}
-use Rattle.irig_edit.specs.Session.Session.{SessionView, grouped_in}
+use Rattle.irig_edit.specs.Session.Session.{SessionView, work_in}
+use Rattle.irig_edit.specs.Session.Work.{Work, with_floor}
 use Rattle.irig_edit.specs.State.State.{IsMark, IsState, State, recording_of, state}
 use Rattle.irig_edit.specs.Opened.Taken.{CanTakeAll, StopsAfter, steps_of}
-use Rattle.irig_edit.specs.Opened.Walk.{walk}
 use Rattle.irig_edit.proofs.OpenedLemmas.Heads.{head_marks}
 use Rattle.irig_edit.specs.Changes.Laws.Delta.{IsState-turned}
 use Rattle.irig_edit.proofs.SavedLemmas.Numbers.{change_small, digit_permitted, times_small}
-use Rattle.irig_edit.proofs.SavedLemmas.SavedSteps.{steps_back-kept, steps_on-kept}
 
 -- saved steps are the steps that were saved
 steps_of-saved : (ds : List (Step Change)) → steps_of (map saved_step ds) ≡ ds
@@ -61,20 +58,7 @@ all-reverse P [] all = tt
 all-reverse P (x ∷ xs) all =
     subst (AllByRecursion P) (sym (reverse-append (x ∷ []) xs)) (all-append P (reverse xs) (x ∷ []) (all-reverse P xs all.1) (all.0, tt))
 
--- the steps of a machine within its limits can be taken, back and on
-pub can_go_back : (s : State) (ds : List (Step Change)) → FitInTurn Fits turned s ds → AllByRecursion IsKept (kept_back s ds)
-    → CanTakeAll s ds
-can_go_back s [] fit all = tt
-can_go_back s (d ∷ ds) fit all =
-    (record { fits = fit.0; cursor = all.0.cursor }, can_go_back (turned s d.change).0 ds fit.1 all.1)
-
-pub can_go_on : (s : State) (ds : List (Step Change)) → FitInTurn Fits turned s ds → AllByRecursion IsKept (kept_forward s ds)
-    → CanTakeAll s ds
-can_go_on s [] fit all = tt
-can_go_on s (d ∷ ds) fit all =
-    (record { fits = fit.0; cursor = all.0.cursor }, can_go_on (turned s d.change).0 ds fit.1 all.1)
-
--- so can the first of them
+-- if steps can be taken, so can the first of them
 first_taken : (s : State) (ds : List (Step Change)) (n : ℕ) → CanTakeAll s ds → CanTakeAll s (take n ds)
 first_taken s [] zero can = tt
 first_taken s [] (suc n) can = tt
@@ -144,24 +128,16 @@ one_journal {R} {T} read r s t told none =
     let both : (r, Some t) ≡ (s, None) = cc in
     let bad : Some t ≡ None = ap (λ (p : R × Option T). p.1) both in cc
 
--- a machine, whose text is short
-module _ (h : History State Change) (is : IsState h.state) (within : h.cursor ≤ length h.state.pulses)
-    (back : CanTakeAll h.state h.past) (on : CanTakeAll h.state h.future) (short : length (saved_text (machine h)) ≤ 2 ^ 28) where
+-- a session, whose text is short
+module _ (w : Work) (is : IsWork w) (short : length (saved_text w) ≤ 2 ^ 28) where
   abbrev saved : Saved
-  saved = saved_of (machine h)
+  saved = saved_of w
 
   abbrev recorded : RecordingView
-  recorded = recording_of h.state
-
-  -- its steps by their names
-  past_named : saved.past ≡ reverse (map saved_step h.past)
-  past_named = ap reverse (steps_back-kept h.state h.cursor h.past)
-
-  future_named : saved.future ≡ map saved_step h.future
-  future_named = steps_on-kept h.state h.future
+  recorded = recording_of w.state
 
   -- its parts
-  text_parts : saved_text (machine h) ≡ file_text recorded ++ comment_text (journal_text saved)
+  text_parts : saved_text w ≡ file_text recorded ++ comment_text (journal_text saved)
   unfolding saved_text
   text_parts = ap (λ (l : List ℕ). file_text recorded ++ l) (section_is_comment saved)
 
@@ -178,61 +154,62 @@ module _ (h : History State Change) (is : IsState h.state) (within : h.cursor �
   -- its journal can be saved
   pub is_saved : IsSaved saved
   is_saved = saved_of_parts saved text_long
-      (digit_permitted h.state.format.kind h.state.format.expression is.permitted)
-      (omega (arith, within, is.track.few))
-      is.letters
-      (times_small h.state.micros h.state.marks is.track.short is.marks)
-      (subst (AllByRecursion NumbersOfStep) (sym past_named) (all-reverse NumbersOfStep (map saved_step h.past) (steps_small h.state h.past is back)))
-      (subst (AllByRecursion NumbersOfStep) (sym future_named) (steps_small h.state h.future is on))
+      (digit_permitted w.state.format.kind w.state.format.expression is.state.permitted)
+      (omega (arith, is.cursor, is.state.track.few))
+      is.state.letters
+      (times_small w.state.micros w.state.marks is.state.track.short is.state.marks)
+      (all-reverse NumbersOfStep (map saved_step w.past) (steps_small w.state w.past is.state is.past))
+      (steps_small w.state w.future is.state is.future)
 
   -- and its text says both
-  parts : dump_parts None (saved_text (machine h)) ≡ Ok (recorded, Some (journal_text saved))
+  parts : dump_parts None (saved_text w) ≡ Ok (recorded, Some (journal_text saved))
   parts = ap (dump_parts None) text_parts
-      ∙ journal_back recorded (journal_text saved) (track.recording_of h.state.micros h.state.pulses is.track) (journal_is_text saved is_saved)
+      ∙ journal_back recorded (journal_text saved) (track.recording_of w.state.micros w.state.pulses is.state.track) (journal_is_text saved is_saved)
 
   -- the state that they make
-  state_is : state_of recorded saved ≡ h.state
-  state_is = λ k. state h.state.micros (pulses_of-edges_of h.state.pulses k) h.state.format h.state.marks
+  state_is : state_of recorded saved ≡ w.state
+  state_is = λ k. state w.state.micros (pulses_of-edges_of w.state.pulses k) w.state.format w.state.marks
 
   -- what is read of it
-  text_is : (r : RecordingView) (text : List ℕ) → dump_parts None (saved_text (machine h)) ≡ Ok (r, Some text)
+  text_is : (r : RecordingView) (text : List ℕ) → dump_parts None (saved_text w) ≡ Ok (r, Some text)
       → (r ≡ recorded) × (text ≡ journal_text saved)
-  text_is r text read = same_parts (dump_parts None (saved_text (machine h))) r recorded text (journal_text saved) read parts
+  text_is r text read = same_parts (dump_parts None (saved_text w)) r recorded text (journal_text saved) read parts
 
   -- its journal
   journal_is : (text : List ℕ) (other : Saved) → text ≡ journal_text saved → IsTextOf text other → other ≡ saved
   journal_is text other same told = same_journal other saved told.ranges is_saved (sym told.same ∙ same)
 
-  -- the machine that it makes
-  accepted : (w : SessionView) → IsAccepted (state_of recorded saved) saved w → grouped_in w ≡ over None (machine h)
-  accepted w made =
-      let past : steps_of (reverse saved.past) ≡ h.past =
-      ap steps_of (ap reverse past_named ∙ reverse-reverse (map saved_step h.past)) ∙ steps_of-saved h.past in
-      let future : steps_of saved.future ≡ h.future = ap steps_of future_named ∙ steps_of-saved h.future in
-      ap grouped_in made.session ∙ (λ k. over None (machine (walk (state_is k) h.cursor (past k) (future k))))
+  -- the session that it makes
+  accepted : (v : SessionView) → IsAccepted (state_of recorded saved) saved v → work_in v ≡ with_floor None w
+  accepted v made =
+      let past : steps_of (reverse saved.past) ≡ w.past =
+      ap steps_of (reverse-reverse (map saved_step w.past)) ∙ steps_of-saved w.past in
+      let future : steps_of saved.future ≡ w.future = steps_of-saved w.future in
+      ap work_in made.session
+      ∙ (λ k. record { state = state_is k; cursor = w.cursor; past = past k; future = future k; floor = None })
 
-  pub goes_on : (format : FormatView) (w : SessionView) → IsOpened None (saved_text (machine h)) format w → grouped_in w ≡ over None (machine h)
-  goes_on format w (inl (r, read, start)) = absurd (one_journal (dump_parts None (saved_text (machine h))) recorded r (journal_text saved) parts read)
-  goes_on format w (inr (r, (text, (other, read, told, made)))) =
+  pub goes_on : (format : FormatView) (v : SessionView) → IsOpened None (saved_text w) format v → work_in v ≡ with_floor None w
+  goes_on format v (inl (r, read, start)) = absurd (one_journal (dump_parts None (saved_text w)) recorded r (journal_text saved) parts read)
+  goes_on format v (inr (r, (text, (other, read, told, made)))) =
       let same = text_is r text read in
       let journal = journal_is text other same.1 told in
-      accepted w (subst (λ (x : Saved). IsAccepted (state_of recorded x) x w) journal
-      (subst (λ (x : RecordingView). IsAccepted (state_of x other) other w) same.0 made))
+      accepted v (subst (λ (x : Saved). IsAccepted (state_of recorded x) x v) journal
+      (subst (λ (x : RecordingView). IsAccepted (state_of x other) other v) same.0 made))
 
   -- no line is at fault
   head_is : head_fault (state_of recorded saved) saved ≡ None
-  head_is = head_marks (state_of recorded saved) saved is.permitted
-      (subst (λ (x : State). h.cursor ≤ length x.pulses) (sym state_is) within)
-      ∙ none_beyond h.state.micros 4 h.state.marks is.marks
+  head_is = head_marks (state_of recorded saved) saved is.state.permitted
+      (subst (λ (x : State). w.cursor ≤ length x.pulses) (sym state_is) is.cursor)
+      ∙ none_beyond w.state.micros 4 w.state.marks is.state.marks
 
   no_line : (n : ℕ) → IsLineAtFault (state_of recorded saved) saved n → ⊥
   no_line n (inl head) = let bad : None ≡ Some n = sym head_is ∙ head in cc
   no_line n (inr (head, inl (count, stops))) =
-      never_stops (state_of recorded saved) h.past (reverse saved.past) count (ap reverse past_named ∙ reverse-reverse (map saved_step h.past))
-      (subst (λ (x : State). CanTakeAll x h.past) (sym state_is) back) stops.0
+      never_stops (state_of recorded saved) w.past (reverse saved.past) count (reverse-reverse (map saved_step w.past))
+      (subst (λ (x : State). CanTakeAll x w.past) (sym state_is) is.past) stops.0
   no_line n (inr (head, inr (taken, (count, stops)))) =
-      never_stops (state_of recorded saved) h.future saved.future count future_named
-      (subst (λ (x : State). CanTakeAll x h.future) (sym state_is) on) stops.0
+      never_stops (state_of recorded saved) w.future saved.future count refl
+      (subst (λ (x : State). CanTakeAll x w.future) (sym state_is) is.future) stops.0
 
   no_fault : (r : RecordingView) (text : List ℕ) (n : ℕ) → r ≡ recorded → text ≡ journal_text saved → IsJournalFault r text n → ⊥
   no_fault r text n same_r same (inl form) = journal_not_at_fault saved is_saved n (subst (IsFault n) same form)
@@ -240,8 +217,8 @@ module _ (h : History State Change) (is : IsState h.state) (within : h.cursor �
       no_line n (subst (λ (x : Saved). IsLineAtFault (state_of recorded x) x n) (journal_is text other same told)
       (subst (λ (x : RecordingView). IsLineAtFault (state_of x other) other n) same_r line))
 
-  pub always_opened : (e : VcdFault) → IsUnopened None (saved_text (machine h)) e → e ≡ fault.OutOfMemory
-  always_opened e (inl told) = only_memory e (dump_parts None (saved_text (machine h))) (recorded, Some (journal_text saved)) parts told
+  pub always_opened : (e : VcdFault) → IsUnopened None (saved_text w) e → e ≡ fault.OutOfMemory
+  always_opened e (inl told) = only_memory e (dump_parts None (saved_text w)) (recorded, Some (journal_text saved)) parts told
   always_opened e (inr (r, (text, told))) =
       let same = text_is r text told.0 in
       not_bad (IsJournalFault r text) e (λ n. no_fault r text n same.0 same.1) told.1

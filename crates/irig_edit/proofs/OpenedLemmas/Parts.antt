@@ -32,8 +32,8 @@ parts_opened wire bytes r (Some saved) format v (text, (read, told)) is = inr (r
 
 -- a session without a journal
 pub no_journal : (journal : Option Saved) (r : RecordingView) (format : FormatView) (v : SessionView) → journal ≡ None
-    → (v ≡ started v.looks v.present.state) × (recording_of v.present.state ≡ r) × (v.present.state.format ≡ format)
-    × NoMarks v.present.state.marks → IsSessionOf r journal format v
+    → (v ≡ started v.looks v.state) × (recording_of v.state ≡ r) × (v.state.format ≡ format)
+    × NoMarks v.state.marks → IsSessionOf r journal format v
 no_journal None r format v is (start, recording, same, none) =
     record { start = start; recording = recording; format = same; marks = none }
 no_journal (Some saved) r format v is h = let bad : Some saved ≡ None = is in cc

@@ -1,11 +1,10 @@
 -- The text of a saved session is made of its parts.
 use Rattle.std.proofs.Common.{◌≡◌, ◌++◌, ℕ, List, [], ◌∷◌, codes, refl, append_assoc}
-use Rattle.irig_journal.specs.Machine.{Machine}
 use Rattle.irig_saved.specs.Lines.{text_of}
 use Rattle.irig_saved.specs.SavedText.{journal_section, journal_text, saved_lines}
 use Rattle.irig_saved.proofs.Texts.{text_of_append}
 use Rattle.irig_recording.specs.FileText.{file_text}
-use Rattle.irig_edit.specs.Session.Kept.{Kept}
+use Rattle.irig_edit.specs.Session.Work.{Work}
 use Rattle.irig_edit.specs.Saved.SavedSession.{saved_of, saved_text}
 use Rattle.irig_edit.specs.State.State.{recording_of}
 
@@ -15,8 +14,8 @@ pub section : (body opens shuts p f : List ℕ) (hs ps fs : List (List ℕ))
     ≡ body ++ (opens ++ (text_of (hs ++ ((p ∷ ps) ++ (f ∷ fs))) ++ shuts))
 section body opens shuts p f hs ps fs = simp (append_assoc, text_of_append) refl
 
--- the text of a machine is a body with such a section
-pub saved_text-parts : (m : Machine Kept) → saved_text m ≡ file_text (recording_of m.present.state)
-    ++ (codes "$comment\n" ++ (text_of (saved_lines (saved_of m)) ++ codes "$end\n"))
+-- the text of a session is a body with such a section
+pub saved_text-parts : (w : Work) → saved_text w ≡ file_text (recording_of w.state)
+    ++ (codes "$comment\n" ++ (text_of (saved_lines (saved_of w)) ++ codes "$end\n"))
 unfolding saved_text journal_section journal_text
-saved_text-parts m = refl
+saved_text-parts w = refl

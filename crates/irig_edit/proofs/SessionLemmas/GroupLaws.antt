@@ -1,189 +1,236 @@
 -- What a group leaves, whatever is done in it.
-use Rattle.std.proofs.Common.{◌≡◌, ◌-◌, inl, inr, ℕ, suc, zero, false, List, [], ◌∷◌, ◌++◌, length, drop, nat_le, Option, Some, None, option_map, Result, Ok}
-use Rattle.std.proofs.Common.{Err, refl, ap, sym, ◌∙◌, subst, if◌then◌else◌, arith, length-append}
+use Rattle.std.proofs.Common.{◌≡◌, ◌-◌, ◌+◌, ◌≤◌, inl, inr, ℕ, suc, zero, Bool, true, false, List, [], ◌∷◌, ◌++◌, length, drop, take, nat_le, Option, Some, None}
+use Rattle.std.proofs.Common.{option_map, Result, Ok, Err, refl, ap, sym, ◌∙◌, subst, if◌then◌else◌, arith, length-append}
 use Rattle.std.specs.List.{AllByRecursion}
 use Rattle.std.specs.Prelude.{is_ok}
 use Rattle.std.proofs.lemmas.Bool.{leb-false}
-use Rattle.irig_journal.specs.Groups.{Floor, Grouped, begun, dropped_over, floored, is_at_floor, joined_over, over, redone_over, undone_over}
-use Rattle.irig_journal.specs.Machine.{Machine, mirrored, taken_back}
+use Rattle.std.proofs.lemmas.Bool.Decides.{nat_tests}
+use Rattle.irig_journal.specs.declared.opening.Opening.{Opening}
+use Rattle.irig_journal.specs.Groups.{Floor, Grouped, floored, is_at_floor, over}
+use Rattle.irig_journal.specs.History.{Step, step, turned_back, turned_round}
+use Rattle.irig_journal.specs.Joining.{beyond, changes_of, farthest, joined}
+use Rattle.irig_journal.specs.Machine.{Kept, Machine, kept, redone, undone}
+use Rattle.irig_journal.specs.Openings.{floor_at}
+use Rattle.irig_journal.specs.Turns.{left_by}
+use Rattle.irig_saved.specs.declared.change.Change.{Change}
+use Rattle.irig_edit.specs.Changes.Delta.{gathered, turned}
+use Rattle.irig_edit.specs.Changes.Laws.Groups.{turned-gathered}
 use Rattle.irig_edit.specs.Session.Calls.{Call}
 use Rattle.irig_edit.specs.Session.Calls.Call.{Make, Undo, Redo, Go, Begin, End, Abort}
+use Rattle.irig_edit.specs.Edits.Changes.{change_by}
+use Rattle.irig_edit.specs.Edits.Refusals.{is_at_begin}
 use Rattle.irig_edit.specs.Session.GroupRuns.{AbortGivesBack, EndLeavesOneStep, IsAtMostOneMore, IsInGroup, StaysOpen}
-use Rattle.irig_edit.specs.Session.Kept.{Kept, kept}
-use Rattle.irig_edit.specs.Session.Machine.{Accepts, Steps, with_cursor, with_group}
+use Rattle.irig_edit.specs.Session.Machine.{Accepts, Steps}
 use Rattle.irig_edit.specs.Session.Runs.{Answered, Runs, accepted_of}
+use Rattle.irig_edit.specs.Session.Work.{Work, dropped_since, grouped_in, joined_since, work_over}
+use Rattle.irig_edit.specs.State.State.{State}
 use Rattle.irig_edit.specs.declared.session.refusal.Refusal.{Refusal}
 use Rattle.irig_edit.proofs.SessionLemmas.CallRuns.{refused_same}
-use Rattle.irig_edit.proofs.SessionLemmas.MachineSteps.{redone_alone, undone_above, undone_alone}
+use Rattle.irig_edit.proofs.SessionLemmas.MachineSteps.{above_begin}
 
--- the oldest of a state and those before it
-abbrev oldest_of : Kept → List Kept → Kept
-oldest_of k [] = k
-oldest_of k (before ∷ ks) = oldest_of before ks
+-- where the group was begun, in the steps
+abbrev begin_of : Work → Opening
+begin_of old = record { steps = length old.past; cursor = old.cursor }
 
--- a machine in a group that was begun at another one
-record InGroup (old : Grouped Kept) (g : Grouped Kept) : Type 0 where
-  floor : g.floor ≡ Some (record { height = length old.machine.past; present = old.machine.present })
-  beyond : List Kept
-  past : g.machine.past ≡ beyond ++ old.machine.past
-  oldest : (oldest_of g.machine.present beyond).state ≡ old.machine.present.state
+-- work in a group that was begun at other work: the machine of whole states keeps the state of its begin
+record InGroup (old w : Work) : Type 0 where
+  floor : w.floor ≡ Some (begin_of old)
+  began : (grouped_in w).floor ≡ Some (record { height = length old.past; present = kept old.state old.cursor })
+  beyond : List (Step Change)
+  past : w.past ≡ beyond ++ old.past
 
-begun_in : (old start : Grouped Kept) → begun old ≡ Some start → InGroup old start
-begun_in old start is = by_floor old.floor is where
-  by_floor : (floor : Option (Floor Kept)) → floored floor old.machine ≡ Some start → InGroup old start
-  by_floor (Some floor) is = absurd (cc)
-  by_floor None is =
-      let here : over (Some (record { height = length old.machine.past; present = old.machine.present })) old.machine ≡ start = cc in
-      subst (λ (g : Grouped Kept). InGroup old g) here (record { floor = refl; beyond = []; past = refl; oldest = refl })
+-- no step beyond none
+none_beyond : (steps : List (Step Change)) → 0 ≡ length steps - length steps
+none_beyond steps = omega arith
 
--- one more state is before the present
-one_more_in : (old g h : Grouped Kept) (future : List Kept) → InGroup old g
-    → h ≡ over g.floor (record { past = g.machine.present ∷ g.machine.past; present = h.machine.present; future = future }) → InGroup old h
-one_more_in old g h future inside is = record {
-  floor = ap (λ (x : Grouped Kept). x.floor) is ∙ inside.floor;
-  beyond = g.machine.present ∷ inside.beyond;
-  past = ap (λ (x : Grouped Kept). x.machine.past) is ∙ ap (λ (ks : List Kept). g.machine.present ∷ ks) inside.past;
-  oldest = inside.oldest;
-}
+begun_in : (old start : Work) → Accepts Begin old start → InGroup old start
+begun_in old start is =
+    let here : Work = record {
+      state = old.state;
+      cursor = old.cursor;
+      past = old.past;
+      future = old.future;
+      floor = Some (begin_of old);
+    } in
+    let same : here ≡ start = let steps = is.steps in cc in
+    let new : InGroup old here = record {
+      floor = refl;
+      began = (λ i. Some (record {
+        height = length old.past;
+        present = kept (left_by turned old.state (changes_of (take (sym (none_beyond old.past) i) old.past))) old.cursor;
+      }));
+      beyond = [];
+      past = refl;
+    } in
+    subst (λ (w : Work). InGroup old w) same new
 
-redone_in : (old g h : Grouped Kept) → InGroup old g → redone_over g ≡ Some h → InGroup old h
-redone_in old g h inside is = by_future g.machine.future (redone_alone g h is).0 where
-  by_future : (future : List Kept) → option_map mirrored (taken_back future g.machine.present g.machine.past) ≡ Some h.machine → InGroup old h
+-- a move that leaves the floor where it is, and the steps back of the begin
+moved_in : (old w v : Work) (more : List (Step Change)) → InGroup old w → v.floor ≡ w.floor → (grouped_in v).floor ≡ (grouped_in w).floor
+    → v.past ≡ more ++ old.past → InGroup old v
+moved_in old w v more inside floor whole past =
+    record { floor = floor ∙ inside.floor; began = whole ∙ inside.began; beyond = more; past = past }
+
+-- a move of the machine alone leaves its floor
+over_same : (floor : Option (Floor (Kept State))) (o : Option (Machine (Kept State))) (h : Grouped (Kept State)) → option_map (over floor) o ≡ Some h
+    → h.floor ≡ floor
+over_same floor None h is = absurd (cc)
+over_same floor (Some m) h is = let same : over floor m ≡ h = cc in sym (ap (λ (x : Grouped (Kept State)). x.floor) same)
+
+unless_same : (test : Bool) (floor : Option (Floor (Kept State))) (o : Option (Machine (Kept State))) (h : Grouped (Kept State))
+    → (if test then None else option_map (over floor) o) ≡ Some h → h.floor ≡ floor
+unless_same true floor o h is = absurd (cc)
+unless_same false floor o h is = over_same floor o h is
+
+redone_in : (old w v : Work) → InGroup old w → Accepts Redo w v → InGroup old v
+redone_in old w v inside is = by_future w.future is.steps where
+  by_future : (future : List (Step Change))
+      → option_map (work_over w.floor) (option_map turned_round (turned_back turned w.state w.cursor future w.past)) ≡ Some v → InGroup old v
   by_future [] again = absurd (cc)
-  by_future (after ∷ future) again =
-      let same : record { past = g.machine.present ∷ g.machine.past; present = after; future = future } ≡ h.machine = cc in
-      let floor = (redone_alone g h is).1 in
-      let there : over g.floor (record { past = g.machine.present ∷ g.machine.past; present = after; future = future }) ≡ h =
-      (λ i. over (sym floor i) (same i)) in
-      subst (λ (x : Grouped Kept). InGroup old x) there
-      (one_more_in old g (over g.floor (record { past = g.machine.present ∷ g.machine.past; present = after; future = future })) future inside refl)
+  by_future (near ∷ future) again =
+      let back = step (turned w.state near.change).1 w.cursor in
+      let after : Work = record { state = (turned w.state near.change).0; cursor = near.cursor; past = back ∷ w.past; future = future; floor = w.floor } in
+      let same : after ≡ v = cc in
+      let whole = over_same (grouped_in w).floor (redone (grouped_in w).machine) (grouped_in v) is.states in
+      moved_in old w v (back ∷ inside.beyond) inside (sym (ap (λ (x : Work). x.floor) same)) whole
+      (sym (ap (λ (x : Work). x.past) same) ∙ ap (λ (xs : List (Step Change)). back ∷ xs) inside.past)
 
-undone_in : (old g h : Grouped Kept) → InGroup old g → undone_over g ≡ Some h → InGroup old h
-undone_in old g h inside is = by_beyond inside.beyond inside.past inside.oldest where
-  long : nat_le (length g.machine.past) (length old.machine.past) ≡ false
-  long = sym (ap (λ (f : Option (Floor Kept)). is_at_floor f g.machine.past) inside.floor) ∙ (undone_above g h is).0
+undone_in : (old w v : Work) → InGroup old w → Accepts Undo w v → InGroup old v
+undone_in old w v inside is = by_beyond inside.beyond inside.past where
+  whole : (grouped_in v).floor ≡ (grouped_in w).floor
+  whole =
+      let m = grouped_in w in
+      unless_same (is_at_floor m.floor m.machine.past) m.floor (undone m.machine) (grouped_in v) is.states
 
-  by_beyond : (beyond : List Kept) → g.machine.past ≡ beyond ++ old.machine.past → (oldest_of g.machine.present beyond).state ≡ old.machine.present.state
-      → InGroup old h
-  by_beyond [] past oldest =
-      let low : nat_le (length old.machine.past) (length old.machine.past) ≡ false =
-      sym (ap (λ (ks : List Kept). nat_le (length ks) (length old.machine.past)) past) ∙ long in
-      absurd (omega (arith, leb-false (length old.machine.past) (length old.machine.past) low))
-  by_beyond (before ∷ ks) past oldest =
-      let back : taken_back (before ∷ (ks ++ old.machine.past)) g.machine.present g.machine.future ≡ Some h.machine =
-      sym (ap (λ (xs : List Kept). taken_back xs g.machine.present g.machine.future) past) ∙ (undone_alone g h is).0 in
-      let same : record { past = ks ++ old.machine.past; present = before; future = g.machine.present ∷ g.machine.future } ≡ h.machine = cc in
-      record {
-        floor = (undone_alone g h is).1 ∙ inside.floor;
-        beyond = ks;
-        past = sym (ap (λ (m : Machine Kept). m.past) same);
-        oldest = sym (ap (λ (m : Machine Kept). (oldest_of m.present ks).state) same) ∙ oldest;
-      }
+  above : nat_le (length w.past) (length old.past) ≡ false
+  above = sym (ap (λ (f : Option Opening). is_at_begin f w.past) inside.floor) ∙ above_begin w (grouped_in v) is.states
 
-gone_in : (old g h : Grouped Kept) (i : ℕ) → InGroup old g → h ≡ over g.floor (with_cursor i g.machine) → InGroup old h
-gone_in old g h i inside is =
-    subst (λ (x : Grouped Kept). InGroup old x) (sym is) (record {
-      floor = inside.floor;
-      beyond = inside.beyond;
-      past = inside.past;
-      oldest = by_beyond inside.beyond ∙ inside.oldest;
-    }) where
-      by_beyond : (ks : List Kept) → (oldest_of (kept g.machine.present.state i g.machine.present.made) ks).state ≡ (oldest_of g.machine.present ks).state
-      by_beyond [] = refl
-      by_beyond (k ∷ ks) = refl
+  by_beyond : (more : List (Step Change)) → w.past ≡ more ++ old.past → InGroup old v
+  by_beyond [] past =
+      let low : nat_le (length old.past) (length old.past) ≡ false =
+      sym (ap (λ (xs : List (Step Change)). nat_le (length xs) (length old.past)) past) ∙ above in
+      absurd (omega (arith, leb-false (length old.past) (length old.past) low))
+  by_beyond (near ∷ more) past =
+      let back : option_map (work_over w.floor) (turned_back turned w.state w.cursor (near ∷ (more ++ old.past)) w.future) ≡ Some v =
+      sym (ap (λ (xs : List (Step Change)). option_map (work_over w.floor) (turned_back turned w.state w.cursor xs w.future)) past) ∙ is.steps in
+      let after : Work = record {
+        state = (turned w.state near.change).0;
+        cursor = near.cursor;
+        past = more ++ old.past;
+        future = step (turned w.state near.change).1 w.cursor ∷ w.future;
+        floor = w.floor;
+      } in
+      let same : after ≡ v = cc in
+      moved_in old w v more inside (sym (ap (λ (x : Work). x.floor) same)) whole (sym (ap (λ (x : Work). x.past) same))
 
-begun_never : (old g h : Grouped Kept) → InGroup old g → begun g ≡ Some h → InGroup old h
-begun_never old g h inside is =
-    let none : floored (Some (record { height = length old.machine.past; present = old.machine.present })) g.machine ≡ Some h =
-    sym (ap (λ (f : Option (Floor Kept)). floored f g.machine) inside.floor) ∙ is in
+begun_never : (old w v : Work) → InGroup old w → Accepts Begin w v → InGroup old v
+begun_never old w v inside is =
+    let none : floored (Some (record { height = length old.past; present = kept old.state old.cursor })) (grouped_in w).machine ≡ Some (grouped_in v) =
+    sym (ap (λ (f : Option (Floor (Kept State))). floored f (grouped_in w).machine) inside.began) ∙ is.states in
     absurd (cc)
 
-accepted_in : (call : Call) (old g h : Grouped Kept) → StaysOpen call → InGroup old g → Accepts call g h → InGroup old h
-accepted_in (Make edit) old g h stays inside is =
-    let floor = is.1 in
-    let step = is.0.step in
-    one_more_in old g h [] inside (λ i. over (floor i) (step i))
-accepted_in Undo old g h stays inside is = undone_in old g h inside is
-accepted_in Redo old g h stays inside is = redone_in old g h inside is
-accepted_in (Go i) old g h stays inside is = gone_in old g h i inside is
-accepted_in Begin old g h stays inside is = begun_never old g h inside is
-accepted_in End old g h stays inside is = absurd stays
-accepted_in Abort old g h stays inside is = absurd stays
+accepted_in : (call : Call) (old w v : Work) → StaysOpen call → InGroup old w → Accepts call w v → InGroup old v
+accepted_in (Make edit) old w v stays inside is =
+    let back = step (turned w.state (change_by edit w.state)).1 w.cursor in
+    moved_in old w v (back ∷ inside.beyond) inside (ap (λ (x : Work). x.floor) is.steps) (ap (λ (g : Grouped (Kept State)). g.floor) is.states)
+    (ap (λ (x : Work). x.past) is.steps ∙ ap (λ (xs : List (Step Change)). back ∷ xs) inside.past)
+accepted_in Undo old w v stays inside is = undone_in old w v inside is
+accepted_in Redo old w v stays inside is = redone_in old w v inside is
+accepted_in (Go i) old w v stays inside is =
+    moved_in old w v inside.beyond inside (ap (λ (x : Work). x.floor) is) (ap (λ (x : Work). (grouped_in x).floor) is) (ap (λ (x : Work). x.past) is ∙ inside.past)
+accepted_in Begin old w v stays inside is = begun_never old w v inside is
+accepted_in End old w v stays inside is = absurd stays
+accepted_in Abort old w v stays inside is = absurd stays
 
-runs_in : (calls : List Answered) (old g last : Grouped Kept) → AllByRecursion StaysOpen (accepted_of calls) → InGroup old g → Runs calls g last
-    → InGroup old last
-runs_in [] old g last stays inside runs = subst (λ (x : Grouped Kept). InGroup old x) (sym runs) inside
-runs_in (one ∷ rest) old g last stays inside runs =
-    by_result one.call g runs.0 one.result (accepted_of rest) stays runs.1.0 inside (λ others there. runs_in rest old runs.0 last others there runs.1.1) where
-      by_result : (call : Call) (g between : Grouped Kept) (r : Result Unit Refusal) (others : List Call)
-          → AllByRecursion StaysOpen (if is_ok r then call ∷ others else others) → Steps call g r between → InGroup old g
+runs_in : (calls : List Answered) (old w last : Work) → AllByRecursion StaysOpen (accepted_of calls) → InGroup old w → Runs calls w last → InGroup old last
+runs_in [] old w last stays inside runs = subst (λ (x : Work). InGroup old x) (sym runs) inside
+runs_in (one ∷ rest) old w last stays inside runs =
+    by_result one.call w runs.0 one.result (accepted_of rest) stays runs.1.0 inside (λ others there. runs_in rest old runs.0 last others there runs.1.1) where
+      by_result : (call : Call) (w between : Work) (r : Result Unit Refusal) (others : List Call)
+          → AllByRecursion StaysOpen (if is_ok r then call ∷ others else others) → Steps call w r between → InGroup old w
           → (AllByRecursion StaysOpen others → InGroup old between → InGroup old last) → InGroup old last
-      by_result call g between (Ok u) others stays step inside after = after stays.1 (accepted_in call old g between stays.0 inside step.1)
-      by_result call g between (Err why) others stays step inside after =
-          after stays (subst (λ (x : Grouped Kept). InGroup old x) (sym (refused_same call g between why step)) inside)
+      by_result call w between (Ok u) others stays step inside after = after stays.1 (accepted_in call old w between stays.0 inside step.1)
+      by_result call w between (Err why) others stays step inside after =
+          after stays (subst (λ (x : Work). InGroup old x) (sym (refused_same call w between why step)) inside)
 
-group_in : (calls : List Answered) (old last : Grouped Kept) → IsInGroup calls old last → InGroup old last
+group_in : (calls : List Answered) (old last : Work) → IsInGroup calls old last → InGroup old last
 group_in calls old last is = runs_in calls old is.start last is.stays (begun_in old is.start is.begun.1) is.runs
 
-drop_front : (ks below : List Kept) (n : ℕ) → n ≡ length ks → drop n (ks ++ below) ≡ below
+-- the steps since the begin lead to its state
+began_at : (old w : Work) → InGroup old w → left_by turned w.state (changes_of (beyond (length old.past) w.past)) ≡ old.state
+began_at old w inside =
+    let there : Some (floor_at turned w.state w.past (begin_of old)) ≡ Some (record { height = length old.past; present = kept old.state old.cursor }) =
+    sym (ap (option_map (floor_at turned w.state w.past)) inside.floor) ∙ inside.began in
+    let same : floor_at turned w.state w.past (begin_of old) ≡ record { height = length old.past; present = kept old.state old.cursor } = cc in
+    ap (λ (f : Floor (Kept State)). f.present.state) same
+
+drop_front : (xs below : List (Step Change)) (n : ℕ) → n ≡ length xs → drop n (xs ++ below) ≡ below
 drop_front [] below zero is = refl
 drop_front [] below (suc n) is = absurd (cc)
-drop_front (k ∷ ks) below zero is = absurd (cc)
-drop_front (k ∷ ks) below (suc n) is = drop_front ks below n (omega arith)
+drop_front (x ∷ xs) below zero is = absurd (cc)
+drop_front (x ∷ xs) below (suc n) is = drop_front xs below n (omega arith)
 
-drop_to_oldest : (k : Kept) (ks below : List Kept) (n : ℕ) → n ≡ length ks → drop n (k ∷ (ks ++ below)) ≡ oldest_of k ks ∷ below
-drop_to_oldest k [] below zero is = refl
-drop_to_oldest k [] below (suc n) is = absurd (cc)
-drop_to_oldest k (before ∷ ks) below zero is = absurd (cc)
-drop_to_oldest k (before ∷ ks) below (suc n) is = drop_to_oldest before ks below n (omega arith)
+-- and below them are the steps of the begin
+farthest_at : (old w : Work) → InGroup old w → farthest (length old.past) w.past ≡ old.past
+farthest_at old w inside =
+    let below = old.past in
+    ap (λ (xs : List (Step Change)). drop (length xs - length below) xs) inside.past
+    ∙ drop_front inside.beyond below (length (inside.beyond ++ below) - length below) (omega (arith, length-append inside.beyond below))
 
 pub abort_back : AbortGivesBack
 abort_back calls old last new is step =
     let inside = group_in calls old last is in
-    let below = old.machine.past in
-    let long = length-append inside.beyond below in
-    let past : drop (length last.machine.past - length below) last.machine.past ≡ below =
-    ap (λ (ks : List Kept). drop (length ks - length below) ks) inside.past
-    ∙ drop_front inside.beyond below (length (inside.beyond ++ below) - length below) (omega (arith, long)) in
-    let fell : dropped_over (Some (record { height = length below; present = old.machine.present })) last.machine ≡ Some new =
-    sym (ap (λ (f : Option (Floor Kept)). dropped_over f last.machine) inside.floor) ∙ step.1 in
-    let left : over None (record { past = drop (length last.machine.past - length below) last.machine.past; present = old.machine.present; future = [] })
-    ≡ new = cc in
-    sym left ∙ (λ i. over None (record { past = past i; present = old.machine.present; future = [] }))
+    let state = began_at old last inside in
+    let past = farthest_at old last inside in
+    let fell : dropped_since (Some (begin_of old)) last ≡ Some new =
+    sym (ap (λ (f : Option Opening). dropped_since f last) inside.floor) ∙ step.1.steps in
+    let left : Work = record {
+      state = left_by turned last.state (changes_of (beyond (length old.past) last.past));
+      cursor = old.cursor;
+      past = farthest (length old.past) last.past;
+      future = [];
+      floor = None;
+    } in
+    let same : left ≡ new = cc in
+    sym same ∙ (λ i. record { state = state i; cursor = old.cursor; past = past i; future = []; floor = None })
 
 pub end_once : EndLeavesOneStep
-end_once calls old last new is step = by_beyond inside.beyond inside.past inside.oldest where
+end_once calls old last new is step = by_test (nat_le (length last.past) (length old.past + 1)) refl closes where
   inside : InGroup old last
   inside = group_in calls old last is
 
-  below : List Kept
-  below = old.machine.past
+  below : List (Step Change)
+  below = old.past
 
-  floor : Floor Kept
-  floor = record { height = length below; present = old.machine.present }
+  closes : joined_since (Some (begin_of old)) last ≡ Some new
+  closes = sym (ap (λ (f : Option Opening). joined_since f last) inside.floor) ∙ step.1.steps
 
-  joined : joined_over (Some floor) (with_group (Some floor) last.machine) ≡ Some new
-  joined = sym (ap (λ (f : Option (Floor Kept)). joined_over f (with_group f last.machine)) inside.floor) ∙ step.1
+  work : List (Step Change) → Work
+  work past = record { state = last.state; cursor = last.cursor; past = past; future = last.future; floor = None }
 
-  left : drop (length last.machine.past - length below - 1) last.machine.past ≡ new.machine.past
-  left =
-      let step_is : joined_over (Some floor) (with_group (Some floor) last.machine) ≡ Some new = joined in
-      let same : over None (record {
-        past = drop (length last.machine.past - length below - 1) last.machine.past;
-        present = (with_group (Some floor) last.machine).present;
-        future = last.machine.future;
-      }) ≡ new = cc in
-      ap (λ (x : Grouped Kept). x.machine.past) same
+  few : (more : List (Step Change)) → last.past ≡ more ++ below → length more ≤ 1 → work last.past ≡ new → IsAtMostOneMore below old.state new
+  few [] past short same = inl (sym (ap (λ (w : Work). w.past) same) ∙ past)
+  few (near ∷ []) past short same =
+      let one : 1 ≡ length (near ∷ below) - length below = omega arith in
+      let state : (turned last.state near.change).0 ≡ old.state =
+      (λ i. left_by turned last.state (changes_of (take (one i) (near ∷ below))))
+      ∙ (ap (λ (xs : List (Step Change)). left_by turned last.state (changes_of (beyond (length below) xs))) (sym past) ∙ began_at old last inside) in
+      inr (near, sym (ap (λ (w : Work). w.past) same) ∙ past, ap (λ (w : Work). (turned w.state near.change).0) (sym same) ∙ state)
+  few (near ∷ (next ∷ more)) past short same = absurd (omega (arith, short))
 
-  by_beyond : (beyond : List Kept) → last.machine.past ≡ beyond ++ below → (oldest_of last.machine.present beyond).state ≡ old.machine.present.state
-      → IsAtMostOneMore below old.machine.present.state new.machine.past
-  by_beyond [] past oldest =
-      let all : drop (length last.machine.past - length below - 1) last.machine.past ≡ below =
-      ap (λ (ks : List Kept). drop (length ks - length below - 1) ks) past ∙ drop_front [] below (length below - length below - 1) (omega arith) in
-      inl (sym left ∙ all)
-  by_beyond (before ∷ ks) past oldest =
-      let long = length-append ks below in
-      let one : drop (length last.machine.past - length below - 1) last.machine.past ≡ oldest_of before ks ∷ below =
-      ap (λ (xs : List Kept). drop (length xs - length below - 1) xs) past
-      ∙ drop_to_oldest before ks below (length (before ∷ (ks ++ below)) - length below - 1) (omega (arith, long)) in
-      inr (oldest_of before ks, sym left ∙ one, oldest)
+  by_test : (test : Bool) → nat_le (length last.past) (length below + 1) ≡ test
+      → Some (work (if test then last.past else joined gathered (beyond (length below) last.past) ∷ farthest (length below) last.past)) ≡ Some new
+      → IsAtMostOneMore below old.state new
+  by_test true low closes =
+      let same : work last.past ≡ new = cc in
+      let short : length last.past ≤ length below + 1 = grind (arith, nat_tests, low) in
+      few inside.beyond inside.past (omega (arith, short, ap length inside.past, length-append inside.beyond below)) same
+  by_test false high closes =
+      let all = joined gathered (beyond (length below) last.past) in
+      let same : work (all ∷ farthest (length below) last.past) ≡ new = cc in
+      let state : (turned last.state all.change).0 ≡ old.state =
+      ap (λ (p : State × Change). p.0) (turned-gathered last.state (changes_of (beyond (length below) last.past))) ∙ began_at old last inside in
+      inr (
+        all,
+        sym (ap (λ (w : Work). w.past) same) ∙ ap (λ (xs : List (Step Change)). all ∷ xs) (farthest_at old last inside),
+        ap (λ (w : Work). (turned w.state all.change).0) (sym same) ∙ state,
+      )

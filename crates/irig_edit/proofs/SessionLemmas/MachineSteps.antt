@@ -1,132 +1,150 @@
 -- An edit that is made or refused is a step of the machine, and so is each other call.
-use Rattle.std.proofs.Common.{◌≡◌, ℕ, Bool, true, false, not, List, [], ◌∷◌, Option, Some, None, option_map, if◌then◌else◌, Result, Ok, Err, OnOk, OnErr}
-use Rattle.std.proofs.Common.{IsErrOf, is_some, refl, ap, sym, subst}
-use Rattle.irig_journal.specs.History.{Step}
-use Rattle.irig_journal.specs.Groups.{Floor, Grouped, aborted, begun, dropped_over, ended, floored, is_at_floor, joined_over, over, recorded_over, redone_over}
-use Rattle.irig_journal.specs.Groups.{undone_over}
-use Rattle.irig_journal.specs.Machine.{Machine, mirrored, recorded, redone, taken_back, undone}
-use Rattle.irig_edit.specs.State.State.{State}
-use Rattle.irig_edit.specs.Session.Calls.{Call, Edit}
-use Rattle.irig_edit.specs.Session.Calls.Call.{Make, Undo, Redo, Begin, End, Abort}
-use Rattle.irig_edit.specs.Session.Machine.{Steps, Accepts, Edits, MayWantMemory, with_group}
-use Rattle.irig_edit.specs.Edits.Becoming.{Becomes, judgement_of}
-use Rattle.irig_edit.specs.Edits.Refusals.{first_holding, is_empty, refusal_of}
-use Rattle.irig_edit.specs.declared.session.refusal.Refusal.{Refusal}
-use Rattle.irig_edit.specs.declared.session.refusal.Refusal.TheVariants.{GroupFloor, GroupOpen, NoGroup, NothingToRedo, NothingToUndo, OutOfMemory}
+use Rattle.std.proofs.Common.{◌≡◌, ℕ, suc, Bool, true, false, not, List, [], ◌∷◌, length, nat_le, Option, Some, None, option_map, if◌then◌else◌, Ok, is_some, refl, ap, sym, subst, ◌∙◌}
+use Rattle.std.specs.Prelude.{IfSome}
+use Rattle.irig_journal.specs.declared.opening.Opening.{Opening}
+use Rattle.irig_journal.specs.Joining.{beyond, changes_of, farthest, joined_beyond}
+use Rattle.irig_journal.specs.Journal as journal
+use Rattle.irig_journal.specs.Turns.{left_by}
+use Rattle.irig_journal.specs.Groups.{Grouped, aborted, begun, ended, is_at_floor, over, recorded_over, redone_over, undone_over}
+use Rattle.irig_journal.specs.History.{Step, machine, states_along, turned_back, turned_round}
+use Rattle.irig_journal.specs.Machine.{Kept, kept, undone}
+use Rattle.irig_journal.specs.Openings.{floor_at}
 use Rattle.irig_saved.specs.declared.change.Change.{Change}
-use Rattle.irig_edit.specs.Edits.Exchanges.{exchange_by}
-use Rattle.irig_edit.specs.Session.Keeping.{kept_back, kept_forward}
-use Rattle.irig_edit.specs.Session.Kept.{Exchange, Kept, kept}
+use Rattle.irig_edit.specs.Changes.Delta.{Fits, gathered, turned}
+use Rattle.irig_edit.specs.Changes.Held.{deltas_of}
+use Rattle.irig_edit.specs.Edits.Becoming.{Becomes}
+use Rattle.irig_edit.specs.Edits.Changes.{change_by}
+use Rattle.irig_edit.specs.Edits.Refusals.{first_holding, is_at_begin, is_empty}
+use Rattle.irig_edit.specs.Session.Calls.{Edit}
+use Rattle.irig_edit.specs.Session.Calls.Call.{Undo, Redo, Begin, End, Abort}
+use Rattle.irig_edit.specs.Session.Machine.{Edits, Moves, Steps}
+use Rattle.irig_edit.specs.Session.Work.{Work, dropped_since, floored_here, gone_back, gone_on, grouped_in, history_in, joined_since, made, work_at, work_over}
+use Rattle.irig_edit.specs.State.State.{State}
+use Rattle.irig_edit.specs.declared.changes.turn.Turn.{Turn}
+use Rattle.irig_edit.specs.declared.session.refusal.Refusal.TheVariants.{GroupFloor, GroupOpen, NoGroup, NothingToRedo, NothingToUndo}
 
--- accepted, or refused only because memory ran out
-steps_allowed : (call : Call) (old new : Grouped Kept) (r : Result Unit Refusal) → refusal_of call old ≡ None → MayWantMemory call
-    → OnOk r (Accepts call old new) → OnErr r ((new ≡ old) × IsErrOf r OutOfMemory) → Steps call old r new
-steps_allowed call old new (Ok u) none may accepted same = (none, accepted)
-steps_allowed call old new (Err e) none may accepted same =
-    let P : Result Unit Refusal → Type 0 = λ x. Steps call old x new in
-    subst P (sym same.1) (none, same.0, may)
+-- a change that was made is an accepted edit
+pub accepts_becomes : (edit : Edit) (w v : Work) (d : Change) (cursor : ℕ) → Becomes edit w.state (turned w.state d).0 cursor → d ≡ change_by edit w.state
+    → Fits w.state d
+    → v ≡ made d cursor w → grouped_in v ≡ recorded_over (grouped_in w) (kept (turned w.state d).0 cursor) → Edits edit w v
+accepts_becomes edit w v d cursor becomes same fits steps states =
+    subst (λ (x : Work). Edits edit w x) (sym steps) (record {
+      after = becomes.after;
+      cursor = becomes.cursor w.cursor;
+      fits = subst (λ (x : Change). Fits w.state x) same fits;
+      states = ap grouped_in (sym steps) ∙ states;
+      steps = (λ i. made (same i) cursor w);
+    })
 
--- a step to another state
-pub edits_becomes : (edit : Edit) (old new : Machine Kept) (s : State) (place : ℕ) (made : Exchange)
-    → new ≡ recorded old (kept s place made) → Becomes edit old.present.state s place → made ≡ exchange_by edit old.present.state → Edits edit old new
-edits_becomes edit old new s place made step becomes exchanged =
-    let P : Machine Kept → Type 0 = λ m. Edits edit old m in
-    subst P (sym step) (record { after = becomes.after; cursor = becomes.cursor old.present.cursor; made = exchanged; step = refl })
+pub length-states_along : (s : State) (steps : List (Step Change)) → length (states_along turned s steps) ≡ length steps
+length-states_along s [] = refl
+length-states_along s (near ∷ steps) = ap suc (length-states_along (turned s near.change).0 steps)
 
-pub map_ok : {P Q : Type 0} (r : Result Unit Refusal) → (P → Q) → OnOk r P → OnOk r Q
-map_ok (Ok u) f h = f h
-map_ok (Err e) f h = tt
-
--- a state that was reached is an accepted edit
-pub accepts_becomes : (edit : Edit) (old new : Grouped Kept) (s : State) (place : ℕ) (made : Exchange)
-    → Becomes edit old.machine.present.state s place → made ≡ exchange_by edit old.machine.present.state
-    → new ≡ recorded_over old (kept s place made) → Accepts (Make edit) old new
-accepts_becomes edit old new s place made becomes exchanged step = (
-  edits_becomes edit old.machine new.machine s place made (ap (λ (g : Grouped Kept). g.machine) step) becomes exchanged,
-  ap (λ (g : Grouped Kept). g.floor) step,
-)
-
--- a state that was reached, or out of memory, is a step if no refusal holds
-pub steps_becomes : (edit : Edit) (old new : Grouped Kept) (r : Result Unit Refusal) (s : State) (place : ℕ) (made : Exchange)
-    → judgement_of edit old.machine.present.state ≡ None → Becomes edit old.machine.present.state s place → made ≡ exchange_by edit old.machine.present.state
-    → OnOk r (new ≡ recorded_over old (kept s place made)) → OnErr r ((new ≡ old) × IsErrOf r OutOfMemory) → Steps (Make edit) old r new
-steps_becomes edit old new r s place made none becomes exchanged ok err =
-    steps_allowed (Make edit) old new r none tt (map_ok r (accepts_becomes edit old new s place made becomes exchanged) ok) err
+-- the floor of the machine is the begin of the steps
+pub same_floor : (w : Work) → is_at_floor (grouped_in w).floor (grouped_in w).machine.past ≡ is_at_begin w.floor w.past
+same_floor w = by_floor w.floor where
+  by_floor : (floor : Option Opening)
+      → is_at_floor (option_map (floor_at turned w.state w.past) floor) (states_along turned w.state w.past) ≡ is_at_begin floor w.past
+  by_floor None = refl
+  by_floor (Some o) = ap (λ n. nat_le n o.steps) (length-states_along w.state w.past)
 
 -- what is none if a test holds
-pub allowed_some : {X : Type 0} (test : Bool) (o : Option X) (x : X) → (if test then None else o) ≡ Some x → (test ≡ false) × (o ≡ Some x)
+allowed_some : {X : Type 0} (test : Bool) (o : Option X) (x : X) → (if test then None else o) ≡ Some x → test ≡ false
 allowed_some true o x is = absurd (cc)
-allowed_some false o x is = (refl, is)
+allowed_some false o x is = refl
 
--- a move of the machine alone leaves the floor
-over_some : (floor : Option (Floor Kept)) (o : Option (Machine Kept)) (g : Grouped Kept) → option_map (over floor) o ≡ Some g
-    → (o ≡ Some g.machine) × (g.floor ≡ floor)
-over_some floor None g is = absurd (cc)
-over_some floor (Some m) g is =
-    let same : over floor m ≡ g = cc in
-    (ap (λ (x : Grouped Kept). Some x.machine) same, sym (ap (λ (x : Grouped Kept). x.floor) same))
-
--- an undo that was made goes beyond no floor
-pub undone_above : (g h : Grouped Kept) → undone_over g ≡ Some h
-    → (is_at_floor g.floor g.machine.past ≡ false) × (option_map (over g.floor) (undone g.machine) ≡ Some h)
-undone_above g h step = allowed_some (is_at_floor g.floor g.machine.past) (option_map (over g.floor) (undone g.machine)) h step
-
--- and is one of the machine alone
-pub undone_alone : (g h : Grouped Kept) → undone_over g ≡ Some h → (undone g.machine ≡ Some h.machine) × (h.floor ≡ g.floor)
-undone_alone g h step = over_some g.floor (undone g.machine) h (undone_above g h step).1
-
--- and so is a redo
-pub redone_alone : (g h : Grouped Kept) → redone_over g ≡ Some h → (redone g.machine ≡ Some h.machine) × (h.floor ≡ g.floor)
-redone_alone g h step = over_some g.floor (redone g.machine) h step
+-- an undo that was made goes not beyond the begin of the open group
+pub above_begin : (w : Work) (g : Grouped (Kept State)) → undone_over (grouped_in w) ≡ Some g → is_at_begin w.floor w.past ≡ false
+above_begin w g back =
+    let m = grouped_in w in
+    sym (same_floor w) ∙ allowed_some (is_at_floor m.floor m.machine.past) (option_map (over m.floor) (undone m.machine)) g back
 
 -- an undo that was made was allowed
-pub Steps-undone : (g h : Grouped Kept) → undone_over g ≡ Some h → Steps Undo g (Ok tt) h
-Steps-undone g h step =
-    (by_past g.machine.past (is_at_floor g.floor g.machine.past) (undone_above g h step).0 (undone_alone g h step).0, step) where
-      by_past : (past : List Kept) (test : Bool) → test ≡ false → taken_back past g.machine.present g.machine.future ≡ Some h.machine
-          → first_holding ((is_empty past, NothingToUndo) ∷ (test, GroupFloor) ∷ []) ≡ None
-      by_past [] test is back = absurd (cc)
-      by_past (before ∷ past) true is back = absurd (cc)
-      by_past (before ∷ past) false is back = refl
+pub Steps-undone : (w v : Work) → Moves undone_over gone_back w v → Steps Undo w (Ok tt) v
+Steps-undone w v step = (by_past w.past (is_at_begin w.floor w.past) (above_begin w (grouped_in v) step.states) step.steps, step) where
+  by_past : (past : List (Step Change)) (test : Bool) → test ≡ false
+      → option_map (work_over w.floor) (turned_back turned w.state w.cursor past w.future) ≡ Some v
+      → first_holding ((is_empty past, NothingToUndo) ∷ (test, GroupFloor) ∷ []) ≡ None
+  by_past [] test is back = absurd (cc)
+  by_past (near ∷ past) true is back = absurd (cc)
+  by_past (near ∷ past) false is back = refl
 
 -- and so was a redo
-pub Steps-redone : (g h : Grouped Kept) → redone_over g ≡ Some h → Steps Redo g (Ok tt) h
-Steps-redone g h step = (by_future g.machine.future (redone_alone g h step).0, step) where
-  by_future : (future : List Kept) → option_map mirrored (taken_back future g.machine.present g.machine.past) ≡ Some h.machine
-      → (if is_empty future then Some NothingToRedo else None) ≡ None
-  by_future [] step = absurd (cc)
-  by_future (after ∷ future) step = refl
+pub Steps-redone : (w v : Work) → Moves redone_over gone_on w v → Steps Redo w (Ok tt) v
+Steps-redone w v step = (by_future w.future step.steps, step) where
+  by_future : (future : List (Step Change))
+      → option_map (work_over w.floor) (option_map turned_round (turned_back turned w.state w.cursor future w.past)) ≡ Some v
+      → first_holding ((is_empty future, NothingToRedo) ∷ []) ≡ None
+  by_future [] again = absurd (cc)
+  by_future (near ∷ future) again = refl
 
--- if there are no steps forward, a redo is refused
-pub refusal_forward : (s : State) (steps : List (Step Change)) → steps ≡ []
-    → first_holding ((is_empty (kept_forward s steps), NothingToRedo) ∷ []) ≡ Some NothingToRedo
-refusal_forward s steps none = ap (λ (l : List (Step Change)). first_holding ((is_empty (kept_forward s l), NothingToRedo) ∷ [])) none
+-- if there are steps back, an undo at the begin of the open group is refused
+pub floor_refusal : (steps : List (Step Change)) (test : Bool) → (steps ≡ [] → ⊥) → test ≡ true
+    → first_holding ((is_empty steps, NothingToUndo) ∷ (test, GroupFloor) ∷ []) ≡ Some GroupFloor
+floor_refusal [] test some low = absurd (some refl)
+floor_refusal (near ∷ steps) true some low = refl
+floor_refusal (near ∷ steps) false some low = absurd (cc)
 
--- if there are steps back, an undo on the floor is refused
-pub floor_refusal : (s : State) (steps : List (Step Change)) (test : Bool) → (steps ≡ [] → ⊥) → test ≡ true
-    → first_holding ((is_empty (kept_back s steps), NothingToUndo) ∷ (test, GroupFloor) ∷ []) ≡ Some GroupFloor
-floor_refusal s [] test some low = absurd (some refl)
-floor_refusal s (near ∷ steps) true some low = refl
-floor_refusal s (near ∷ steps) false some low = absurd (cc)
+-- a begin that the journal made is one of the machine
+pub begun_moves : (s : State) (cursor : ℕ) (i j : journal.Steps Turn) → begun (grouped_in (work_at s cursor i)) ≡ Some (grouped_in (work_at s cursor j))
+    → j.past ≡ i.past → j.future ≡ i.future → j.floor ≡ Some (record { steps = length (deltas_of i.past); cursor = cursor })
+    → Moves begun floored_here (work_at s cursor i) (work_at s cursor j)
+begun_moves s cursor i j states past future floor = record {
+  states = states;
+  steps = (λ k. Some (record {
+    state = s;
+    cursor = cursor;
+    past = deltas_of (sym past k);
+    future = deltas_of (sym future k);
+    floor = sym floor k;
+  }));
+}
 
--- a begin that was made was allowed
-pub Steps-begun : (g h : Grouped Kept) → begun g ≡ Some h → Steps Begin g (Ok tt) h
-Steps-begun g h step = (by_floor g.floor step, step) where
-  by_floor : (floor : Option (Floor Kept)) → floored floor g.machine ≡ Some h → first_holding ((is_some floor, GroupOpen) ∷ []) ≡ None
+-- and was allowed
+pub Steps-begun : (w v : Work) → Moves begun floored_here w v → Steps Begin w (Ok tt) v
+Steps-begun w v step = (by_floor w.floor step.states, step) where
+  by_floor : (floor : Option Opening) → begun (over (option_map (floor_at turned w.state w.past) floor) (machine turned (history_in w))) ≡ Some (grouped_in v)
+      → first_holding ((is_some floor, GroupOpen) ∷ []) ≡ None
   by_floor None step = refl
-  by_floor (Some f) step = absurd (cc)
+  by_floor (Some o) step = absurd (cc)
 
--- and so was an end
-pub Steps-ended : (g h : Grouped Kept) → ended (over g.floor (with_group g.floor g.machine)) ≡ Some h → Steps End g (Ok tt) h
-Steps-ended g h step = (by_floor g.floor step, step) where
-  by_floor : (floor : Option (Floor Kept)) → joined_over floor (with_group floor g.machine) ≡ Some h
-      → first_holding ((not (is_some floor), NoGroup) ∷ []) ≡ None
-  by_floor None step = absurd (cc)
-  by_floor (Some f) step = refl
+-- an end that the journal made is one of the machine
+pub ended_moves : (s : State) (cursor : ℕ) (i j : journal.Steps Turn) → ended (grouped_in (work_at s cursor i)) ≡ Some (grouped_in (work_at s cursor j))
+    → IfSome i.floor (λ o. deltas_of j.past ≡ joined_beyond gathered o.steps (deltas_of i.past)) → j.future ≡ i.future → j.floor ≡ None
+    → Moves ended (joined_since i.floor) (work_at s cursor i) (work_at s cursor j)
+ended_moves s cursor i j states past future closed = record { states = states; steps = by_floor i.floor states past } where
+  by_floor : (floor : Option Opening)
+      → ended (over (option_map (floor_at turned s (deltas_of i.past)) floor) (machine turned (history_in (work_at s cursor i)))) ≡ Some (grouped_in (work_at s cursor j))
+      → IfSome floor (λ o. deltas_of j.past ≡ joined_beyond gathered o.steps (deltas_of i.past)) → joined_since floor (work_at s cursor i) ≡ Some (work_at s cursor j)
+  by_floor None states past = absurd (cc)
+  by_floor (Some o) states past =
+      (λ k. Some (record { state = s; cursor = cursor; past = sym past k; future = deltas_of (sym future k); floor = sym closed k }))
 
--- and an abort
-pub Steps-aborted : (g h : Grouped Kept) → aborted g ≡ Some h → Steps Abort g (Ok tt) h
-Steps-aborted g h step = (by_floor g.floor step, step) where
-  by_floor : (floor : Option (Floor Kept)) → dropped_over floor g.machine ≡ Some h → first_holding ((not (is_some floor), NoGroup) ∷ []) ≡ None
+-- and was allowed
+pub Steps-ended : (w v : Work) → Moves ended (joined_since w.floor) w v → Steps End w (Ok tt) v
+Steps-ended w v step = (by_floor w.floor step.steps, step) where
+  by_floor : (floor : Option Opening) → joined_since floor w ≡ Some v → first_holding ((not (is_some floor), NoGroup) ∷ []) ≡ None
   by_floor None step = absurd (cc)
-  by_floor (Some f) step = refl
+  by_floor (Some o) step = refl
+
+-- an abort that the journal made is one of the machine
+pub aborted_moves : (s t : State) (cursor place : ℕ) (i j : journal.Steps Turn)
+    → aborted (grouped_in (work_at s cursor i)) ≡ Some (grouped_in (work_at t place j))
+    → IfSome i.floor (λ o. (t ≡ left_by turned s (changes_of (beyond o.steps (deltas_of i.past)))) × (place ≡ o.cursor))
+    → IfSome i.floor (λ o. deltas_of j.past ≡ farthest o.steps (deltas_of i.past)) → deltas_of j.future ≡ [] → j.floor ≡ None
+    → Moves aborted (dropped_since i.floor) (work_at s cursor i) (work_at t place j)
+aborted_moves s t cursor place i j states left past future closed = record { states = states; steps = by_floor i.floor states left past } where
+  by_floor : (floor : Option Opening)
+      → aborted (over (option_map (floor_at turned s (deltas_of i.past)) floor) (machine turned (history_in (work_at s cursor i)))) ≡ Some (grouped_in (work_at t place j))
+      → IfSome floor (λ o. (t ≡ left_by turned s (changes_of (beyond o.steps (deltas_of i.past)))) × (place ≡ o.cursor))
+      → IfSome floor (λ o. deltas_of j.past ≡ farthest o.steps (deltas_of i.past)) → dropped_since floor (work_at s cursor i) ≡ Some (work_at t place j)
+  by_floor None states left past = absurd (cc)
+  by_floor (Some o) states left past =
+      (λ k. Some (record { state = sym left.0 k; cursor = sym left.1 k; past = sym past k; future = sym future k; floor = sym closed k }))
+
+-- and was allowed
+pub Steps-aborted : (w v : Work) → Moves aborted (dropped_since w.floor) w v → Steps Abort w (Ok tt) v
+Steps-aborted w v step = (by_floor w.floor step.steps, step) where
+  by_floor : (floor : Option Opening) → dropped_since floor w ≡ Some v → first_holding ((not (is_some floor), NoGroup) ∷ []) ≡ None
+  by_floor None step = absurd (cc)
+  by_floor (Some o) step = refl

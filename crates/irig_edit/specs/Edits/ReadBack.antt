@@ -10,17 +10,15 @@ use Rattle.irig_index.specs.declared.record.Record.{Record}
 use Rattle.irig_index.specs.declared.record.Verdict.TheVariants.{Read}
 use Rattle.irig_index.specs.Frames.{frames}
 use Rattle.irig_index.specs.Marker.{class_at}
-use Rattle.irig_journal.specs.Groups.{Grouped}
 use Rattle.irig_moment.specs.Generated.{frame_fields}
 use Rattle.irig_moment.specs.Moment.{MomentView, IsMoment}
 use Rattle.irig_recording.specs.declared.pulse.Pulse.{Pulse}
 use Rattle.irig_edit.specs.Session.Calls.Call.{Make}
 use Rattle.irig_edit.specs.Session.Calls.Edit.{Regen}
-use Rattle.irig_edit.specs.Session.Limits.{IsMachine}
 use Rattle.irig_edit.specs.Session.Machine.{Steps}
 use Rattle.irig_edit.specs.Edits.Regenerated.{CanMake, frames_pulses, rising_before}
-use Rattle.irig_edit.specs.State.State.{frames_of}
-use Rattle.irig_edit.specs.Session.Kept.{Kept}
+use Rattle.irig_edit.specs.State.State.{IsState, frames_of}
+use Rattle.irig_edit.specs.Session.Work.{Work}
 
 -- frame k from a moment on, from 0, as it is read: its fields, and the note is `Fine`. The frames
 -- begin with the pulse at a place, from 0
@@ -53,27 +51,27 @@ NoOtherFrameIsRead = (f : FormatView) (moment : MomentView) (start count control
     → (k : ℕ) × (1 ≤ k) × (k < count) × (r ≡ frame_read f moment control (length before) k)
 
 -- how many pulses are before those of a regeneration
-abbrev pub pulses_before : ℕ → Grouped Kept → ℕ
-pulses_before start g = length (rising_before start g.machine.present.state.pulses)
+abbrev pub pulses_before : ℕ → Work → ℕ
+pulses_before start g = length (rising_before start g.state.pulses)
 
 -- after an accepted regeneration the frames that begin among its pulses, after the first of these,
 -- are those that were asked for, but for the first
 abbrev pub RegenReadsBack : Type 0
-RegenReadsBack = (start count control : ℕ) (moment : MomentView) (old new : Grouped Kept)
-    (r : Record) → IsMachine old.machine → IsMoment moment.day moment.hundredths
+RegenReadsBack = (start count control : ℕ) (moment : MomentView) (old new : Work)
+    (r : Record) → IsState old.state → IsMoment moment.day moment.hundredths
     → Steps (Make (Regen start count moment control)) old (Ok tt) new
     → pulses_before start old < r.marker → r.marker < pulses_before start old + 100 * count
-    → Contains (frames_of new.machine.present.state) r
+    → Contains (frames_of new.state) r
     ↔ ((k : ℕ) × (1 ≤ k) × (k < count)
-    × (r ≡ frame_read old.machine.present.state.format moment control (pulses_before start old) k))
+    × (r ≡ frame_read old.state.format moment control (pulses_before start old) k))
 
 -- and the first one too, if the pulse before it is a position identifier, in step
 abbrev pub RegenReadsFirstBack : Type 0
-RegenReadsFirstBack = (start count control n : ℕ) (moment : MomentView) (old new : Grouped Kept)
-    (p : Pulse) → IsMachine old.machine → IsMoment moment.day moment.hundredths
+RegenReadsFirstBack = (start count control n : ℕ) (moment : MomentView) (old new : Work)
+    (p : Pulse) → IsState old.state → IsMoment moment.day moment.hundredths
     → Steps (Make (Regen start count moment control)) old (Ok tt) new
-    → pulses_before start old ≡ n + 1 → slice_get old.machine.present.state.pulses n ≡ Some p
-    → class_at old.machine.present.state.format p ≡ Some Position
-    → is_in_step old.machine.present.state.format (start - p.rise) ≡ true
-    → Contains (frames_of new.machine.present.state)
-    (frame_read old.machine.present.state.format moment control (n + 1) 0)
+    → pulses_before start old ≡ n + 1 → slice_get old.state.pulses n ≡ Some p
+    → class_at old.state.format p ≡ Some Position
+    → is_in_step old.state.format (start - p.rise) ≡ true
+    → Contains (frames_of new.state)
+    (frame_read old.state.format moment control (n + 1) 0)

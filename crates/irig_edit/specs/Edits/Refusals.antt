@@ -1,9 +1,11 @@
 -- When a call is refused: the tests of each call in their order, the first that holds being
 -- answered. Out of memory may be answered if none of them holds. This project's own.
-use Rattle.std.specs.Prelude.{Bool, true, false, not, ◌&&◌, nat_lt, List, [], ◌∷◌, Option, Some}
-use Rattle.std.specs.Prelude.{None, if◌then◌else◌, is_some}
+use Rattle.std.specs.Prelude.{Bool, true, false, not, ◌&&◌, nat_le, nat_lt, List, [], ◌∷◌, Option}
+use Rattle.std.specs.Prelude.{Some, None, if◌then◌else◌, is_some, length}
 use Rattle.irig_codes.specs.Width.{nominal_of}
-use Rattle.irig_journal.specs.Groups.{Grouped, is_at_floor}
+use Rattle.irig_journal.specs.declared.opening.Opening.{Opening}
+use Rattle.irig_journal.specs.History.{Step}
+use Rattle.irig_saved.specs.declared.change.Change.{Change}
 use Rattle.irig_moment.specs.Generated.{starts_in}
 use Rattle.irig_edit.specs.State.State.{State}
 use Rattle.irig_edit.specs.Edits.Conditions.{is_range, are_pulses, is_touched, is_inside, is_full}
@@ -24,7 +26,7 @@ use Rattle.irig_edit.specs.declared.session.refusal.Refusal.TheVariants.{BadCont
 use Rattle.irig_edit.specs.declared.session.refusal.Refusal.TheVariants.{NothingToRedo, GroupOpen}
 use Rattle.irig_edit.specs.declared.session.refusal.Refusal.TheVariants.{NoGroup}
 use Rattle.irig_edit.specs.declared.session.refusal.Refusal.TheVariants.{GroupFloor}
-use Rattle.irig_edit.specs.Session.Kept.{Kept}
+use Rattle.irig_edit.specs.Session.Work.{Work}
 
 -- the first whose test holds
 abbrev pub first_holding : List (Bool × Refusal) → Option Refusal
@@ -60,14 +62,19 @@ abbrev pub is_empty : {S : Type 0} → List S → Bool
 is_empty [] = true
 is_empty (x ∷ xs) = false
 
+-- no step is left that was made since the begin of the open group
+abbrev pub is_at_begin : Option Opening → List (Step Change) → Bool
+is_at_begin None past = false
+is_at_begin (Some o) past = nat_le (length past) o.steps
+
 -- the refusal of a call
-abbrev pub refusal_of : Call → Grouped Kept → Option Refusal
-refusal_of (Make edit) g = first_holding (tests_of edit g.machine.present.state)
-refusal_of Undo g =
-    first_holding ((is_empty g.machine.past, NothingToUndo)
-    ∷ (is_at_floor g.floor g.machine.past, GroupFloor) ∷ [])
-refusal_of Redo g = first_holding ((is_empty g.machine.future, NothingToRedo) ∷ [])
-refusal_of (Go i) g = first_holding ((not (are_pulses i i g.machine.present.state), NoPulse) ∷ [])
-refusal_of Begin g = first_holding ((is_some g.floor, GroupOpen) ∷ [])
-refusal_of End g = first_holding ((not (is_some g.floor), NoGroup) ∷ [])
-refusal_of Abort g = first_holding ((not (is_some g.floor), NoGroup) ∷ [])
+abbrev pub refusal_of : Call → Work → Option Refusal
+refusal_of (Make edit) w = first_holding (tests_of edit w.state)
+refusal_of Undo w =
+    first_holding ((is_empty w.past, NothingToUndo)
+    ∷ (is_at_begin w.floor w.past, GroupFloor) ∷ [])
+refusal_of Redo w = first_holding ((is_empty w.future, NothingToRedo) ∷ [])
+refusal_of (Go i) w = first_holding ((not (are_pulses i i w.state), NoPulse) ∷ [])
+refusal_of Begin w = first_holding ((is_some w.floor, GroupOpen) ∷ [])
+refusal_of End w = first_holding ((not (is_some w.floor), NoGroup) ∷ [])
+refusal_of Abort w = first_holding ((not (is_some w.floor), NoGroup) ∷ [])

@@ -2,12 +2,10 @@
 use Rattle.std.specs.Prelude.{◌≡◌, ◌⊎◌, ◌+◌, ◌-◌, ℕ, List, [], ◌∷◌, Option, Some, None, length}
 use Rattle.std.specs.Prelude.{nat_lt, not, if◌then◌else◌, reverse, take}
 use Rattle.irig_codes.specs.Format.{is_permitted}
-use Rattle.irig_journal.specs.Groups.{over}
 use Rattle.irig_saved.specs.SavedText.{mark_lines, steps_lines}
 use Rattle.irig_saved.specs.declared.saved.Saved.{Saved}
 use Rattle.irig_saved.specs.declared.step.Step.{Step as SavedStep}
 use Rattle.irig_recording.specs.Recording.{RecordingView}
-use Rattle.irig_edit.specs.Session.Keeping.{machine}
 use Rattle.irig_edit.specs.Session.Session.{SessionView, session_view}
 use Rattle.irig_edit.specs.Changes.Single.{pulses_of}
 use Rattle.irig_edit.specs.State.State.{State, state}
@@ -60,9 +58,10 @@ pub record IsAccepted (s : State) (saved : Saved) (v : SessionView) : Type 0 whe
   pub head : head_fault s saved ≡ None
   pub back : CanTakeAll s (steps_of (reverse saved.past))
   pub on : CanTakeAll s (steps_of saved.future)
-  pub session : v ≡ session_view (over None (machine (record {
+  pub session : v ≡ session_view (record {
     state = s;
     cursor = saved.cursor;
     past = steps_of (reverse saved.past);
     future = steps_of saved.future;
-  }))) v.looks 0
+    floor = None;
+  }) v.looks 0

@@ -18,10 +18,10 @@ use Rattle.irig_edit.specs.State.State.{recording_of}
 -- the session of a recording in a format: its cursor is at the last pulse, no mark is set, and
 -- no step can be undone
 pub record IsStart (r : RecordingView) (f : FormatView) (v : SessionView) : Type 0 where
-  pub start : v ≡ started v.looks v.present.state
-  pub recording : recording_of v.present.state ≡ r
-  pub format : v.present.state.format ≡ f
-  pub marks : NoMarks v.present.state.marks
+  pub start : v ≡ started v.looks v.state
+  pub recording : recording_of v.state ≡ r
+  pub format : v.state.format ≡ f
+  pub marks : NoMarks v.state.marks
 
 -- a text is that of a saved journal
 pub record IsTextOf (text : List ℕ) (saved : Saved) : Type 0 where

@@ -1,29 +1,25 @@
--- A machine within its limits. This project's own.
-use Rattle.std.specs.Prelude.{◌≤◌, ℕ, Option, Some, None, length}
-use Rattle.std.specs.List.{AllByRecursion}
-use Rattle.irig_journal.specs.Groups.{Floor, Grouped}
-use Rattle.irig_journal.specs.Machine.{Machine}
-use Rattle.irig_edit.specs.Session.Kept.{Kept}
-use Rattle.irig_edit.specs.State.State.{IsState}
+-- A session within its limits. This project's own.
+use Rattle.std.specs.Prelude.{◌≤◌, List, Option, Some, None, length}
+use Rattle.irig_journal.specs.declared.opening.Opening.{Opening}
+use Rattle.irig_journal.specs.History.{Step}
+use Rattle.irig_journal.specs.Joining.{beyond, changes_of}
+use Rattle.irig_journal.specs.Turns.{left_by}
+use Rattle.irig_saved.specs.declared.change.Change.{Change}
+use Rattle.irig_edit.specs.Changes.Delta.{turned}
+use Rattle.irig_edit.specs.Opened.Taken.{CanTakeAll}
+use Rattle.irig_edit.specs.Session.Work.{Work}
+use Rattle.irig_edit.specs.State.State.{IsState, State}
 
--- a state and its cursor are within their limits
-pub record IsKept (k : Kept) : Type 0 where
-  pub state : IsState k.state
-  pub cursor : k.cursor ≤ length k.state.pulses
+-- the steps reach down to the begin of a group, and its cursor was within the limits there
+abbrev pub IsBegin : State → List (Step Change) → Option Opening → Type 0
+IsBegin s past None = Unit {0}
+IsBegin s past (Some o) = (o.steps ≤ length past)
+    × (o.cursor ≤ length (left_by turned s (changes_of (beyond o.steps past))).pulses)
 
--- every state of the machine is
-pub record IsMachine (m : Machine Kept) : Type 0 where
-  pub past : AllByRecursion IsKept m.past
-  pub present : IsKept m.present
-  pub future : AllByRecursion IsKept m.future
-
--- the past is at least as long as the floor's length, and the present that was there is within
--- its limits
-abbrev pub IsFloor : ℕ → Option (Floor Kept) → Type 0
-IsFloor long None = Unit {0}
-IsFloor long (Some floor) = (floor.height ≤ long) × IsKept floor.present
-
--- the machine and its floor are
-pub record IsGrouped (g : Grouped Kept) : Type 0 where
-  pub machine : IsMachine g.machine
-  pub floor : IsFloor (length g.machine.past) g.floor
+-- the state and its cursor are within their limits, and each step can be taken in its turn
+pub record IsWork (w : Work) : Type 0 where
+  pub state : IsState w.state
+  pub cursor : w.cursor ≤ length w.state.pulses
+  pub past : CanTakeAll w.state w.past
+  pub future : CanTakeAll w.state w.future
+  pub floor : IsBegin w.state w.past w.floor

@@ -1,17 +1,18 @@
 -- The main statement: a call of the session is one step of the machine that keeps every former
--- state whole, and of each state what the edit that made it exchanged. A floor is where the
--- open group was begun. This project's own.
-use Rattle.std.specs.Prelude.{◌≡◌, ◌-◌, ℕ, List, [], Option, Some, None, Result, Ok, Err, length}
-use Rattle.std.specs.Prelude.{replicate, take}
-use Rattle.irig_journal.specs.Groups.{Floor, Grouped, aborted, begun, ended, over, redone_over}
+-- state whole. It says with it by what steps that is done. A floor is where the open group was
+-- begun. This project's own.
+use Rattle.std.specs.Prelude.{◌≡◌, ℕ, List, Option, Some, None, Result, Ok, Err, replicate}
+use Rattle.irig_journal.specs.Groups.{Grouped, aborted, begun, ended, recorded_over, redone_over}
 use Rattle.irig_journal.specs.Groups.{undone_over}
-use Rattle.irig_journal.specs.Machine.{Machine, recorded}
+use Rattle.irig_journal.specs.Machine.{Kept, kept}
 use Rattle.irig_edit.specs.State.State.{State}
 use Rattle.irig_edit.specs.Session.Calls.{Call, Edit}
 use Rattle.irig_edit.specs.Session.Calls.Call.{Make, Undo, Redo, Go, Begin, End, Abort}
+use Rattle.irig_edit.specs.Changes.Delta.{Fits}
+use Rattle.irig_edit.specs.Edits.Changes.{change_by}
 use Rattle.irig_edit.specs.Edits.Edits.{IsAfter, cursor_after}
-use Rattle.irig_edit.specs.Edits.Exchanges.{exchange_by}
-use Rattle.irig_edit.specs.Session.Kept.{Kept, kept, nothing, together}
+use Rattle.irig_edit.specs.Session.Work.{Work, at_cursor, dropped_since, floored_here, gone_back}
+use Rattle.irig_edit.specs.Session.Work.{gone_on, grouped_in, joined_since, made}
 use Rattle.irig_edit.specs.Edits.Refusals.{refusal_of}
 use Rattle.irig_edit.specs.declared.session.refusal.Refusal.{Refusal}
 use Rattle.irig_edit.specs.declared.session.refusal.Refusal.TheVariants.{OutOfMemory}
@@ -20,46 +21,30 @@ use Rattle.irig_edit.specs.declared.session.refusal.Refusal.TheVariants.{OutOfMe
 abbrev pub NoMarks : List (Option ℕ) → Type 0
 NoMarks marks = marks ≡ replicate 26 None
 
--- the machine of a track that was just opened: the cursor is at the last pulse
-abbrev pub started : State → Machine Kept
-started s =
-    record { past = []; present = kept s (length s.pulses) nothing; future = [] }
-
 -- an accepted edit: the present goes to the past, the state after the edit becomes the present, and
--- the future is empty
-pub record Edits (edit : Edit) (old new : Machine Kept) : Type 0 where
-  pub after : IsAfter edit old.present.state new.present.state
-  pub cursor : new.present.cursor ≡ cursor_after edit old.present.cursor new.present.state.pulses
-  pub made : new.present.made ≡ exchange_by edit old.present.state
-  pub step : new ≡ recorded old new.present
+-- the future is empty; and the edit's change, which can be made, makes the step
+pub record Edits (edit : Edit) (old new : Work) : Type 0 where
+  pub after : IsAfter edit old.state new.state
+  pub cursor : new.cursor ≡ cursor_after edit old.cursor new.state.pulses
+  pub fits : Fits old.state (change_by edit old.state)
+  pub states : grouped_in new ≡ recorded_over (grouped_in old) (kept new.state new.cursor)
+  pub steps : new ≡ made (change_by edit old.state) new.cursor old
 
--- the present with another cursor
-abbrev pub with_cursor : ℕ → Machine Kept → Machine Kept
-with_cursor i m = record {
-  past = m.past;
-  present = kept m.present.state i m.present.made;
-  future = m.future;
-}
+-- a move of the machine of whole states, and of the steps
+pub record Moves (whole : Grouped (Kept State) → Option (Grouped (Kept State)))
+    (along : Work → Option Work) (old new : Work) : Type 0 where
+  pub states : whole (grouped_in old) ≡ Some (grouped_in new)
+  pub steps : along old ≡ Some new
 
--- the present as made by all the edits since the floor together
-abbrev pub with_group : Option (Floor Kept) → Machine Kept → Machine Kept
-with_group None m = m
-with_group (Some floor) m = record {
-  past = m.past;
-  present = kept m.present.state m.present.cursor
-      (together m.present.made (take (length m.past - floor.height - 1) m.past));
-  future = m.future;
-}
-
--- an accepted call; the present that an end leaves was made by all the edits of the group
-abbrev pub Accepts : Call → Grouped Kept → Grouped Kept → Type 0
-Accepts (Make edit) old new = Edits edit old.machine new.machine × (new.floor ≡ old.floor)
-Accepts Undo old new = undone_over old ≡ Some new
-Accepts Redo old new = redone_over old ≡ Some new
-Accepts (Go i) old new = new ≡ over old.floor (with_cursor i old.machine)
-Accepts Begin old new = begun old ≡ Some new
-Accepts End old new = ended (over old.floor (with_group old.floor old.machine)) ≡ Some new
-Accepts Abort old new = aborted old ≡ Some new
+-- an accepted call
+abbrev pub Accepts : Call → Work → Work → Type 0
+Accepts (Make edit) old new = Edits edit old new
+Accepts Undo old new = Moves undone_over gone_back old new
+Accepts Redo old new = Moves redone_over gone_on old new
+Accepts (Go i) old new = new ≡ at_cursor i old
+Accepts Begin old new = Moves begun floored_here old new
+Accepts End old new = Moves ended (joined_since old.floor) old new
+Accepts Abort old new = Moves aborted (dropped_since old.floor) old new
 
 -- memory can run out at an edit alone, which asks for all that its undo and redo take, and all that
 -- the end of its group takes
@@ -69,7 +54,7 @@ MayWantMemory call = ⊥
 
 -- one step: accepted if no refusal holds; else the first refusal, or out of memory if none
 -- holds and the call takes memory, and nothing moved
-abbrev pub Steps : Call → Grouped Kept → Result Unit Refusal → Grouped Kept → Type 0
+abbrev pub Steps : Call → Work → Result Unit Refusal → Work → Type 0
 Steps call old (Ok _) new = (refusal_of call old ≡ None) × Accepts call old new
 Steps call old (Err OutOfMemory) new =
     (refusal_of call old ≡ None) × (new ≡ old) × MayWantMemory call

@@ -1,53 +1,66 @@
--- What contracts see of a session: a machine of whole states with its floor, and how many looks at
--- pulses its last change took. This project's own.
+-- What contracts see of a session: its state and its steps, and how many looks at pulses its last
+-- change took. This project's own.
 use Rattle.std.specs.Prelude.{◌≡◌, ◌≤◌, ℕ, ◌-◌, List, [], ◌∷◌, Option, Some, None, Result, Ok}
-use Rattle.std.specs.Prelude.{Err, length, take}
-use Rattle.irig_journal.specs.Groups.{Floor, Grouped, over}
-use Rattle.irig_journal.specs.Machine.{Machine}
+use Rattle.std.specs.Prelude.{Err, length}
+use Rattle.irig_journal.specs.declared.opening.Opening.{Opening}
+use Rattle.irig_journal.specs.History.{Step}
+use Rattle.irig_journal.specs.Joining.{beyond, changes_of}
+use Rattle.irig_saved.specs.declared.change.Change.{Change}
+use Rattle.irig_edit.specs.Changes.Delta.{gathered}
+use Rattle.irig_edit.specs.Changes.Looks.{Within, looks_of}
+use Rattle.irig_edit.specs.Edits.Changes.{change_by}
 use Rattle.irig_edit.specs.Session.Calls.{Call}
 use Rattle.irig_edit.specs.Session.Calls.Call.{Make, Undo, Redo, Abort}
-use Rattle.irig_edit.specs.Session.Kept.{Kept, looks_back}
-use Rattle.irig_edit.specs.Changes.Looks.{Within}
 use Rattle.irig_edit.specs.Session.Machine as machine
+use Rattle.irig_edit.specs.Session.Work.{Work}
 use Rattle.irig_edit.specs.State.State.{State}
 use Rattle.irig_edit.specs.declared.session.refusal.Refusal.{Refusal}
 
--- the machine's lists and its present; the past's length and the present when the open group was
--- begun; the looks at pulses so far, and those of the last accepted edit, undo, redo or abort
+-- the state and its cursor; the steps back and on; where the open group was begun; the looks at
+-- pulses so far, and those of the last accepted edit, undo, redo or abort
 pub record SessionView : Type 0 where
-  pub past : List Kept
-  pub present : Kept
-  pub future : List Kept
-  pub floor : Option (Floor Kept)
+  pub state : State
+  pub cursor : ℕ
+  pub past : List (Step Change)
+  pub future : List (Step Change)
+  pub floor : Option Opening
   pub looks : ℕ
   pub last_looks : ℕ
 
--- a session of a machine with its floor, with the looks so far and those of the last change
-abbrev pub session_view : Grouped Kept → ℕ → ℕ → SessionView
-session_view g looks last = record {
-  past = g.machine.past;
-  present = g.machine.present;
-  future = g.machine.future;
-  floor = g.floor;
+-- a session with the looks so far and those of the last change
+abbrev pub session_view : Work → ℕ → ℕ → SessionView
+session_view w looks last = record {
+  state = w.state;
+  cursor = w.cursor;
+  past = w.past;
+  future = w.future;
+  floor = w.floor;
   looks = looks;
   last_looks = last;
 }
 
--- the machine of whole states
-abbrev pub machine_in : SessionView → Machine Kept
-machine_in v = record { past = v.past; present = v.present; future = v.future }
+-- without its looks
+abbrev pub work_in : SessionView → Work
+work_in v = record {
+  state = v.state;
+  cursor = v.cursor;
+  past = v.past;
+  future = v.future;
+  floor = v.floor;
+}
 
--- the machine with its floor
-abbrev pub grouped_in : SessionView → Grouped Kept
-grouped_in v = over v.floor (machine_in v)
+-- a track that was just opened: the cursor is at the last pulse
+abbrev pub started_work : State → Work
+started_work s =
+    record { state = s; cursor = length s.pulses; past = []; future = []; floor = None }
 
 -- the session of a track that was just opened, with this many looks
 abbrev pub started : ℕ → State → SessionView
-started looks s = session_view (over None (machine.started s)) looks 0
+started looks s = session_view (started_work s) looks 0
 
 -- a call is one step of the machine
 abbrev pub Steps : Call → SessionView → Result Unit Refusal → SessionView → Type 0
-Steps call old result new = machine.Steps call (grouped_in old) result (grouped_in new)
+Steps call old result new = machine.Steps call (work_in old) result (work_in new)
 
 -- no look was made, and the looks of the last change are as before
 abbrev pub LooksStay : SessionView → SessionView → Type 0
@@ -60,18 +73,26 @@ LooksWithin most old (Ok _) new = (old.looks ≤ new.looks)
     × (new.last_looks ≡ new.looks - old.looks) × Within most new.last_looks
 LooksWithin most old (Err _) new = LooksStay old new
 
--- the states that were made since the floor, the present first
-abbrev pub made_since : Option (Floor Kept) → Machine Kept → List Kept
-made_since None m = []
-made_since (Some floor) m = take (length m.past - floor.height) (m.present ∷ m.past)
+-- the most looks of a turn of the nearest step
+abbrev pub looks_of_nearest : State → List (Step Change) → Option ℕ
+looks_of_nearest s [] = Some 0
+looks_of_nearest s (near ∷ steps) = looks_of s near.change
 
--- the bound of an undo is that of the turn back of the edit that made the former present, and that
--- of an abort is of all such turns together; that of an edit and of a redo is that of the turn on
--- of the edit that made the new present; at other calls the looks stay
+-- the most looks of turns of the steps since the begin of a group
+abbrev pub looks_since : Option Opening → State → List (Step Change) → Option ℕ
+looks_since None s past = Some 0
+looks_since (Some o) s past = looks_of s (gathered (changes_of (beyond o.steps past)))
+
+-- the bound of an edit is that of the turn of its change, that of an undo and of a redo that of the
+-- turn of the step that it takes, and that of an abort is of all the turns back together; at other
+-- calls the looks stay
 abbrev pub LooksAfter : Call → SessionView → Result Unit Refusal → SessionView → Type 0
-LooksAfter (Make edit) old result new = LooksWithin new.present.made.forth old result new
-LooksAfter Undo old result new = LooksWithin old.present.made.back old result new
-LooksAfter Redo old result new = LooksWithin new.present.made.forth old result new
+LooksAfter (Make edit) old result new =
+    LooksWithin (looks_of old.state (change_by edit old.state)) old result new
+LooksAfter Undo old result new =
+    LooksWithin (looks_of_nearest old.state old.past) old result new
+LooksAfter Redo old result new =
+    LooksWithin (looks_of_nearest old.state old.future) old result new
 LooksAfter Abort old result new =
-    LooksWithin (looks_back (made_since old.floor (machine_in old))) old result new
+    LooksWithin (looks_since old.floor old.state old.past) old result new
 LooksAfter _ old result new = LooksStay old new

@@ -99,8 +99,6 @@ fn plan(
     ensures change { IfOk result (λ p. One (Splice p.first p.count
         (frames_pulses present.now.state.format start frames moment control))
         ≡ change_by (Regen start frames moment control) present.now.state) }
-    ensures many { OnOk result (100 * frames
-        ≡ length (frames_pulses present.now.state.format start frames moment control)) }
 {
     let Some(end) = end_of(present, start, frames) else {
         return Err(Refusal::OutOfRange);

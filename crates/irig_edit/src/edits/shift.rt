@@ -8,8 +8,7 @@ ghost use Rattle.irig_edit.specs.Session.Calls.Edit.{Shift};
 ghost use Rattle.irig_edit.specs.Edits.Conditions.{leaves};
 ghost use Rattle.irig_edit.specs.Changes.Delta.{Fits, turned};
 ghost use Rattle.irig_saved.specs.declared.change.Change.TheVariants.{One};
-ghost use Rattle.irig_edit.specs.Edits.Exchanges.{exchange_by};
-ghost use Rattle.irig_edit.specs.Session.Keeping.{exchange_of};
+ghost use Rattle.irig_edit.specs.Edits.Changes.{change_by};
 ghost use Rattle.irig_edit.specs.Session.Session.{LooksAfter, Steps};
 
 use crate::session::refusal::Refusal;
@@ -64,9 +63,7 @@ fn plan(present: &Present, i: usize, j: usize, by: i64) -> Result<Single, Refusa
         Fits present.now.state (One m)) }
     ensures becomes { IfOk result (λ m. Becomes (Shift i j by) present.now.state
         (turned present.now.state (One m)).0 j) }
-    ensures exchange { IfOk result (λ m.
-        exchange_of present.now.state (One m)
-        ≡ exchange_by (Shift i j by) present.now.state) }
+    ensures change { IfOk result (λ m. One m ≡ change_by (Shift i j by) present.now.state) }
 {
     judge(present, i, j, by)?;
     let low = present.pulse(i).rise;

@@ -2,13 +2,12 @@
 
 ghost use Rattle.std.specs.Prelude.{◌≡◌, ◌≢◌, ◌≤◌, ◌∷◌, Some, None, OnOk, []};
 ghost use Rattle.std.specs.Prelude.{drop, length, take};
-ghost use Rattle.irig_journal.specs.Groups.{over};
 ghost use Rattle.irig_journal.specs.History.{step, stepped_back, turned_round};
 ghost use Rattle.irig_journal.specs.Joining.{changes_of};
 ghost use Rattle.irig_edit.specs.Changes.Delta.{gathered, turned};
 ghost use Rattle.irig_saved.specs.declared.change.Change.TheVariants.{One};
 ghost use Rattle.irig_edit.specs.Changes.Single.{FitsSingle};
-ghost use Rattle.irig_edit.specs.Session.Keeping.{machine};
+ghost use Rattle.irig_edit.specs.Session.Work.{work_over};
 ghost use Rattle.irig_edit.specs.Session.Session.{session_view};
 ghost use Rattle.irig_edit.specs.State.State.{IsState};
 ghost use Rattle.irig_edit.specs.Opened.Taken.{CanTakeAll};
@@ -122,7 +121,7 @@ impl Walk {
     pub(crate) fn into_session(self, alloc: Global) -> Session
         requires cursor { self.cursor ≤ length self.state.pulses }
         requires steps { CanTakeAll self.state self.past × CanTakeAll self.state self.future }
-        ensures { result ≡ session_view (over None (machine self)) result.looks 0 }
+        ensures { result ≡ session_view (work_over None self) result.looks 0 }
     {
         // Read for the law of its type alone.
         let _len = self.len();

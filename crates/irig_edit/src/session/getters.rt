@@ -1,9 +1,9 @@
 //! What a session shows of its present state.
 
-ghost use Rattle.std.specs.Prelude.{◌≡◌, ◌≤◌, ◌+◌, ◌-◌, length, Some, IfSome, IfOk, slice_get, ◌∷◌};
-ghost use Rattle.std.specs.List.{sum_by};
+ghost use Rattle.std.specs.Prelude.{◌≡◌, ◌≤◌, ◌+◌, ◌-◌, length, Some, IfSome, IfOk, slice_get};
 ghost use Rattle.irig_recording.specs.FileText.{file_text};
-ghost use Rattle.irig_edit.specs.Session.Kept.{put_for, taken_for};
+ghost use Rattle.irig_journal.specs.Journal.{weight_of};
+ghost use Rattle.irig_edit.specs.Changes.Delta.{weight_of as weight_of_change};
 ghost use Rattle.irig_edit.specs.State.State.{frames_of, recording_of};
 ghost use Rattle.irig_track.specs.Splices.{risen_by};
 
@@ -18,36 +18,36 @@ use std::alloc::AllocError;
 impl Session {
     /// How long the track is, in microseconds.
     pub fn length(&self) -> u64
-        ensures { result ≡ self.now.present.state.micros }
+        ensures { result ≡ self.now.state.micros }
     {
         self.present.track().length()
     }
 
     /// How many pulses the track has.
     pub fn len(&self) -> usize
-        ensures { result ≡ length self.now.present.state.pulses }
+        ensures { result ≡ length self.now.state.pulses }
     {
         self.present.track().len()
     }
 
     /// A pulse, from 1.
     pub fn pulse(&self, number: usize) -> Pulse
-        requires { (1 ≤ number) × (number ≤ length self.now.present.state.pulses) }
-        ensures { slice_get self.now.present.state.pulses (number - 1) ≡ Some result }
+        requires { (1 ≤ number) × (number ≤ length self.now.state.pulses) }
+        ensures { slice_get self.now.state.pulses (number - 1) ≡ Some result }
     {
         self.present.pulse(number)
     }
 
     /// How many pulses rise at or before a time, in microseconds.
     pub fn find(&self, time: u64) -> usize
-        ensures { result ≡ risen_by time self.now.present.state.pulses }
+        ensures { result ≡ risen_by time self.now.state.pulses }
     {
         self.present.find(time)
     }
 
     /// The format.
     pub fn current_format(&self) -> Format
-        ensures { result ≡ self.now.present.state.format }
+        ensures { result ≡ self.now.state.format }
     {
         self.present.format()
     }
@@ -55,14 +55,14 @@ impl Session {
     /// The time of a mark in microseconds, if it is set. The letter is one of a to z.
     pub fn mark_time(&self, letter: u8) -> Option<u64>
         requires { (97 ≤ letter) × (letter ≤ 122) }
-        ensures { slice_get self.now.present.state.marks (letter - 97) ≡ Some result }
+        ensures { slice_get self.now.state.marks (letter - 97) ≡ Some result }
     {
         self.present.mark((letter - b'a') as usize)
     }
 
     /// The cursor: the number of a pulse, from 1, or 0 before the first.
     pub fn cursor(&self) -> usize
-        ensures { result ≡ self.now.present.cursor }
+        ensures { result ≡ self.now.cursor }
     {
         self.cursor
     }
@@ -84,8 +84,8 @@ impl Session {
     /// How many pulses the steps back hold, and how many the steps forward hold. An edit in the
     /// past holds those that it removed, one in the future those that it inserts.
     pub fn held(&self) -> (u128, u128)
-        ensures past { result.0 ≡ sum_by taken_for (self.now.present ∷ self.now.past) }
-        ensures future { result.1 ≡ sum_by put_for self.now.future }
+        ensures past { result.0 ≡ weight_of weight_of_change self.now.past }
+        ensures future { result.1 ≡ weight_of weight_of_change self.now.future }
     {
         self.journal.weights()
     }
@@ -100,15 +100,15 @@ impl Session {
 
     /// How many frames the track has, in its format.
     pub fn frames(&self) -> usize
-        ensures { result ≡ length (frames_of self.now.present.state) }
+        ensures { result ≡ length (frames_of self.now.state) }
     {
         self.present.index().len()
     }
 
     /// The frame with a number, from 1.
     pub fn frame(&self, number: usize) -> Frame
-        requires { (1 ≤ number) × (number ≤ length (frames_of self.now.present.state)) }
-        ensures { IfSome (slice_get (frames_of self.now.present.state) (number - 1))
+        requires { (1 ≤ number) × (number ≤ length (frames_of self.now.state)) }
+        ensures { IfSome (slice_get (frames_of self.now.state) (number - 1))
             (λ r. (result.marker ≡ r.marker + 1) × (result.verdict ≡ r.verdict)) }
     {
         let record = self.present.index().record(number - 1);
@@ -121,14 +121,14 @@ impl Session {
     /// The text of the track's dump.
     pub fn text(&self) -> Result<Vec<u8>, AllocError>
         ensures { IfOk result (λ text.
-            text.items ≡ file_text (recording_of self.now.present.state)) }
+            text.items ≡ file_text (recording_of self.now.state)) }
     {
         whole(self.alloc, self.present.text_room(), &mut self.text_parts())
     }
 
     /// That text in parts. It takes no memory.
     pub fn text_parts(&self) -> TrackText<'_>
-        ensures { result ≡ file_text (recording_of self.now.present.state) }
+        ensures { result ≡ file_text (recording_of self.now.state) }
     {
         self.present.track().text_parts()
     }

@@ -3,13 +3,12 @@
 ghost use Rattle.std.specs.Prelude.{◌≡◌, ◌≤◌, ◌<◌, ◌-◌, length, IfOk, OnOk, OnErr, IsErrOf, None};
 ghost use Rattle.std.specs.Prelude.{Ok};
 ghost use Rattle.irig_journal.specs.Groups.{recorded_over};
+ghost use Rattle.irig_journal.specs.Machine.{kept};
 ghost use Rattle.irig_edit.specs.State.State.{recording_of, with_pulses};
 ghost use Rattle.irig_edit.specs.Session.Machine.{NoMarks};
-ghost use Rattle.irig_edit.specs.Session.Session.{LooksAfter, LooksWithin, Steps, grouped_in};
-ghost use Rattle.irig_edit.specs.Session.Session.{started};
-ghost use Rattle.irig_edit.specs.Session.Kept.{exchange, kept};
-ghost use Rattle.irig_edit.specs.Edits.Exchanges.{exchange_by};
-ghost use Rattle.irig_edit.specs.Session.Keeping.{exchange_of};
+ghost use Rattle.irig_edit.specs.Session.Session.{LooksAfter, Steps, started, work_in};
+ghost use Rattle.irig_edit.specs.Session.Work.{grouped_in, made};
+ghost use Rattle.irig_edit.specs.Edits.Changes.{change_by};
 ghost use Rattle.irig_edit.specs.Edits.Becoming.{Becomes, judgement_of};
 ghost use Rattle.irig_edit.specs.Session.Calls.{Edit};
 ghost use Rattle.irig_edit.specs.Changes.Delta.{Fits, turned};
@@ -44,18 +43,18 @@ pub struct Session {
 }
 
 impl Model for Session {
-    ghost use Rattle.irig_edit.specs.Session.Keeping.{grouped_at};
     ghost use Rattle.irig_edit.specs.Session.Session.{SessionView, session_view};
-    ghost use Rattle.irig_edit.specs.Session.Limits.{IsGrouped};
+    ghost use Rattle.irig_edit.specs.Session.Limits.{IsWork};
+    ghost use Rattle.irig_edit.specs.Session.Work.{work_at};
     ghost use Rattle.irig_edit.specs.Changes.Ready.{StepsAreReady};
 
     ghost Value = { SessionView };
 
     ghost view = { λ s.
-        session_view (grouped_at s.present.state s.cursor s.journal) s.present.index.looks
+        session_view (work_at s.present.state s.cursor s.journal) s.present.index.looks
         s.last_looks };
 
-    ghost invariant = { λ s. IsGrouped (grouped_at s.present.state s.cursor s.journal)
+    ghost invariant = { λ s. IsWork (work_at s.present.state s.cursor s.journal)
         × StepsAreReady s.present s.journal };
 }
 
@@ -63,9 +62,9 @@ impl Session {
     /// The session of a recording in a format. The cursor is at the last pulse, no mark is
     /// set, and no step can be undone.
     pub fn open(alloc: Global, recording: Recording, format: Format) -> Result<Session, AllocError>
-        ensures { IfOk result (λ s. (s ≡ started s.looks s.present.state)
-            × (recording_of s.present.state ≡ recording) × (s.present.state.format ≡ format)
-            × NoMarks s.present.state.marks) }
+        ensures { IfOk result (λ s. (s ≡ started s.looks s.state)
+            × (recording_of s.state ≡ recording) × (s.state.format ≡ format)
+            × NoMarks s.state.marks) }
     {
         let present = Present::open(alloc, recording, format)?;
         let cursor = present.track().len();
@@ -160,19 +159,16 @@ impl Session {
         cursor: usize,
     ) -> Result<(), Refusal>
         requires first { 1 ≤ first }
-        requires can { CanSplice self.old.present.state.micros (first - 1) count put
-            self.old.present.state.pulses }
-        requires cursor { cursor ≤
-            length (spliced (first - 1) count put self.old.present.state.pulses) }
-        ensures step { (edit : Edit) → judgement_of edit self.old.present.state ≡ None
-            → Becomes edit self.old.present.state (with_pulses
-            (spliced (first - 1) count put self.old.present.state.pulses)
-            self.old.present.state) cursor
-            → exchange count (length put) (turned self.old.present.state
-            (One (Spliced first count put))).1 (One (Spliced first count put))
-            ≡ exchange_by edit self.old.present.state
+        requires can { CanSplice self.old.state.micros (first - 1) count put
+            self.old.state.pulses }
+        requires cursor { cursor ≤ length (spliced (first - 1) count put self.old.state.pulses) }
+        ensures step { (edit : Edit) → judgement_of edit self.old.state ≡ None
+            → Becomes edit self.old.state (with_pulses
+            (spliced (first - 1) count put self.old.state.pulses) self.old.state) cursor
+            → One (Spliced first count put) ≡ change_by edit self.old.state
             → Steps (Make edit) self.old result self.new }
-        ensures looks { LooksWithin self.new.present.made.forth self.old result self.new }
+        ensures looks { (edit : Edit) → One (Spliced first count put)
+            ≡ change_by edit self.old.state → LooksAfter (Make edit) self.old result self.new }
     {
         let (at, count) = (first as u64, count as u64);
         self.change(Single::Splice { at, count, put }, cursor)
@@ -181,19 +177,17 @@ impl Session {
     /// Makes a change, as a step that leaves the cursor at a place. The memory that its undo and
     /// its redo take is asked for here.
     pub(crate) fn change(&mut self, single: Single, cursor: usize) -> Result<(), Refusal>
-        requires fits { Fits self.old.present.state (One single) }
-        requires cursor { cursor ≤
-            length (turned self.old.present.state (One single)).0.pulses }
-        ensures step { (edit : Edit) → judgement_of edit self.old.present.state ≡ None
-            → Becomes edit self.old.present.state
-            (turned self.old.present.state (One single)).0 cursor
-            → exchange_of self.old.present.state (One single)
-            ≡ exchange_by edit self.old.present.state
+        requires fits { Fits self.old.state (One single) }
+        requires cursor { cursor ≤ length (turned self.old.state (One single)).0.pulses }
+        ensures step { (edit : Edit) → judgement_of edit self.old.state ≡ None
+            → Becomes edit self.old.state (turned self.old.state (One single)).0 cursor
+            → One single ≡ change_by edit self.old.state
             → Steps (Make edit) self.old result self.new }
-        ensures looks { LooksWithin self.new.present.made.forth self.old result self.new }
-        ensures ok { OnOk result (grouped_in self.new ≡ recorded_over (grouped_in self.old)
-            (kept (turned self.old.present.state (One single)).0 cursor
-            (exchange_of self.old.present.state (One single)))) }
+        ensures looks { (edit : Edit) → One single ≡ change_by edit self.old.state
+            → LooksAfter (Make edit) self.old result self.new }
+        ensures ok { OnOk result ((work_in self.new ≡ made (One single) cursor (work_in self.old))
+            × (grouped_in (work_in self.new) ≡ recorded_over (grouped_in (work_in self.old))
+            (kept (turned self.old.state (One single)).0 cursor))) }
         ensures err { OnErr result ((self.new ≡ self.old) × IsErrOf result Refusal.OutOfMemory) }
     {
         let before = self.present.looks();

@@ -2,19 +2,16 @@
 use Rattle.std.proofs.Common.{◌≡◌, ℕ, List, [], Option, Some, None, reverse, ◌++◌, inl, inr, sym, ap, ◌∙◌}
 use Rattle.std.specs.Prelude.{Result, Ok}
 use Rattle.irig_codes.specs.Format.{FormatView}
-use Rattle.irig_journal.specs.Groups.{Grouped, over}
 use Rattle.irig_saved.proofs.Unique.{same_saved}
 use Rattle.irig_saved.specs.SavedText.{journal_text}
 use Rattle.irig_saved.specs.declared.saved.Saved.{Saved}
 use Rattle.irig_track.proofs.Sets.{edges_of-inj}
 use Rattle.irig_recording.specs.Recording.{RecordingView}
 use Rattle.irig_vcd.specs.declared.fault.VcdFault.{VcdFault}
-use Rattle.irig_edit.specs.Session.Keeping.{machine}
-use Rattle.irig_edit.specs.Session.Kept.{Kept}
-use Rattle.irig_edit.specs.Session.Machine as first
 use Rattle.irig_edit.specs.Opened.Opened.{IsAccepted, state_of}
 use Rattle.irig_edit.specs.Opened.Openings.{IsOpened, IsStart, IsTextOf}
-use Rattle.irig_edit.specs.Session.Session.{grouped_in}
+use Rattle.irig_edit.specs.Session.Session.{started_work, work_in}
+use Rattle.irig_edit.specs.Session.Work.{Work}
 use Rattle.irig_edit.specs.State.State.{State, recording_of, state}
 use Rattle.irig_edit.specs.Opened.Taken.{steps_of}
 use Rattle.irig_script.specs.Obey.Machine.{Machine}
@@ -44,33 +41,34 @@ saved_one t u x y e h k =
     (same_saved x y [] [] h.ranges k.ranges (ap (λ (l : List ℕ). l ++ []) whole)).value
 
 -- the session of a recording, and of a journal
-start_one : (r q : RecordingView) (f : FormatView) (v w : Machine) → r ≡ q → IsStart r f v → IsStart q f w → grouped_in v ≡ grouped_in w
+start_one : (r q : RecordingView) (f : FormatView) (v w : Machine) → r ≡ q → IsStart r f v → IsStart q f w → work_in v ≡ work_in w
 start_one r q f v w e h k =
-    let same : recording_of v.present.state ≡ recording_of w.present.state = h.recording ∙ e ∙ sym k.recording in
-    let micros : v.present.state.micros ≡ w.present.state.micros = ap (λ (x : RecordingView). x.micros) same in
-    let pulses : v.present.state.pulses ≡ w.present.state.pulses =
-    edges_of-inj v.present.state.pulses w.present.state.pulses (ap (λ (x : RecordingView). x.edges) same) in
-    let format : v.present.state.format ≡ w.present.state.format = h.format ∙ sym k.format in
-    let marks : v.present.state.marks ≡ w.present.state.marks = h.marks ∙ sym k.marks in
-    let states : v.present.state ≡ w.present.state = λ i. state (micros i) (pulses i) (format i) (marks i) in
-    ap grouped_in h.start ∙ ap (λ (s : State). over None (first.started s)) states ∙ sym (ap grouped_in k.start)
+    let same : recording_of v.state ≡ recording_of w.state = h.recording ∙ e ∙ sym k.recording in
+    let micros : v.state.micros ≡ w.state.micros = ap (λ (x : RecordingView). x.micros) same in
+    let pulses : v.state.pulses ≡ w.state.pulses =
+    edges_of-inj v.state.pulses w.state.pulses (ap (λ (x : RecordingView). x.edges) same) in
+    let format : v.state.format ≡ w.state.format = h.format ∙ sym k.format in
+    let marks : v.state.marks ≡ w.state.marks = h.marks ∙ sym k.marks in
+    let states : v.state ≡ w.state = λ i. state (micros i) (pulses i) (format i) (marks i) in
+    ap work_in h.start ∙ ap started_work states ∙ sym (ap work_in k.start)
 
-abbrev accepted : State → Saved → Grouped Kept
-accepted s saved = over None (machine (record {
+abbrev accepted : State → Saved → Work
+accepted s saved = record {
   state = s;
   cursor = saved.cursor;
   past = steps_of (reverse saved.past);
   future = steps_of saved.future;
-}))
+  floor = None;
+}
 
 accepted_one : (r q : RecordingView) (x y : Saved) (v w : Machine) → r ≡ q → x ≡ y → IsAccepted (state_of r x) x v → IsAccepted (state_of q y) y w
-    → grouped_in v ≡ grouped_in w
+    → work_in v ≡ work_in w
 accepted_one r q x y v w e f h k =
     let states : state_of r x ≡ state_of q y = λ i. state_of (e i) (f i) in
-    ap grouped_in h.session ∙ (λ i. accepted (states i) (f i)) ∙ sym (ap grouped_in k.session)
+    ap work_in h.session ∙ (λ i. accepted (states i) (f i)) ∙ sym (ap work_in k.session)
 
 pub opened_one : (wire : Option (List ℕ)) (source : List ℕ) (f : FormatView) (v w : Machine) → IsOpened wire source f v → IsOpened wire source f w
-    → grouped_in v ≡ grouped_in w
+    → work_in v ≡ work_in w
 opened_one wire source f v w (inl h) (inl k) =
     start_one h.0 k.0 f v w (recording_one h.0 k.0 None None _ h.1 k.1) h.2 k.2
 opened_one wire source f v w (inl h) (inr k) =

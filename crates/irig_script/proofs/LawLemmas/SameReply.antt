@@ -2,15 +2,14 @@
 use Rattle.std.proofs.Common.{◌≡◌, ◌+◌, ◌-◌, ℕ, Bool, true, false, List, [], ◌∷◌, Some, None, length, refl, sym, ap, ap₂, ◌∙◌, subst}
 use Rattle.std.specs.Prelude.{Result, Ok, Err}
 use Rattle.irig_codes.specs.Format.{FormatView, is_permitted}
-use Rattle.irig_journal.specs.Groups.{Grouped as Whole}
 use Rattle.irig_edit.specs.Session.Calls.{Call, Edit}
 use Rattle.irig_edit.specs.Edits.Conditions.{are_pulses}
-use Rattle.irig_edit.specs.Session.Kept.{Kept}
 use Rattle.irig_edit.specs.Session.Machine.{Steps}
 use Rattle.irig_edit.specs.Edits.Refusals.{refusal_of}
 use Rattle.irig_edit.specs.Session.Runs.{OneOutcome}
 use Rattle.irig_edit.specs.Saved.SavedSession.{saved_text}
-use Rattle.irig_edit.specs.Session.Session.{grouped_in, session_view}
+use Rattle.irig_edit.specs.Session.Session.{session_view, work_in}
+use Rattle.irig_edit.specs.Session.Work.{Work}
 use Rattle.irig_edit.specs.declared.session.refusal.Refusal.{Refusal}
 use Rattle.irig_edit.specs.declared.session.refusal.Refusal.TheVariants as refusal
 use Rattle.irig_script.specs.Obey.Machine.{Machine}
@@ -31,48 +30,48 @@ use Rattle.irig_script.specs.declared.print.reply.Reply.{Reply}
 use Rattle.irig_script.specs.declared.print.reply.Reply.TheVariants as told
 
 -- the machine without the looks that it has counted
-abbrev pub bare : Whole Kept → Machine
+abbrev pub bare : Work → Machine
 bare k = session_view k 0 0
 
 -- two machines that stay as they are
-pub stays : (o p a b : Machine) → grouped_in o ≡ grouped_in p → a ≡ o → b ≡ p → grouped_in a ≡ grouped_in b
-stays o p a b e h k = ap grouped_in h ∙ e ∙ sym (ap grouped_in k)
+pub stays : (o p a b : Machine) → work_in o ≡ work_in p → a ≡ o → b ≡ p → work_in a ≡ work_in b
+stays o p a b e h k = ap work_in h ∙ e ∙ sym (ap work_in k)
 
 -- addresses and times mean the same in machines that differ in their looks alone
-base_same : (b : Base) (o p : Machine) → grouped_in o ≡ grouped_in p → base_of b o ≡ base_of b p
+base_same : (b : Base) (o p : Machine) → work_in o ≡ work_in p → base_of b o ≡ base_of b p
 base_same (Number n) o p e = refl
 base_same Current o p e = ap (λ k. base_of Current (bare k)) e
 base_same Last o p e = ap (λ k. base_of Last (bare k)) e
 base_same (Mark letter) o p e = ap (λ k. base_of (Mark letter) (bare k)) e
 
-pulse_same : (by : ℕ) (a : Address) (o p : Machine) → grouped_in o ≡ grouped_in p → pulse_at by a o ≡ pulse_at by a p
-pulse_same by a o p e = ap₂ (λ b n. counted b by a.offset n) (base_same a.base o p e) (ap (λ k. length k.machine.present.state.pulses) e)
+pulse_same : (by : ℕ) (a : Address) (o p : Machine) → work_in o ≡ work_in p → pulse_at by a o ≡ pulse_at by a p
+pulse_same by a o p e = ap₂ (λ b n. counted b by a.offset n) (base_same a.base o p e) (ap (λ k. length k.state.pulses) e)
 
-number_same : (a : Address) (o p : Machine) → grouped_in o ≡ grouped_in p → number_at a o ≡ number_at a p
+number_same : (a : Address) (o p : Machine) → work_in o ≡ work_in p → number_at a o ≡ number_at a p
 number_same a o p e = pulse_same 0 a o p e
 
-first_same : (r : Range) (o p : Machine) → grouped_in o ≡ grouped_in p → first_of r o ≡ first_of r p
+first_same : (r : Range) (o p : Machine) → work_in o ≡ work_in p → first_of r o ≡ first_of r p
 first_same (One a) o p e = number_same a o p e
 first_same (Two a b) o p e = number_same a o p e
 
-last_same : (r : Range) (o p : Machine) → grouped_in o ≡ grouped_in p → last_of r o ≡ last_of r p
+last_same : (r : Range) (o p : Machine) → work_in o ≡ work_in p → last_of r o ≡ last_of r p
 last_same (One a) o p e = number_same a o p e
 last_same (Two a b) o p e = number_same b o p e
 
-join_last_same : (r : Range) (o p : Machine) → grouped_in o ≡ grouped_in p → join_last_of r o ≡ join_last_of r p
+join_last_same : (r : Range) (o p : Machine) → work_in o ≡ work_in p → join_last_of r o ≡ join_last_of r p
 join_last_same (One a) o p e = pulse_same 1 a o p e
 join_last_same (Two a b) o p e = number_same b o p e
 
-time_same : (t : Time) (o p : Machine) → grouped_in o ≡ grouped_in p → time_of t o ≡ time_of t p
+time_same : (t : Time) (o p : Machine) → work_in o ≡ work_in p → time_of t o ≡ time_of t p
 time_same (time.At t) o p e = refl
 time_same (time.Mark letter) o p e = ap (λ k. time_of (time.Mark letter) (bare k)) e
 
 -- so does the dump
-pub dump_same : (o p : Machine) → grouped_in o ≡ grouped_in p → dump_text o ≡ dump_text p
+pub dump_same : (o p : Machine) → work_in o ≡ work_in p → dump_text o ≡ dump_text p
 dump_same o p e = ap (λ k. dump_text (bare k)) e
 
 -- a refusal other than out of memory is that of the call
-refused_for : (call : Call) (old new : Whole Kept) (why : Refusal) → Steps call old (Err why) new → wants_memory (told.Refused why) ≡ false
+refused_for : (call : Call) (old new : Work) (why : Refusal) → Steps call old (Err why) new → wants_memory (told.Refused why) ≡ false
     → refusal_of call old ≡ Some why
 refused_for call old new refusal.OutOfRange h e = h.0
 refused_for call old new refusal.NoPulse h e = h.0
@@ -93,7 +92,7 @@ only_memory : (why : Refusal) → wants_memory (told.Refused why) ≡ true → w
 only_memory refusal.OutOfMemory e = refl
 only_memory _ e = absurd (cc)
 
-refusal_one : (call : Call) (old a b : Whole Kept) (w v : Refusal) → Steps call old (Err w) a → Steps call old (Err v) b
+refusal_one : (call : Call) (old a b : Work) (w v : Refusal) → Steps call old (Err w) a → Steps call old (Err v) b
     → wants_memory (told.Refused w) ≡ wants_memory (told.Refused v) → w ≡ v
 refusal_one call old a b w v h k e = go (wants_memory (told.Refused w)) refl
   where
@@ -104,7 +103,7 @@ refusal_one call old a b w v h k e = go (wants_memory (told.Refused w)) refl
         cc
 
 -- a call answers one thing, unless memory runs out
-result_one : (call : Call) (old a b : Whole Kept) (r s : Result Unit Refusal) → Steps call old r a → Steps call old s b
+result_one : (call : Call) (old a b : Work) (r s : Result Unit Refusal) → Steps call old r a → Steps call old s b
     → wants_memory (reply_to r) ≡ wants_memory (reply_to s) → r ≡ s
 result_one call old a b (Ok u) (Ok v) h k e = refl
 result_one call old a b (Ok u) (Err v) h k e =
@@ -117,36 +116,36 @@ result_one call old a b (Err w) (Err v) h k e = ap Err (refusal_one call old a b
 
 -- replies that report what calls answered
 module _ (outcome : OneOutcome) where
-  step_one : (call : Call) (old new other : Whole Kept) (r : Result Unit Refusal) → Steps call old r new → Steps call old r other → new ≡ other
+  step_one : (call : Call) (old new other : Work) (r : Result Unit Refusal) → Steps call old r new → Steps call old r other → new ≡ other
   step_one call old new other r h k = outcome (record { call = call; result = r } ∷ []) old new other (new, (h, refl)) (other, (k, refl))
 
   -- of one call, reported in one way
   tell_one : (tell : Result Unit Refusal → Reply) → ((r : Result Unit Refusal) → wants_memory (tell r) ≡ wants_memory (reply_to r))
-      → (call same : Call) → call ≡ same → (o p a b : Whole Kept) → o ≡ p → (r s : Reply)
+      → (call same : Call) → call ≡ same → (o p a b : Work) → o ≡ p → (r s : Reply)
       → (x y : Result Unit Refusal) → r ≡ tell x → s ≡ tell y → Steps call o x a → Steps same p y b → wants_memory r ≡ wants_memory s
       → (r ≡ s) × (a ≡ b)
   tell_one tell wants call same f o p a b e r s x y t u h k w =
-      let g : Steps same p x a = subst (λ (m : Whole Kept). Steps same m x a) e (subst (λ (c : Call). Steps c o x a) f h) in
+      let g : Steps same p x a = subst (λ (m : Work). Steps same m x a) e (subst (λ (c : Call). Steps c o x a) f h) in
       let both : wants_memory (reply_to x) ≡ wants_memory (reply_to y) = sym (wants x) ∙ ap wants_memory (sym t) ∙ w ∙ ap wants_memory u ∙ wants y in
       let one : x ≡ y = result_one same p a b x y g k both in
       (t ∙ ap tell one ∙ sym u, step_one same p a b y (subst (λ (z : Result Unit Refusal). Steps same p z a) one g) k)
 
   called : (call : Call) (old : Machine) (r : Reply) (new : Machine) → Calls call old r new
-      → (x : Result Unit Refusal) × (r ≡ reply_to x) × Steps call (grouped_in old) x (grouped_in new)
+      → (x : Result Unit Refusal) × (r ≡ reply_to x) × Steps call (work_in old) x (work_in new)
   called call old told.Silent new h = (Ok tt, refl, h)
   called call old (told.Refused why) new h = (Err why, refl, h)
   called call old _ new h = absurd h
 
-  calls_one : (call same : Call) → call ≡ same → (o p : Machine) → grouped_in o ≡ grouped_in p → (r s : Reply) (a b : Machine)
-      → Calls call o r a → Calls same p s b → wants_memory r ≡ wants_memory s → (r ≡ s) × (grouped_in a ≡ grouped_in b)
+  calls_one : (call same : Call) → call ≡ same → (o p : Machine) → work_in o ≡ work_in p → (r s : Reply) (a b : Machine)
+      → Calls call o r a → Calls same p s b → wants_memory r ≡ wants_memory s → (r ≡ s) × (work_in a ≡ work_in b)
   calls_one call same f o p e r s a b h k w =
       let x = called call o r a h in
       let y = called same p s b k in
-      tell_one reply_to (λ z. refl) call same f (grouped_in o) (grouped_in p) (grouped_in a) (grouped_in b) e r s x.0 y.0 x.1 y.1 x.2 y.2 w
+      tell_one reply_to (λ z. refl) call same f (work_in o) (work_in p) (work_in a) (work_in b) e r s x.0 y.0 x.1 y.1 x.2 y.2 w
 
-  makes_one : (edit same : Edit) → edit ≡ same → (o p : Machine) → grouped_in o ≡ grouped_in p → (r s : Reply) (a b : Machine)
+  makes_one : (edit same : Edit) → edit ≡ same → (o p : Machine) → work_in o ≡ work_in p → (r s : Reply) (a b : Machine)
       → Calls (Call.Make edit) o r a → Calls (Call.Make same) p s b → wants_memory r ≡ wants_memory s
-      → (r ≡ s) × (grouped_in a ≡ grouped_in b)
+      → (r ≡ s) × (work_in a ≡ work_in b)
   makes_one edit same f = calls_one (Call.Make edit) (Call.Make same) (ap Call.Make f)
 
   -- the pulse that a cursor went to
@@ -159,40 +158,40 @@ module _ (outcome : OneOutcome) where
   shown_wants i (Err why) = refl
 
   showed : (i : ℕ) (old : Machine) (r : Reply) (new : Machine) → Shows i old r new
-      → (x : Result Unit Refusal) × (r ≡ shown i x) × Steps (Call.Go i) (grouped_in old) x (grouped_in new)
+      → (x : Result Unit Refusal) × (r ≡ shown i x) × Steps (Call.Go i) (work_in old) x (work_in new)
   showed i old (told.Listed b n) new h = (Ok tt, ap₂ told.Listed h.1 h.2, h.0)
   showed i old (told.Refused why) new h = (Err why, refl, h)
   showed i old _ new h = absurd h
 
-  shows_one : (i j : ℕ) → i ≡ j → (o p : Machine) → grouped_in o ≡ grouped_in p → (r s : Reply) (a b : Machine)
-      → Shows i o r a → Shows j p s b → wants_memory r ≡ wants_memory s → (r ≡ s) × (grouped_in a ≡ grouped_in b)
+  shows_one : (i j : ℕ) → i ≡ j → (o p : Machine) → work_in o ≡ work_in p → (r s : Reply) (a b : Machine)
+      → Shows i o r a → Shows j p s b → wants_memory r ≡ wants_memory s → (r ≡ s) × (work_in a ≡ work_in b)
   shows_one i j f o p e r s a b h k w =
       let x = showed i o r a h in
       let y = showed j p s b k in
       let u : r ≡ shown j x.0 = x.1 ∙ ap (λ n. shown n x.0) f in
-      tell_one (shown j) (shown_wants j) (Call.Go i) (Call.Go j) (ap Call.Go f) (grouped_in o) (grouped_in p) (grouped_in a) (grouped_in b) e r s x.0 y.0 u y.1
+      tell_one (shown j) (shown_wants j) (Call.Go i) (Call.Go j) (ap Call.Go f) (work_in o) (work_in p) (work_in a) (work_in b) e r s x.0 y.0 u y.1
       x.2 y.2 w
 
-  formats_one : (v : Bool) (f : FormatView) (o p : Machine) → grouped_in o ≡ grouped_in p → (r s : Reply) (a b : Machine)
-      → Formats v f o r a → Formats v f p s b → wants_memory r ≡ wants_memory s → (r ≡ s) × (grouped_in a ≡ grouped_in b)
+  formats_one : (v : Bool) (f : FormatView) (o p : Machine) → work_in o ≡ work_in p → (r s : Reply) (a b : Machine)
+      → Formats v f o r a → Formats v f p s b → wants_memory r ≡ wants_memory s → (r ≡ s) × (work_in a ≡ work_in b)
   formats_one true f o p e r s a b h k w = makes_one (Edit.SetFormat f) (Edit.SetFormat f) refl o p e r s a b h k w
-  formats_one false f o p e r s a b h k w = (h.0 ∙ sym k.0, ap grouped_in h.1 ∙ e ∙ sym (ap grouped_in k.1))
+  formats_one false f o p e r s a b h k w = (h.0 ∙ sym k.0, ap work_in h.1 ∙ e ∙ sym (ap work_in k.1))
 
   -- a listing, as it is reported
   abbrev listed : Bool → ℕ → ℕ → Reply
   listed true i j = told.Listed (i - 1) (j + 1 - i)
   listed false i j = told.Refused refusal.NoPulse
 
-  lists : (i j : ℕ) (m : Machine) (r : Reply) → Lists i j m r → r ≡ listed (are_pulses i j m.present.state) i j
+  lists : (i j : ℕ) (m : Machine) (r : Reply) → Lists i j m r → r ≡ listed (are_pulses i j m.state) i j
   lists i j m (told.Listed b n) h = ap₂ told.Listed h.1 h.2 ∙ sym (ap (λ v. listed v i j) h.0)
   lists i j m (told.Refused why) h = ap told.Refused h.1 ∙ sym (ap (λ v. listed v i j) h.0)
   lists i j m _ h = absurd h
 
-  lists_one : (i j k l : ℕ) → i ≡ k → j ≡ l → (o p : Machine) → grouped_in o ≡ grouped_in p → (r s : Reply)
+  lists_one : (i j k l : ℕ) → i ≡ k → j ≡ l → (o p : Machine) → work_in o ≡ work_in p → (r s : Reply)
       → Lists i j o r → Lists k l p s → r ≡ s
   lists_one i j k l f g o p e r s h n =
       lists i j o r h
-      ∙ (λ t. listed (are_pulses (f t) (g t) (e t).machine.present.state) (f t) (g t))
+      ∙ (λ t. listed (are_pulses (f t) (g t) (e t).state) (f t) (g t))
       ∙ sym (lists k l p s n)
 
   -- a write, as it is reported
@@ -209,8 +208,8 @@ module _ (outcome : OneOutcome) where
   writes_one text same e r s h k f = writes text r h ∙ ap₂ written e f ∙ sym (writes same s k)
 
   -- what a command asks for
-  pub obeys_one : (c : Command) (o p : Machine) → grouped_in o ≡ grouped_in p → (r s : Reply) (a b : Machine) → Obeys c o r a → Obeys c p s b
-      → wants_memory r ≡ wants_memory s → tells_failed_put r ≡ tells_failed_put s → (r ≡ s) × (grouped_in a ≡ grouped_in b)
+  pub obeys_one : (c : Command) (o p : Machine) → work_in o ≡ work_in p → (r s : Reply) (a b : Machine) → Obeys c o r a → Obeys c p s b
+      → wants_memory r ≡ wants_memory s → tells_failed_put r ≡ tells_failed_put s → (r ≡ s) × (work_in a ≡ work_in b)
   obeys_one command.Nothing o p e r s a b h k w f = (h.0 ∙ sym k.0, stays o p a b e h.1 k.1)
   obeys_one (command.Show x) o p e r s a b h k w f = shows_one (number_at x o) (number_at x p) (number_same x o p e) o p e r s a b h k w
   obeys_one (command.List x) o p e r s a b h k w f =
@@ -249,5 +248,5 @@ module _ (outcome : OneOutcome) where
   obeys_one command.Marks o p e r s a b h k w f = (h.0 ∙ sym k.0, stays o p a b e h.1 k.1)
   obeys_one command.Info o p e r s a b h k w f = (h.0 ∙ sym k.0, stays o p a b e h.1 k.1)
   obeys_one command.Write o p e r s a b h k w f = (writes_one _ _ (dump_same o p e) r s h.0 k.0 f, stays o p a b e h.1 k.1)
-  obeys_one command.Save o p e r s a b h k w f = (writes_one _ _ (ap (λ k. saved_text k.machine) e) r s h.0 k.0 f, stays o p a b e h.1 k.1)
+  obeys_one command.Save o p e r s a b h k w f = (writes_one _ _ (ap (λ k. saved_text k) e) r s h.0 k.0 f, stays o p a b e h.1 k.1)
   obeys_one command.Quit o p e r s a b h k w f = absurd h

@@ -4,7 +4,7 @@ use Rattle.std.specs.Prelude.{IsSome}
 use Rattle.std.specs.Io.KnownBytes.{Appends}
 use Rattle.irig_edit.specs.Session.Runs.{OneOutcome}
 use Rattle.irig_edit.specs.Saved.SavedSession.{saved_text}
-use Rattle.irig_edit.specs.Session.Session.{grouped_in}
+use Rattle.irig_edit.specs.Session.Session.{work_in}
 use Rattle.irig_script.specs.Obey.Answer.{Answered, IsBad, IsObeyedAs, IsTooLong, Step, texts_of}
 use Rattle.irig_script.specs.Obey.Desk.{status_after}
 use Rattle.irig_text.specs.Shelved.{GrowsBy}
@@ -24,22 +24,22 @@ use Rattle.irig_lines.proofs.LineOrders.{means_one}
 use Rattle.irig_script.proofs.LawLemmas.SameReply.{bare, dump_same, obeys_one, stays}
 
 -- what a reply prints and writes does not depend on the looks
-text_same : (r : Reply) (a b : Machine) → grouped_in a ≡ grouped_in b → reply_text a r ≡ reply_text b r
-text_same (told.Listed before count) a b e = ap (λ k. list_text before count k.machine.present.state) e
-text_same told.Frames a b e = ap (λ k. frames_text k.machine.present.state) e
-text_same told.Marks a b e = ap (λ k. marks_text k.machine.present.state) e
+text_same : (r : Reply) (a b : Machine) → work_in a ≡ work_in b → reply_text a r ≡ reply_text b r
+text_same (told.Listed before count) a b e = ap (λ k. list_text before count k.state) e
+text_same told.Frames a b e = ap (λ k. frames_text k.state) e
+text_same told.Marks a b e = ap (λ k. marks_text k.state) e
 text_same told.Info a b e = ap (λ k. info_text (bare k)) e
 text_same _ a b e = refl
 
-texts_same : (c : Command) (a b : Machine) → grouped_in a ≡ grouped_in b → texts_of c a ≡ texts_of c b
+texts_same : (c : Command) (a b : Machine) → work_in a ≡ work_in b → texts_of c a ≡ texts_of c b
 texts_same command.Write a b e = ap (λ t. t ∷ []) (dump_same a b e)
-texts_same command.Save a b e = ap (λ k. saved_text k.machine ∷ []) e
+texts_same command.Save a b e = ap (λ k. saved_text k ∷ []) e
 texts_same _ a b e = refl
 
 module _ (outcome : OneOutcome) where
-  asked_one : (o p : Machine) (line : List ℕ) → grouped_in o ≡ grouped_in p → (r s : Reply) (ts us : List (List ℕ)) (a b : Machine)
+  asked_one : (o p : Machine) (line : List ℕ) → work_in o ≡ work_in p → (r s : Reply) (ts us : List (List ℕ)) (a b : Machine)
       → IsObeyedAs o line r ts a → IsObeyedAs p line s us b
-      → wants_memory r ≡ wants_memory s → tells_failed_put r ≡ tells_failed_put s → (r ≡ s) × (ts ≡ us) × (grouped_in a ≡ grouped_in b)
+      → wants_memory r ≡ wants_memory s → tells_failed_put r ≡ tells_failed_put s → (r ≡ s) × (ts ≡ us) × (work_in a ≡ work_in b)
   asked_one o p line e r s ts us a b h k w f =
       let same : h.1.0 ≡ k.1.0 = means_one line h.1.0 k.1.0 h.1.1 k.1.1 in
       let obeyed : Obeys k.1.0 o r a = subst (λ (c : Command). Obeys c o r a) same h.1.2 in
@@ -48,14 +48,14 @@ module _ (outcome : OneOutcome) where
       (one.0, h.1.3 ∙ ap₂ texts_put texts one.0 ∙ sym k.1.3, one.1)
 
   -- a line has one outcome
-  line_one : (o p : Machine) (line : List ℕ) → grouped_in o ≡ grouped_in p → (r s : Reply) (ts us : List (List ℕ)) (a b : Machine)
+  line_one : (o p : Machine) (line : List ℕ) → work_in o ≡ work_in p → (r s : Reply) (ts us : List (List ℕ)) (a b : Machine)
       → Step o line r ts a → Step p line s us b
-      → wants_memory r ≡ wants_memory s → tells_failed_put r ≡ tells_failed_put s → (r ≡ s) × (ts ≡ us) × (grouped_in a ≡ grouped_in b)
+      → wants_memory r ≡ wants_memory s → tells_failed_put r ≡ tells_failed_put s → (r ≡ s) × (ts ≡ us) × (work_in a ≡ work_in b)
   line_one o p line e r s ts us a b h k w f = go h k
     where
       go : IsTooLong o line r ts a ⊎ (IsBad o line r ts a ⊎ IsObeyedAs o line r ts a)
           → IsTooLong p line s us b ⊎ (IsBad p line s us b ⊎ IsObeyedAs p line s us b)
-          → (r ≡ s) × (ts ≡ us) × (grouped_in a ≡ grouped_in b)
+          → (r ≡ s) × (ts ≡ us) × (work_in a ≡ work_in b)
       go (inl x) (inl y) = (x.1 ∙ sym y.1, x.2 ∙ sym y.2, stays o p a b e x.3 y.3)
       go (inl x) (inr (inl y)) = absurd (omega (arith, x.0, y.0))
       go (inl x) (inr (inr y)) = absurd (omega (arith, x.0, y.0))
@@ -66,10 +66,10 @@ module _ (outcome : OneOutcome) where
       go (inr (inr x)) (inr (inl y)) = absurd (y.1 x.1.0 x.1.1)
       go (inr (inr x)) (inr (inr y)) = asked_one o p line e r s ts us a b x y w f
 
-  answer_one : (o p : Machine) (line : List ℕ) → grouped_in o ≡ grouped_in p → (x y : Answer) (ts us : List (List ℕ)) (a b : Machine)
+  answer_one : (o p : Machine) (line : List ℕ) → work_in o ≡ work_in p → (x y : Answer) (ts us : List (List ℕ)) (a b : Machine)
       → Answered o line x ts a → Answered p line y us b
       → wants_memory x.reply ≡ wants_memory y.reply → tells_failed_put x.reply ≡ tells_failed_put y.reply
-      → (x ≡ y) × (ts ≡ us) × (grouped_in a ≡ grouped_in b)
+      → (x ≡ y) × (ts ≡ us) × (work_in a ≡ work_in b)
   answer_one o p line e x y ts us a b h k w f =
       let all = line_one o p line e x.reply y.reply ts us a b h.0 k.0 w f in
       let text : x.text ≡ y.text = h.1 ∙ text_same x.reply a b all.2 ∙ ap (reply_text b) all.0 ∙ sym k.1 in
@@ -77,11 +77,11 @@ module _ (outcome : OneOutcome) where
       (λ i. record { reply = reply i; text = text i }, all.1, all.2)
 
   -- the lines of a script, one after another
-  lines_one : (lines : List (List ℕ)) (o p : Machine) → grouped_in o ≡ grouped_in p → (xs ys : List Answer) (ts us : List (List ℕ)) (a b : Machine)
+  lines_one : (lines : List (List ℕ)) (o p : Machine) → work_in o ≡ work_in p → (xs ys : List Answer) (ts us : List (List ℕ)) (a b : Machine)
       → Runs o lines xs ts a → Runs p lines ys us b
       → map (λ x. wants_memory x.reply) xs ≡ map (λ x. wants_memory x.reply) ys
       → map (λ x. tells_failed_put x.reply) xs ≡ map (λ x. tells_failed_put x.reply) ys
-      → (xs ≡ ys) × (ts ≡ us) × (grouped_in a ≡ grouped_in b)
+      → (xs ≡ ys) × (ts ≡ us) × (work_in a ≡ work_in b)
   lines_one [] o p e [] [] ts us a b h k w f = (refl, h.0 ∙ sym k.0, stays o p a b e h.1 k.1)
   lines_one [] o p e [] (y ∷ ys) ts us a b h k w f = absurd k
   lines_one [] o p e (x ∷ xs) ys ts us a b h k w f = absurd h

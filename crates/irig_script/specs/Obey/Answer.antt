@@ -1,7 +1,7 @@
 -- What the session answers to a line of a script. This project's own.
 use Rattle.std.specs.Prelude.{◌≡◌, ◌<◌, ◌≤◌, ◌⊎◌, ℕ, List, [], ◌∷◌, length}
 use Rattle.irig_edit.specs.Saved.SavedSession.{saved_text}
-use Rattle.irig_edit.specs.Session.Session.{machine_in}
+use Rattle.irig_edit.specs.Session.Session.{work_in}
 use Rattle.irig_script.specs.Obey.Machine.{Machine}
 use Rattle.irig_lines.specs.Grammar.{Means}
 use Rattle.irig_script.specs.Obey.Obeying.{Obeys}
@@ -26,7 +26,7 @@ IsBad old line reply texts new =
 -- the texts that a command writes
 abbrev pub texts_of : Command → Machine → List (List ℕ)
 texts_of command.Write m = dump_text m ∷ []
-texts_of command.Save m = saved_text (machine_in m) ∷ []
+texts_of command.Save m = saved_text (work_in m) ∷ []
 texts_of _ m = []
 
 -- the line means a command, to which the session may give this reply, and write these texts

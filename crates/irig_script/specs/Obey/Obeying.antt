@@ -4,7 +4,7 @@ use Rattle.std.specs.Prelude.{◌≡◌, Some, None}
 use Rattle.irig_codes.specs.Format.{is_permitted}
 use Rattle.irig_edit.specs.Saved.SavedSession.{saved_text}
 use Rattle.irig_edit.specs.Session.Calls.{Call, Edit}
-use Rattle.irig_edit.specs.Session.Session.{machine_in}
+use Rattle.irig_edit.specs.Session.Session.{work_in}
 use Rattle.irig_script.specs.Obey.Machine.{Machine}
 use Rattle.irig_script.specs.Obey.PulseNumbers.{number_at, first_of, last_of, join_last_of, time_of}
 use Rattle.irig_script.specs.Obey.Replies.{Calls, Formats, Lists, Makes, Shows, Writes}
@@ -63,5 +63,5 @@ Obeys command.Frames old reply new = (reply ≡ told.Frames) × (new ≡ old)
 Obeys command.Marks old reply new = (reply ≡ told.Marks) × (new ≡ old)
 Obeys command.Info old reply new = (reply ≡ told.Info) × (new ≡ old)
 Obeys command.Write old reply new = Writes (dump_text old) reply × (new ≡ old)
-Obeys command.Save old reply new = Writes (saved_text (machine_in old)) reply × (new ≡ old)
+Obeys command.Save old reply new = Writes (saved_text (work_in old)) reply × (new ≡ old)
 Obeys command.Quit old reply new = ⊥

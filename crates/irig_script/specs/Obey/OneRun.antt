@@ -1,7 +1,7 @@
 -- That a script has one run, but for the lines that run out of memory or fail to write. This
 -- project's own.
 use Rattle.std.specs.Prelude.{◌≡◌, ℕ, Bool, true, false, List, map, IsSome}
-use Rattle.irig_edit.specs.Session.Session.{grouped_in}
+use Rattle.irig_edit.specs.Session.Session.{work_in}
 use Rattle.irig_edit.specs.declared.session.refusal.Refusal.TheVariants.{OutOfMemory}
 use Rattle.irig_script.specs.Obey.Machine.{Machine}
 use Rattle.irig_script.specs.Obey.Desk.{Desk}
@@ -40,7 +40,7 @@ pub record RunOf (script : List ℕ) : Type 0 where
 -- shelf
 pub record BeginTheSame {script : List ℕ} (one other : RunOf script) : Type 0 where
   pub status : one.before ≡ other.before
-  pub machine : grouped_in one.old ≡ grouped_in other.old
+  pub machine : work_in one.old ≡ work_in other.old
   pub printed : one.from.out ≡ other.from.out
   pub put : one.from.shelf.texts ≡ other.from.shelf.texts
 
@@ -50,7 +50,7 @@ pub record EndTheSame {script : List ℕ} (one other : RunOf script) : Type 0 wh
   pub answers : one.ran.answers ≡ other.ran.answers
   pub texts : one.ran.texts ≡ other.ran.texts
   pub status : one.after ≡ other.after
-  pub machine : grouped_in one.new ≡ grouped_in other.new
+  pub machine : work_in one.new ≡ work_in other.new
   pub printed : IsSome one.from.out → one.to.out ≡ other.to.out
   pub put : IsSome one.from.shelf.texts → one.to.shelf.texts ≡ other.to.shelf.texts
 

@@ -14,14 +14,14 @@ use Rattle.irig_lines.specs.declared.time.Time.TheVariants as time
 
 -- the time of a mark, if it is set
 abbrev pub mark_of : ℕ → Machine → Option ℕ
-mark_of letter m = get_or m.present.state.marks letter None
+mark_of letter m = get_or m.state.marks letter None
 
 -- the number that an address counts from; none if its mark is not set
 abbrev pub base_of : Base → Machine → Option ℕ
 base_of (Number n) m = Some n
-base_of Current m = Some m.present.cursor
-base_of Last m = Some (length m.present.state.pulses)
-base_of (Mark letter) m = option_map (λ t. risen_by t m.present.state.pulses) (mark_of letter m)
+base_of Current m = Some m.cursor
+base_of Last m = Some (length m.state.pulses)
+base_of (Mark letter) m = option_map (λ t. risen_by t m.state.pulses) (mark_of letter m)
 
 -- the number that is this far after another, or before it, if it is that of a pulse; else 0,
 -- which every call refuses
@@ -33,7 +33,7 @@ counted (Some n) by offset count =
 
 -- the pulse that is `by` pulses after an address
 abbrev pub pulse_at : ℕ → Address → Machine → ℕ
-pulse_at by a m = counted (base_of a.base m) by a.offset (length m.present.state.pulses)
+pulse_at by a m = counted (base_of a.base m) by a.offset (length m.state.pulses)
 
 -- the number of the pulse of an address
 abbrev pub number_at : Address → Machine → ℕ

@@ -28,7 +28,7 @@ Makes edit old reply new = Calls (Call.Make edit) old reply new
 
 -- the dump of the present state
 abbrev pub dump_text : Machine → List ℕ
-dump_text m = file_text (recording_of m.present.state)
+dump_text m = file_text (recording_of m.state)
 
 -- the text was written and its bytes are reported, or the shelf failed
 abbrev pub Writes : List ℕ → Reply → Type 0
@@ -49,8 +49,8 @@ reply_to (Err why) = Refused why
 -- pulses i to j are listed, or there are no such pulses
 abbrev pub Lists : ℕ → ℕ → Machine → Reply → Type 0
 Lists i j m (Listed before count) =
-    (are_pulses i j m.present.state ≡ true) × (before ≡ i - 1) × (count ≡ j + 1 - i)
-Lists i j m (Refused why) = (are_pulses i j m.present.state ≡ false) × (why ≡ refusal.NoPulse)
+    (are_pulses i j m.state ≡ true) × (before ≡ i - 1) × (count ≡ j + 1 - i)
+Lists i j m (Refused why) = (are_pulses i j m.state ≡ false) × (why ≡ refusal.NoPulse)
 Lists i j m _ = ⊥
 
 -- the cursor goes to pulse i, which is listed, or there is no such pulse

@@ -33,11 +33,11 @@ marks_text s = numbered mark_line 0 (take 26 s.marks)
 -- counts, format and cursor
 abbrev pub info_text : Machine → List ℕ
 info_text m =
-    codes "length " ++ decimal m.present.state.micros
-    ++ codes " pulses " ++ decimal (length m.present.state.pulses)
-    ++ codes " frames " ++ decimal (length (frames_of m.present.state))
-    ++ codes " format " ++ kind_word m.present.state.format.kind
-    ++ codes " " ++ decimal m.present.state.format.expression
-    ++ codes " cursor " ++ decimal m.present.cursor
+    codes "length " ++ decimal m.state.micros
+    ++ codes " pulses " ++ decimal (length m.state.pulses)
+    ++ codes " frames " ++ decimal (length (frames_of m.state))
+    ++ codes " format " ++ kind_word m.state.format.kind
+    ++ codes " " ++ decimal m.state.format.expression
+    ++ codes " cursor " ++ decimal m.cursor
     ++ codes " past " ++ decimal (length m.past)
     ++ codes " future " ++ decimal (length m.future) ++ codes "\n"

@@ -46,9 +46,9 @@ frames_text s = numbered (record_line s) 1 (frames_of s)
 abbrev pub reply_text : Machine → Reply → List ℕ
 reply_text m Silent = []
 reply_text m (Written count) = decimal count ++ 10 ∷ []
-reply_text m (Listed before count) = list_text before count m.present.state
-reply_text m Frames = frames_text m.present.state
-reply_text m Marks = marks_text m.present.state
+reply_text m (Listed before count) = list_text before count m.state
+reply_text m Frames = frames_text m.state
+reply_text m Marks = marks_text m.state
 reply_text m Info = info_text m
 reply_text m (Refused why) = refusal_text why
 reply_text m BadLine = codes "? S1 BadLine\n"

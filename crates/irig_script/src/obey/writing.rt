@@ -2,7 +2,7 @@
 
 ghost use Rattle.std.specs.Prelude.{◌∷◌, []};
 ghost use Rattle.irig_edit.specs.Saved.SavedSession.{saved_text};
-ghost use Rattle.irig_edit.specs.Session.Session.{machine_in};
+ghost use Rattle.irig_edit.specs.Session.Session.{work_in};
 ghost use Rattle.irig_script.specs.Obey.Desk.{failures_of};
 ghost use Rattle.irig_script.specs.Obey.Replies.{Writes, dump_text, texts_put};
 ghost use Rattle.irig_text.specs.Shelved.{Puts};
@@ -26,9 +26,9 @@ pub fn write_dump<S: Shelf>(session: &Session, shelf: &mut S) -> Reply
 /// Writes the text of the track with its journal. It takes no memory.
 #[inline(never)]
 pub fn write_saved<S: Shelf>(session: &Session, shelf: &mut S) -> Reply
-    ensures answer { Writes (saved_text (machine_in session.now)) result }
+    ensures answer { Writes (saved_text (work_in session.now)) result }
     ensures put { Puts (S.known shelf.old) (S.known shelf.new)
-        (texts_put (saved_text (machine_in session.now) ∷ []) result) (failures_of result) }
+        (texts_put (saved_text (work_in session.now) ∷ []) result) (failures_of result) }
 {
     write(&mut session.saved_parts(), shelf)
 }

@@ -28,11 +28,11 @@ pub fn print_info<W: Write>(session: &Session, out: &mut W) -> Result<(), PrintF
 /// Writes the length of the track, its pulses, its frames and their format.
 fn put_track(row: &mut Row, session: &Session)
     requires { row.old ≡ [] }
-    ensures text { row.new ≡ codes "length " ++ decimal session.now.present.state.micros
-        ++ codes " pulses " ++ decimal (length session.now.present.state.pulses)
-        ++ codes " frames " ++ decimal (length (frames_of session.now.present.state))
-        ++ codes " format " ++ kind_word session.now.present.state.format.kind
-        ++ codes " " ++ decimal session.now.present.state.format.expression }
+    ensures text { row.new ≡ codes "length " ++ decimal session.now.state.micros
+        ++ codes " pulses " ++ decimal (length session.now.state.pulses)
+        ++ codes " frames " ++ decimal (length (frames_of session.now.state))
+        ++ codes " format " ++ kind_word session.now.state.format.kind
+        ++ codes " " ++ decimal session.now.state.format.expression }
     ensures short { length row.new ≤ 120 }
 {
     put_count(row, b"length ", session.length());

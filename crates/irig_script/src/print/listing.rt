@@ -17,7 +17,7 @@ use std::io::Write;
 #[inline(never)]
 pub fn print_frames<W: Write>(session: &Session, out: &mut W) -> Result<(), PrintFault>
     ensures { Prints (W.contents out.old) (W.contents out.new)
-        (frames_text session.now.present.state) result }
+        (frames_text session.now.state) result }
 {
     let mut block = Block::new();
     let mut row = Row::new();
@@ -32,9 +32,9 @@ pub fn print_frames<W: Write>(session: &Session, out: &mut W) -> Result<(), Prin
 
 /// Writes the line of a frame, from 1, into the row.
 fn put_record(row: &mut Row, session: &Session, number: usize)
-    requires { (1 ≤ number) × (number ≤ length (frames_of session.now.present.state)) }
-    ensures { (r : Record) → slice_get (frames_of session.now.present.state) (number - 1) ≡ Some r
-        → row.new ≡ record_line session.now.present.state number r }
+    requires { (1 ≤ number) × (number ≤ length (frames_of session.now.state)) }
+    ensures { (r : Record) → slice_get (frames_of session.now.state) (number - 1) ≡ Some r
+        → row.new ≡ record_line session.now.state number r }
 {
     let record = session.frame(number);
     let rise = session.pulse(record.marker).rise;

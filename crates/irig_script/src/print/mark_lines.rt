@@ -15,7 +15,7 @@ use std::io::Write;
 #[inline(never)]
 pub fn print_marks<W: Write>(session: &Session, out: &mut W) -> Result<(), PrintFault>
     ensures { Prints (W.contents out.old) (W.contents out.new)
-        (marks_text session.now.present.state) result }
+        (marks_text session.now.state) result }
 {
     let mut block = Block::new();
     let mut row = Row::new();

@@ -23,7 +23,7 @@ pub fn print_pulses<W: Write>(
     out: &mut W,
 ) -> Result<(), PrintFault>
     ensures { Prints (W.contents out.old) (W.contents out.new)
-        (list_text before count session.now.present.state) result }
+        (list_text before count session.now.state) result }
 {
     if count == 1 {
         print_in_blocks(session, before, count, &mut [0; LINE_ROOM], out)
@@ -44,7 +44,7 @@ fn print_many<W: Write>(
     out: &mut W,
 ) -> Result<(), PrintFault>
     ensures { Prints (W.contents out.old) (W.contents out.new)
-        (list_text before count session.now.present.state) result }
+        (list_text before count session.now.state) result }
 {
     print_in_blocks(session, before, count, &mut [0; BLOCK], out)
 }
@@ -59,7 +59,7 @@ fn print_in_blocks<W: Write>(
 ) -> Result<(), PrintFault>
     requires room { 72 ≤ length block.old }
     ensures { Prints (W.contents out.old) (W.contents out.new)
-        (list_text before count session.now.present.state) result }
+        (list_text before count session.now.state) result }
 {
     let there = count.min(session.len().saturating_sub(before));
     let mut done = 0;
@@ -79,10 +79,10 @@ fn print_in_blocks<W: Write>(
 /// so no digit has to be counted or moved before it is written.
 fn write_pulses(bytes: &mut [u8], session: &Session, last: usize, count: usize) -> usize
     requires room { 72 * count ≤ length bytes.old }
-    requires there { (count ≤ last) × (last ≤ length session.now.present.state.pulses) }
+    requires there { (count ≤ last) × (last ≤ length session.now.state.pulses) }
     ensures within { (result ≤ length bytes.old) × (length bytes.new ≡ length bytes.old) }
     ensures written { drop result bytes.new
-        ≡ list_text (last - count) count session.now.present.state }
+        ≡ list_text (last - count) count session.now.state }
 {
     let format = session.current_format();
     let mut start = bytes.len();

@@ -7,10 +7,9 @@ use Rattle.irig_edit.specs.Edits.Becoming.{Becomes}
 use Rattle.irig_edit.specs.Session.Calls.Edit.{Regen}
 use Rattle.irig_edit.specs.State.State.{IsState, State, with_pulses}
 use Rattle.irig_edit.specs.Edits.Conditions.{are_frames, is_met, are_too_many}
-use Rattle.irig_edit.specs.Edits.Regenerated.{frame_elements, frames_end, frames_pulses, rising_before, rising_in}
+use Rattle.irig_edit.specs.Edits.Regenerated.{frames_end, frames_pulses, rising_before, rising_in}
 use Rattle.irig_saved.specs.declared.change.Change.TheVariants.{One}
 use Rattle.irig_saved.specs.declared.single.Single.TheVariants.{Splice}
-use Rattle.irig_edit.proofs.EditLemmas.GeneratedPulses.{frames_many}
 use Rattle.irig_edit.proofs.EditLemmas.GenerationTests.{end_said, frames_said, too_many_yes, too_many_no, is_wide_yes, is_wide_no}
 use Rattle.irig_edit.proofs.EditLemmas.Regenerations.{regenerated}
 use Rattle.irig_edit.proofs.StateLemmas.Risings.{before_end}
@@ -130,5 +129,4 @@ returns c =
           (n + 100 * c.args.frames)) place both.1;
       few = search rules;
       change = (λ k. One (Splice (f.is_at k + 1) (counted k) put));
-      many = sym (frames_many s.format c.args.start (frame_elements s.format c.args.moment c.args.control) 0 c.args.frames);
     }

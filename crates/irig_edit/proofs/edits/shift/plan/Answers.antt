@@ -1,18 +1,13 @@
-use Rattle.std.proofs.Common.{suc, ℕ, rules, ◌≡◌, ◌+◌, ◌-◌, ℤ, neg_ℤ, List, Bool, length, map, ap, sym, ◌∙◌, subst, to_z, of_z, w64, arith, ◌≤◌}
+use Rattle.std.proofs.Common.{suc, ℕ, rules, ◌≡◌, ◌-◌, ℤ, List, Bool, length, map, ap, sym, ◌∙◌, subst, to_z, of_z, w64, arith, ◌≤◌}
 use Rattle.std.proofs.lemmas.Int.{to_z-of_z}
 use Rattle.irig_recording.specs.declared.pulse.Pulse.{Pulse}
-use Rattle.irig_track.specs.Shifts.{CanShift, count_to}
+use Rattle.irig_track.specs.Shifts.{CanShift}
 use Rattle.irig_edit.specs.Edits.Becoming.{Becomes}
 use Rattle.irig_edit.specs.Session.Calls.Edit.{Shift}
 use Rattle.irig_saved.specs.declared.change.Change.TheVariants.{One}
 use Rattle.irig_edit.specs.Changes.Single.{FitsSingle, turned_single}
-use Rattle.irig_edit.specs.Edits.Exchanges.{exchange_by}
-use Rattle.irig_edit.specs.Session.Keeping.{exchange_of}
 use Rattle.irig_saved.specs.declared.single.Single.TheVariants.{Shift as Shifted}
 use Rattle.irig_edit.specs.Edits.Edits.{pulse_of}
-use Rattle.irig_edit.specs.Changes.Delta.{turned}
-use Rattle.irig_edit.specs.Session.Kept.{Exchange, holding_none}
-use Rattle.irig_edit.specs.Changes.Looks.{window}
 use Rattle.irig_edit.specs.State.Marks.{AllMayMove, stands}
 use Rattle.irig_edit.proofs.EditLemmas.ShiftedStates.{marks_may, shifted_becomes}
 use Rattle.irig_edit.proofs.edits.shift.plan.Goals as goal
@@ -46,11 +41,6 @@ returns c =
     let becomes = subst (λ (e : ℤ). Becomes (Shift i j d) s (turned_single s (Shifted (suc (i - 1)) (suc (j - 1)) e c.letters_from-marks.result)).0 j)
     (sym passed)
     (subst (λ (ls : List Bool). Becomes (Shift i j d) s (turned_single s (Shifted (suc (i - 1)) (suc (j - 1)) d ls)).0 j) (sym letters) moved) in
-    let size : count_to (i - 1) (j - 1) ≡ j + 1 - i = omega (arith, there.0, there.1) in
-    let near : suc (i - 1) ≡ i = omega (arith, there.0) in
-    let far : suc (j - 1) ≡ j = omega (arith, there.0, there.1) in
-    let most = window (j + 1 - i) in
-    let both : ℕ → ℕ → Exchange = λ n m. holding_none most most (turned s (One (Shifted n m d named))).1 (One (Shifted n m d named)) in
     record {
       refused = tt;
       allowed = search rules;
@@ -58,8 +48,5 @@ returns c =
       fits = numbered (λ n m. FitsSingle s (Shifted n m (to_z w64 (of_z w64 d)) c.letters_from-marks.result)) i j there.0 there.1 fits;
       becomes = numbered (λ n m. Becomes (Shift i j d) s (turned_single s (Shifted n m (to_z w64 (of_z w64 d)) c.letters_from-marks.result)).0 j)
           i j there.0 there.1 becomes;
-      exchange = numbered (λ n m. exchange_of s (One (Shifted n m (to_z w64 (of_z w64 d)) c.letters_from-marks.result)) ≡ exchange_by (Shift i j d) s)
-          i j there.0 there.1
-          ((λ k. holding_none (window (size k)) (window (size k)) (One (Shifted (suc (i - 1)) (suc (j - 1)) (neg_ℤ (passed k)) (letters k)))
-          (One (Shifted (suc (i - 1)) (suc (j - 1)) (passed k) (letters k)))) ∙ (λ k. both (near k) (far k)));
+      change = (λ k. One (Shifted i j (passed k) (letters k)));
     }

@@ -51,6 +51,7 @@ returns g c =
       steps = subst (λ f. IfSome f (λ x. left ≡ joined_beyond r.gathered x.steps (past_of r.delta c.args.self.now)))
           (sym open_at) (joins ∙ ap (λ j. joined_beyond r.gathered o.steps (past_of r.delta j)) c.self.view_is);
       stays = search rules;
+      floor = search rules;
       none = search rules;
       err = search rules;
       ready = (

@@ -10,7 +10,7 @@ use Rattle.irig_script.proofs.print.listing.print_frames.Goals as goal
 
 pub returns-in_default : goal.returns-in_default
 returns-in_default g c =
-    let s = c.args.session.now.present.state in
+    let s = c.args.session.now.state in
     let k = c.loop-index.index in
     let rs = frames_of s in
     let within : k < length rs = search rules in
@@ -19,7 +19,7 @@ returns-in_default g c =
 
 pub loop-index-preserved : goal.loop-index-preserved
 loop-index-preserved g c =
-    let s = c.args.session.now.present.state in
+    let s = c.args.session.now.state in
     let k = c.loop-index.index in
     let rs = frames_of s in
     let within : k < length rs = search rules in
@@ -28,7 +28,7 @@ loop-index-preserved g c =
 
 pub returns : goal.returns
 returns g c =
-    let s = c.args.session.now.present.state in
+    let s = c.args.session.now.state in
     let rs = frames_of s in
     let done : c.loop-index.index ≡ length rs = search rules in
     let all = rw (done, take-length) at c.loop-index.invariant in

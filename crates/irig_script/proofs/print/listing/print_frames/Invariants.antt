@@ -7,4 +7,4 @@ use Rattle.irig_script.proofs.print.listing.print_frames.Given as goal
 
 abbrev pub invariant-loop-index : goal.invariant-loop-index
 invariant-loop-index g l = Sends (g.W.Write.contents l.fn.out) (g.W.Write.contents l.out) [] l.block
-    (numbered (record_line l.session.present.state) 1 (take l.index (frames_of l.session.present.state)))
+    (numbered (record_line l.session.state) 1 (take l.index (frames_of l.session.state)))

@@ -8,7 +8,7 @@ use Rattle.irig_script.proofs.print.listing.put_record.Goals as goal
 
 pub pulse-rise-requires : goal.pulse-rise-requires
 pulse-rise-requires c =
-    let s = c.args.session.now.present.state in
+    let s = c.args.session.now.state in
     let n = c.args.number in
     let rs = frames_of s in
     let here : slice_get rs (n - 1) ≡ Some (get_or rs (n - 1) no_record) = slice_get-get_or rs (n - 1) no_record (omega (arith, c.requires.0, c.requires.1)) in
@@ -18,7 +18,7 @@ pulse-rise-requires c =
 
 pub returns : goal.returns
 returns c = λ r here.
-    let s = c.args.session.now.present.state in
+    let s = c.args.session.now.state in
     let told = rw here at c.frame-record.ensures in
     let place : c.frame-record.result.marker - 1 ≡ r.marker = omega (arith, told.0) in
     let there = get_or_from_slice_get s.pulses (c.frame-record.result.marker - 1) c.pulse-rise.result (pulse 0 0) c.pulse-rise.ensures in

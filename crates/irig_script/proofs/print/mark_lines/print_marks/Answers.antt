@@ -8,7 +8,7 @@ use Rattle.irig_script.proofs.print.mark_lines.print_marks.Goals as goal
 
 pub returns-in_default : goal.returns-in_default
 returns-in_default g c =
-    let ms = c.args.session.now.present.state.marks in
+    let ms = c.args.session.now.state.marks in
     let k = c.loop-place.place in
     let listed = mark_listed ms _ _ k _ _ _ c.new-letter.ensures (omega (arith, c.loop-place-test.true)) c.byte.ensures.value c.mark_time.ensures
     c.text.ensures.text c.put_mark.ensures in
@@ -16,7 +16,7 @@ returns-in_default g c =
 
 pub loop-place-preserved : goal.loop-place-preserved
 loop-place-preserved g c =
-    let ms = c.args.session.now.present.state.marks in
+    let ms = c.args.session.now.state.marks in
     let k = c.loop-place.place in
     let listed = mark_listed ms _ _ k _ _ _ c.new-letter.ensures (omega (arith, c.loop-place-test.true)) c.byte.ensures.value c.mark_time.ensures
     c.text.ensures.text c.put_mark.ensures in
@@ -24,7 +24,7 @@ loop-place-preserved g c =
 
 pub returns : goal.returns
 returns g c =
-    let ms = c.args.session.now.present.state.marks in
+    let ms = c.args.session.now.state.marks in
     let done : c.loop-place.place ≡ 26 = search rules in
     let all = rw (done, few_marks ms) at c.loop-place.invariant in
     prints_end _ _ _ _ (numbered mark_line 0 (take 26 ms)) c.flush.result all c.flush.ensures.printed

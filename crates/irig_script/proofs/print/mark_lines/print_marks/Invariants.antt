@@ -6,4 +6,4 @@ use Rattle.irig_script.proofs.print.mark_lines.print_marks.Given as goal
 
 abbrev pub invariant-loop-place : goal.invariant-loop-place
 invariant-loop-place g l = Sends (g.W.Write.contents l.fn.out) (g.W.Write.contents l.out) [] l.block
-    (numbered mark_line 0 (take l.place (take 26 l.session.present.state.marks)))
+    (numbered mark_line 0 (take l.place (take 26 l.session.state.marks)))

@@ -6,7 +6,7 @@ use Rattle.irig_script.proofs.print.pulse_lines.print_in_blocks.Goals as goal
 
 pub loop-done-preserved : goal.loop-done-preserved
 loop-done-preserved g c =
-    let s = c.args.session.now.present.state in
+    let s = c.args.session.now.state in
     let b = c.args.before in
     let d = c.loop-done.done in
     let k = c.min-lines.result in
@@ -20,7 +20,7 @@ loop-done-preserved g c =
 
 pub returns-in_default : goal.returns-in_default
 returns-in_default g c =
-    let s = c.args.session.now.present.state in
+    let s = c.args.session.now.state in
     let b = c.args.before in
     let d = c.loop-done.done in
     let k = c.min-lines.result in
@@ -38,7 +38,7 @@ returns-in_default g c =
 
 pub returns : goal.returns
 returns g c =
-    let s = c.args.session.now.present.state in
+    let s = c.args.session.now.state in
     let b = c.args.before in
     let last : c.loop-done.done ≡ c.min-there.result = omega (arith, c.loop-done.invariant.0, c.loop-done-test.false) in
     let there : c.min-there.result ≡ min c.args.count (length s.pulses - b) =

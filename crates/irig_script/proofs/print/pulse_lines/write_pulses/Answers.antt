@@ -5,7 +5,7 @@ use Rattle.irig_script.proofs.print.pulse_lines.write_pulses.Goals as goal
 
 pub loop-back-preserved : goal.loop-back-preserved
 loop-back-preserved c =
-    let s = c.args.session.now.present.state in
+    let s = c.args.session.now.state in
     let k = c.loop-back.back in
     let n = c.args.last - k in
     let m = c.args.last - (k + 1) in
@@ -22,4 +22,4 @@ loop-back-preserved c =
 pub returns-clause-written : goal.returns-clause-written
 returns-clause-written c =
     let all : c.loop-back.back ≡ c.args.count = omega (arith, c.loop-back.auto.back-end, c.loop-back-test.false) in
-    c.loop-back.invariant.3 ∙ ap (λ k. list_text (c.args.last - k) k c.args.session.now.present.state) all
+    c.loop-back.invariant.3 ∙ ap (λ k. list_text (c.args.last - k) k c.args.session.now.state) all

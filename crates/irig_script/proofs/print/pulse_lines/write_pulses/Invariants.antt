@@ -5,4 +5,4 @@ use Rattle.irig_script.proofs.print.pulse_lines.write_pulses.Given as goal
 abbrev pub invariant-loop-back : goal.invariant-loop-back
 invariant-loop-back l =
     (72 * (l.count - l.back) ≤ l.start) × (l.start ≤ length l.bytes) × (length l.bytes ≡ length l.fn.bytes)
-    × (drop l.start l.bytes ≡ list_text (l.last - l.back) l.back l.session.present.state)
+    × (drop l.start l.bytes ≡ list_text (l.last - l.back) l.back l.session.state)

@@ -1,21 +1,25 @@
-use Rattle.std.proofs.Common.{Option, option_map, sym, subst}
+use Rattle.std.proofs.Common.{Option, None, sym, subst}
 use Rattle.irig_journal.specs.declared.opening.Opening.{Opening}
-use Rattle.irig_journal.specs.Groups.{over}
 use Rattle.irig_journal.specs.History.{History}
+use Rattle.irig_journal.specs.Journal.{history_of}
 use Rattle.irig_saved.specs.declared.change.Change.{Change}
-use Rattle.irig_edit.specs.Session.Keeping.{floor_of, machine, machine_at}
-use Rattle.irig_edit.specs.Session.Limits.{IsGrouped, IsMachine}
+use Rattle.irig_edit.specs.Changes.Held.{delta_of}
+use Rattle.irig_edit.specs.Session.Limits.{IsWork}
+use Rattle.irig_edit.specs.Session.Work.{work_over}
 use Rattle.irig_edit.specs.State.State.{State}
-use Rattle.irig_edit.proofs.OpenedLemmas.OpenedMachines.{IsMachine-walk}
 use Rattle.irig_edit.proofs.opened.walk.Walk.into_session.Goals as goal
 
 pub invariant_of-result : goal.invariant_of-result
 invariant_of-result c =
-    let h = c.args.self in
-    let m = machine_at c.self.inside.present.state c.self.inside.cursor c.self.inside.journal in
-    let is : IsMachine (machine h) =
-    IsMachine-walk h.state h.cursor h.past h.future c.len-len.ensures.state c.requires.cursor c.requires.steps.0 c.requires.steps.1 in
-    let there : IsMachine m = subst (λ (x : History State Change). IsMachine (machine x)) (sym c.self.view_is) is in (
-      subst (λ (f : Option Opening). IsGrouped (over (option_map (floor_of m) f) m)) (sym c.self.invariant.0) (record { machine = there; floor = tt }),
+    let s = c.self.inside in
+    let is : IsWork (work_over None c.args.self) = record {
+      state = c.len-len.ensures.state;
+      cursor = c.requires.cursor;
+      past = c.requires.steps.0;
+      future = c.requires.steps.1;
+      floor = tt;
+    } in
+    let here = subst (λ (h : History State Change). IsWork (work_over None h)) (sym c.self.view_is) is in (
+      subst (λ (f : Option Opening). IsWork (work_over f (history_of delta_of s.present.state s.cursor s.journal))) (sym c.self.invariant.0) here,
       c.self.invariant.1,
     )

@@ -5,6 +5,5 @@ use Rattle.irig_edit.proofs.session.session.Session.frame.Goals as goal
 
 pub overflow_add-result : goal.overflow_add-result
 overflow_add-result c =
-    let m = c.self.invariant.0.machine in
     let there = ap (λ (rs : List Record). slice_get rs (c.args.number - 1)) (sym c.index.ensures) ∙ c.record-record.ensures in
-    omega (arith, marker_within c.self.inside.present.state (c.args.number - 1) c.record-record.result m.present.state there)
+    omega (arith, marker_within c.self.inside.present.state (c.args.number - 1) c.record-record.result c.self.invariant.0.state there)

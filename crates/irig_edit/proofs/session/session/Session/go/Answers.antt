@@ -1,20 +1,20 @@
-use Rattle.std.proofs.Common.{◌≡◌, ◌≤◌, length, Bool, true, not, [], ◌∷◌, Ok, ap, subst, arith, ◌∙◌}
+use Rattle.std.proofs.Common.{◌≡◌, ◌≤◌, length, Bool, true, not, [], ◌∷◌, Ok, ap, refl, subst, arith, ◌∙◌}
 use Rattle.std.proofs.lemmas.Bool.Decides.{nat_tests}
 use Rattle.irig_edit.specs.Session.Calls.Call.{Go}
 use Rattle.irig_edit.specs.Edits.Conditions.{are_pulses}
-use Rattle.irig_edit.specs.Session.Keeping.{grouped_at, machine_at}
 use Rattle.irig_edit.specs.Session.Machine.{Steps}
 use Rattle.irig_edit.specs.Edits.Refusals.{first_holding}
-use Rattle.irig_edit.specs.Session.Session.{SessionView, grouped_in}
+use Rattle.irig_edit.specs.Session.Session.{SessionView, work_in}
+use Rattle.irig_edit.specs.Session.Work.{work_at}
 use Rattle.irig_edit.specs.declared.session.refusal.Refusal.TheVariants.{NoPulse}
-use Rattle.irig_edit.proofs.SessionLemmas.Floors.{IsGrouped-moved, grouped-moved}
+use Rattle.irig_edit.proofs.SessionLemmas.Works.{IsWork-at}
 use Rattle.irig_edit.proofs.session.session.Session.go.Goals as goal
 
 pub invariant_of-self : goal.invariant_of-self
 invariant_of-self c =
     let s = c.self.inside in
     let there : c.args.pulse ≤ length s.present.state.pulses = omega (arith, c.if-pulse-len.false, (c.len.ensures.len ∙ ap length c.track.ensures.pulses)) in
-    (IsGrouped-moved (machine_at s.present.state s.cursor s.journal) c.args.pulse s.journal.floor c.self.invariant.0 there, c.self.invariant.1)
+    (IsWork-at (work_at s.present.state s.cursor s.journal) c.args.pulse c.self.invariant.0 there, c.self.invariant.1)
 
 pub returns-clause-step : goal.returns-clause-step
 returns-clause-step c =
@@ -23,5 +23,5 @@ returns-clause-step c =
     let last : c.args.pulse ≤ length s.present.state.pulses = omega (arith, c.if-pulse-len.false, (c.len.ensures.len ∙ ap length c.track.ensures.pulses)) in
     let there : are_pulses c.args.pulse c.args.pulse s.present.state ≡ true = grind (arith, nat_tests) in
     let none = ap (λ (test : Bool). first_holding ((not test, NoPulse) ∷ [])) there in
-    subst (λ (v : SessionView). Steps (Go c.args.pulse) (grouped_in v) (Ok tt) (grouped_at s.present.state c.args.pulse s.journal)) c.self.view_is
-    (none, grouped-moved (machine_at s.present.state s.cursor s.journal) c.args.pulse s.journal.floor)
+    subst (λ (v : SessionView). Steps (Go c.args.pulse) (work_in v) (Ok tt) (work_at s.present.state c.args.pulse s.journal)) c.self.view_is
+    (none, refl)

@@ -1,11 +1,11 @@
 use Rattle.std.proofs.Common.{rules}
-use Rattle.irig_edit.specs.Session.Keeping.{grouped_at}
-use Rattle.irig_edit.specs.Session.Limits.{IsGrouped}
+use Rattle.irig_edit.specs.Session.Limits.{IsWork}
+use Rattle.irig_edit.specs.Session.Work.{work_at}
 use Rattle.irig_edit.specs.State.Places.{places_in}
 use Rattle.irig_edit.proofs.session.session.Session.open.Goals as goal
 
 pub invariant_of-result : goal.invariant_of-result
 invariant_of-result c =
     let p = c.in_ok-present.present in
-    let is : IsGrouped (grouped_at p.state c.len-cursor.result c.new.result) = search rules in
+    let is : IsWork (work_at p.state c.len-cursor.result c.new.result) = search rules in
     (is, c.new.ensures.ready (places_in p) p.state)
