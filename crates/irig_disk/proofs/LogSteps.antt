@@ -7,9 +7,9 @@ use Rattle.std.specs.declared.alloc.Global.{Global}
 use Rattle.std.proofs.lemmas.Bool.{cases_eq}
 use Rattle.std.proofs.lemmas.Bool.Decides.{Decides-eqb}
 use Rattle.std.proofs.lemmas.Slice.Eq.{bytes_eq-Decides}
-use Rattle.irig_disk.specs.Disk.{Held}
+use Rattle.irig_disk.specs.Held.{Held}
 use Rattle.irig_disk.specs.Calls.{Made, SyncedFile, SyncedNames}
-use Rattle.irig_disk.specs.Moves.{Moved}
+use Rattle.irig_disk.specs.Moves.{IsMoved}
 use Rattle.irig_disk.specs.Log.{leads_in, holds_in, may_lead_in, may_hold_in, disk_of}
 use Rattle.irig_disk.specs.declared.call.Call.{Call}
 use Rattle.irig_disk.specs.declared.call.Call.TheVariants.{Make, Append, TakeMode, SyncFile, Rename, Remove, SyncNames}
@@ -122,6 +122,9 @@ log_made calls v mode free = record {
   leads = ap (λ b. cond b (Some (length calls)) (leads_in calls v.items)) (same_name v.items);
   holds = ap (λ b. cond b (record { bytes = []; mode = mode }) (holds_in calls (length calls))) (same_file (length calls));
   left = λ x l. ⊎_elim (λ was. inl was) (λ now. inr now.1) l;
+  paths = refl;
+  regular = tt;
+  log = refl;
   names = record {
     seen = λ n ne ne'. ap (λ b. cond b (Some (length calls)) (leads_in calls n)) (other_name v.items n ne);
     left = λ n x ne ne' l. ⊎_elim (λ was. was) (λ now. absurd (ne (sym now.0))) l;
@@ -140,7 +143,7 @@ pub log_synced : (calls : List Call) (k : ℕ) → SyncedFile (disk_of calls) (d
 log_synced calls k = record {
   left = λ h l. l.0 refl;
   stays = record {
-    names = record { seen = λ n. refl; left = λ n x l. l };
+    names = record { seen = λ n. refl; left = λ n x l. l; paths = refl; regular = λ i r. r; log = refl };
     files = record {
       seen = λ i. refl;
       left = λ i h l. ⊎_elim (λ is. subst (may_hold_in calls i) (sym (l.0 is)) (holds_may calls i)) (λ ne. l.1 ne) (cases_eq i k);
@@ -148,21 +151,24 @@ log_synced calls k = record {
   };
 }
 
-pub log_synced_names : (calls : List Call) → SyncedNames (disk_of calls) (disk_of (SyncNames ∷ calls))
+pub log_synced_names : (calls : List Call) → SyncedNames (disk_of calls) (disk_of (SyncNames ∷ calls)) (λ n. n)
 log_synced_names calls = record {
-  left = λ n x l. l;
-  stays = record {
-    names = record { seen = λ n. refl; left = λ n x l. subst (may_lead_in calls n) (sym l) (leads_may calls n) };
-    files = record { seen = λ i. refl; left = λ i h l. l };
-  };
+  kept = λ n is x l. l;
+  seen = λ n. refl;
+  left = λ n x l. subst (may_lead_in calls n) (sym l) (leads_may calls n);
+  files = record { seen = λ i. refl; left = λ i h l. l };
+  paths = refl;
+  log = refl;
 }
 
-log_moved : (calls : List Call) (u v : Vec ℕ Global) → Moved (disk_of calls) (disk_of (Rename u v ∷ calls)) u.items v.items
+log_moved : (calls : List Call) (u v : Vec ℕ Global) → IsMoved (disk_of calls) (disk_of (Rename u v ∷ calls)) u.items v.items
 log_moved calls u v = record {
   seen_to = ap (λ b. cond b (leads_in calls u.items) (cond (bytes_eq u.items v.items) None (leads_in calls v.items))) (same_name v.items);
   seen_from = λ ne. ap (λ b. cond b (leads_in calls u.items) (cond (bytes_eq u.items u.items) None (leads_in calls u.items))) (other_name v.items u.items ne)
       ∙ ap (λ b. cond b None (leads_in calls u.items)) (same_name u.items);
+  log = refl;
   may = record {
+    paths = λ i leads regular place. refl;
     left_to = λ x l. ⊎_elim (λ was. inl was) (λ rest. ⊎_elim (λ now. inr now.1) (λ gone. absurd (gone.1 refl)) rest) l;
     left_from = λ x l. ⊎_elim (λ was. inl was) (λ rest. ⊎_elim (λ now. inl (subst (may_lead_in calls u.items) (sym now.1) (leads_may calls u.items)))
         (λ gone. inr gone.2) rest) l;
@@ -176,11 +182,11 @@ log_moved calls u v = record {
 }
 
 pub log_moves : (calls later : List Call) (u v : Vec ℕ Global) («from» to : List ℕ) → u.items ≡ «from» → v.items ≡ to → later ≡ Rename u v ∷ calls
-    → Moved (disk_of calls) (disk_of later) «from» to
+    → IsMoved (disk_of calls) (disk_of later) «from» to
 log_moves calls later u v «from» to is_from is_to grown = rw (grown, ← is_from, ← is_to) (log_moved calls u v)
 
 pub log_syncs : (calls later : List Call) (k : ℕ) → later ≡ SyncFile k ∷ calls → SyncedFile (disk_of calls) (disk_of later) k
 log_syncs calls later k grown = rw grown (log_synced calls k)
 
-pub log_syncs_names : (calls later : List Call) → later ≡ SyncNames ∷ calls → SyncedNames (disk_of calls) (disk_of later)
+pub log_syncs_names : (calls later : List Call) → later ≡ SyncNames ∷ calls → SyncedNames (disk_of calls) (disk_of later) (λ n. n)
 log_syncs_names calls later grown = rw grown (log_synced_names calls)

@@ -19,3 +19,7 @@ pub if_ok_by : {T E : Type 0} (r : Result T E) {A B C D P : T → Type 0} → If
     → ((x : T) → A x → B x → C x → D x → P x) → IfOk r P
 if_ok_by (Ok x) a b c d all = all x a b c d
 if_ok_by (Err e) a b c d all = tt
+
+pub both_ok : {T E : Type 0} (r : Result T E) (A B : T → Type 0) → IfOk r A → IfOk r B → IfOk r (λ x. A x × B x)
+both_ok (Ok x) A B a b = (a, b)
+both_ok (Err e) A B a b = tt

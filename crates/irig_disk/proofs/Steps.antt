@@ -1,15 +1,18 @@
 -- What each call makes of a new file next to its target.
-use Rattle.std.proofs.Common.{◌≡◌, ◌≢◌, ◌⊎◌, inl, inr, ⊎_elim, refl, sym, ◌∙◌, ap, subst, ℕ, List, [], ◌++◌, Option, Some, None, Result, Ok, Err, OnOk, OnErr}
+use Rattle.std.proofs.Common.{◌≡◌, ◌≢◌, ◌⊎◌, inl, inr, ⊎_elim, refl, sym, ◌∙◌, ap, subst, ℕ, List, [], ◌∷◌, ◌++◌, append_assoc, Option, Some, None, Result, Ok, Err, OnOk, OnErr}
 use Rattle.std.proofs.Common.{IfOk, IfErr, IsErrOf, MatchOption}
 use Rattle.irig_disk.specs.declared.fault.PutFault.{PutFault}
 use Rattle.irig_disk.specs.declared.fault.PutFault.TheVariants.{Memory, NamesTaken, Failed, LeftBehind, Remains, NotKept}
 use Rattle.std.proofs.lemmas.Result.{IfErr-at_err, IfErr-weaker}
-use Rattle.irig_disk.specs.Disk.{Disk, Held, seen_under, MayLeave, Elapses, LeavesOnly}
-use Rattle.irig_disk.specs.Stays.{NamesStay, OtherFilesStay, Stays}
+use Rattle.irig_disk.specs.Disk.{Disk, IsPlace, seen_under, MayLeave, Elapses, LeavesOnly}
+use Rattle.irig_disk.specs.Held.{Held}
+use Rattle.irig_disk.specs.Stays.{FilesStay, NamesStay, OtherFilesStay, Stays}
 use Rattle.irig_disk.specs.Calls.{Made, IsTaken, Wrote, TookMode, MaySpoil, SyncedFile, SyncedNames}
-use Rattle.irig_disk.specs.Moves.{MayMove, Moved, NotMoved, MayRemove, Removed, NotRemoved}
-use Rattle.irig_disk.specs.Put.{OldOrNew, OldOrNewIfThere, OldIfThere, SeenSame, SeenSameIfThere, AfterFault, left_by, IsPut, IsKept}
-use Rattle.irig_disk.specs.Writing.{IsUnchanged, NotBegun, NotFinished, IsBeside, IsWriting, IsPlaced, IsStuck}
+use Rattle.irig_disk.specs.Moves.{MayMove, IsMoved, IsNotMoved, MayRemove, Removed, NotRemoved}
+use Rattle.irig_disk.specs.Put.{TriesNone, TriesOne, OldOrNew, OldOrNewIfThere, OldIfThere, SeenSame, SeenSameIfThere, AfterFault, SeenAfter, left_by, IsPut, IsKept}
+use Rattle.irig_disk.specs.Writing.{IsUnchanged, NotBegun, NotFinished, SeenUnfinished, IsBeside, IsWriting, IsPlaced, IsStuck}
+use Rattle.irig_disk.specs.Name.{IsName}
+use Rattle.irig_disk.specs.Trail.{Moved, NotMoved, Synced}
 use Rattle.irig_disk.specs.Parts.{IsPassed, ComesTo}
 use Rattle.irig_disk.proofs.Moments.{goes_on, weaker}
 use Rattle.irig_disk.proofs.Names.{same_or_not}
@@ -53,7 +56,13 @@ there_apart start beside target apart was_free n (inr some) is = some (ap (λ m.
 pub unchanged_goes_on : (start a b : Disk) → IsUnchanged start a → Stays a b → Elapses a b → IsUnchanged start b
 unchanged_goes_on start a b same stays time = record {
   stays = record {
-    names = record { seen = λ n. stays.names.seen n ∙ same.stays.names.seen n; left = λ n x l. same.stays.names.left n x (stays.names.left n x l) };
+    names = record {
+      seen = λ n. stays.names.seen n ∙ same.stays.names.seen n;
+      left = λ n x l. same.stays.names.left n x (stays.names.left n x l);
+      paths = stays.names.paths ∙ same.stays.names.paths;
+      regular = λ i r. stays.names.regular i (same.stays.names.regular i r);
+      log = stays.names.log ∙ same.stays.names.log;
+    };
     files = record { seen = λ i. stays.files.seen i ∙ same.stays.files.seen i; left = λ i h l. same.stays.files.left i h (stays.files.left i h l) };
   };
   moments = goes_on start a b (MayLeave start) same.moments time (λ n c l. stay_left start a same.stays n c (stay_left a b stays n c l));
@@ -77,22 +86,28 @@ begins start a b beside target file mode apart same made time =
         left = left;
         moments = goes_on start a b (λ n c. n ≢ beside → MayLeave start n c)
             (weaker start a (MayLeave start) (λ n c. n ≢ beside → MayLeave start n c) (λ n c l ne. l) same.moments) time (λ n c l ne. left n c ne l);
+        paths = made.paths ∙ same.stays.names.paths;
+        regular = made.regular;
+        log = made.log ∙ same.stays.names.log;
       };
     }
 
 -- a new file is made under a name, or it is taken
-pub tried : {X : Type 0} (number : X → ℕ) (start a b : Disk) (name stated target : List ℕ) (mode : ℕ) (made : Option X) → name ≡ stated → name ≢ target
-    → IsUnchanged start a → MatchOption made (IsTaken a b name) (λ file. Made a b name (number file) mode) → Elapses a b
-    → MatchOption made (IsPassed start b stated target) (λ file. IsWriting start b name target (number file) [] mode)
-tried number start a b name stated target mode None is apart same taken time = record {
+pub tried : {X : Type 0} (number : X → ℕ) (start a b : Disk) (place : List ℕ → List ℕ) (name stated target : List ℕ) (mode : ℕ) (made : Option X)
+    → name ≡ stated → place name ≢ place target
+    → IsUnchanged start a → MatchOption made (IsTaken a b (place name)) (λ file. Made a b (place name) (number file) mode) → Elapses a b
+    → MatchOption made (IsPassed start b place stated target) (λ file. IsWriting start b (place name) (place target) (number file) [] mode)
+tried number start a b place name stated target mode None is apart same taken time = record {
   same = unchanged_goes_on start a b same taken.stays time;
-  taken = λ ne none. taken.taken (same.stays.names.seen name ∙ (ap (λ n. start.leads n) is ∙ none));
+  taken = λ _ ne none. taken.taken (same.stays.names.seen (place name) ∙ (ap (λ n. start.leads (place n)) is ∙ none));
 }
-tried number start a b name stated target mode (Some file) is apart same made time = begins start a b name target (number file) mode apart same made time
+tried number start a b place name stated target mode (Some file) is apart same made time =
+    begins start a b (place name) (place target) (number file) mode apart same made time
 
 -- a name that is the target's own is not tried
-pub not_tried : (start a : Disk) (name stated target : List ℕ) → name ≡ stated → (name ≢ target → ⊥) → IsUnchanged start a → IsPassed start a stated target
-not_tried start a name stated target is at same = record { same = same; taken = λ ne none. at (λ e. ne (sym is ∙ e)) }
+pub not_tried : (start a : Disk) (place : List ℕ → List ℕ) (name stated target : List ℕ) → name ≡ stated → (IsName name → name ≢ target → ⊥)
+    → IsUnchanged start a → IsPassed start a place stated target
+not_tried start a place name stated target is at same = record { same = same; taken = λ a_name ne none. at (rw is a_name) (λ e. ne (sym is ∙ e)) }
 
 -- a call that changes the new file alone
 pub touched : (start a b : Disk) (beside target : List ℕ) (file : ℕ) → IsBeside start a beside target file → NamesStay a b → OtherFilesStay a b file
@@ -109,6 +124,9 @@ touched start a b beside target file s names files time =
       seen = λ n ne. shows a b n (names.seen n) (λ i is. files.seen i (λ e. s.alone n ne (is ∙ ap Some e))) ∙ s.seen n ne;
       left = left;
       moments = goes_on start a b (λ n c. n ≢ beside → MayLeave start n c) s.moments time (λ n c l ne. left n c ne l);
+      paths = names.paths ∙ s.paths;
+      regular = names.regular file s.regular;
+      log = names.log ∙ s.log;
     }
 
 pub wrote : (start a b : Disk) (beside target : List ℕ) (file mode : ℕ) (text bytes : List ℕ) → IsWriting start a beside target file text mode
@@ -173,6 +191,14 @@ module _ (start c d : Disk) (beside target : List ℕ) (file : ℕ) (text : Held
         (λ nt. inl (s.stands.left n k ne (may_follow c d n (λ x. may.names.left n x ne nt) (λ i h leads. may.files.left i h) k l)))
         (same_or_not n target)
 
+    -- paths lead where they led
+    still_paths : IsPlace start target → d.paths ≡ start.paths
+    still_paths place = may.paths file s.stands.leads s.stands.regular (place.0, ap (λ ps. ps place.0) s.stands.paths ∙ place.1) ∙ s.stands.paths
+
+    -- what the new file holds is seen under its name
+    seen_there : seen_under c beside ≡ Some text
+    seen_there = shows_some c beside file text s.stands.leads s.holds
+
     but_beside : LeavesOnly start c (OldOrNewIfThere start target text)
     but_beside = weaker start c (λ n k. n ≢ beside → MayLeave start n k) (OldOrNewIfThere start target text)
         (λ n k l there. inl (l (there_apart start beside target s.stands.apart s.stands.was_free n there))) s.stands.moments
@@ -180,8 +206,10 @@ module _ (start c d : Disk) (beside target : List ℕ) (file : ℕ) (text : Held
     moved_moments : Elapses c d → LeavesOnly start d (OldOrNewIfThere start target text)
     moved_moments time = goes_on start c d (OldOrNewIfThere start target text) but_beside time move_left
 
-    placed : Moved c d beside target → Elapses c d → IsPlaced start d beside target text
+    placed : IsMoved c d beside target → Elapses c d → IsPlaced start d beside target text
     placed moved time = record {
+      paths = still_paths;
+      log = moved.log ∙ (λ j. s.stands.log j ++ Moved target (seen_there j) ∷ []);
       file = file;
       leads = moved.seen_to ∙ s.stands.leads;
       holds = may.files.seen file ∙ s.holds;
@@ -195,8 +223,13 @@ module _ (start c d : Disk) (beside target : List ℕ) (file : ℕ) (text : Held
       left = move_left;
     }
 
-    not_placed : NotMoved c d beside target → Elapses c d → IsStuck start d beside target text
+    not_placed : IsNotMoved c d beside target → Elapses c d → IsStuck start d beside target text
     not_placed not_moved time = record {
+      paths = still_paths;
+      file = file;
+      leads = not_moved.seen beside ∙ s.stands.leads;
+      regular = not_moved.regular file s.stands.regular;
+      log = inr ((not_moved.log ∙ (λ j. s.stands.log j ++ NotMoved target (seen_there j) ∷ [])));
       apart = s.stands.apart;
       was_free = s.stands.was_free;
       seen = λ n ne. shows c d n (not_moved.seen n) (λ i is. may.files.seen i) ∙ s.stands.seen n ne;
@@ -207,6 +240,18 @@ module _ (start c d : Disk) (beside target : List ℕ) (file : ℕ) (text : Held
 -- a new file that is given up
 pub stuck : (start a : Disk) (beside target : List ℕ) (file : ℕ) (text : Held) → IsBeside start a beside target file → IsStuck start a beside target text
 stuck start a beside target file text s = record {
+  paths = λ place. s.paths;
+  file = file;
+  leads = s.leads;
+  regular = s.regular;
+  log = inl (
+    record {
+      log = s.log;
+      moments = weaker start a (λ n k. n ≢ beside → MayLeave start n k) (OldIfThere start target)
+          (λ n k l there. l (there_apart start beside target s.apart s.was_free n there)) s.moments;
+    },
+    λ n c l there. s.left n c (there_apart start beside target s.apart s.was_free n there) l,
+  );
   apart = s.apart;
   was_free = s.was_free;
   seen = s.seen;
@@ -223,14 +268,19 @@ stuck_at_sync start b c beside target file text mode held w may time =
     stuck start c beside target file held (touched start b c beside target file w.stands may.names may.files time)
 
 pub stuck_at_rename : (start b c d : Disk) (beside target : List ℕ) (file : ℕ) (text : List ℕ) (mode : ℕ) → IsWriting start b beside target file text mode
-    → SyncedFile b c file → Elapses b c → NotMoved c d beside target → Elapses c d → IsStuck start d beside target (record { bytes = text; mode = mode })
-stuck_at_rename start b c d beside target file text mode w synced time_synced not_moved time =
+    → SyncedFile b c file → Elapses b c → Stays c d ⊎ IsNotMoved c d beside target → Elapses c d
+    → IsStuck start d beside target (record { bytes = text; mode = mode })
+stuck_at_rename start b c d beside target file text mode w synced time_synced (inl stays) time =
+    let c_sealed = sealed start b c beside target file text mode w synced time_synced in
+    stuck start d beside target file (record { bytes = text; mode = mode }) (touched start c d beside target file c_sealed.stands stays.names
+    (record { seen = λ i ne. stays.files.seen i; left = λ i h ne l. stays.files.left i h l }) time)
+stuck_at_rename start b c d beside target file text mode w synced time_synced (inr not_moved) time =
     not_placed start c d beside target file (record { bytes = text; mode = mode }) (sealed start b c beside target file text mode w synced time_synced)
     not_moved.may not_moved time
 
 -- and the one in which it does
 pub comes_to_its_place : (start b c d : Disk) (beside target : List ℕ) (file : ℕ) (text : List ℕ) (mode : ℕ) → IsWriting start b beside target file text mode
-    → SyncedFile b c file → Elapses b c → Moved c d beside target → Elapses c d → IsPlaced start d beside target (record { bytes = text; mode = mode })
+    → SyncedFile b c file → Elapses b c → IsMoved c d beside target → Elapses c d → IsPlaced start d beside target (record { bytes = text; mode = mode })
 comes_to_its_place start b c d beside target file text mode w synced time_synced moved time =
     placed start c d beside target file (record { bytes = text; mode = mode }) (sealed start b c beside target file text mode w synced time_synced)
     moved.may moved time
@@ -255,25 +305,42 @@ module _ (start a b : Disk) (beside target : List ℕ) (text : Held) (s : IsStuc
   not_freed n there = seen_apart n (there_apart start beside target s.apart s.was_free n there)
 
 -- the new names are kept, or not
-module _ (start a b : Disk) (beside target : List ℕ) (text : Held) (s : IsPlaced start a beside target text) (stays : Stays a b) where
+module _ (start a b : Disk) (beside target : List ℕ) (text : Held) (s : IsPlaced start a beside target text)
+    (seen : (n : List ℕ) → b.leads n ≡ a.leads n) (left : (n : List ℕ) (x : Option ℕ) → b.may_lead n x → a.may_lead n x) (files : FilesStay a b) where
   pub stays_moments : Elapses a b → LeavesOnly start b (OldOrNewIfThere start target text)
-  stays_moments time = goes_on start a b (OldOrNewIfThere start target text) s.moments time (λ n c l. s.left n c (stay_left a b stays n c l))
+  stays_moments time = goes_on start a b (OldOrNewIfThere start target text) s.moments time
+      (λ n c l. s.left n c (may_follow a b n (left n) (λ i h leads. files.left i h) c l))
+
+  still_seen : (n : List ℕ) → seen_under b n ≡ seen_under a n
+  still_seen n = shows a b n (seen n) (λ i is. files.seen i)
 
   pub stays_put : IsPut start b target text
   stays_put = record {
-    at_target = stay_seen a b stays target ∙ shows_some a target s.file text s.leads s.holds;
-    others = λ n nt. stay_seen a b stays n ∙ s.seen n nt;
+    at_target = still_seen target ∙ shows_some a target s.file text s.leads s.holds;
+    others = λ n nt. still_seen n ∙ s.seen n nt;
   }
 
-  kept_at : SyncedNames a b → (c : Option Held) → MayLeave b target c → c ≡ Some text
-  kept_at synced None l = let clash : None ≡ Some s.file = synced.left target None l ∙ (stays.names.seen target ∙ s.leads) in absurd (cc clash)
-  kept_at synced (Some h) l =
-      let same : Some l.0 ≡ Some s.file = synced.left target (Some l.0) l.1 ∙ (stays.names.seen target ∙ s.leads) in
+  kept_at : ((x : Option ℕ) → b.may_lead target x → x ≡ b.leads target) → (c : Option Held) → MayLeave b target c → c ≡ Some text
+  kept_at kept None l = let clash : None ≡ Some s.file = kept None l ∙ (seen target ∙ s.leads) in absurd (cc clash)
+  kept_at kept (Some h) l =
+      let same : Some l.0 ≡ Some s.file = kept (Some l.0) l.1 ∙ (seen target ∙ s.leads) in
       let same_file : l.0 ≡ s.file = cc same in
-      ap Some (s.kept h (stays.files.left s.file h (subst (λ k. b.may_hold k h) same_file l.2)))
+      ap Some (s.kept h (files.left s.file h (subst (λ k. b.may_hold k h) same_file l.2)))
 
-  pub stays_kept : SyncedNames a b → IsKept start b target text
-  stays_kept synced = record { put = stays_put; kept = kept_at synced }
+-- they are kept
+pub stays_kept : (start a b : Disk) (place : List ℕ → List ℕ) (beside name : List ℕ) (text : Held) → IsName name
+    → IsPlaced start a beside (place name) text → SyncedNames a b place → IsKept start b (place name) text
+stays_kept start a b place beside name text is s synced = record {
+  put = stays_put start a b beside (place name) text s synced.seen synced.left synced.files;
+  kept = kept_at start a b beside (place name) text s synced.seen synced.left synced.files (synced.kept name is);
+  paths = λ at. synced.paths ∙ s.paths at;
+  log = synced.log ∙ ap (λ l. l ++ Synced b.moment ∷ []) s.log ∙ append_assoc start.log (Moved (place name) (Some text) ∷ []) (Synced b.moment ∷ []);
+}
+
+-- or are not
+pub not_kept : (start a b : Disk) (beside target : List ℕ) (text : Held) → IsPlaced start a beside target text → Stays a b
+    → TriesOne start b target text
+not_kept start a b beside target text s stays = inr (inl (stays.names.log ∙ s.log))
 
 -- the same of a new file that is given up: no crash shows a new text
 module _ (start a b : Disk) (beside target : List ℕ) (file : ℕ) (s : IsBeside start a beside target file) (may : MayRemove a b beside) where
@@ -297,13 +364,40 @@ pub old_moments : (start a : Disk) (target : List ℕ) (text : Held) → LeavesO
 old_moments start a target text moments = weaker start a (OldIfThere start target) (OldOrNewIfThere start target text) (λ n c l there. inl (l there)) moments
 
 -- what is left after a call has failed and the new file's name was to be freed
+-- nothing was tried before it, or the rename
+log_after : (start a b : Disk) (beside target : List ℕ) (text : Held) → IsStuck start a beside target text → MayRemove a b beside → Elapses a b
+    → TriesOne start b target text
+log_after start a b beside target text s may time = ⊎_elim
+    (λ none. inl (record {
+      log = may.log ∙ none.0.log;
+      moments = goes_on start a b (OldIfThere start target) none.0.moments time (λ n c l there.
+          let ne = there_apart start beside target s.apart s.was_free n there in
+          none.1 n c (may_follow a b n (λ x. may.names.left n x ne ne) (λ i h leads. may.files.left i h) c l) there);
+    }))
+    (λ one. inr (inr (may.log ∙ one)))
+    s.log
+
 pub after_removal : {T X : Type 0} (start a b : Disk) (beside target : List ℕ) (text : Held) (removal : Result T X) (fault : X) (result : PutFault X)
-    → IsStuck start a beside target text → OnOk removal (Removed a b beside) → OnErr removal (NotRemoved a b beside)
+    → IsStuck start a beside target text → OnOk removal (Removed a b beside) → OnErr removal (NotRemoved a b beside) → Elapses a b
     → result ≡ left_by (Some fault) removal → NotFinished start b target text result
-after_removal start a b beside target text (Ok _) fault result s removed not_removed is =
-    subst (λ r. NotFinished start b target text r) (sym is) (freed start a b beside target text s removed.may removed)
-after_removal start a b beside target text (Err other) fault result s removed not_removed is =
-    subst (λ r. NotFinished start b target text r) (sym is) (not_freed start a b beside target text s not_removed.may)
+after_removal start a b beside target text (Ok _) fault result s removed not_removed time is = record {
+  seen = subst (λ r. SeenUnfinished start b target text r) (sym is) (freed start a b beside target text s removed.may removed);
+  log = log_after start a b beside target text s removed.may time;
+  paths = λ place. removed.may.paths s.file s.leads s.regular ∙ s.paths place;
+}
+after_removal start a b beside target text (Err other) fault result s removed not_removed time is = record {
+  seen = subst (λ r. SeenUnfinished start b target text r) (sym is) (not_freed start a b beside target text s not_removed.may);
+  log = log_after start a b beside target text s not_removed.may time;
+  paths = λ place. not_removed.may.paths s.file s.leads s.regular ∙ s.paths place;
+}
+
+-- a removal is no write
+pub rest_of_removal : {T X : Type 0} (start a b : Disk) (beside target : List ℕ) (file : ℕ) (removal : Result T X) → IsBeside start a beside target file
+    → OnOk removal (Removed a b beside) → OnErr removal (NotRemoved a b beside) → (b.log ≡ start.log) × (b.paths ≡ start.paths)
+rest_of_removal start a b beside target file (Ok _) s removed not_removed =
+    (removed.may.log ∙ s.log, removed.may.paths file s.leads s.regular ∙ s.paths)
+rest_of_removal start a b beside target file (Err other) s removed not_removed =
+    (not_removed.may.log ∙ s.log, not_removed.may.paths file s.leads s.regular ∙ s.paths)
 
 pub moments_of_removal : {T X : Type 0} (start a b : Disk) (beside target : List ℕ) (text : Held) (removal : Result T X) → IsStuck start a beside target text
     → OnOk removal (Removed a b beside) → OnErr removal (NotRemoved a b beside) → Elapses a b → LeavesOnly start b (OldOrNewIfThere start target text)
@@ -317,14 +411,38 @@ old_moments_of_removal start a b beside target file (Err other) s removed not_re
     given_up_moments start a b beside target file s not_removed.may time
 
 -- what a write leaves that has not begun, or has not succeeded
+not_begun_rest : {X : Type 0} (start now : Disk) (fault : PutFault X) → NotBegun start now fault → (now.log ≡ start.log) × (now.paths ≡ start.paths)
+not_begun_rest start now Memory same = (same.stays.names.log, same.stays.names.paths)
+not_begun_rest start now NamesTaken same = (same.stays.names.log, same.stays.names.paths)
+not_begun_rest start now (Failed _) same = (same.stays.names.log, same.stays.names.paths)
+not_begun_rest start now (LeftBehind _ _) none = absurd none
+not_begun_rest start now (Remains _) none = absurd none
+not_begun_rest start now (NotKept _) none = absurd none
+
+not_begun_seen : {X : Type 0} (start now : Disk) (target : List ℕ) (text : Held) (fault : PutFault X) → NotBegun start now fault
+    → SeenAfter start now target text fault
+not_begun_seen start now target text Memory same = unchanged_seen start now same
+not_begun_seen start now target text NamesTaken same = unchanged_seen start now same
+not_begun_seen start now target text (Failed _) same = unchanged_seen start now same
+not_begun_seen start now target text (LeftBehind _ _) none = absurd none
+not_begun_seen start now target text (Remains _) none = absurd none
+not_begun_seen start now target text (NotKept _) none = absurd none
+
+not_begun_old : {X : Type 0} (start now : Disk) (target : List ℕ) (fault : PutFault X) → NotBegun start now fault → LeavesOnly start now (OldIfThere start target)
+not_begun_old start now target Memory same = weaker start now (MayLeave start) (OldIfThere start target) (λ n c l there. l) same.moments
+not_begun_old start now target NamesTaken same = weaker start now (MayLeave start) (OldIfThere start target) (λ n c l there. l) same.moments
+not_begun_old start now target (Failed _) same = weaker start now (MayLeave start) (OldIfThere start target) (λ n c l there. l) same.moments
+not_begun_old start now target (LeftBehind _ _) none = absurd none
+not_begun_old start now target (Remains _) none = absurd none
+not_begun_old start now target (NotKept _) none = absurd none
+
 pub not_begun : {X : Type 0} (start now : Disk) (target : List ℕ) (text : Held) (fault : PutFault X) → NotBegun start now fault
     → AfterFault start now target text fault
-not_begun start now target text Memory same = unchanged_seen start now same
-not_begun start now target text NamesTaken same = unchanged_seen start now same
-not_begun start now target text (Failed _) same = unchanged_seen start now same
-not_begun start now target text (LeftBehind _ _) none = absurd none
-not_begun start now target text (Remains _) none = absurd none
-not_begun start now target text (NotKept _) none = absurd none
+not_begun start now target text fault same = record {
+  seen = not_begun_seen start now target text fault same;
+  log = inl (record { log = (not_begun_rest start now fault same).0; moments = not_begun_old start now target fault same });
+  paths = λ place. (not_begun_rest start now fault same).1;
+}
 
 pub not_begun_moments : {X : Type 0} (start now : Disk) (target : List ℕ) (text : Held) (fault : PutFault X) → NotBegun start now fault
     → LeavesOnly start now (OldOrNewIfThere start target text)
@@ -335,27 +453,31 @@ not_begun_moments start now target text (LeftBehind _ _) none = absurd none
 not_begun_moments start now target text (Remains _) none = absurd none
 not_begun_moments start now target text (NotKept _) none = absurd none
 
+not_finished_seen : {X : Type 0} (start now : Disk) (target : List ℕ) (text : Held) (fault : PutFault X) → SeenUnfinished start now target text fault
+    → SeenAfter start now target text fault
+not_finished_seen start now target text Memory none = absurd none
+not_finished_seen start now target text NamesTaken none = absurd none
+not_finished_seen start now target text (Failed _) left = left
+not_finished_seen start now target text (LeftBehind _ _) left = left
+not_finished_seen start now target text (Remains _) none = absurd none
+not_finished_seen start now target text (NotKept _) left = left
+
 pub not_finished : {X : Type 0} (start now : Disk) (target : List ℕ) (text : Held) (fault : PutFault X) → NotFinished start now target text fault
     → AfterFault start now target text fault
-not_finished start now target text Memory none = absurd none
-not_finished start now target text NamesTaken none = absurd none
-not_finished start now target text (Failed _) left = left
-not_finished start now target text (LeftBehind _ _) left = left
-not_finished start now target text (Remains _) none = absurd none
-not_finished start now target text (NotKept _) left = left
+not_finished start now target text fault left = record { seen = not_finished_seen start now target text fault left.seen; log = left.log; paths = left.paths }
 
 pub not_taken : {T X : Type 0} (start now : Disk) (target : List ℕ) (text : Held) (r : Result T (PutFault X)) → IfErr r (NotFinished start now target text)
     → IsErrOf r NamesTaken → ⊥
-not_taken start now target text r left is = IfErr-at_err (NotFinished start now target text) is left
+not_taken start now target text r left is = (IfErr-at_err (NotFinished start now target text) is left).seen
 
 -- what a write leaves that is given up
-pub after_giving_up : {T X : Type 0} (start now : Disk) (target : List ℕ) (text : Held) (removal : Result T X) (fault : Option X) (result : PutFault X)
+seen_given_up : {T X : Type 0} (start now : Disk) (target : List ℕ) (text : Held) (removal : Result T X) (fault : Option X) (result : PutFault X)
     → OnOk removal (SeenSame start now)
-    → OnErr removal (SeenSameIfThere start now target) → result ≡ left_by fault removal → AfterFault start now target text result
-after_giving_up start now target text (Ok _) None result same but is = subst (λ r. AfterFault start now target text r) (sym is) same
-after_giving_up start now target text (Ok _) (Some fault) result same but is = subst (λ r. AfterFault start now target text r) (sym is) same
-after_giving_up start now target text (Err other) None result same but is = subst (λ r. AfterFault start now target text r) (sym is) but
-after_giving_up start now target text (Err other) (Some fault) result same but is = subst (λ r. AfterFault start now target text r) (sym is) but
+    → OnErr removal (SeenSameIfThere start now target) → result ≡ left_by fault removal → SeenAfter start now target text result
+seen_given_up start now target text (Ok _) None result same but is = subst (λ r. SeenAfter start now target text r) (sym is) same
+seen_given_up start now target text (Ok _) (Some fault) result same but is = subst (λ r. SeenAfter start now target text r) (sym is) same
+seen_given_up start now target text (Err other) None result same but is = subst (λ r. SeenAfter start now target text r) (sym is) but
+seen_given_up start now target text (Err other) (Some fault) result same but is = subst (λ r. SeenAfter start now target text r) (sym is) but
 
 left_untaken : {T X : Type 0} (fault : Option X) (removal : Result T X) → left_by fault removal ≡ NamesTaken → ⊥
 left_untaken None (Ok _) is = cc is
@@ -376,11 +498,15 @@ comes_to_its_end start now target text result moments kept left = record {
 
 pub comes_to_nothing : {K T X : Type 0} (start now : Disk) (target : List ℕ) (text : Held) (removal : Result T X) (fault : Option X) (left : PutFault X)
     → LeavesOnly start now (OldIfThere start target) → OnOk removal (SeenSame start now) → OnErr removal (SeenSameIfThere start now target)
-    → left ≡ left_by fault removal → ComesTo {T = K} start now target text (Err left)
-comes_to_nothing start now target text removal fault left moments same but by = record {
+    → (now.log ≡ start.log) × (now.paths ≡ start.paths) → left ≡ left_by fault removal → ComesTo {T = K} start now target text (Err left)
+comes_to_nothing start now target text removal fault left moments same but rest by = record {
   any_moment = old_moments start now target text moments;
   ok = tt;
-  err = after_giving_up start now target text removal fault left same but by;
+  err = record {
+    seen = seen_given_up start now target text removal fault left same but by;
+    log = inl (record { log = rest.0; moments = moments });
+    paths = λ place. rest.1;
+  };
   untaken = λ is. let taken : left ≡ NamesTaken = cc is in left_untaken fault removal (sym by ∙ taken);
 }
 

@@ -1,8 +1,11 @@
 -- What each single call on a file, or on all names, makes of a folder. This project's own.
-use Rattle.std.specs.Prelude.{◌≡◌, ◌≢◌, ◌⊎◌, ℕ, List, [], ◌++◌, take, Option, Some, None, Bool}
+use Rattle.std.specs.Prelude.{◌≡◌, ◌≢◌, ◌⊎◌, ℕ, List, [], ◌∷◌, ◌++◌, take, Option, Some, None, Bool}
 use Rattle.std.specs.Prelude.{if◌then◌else◌}
-use Rattle.irig_disk.specs.Disk.{Disk, Held}
-use Rattle.irig_disk.specs.Stays.{OtherNamesStay, NamesStay, OtherFilesStay, Stays}
+use Rattle.irig_disk.specs.Disk.{Disk}
+use Rattle.irig_disk.specs.Held.{Held}
+use Rattle.irig_disk.specs.Name.{IsName}
+use Rattle.irig_disk.specs.Stays.{OtherNamesStay, NamesStay, OtherFilesStay, FilesStay, Stays}
+use Rattle.irig_disk.specs.Trail.{Synced}
 
 -- the mode of a hidden file: its owner alone may read and write it
 abbrev pub owner_only : ℕ
@@ -21,6 +24,9 @@ pub record Made (old new : Disk) (name : List ℕ) (file mode : ℕ) : Type 0 wh
   pub leads : new.leads name ≡ Some file
   pub holds : new.holds file ≡ record { bytes = []; mode = mode }
   pub left : (x : Option ℕ) → new.may_lead name x → old.may_lead name x ⊎ (x ≡ Some file)
+  pub paths : new.paths ≡ old.paths
+  pub regular : new.regular file
+  pub log : new.log ≡ old.log
   pub names : OtherNamesStay old new name name
   pub files : OtherFilesStay old new file
 
@@ -60,7 +66,12 @@ pub record MaySpoil (old new : Disk) (file : ℕ) : Type 0 where
   pub names : NamesStay old new
   pub files : OtherFilesStay old new file
 
--- a crash leaves each name as it is seen
-pub record SyncedNames (old new : Disk) : Type 0 where
-  pub left : (n : List ℕ) (x : Option ℕ) → new.may_lead n x → x ≡ new.leads n
-  pub stays : Stays old new
+-- a crash leaves each name in the folder, with these places, as it is seen
+pub record SyncedNames (old new : Disk) (place : List ℕ → List ℕ) : Type 0 where
+  pub kept : (n : List ℕ) → IsName n → (x : Option ℕ) → new.may_lead (place n) x
+      → x ≡ new.leads (place n)
+  pub seen : (n : List ℕ) → new.leads n ≡ old.leads n
+  pub left : (n : List ℕ) (x : Option ℕ) → new.may_lead n x → old.may_lead n x
+  pub files : FilesStay old new
+  pub paths : new.paths ≡ old.paths
+  pub log : new.log ≡ old.log ++ Synced new.moment ∷ []

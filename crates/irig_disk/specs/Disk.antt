@@ -1,12 +1,10 @@
--- What the names of one folder lead to, and what a crash may leave of it. This project's own.
-use Rattle.std.specs.Prelude.{◌⊎◌, ◌≤◌, ℕ, List, Option, Some, None}
+-- What the places of a file system lead to, and what a crash may leave of them. A place is a folder
+-- and a name in it: each has one name here, whatever the paths that lead to it. This project's own.
+use Rattle.std.specs.Prelude.{◌≡◌, ◌⊎◌, ◌≤◌, ℕ, List, Option, Some, None}
+use Rattle.irig_disk.specs.Held.{Held}
+use Rattle.irig_disk.specs.Trail.{Step}
 
--- what a file holds: its bytes, and its mode (who may read and write it)
-pub record Held : Type 0 where
-  pub bytes : List ℕ
-  pub mode : ℕ
-
--- The state of a folder. Files have numbers; a name leads to a file or to none.
+-- The state of the folders. Files have numbers; a place leads to a file or to none.
 pub record Disk : Type 1 where
   -- what is seen: the file that a name leads to, and what a file holds
   pub leads : List ℕ → Option ℕ
@@ -18,6 +16,12 @@ pub record Disk : Type 1 where
   -- under a name
   pub moment : ℕ
   pub left_since : ℕ → List ℕ → Option Held → Type 0
+  -- the place of the regular file, or of none yet, that a path leads to, if it leads to one; and
+  -- which files are regular ones, and no links
+  pub paths : List ℕ → Option (List ℕ)
+  pub regular : ℕ → Type 0
+  -- what was done to the names so far, in order
+  pub log : List Step
 
 -- what is seen under a name
 abbrev pub seen_under : Disk → List ℕ → Option Held
@@ -49,3 +53,7 @@ pub record LeavesOnly (old new : Disk) (P : List ℕ → Option Held → Type 0)
   -- for a run that began earlier
   pub before : (t : ℕ) (name : List ℕ) (c : Option Held) → t ≤ old.moment → new.left_since t name c
       → old.left_since t name c ⊎ P name c
+
+-- a path leads to this place, so no link is there
+abbrev pub IsPlace : Disk → List ℕ → Type 0
+IsPlace disk place = (path : List ℕ) × (disk.paths path ≡ Some place)

@@ -1,11 +1,14 @@
 pub mod Calls
 pub mod Disk
+pub mod Held
 pub mod Led
 pub mod Log
 pub mod LogLaws
 pub mod Moves
+pub mod Name
 pub mod Parts
 pub mod Put
 pub mod Stays
 pub mod System
+pub mod Trail
 pub mod Writing

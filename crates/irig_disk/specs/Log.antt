@@ -1,8 +1,11 @@
 -- What a log of calls makes of an empty folder, the newest call first. This project's own.
 use Rattle.std.specs.Prelude.{◌≡◌, ◌≢◌, ◌⊎◌, ◌≤◌, ℕ, nat_eq, List, [], ◌∷◌, ◌++◌, length, Option}
 use Rattle.std.specs.Prelude.{Some, None, cond}
+use Rattle.std.specs.Path.{path_file_name}
 use Rattle.std.specs.Str.{bytes_eq}
-use Rattle.irig_disk.specs.Disk.{Disk, Held, Left}
+use Rattle.irig_disk.specs.Disk.{Disk, Left}
+use Rattle.irig_disk.specs.Held.{Held}
+use Rattle.irig_disk.specs.Trail.{Step, Moved, Synced}
 use Rattle.irig_disk.specs.declared.call.Call.{Call}
 use Rattle.irig_disk.specs.declared.call.Call.TheVariants.{Make, Append, TakeMode, SyncFile, Rename}
 use Rattle.irig_disk.specs.declared.call.Call.TheVariants.{Remove, SyncNames}
@@ -72,6 +75,26 @@ left_in [] t n c = Left (may_lead_in []) (may_hold_in []) n c
 left_in (call ∷ calls) t n c = Left (may_lead_in (call ∷ calls)) (may_hold_in (call ∷ calls)) n c
     ⊎ ((t ≤ length calls) × left_in calls t n c)
 
+-- what was done to the names
+abbrev pub steps_in : List Call → List Step
+steps_in [] = []
+steps_in (Rename «from» to ∷ calls) = steps_in calls ++ Moved to.items
+    (elim (leads_in calls «from».items) [ None ↦ None | Some file ↦ Some (holds_in calls file) ]) ∷ []
+steps_in (SyncNames ∷ calls) = steps_in calls ++ Synced (length (SyncNames ∷ calls)) ∷ []
+steps_in (Make name mode ∷ calls) = steps_in calls
+steps_in (Remove name ∷ calls) = steps_in calls
+steps_in (Append file bytes ∷ calls) = steps_in calls
+steps_in (TakeMode file mode ∷ calls) = steps_in calls
+steps_in (SyncFile file ∷ calls) = steps_in calls
+
+-- a name is its own place, and no other path leads to one
+abbrev pub own_place_of : List ℕ → Option (List ℕ) → Option (List ℕ)
+own_place_of path None = None
+own_place_of path (Some name) = cond (bytes_eq name path) (Some path) None
+
+abbrev pub own_place : List ℕ → Option (List ℕ)
+own_place path = own_place_of path (path_file_name path)
+
 -- the folder that a log makes
 abbrev pub disk_of : List Call → Disk
 disk_of calls = record {
@@ -81,4 +104,7 @@ disk_of calls = record {
   may_hold = may_hold_in calls;
   moment = length calls;
   left_since = left_in calls;
+  paths = own_place;
+  regular = λ _. Unit {0};
+  log = steps_in calls;
 }

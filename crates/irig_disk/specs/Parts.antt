@@ -1,15 +1,18 @@
 -- What single calls make of a text that is being written. This project's own.
 use Rattle.std.specs.Prelude.{◌≢◌, ℕ, List, ◌++◌, None, Result, OnOk, IfErr, IsErrOf}
-use Rattle.irig_disk.specs.Disk.{Disk, Held, LeavesOnly}
+use Rattle.irig_disk.specs.Disk.{Disk, LeavesOnly}
+use Rattle.irig_disk.specs.Held.{Held}
+use Rattle.irig_disk.specs.Name.{IsName}
 use Rattle.irig_disk.specs.Put.{OldOrNewIfThere, IsKept, AfterFault}
 use Rattle.irig_disk.specs.Writing.{IsUnchanged, IsWriting, IsPlaced, IsStuck, WhileWriting}
 use Rattle.irig_disk.specs.declared.fault.PutFault.{PutFault}
 use Rattle.irig_disk.specs.declared.fault.PutFault.TheVariants.{NamesTaken}
 
--- At this name no new file is made: it leads to a file, or is the target's own.
-pub record IsPassed (start now : Disk) (name target : List ℕ) : Type 0 where
+-- At this name no new file is made: it leads to a file, or is none, or the target's own.
+pub record IsPassed (start now : Disk) (place : List ℕ → List ℕ) (name target : List ℕ)
+    : Type 0 where
   pub same : IsUnchanged start now
-  pub taken : name ≢ target → start.leads name ≢ None
+  pub taken : IsName name → name ≢ target → start.leads (place name) ≢ None
 
 -- Whatever text was being written to the file, it still is, with these bytes more.
 pub record Adds {F : Type 0} (disk : F → Disk) (old new : F) (beside : List ℕ) (file : ℕ)
@@ -24,9 +27,11 @@ pub record Spoils {F : Type 0} (disk : F → Disk) (old new : F) (beside : List 
       (λ start text. (some : List ℕ) × IsWriting start (disk new) beside target file some mode)
 
 -- whatever the start was since which a text has come to its place
-abbrev pub WhilePlaced : {F : Type 0} → (F → Disk) → F → (Disk → List ℕ → Held → Type 0) → Type 0
-WhilePlaced {F} disk now P = (start : F) (beside target : List ℕ) (text : Held)
-    → IsPlaced (disk start) (disk now) beside target text → P (disk start) target text
+-- of a name in a folder with these places
+abbrev pub WhilePlaced : {F : Type 0} → (F → Disk) → F → (List ℕ → List ℕ)
+    → (Disk → List ℕ → Held → Type 0) → Type 0
+WhilePlaced {F} disk now place P = (start : F) (beside name : List ℕ) (text : Held) → IsName name
+    → IsPlaced (disk start) (disk now) beside (place name) text → P (disk start) (place name) text
 
 -- whatever the start was since which a text has not come to its place
 abbrev pub WhileStuck : {F : Type 0} → (F → Disk) → F → List ℕ

@@ -1,9 +1,12 @@
 -- What writing a text whole makes of a folder. This project's own.
-use Rattle.std.specs.Prelude.{◌≡◌, ◌≢◌, ◌⊎◌, ◌<◌, ◌++◌, ℕ, List, Option, Some, None, Result, Ok}
+use Rattle.std.specs.Prelude.{◌≡◌, ◌≢◌, ◌⊎◌, ◌<◌, ◌++◌, ◌∷◌, [], ℕ, List, Option, Some, None, Result, Ok}
 use Rattle.std.specs.Prelude.{Err}
 use Rattle.std.specs.Fmt.{decimal}
-use Rattle.irig_disk.specs.Disk.{Disk, Held, seen_under, MayLeave}
+use Rattle.irig_disk.specs.Disk.{Disk, IsPlace, seen_under, MayLeave, LeavesOnly}
+use Rattle.irig_disk.specs.Held.{Held}
 use Rattle.irig_disk.specs.Calls.{owner_only}
+use Rattle.irig_disk.specs.Name.{IsName}
+use Rattle.irig_disk.specs.Trail.{Moved, NotMoved, Synced}
 use Rattle.irig_disk.specs.declared.fault.PutFault.{PutFault}
 use Rattle.irig_disk.specs.declared.fault.PutFault.TheVariants.{Memory, NamesTaken, Failed}
 use Rattle.irig_disk.specs.declared.fault.PutFault.TheVariants.{LeftBehind, Remains, NotKept}
@@ -34,6 +37,17 @@ OldOrNewIfThere old target new name c =
 abbrev pub OldIfThere : Disk → List ℕ → List ℕ → Option Held → Type 0
 OldIfThere old target name c = (name ≡ target) ⊎ (old.leads name ≢ None) → MayLeave old name c
 
+-- No write was tried: a crash leaves nothing else than before.
+pub record TriesNone (old new : Disk) (target : List ℕ) : Type 0 where
+  pub log : new.log ≡ old.log
+  pub moments : LeavesOnly old new (OldIfThere old target)
+
+-- none was tried, or one that did not succeed
+abbrev pub TriesOne : Disk → Disk → List ℕ → Held → Type 0
+TriesOne old new target text = TriesNone old new target
+    ⊎ (new.log ≡ old.log ++ Moved target (Some text) ∷ [])
+    ⊎ (new.log ≡ old.log ++ NotMoved target (Some text) ∷ [])
+
 -- under each name is seen what was
 abbrev pub SeenSame : Disk → Disk → Type 0
 SeenSame old new = (n : List ℕ) → seen_under new n ≡ seen_under old n
@@ -52,24 +66,33 @@ pub record IsPut (old new : Disk) (target : List ℕ) (text : Held) : Type 0 whe
 pub record IsKept (old new : Disk) (target : List ℕ) (text : Held) : Type 0 where
   pub put : IsPut old new target text
   pub kept : (c : Option Held) → MayLeave new target c → c ≡ Some text
+  pub log : new.log ≡ old.log ++ Moved target (Some text) ∷ Synced new.moment ∷ []
+  pub paths : IsPlace old target → new.paths ≡ old.paths
+
+-- what a fault leaves to be seen
+abbrev pub SeenAfter : {X : Type 0} → Disk → Disk → List ℕ → Held → PutFault X → Type 0
+SeenAfter old new target text Memory = SeenSame old new
+SeenAfter old new target text NamesTaken = SeenSame old new
+SeenAfter old new target text (Failed _) = SeenSame old new
+SeenAfter old new target text (LeftBehind _ _) = SeenSameIfThere old new target
+SeenAfter old new target text (Remains _) = SeenSameIfThere old new target
+SeenAfter old new target text (NotKept _) = IsPut old new target text
 
 -- what a fault leaves
-abbrev pub AfterFault : {X : Type 0} → Disk → Disk → List ℕ → Held → PutFault X → Type 0
-AfterFault old new target text Memory = SeenSame old new
-AfterFault old new target text NamesTaken = SeenSame old new
-AfterFault old new target text (Failed _) = SeenSame old new
-AfterFault old new target text (LeftBehind _ _) = SeenSameIfThere old new target
-AfterFault old new target text (Remains _) = SeenSameIfThere old new target
-AfterFault old new target text (NotKept _) = IsPut old new target text
+pub record AfterFault {X : Type 0} (old new : Disk) (target : List ℕ) (text : Held)
+    (fault : PutFault X) : Type 0 where
+  pub seen : SeenAfter old new target text fault
+  pub log : TriesOne old new target text
+  pub paths : IsPlace old target → new.paths ≡ old.paths
 
 -- the name of a new file, if this many others were tried before it
 abbrev pub name_after : List ℕ → ℕ → List ℕ
 name_after stem number = stem ++ decimal number
 
--- each of the first names for a new file leads to a file, or is the target's own
-abbrev pub AllTaken : Disk → List ℕ → List ℕ → ℕ → Type 0
-AllTaken disk stem target count =
-    (k : ℕ) → k < count → name_after stem k ≢ target → disk.leads (name_after stem k) ≢ None
+-- each of the first names for a new file leads to a file, or is none, or the target's own
+abbrev pub AllTaken : Disk → (List ℕ → List ℕ) → List ℕ → List ℕ → ℕ → Type 0
+AllTaken disk place stem target count = (k : ℕ) → k < count → IsName (name_after stem k)
+    → name_after stem k ≢ target → disk.leads (place (name_after stem k)) ≢ None
 
 -- what a fault leaves (None: memory ran out), after the new file was to be removed
 abbrev pub left_by : {T X : Type 0} → Option X → Result T X → PutFault X

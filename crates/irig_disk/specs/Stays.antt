@@ -1,6 +1,7 @@
 -- What stays of a folder in a call. This project's own.
 use Rattle.std.specs.Prelude.{◌≡◌, ◌≢◌, ℕ, List, Option}
-use Rattle.irig_disk.specs.Disk.{Disk, Held}
+use Rattle.irig_disk.specs.Disk.{Disk}
+use Rattle.irig_disk.specs.Held.{Held}
 
 -- every name but these two leads where it led, and may be left so
 pub record OtherNamesStay (old new : Disk) (name other : List ℕ) : Type 0 where
@@ -12,6 +13,9 @@ pub record OtherNamesStay (old new : Disk) (name other : List ℕ) : Type 0 wher
 pub record NamesStay (old new : Disk) : Type 0 where
   pub seen : (n : List ℕ) → new.leads n ≡ old.leads n
   pub left : (n : List ℕ) (x : Option ℕ) → new.may_lead n x → old.may_lead n x
+  pub paths : new.paths ≡ old.paths
+  pub regular : (i : ℕ) → old.regular i → new.regular i
+  pub log : new.log ≡ old.log
 
 -- every file but this one holds what it held, and may be left so
 pub record OtherFilesStay (old new : Disk) (file : ℕ) : Type 0 where

@@ -1,6 +1,7 @@
 -- A folder. Nothing is known of it.
 use Rattle.std.specs.Prelude.{ℕ, List, [], Option, Some, None, ◌≤◌}
-use Rattle.irig_disk.specs.Disk.{Disk, Held, MayLeave}
+use Rattle.irig_disk.specs.Disk.{Disk, MayLeave}
+use Rattle.irig_disk.specs.Held.{Held}
 
 -- a state, because one is asked for: no clause speaks of it
 abbrev pub untold : Disk
@@ -12,6 +13,9 @@ untold = record {
   may_hold = λ _ _. ⊥;
   moment = 0;
   left_since = λ _ _ _. ⊥;
+  paths = λ _. None;
+  regular = λ _. ⊥;
+  log = [];
 }
 
 pub untold_now : (t : ℕ) (name : List ℕ) (c : Option Held) → t ≤ untold.moment

@@ -1,8 +1,10 @@
 -- A text that is being written to a new file next to its target. This project's own.
-use Rattle.std.specs.Prelude.{◌≡◌, ◌≢◌, ℕ, List, Option, Some, None}
-use Rattle.irig_disk.specs.Disk.{Disk, Held, seen_under, MayLeave, LeavesOnly}
+use Rattle.std.specs.Prelude.{◌≡◌, ◌≢◌, ◌⊎◌, ℕ, List, [], ◌∷◌, ◌++◌, Option, Some, None}
+use Rattle.irig_disk.specs.Disk.{Disk, IsPlace, seen_under, MayLeave, LeavesOnly}
+use Rattle.irig_disk.specs.Held.{Held}
 use Rattle.irig_disk.specs.Stays.{Stays}
-use Rattle.irig_disk.specs.Put.{OldOrNewIfThere, SeenSame, SeenSameIfThere, IsPut}
+use Rattle.irig_disk.specs.Put.{OldIfThere, TriesNone, TriesOne, OldOrNewIfThere, SeenSame, SeenSameIfThere, IsPut}
+use Rattle.irig_disk.specs.Trail.{Moved, NotMoved}
 use Rattle.irig_disk.specs.declared.fault.PutFault.{PutFault}
 use Rattle.irig_disk.specs.declared.fault.PutFault.TheVariants.{Memory, NamesTaken, Failed}
 use Rattle.irig_disk.specs.declared.fault.PutFault.TheVariants.{LeftBehind, Remains, NotKept}
@@ -23,6 +25,9 @@ pub record IsBeside (start now : Disk) (beside target : List ℕ) (file : ℕ) :
   pub seen : (n : List ℕ) → n ≢ beside → seen_under now n ≡ seen_under start n
   pub left : (n : List ℕ) (c : Option Held) → n ≢ beside → MayLeave now n c → MayLeave start n c
   pub moments : LeavesOnly start now (λ n c. n ≢ beside → MayLeave start n c)
+  pub log : now.log ≡ start.log
+  pub paths : now.paths ≡ start.paths
+  pub regular : now.regular file
 
 -- and it holds this text so far, with this mode
 pub record IsWriting (start now : Disk) (beside target : List ℕ) (file : ℕ) (text : List ℕ)
@@ -32,6 +37,8 @@ pub record IsWriting (start now : Disk) (beside target : List ℕ) (file : ℕ) 
 
 -- The new file has the target's name.
 pub record IsPlaced (start now : Disk) (beside target : List ℕ) (text : Held) : Type 0 where
+  pub log : now.log ≡ start.log ++ Moved target (Some text) ∷ []
+  pub paths : IsPlace start target → now.paths ≡ start.paths
   pub file : ℕ
   pub leads : now.leads target ≡ Some file
   pub holds : now.holds file ≡ text
@@ -43,6 +50,13 @@ pub record IsPlaced (start now : Disk) (beside target : List ℕ) (text : Held) 
 
 -- A call has failed: nothing but the new file next to the target is seen to have changed.
 pub record IsStuck (start now : Disk) (beside target : List ℕ) (text : Held) : Type 0 where
+  pub log : (TriesNone start now target
+      × ((n : List ℕ) (c : Option Held) → MayLeave now n c → OldIfThere start target n c))
+      ⊎ (now.log ≡ start.log ++ NotMoved target (Some text) ∷ [])
+  pub paths : IsPlace start target → now.paths ≡ start.paths
+  pub file : ℕ
+  pub leads : now.leads beside ≡ Some file
+  pub regular : now.regular file
   pub apart : beside ≢ target
   pub was_free : start.leads beside ≡ None
   pub seen : (n : List ℕ) → n ≢ beside → seen_under now n ≡ seen_under start n
@@ -59,14 +73,21 @@ NotBegun old new (LeftBehind _ _) = ⊥
 NotBegun old new (Remains _) = ⊥
 NotBegun old new (NotKept _) = ⊥
 
--- what a write that has begun and has not succeeded leaves
-abbrev pub NotFinished : {X : Type 0} → Disk → Disk → List ℕ → Held → PutFault X → Type 0
-NotFinished old new target text Memory = ⊥
-NotFinished old new target text NamesTaken = ⊥
-NotFinished old new target text (Failed _) = SeenSame old new
-NotFinished old new target text (LeftBehind _ _) = SeenSameIfThere old new target
-NotFinished old new target text (Remains _) = ⊥
-NotFinished old new target text (NotKept _) = IsPut old new target text
+-- what a write that has begun and has not succeeded leaves to be seen
+abbrev pub SeenUnfinished : {X : Type 0} → Disk → Disk → List ℕ → Held → PutFault X → Type 0
+SeenUnfinished old new target text Memory = ⊥
+SeenUnfinished old new target text NamesTaken = ⊥
+SeenUnfinished old new target text (Failed _) = SeenSame old new
+SeenUnfinished old new target text (LeftBehind _ _) = SeenSameIfThere old new target
+SeenUnfinished old new target text (Remains _) = ⊥
+SeenUnfinished old new target text (NotKept _) = IsPut old new target text
+
+-- and what it leaves
+pub record NotFinished {X : Type 0} (old new : Disk) (target : List ℕ) (text : Held)
+    (fault : PutFault X) : Type 0 where
+  pub seen : SeenUnfinished old new target text fault
+  pub log : TriesOne old new target text
+  pub paths : IsPlace old target → new.paths ≡ old.paths
 
 -- whatever the start was since which this text is being written
 abbrev pub WhileWriting : {F : Type 0} → (F → Disk) → F → List ℕ → List ℕ → ℕ → ℕ

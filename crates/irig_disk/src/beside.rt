@@ -4,6 +4,7 @@ ghost use Rattle.std.specs.Prelude.{◌≡◌, ◌≢◌, ◌↔◌, [], string_
 ghost use Rattle.std.specs.Prelude.{OnOk, IsErrOf, IsTrue};
 ghost use Rattle.irig_disk.specs.declared.fault.PutFault.TheVariants.{NamesTaken};
 ghost use Rattle.irig_disk.specs.declared.new_text.TheConstants.{NAMES};
+ghost use Rattle.irig_disk.specs.Name.{IsName};
 ghost use Rattle.irig_disk.specs.Put.{AllTaken, name_after};
 ghost use Rattle.irig_disk.specs.Writing.{IsWriting, NotBegun, IsUnchanged};
 ghost use Rattle.irig_disk.specs.Parts.{IsPassed};
@@ -11,26 +12,30 @@ ghost use Rattle.irig_disk.specs.Calls.{mode_made};
 
 use crate::fault::PutFault;
 use crate::folder::Folder;
+use crate::name::is_name;
 use crate::new_text::NAMES;
 use std::alloc::AllocError;
 
 /// Makes a new file, under the first name that is free and is not the target's.
 pub(crate) fn make_beside<F: Folder>(
     folder: &mut F,
+    dir: &F::Dir,
     name: &mut String,
     target: &str,
     stem: &str,
     hidden: bool,
 ) -> Result<F::File, PutFault<F::Fault>>
-    ensures ok { F.is_told → IfOk result (λ file. IsWriting (F.disk folder.old)
-        (F.disk folder.new) (string_bytes name.new) target.now (F.number file) []
+    requires { IsName target.now }
+    ensures ok { IsTrue F.is_told → IfOk result (λ file. IsWriting (F.disk folder.old)
+        (F.disk folder.new) (F.place dir.now (string_bytes name.new))
+        (F.place dir.now target.now) (F.number file) []
         (mode_made F.usual_mode hidden)) }
-    ensures err { F.is_told → IfErr result (NotBegun (F.disk folder.old) (F.disk folder.new)) }
-    ensures taken { F.is_told → IsErrOf result NamesTaken
-        → AllTaken (F.disk folder.old) stem.now target.now NAMES }
+    ensures err { IsTrue F.is_told → IfErr result (NotBegun (F.disk folder.old) (F.disk folder.new)) }
+    ensures taken { IsTrue F.is_told → IsErrOf result NamesTaken
+        → AllTaken (F.disk folder.old) (F.place dir.now) stem.now target.now NAMES }
 {
     for number in 0..NAMES {
-        match make_at(folder, name, target, stem, number, hidden) {
+        match make_at(folder, dir, name, target, stem, number, hidden) {
             Ok(None) => {}
             Ok(Some(file)) => return Ok(file),
             Err(fault) => return Err(fault),
@@ -42,23 +47,26 @@ pub(crate) fn make_beside<F: Folder>(
 /// Makes a new file, under the name with a number, if that is free and is not the target's.
 fn make_at<F: Folder>(
     folder: &mut F,
+    dir: &F::Dir,
     name: &mut String,
     target: &str,
     stem: &str,
     number: u32,
     hidden: bool,
 ) -> Result<Option<F::File>, PutFault<F::Fault>>
-    ensures ok { F.is_told → (start : F) → IsUnchanged (F.disk start) (F.disk folder.old)
+    requires { IsName target.now }
+    ensures ok { IsTrue F.is_told → (start : F) → IsUnchanged (F.disk start) (F.disk folder.old)
         → IfOk result (λ made. MatchOption made (IsPassed (F.disk start) (F.disk folder.new)
-        (name_after stem.now number) target.now) (λ file. IsWriting (F.disk start)
-        (F.disk folder.new) (string_bytes name.new) target.now (F.number file) []
+        (F.place dir.now) (name_after stem.now number) target.now) (λ file. IsWriting (F.disk start)
+        (F.disk folder.new) (F.place dir.now (string_bytes name.new))
+        (F.place dir.now target.now) (F.number file) []
         (mode_made F.usual_mode hidden))) }
-    ensures err { F.is_told → (start : F) → IsUnchanged (F.disk start) (F.disk folder.old)
+    ensures err { IsTrue F.is_told → (start : F) → IsUnchanged (F.disk start) (F.disk folder.old)
         → IfErr result (NotBegun (F.disk start) (F.disk folder.new)) }
     ensures untaken { IsErrOf result NamesTaken → ⊥ }
 {
     match put_name(name, target, stem, number) {
-        Ok(true) => match folder.make(name.as_str(), hidden) {
+        Ok(true) => match folder.make(dir, name.as_str(), hidden) {
             Ok(made) => Ok(made),
             Err(fault) => Err(PutFault::Failed(fault)),
         },
@@ -68,14 +76,15 @@ fn make_at<F: Folder>(
 }
 
 /// Writes the name of a new file: the stem, and how many others were tried before it. Returns
-/// whether it is not the target's own.
+/// whether it is one, and not the target's own.
 fn put_name(name: &mut String, target: &str, stem: &str, number: u32) -> Result<bool, AllocError>
     ensures name { OnOk result (string_bytes name.new ≡ name_after stem.now number) }
-    ensures apart { IfOk result (λ apart. IsTrue apart ↔ string_bytes name.new ≢ target.now) }
+    ensures apart { IfOk result (λ apart. IsTrue apart
+        ↔ (IsName (string_bytes name.new) × (string_bytes name.new ≢ target.now))) }
 {
     name.clear();
     match write!(name, "{stem}{number}") {
-        Ok(()) => Ok(name.as_str() != target),
+        Ok(()) => Ok(is_name(name.as_str()) && name.as_str() != target),
         Err(error) => Err(error),
     }
 }

@@ -1,18 +1,24 @@
-//! Single system calls on the names of one folder.
+//! Single system calls on the names of open folders.
 
-ghost use Rattle.std.specs.Prelude.{◌≡◌, ◌≤◌, ℕ, List, Option, OnOk, OnErr, MatchResult};
-ghost use Rattle.std.specs.Prelude.{MatchOption};
-ghost use Rattle.irig_disk.specs.Disk.{Disk, Held, Elapses, MayLeave};
+ghost use Rattle.std.specs.Prelude.{◌≡◌, ◌≤◌, ◌⊎◌, ℕ, List, Option, OnOk, OnErr, MatchResult};
+ghost use Rattle.std.specs.Prelude.{Bool, IsTrue, MatchOption};
+ghost use Rattle.irig_disk.specs.Disk.{Disk, Elapses, MayLeave};
+ghost use Rattle.irig_disk.specs.Held.{Held};
+ghost use Rattle.irig_disk.specs.Name.{IsName};
 ghost use Rattle.irig_disk.specs.Stays.{Stays};
 ghost use Rattle.irig_disk.specs.Calls.{Made, IsTaken, Wrote, WroteSome, TookMode, SyncedFile};
 ghost use Rattle.irig_disk.specs.Calls.{MaySpoil, SyncedNames, mode_made};
-ghost use Rattle.irig_disk.specs.Moves.{Moved, NotMoved, Removed, NotRemoved};
+ghost use Rattle.irig_disk.specs.Moves.{IsMoved, IsNotMoved, Removed, NotRemoved};
 
-/// The names of one folder. Each method is one call, and says what a crash may leave of it.
+/// The names of open folders. Each method is one call, and says what a crash may leave of it. A name
+/// has one component; what a longer path leads to no clause says.
 ///
 /// A call that succeeds gives a value of a type that only that call makes, so that nobody can say
 /// of a call that was never made that it succeeded.
 pub trait Folder {
+    /// An open folder.
+    type Dir: Drop;
+
     /// A new file that is open. Only `make` gives one.
     type File: Drop;
 
@@ -38,7 +44,7 @@ pub trait Folder {
     type Fault: Drop;
 
     /// Whether the contracts give the state below. If they do not, no clause says anything.
-    ghost is_told: { Type 0 };
+    ghost is_told: { Bool };
 
     /// The mode of a new file that is not hidden.
     ghost usual_mode: { ℕ };
@@ -46,64 +52,86 @@ pub trait Folder {
     /// What is seen, and what a crash may leave.
     ghost disk: { Self → Disk };
 
+    /// The place that a name in a folder is.
+    ghost place: { Self.Dir → List ℕ → List ℕ };
+
     /// The number of an open file.
     ghost number: { Self.File → ℕ };
 
     /// Makes a new file under a name if it is free; a hidden one is its owner's alone. `None`: the
     /// name is taken.
-    fn make(&mut self, name: &str, hidden: bool) -> Result<Option<Self::File>, Self::Fault>
-        ensures done { is_told → MatchResult result
-            (λ file. MatchOption file (IsTaken (disk self.old) (disk self.new) name.now)
-            (λ file. Made (disk self.old) (disk self.new) name.now (number file)
-            (mode_made usual_mode hidden)))
+    fn make(
+        &mut self,
+        dir: &Self::Dir,
+        name: &str,
+        hidden: bool,
+    ) -> Result<Option<Self::File>, Self::Fault>
+        ensures done { IsTrue is_told → MatchResult result
+            (λ file. MatchOption file (IsTaken (disk self.old) (disk self.new)
+            (place dir.now name.now))
+            (λ file. Made (disk self.old) (disk self.new) (place dir.now name.now)
+            (number file) (mode_made usual_mode hidden)))
             (λ _. Stays (disk self.old) (disk self.new)) }
-        ensures time { is_told → Elapses (disk self.old) (disk self.new) };
+        ensures time { IsTrue is_told → Elapses (disk self.old) (disk self.new) };
 
     /// Writes to the end of the file. A call that fails may have written a part.
     fn append(&mut self, file: &mut Self::File, bytes: &[u8]) -> Result<Self::Appended, Self::Fault>
-        ensures ok { is_told → OnOk result
+        ensures ok { IsTrue is_told → OnOk result
             (Wrote (disk self.old) (disk self.new) (number file.old) bytes.now) }
-        ensures err { is_told → OnErr result
+        ensures err { IsTrue is_told → OnErr result
             (WroteSome (disk self.old) (disk self.new) (number file.old) bytes.now) }
         ensures same { number file.new ≡ number file.old }
-        ensures time { is_told → Elapses (disk self.old) (disk self.new) };
+        ensures time { IsTrue is_told → Elapses (disk self.old) (disk self.new) };
 
     /// Gives the file a mode.
     fn take_mode(&mut self, file: &Self::File, mode: u32) -> Result<Self::ModeTaken, Self::Fault>
-        ensures ok { is_told → OnOk result
+        ensures ok { IsTrue is_told → OnOk result
             (TookMode (disk self.old) (disk self.new) (number file.now) mode) }
-        ensures err { is_told → OnErr result
+        ensures err { IsTrue is_told → OnErr result
             (MaySpoil (disk self.old) (disk self.new) (number file.now)) }
-        ensures time { is_told → Elapses (disk self.old) (disk self.new) };
+        ensures time { IsTrue is_told → Elapses (disk self.old) (disk self.new) };
 
     /// Keeps what the file holds: after it, a crash leaves that.
     fn sync_file(&mut self, file: &Self::File) -> Result<Self::FileSynced, Self::Fault>
-        ensures ok { is_told → OnOk result
+        ensures ok { IsTrue is_told → OnOk result
             (SyncedFile (disk self.old) (disk self.new) (number file.now)) }
-        ensures err { is_told → OnErr result
+        ensures err { IsTrue is_told → OnErr result
             (MaySpoil (disk self.old) (disk self.new) (number file.now)) }
-        ensures time { is_told → Elapses (disk self.old) (disk self.new) };
+        ensures time { IsTrue is_told → Elapses (disk self.old) (disk self.new) };
 
     /// Gives a file another name, instead of the file that had it.
-    fn rename(&mut self, from: &str, to: &str) -> Result<Self::Renamed, Self::Fault>
-        ensures ok { is_told → OnOk result
-            (Moved (disk self.old) (disk self.new) from.now to.now) }
-        ensures err { is_told → OnErr result
-            (NotMoved (disk self.old) (disk self.new) from.now to.now) }
-        ensures time { is_told → Elapses (disk self.old) (disk self.new) };
+    fn rename(
+        &mut self,
+        dir: &Self::Dir,
+        from: &str,
+        to: &str,
+    ) -> Result<Self::Renamed, Self::Fault>
+        ensures ok { IsTrue is_told → OnOk result
+            (IsMoved (disk self.old) (disk self.new)
+            (place dir.now from.now) (place dir.now to.now)) }
+        ensures err { IsTrue is_told → OnErr result (Stays (disk self.old) (disk self.new)
+            ⊎ IsNotMoved (disk self.old) (disk self.new) (place dir.now from.now)
+            (place dir.now to.now)) }
+        ensures time { IsTrue is_told → Elapses (disk self.old) (disk self.new) };
 
     /// Frees a name.
-    fn remove(&mut self, name: &str) -> Result<Self::NameRemoved, Self::Fault>
-        ensures ok { is_told → OnOk result (Removed (disk self.old) (disk self.new) name.now) }
-        ensures err { is_told → OnErr result
-            (NotRemoved (disk self.old) (disk self.new) name.now) }
-        ensures time { is_told → Elapses (disk self.old) (disk self.new) };
+    fn remove(&mut self, dir: &Self::Dir, name: &str) -> Result<Self::NameRemoved, Self::Fault>
+        ensures ok { IsTrue is_told → OnOk result
+            (Removed (disk self.old) (disk self.new) (place dir.now name.now)) }
+        ensures err { IsTrue is_told → OnErr result
+            (NotRemoved (disk self.old) (disk self.new) (place dir.now name.now)) }
+        ensures time { IsTrue is_told → Elapses (disk self.old) (disk self.new) };
 
-    /// Keeps the names: after it, a crash leaves each as it is seen.
-    fn sync_names(&mut self) -> Result<Self::NamesSynced, Self::Fault>
-        ensures ok { is_told → OnOk result (SyncedNames (disk self.old) (disk self.new)) }
-        ensures err { is_told → OnErr result (Stays (disk self.old) (disk self.new)) }
-        ensures time { is_told → Elapses (disk self.old) (disk self.new) };
+    /// Keeps the names in a folder: after it, a crash leaves each as it is seen.
+    fn sync_names(&mut self, dir: &Self::Dir) -> Result<Self::NamesSynced, Self::Fault>
+        ensures ok { IsTrue is_told → OnOk result
+            (SyncedNames (disk self.old) (disk self.new) (place dir.now)) }
+        ensures err { IsTrue is_told → OnErr result (Stays (disk self.old) (disk self.new)) }
+        ensures time { IsTrue is_told → Elapses (disk self.old) (disk self.new) };
+
+    /// Two names in a folder are two places.
+    ghost apart: { (dir : Self.Dir) (a : List ℕ) (b : List ℕ) → IsName a → IsName b
+        → place dir a ≡ place dir b → a ≡ b };
 
     /// This moment is one of those since an earlier one.
     ghost counts_now: { (folder : Self) (t : ℕ) (name : List ℕ) (c : Option Held)

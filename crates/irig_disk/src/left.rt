@@ -1,7 +1,7 @@
 //! What a crash may leave of a folder in memory, for tests.
 
 ghost use Rattle.std.specs.Prelude.{◌≡◌, ◌++◌, IfOk, IsTrue};
-ghost use Rattle.irig_disk.specs.Disk.{Held};
+ghost use Rattle.irig_disk.specs.Held.{Held};
 ghost use Rattle.irig_disk.specs.Log.{holds_in, may_hold_in};
 
 use crate::call::Call;

@@ -1,7 +1,7 @@
 //! A folder in memory, for tests. It is the log of the calls that were done on it, the newest
 //! first.
 
-ghost use Rattle.std.specs.Prelude.{◌≡◌, ◌↔◌, ◌≤◌, ◌<◌, ◌∷◌, ◌+◌, ◌-◌, ◌^◌, [], List, false, None};
+ghost use Rattle.std.specs.Prelude.{◌≡◌, ◌↔◌, ◌≤◌, ◌<◌, ◌∷◌, ◌+◌, ◌-◌, ◌^◌, [], List, false, true, None};
 ghost use Rattle.std.specs.Prelude.{OnOk, OnErr, IfOk, IfErr, IsTrue, MatchOption, min, vec_len};
 ghost use Rattle.std.specs.Prelude.{vec_capacity};
 ghost use Rattle.irig_disk.specs.Calls.{Made};
@@ -152,6 +152,8 @@ impl Memory {
 }
 
 impl Folder for Memory {
+    type Dir = ();
+
     type File = MemoryFile;
 
     type Appended = ();
@@ -168,19 +170,28 @@ impl Folder for Memory {
 
     type Fault = MemoryFault;
 
-    ghost is_told = { Unit {0} };
+    ghost is_told = { true };
 
     ghost usual_mode = { USUAL };
 
     ghost disk = { λ folder. disk_of folder.calls.items };
 
+    ghost place = { λ _ name. name };
+
     ghost number = { λ file. file.number };
+
+    ghost apart = { λ _ _ _ _ _ same. same };
 
     ghost counts_now = { λ folder. log_counts_now folder.calls.items };
 
     ghost only_now = { λ folder. log_only_now folder.calls.items };
 
-    fn make(&mut self, name: &str, hidden: bool) -> Result<Option<MemoryFile>, MemoryFault> {
+    fn make(
+        &mut self,
+        _: &(),
+        name: &str,
+        hidden: bool,
+    ) -> Result<Option<MemoryFile>, MemoryFault> {
         if self.is_planned() {
             return Err(MemoryFault::Planned);
         }
@@ -215,7 +226,7 @@ impl Folder for Memory {
         add(&mut self.calls, Call::SyncFile(file.number))
     }
 
-    fn rename(&mut self, from: &str, to: &str) -> Result<(), MemoryFault> {
+    fn rename(&mut self, _: &(), from: &str, to: &str) -> Result<(), MemoryFault> {
         if self.is_planned() {
             return Err(MemoryFault::Planned);
         }
@@ -227,7 +238,7 @@ impl Folder for Memory {
         add(&mut self.calls, Call::Rename(old_name, new_name))
     }
 
-    fn remove(&mut self, name: &str) -> Result<(), MemoryFault> {
+    fn remove(&mut self, _: &(), name: &str) -> Result<(), MemoryFault> {
         if self.is_planned() {
             return Err(MemoryFault::Planned);
         }
@@ -238,7 +249,7 @@ impl Folder for Memory {
         add(&mut self.calls, Call::Remove(gone))
     }
 
-    fn sync_names(&mut self) -> Result<(), MemoryFault> {
+    fn sync_names(&mut self, _: &()) -> Result<(), MemoryFault> {
         if self.is_planned() {
             return Err(MemoryFault::Planned);
         }

@@ -1,9 +1,10 @@
 //! A text of a target, in parts, written whole.
 
 ghost use Rattle.std.specs.Prelude.{◌≡◌, ◌++◌, ◌+◌, ◌-◌, ◌^◌, ℕ, List, [], length, min, take};
-ghost use Rattle.std.specs.Prelude.{IfOk, IfErr, OnOk, OnErr, IsErrOf};
+ghost use Rattle.std.specs.Prelude.{IfOk, IfErr, OnOk, OnErr, IsErrOf, IsTrue};
 ghost use Rattle.irig_disk.specs.Disk.{LeavesOnly};
 ghost use Rattle.irig_disk.specs.declared.fault.PutFault.TheVariants.{NamesTaken};
+ghost use Rattle.irig_disk.specs.Name.{IsName};
 ghost use Rattle.irig_disk.specs.Put.{OldIfThere, OldOrNewIfThere, SeenSame, SeenSameIfThere};
 ghost use Rattle.irig_disk.specs.Put.{IsKept, AllTaken, held, first_mode, last_mode};
 ghost use Rattle.irig_disk.specs.Writing.{NotFinished, IsBeside, IsWriting, IsPlaced, IsStuck};
@@ -22,6 +23,7 @@ pub(crate) const NAMES: u32 = 10_000;
 #[derive(Drop)]
 pub struct NewText<'n, F: Folder> {
     file: F::File,
+    dir: &'n F::Dir,
     beside: &'n str,
     target: &'n str,
     mode: Option<u32>,
@@ -33,25 +35,30 @@ impl<'n, F: Folder> NewText<'n, F> {
     /// is written to `name`. If it is to take a mode it is its owner's alone until then.
     pub fn begin(
         folder: &mut F,
+        dir: &'n F::Dir,
         name: &'n mut String,
         target: &'n str,
         stem: &str,
         mode: Option<u32>,
     ) -> Result<Self, PutFault<F::Fault>>
+        requires { IsName target.now }
+        ensures dir { IfOk result (λ new. new.dir.now ≡ dir.now) }
         ensures target { IfOk result (λ new. new.target.now ≡ target.now) }
         ensures mode { IfOk result (λ new. new.mode ≡ mode) }
         ensures count { IfOk result (λ new. new.count ≡ 0) }
-        ensures ok { F.is_told → IfOk result (λ new. IsWriting (F.disk folder.old)
-            (F.disk folder.new) new.beside.now target.now (F.number new.file) []
+        ensures ok { IsTrue F.is_told → IfOk result (λ new. IsWriting (F.disk folder.old)
+            (F.disk folder.new) (F.place dir.now new.beside.now) (F.place dir.now target.now)
+            (F.number new.file) []
             (first_mode F.usual_mode mode)) }
-        ensures err { F.is_told → IfErr result
+        ensures err { IsTrue F.is_told → IfErr result
             (NotBegun (F.disk folder.old) (F.disk folder.new)) }
-        ensures taken { F.is_told → IsErrOf result NamesTaken
-            → AllTaken (F.disk folder.old) stem.now target.now NAMES }
+        ensures taken { IsTrue F.is_told → IsErrOf result NamesTaken
+            → AllTaken (F.disk folder.old) (F.place dir.now) stem.now target.now NAMES }
     {
-        match make_beside(folder, name, target, stem, mode.is_some()) {
+        match make_beside(folder, dir, name, target, stem, mode.is_some()) {
             Ok(file) => Ok(NewText {
                 file,
+                dir,
                 beside: name.as_str(),
                 target,
                 mode,
@@ -63,20 +70,22 @@ impl<'n, F: Folder> NewText<'n, F> {
 
     /// Writes a part, and counts its bytes, up to 2^64 - 1 in all. After a fault, give the text up.
     pub fn append(&mut self, folder: &mut F, part: &[u8]) -> Result<F::Appended, F::Fault>
+        ensures dir { self.new.dir.now ≡ self.old.dir.now }
         ensures beside { self.new.beside.now ≡ self.old.beside.now }
         ensures target { self.new.target.now ≡ self.old.target.now }
         ensures mode { self.new.mode ≡ self.old.mode }
         ensures file { F.number self.new.file ≡ F.number self.old.file }
         ensures count { OnOk result
             (self.new.count ≡ min (self.old.count + length part.now) (2 ^ 64 - 1)) }
-        ensures ok { F.is_told → (target : List ℕ) (mode : ℕ) → WhileWriting F.disk folder.old
-            self.old.beside.now target (F.number self.old.file) mode (λ start text.
-            OnOk result (IsWriting start (F.disk folder.new) self.old.beside.now target
+        ensures ok { IsTrue F.is_told → (target : List ℕ) (mode : ℕ) → WhileWriting F.disk folder.old
+            (F.place self.old.dir.now self.old.beside.now) target (F.number self.old.file) mode (λ start text.
+            OnOk result (IsWriting start (F.disk folder.new)
+            (F.place self.old.dir.now self.old.beside.now) target
             (F.number self.old.file) (text ++ part.now) mode)) }
-        ensures err { F.is_told → (target : List ℕ) (mode : ℕ) → WhileWriting F.disk folder.old
-            self.old.beside.now target (F.number self.old.file) mode (λ start text.
+        ensures err { IsTrue F.is_told → (target : List ℕ) (mode : ℕ) → WhileWriting F.disk folder.old
+            (F.place self.old.dir.now self.old.beside.now) target (F.number self.old.file) mode (λ start text.
             OnErr result ((n : ℕ) × IsWriting start (F.disk folder.new)
-            self.old.beside.now target (F.number self.old.file)
+            (F.place self.old.dir.now self.old.beside.now) target (F.number self.old.file)
             (text ++ take n part.now) mode)) }
     {
         let appended = folder.append(&mut self.file, part)?;
@@ -86,81 +95,88 @@ impl<'n, F: Folder> NewText<'n, F> {
 
     /// Gives the text its mode and its name, and keeps both.
     pub fn finish(self, folder: &mut F) -> Result<Kept, PutFault<F::Fault>>
-        ensures ok { F.is_told → WhileWriting F.disk folder.old self.entry.beside.now
-            self.entry.target.now (F.number self.entry.file)
+        requires { IsName self.target.now }
+        ensures ok { IsTrue F.is_told → WhileWriting F.disk folder.old (F.place self.entry.dir.now self.entry.beside.now)
+            (F.place self.entry.dir.now self.entry.target.now) (F.number self.entry.file)
             (first_mode F.usual_mode self.entry.mode)
             (λ start text. OnOk result (IsKept start (F.disk folder.new)
-            self.entry.target.now (held F.usual_mode self.entry.mode text))) }
-        ensures err { F.is_told → WhileWriting F.disk folder.old self.entry.beside.now
-            self.entry.target.now (F.number self.entry.file)
+            (F.place self.entry.dir.now self.entry.target.now) (held F.usual_mode self.entry.mode text))) }
+        ensures err { IsTrue F.is_told → WhileWriting F.disk folder.old (F.place self.entry.dir.now self.entry.beside.now)
+            (F.place self.entry.dir.now self.entry.target.now) (F.number self.entry.file)
             (first_mode F.usual_mode self.entry.mode)
             (λ start text. IfErr result (NotFinished start (F.disk folder.new)
-            self.entry.target.now (held F.usual_mode self.entry.mode text))) }
-        ensures any_moment { F.is_told → WhileWriting F.disk folder.old self.entry.beside.now
-            self.entry.target.now (F.number self.entry.file)
+            (F.place self.entry.dir.now self.entry.target.now) (held F.usual_mode self.entry.mode text))) }
+        ensures any_moment { IsTrue F.is_told → WhileWriting F.disk folder.old (F.place self.entry.dir.now self.entry.beside.now)
+            (F.place self.entry.dir.now self.entry.target.now) (F.number self.entry.file)
             (first_mode F.usual_mode self.entry.mode)
             (λ start text. LeavesOnly start (F.disk folder.new) (OldOrNewIfThere start
-            self.entry.target.now (held F.usual_mode self.entry.mode text))) }
+            (F.place self.entry.dir.now self.entry.target.now) (held F.usual_mode self.entry.mode text))) }
         ensures count { IfOk result (λ kept. kept.count ≡ self.entry.count) }
     {
         match place_or_clear(folder, &self) {
-            Ok(()) => keep(folder, self.count),
+            Ok(()) => keep(folder, self.dir, self.count),
             Err(fault) => Err(fault),
         }
     }
 
     /// Removes the new file.
     pub fn give_up(self, folder: &mut F) -> Result<F::NameRemoved, F::Fault>
-        ensures ok { F.is_told → (mode : ℕ) → WhileWriting F.disk folder.old
-            self.entry.beside.now self.entry.target.now (F.number self.entry.file) mode
+        ensures ok { IsTrue F.is_told → (mode : ℕ) → WhileWriting F.disk folder.old
+            (F.place self.entry.dir.now self.entry.beside.now) (F.place self.entry.dir.now self.entry.target.now) (F.number self.entry.file) mode
             (λ start text. OnOk result (SeenSame start (F.disk folder.new))) }
-        ensures err { F.is_told → (mode : ℕ) → WhileWriting F.disk folder.old
-            self.entry.beside.now self.entry.target.now (F.number self.entry.file) mode
+        ensures err { IsTrue F.is_told → (mode : ℕ) → WhileWriting F.disk folder.old
+            (F.place self.entry.dir.now self.entry.beside.now) (F.place self.entry.dir.now self.entry.target.now) (F.number self.entry.file) mode
             (λ start text. OnErr result
-            (SeenSameIfThere start (F.disk folder.new) self.entry.target.now)) }
-        ensures any_moment { F.is_told → (mode : ℕ) → WhileWriting F.disk folder.old
-            self.entry.beside.now self.entry.target.now (F.number self.entry.file) mode
+            (SeenSameIfThere start (F.disk folder.new)
+            (F.place self.entry.dir.now self.entry.target.now))) }
+        ensures rest { IsTrue F.is_told → (mode : ℕ) → WhileWriting F.disk folder.old
+            (F.place self.entry.dir.now self.entry.beside.now)
+            (F.place self.entry.dir.now self.entry.target.now) (F.number self.entry.file) mode
+            (λ start text. ((F.disk folder.new).log ≡ start.log)
+            × ((F.disk folder.new).paths ≡ start.paths)) }
+        ensures any_moment { IsTrue F.is_told → (mode : ℕ) → WhileWriting F.disk folder.old
+            (F.place self.entry.dir.now self.entry.beside.now) (F.place self.entry.dir.now self.entry.target.now) (F.number self.entry.file) mode
             (λ start text. LeavesOnly start (F.disk folder.new)
-            (OldIfThere start self.entry.target.now)) }
+            (OldIfThere start (F.place self.entry.dir.now self.entry.target.now))) }
     {
-        folder.remove(self.beside)
+        folder.remove(self.dir, self.beside)
     }
 }
 
 /// Gives a text its mode and its name, or removes its file.
 fn place_or_clear<F: Folder>(folder: &mut F, new: &NewText<'_, F>) -> Result<(), PutFault<F::Fault>>
-    ensures ok { F.is_told → WhileWriting F.disk folder.old new.now.beside.now new.now.target.now
+    ensures ok { IsTrue F.is_told → WhileWriting F.disk folder.old (F.place new.now.dir.now new.now.beside.now) (F.place new.now.dir.now new.now.target.now)
         (F.number new.now.file) (first_mode F.usual_mode new.now.mode) (λ start text.
-        OnOk result (IsPlaced start (F.disk folder.new) new.now.beside.now new.now.target.now
+        OnOk result (IsPlaced start (F.disk folder.new) (F.place new.now.dir.now new.now.beside.now) (F.place new.now.dir.now new.now.target.now)
         (held F.usual_mode new.now.mode text))) }
-    ensures err { F.is_told → WhileWriting F.disk folder.old new.now.beside.now new.now.target.now
+    ensures err { IsTrue F.is_told → WhileWriting F.disk folder.old (F.place new.now.dir.now new.now.beside.now) (F.place new.now.dir.now new.now.target.now)
         (F.number new.now.file) (first_mode F.usual_mode new.now.mode) (λ start text.
-        IfErr result (NotFinished start (F.disk folder.new) new.now.target.now
+        IfErr result (NotFinished start (F.disk folder.new) (F.place new.now.dir.now new.now.target.now)
         (held F.usual_mode new.now.mode text))) }
-    ensures any_moment { F.is_told → WhileWriting F.disk folder.old new.now.beside.now
-        new.now.target.now (F.number new.now.file) (first_mode F.usual_mode new.now.mode)
+    ensures any_moment { IsTrue F.is_told → WhileWriting F.disk folder.old (F.place new.now.dir.now new.now.beside.now)
+        (F.place new.now.dir.now new.now.target.now) (F.number new.now.file) (first_mode F.usual_mode new.now.mode)
         (λ start text. OnErr result (LeavesOnly start (F.disk folder.new) (OldOrNewIfThere start
-        new.now.target.now (held F.usual_mode new.now.mode text)))) }
+        (F.place new.now.dir.now new.now.target.now) (held F.usual_mode new.now.mode text)))) }
 {
     match place(folder, new) {
         Ok(_) => Ok(()),
-        Err(fault) => Err(clear(folder, new.beside, fault)),
+        Err(fault) => Err(clear(folder, new.dir, new.beside, fault)),
     }
 }
 
 /// Gives a new file the mode, syncs it and renames it.
 fn place<F: Folder>(folder: &mut F, new: &NewText<'_, F>) -> Result<F::Renamed, F::Fault>
-    ensures ok { F.is_told → WhileWriting F.disk folder.old new.now.beside.now new.now.target.now
+    ensures ok { IsTrue F.is_told → WhileWriting F.disk folder.old (F.place new.now.dir.now new.now.beside.now) (F.place new.now.dir.now new.now.target.now)
         (F.number new.now.file) (first_mode F.usual_mode new.now.mode) (λ start text.
-        OnOk result (IsPlaced start (F.disk folder.new) new.now.beside.now new.now.target.now
+        OnOk result (IsPlaced start (F.disk folder.new) (F.place new.now.dir.now new.now.beside.now) (F.place new.now.dir.now new.now.target.now)
         (held F.usual_mode new.now.mode text))) }
-    ensures err { F.is_told → WhileWriting F.disk folder.old new.now.beside.now new.now.target.now
+    ensures err { IsTrue F.is_told → WhileWriting F.disk folder.old (F.place new.now.dir.now new.now.beside.now) (F.place new.now.dir.now new.now.target.now)
         (F.number new.now.file) (first_mode F.usual_mode new.now.mode) (λ start text.
-        OnErr result (IsStuck start (F.disk folder.new) new.now.beside.now new.now.target.now
+        OnErr result (IsStuck start (F.disk folder.new) (F.place new.now.dir.now new.now.beside.now) (F.place new.now.dir.now new.now.target.now)
         (held F.usual_mode new.now.mode text))) }
 {
     match give_mode(folder, &new.file, new.mode) {
-        Ok(()) => rename_synced(folder, &new.file, new.beside, new.target),
+        Ok(()) => rename_synced(folder, &new.file, new.dir, new.beside, new.target),
         Err(fault) => Err(fault),
     }
 }
@@ -169,29 +185,30 @@ fn place<F: Folder>(folder: &mut F, new: &NewText<'_, F>) -> Result<F::Renamed, 
 fn rename_synced<F: Folder>(
     folder: &mut F,
     file: &F::File,
+    dir: &F::Dir,
     beside: &str,
     target: &str,
 ) -> Result<F::Renamed, F::Fault>
-    ensures ok { F.is_told → (mode : ℕ) → WhileWriting F.disk folder.old beside.now target.now
+    ensures ok { IsTrue F.is_told → (mode : ℕ) → WhileWriting F.disk folder.old (F.place dir.now beside.now) (F.place dir.now target.now)
         (F.number file.now) mode (λ start text. OnOk result (IsPlaced start (F.disk folder.new)
-        beside.now target.now (record { bytes = text; mode = mode }))) }
-    ensures err { F.is_told → (mode : ℕ) → WhileWriting F.disk folder.old beside.now target.now
+        (F.place dir.now beside.now) (F.place dir.now target.now) (record { bytes = text; mode = mode }))) }
+    ensures err { IsTrue F.is_told → (mode : ℕ) → WhileWriting F.disk folder.old (F.place dir.now beside.now) (F.place dir.now target.now)
         (F.number file.now) mode (λ start text. OnErr result (IsStuck start (F.disk folder.new)
-        beside.now target.now (record { bytes = text; mode = mode }))) }
+        (F.place dir.now beside.now) (F.place dir.now target.now) (record { bytes = text; mode = mode }))) }
 {
     match folder.sync_file(file) {
-        Ok(_) => folder.rename(beside, target),
+        Ok(_) => folder.rename(dir, beside, target),
         Err(fault) => Err(fault),
     }
 }
 
 /// Gives a new file the mode, if there is one.
 fn give_mode<F: Folder>(folder: &mut F, file: &F::File, mode: Option<u32>) -> Result<(), F::Fault>
-    ensures ok { F.is_told → (beside : List ℕ) (target : List ℕ) → WhileWriting F.disk folder.old
+    ensures ok { IsTrue F.is_told → (beside : List ℕ) (target : List ℕ) → WhileWriting F.disk folder.old
         beside target (F.number file.now) (first_mode F.usual_mode mode) (λ start text.
         OnOk result (IsWriting start (F.disk folder.new) beside target (F.number file.now) text
         (last_mode F.usual_mode mode))) }
-    ensures err { F.is_told → (beside : List ℕ) (target : List ℕ) → WhileWriting F.disk folder.old
+    ensures err { IsTrue F.is_told → (beside : List ℕ) (target : List ℕ) → WhileWriting F.disk folder.old
         beside target (F.number file.now) (first_mode F.usual_mode mode) (λ start text.
         OnErr result (IsBeside start (F.disk folder.new) beside target (F.number file.now))) }
 {
@@ -205,28 +222,33 @@ fn give_mode<F: Folder>(folder: &mut F, file: &F::File, mode: Option<u32>) -> Re
 }
 
 /// Keeps the names of a text that has its place, with a count of its bytes.
-fn keep<F: Folder>(folder: &mut F, count: u64) -> Result<Kept, PutFault<F::Fault>>
-    ensures ok { F.is_told → WhilePlaced F.disk folder.old (λ start target text. OnOk result
+fn keep<F: Folder>(folder: &mut F, dir: &F::Dir, count: u64) -> Result<Kept, PutFault<F::Fault>>
+    ensures ok { IsTrue F.is_told → WhilePlaced F.disk folder.old (F.place dir.now) (λ start target text. OnOk result
         (IsKept start (F.disk folder.new) target text)) }
-    ensures err { F.is_told → WhilePlaced F.disk folder.old (λ start target text. IfErr result
+    ensures err { IsTrue F.is_told → WhilePlaced F.disk folder.old (F.place dir.now) (λ start target text. IfErr result
         (NotFinished start (F.disk folder.new) target text)) }
-    ensures any_moment { F.is_told → WhilePlaced F.disk folder.old (λ start target text.
+    ensures any_moment { IsTrue F.is_told → WhilePlaced F.disk folder.old (F.place dir.now) (λ start target text.
         LeavesOnly start (F.disk folder.new) (OldOrNewIfThere start target text)) }
     ensures count { IfOk result (λ kept. kept.count ≡ count) }
 {
-    match folder.sync_names() {
+    match folder.sync_names(dir) {
         Ok(_) => Ok(Kept { count }),
         Err(fault) => Err(PutFault::NotKept(fault)),
     }
 }
 
 /// Removes the new file of a text that did not come to its place, after a fault.
-fn clear<F: Folder>(folder: &mut F, beside: &str, fault: F::Fault) -> PutFault<F::Fault>
-    ensures left { F.is_told → WhileStuck F.disk folder.old beside.now (λ start target text.
+fn clear<F: Folder>(
+    folder: &mut F,
+    dir: &F::Dir,
+    beside: &str,
+    fault: F::Fault,
+) -> PutFault<F::Fault>
+    ensures left { IsTrue F.is_told → WhileStuck F.disk folder.old (F.place dir.now beside.now) (λ start target text.
         NotFinished start (F.disk folder.new) target text result) }
-    ensures any_moment { F.is_told → WhileStuck F.disk folder.old beside.now
+    ensures any_moment { IsTrue F.is_told → WhileStuck F.disk folder.old (F.place dir.now beside.now)
         (λ start target text. LeavesOnly start (F.disk folder.new)
         (OldOrNewIfThere start target text)) }
 {
-    fault_after(Some(fault), folder.remove(beside))
+    fault_after(Some(fault), folder.remove(dir, beside))
 }

@@ -2,11 +2,13 @@
 
 ghost use Rattle.std.specs.Prelude.{◌≡◌, ◌<◌, ◌≤◌, ◌++◌, ◌+◌, ◌^◌, ℕ, List, [], false, true};
 ghost use Rattle.std.specs.Prelude.{length, IfOk, IfErr, IfSome, OnOk, OnErr, OnSome, IsOk, IsSome};
-ghost use Rattle.std.specs.Prelude.{Err, IsErrOf};
+ghost use Rattle.std.specs.Prelude.{Err, IsErrOf, IsTrue};
 ghost use Rattle.irig_text.specs.declared.block.TheConstants.{ENOUGH};
-ghost use Rattle.irig_disk.specs.Disk.{Held, LeavesOnly};
+ghost use Rattle.irig_disk.specs.Disk.{LeavesOnly};
+ghost use Rattle.irig_disk.specs.Held.{Held};
 ghost use Rattle.irig_disk.specs.declared.fault.PutFault.TheVariants.{NamesTaken};
 ghost use Rattle.irig_disk.specs.declared.new_text.TheConstants.{NAMES};
+ghost use Rattle.irig_disk.specs.Name.{IsName};
 ghost use Rattle.irig_disk.specs.Put.{OldOrNewIfThere, AfterFault, IsKept, AllTaken, first_mode};
 ghost use Rattle.irig_disk.specs.Put.{held};
 ghost use Rattle.irig_disk.specs.Parts.{Adds, Spoils, ComesTo};
@@ -18,11 +20,12 @@ use crate::kept::Kept;
 use crate::new_text::NewText;
 use irig_text::{ENOUGH, Text};
 
-/// Writes a text at the target, with a mode (`None`: the usual one). The new file has the stem and
+/// Writes a text at the target, a name in an open folder, with a mode (`None`: the usual one). The new file has the stem and
 /// a number as its name until it takes the target's. That name is written to `name`, and the parts
 /// of the text wait in the block; what both hold before is lost.
 pub fn put_text<F: Folder, T: Text>(
     folder: &mut F,
+    dir: &F::Dir,
     name: &mut String,
     target: &str,
     stem: &str,
@@ -30,21 +33,23 @@ pub fn put_text<F: Folder, T: Text>(
     text: &mut T,
     block: &mut Vec<u8>,
 ) -> Result<Kept, PutFault<F::Fault>>
+    requires { IsName target.now }
     // A crash at any moment of the call leaves the old text at the target or the new one, whole,
     // and each other name that was there as it was.
-    ensures any_moment { F.is_told → LeavesOnly (F.disk folder.old) (F.disk folder.new)
-        (OldOrNewIfThere (F.disk folder.old) target.now
+    ensures any_moment { IsTrue F.is_told → LeavesOnly (F.disk folder.old) (F.disk folder.new)
+        (OldOrNewIfThere (F.disk folder.old) (F.place dir.now target.now)
         (held F.usual_mode mode (T.rest text.old))) }
     // After `Ok` each crash leaves the new text.
-    ensures ok { F.is_told → OnOk result (IsKept (F.disk folder.old) (F.disk folder.new) target.now
+    ensures ok { IsTrue F.is_told → OnOk result (IsKept (F.disk folder.old) (F.disk folder.new)
+        (F.place dir.now target.now)
         (held F.usual_mode mode (T.rest text.old))) }
-    ensures err { F.is_told → IfErr result (AfterFault (F.disk folder.old) (F.disk folder.new)
-        target.now (held F.usual_mode mode (T.rest text.old))) }
-    ensures taken { F.is_told → IsErrOf result NamesTaken
-        → AllTaken (F.disk folder.old) stem.now target.now NAMES }
+    ensures err { IsTrue F.is_told → IfErr result (AfterFault (F.disk folder.old) (F.disk folder.new)
+        (F.place dir.now target.now) (held F.usual_mode mode (T.rest text.old))) }
+    ensures taken { IsTrue F.is_told → IsErrOf result NamesTaken
+        → AllTaken (F.disk folder.old) (F.place dir.now) stem.now target.now NAMES }
     ensures count { IfOk result (λ kept. kept.count ≡ length (T.rest text.old)) }
 {
-    let begun = NewText::begin(folder, name, target, stem, mode);
+    let begun = NewText::begin(folder, dir, name, target, stem, mode);
     put_begun(folder, begun, text, block)
 }
 
@@ -56,9 +61,11 @@ fn put_begun<F: Folder, T: Text>(
     text: &mut T,
     block: &mut Vec<u8>,
 ) -> Result<Kept, PutFault<F::Fault>>
-    ensures put { IfOk begun.entry (λ new. F.is_told → WhileWriting F.disk folder.old
-        new.beside.now new.target.now (F.number new.file) (first_mode F.usual_mode new.mode)
-        (λ start so_far. ComesTo start (F.disk folder.new) new.target.now
+    requires { IfOk begun (λ new. IsName new.target.now) }
+    ensures put { IfOk begun.entry (λ new. IsTrue F.is_told → WhileWriting F.disk folder.old
+        (F.place new.dir.now new.beside.now) (F.place new.dir.now new.target.now)
+        (F.number new.file) (first_mode F.usual_mode new.mode)
+        (λ start so_far. ComesTo start (F.disk folder.new) (F.place new.dir.now new.target.now)
         (held F.usual_mode new.mode (so_far ++ T.rest text.old)) result)) }
     ensures count { IfOk begun.entry (λ new. IfOk result
         (λ kept. kept.count ≡ new.count + length (T.rest text.old))) }
@@ -81,13 +88,14 @@ fn finish_or_give_up<F: Folder>(
     new: NewText<'_, F>,
     written: Result<(), Option<F::Fault>>,
 ) -> Result<Kept, PutFault<F::Fault>>
-    ensures ok { OnOk written (F.is_told → WhileWriting F.disk folder.old new.entry.beside.now
-        new.entry.target.now (F.number new.entry.file) (first_mode F.usual_mode new.entry.mode)
-        (λ start text. ComesTo start (F.disk folder.new) new.entry.target.now
+    requires { IsName new.target.now }
+    ensures ok { OnOk written (IsTrue F.is_told → WhileWriting F.disk folder.old (F.place new.entry.dir.now new.entry.beside.now)
+        (F.place new.entry.dir.now new.entry.target.now) (F.number new.entry.file) (first_mode F.usual_mode new.entry.mode)
+        (λ start text. ComesTo start (F.disk folder.new) (F.place new.entry.dir.now new.entry.target.now)
         (held F.usual_mode new.entry.mode text) result)) }
-    ensures err { OnErr written (F.is_told → (mode : ℕ) (text : Held) → WhileWriting F.disk
-        folder.old new.entry.beside.now new.entry.target.now (F.number new.entry.file) mode
-        (λ start so_far. ComesTo start (F.disk folder.new) new.entry.target.now text result)) }
+    ensures err { OnErr written (IsTrue F.is_told → (mode : ℕ) (text : Held) → WhileWriting F.disk
+        folder.old (F.place new.entry.dir.now new.entry.beside.now) (F.place new.entry.dir.now new.entry.target.now) (F.number new.entry.file) mode
+        (λ start so_far. ComesTo start (F.disk folder.new) (F.place new.entry.dir.now new.entry.target.now) text result)) }
     ensures written { IfOk result (λ _. IsOk written) }
     ensures count { IfOk result (λ kept. kept.count ≡ new.entry.count) }
 {
@@ -104,15 +112,16 @@ fn append_all<F: Folder, T: Text>(
     text: &mut T,
     block: &mut Vec<u8>,
 ) -> Result<(), Option<F::Fault>>
+    ensures dir { new.new.dir.now ≡ new.old.dir.now }
     ensures beside { new.new.beside.now ≡ new.old.beside.now }
     ensures target { new.new.target.now ≡ new.old.target.now }
     ensures mode { new.new.mode ≡ new.old.mode }
     ensures file { F.number new.new.file ≡ F.number new.old.file }
     ensures count { OnOk result (new.new.count ≡ new.old.count + length (T.rest text.old)) }
-    ensures ok { F.is_told → OnOk result (Adds F.disk folder.old folder.new
-        new.old.beside.now (F.number new.old.file) (T.rest text.old)) }
-    ensures err { F.is_told → OnErr result (Spoils F.disk folder.old folder.new
-        new.old.beside.now (F.number new.old.file)) }
+    ensures ok { IsTrue F.is_told → OnOk result (Adds F.disk folder.old folder.new
+        (F.place new.old.dir.now new.old.beside.now) (F.number new.old.file) (T.rest text.old)) }
+    ensures err { IsTrue F.is_told → OnErr result (Spoils F.disk folder.old folder.new
+        (F.place new.old.dir.now new.old.beside.now) (F.number new.old.file)) }
 {
     // each part but the last makes the rest of the text shorter
     'parts: loop {
@@ -132,6 +141,7 @@ fn append_next<F: Folder, T: Text>(
     text: &mut T,
     block: &mut Vec<u8>,
 ) -> Result<bool, Option<F::Fault>>
+    ensures dir { new.new.dir.now ≡ new.old.dir.now }
     ensures beside { new.new.beside.now ≡ new.old.beside.now }
     ensures target { new.new.target.now ≡ new.old.target.now }
     ensures mode { new.new.mode ≡ new.old.mode }
@@ -139,14 +149,14 @@ fn append_next<F: Folder, T: Text>(
     ensures ok { IfOk result (λ ended. (part : List ℕ)
         × (T.rest text.old ≡ part ++ T.rest text.new)
         × (new.new.count ≡ new.old.count + length part)
-        × (F.is_told → Adds F.disk folder.old folder.new new.old.beside.now
-        (F.number new.old.file) part)) }
+        × (IsTrue F.is_told → Adds F.disk folder.old folder.new
+        (F.place new.old.dir.now new.old.beside.now) (F.number new.old.file) part)) }
     ensures end { IfOk result (λ ended. ended ≡ true → T.rest text.new ≡ []) }
     // at least 64 KiB go on, or the text has ended
     ensures more { IfOk result (λ ended. ended ≡ false
         → ENOUGH + length (T.rest text.new) ≤ length (T.rest text.old)) }
-    ensures err { F.is_told → OnErr result (Spoils F.disk folder.old folder.new
-        new.old.beside.now (F.number new.old.file)) }
+    ensures err { IsTrue F.is_told → OnErr result (Spoils F.disk folder.old folder.new
+        (F.place new.old.dir.now new.old.beside.now) (F.number new.old.file)) }
 {
     match fill_next(text, block, new.count) {
         Some(ended) => append_block(folder, new, block, ended),
@@ -161,6 +171,7 @@ fn append_block<F: Folder>(
     block: &[u8],
     ended: bool,
 ) -> Result<bool, Option<F::Fault>>
+    ensures dir { new.new.dir.now ≡ new.old.dir.now }
     ensures beside { new.new.beside.now ≡ new.old.beside.now }
     ensures target { new.new.target.now ≡ new.old.target.now }
     ensures mode { new.new.mode ≡ new.old.mode }
@@ -169,10 +180,10 @@ fn append_block<F: Folder>(
     ensures call { IfErr result (λ fault. IsSome fault) }
     ensures count { new.old.count + length block.now < 2 ^ 64 → OnOk result
         (new.new.count ≡ new.old.count + length block.now) }
-    ensures ok { F.is_told → OnOk result (Adds F.disk folder.old folder.new
-        new.old.beside.now (F.number new.old.file) block.now) }
-    ensures err { F.is_told → OnErr result (Spoils F.disk folder.old folder.new
-        new.old.beside.now (F.number new.old.file)) }
+    ensures ok { IsTrue F.is_told → OnOk result (Adds F.disk folder.old folder.new
+        (F.place new.old.dir.now new.old.beside.now) (F.number new.old.file) block.now) }
+    ensures err { IsTrue F.is_told → OnErr result (Spoils F.disk folder.old folder.new
+        (F.place new.old.dir.now new.old.beside.now) (F.number new.old.file)) }
 {
     match new.append(folder, block) {
         Ok(_) => Ok(ended),

@@ -1,33 +1,93 @@
 //! A folder of the system: each method is one call, and only it makes the answer of that call.
 
-ghost use Rattle.std.specs.Prelude.{◌≡◌, OnOk};
+ghost use Rattle.std.specs.Prelude.{OnOk, false};
 ghost use Rattle.std.specs.Io.KnownBytes.{Appends};
 ghost use Rattle.irig_disk.specs.System.{untold, untold_now};
 
 use crate::folder::Folder;
+use std::alloc::{AllocError, Global};
 use std::fs::{OpenFile, OpenOptions, Permissions};
 use std::io::{ErrorKind, Write};
 use std::os::unix::fs::{OpenOptionsExt, PermissionsExt};
+use std::path::PathBuf;
 use std::rt::Files;
 use std::{fs, io};
 
-/// A folder of the system, held open for its sync. Names are paths that lead into it.
+/// How many bytes a path has room for. A path of the system has at most 4,095, and one that leads
+/// from it through a link has no more than twice as many.
+const PATH: usize = 8192;
+
+/// The names of folders of the system.
 #[derive(Drop)]
 pub struct SystemFolder<'a, R: Files> {
     runtime: &'a R,
-    folder: R::File,
+    one: PathBuf,
+    other: PathBuf,
 }
 
 impl<'a, R: Files> SystemFolder<'a, R> {
-    /// The names of an open folder.
-    pub fn new(runtime: &'a R, folder: R::File) -> Self
-        ensures { result.folder ≡ folder }
-    {
-        SystemFolder { runtime, folder }
+    /// The names of folders that a runtime opens. The memory of their paths is taken here.
+    pub fn new(alloc: Global, runtime: &'a R) -> Result<Self, AllocError> {
+        Ok(SystemFolder {
+            runtime,
+            one: PathBuf::with_capacity(alloc, PATH)?,
+            other: PathBuf::with_capacity(alloc, PATH)?,
+        })
+    }
+
+    /// The runtime.
+    pub fn runtime(&self) -> &'a R {
+        self.runtime
+    }
+}
+
+/// A folder of the system, held open for its sync; or none yet.
+#[derive(Drop)]
+pub struct SystemDir<F: Drop> {
+    file: Option<F>,
+    path: PathBuf,
+}
+
+impl<F: Drop> SystemDir<F> {
+    /// No folder, with room for the path of one.
+    pub fn new(alloc: Global) -> Result<SystemDir<F>, AllocError> {
+        Ok(SystemDir {
+            file: None,
+            path: PathBuf::with_capacity(alloc, PATH)?,
+        })
+    }
+
+    /// Opens the folder at a path.
+    pub fn open<R: Files<File = F>>(&mut self, runtime: &R, path: &str) -> Result<(), SystemFault> {
+        put_path(&mut self.path, path, "")?;
+        match fs::open(runtime, path) {
+            Ok(file) => {
+                self.file = Some(file);
+                Ok(())
+            }
+            Err(error) => Err(SystemFault(error)),
+        }
+    }
+}
+
+/// Writes the path of a name in a folder.
+fn put_path(path: &mut PathBuf, folder: &str, name: &str) -> Result<(), SystemFault> {
+    path.clear();
+    let Ok(()) = path.push(folder) else {
+        return Err(SystemFault(io::Error::from(ErrorKind::OutOfMemory)));
+    };
+    if name.is_empty() {
+        return Ok(());
+    }
+    match path.push(name) {
+        Ok(()) => Ok(()),
+        Err(_) => Err(SystemFault(io::Error::from(ErrorKind::OutOfMemory))),
     }
 }
 
 impl<R: Files> Folder for SystemFolder<'_, R> {
+    type Dir = SystemDir<R::File>;
+
     type File = SystemFile<R::File>;
 
     type Appended = Appended;
@@ -44,13 +104,17 @@ impl<R: Files> Folder for SystemFolder<'_, R> {
 
     type Fault = SystemFault;
 
-    ghost is_told = { ⊥ };
+    ghost is_told = { false };
 
     ghost usual_mode = { 0 };
 
     ghost disk = { λ _. untold };
 
+    ghost place = { λ _ name. name };
+
     ghost number = { λ _. 0 };
+
+    ghost apart = { λ _ _ _ _ _ same. same };
 
     ghost counts_now = { λ _. untold_now };
 
@@ -59,6 +123,7 @@ impl<R: Files> Folder for SystemFolder<'_, R> {
     /// A hidden file has mode 600 (octal); any other one what the process gives to a new file.
     fn make(
         &mut self,
+        dir: &SystemDir<R::File>,
         name: &str,
         hidden: bool,
     ) -> Result<Option<SystemFile<R::File>>, SystemFault> {
@@ -67,7 +132,8 @@ impl<R: Files> Folder for SystemFolder<'_, R> {
         if hidden {
             how.mode(0o600);
         }
-        match how.open(self.runtime, name) {
+        put_path(&mut self.one, dir.path.as_str(), name)?;
+        match how.open(self.runtime, self.one.as_str()) {
             Ok(file) => Ok(Some(SystemFile(file))),
             Err(error) if error.kind() == ErrorKind::AlreadyExists => Ok(None),
             Err(error) => Err(SystemFault(error)),
@@ -100,15 +166,23 @@ impl<R: Files> Folder for SystemFolder<'_, R> {
         }
     }
 
-    fn rename(&mut self, from: &str, to: &str) -> Result<Renamed, SystemFault> {
-        match fs::rename(self.runtime, from, to) {
+    fn rename(
+        &mut self,
+        dir: &SystemDir<R::File>,
+        from: &str,
+        to: &str,
+    ) -> Result<Renamed, SystemFault> {
+        put_path(&mut self.one, dir.path.as_str(), from)?;
+        put_path(&mut self.other, dir.path.as_str(), to)?;
+        match fs::rename(self.runtime, self.one.as_str(), self.other.as_str()) {
             Ok(()) => Ok(Renamed(())),
             Err(error) => Err(SystemFault(error)),
         }
     }
 
-    fn remove(&mut self, name: &str) -> Result<NameRemoved, SystemFault> {
-        match fs::remove_file(self.runtime, name) {
+    fn remove(&mut self, dir: &SystemDir<R::File>, name: &str) -> Result<NameRemoved, SystemFault> {
+        put_path(&mut self.one, dir.path.as_str(), name)?;
+        match fs::remove_file(self.runtime, self.one.as_str()) {
             Ok(()) => Ok(NameRemoved(())),
             Err(error) => Err(SystemFault(error)),
         }
@@ -116,8 +190,11 @@ impl<R: Files> Folder for SystemFolder<'_, R> {
 
     /// A file system that has no such call answers that the call is invalid: its names are kept as
     /// it keeps them, and nobody can ask for more.
-    fn sync_names(&mut self) -> Result<NamesSynced, SystemFault> {
-        match self.folder.sync_all() {
+    fn sync_names(&mut self, dir: &SystemDir<R::File>) -> Result<NamesSynced, SystemFault> {
+        let Some(folder) = &dir.file else {
+            return Err(SystemFault(io::Error::from(ErrorKind::NotFound)));
+        };
+        match folder.sync_all() {
             Ok(()) => Ok(NamesSynced(())),
             Err(error) if error.kind() == ErrorKind::InvalidInput => Ok(NamesSynced(())),
             Err(error) => Err(SystemFault(error)),
@@ -131,7 +208,7 @@ pub struct SystemFile<F: Drop>(F);
 
 /// A call of the system failed.
 #[derive(Drop)]
-pub struct SystemFault(io::Error);
+pub struct SystemFault(pub io::Error);
 
 /// The system wrote bytes.
 #[derive(Drop)]

@@ -11,8 +11,9 @@ use Rattle.irig_script.specs.declared.obey.status.Status.{Status}
 use Rattle.irig_script.specs.declared.obey.dump_run.DumpRunFault.{DumpRunFault}
 use Rattle.irig_script.specs.declared.obey.dump_run.DumpRunFault.TheVariants.{Dump}
 use Rattle.irig_files.proofs.Intakes.{tells_heading}
-use Rattle.irig_ed.specs.Ending.{Ends, RunsBy, ends}
-use Rattle.irig_files.specs.Puts.{Put, texts_at}
+use Rattle.irig_ed.specs.Ending.{Ends, Files, RunsBy, ends}
+use Rattle.irig_files.specs.Puts.{texts_at}
+use Rattle.irig_files.specs.Writes.{Write}
 use Rattle.irig_settings.specs.declared.chosen.Settings.{Settings}
 
 -- the wire of the settings
@@ -20,27 +21,30 @@ abbrev wire_in : Settings → Option (List ℕ)
 wire_in chosen = option_map (λ w. w.now) chosen.wire
 
 -- the shelf was at the path of the settings, from the start to the end
-pub runs_by : (chosen : Settings) (source : List ℕ) (out out_new script left : Option (List ℕ)) (path path_new label label_new : List ℕ)
-    (puts mid new : Option (List Put)) (failures failures_new : ℕ) (result : Result Status DumpRunFault)
-    → label_new ≡ label → path ≡ chosen.out.now → path_new ≡ chosen.out.now → mid ≡ puts → failures ≡ 0
-    → RunsOnDump (wire_in chosen) chosen.format source script left (desk out (shelved (texts_at path mid) failures label))
-    (desk out_new (shelved (texts_at path_new new) failures_new label_new)) result
-    → RunsBy chosen source (ends out puts script) (ends out_new new left) result
-runs_by chosen source out out_new script left path path_new label label_new puts mid new failures failures_new result e p q m z h = record {
+pub runs_by : (given : Files) (chosen : Settings) (source : List ℕ) (out out_new script left : Option (List ℕ)) (texts texts_new : Option (List (List ℕ)))
+    (label label_new : List ℕ) (writes new : Option (List Write)) (failures failures_new : ℕ) (result : Result Status DumpRunFault)
+    → label_new ≡ label → texts ≡ texts_at (given.paths chosen.out.now) writes → texts_new ≡ texts_at (given.paths chosen.out.now) new → failures ≡ 0
+    → given.kept chosen.out.now
+    → RunsOnDump (wire_in chosen) chosen.format source script left (desk out (shelved texts failures label))
+    (desk out_new (shelved texts_new failures_new label_new)) result
+    → RunsBy given chosen source (ends out writes script) (ends out_new new left) result
+runs_by given chosen source out out_new script left texts texts_new label label_new writes new failures failures_new result e p q z kept h = record {
   label = label;
   failures = failures_new;
   ran = subst (λ (d : Desk). RunsOnDump (wire_in chosen) chosen.format source script left d
-      (desk out_new (shelved (texts_at chosen.out.now new) failures_new label)) result)
-      (λ j. desk out (shelved (texts_at (p j) (m j)) (z j) label))
-      (subst (λ (d : Desk). RunsOnDump (wire_in chosen) chosen.format source script left (desk out (shelved (texts_at path mid) failures label)) d result)
-      (λ j. desk out_new (shelved (texts_at (q j) new) failures_new (e j))) h);
+      (desk out_new (shelved (texts_at (given.paths chosen.out.now) new) failures_new label)) result)
+      (λ j. desk out (shelved (p j) (z j) label))
+      (subst (λ (d : Desk). RunsOnDump (wire_in chosen) chosen.format source script left (desk out (shelved texts failures label)) d result)
+      (λ j. desk out_new (shelved (q j) failures_new (e j))) h);
+  kept = kept;
 }
 
 -- of a dump with a fault nothing was run
-pub fails_by : (chosen : Settings) (source : List ℕ) (at : Ends) (fault : VcdFault) → dump_parts (wire_in chosen) source ≡ Err fault
-    → RunsBy chosen source at at (Err (Dump fault))
-fails_by chosen source at fault is = record {
+pub fails_by : (given : Files) (chosen : Settings) (source : List ℕ) (at : Ends) (fault : VcdFault) → given.kept chosen.out.now
+    → dump_parts (wire_in chosen) source ≡ Err fault → RunsBy given chosen source at at (Err (Dump fault))
+fails_by given chosen source at fault kept is = record {
   label = [];
   failures = 0;
   ran = (inl (fails_now fault (dump_parts (wire_in chosen) source) is), (λ e h. tells_heading (wire_in chosen) source fault e is h), refl, refl);
+  kept = kept;
 }

@@ -9,7 +9,8 @@ use Rattle.irig_text.specs.Shelved.{shelved}
 use Rattle.irig_script.specs.declared.obey.status.Status.{Status}
 use Rattle.irig_script.specs.declared.obey.dump_run.DumpRunFault.{DumpRunFault}
 use Rattle.irig_settings.specs.Settings.{Reads}
-use Rattle.irig_files.specs.Puts.{Put, texts_at}
+use Rattle.irig_files.specs.Puts.{texts_at}
+use Rattle.irig_files.specs.Writes.{Write}
 use Rattle.irig_ed.specs.Statuses.{HasStatus}
 use Rattle.irig_settings.specs.declared.chosen.Settings.{Settings}
 use Rattle.irig_ed.specs.declared.ending.Ending.{Ending}
@@ -20,43 +21,59 @@ use Rattle.irig_files.specs.declared.dump_file.DumpFileFault.TheVariants.{TooLon
 -- the script
 pub record Ends : Type 0 where
   pub out : Option (List ℕ)
-  pub puts : Option (List Put)
+  pub writes : Option (List Write)
   pub script : Option (List ℕ)
 
 -- the ends with these
-abbrev pub ends : Option (List ℕ) → Option (List Put) → Option (List ℕ) → Ends
-ends out puts script = record { out = out; puts = puts; script = script }
+abbrev pub ends : Option (List ℕ) → Option (List Write) → Option (List ℕ) → Ends
+ends out writes script = record { out = out; writes = writes; script = script }
 
--- the script ran on the bytes, by the wire and the format of the settings, and what was written was
--- written at their path to write
-pub record RunsBy (chosen : Settings) (source : List ℕ) (old new : Ends)
+-- what the program was given besides: what files hold, where paths lead, and what a crash leaves of
+-- what is written to one
+pub record Files : Type 1 where
+  pub held : List ℕ → Option (List ℕ)
+  pub paths : List ℕ → Option (List ℕ)
+  pub kept : List ℕ → Type 0
+
+-- the files with these
+abbrev pub files : (List ℕ → Option (List ℕ)) → (List ℕ → Option (List ℕ)) → (List ℕ → Type 0)
+    → Files
+files held paths kept = record { held = held; paths = paths; kept = kept }
+
+-- The script ran on the bytes, by the wire and the format of the settings; what was written was
+-- written where their path to write leads, and is kept through a crash at any moment.
+pub record RunsBy (given : Files) (chosen : Settings) (source : List ℕ) (old new : Ends)
     (result : Result Status DumpRunFault) : Type 0 where
   pub label : List ℕ
   pub failures : ℕ
   pub ran : RunsOnDump (option_map (λ w. w.now) chosen.wire) chosen.format source
       old.script new.script
-      (desk old.out (shelved (texts_at chosen.out.now old.puts) 0 label))
-      (desk new.out (shelved (texts_at chosen.out.now new.puts) failures label)) result
+      (desk old.out (shelved (texts_at (given.paths chosen.out.now) old.writes) 0 label))
+      (desk new.out (shelved (texts_at (given.paths chosen.out.now) new.writes) failures label))
+      result
+  pub kept : given.kept chosen.out.now
 
 -- the script ran on the dump of the settings; or that was not read, and nothing else was done
-abbrev pub Obeys : (List ℕ → Option (List ℕ)) → Ends → Ends → Settings → Ending → Type 0
-Obeys held old new chosen (Ran path result) =
+abbrev pub Obeys : Files → Ends → Ends → Settings → Ending → Type 0
+Obeys given old new chosen (Ran path result) =
     (path ≡ chosen.track) × ((source : List ℕ)
-    × IfSome (held chosen.track.now) (λ all. source ≡ all) × RunsBy chosen source old new result)
-Obeys held old new chosen (Unread path fault) =
-    (path ≡ chosen.track) × (new ≡ old)
-    × (fault ≡ TooLong → IfSome (held chosen.track.now) (λ all. 2 ^ 28 < length all))
-Obeys held old new chosen (Usage fault) = ⊥
+    × IfSome (given.held chosen.track.now) (λ all. source ≡ all)
+    × RunsBy given chosen source old new result)
+Obeys given old new chosen (Unread path fault) =
+    (path ≡ chosen.track) × (new ≡ old) × ((to : List ℕ) → given.kept to)
+    × (fault ≡ TooLong → IfSome (given.held chosen.track.now) (λ all. 2 ^ 28 < length all))
+Obeys given old new chosen (Usage fault) = ⊥
 
 -- the settings are those of the words, and they were obeyed; or the words have none
-abbrev pub EndsBy : List Text → (List ℕ → Option (List ℕ)) → Ends → Ends → Ending → Type 0
-EndsBy words held old new (Usage fault) = Reads words (Err fault) × (new ≡ old)
-EndsBy words held old new ending =
-    (chosen : Settings) × Reads words (Ok chosen) × Obeys held old new chosen ending
+abbrev pub EndsBy : List Text → Files → Ends → Ends → Ending → Type 0
+EndsBy words given old new (Usage fault) =
+    Reads words (Err fault) × (new ≡ old) × ((to : List ℕ) → given.kept to)
+EndsBy words given old new ending =
+    (chosen : Settings) × Reads words (Ok chosen) × Obeys given old new chosen ending
 
 -- the words were obeyed, and the status of the process is the one of how that ended
-pub record Serves (words : List Text) (held : List ℕ → Option (List ℕ)) (old new : Ends)
+pub record Serves (words : List Text) (given : Files) (old new : Ends)
     (status : ℕ) : Type 0 where
   pub ending : Ending
-  pub obeyed : EndsBy words held old new ending
+  pub obeyed : EndsBy words given old new ending
   pub told : HasStatus ending status

@@ -3,9 +3,10 @@
 ghost use Rattle.std.specs.Prelude.{◌≡◌, ℕ, List, map, option_map, string_bytes};
 ghost use Rattle.irig_vcd.specs.Answer.{Gives, name_of};
 ghost use Rattle.irig_vcd.specs.Parts.{dump_parts};
-ghost use Rattle.irig_ed.specs.Ending.{RunsBy, EndsBy, Obeys, ends};
-ghost use Rattle.irig_files.specs.Keeps.{Keeps};
+ghost use Rattle.irig_ed.specs.Ending.{RunsBy, EndsBy, Obeys, ends, files};
+ghost use Rattle.irig_files.specs.Puts.{writes_on};
 ghost use Rattle.irig_files.specs.Reads.{HasFewBytes, parts_of};
+ghost use Rattle.irig_files.specs.Writes.{GoesTo};
 
 use crate::ending::Ending;
 use irig_files::{Disk, DumpFileFault, FileShelf, Parts, Room};
@@ -24,11 +25,11 @@ pub fn obey_words<'a, D: Disk, R: Read, W: Write>(
     script: &mut R,
     out: &mut W,
 ) -> Ending<'a>
-    ensures ends { EndsBy (map string_bytes words.entry.now) (D.held disk.old)
-        (ends (W.contents out.old) (D.puts disk.old) (R.remaining script.old))
-        (ends (W.contents out.new) (D.puts disk.new) (R.remaining script.new)) result }
-    // What was written through a crash at any moment.
-    ensures kept { Keeps (D.left_at_first disk.new) (D.left_since disk.new) (D.puts disk.new) }
+    ensures { EndsBy (map string_bytes words.entry.now)
+        (files (D.held disk.old) (D.disk disk.old).paths
+        (GoesTo D.is_told (D.disk disk.old) (D.disk disk.new)))
+        (ends (W.contents out.old) (writes_on D.is_told (D.disk disk.old)) (R.remaining script.old))
+        (ends (W.contents out.new) (writes_on D.is_told (D.disk disk.new)) (R.remaining script.new)) result }
 {
     match settings(alloc, words) {
         Ok(chosen) => run_on_track(alloc, &chosen, disk, script, out),
@@ -45,9 +46,10 @@ fn run_on_track<'a, D: Disk, R: Read, W: Write>(
     script: &mut R,
     out: &mut W,
 ) -> Ending<'a>
-    ensures { Obeys (D.held disk.old)
-        (ends (W.contents out.old) (D.puts disk.old) (R.remaining script.old))
-        (ends (W.contents out.new) (D.puts disk.new) (R.remaining script.new))
+    ensures { Obeys (files (D.held disk.old) (D.disk disk.old).paths
+        (GoesTo D.is_told (D.disk disk.old) (D.disk disk.new)))
+        (ends (W.contents out.old) (writes_on D.is_told (D.disk disk.old)) (R.remaining script.old))
+        (ends (W.contents out.new) (writes_on D.is_told (D.disk disk.new)) (R.remaining script.new))
         chosen.now result }
 {
     let Ok(mut room) = Room::new(alloc) else {
@@ -65,9 +67,10 @@ fn run_with_room<'a, D: Disk, R: Read, W: Write>(
     script: &mut R,
     out: &mut W,
 ) -> Ending<'a>
-    ensures { Obeys (D.held disk.old)
-        (ends (W.contents out.old) (D.puts disk.old) (R.remaining script.old))
-        (ends (W.contents out.new) (D.puts disk.new) (R.remaining script.new))
+    ensures { Obeys (files (D.held disk.old) (D.disk disk.old).paths
+        (GoesTo D.is_told (D.disk disk.old) (D.disk disk.new)))
+        (ends (W.contents out.old) (writes_on D.is_told (D.disk disk.old)) (R.remaining script.old))
+        (ends (W.contents out.new) (writes_on D.is_told (D.disk disk.new)) (R.remaining script.new))
         chosen.now result }
 {
     match disk.read(alloc, chosen.track, wire_of(chosen)) {
@@ -93,9 +96,11 @@ fn run_on_read<D: Disk, R: Read, W: Write>(
     requires { HasFewBytes read }
     ensures { (source : List ℕ)
         → Gives parts_of read (dump_parts (option_map (λ w. w.now) chosen.now.wire) source)
-        → RunsBy chosen.now source
-        (ends (W.contents out.old) (D.puts disk.old) (R.remaining script.old))
-        (ends (W.contents out.new) (D.puts disk.new) (R.remaining script.new)) result }
+        → RunsBy (files (D.held disk.old) (D.disk disk.old).paths
+        (GoesTo D.is_told (D.disk disk.old) (D.disk disk.new)))
+        chosen.now source
+        (ends (W.contents out.old) (writes_on D.is_told (D.disk disk.old)) (R.remaining script.old))
+        (ends (W.contents out.new) (writes_on D.is_told (D.disk disk.new)) (R.remaining script.new)) result }
 {
     let (recording, journal) = match read {
         Ok(parts) => parts,

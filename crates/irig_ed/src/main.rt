@@ -7,29 +7,44 @@ mod statuses;
 
 ghost use Rattle.std.specs.Prelude.{◌≡◌, map, string_bytes};
 ghost use Rattle.std.specs.Process.{exit_status};
-ghost use Rattle.irig_ed.specs.Ending.{Serves, ends};
-ghost use Rattle.irig_files.specs.Keeps.{Keeps};
+ghost use Rattle.irig_ed.specs.Ending.{Serves, ends, files};
+ghost use Rattle.irig_files.specs.Puts.{writes_on};
+ghost use Rattle.irig_files.specs.Writes.{GoesTo};
 
 use file_run::obey_words;
-use irig_files::{Disk, System};
+use irig_disk::{SystemDir, SystemFolder};
+use irig_files::{FileSystem, Files};
 use irig_settings::not_text;
 use statuses::{explain, report, tell};
+use std::alloc::AllocError;
 use std::io::{Read, Write};
 use std::process::ExitCode;
-use std::rt::Runtime;
+use std::rt::{Files as FileRuntime, Runtime};
 use std::{env, io};
 
 fn main(rt: HostRuntime) -> ExitCode {
+    let Ok(mut files) = system_files(&rt) else {
+        return tell_no_words(&rt, &io::Error::from(io::ErrorKind::OutOfMemory));
+    };
     match arguments(&rt) {
         Ok(words) => start(
             &rt,
             words.as_slice(),
-            &mut System::new(&rt),
+            &mut files,
             &mut rt.reader(),
             &mut io::writer(&rt),
         ),
         Err(error) => tell_no_words(&rt, &error),
     }
+}
+
+/// The files of the system. The memory of their paths is taken here.
+fn system_files<R: FileRuntime + Print + AllocGlobal>(
+    rt: &R,
+) -> Result<Files<SystemFolder<'_, R>>, AllocError> {
+    let system = SystemFolder::new(rt.alloc(), rt)?;
+    let dir = SystemDir::new(rt.alloc())?;
+    Ok(Files::new(system, dir))
 }
 
 /// Says why there are no words.
@@ -49,20 +64,25 @@ fn arguments<R: Runtime + AllocGlobal>(rt: &R) -> io::Result<Vec<String>> {
     Ok(words)
 }
 
-/// Edits the track that the words name, by these files, this script and this output, and reports
-/// how that ended.
-fn start<P: Print + Eprint + AllocGlobal, D: Disk, R: Read, W: Write>(
+/// Edits the track that the words name, by the files of this system, this script and this output,
+/// and reports how that ended.
+fn start<P: Print + Eprint + AllocGlobal, C: FileSystem, R: Read, W: Write>(
     rt: &P,
     words: &[String],
-    disk: &mut D,
+    disk: &mut Files<C>,
     script: &mut R,
     out: &mut W,
 ) -> ExitCode
-    ensures served { Serves (map string_bytes words.now) (D.held disk.old)
-        (ends (W.contents out.old) (D.puts disk.old) (R.remaining script.old))
-        (ends (W.contents out.new) (D.puts disk.new) (R.remaining script.new))
+    // The words were obeyed. What was written is kept through a crash at any moment, for each
+    // system whose single calls do what their contracts say.
+    ensures { Serves (map string_bytes words.now)
+        (files (C.held disk.old.system) (C.disk disk.old.system).paths
+        (GoesTo C.is_told (C.disk disk.old.system) (C.disk disk.new.system)))
+        (ends (W.contents out.old) (writes_on C.is_told (C.disk disk.old.system))
+        (R.remaining script.old))
+        (ends (W.contents out.new) (writes_on C.is_told (C.disk disk.new.system))
+        (R.remaining script.new))
         (exit_status result) }
-    ensures kept { Keeps (D.left_at_first disk.new) (D.left_since disk.new) (D.puts disk.new) }
 {
     let ending = obey_words(rt.alloc(), words, disk, script, out);
     report(rt, &ending)

@@ -4,3 +4,4 @@ pub mod Intakes
 pub mod Blocks
 pub mod Passed
 pub mod PutsAt
+pub mod Replacing

@@ -1,11 +1,18 @@
--- The texts written at a path, one after another.
-use Rattle.std.proofs.Common.{◌≡◌, ◌++◌, ◌∷◌, [], ℕ, List, Option, Some, None, Bool, true, false, refl, sym, ap, ◌∙◌, cond}
+-- The texts written at a place, one after another.
+use Rattle.std.proofs.Common.{◌≡◌, ◌⊎◌, ◌++◌, ◌∷◌, [], ℕ, List, Option, Some, None, Bool, true, false, refl, sym, ap, ◌∙◌, cond, inl, inr, Ok, Err}
 use Rattle.std.proofs.lemmas.List.{append-nil}
-use Rattle.std.specs.Prelude.{option_map}
+use Rattle.std.specs.Prelude.{option_map, is_some, IsTrue}
 use Rattle.std.specs.Str.{bytes_eq}
 use Rattle.std.proofs.lemmas.Slice.Eq.{bytes_eq-Decides}
 use Rattle.irig_text.specs.Shelved.{GrowsBy}
-use Rattle.irig_files.specs.Puts.{Put, kept, not_kept, with_text, texts_of, texts_at}
+use Rattle.irig_disk.specs.Disk.{Disk, IsPlace}
+use Rattle.irig_disk.specs.Held.{Held}
+use Rattle.irig_disk.specs.Put.{IsKept, TriesOne}
+use Rattle.irig_disk.specs.Trail.{Moved, NotMoved, Synced}
+use Rattle.irig_files.specs.Once.{FailsToPut, PutsOnce}
+use Rattle.irig_files.specs.Puts.{with_text, texts_of, texts_at, writes_on}
+use Rattle.irig_files.specs.Writes.{Write, write, writes_in}
+use Rattle.irig_files.specs.Going.{writes_more}
 
 -- a text at the end of others, whose first is at the path or is not, and was kept or was not
 behind : (here is_kept : Bool) (first text : List ℕ) (xs ys : Option (List (List ℕ))) → ys ≡ option_map (λ ts. ts ++ text ∷ []) xs
@@ -15,13 +22,16 @@ behind true false first text xs ys e = e
 behind true true first text None ys e = rw e refl
 behind true true first text (Some ts) ys e = rw e refl
 
-texts_of-append : (path text : List ℕ) (puts : List Put) → texts_of path (puts ++ kept path text ∷ []) ≡ option_map (λ ts. ts ++ text ∷ []) (texts_of path puts)
-texts_of-append path text [] = rw ((bytes_eq-Decides path path).1 refl) refl
-texts_of-append path text (put ∷ puts) = behind (bytes_eq put.path path) put.is_kept put.text text (texts_of path puts) _ (texts_of-append path text puts)
+texts_of-append : (place : List ℕ) (held : Held) (m : ℕ) (ws : List Write)
+    → texts_of place (ws ++ write place held (Some m) ∷ []) ≡ option_map (λ ts. ts ++ held.bytes ∷ []) (texts_of place ws)
+texts_of-append place held m [] = rw ((bytes_eq-Decides place place).1 refl) refl
+texts_of-append place held m (w ∷ ws) =
+    behind (bytes_eq w.place place) (is_some w.kept_at) w.held.bytes held.bytes (texts_of place ws) _ (texts_of-append place held m ws)
 
-texts_of-failed : (path text : List ℕ) (puts : List Put) → texts_of path (puts ++ not_kept path text ∷ []) ≡ texts_of path puts
-texts_of-failed path text [] = rw ((bytes_eq-Decides path path).1 refl) refl
-texts_of-failed path text (put ∷ puts) = ap (λ ts. cond (bytes_eq put.path path) (with_text put.is_kept put.text ts) None) (texts_of-failed path text puts)
+texts_of-failed : (place : List ℕ) (held : Held) (ws : List Write) → texts_of place (ws ++ write place held None ∷ []) ≡ texts_of place ws
+texts_of-failed place held [] = rw ((bytes_eq-Decides place place).1 refl) refl
+texts_of-failed place held (w ∷ ws) =
+    ap (λ ts. cond (bytes_eq w.place place) (with_text (is_some w.kept_at) w.held.bytes ts) None) (texts_of-failed place held ws)
 
 grown : (text : List ℕ) (xs ys : Option (List (List ℕ))) → ys ≡ option_map (λ ts. ts ++ text ∷ []) xs → GrowsBy xs ys (text ∷ [])
 grown text None ys e = tt
@@ -31,13 +41,70 @@ grown_none : (xs ys : Option (List (List ℕ))) → ys ≡ xs → GrowsBy xs ys 
 grown_none None ys e = tt
 grown_none (Some xs) ys e = rw e (sym (append-nil xs))
 
--- a text written at the path, and none written
-pub texts_at-put : (path text : List ℕ) (a b : Option (List Put)) → GrowsBy a b (kept path text ∷ []) → GrowsBy (texts_at path a) (texts_at path b) (text ∷ [])
-texts_at-put path text None b h = tt
-texts_at-put path text (Some xs) None h = absurd h
-texts_at-put path text (Some xs) (Some ys) h = grown text (texts_of path xs) (texts_of path ys) (ap (texts_of path) h ∙ texts_of-append path text xs)
+-- a path leads where it led
+still_at : (old new : Disk) (path place : List ℕ) → old.paths path ≡ Some place → (IsPlace old place → new.paths ≡ old.paths) → new.paths path ≡ Some place
+still_at old new path place at paths = ap (λ ps. ps path) (paths (path, at)) ∙ at
 
-pub texts_at-none : (path text : List ℕ) (a b : Option (List Put)) → GrowsBy a b (not_kept path text ∷ []) → GrowsBy (texts_at path a) (texts_at path b) []
-texts_at-none path text None b h = tt
-texts_at-none path text (Some xs) None h = absurd h
-texts_at-none path text (Some xs) (Some ys) h = grown_none (texts_of path xs) (texts_of path ys) (ap (texts_of path) h ∙ texts_of-failed path text xs)
+module _ (old new : Disk) (path : List ℕ) (held : Held) where
+  kept_in : (place : List ℕ) → old.paths path ≡ Some place → IsKept old new place held
+      → GrowsBy (texts_of place (writes_in old.log)) (texts_at (new.paths path) (Some (writes_in new.log))) (held.bytes ∷ [])
+  kept_in place at kept =
+      let log : writes_in new.log ≡ writes_in old.log ++ write place held (Some new.moment) ∷ [] =
+      ap writes_in kept.log ∙ writes_more old.log (Moved place (Some held) ∷ Synced new.moment ∷ []) refl in
+      let same : texts_at (new.paths path) (Some (writes_in new.log)) ≡ texts_of place (writes_in new.log) =
+      ap (λ p. texts_at p (Some (writes_in new.log))) (still_at old new path place at kept.paths) in
+      grown held.bytes (texts_of place (writes_in old.log)) (texts_at (new.paths path) (Some (writes_in new.log)))
+      (same ∙ ap (texts_of place) log ∙ texts_of-append place held new.moment (writes_in old.log))
+
+  tried_in : (place : List ℕ) → old.paths path ≡ Some place → FailsToPut old new place held
+      → GrowsBy (texts_of place (writes_in old.log)) (texts_at (new.paths path) (Some (writes_in new.log))) []
+  tried_in place at fault =
+      let same : texts_at (new.paths path) (Some (writes_in new.log)) ≡ texts_of place (writes_in new.log) =
+      ap (λ p. texts_at p (Some (writes_in new.log))) (still_at old new path place at fault.paths) in
+      grown_none (texts_of place (writes_in old.log)) (texts_at (new.paths path) (Some (writes_in new.log))) (same ∙ go fault.log)
+    where
+      go : TriesOne old new place held → texts_of place (writes_in new.log) ≡ texts_of place (writes_in old.log)
+      go (inl none) = ap (λ l. texts_of place (writes_in l)) none.log
+      go (inr (inl moved)) = ap (λ l. texts_of place (writes_in l)) moved
+          ∙ ap (texts_of place) (writes_more old.log (Moved place (Some held) ∷ []) refl) ∙ texts_of-failed place held (writes_in old.log)
+      go (inr (inr moved)) = ap (λ l. texts_of place (writes_in l)) moved
+          ∙ ap (texts_of place) (writes_more old.log (NotMoved place (Some held) ∷ []) refl) ∙ texts_of-failed place held (writes_in old.log)
+
+  kept_on : {T : Type 0} (E : Type 0) (target : Option (List ℕ)) (x : T) → old.paths path ≡ target → PutsOnce {E = E} old new target held (Ok x)
+      → GrowsBy (texts_at target (Some (writes_in old.log))) (texts_at (new.paths path) (Some (writes_in new.log))) (held.bytes ∷ [])
+  kept_on E None x at once = tt
+  kept_on E (Some place) x at once = kept_in place at once.ok
+
+  tried_on : {E : Type 0} (T : Type 0) (target : Option (List ℕ)) (e : E) → old.paths path ≡ target → PutsOnce {T = T} old new target held (Err e)
+      → GrowsBy (texts_at target (Some (writes_in old.log))) (texts_at (new.paths path) (Some (writes_in new.log))) []
+  tried_on T None e at once = tt
+  tried_on T (Some place) e at once = tried_in place at once.err
+
+untold : (target : Option (List ℕ)) (new : Option (List (List ℕ))) (more : List (List ℕ)) → GrowsBy (texts_at target None) new more
+untold None new more = tt
+untold (Some place) new more = tt
+
+-- a text written at what the path leads to, and none written
+pub texts_at-put : {T : Type 0} (E : Type 0) (told : Bool) (old new : Disk) (path text : List ℕ) (x : T)
+    → (IsTrue told → (mode : ℕ) × PutsOnce {E = E} old new (old.paths path) (record { bytes = text; mode = mode }) (Ok x))
+    → GrowsBy (texts_at (old.paths path) (writes_on told old)) (texts_at (new.paths path) (writes_on told new)) (text ∷ [])
+texts_at-put E false old new path text x once = untold (old.paths path) _ _
+texts_at-put E true old new path text x once =
+    let done = once refl in kept_on old new path (record { bytes = text; mode = done.0 }) E (old.paths path) x refl done.1
+
+pub texts_at-none : {E : Type 0} (T : Type 0) (told : Bool) (old new : Disk) (path text : List ℕ) (e : E)
+    → (IsTrue told → (mode : ℕ) × PutsOnce {T = T} old new (old.paths path) (record { bytes = text; mode = mode }) (Err e))
+    → GrowsBy (texts_at (old.paths path) (writes_on told old)) (texts_at (new.paths path) (writes_on told new)) []
+texts_at-none T false old new path text e once = untold (old.paths path) _ _
+texts_at-none T true old new path text e once =
+    let done = once refl in tried_on old new path (record { bytes = text; mode = done.0 }) T (old.paths path) e refl done.1
+
+-- the texts at a place, by a path that leads there still
+pub texts_where : (told : Bool) (old new : Disk) (path path' : List ℕ) → path' ≡ path → (IsTrue told → new.paths ≡ old.paths)
+    → texts_at (new.paths path') (writes_on told new) ≡ texts_at (old.paths path) (writes_on told new)
+texts_where true old new path path' same paths = λ j. texts_at (paths refl j (same j)) (Some (writes_in new.log))
+texts_where false old new path path' same paths = none (new.paths path') ∙ sym (none (old.paths path))
+  where
+    none : (p : Option (List ℕ)) → texts_at p None ≡ None
+    none None = refl
+    none (Some place) = refl

@@ -1,3 +1,8 @@
 pub mod Reads
 pub mod Puts
-pub mod Keeps
+pub mod Writes
+pub mod Once
+pub mod InMemory
+pub mod Paths
+pub mod Ways
+pub mod Going

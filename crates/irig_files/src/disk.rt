@@ -1,11 +1,12 @@
 //! What the program asks of files.
 
-ghost use Rattle.std.specs.Prelude.{◌≡◌, ◌<◌, ◌^◌, ◌∷◌, [], ℕ, List, Option, IfOk, IfSome};
-ghost use Rattle.std.specs.Prelude.{IsErrOf, OnOk, OnErr, length};
+ghost use Rattle.std.specs.Prelude.{◌≡◌, ◌<◌, ◌≤◌, ◌^◌, Bool, ℕ, List, Option, IfOk, IfSome};
+ghost use Rattle.std.specs.Prelude.{IsErrOf, IsTrue, length};
 ghost use Rattle.irig_vcd.specs.Answer.{name_of};
-ghost use Rattle.irig_text.specs.Shelved.{GrowsBy};
-ghost use Rattle.irig_files.specs.Keeps.{Keeps};
-ghost use Rattle.irig_files.specs.Puts.{Put, count_of, kept, not_kept};
+ghost use Rattle.irig_disk.specs.Disk.{Disk, MayLeave};
+ghost use Rattle.irig_disk.specs.Held.{Held};
+ghost use Rattle.irig_files.specs.Once.{PutsOnce};
+ghost use Rattle.irig_files.specs.Puts.{count_of};
 ghost use Rattle.irig_files.specs.Reads.{IsReadOf};
 
 use crate::dump_file::DumpFileFault;
@@ -21,14 +22,11 @@ pub trait Disk {
     /// What the file at a path holds, if it is known.
     ghost held: { Self → List ℕ → Option (List ℕ) };
 
-    /// The writes that were tried, in order, if they are known.
-    ghost puts: { Self → Option (List Put) };
+    /// Whether the contracts give the state below.
+    ghost is_told: { Bool };
 
-    /// What a crash might have left at a path before the first write.
-    ghost left_at_first: { Self → List ℕ → Option (List ℕ) → Type 0 };
-
-    /// What a crash might have left at a path since this many writes were tried, now included.
-    ghost left_since: { Self → ℕ → List ℕ → Option (List ℕ) → Type 0 };
+    /// What is seen, what a crash may leave, where paths lead, and what was written.
+    ghost disk: { Self → Disk };
 
     /// Reads the dump in the file at a path, of the wire of a name, or of the one wire of one bit.
     /// At most one more byte than 2^28 is read.
@@ -42,9 +40,8 @@ pub trait Disk {
         ensures long { IsErrOf result DumpFileFault.TooLong
             → IfSome (held self.now path.now) (λ all. 2 ^ 28 < length all) };
 
-    /// Writes a text to the file at a path. A fault leaves the file as it was; only if the names of
-    /// its folder could not be kept does it hold the text, and a crash can bring the old one back.
-    /// What the room holds before is lost.
+    /// Writes a text to the file that a path leads to: a regular one, or none yet, is replaced
+    /// whole. What the room holds before is lost.
     fn put<T: Text>(
         &mut self,
         path: &str,
@@ -52,12 +49,16 @@ pub trait Disk {
         room: &mut Room,
     ) -> Result<Written, ShelfFault>
         ensures count { IfOk result (λ written. count_of written ≡ length (T.rest text.old)) }
-        ensures ok { OnOk result
-            (GrowsBy (puts self.old) (puts self.new) (kept path.now (T.rest text.old) ∷ [])) }
-        ensures err { OnErr result
-            (GrowsBy (puts self.old) (puts self.new) (not_kept path.now (T.rest text.old) ∷ [])) };
+        ensures put { IsTrue is_told → (mode : ℕ) × PutsOnce (disk self.old) (disk self.new)
+            ((disk self.old).paths path.now)
+            (record { bytes = T.rest text.old; mode = mode }) result };
 
-    /// A crash leaves a text that was written, or a later one, whole.
-    ghost keeps: { (disk : Self)
-        → Keeps (left_at_first disk) (left_since disk) (puts disk) };
+    /// This moment is one of those since an earlier one.
+    ghost counts_now: { (files : Self) (t : ℕ) (place : List ℕ) (c : Option Held)
+        → t ≤ (disk files).moment → MayLeave (disk files) place c
+        → (disk files).left_since t place c };
+
+    /// Since this moment there is no other.
+    ghost only_now: { (files : Self) (place : List ℕ) (c : Option Held)
+        → (disk files).left_since (disk files).moment place c → MayLeave (disk files) place c };
 }

@@ -120,7 +120,7 @@ fn take_all<R: Read>(
 }
 
 /// Reads a dump. Of one that is too long, one byte more is read than it has at most.
-fn read_whole<R: Read + Drop>(
+pub fn read_whole<R: Read + Drop>(
     alloc: Global,
     mut reader: R,
     wire: Option<&[u8]>,

@@ -1,8 +1,11 @@
 //! A shelf that is a file.
 
-ghost use Rattle.std.specs.Prelude.{◌≡◌, ◌∷◌};
+ghost use Rattle.std.specs.Prelude.{◌≡◌, ◌∷◌, IsTrue, refl};
+ghost use Rattle.std.proofs.Common.{◌∙◌};
 ghost use Rattle.irig_text.specs.Shelved.{shelved};
-ghost use Rattle.irig_files.specs.Puts.{texts_at};
+ghost use Rattle.irig_files.specs.Going.{goes_by_both, goes_nowhere};
+ghost use Rattle.irig_files.specs.Puts.{texts_at, writes_on};
+ghost use Rattle.irig_files.specs.Writes.{Goes};
 
 use crate::disk::Disk;
 use crate::room::Room;
@@ -36,8 +39,27 @@ impl<'d, 'p, D: Disk> FileShelf<'d, 'p, D> {
 }
 
 impl<'d, 'p, D: Disk> Shelf for FileShelf<'d, 'p, D> {
-    ghost known = { λ s. shelved (texts_at s.path.now (D.puts s.disk.now)) s.failures
-        (s.disk.ghost_name ∷ s.path.now) };
+    ghost known = { λ s. shelved (texts_at ((D.disk s.disk.now).paths s.path.now)
+        (writes_on D.is_told (D.disk s.disk.now))) s.failures (s.disk.ghost_name ∷ s.path.now) };
+
+    /// Whole texts were written, one after another.
+    ghost since = { λ old new. (new.path.now ≡ old.path.now) × (IsTrue D.is_told
+        → Goes (D.disk old.disk.now) (D.disk new.disk.now)
+        ((D.disk old.disk.now).paths old.path.now)) };
+
+    ghost since_now = { λ s. (
+      refl,
+      λ told. goes_nowhere (D.disk s.disk.now)
+          ((D.disk s.disk.now).paths s.path.now)
+          (D.only_now s.disk.now),
+    ) };
+
+    ghost since_then = { λ old mid new first then. (
+      then.0 ∙ first.0,
+      λ told. goes_by_both
+          (D.disk old.disk.now) (D.disk mid.disk.now) (D.disk new.disk.now) old.path.now
+          mid.path.now first.0 (first.1 told) (then.1 told),
+    ) };
 
     fn put<T: Text>(&mut self, text: &mut T) -> Result<u64, ShelfFault> {
         match self.disk.put(self.path, text, self.room) {

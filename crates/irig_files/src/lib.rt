@@ -4,19 +4,24 @@
 mod disk;
 mod dump_file;
 mod file_shelf;
+mod file_system;
+mod files;
 mod in_place;
 mod intake;
 mod links;
+mod memory_system;
 mod put_file;
 mod room;
 mod system;
+mod way;
 mod whole;
 mod written;
 
 pub use disk::Disk;
 pub use dump_file::DumpFileFault;
 pub use file_shelf::FileShelf;
+pub use file_system::{Described, FileSystem};
+pub use files::Files;
 pub use intake::Parts;
 pub use room::Room;
-pub use system::System;
 pub use written::Written;

@@ -1,28 +1,31 @@
 //! Where a chain of symbolic links leads.
 
-ghost use Rattle.std.specs.Prelude.{◌≡◌, true, false, IfOk};
+ghost use Rattle.std.specs.Prelude.{◌≡◌, None, Some, true, false, IfOk, IsTrue, OnOk};
+ghost use Rattle.std.specs.Path.{path_buf_bytes};
+ghost use Rattle.irig_files.specs.Paths.{LeadsTo, followed};
 
+use crate::file_system::FileSystem;
 use irig_text::ShelfFault;
-use std::io::ErrorKind;
 use std::path::PathBuf;
-use std::rt::Files;
-use std::{fs, io};
 
 /// How many symbolic links a path may lead through.
 const LINKS: u32 = 40;
 
 /// Follows the chain of symbolic links from a path, and leaves in `target` where it leads.
-pub fn follow_links<R: Files + AllocGlobal>(
-    rt: &R,
+pub fn follow_links<C: FileSystem>(
+    system: &C,
     path: &str,
     target: &mut PathBuf,
-) -> Result<(), ShelfFault> {
+) -> Result<(), ShelfFault>
+    ensures { IsTrue C.is_told → OnOk result (LeadsTo (C.link_at system.now)
+        (C.is_other system.now) (C.disk system.now).paths path.now (path_buf_bytes target.new)) }
+{
     target.clear();
     let Ok(()) = target.push(path) else {
         return Err(ShelfFault);
     };
     for _ in 0..LINKS {
-        match follow_link(rt, target) {
+        match follow_link(system, target) {
             Ok(true) => {}
             Ok(false) => return Ok(()),
             Err(fault) => return Err(fault),
@@ -33,30 +36,32 @@ pub fn follow_links<R: Files + AllocGlobal>(
 
 /// Follows a symbolic link, and returns whether there was one. Only the text of a link takes
 /// memory.
-fn follow_link<R: Files + AllocGlobal>(rt: &R, target: &mut PathBuf) -> Result<bool, ShelfFault> {
-    match fs::read_link(rt, target.as_str()) {
-        Ok(next) => go_to(target, next.as_str()),
-        Err(error) => no_link(&error),
+fn follow_link<C: FileSystem>(system: &C, target: &mut PathBuf) -> Result<bool, ShelfFault>
+    ensures end { IsTrue C.is_told → IfOk result (λ is_link. is_link ≡ false
+        → (C.link_at system.now (path_buf_bytes target.old) ≡ None)
+        × (path_buf_bytes target.new ≡ path_buf_bytes target.old)) }
+    ensures link { IsTrue C.is_told → IfOk result (λ is_link. is_link ≡ true
+        → ((C.disk system.now).paths (path_buf_bytes target.new)
+        ≡ (C.disk system.now).paths (path_buf_bytes target.old))
+        × (C.is_other system.now (path_buf_bytes target.new)
+        → C.is_other system.now (path_buf_bytes target.old))) }
+{
+    match system.read_link(target.as_str()) {
+        Ok(Some(next)) => go_to(target, next.as_str()),
+        Ok(None) => Ok(false),
+        Err(_) => Err(ShelfFault),
     }
 }
 
 /// The target is where the text of a link leads to, which is there.
 fn go_to(target: &mut PathBuf, next: &str) -> Result<bool, ShelfFault>
-    ensures { IfOk result (λ is_link. is_link ≡ true) }
+    ensures link { IfOk result (λ is_link. is_link ≡ true) }
+    ensures to { OnOk result
+        (path_buf_bytes target.new ≡ followed (path_buf_bytes target.old) next.now) }
 {
     target.pop();
     match target.push(next) {
         Ok(()) => Ok(true),
         Err(_) => Err(ShelfFault),
-    }
-}
-
-/// No link was there, unless memory ran out.
-fn no_link(error: &io::Error) -> Result<bool, ShelfFault>
-    ensures { IfOk result (λ is_link. is_link ≡ false) }
-{
-    match error.kind() {
-        ErrorKind::OutOfMemory => Err(ShelfFault),
-        _ => Ok(false),
     }
 }

@@ -17,8 +17,8 @@ pub struct Room {
     pub block: Vec<u8>,
     /// The path of the file that is written.
     pub target: PathBuf,
-    /// The path of a new file, but for its number.
-    pub stem: PathBuf,
+    /// The name of a new file, but for its number.
+    pub stem: String,
     /// The name of a new file.
     pub name: String,
 }
@@ -31,7 +31,7 @@ impl Room {
         Ok(Room {
             block: new_block(alloc)?,
             target: PathBuf::with_capacity(alloc, NAME)?,
-            stem: PathBuf::with_capacity(alloc, NAME)?,
+            stem: String::with_capacity(alloc, NAME)?,
             name: String::with_capacity(alloc, NAME)?,
         })
     }

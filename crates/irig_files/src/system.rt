@@ -1,43 +1,38 @@
-//! The files of the system.
+//! The files of the system: each method is one call. Nothing is known of them.
 
-ghost use Rattle.std.specs.Prelude.{◌≡◌, None};
+ghost use Rattle.std.specs.Prelude.{None};
 
-use crate::disk::Disk;
 use crate::dump_file::{DumpFileFault, read_dump};
+use crate::file_system::{Described, FileSystem};
 use crate::intake::Parts;
-use crate::put_file::put_file;
-use crate::room::Room;
-use crate::written::Written;
-use irig_text::{ShelfFault, Text};
+use irig_disk::{SystemDir, SystemFault, SystemFolder};
 use irig_vcd::VcdFault;
 use std::alloc::Global;
+use std::fs::{Metadata, OpenFile, OpenOptions};
+use std::io::{ErrorKind, Write};
+use std::os::unix::fs::{MetadataExt, PermissionsExt};
+use std::path::PathBuf;
 use std::rt::Files;
+use std::{fs, io};
 
-/// The files of the system. Nothing is known of them. `docs/FORMATS.md` says how one is written.
+/// A file of the system, open to be described.
 #[derive(Drop)]
-pub struct System<'a, R> {
-    runtime: &'a R,
-}
+pub struct SystemSeen<F: Drop>(F);
 
-impl<'a, R> System<'a, R> {
-    /// The files that a runtime opens.
-    pub fn new(runtime: &'a R) -> System<'a, R>
-        ensures { result.runtime.now ≡ runtime.now }
-    {
-        System { runtime }
-    }
-}
+impl<R: Files + Print + AllocGlobal> FileSystem for SystemFolder<'_, R> {
+    type Seen = SystemSeen<R::File>;
 
-impl<R: Files + Print + AllocGlobal> Disk for System<'_, R> {
-    ghost held = { λ s path. None };
+    type Other = R::File;
 
-    ghost puts = { λ s. None };
+    ghost output_id = { λ _. None };
 
-    ghost left_at_first = { λ s path c. Unit {0} };
+    ghost is_other = { λ _ _. ⊥ };
 
-    ghost left_since = { λ s count path c. Unit {0} };
+    ghost link_at = { λ _ _. None };
 
-    ghost keeps = { λ s. tt };
+    ghost held = { λ _ _. None };
+
+    ghost follows = { λ _ _ text link. absurd (cc link) };
 
     fn read(
         &self,
@@ -45,15 +40,73 @@ impl<R: Files + Print + AllocGlobal> Disk for System<'_, R> {
         path: &str,
         wire: Option<&[u8]>,
     ) -> Result<Result<Parts, VcdFault>, DumpFileFault> {
-        read_dump(self.runtime, alloc, path, wire)
+        read_dump(self.runtime(), alloc, path, wire)
     }
 
-    fn put<T: Text>(
-        &mut self,
-        path: &str,
-        text: &mut T,
-        room: &mut Room,
-    ) -> Result<Written, ShelfFault> {
-        put_file(self.runtime, path, text, room)
+    fn describe(&self, path: &str) -> Result<Option<Described>, SystemFault> {
+        match fs::metadata(self.runtime(), path) {
+            Ok(found) => Ok(Some(described(&found))),
+            Err(error) if error.kind() == ErrorKind::NotFound => Ok(None),
+            Err(error) => Err(SystemFault(error)),
+        }
+    }
+
+    fn output(&self) -> Result<Option<(u64, u64)>, SystemFault> {
+        match fs::metadata(self.runtime(), "/dev/stdout") {
+            Ok(found) => Ok(Some((found.dev(), found.ino()))),
+            Err(error) if error.kind() == ErrorKind::NotFound => Ok(None),
+            Err(error) => Err(SystemFault(error)),
+        }
+    }
+
+    fn write_output(&self, bytes: &[u8]) -> Result<(), SystemFault> {
+        match io::writer(self.runtime()).write_all(bytes) {
+            Ok(()) => Ok(()),
+            Err(error) => Err(SystemFault(error)),
+        }
+    }
+
+    fn read_link(&self, path: &str) -> Result<Option<PathBuf>, SystemFault> {
+        match fs::read_link(self.runtime(), path) {
+            Ok(text) => Ok(Some(text)),
+            Err(error)
+                if error.kind() == ErrorKind::InvalidInput || error.kind() == ErrorKind::NotFound =>
+                { Ok(None) }
+            Err(error) => Err(SystemFault(error)),
+        }
+    }
+
+    fn open_folder(&self, dir: &mut SystemDir<R::File>, path: &str) -> Result<(), SystemFault> {
+        dir.open(self.runtime(), path)
+    }
+
+    fn open_other(&self, path: &str) -> Result<R::File, SystemFault> {
+        match OpenOptions::new().write(true).open(self.runtime(), path) {
+            Ok(file) => Ok(file),
+            Err(error) => Err(SystemFault(error)),
+        }
+    }
+
+    fn open_seen(&self, path: &str) -> Result<SystemSeen<R::File>, SystemFault> {
+        match OpenOptions::new().write(true).open(self.runtime(), path) {
+            Ok(file) => Ok(SystemSeen(file)),
+            Err(error) => Err(SystemFault(error)),
+        }
+    }
+
+    fn seen(&self, file: &SystemSeen<R::File>) -> Result<Described, SystemFault> {
+        match file.0.metadata() {
+            Ok(found) => Ok(described(&found)),
+            Err(error) => Err(SystemFault(error)),
+        }
+    }
+}
+
+/// What the system says of a file.
+fn described(found: &Metadata) -> Described {
+    Described {
+        is_file: found.is_file(),
+        mode: found.permissions().mode(),
+        id: (found.dev(), found.ino()),
     }
 }

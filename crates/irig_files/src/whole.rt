@@ -1,8 +1,9 @@
 //! A text written whole to a regular file.
 
-ghost use Rattle.std.specs.Prelude.{◌≡◌, ◌⊎◌, length, Ok, IfOk, OnOk, OnErr, IsErr};
-ghost use Rattle.irig_disk.specs.Disk.{LeavesOnly};
-ghost use Rattle.irig_disk.specs.Put.{OldOrNewIfThere, IsKept, IsPut, SeenSameIfThere, held};
+ghost use Rattle.std.specs.Prelude.{◌≡◌, length, Ok, IfOk, OnErr, IsErr, IsTrue};
+ghost use Rattle.irig_disk.specs.Name.{IsName};
+ghost use Rattle.irig_disk.specs.Put.{held};
+ghost use Rattle.irig_files.specs.Once.{Replaces};
 
 use irig_disk::{Folder, Kept, put_text};
 use irig_text::{ShelfFault, Text};
@@ -12,6 +13,7 @@ use irig_text::{ShelfFault, Text};
 /// `name`, and the parts of the text wait in the block.
 pub fn write_whole<F: Folder, T: Text>(
     folder: &mut F,
+    dir: &F::Dir,
     name: &mut String,
     target: &str,
     stem: &str,
@@ -19,22 +21,15 @@ pub fn write_whole<F: Folder, T: Text>(
     text: &mut T,
     block: &mut Vec<u8>,
 ) -> Result<Kept, ShelfFault>
+    requires { IsName target.now }
     // A crash at any moment of the call leaves the old text at the target or the new one, whole,
-    // and each other name that was there as it was.
-    ensures any_moment { F.is_told → LeavesOnly (F.disk folder.old) (F.disk folder.new)
-        (OldOrNewIfThere (F.disk folder.old) target.now
-        (held F.usual_mode mode (T.rest text.old))) }
-    // After `Ok` each crash leaves the new text.
-    ensures ok { F.is_told → OnOk result (IsKept (F.disk folder.old) (F.disk folder.new)
-        target.now (held F.usual_mode mode (T.rest text.old))) }
+    // and each other place that had a file as it was. After `Ok` each crash leaves the new text.
     // After a fault all is seen as it was, or the names could not be kept.
-    ensures err { F.is_told → OnErr result
-        (SeenSameIfThere (F.disk folder.old) (F.disk folder.new) target.now
-        ⊎ IsPut (F.disk folder.old) (F.disk folder.new) target.now
-        (held F.usual_mode mode (T.rest text.old))) }
+    ensures put { IsTrue F.is_told → Replaces (F.disk folder.old) (F.disk folder.new)
+        (F.place dir.now target.now) (held F.usual_mode mode (T.rest text.old)) result }
     ensures count { IfOk result (λ kept. kept.count ≡ length (T.rest text.old)) }
 {
-    or_shelf_fault(put_text(folder, name, target, stem, mode, text, block))
+    or_shelf_fault(put_text(folder, dir, name, target, stem, mode, text, block))
 }
 
 /// What a call gives; its error is not reported.

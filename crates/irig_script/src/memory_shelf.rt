@@ -54,6 +54,12 @@ impl MemoryShelf {
 impl Shelf for MemoryShelf {
     ghost known = { λ s. known_of s };
 
+    ghost since = { λ _ _. Unit {0} };
+
+    ghost since_now = { λ _. tt };
+
+    ghost since_then = { λ _ _ _ _ _. tt };
+
     fn put<T: Text>(&mut self, text: &mut T) -> Result<u64, ShelfFault>
         ensures count { IfOk result (λ count. count ≡ length (T.rest text.old)) }
         ensures ok { OnOk result

@@ -50,6 +50,7 @@ pub fn run_on_dump<R: Read, W: Write, S: Shelf>(
         (desk (W.contents out.new) (S.known shelf.new)) result }
     ensures reads { ReadsTo (R.remaining script.old) (R.remaining script.new) }
     ensures label { (S.known shelf.new).label ≡ (S.known shelf.old).label }
+    ensures since { S.since shelf.old shelf.new }
 {
     match Session::open_dump(alloc, source, wire, format) {
         Ok(session) => run_opened(session, script, out, shelf),
@@ -77,6 +78,7 @@ pub fn run_on_parts<R: Read, W: Write, S: Shelf>(
         (desk (W.contents out.new) (S.known shelf.new)) result }
     ensures reads { ReadsTo (R.remaining script.old) (R.remaining script.new) }
     ensures label { (S.known shelf.new).label ≡ (S.known shelf.old).label }
+    ensures since { S.since shelf.old shelf.new }
 {
     match Session::open_parts(alloc, recording, journal, format) {
         Ok(session) => run_opened(session, script, out, shelf),
@@ -98,6 +100,7 @@ fn run_opened<R: Read, W: Write, S: Shelf>(
         (desk (W.contents out.new) (S.known shelf.new)) result }
     ensures reads { ReadsTo (R.remaining script.old) (R.remaining script.new) }
     ensures label { (S.known shelf.new).label ≡ (S.known shelf.old).label }
+    ensures since { S.since shelf.old shelf.new }
 {
     as_run(engine::run(&mut session, script, out, shelf))
 }

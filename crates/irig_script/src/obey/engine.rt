@@ -42,6 +42,7 @@ pub fn run<R: Read, W: Write, S: Shelf>(
         (desk (W.contents out.new) (S.known shelf.new)) session.old session.new result }
     ensures reads { ReadsTo (R.remaining script.old) (R.remaining script.new) }
     ensures label { (S.known shelf.new).label ≡ (S.known shelf.old).label }
+    ensures since { S.since shelf.old shelf.new }
 {
     let mut line = Line::new();
     let mut buffer = [0; READ_LIMIT];
@@ -74,12 +75,13 @@ fn obey_read<R: Read, W: Write, S: Shelf>(
     shelf: &mut S,
     status: &mut Status,
 ) -> Result<bool, RunFault>
-    ensures { (reads : ℕ) (start : Option (List ℕ)) (from : Desk) (first : Machine)
+    ensures goes_on { (reads : ℕ) (start : Option (List ℕ)) (from : Desk) (first : Machine)
         → reads < 2 ^ 32 → IsUnderway reads start (R.remaining script.old) from
         (desk (W.contents out.old) (S.known shelf.old)) status.old first session.old line.old
         → GoesOn reads start (R.remaining script.new) from
         (desk (W.contents out.new) (S.known shelf.new)) status.new first session.new line.new
         result }
+    ensures since { S.since shelf.old shelf.new }
 {
     let Ok(count) = read_part(script, buffer) else {
         return Err(RunFault::ReadFailed);
@@ -139,6 +141,7 @@ fn obey_part<W: Write, S: Shelf>(
         (desk (W.contents out.old) (S.known shelf.old))
         (desk (W.contents out.new) (S.known shelf.new))
         session.old session.new (text ++ bytes.now)) }
+    ensures since { S.since shelf.old shelf.new }
 {
     for byte in bytes {
         match obey_byte(line, *byte, session, out, shelf, status) {
@@ -167,6 +170,7 @@ fn obey_byte<W: Write, S: Shelf>(
         (desk (W.contents out.old) (S.known shelf.old))
         (desk (W.contents out.new) (S.known shelf.new))
         session.old session.new (text ++ byte ∷ [])) }
+    ensures since { S.since shelf.old shelf.new }
 {
     if byte != b'\n' {
         line.push(byte);

@@ -22,8 +22,9 @@ use irig_text::Shelf;
 
 /// Obeys a line; `None` if it ends the script.
 pub fn obey_line<S: Shelf>(line: &Line, session: &mut Session, shelf: &mut S) -> Option<Reply>
-    ensures { Answers result (S.known shelf.old) (S.known shelf.new)
+    ensures answers { Answers result (S.known shelf.old) (S.known shelf.new)
         session.old session.new line.now }
+    ensures since { S.since shelf.old shelf.new }
 {
     let Some(text) = line.text() else {
         return Some(Reply::LineTooLong);
@@ -41,6 +42,7 @@ fn write_or_obey<S: Shelf>(command: Command, session: &mut Session, shelf: &mut 
     ensures answer { Obeys command session.old result session.new }
     ensures put { Puts (S.known shelf.old) (S.known shelf.new)
         (texts_put (texts_of command session.old) result) (failures_of result) }
+    ensures since { S.since shelf.old shelf.new }
 {
     match command {
         Command::Write => write_dump(session, shelf),

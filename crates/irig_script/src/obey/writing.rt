@@ -19,6 +19,7 @@ pub fn write_dump<S: Shelf>(session: &Session, shelf: &mut S) -> Reply
     ensures answer { Writes (dump_text session.now) result }
     ensures put { Puts (S.known shelf.old) (S.known shelf.new)
         (texts_put (dump_text session.now ∷ []) result) (failures_of result) }
+    ensures since { S.since shelf.old shelf.new }
 {
     write(&mut session.text_parts(), shelf)
 }
@@ -29,6 +30,7 @@ pub fn write_saved<S: Shelf>(session: &Session, shelf: &mut S) -> Reply
     ensures answer { Writes (saved_text (work_in session.now)) result }
     ensures put { Puts (S.known shelf.old) (S.known shelf.new)
         (texts_put (saved_text (work_in session.now) ∷ []) result) (failures_of result) }
+    ensures since { S.since shelf.old shelf.new }
 {
     write(&mut session.saved_parts(), shelf)
 }
@@ -38,6 +40,7 @@ fn write<T: Text, S: Shelf>(text: &mut T, shelf: &mut S) -> Reply
     ensures answer { Writes (T.rest text.old) result }
     ensures put { Puts (S.known shelf.old) (S.known shelf.new)
         (texts_put (T.rest text.old ∷ []) result) (failures_of result) }
+    ensures since { S.since shelf.old shelf.new }
 {
     match shelf.put(text) {
         Ok(count) => Reply::Written(count),

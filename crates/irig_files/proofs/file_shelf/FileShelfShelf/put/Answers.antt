@@ -1,19 +1,34 @@
+use Rattle.irig_text.specs.declared.shelf.ShelfFault.{ShelfFault}
+use Rattle.irig_files.specs.declared.written.Written.{Written}
 use Rattle.std.proofs.Common.{refl, arith}
 use Rattle.irig_files.proofs.PutsAt.{texts_at-put, texts_at-none}
+use Rattle.irig_files.proofs.Replacing.{goes_once}
 use Rattle.irig_files.proofs.file_shelf.FileShelfShelf.put.Goals as goal
 
 pub returns-in-Ok-clause-ok : goal.returns-in-Ok-clause-ok
 returns-in-Ok-clause-ok g c = record {
-  put = texts_at-put c.args.self.now.path.now (g.T.Text.rest c.args.text.now) (g.D.Disk.puts c.args.self.now.disk.now) (g.D.Disk.puts c.put.new.self)
-      c.in-Ok.ensures.ok;
+  put = texts_at-put ShelfFault g.D.Disk.is_told (g.D.Disk.disk c.args.self.now.disk.now) (g.D.Disk.disk c.put.new.self) c.args.self.now.path.now (g.T.Text.rest c.args.text.now) c.in-Ok.written (rw c.in-Ok.is at c.put.ensures.put);
   failed = omega arith;
   label = refl;
 }
 
 pub returns-in-Err-clause-err : goal.returns-in-Err-clause-err
 returns-in-Err-clause-err g c = record {
-  put = texts_at-none c.args.self.now.path.now (g.T.Text.rest c.args.text.now) (g.D.Disk.puts c.args.self.now.disk.now) (g.D.Disk.puts c.put.new.self)
-      c.in-Err.ensures.err;
+  put = texts_at-none Written g.D.Disk.is_told (g.D.Disk.disk c.args.self.now.disk.now) (g.D.Disk.disk c.put.new.self) c.args.self.now.path.now (g.T.Text.rest c.args.text.now) c.in-Err.fault (rw c.in-Err.is at c.put.ensures.put);
   failed = omega arith;
   label = refl;
 }
+
+pub returns-in-Ok-clause-since : goal.returns-in-Ok-clause-since
+returns-in-Ok-clause-since g c = (
+  refl,
+  λ told.
+      goes_once _ _ _ c.args.self.now.path.now _ c.put.result (g.met.D.Disk.counts_now _) (g.met.D.Disk.only_now _) (g.met.D.Disk.only_now _) refl (c.put.ensures.put told).1,
+)
+
+pub returns-in-Err-clause-since : goal.returns-in-Err-clause-since
+returns-in-Err-clause-since g c = (
+  refl,
+  λ told.
+      goes_once _ _ _ c.args.self.now.path.now _ c.put.result (g.met.D.Disk.counts_now _) (g.met.D.Disk.only_now _) (g.met.D.Disk.only_now _) refl (c.put.ensures.put told).1,
+)

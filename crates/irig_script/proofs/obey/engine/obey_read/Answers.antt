@@ -2,11 +2,11 @@ use Rattle.std.proofs.Common.{rules, ◌≡◌, ◌≤◌, ◌<◌, take, length
 use Rattle.irig_script.proofs.ObeyLemmas.Reads.{read_failed, read_obeyed, read_last, read_broke}
 use Rattle.irig_script.proofs.obey.engine.obey_read.Goals as goal
 
-pub returns-in_default : goal.returns-in_default
-returns-in_default g c = λ reads start from first few h. read_failed reads start _ _ from _ _ first _ _ few h c.in_default.ensures.bytes
+pub returns-in_default-clause-goes_on : goal.returns-in_default-clause-goes_on
+returns-in_default-clause-goes_on g c = λ reads start from first few h. read_failed reads start _ _ from _ _ first _ _ few h c.in_default.ensures.bytes
 
-pub returns-in_default-obey_part : goal.returns-in_default-obey_part
-returns-in_default-obey_part g c = λ reads start from first few h.
+pub returns-in_default-obey_part-clause-goes_on : goal.returns-in_default-obey_part-clause-goes_on
+returns-in_default-obey_part-clause-goes_on g c = λ reads start from first few h.
     let n = c.in-Ok.count in
     let part = take n c.read_part.new.buffer in
     let whole : length c.read_part.new.buffer ≡ 4096 = search rules in
@@ -16,15 +16,15 @@ returns-in_default-obey_part g c = λ reads start from first few h.
     (λ e. c.in-Ok.ensures.bytes.1 (omega (arith, e, length-take n c.read_part.new.buffer, c.in-Ok.ensures.bound)) room) short c.with_end-bytes.ensures
     c.in_default-obey_part.ensures.err
 
-pub returns-then-count-eq0 : goal.returns-then-count-eq0
-returns-then-count-eq0 g c = λ reads start from first few h.
+pub returns-then-count-eq0-clause-goes_on : goal.returns-then-count-eq0-clause-goes_on
+returns-then-count-eq0-clause-goes_on g c = λ reads start from first few h.
     let none = rw c.if-count-eq0.true at c.in-Ok.ensures.bytes.0 in
     let room : 0 < length c.read_part.new.buffer = search rules in
     let bytes = rw c.if-count-eq0.true at c.with_end-bytes.ensures in
     read_last _ reads start _ _ from _ _ _ _ first _ _ _ _ _ few h none (c.in-Ok.ensures.bytes.1 c.if-count-eq0.true room) bytes c.in-Ok-obey_part.ensures.ok
 
-pub returns : goal.returns
-returns g c = λ reads start from first few h.
+pub returns-clause-goes_on : goal.returns-clause-goes_on
+returns-clause-goes_on g c = λ reads start from first few h.
     let n = c.in-Ok.count in
     let part = take n c.read_part.new.buffer in
     let whole : length c.read_part.new.buffer ≡ 4096 = search rules in

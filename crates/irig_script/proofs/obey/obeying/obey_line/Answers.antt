@@ -8,8 +8,8 @@ use Rattle.irig_script.proofs.ObeyLemmas.Desks.{puts_none}
 use Rattle.irig_script.proofs.ObeyLemmas.Quits.{bad_goes_on, long_goes_on, other_goes_on, quit_ends}
 use Rattle.irig_script.proofs.obey.obeying.obey_line.Goals as goal
 
-pub returns-in_default : goal.returns-in_default
-returns-in_default g c = (
+pub returns-in_default-clause-answers : goal.returns-in_default-clause-answers
+returns-in_default-clause-answers g c = (
   [],
   λ text h.
       (let long = c.in_default.ensures.long text h in
@@ -17,8 +17,8 @@ returns-in_default g c = (
   puts_none _,
 )
 
-pub returns-in-Ok-Quit : goal.returns-in-Ok-Quit
-returns-in-Ok-Quit g c =
+pub returns-in-Ok-Quit-clause-answers : goal.returns-in-Ok-Quit-clause-answers
+returns-in-Ok-Quit-clause-answers g c =
     let meant : Means command.Quit c.in-Some.text.now = search rules in (
       λ text h.
           (let whole = c.in-Some.ensures.whole text h in
@@ -27,8 +27,8 @@ returns-in-Ok-Quit g c =
       refl,
     )
 
-pub returns-in-Ok : goal.returns-in-Ok
-returns-in-Ok g c =
+pub returns-in-Ok-clause-answers : goal.returns-in-Ok-clause-answers
+returns-in-Ok-clause-answers g c =
     let more : c.in-Ok.command ≢ command.Quit = search rules in (
       texts_put (texts_of c.in-Ok.command c.args.session.now) c.write_or_obey.result,
       λ text h.
@@ -38,8 +38,8 @@ returns-in-Ok g c =
       c.write_or_obey.ensures.put,
     )
 
-pub returns-in-Err : goal.returns-in-Err
-returns-in-Err g c = (
+pub returns-in-Err-clause-answers : goal.returns-in-Err-clause-answers
+returns-in-Err-clause-answers g c = (
   [],
   λ text h.
       (let whole = c.in-Some.ensures.whole text h in

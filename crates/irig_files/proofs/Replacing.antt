@@ -1,0 +1,153 @@
+-- One write is a run of writes.
+use Rattle.std.proofs.Common.{◌≡◌, ◌≢◌, ◌⊎◌, inl, inr, ⊎_elim, refl, sym, ◌∙◌, ap, subst, arith, ℕ, List, [], ◌∷◌, ◌++◌, Option, Some, None, Result, Ok, Err, ◌≤◌}
+use Rattle.std.proofs.lemmas.List.{append-nil}
+use Rattle.irig_disk.specs.Disk.{Disk, IsPlace, seen_under, MayLeave, LeavesOnly}
+use Rattle.irig_disk.specs.Held.{Held}
+use Rattle.irig_disk.specs.Put.{IsKept, IsPut, OldIfThere, OldOrNewIfThere, SeenSameIfThere, TriesNone, TriesOne}
+use Rattle.irig_disk.specs.Stays.{Stays}
+use Rattle.irig_disk.specs.Trail.{Step, Moved, NotMoved, Synced}
+use Rattle.irig_disk.specs.Writing.{IsUnchanged}
+use Rattle.irig_disk.proofs.Names.{same_or_not}
+use Rattle.irig_files.specs.Once.{FailsToPut, PutsOnce, Replaces}
+use Rattle.irig_files.specs.Writes.{AreAt, EachIsKept, Goes, IsLeftBy, IsMeant, Write, write, writes_in}
+
+-- what is seen is there
+shown : (d : Disk) (n : List ℕ) (h : Held) → seen_under d n ≡ Some h → d.leads n ≢ None
+shown d n h seen none =
+    let clash : None ≡ Some h = sym (ap (λ x. elim x as (λ _. Option Held) [ None ↦ None | Some file ↦ Some (d.holds file) ]) none) ∙ seen in absurd (cc clash)
+
+not_shown : (d : Disk) (x : Option ℕ) → elim x as (λ _. Option Held) [ None ↦ None | Some file ↦ Some (d.holds file) ] ≡ None → x ≡ None
+not_shown d None is = refl
+not_shown d (Some file) is = absurd (cc is)
+
+still_there : (a b : Disk) (n : List ℕ) → seen_under b n ≡ seen_under a n → a.leads n ≢ None → b.leads n ≢ None
+still_there a b n same is none = is (not_shown a (a.leads n)
+    (sym same ∙ ap (λ x. elim x as (λ _. Option Held) [ None ↦ None | Some file ↦ Some (b.holds file) ]) none))
+
+there_by_put : (a b : Disk) (place : List ℕ) (held : Held) → IsPut a b place held → (n : List ℕ) → a.leads n ≢ None → b.leads n ≢ None
+there_by_put a b place held put n is = ⊎_elim
+    (λ at none. shown b place held put.at_target (ap (λ m. b.leads m) (sym at) ∙ none))
+    (λ ne. still_there a b n (put.others n ne) is)
+    (same_or_not n place)
+
+there_by_fault : (a b : Disk) (place : List ℕ) (held : Held) → SeenSameIfThere a b place ⊎ IsPut a b place held → (n : List ℕ) → a.leads n ≢ None
+    → b.leads n ≢ None
+there_by_fault a b place held (inl same) n is = still_there a b n (same n (inr is)) is
+there_by_fault a b place held (inr put) n is = there_by_put a b place held put n is
+
+-- the target, and what was there, is no place of a new file
+meant_there : (a : Disk) (place n : List ℕ) → IsMeant a (Some place) n → (n ≡ place) ⊎ (a.leads n ≢ None)
+meant_there a place n (inl is) = inr is
+meant_there a place n (inr at) = inl (cc at)
+
+module _ (old new : Disk) (place : List ℕ) (held : Held)
+    (counts : (t : ℕ) (n : List ℕ) (c : Option Held) → t ≤ old.moment → MayLeave old n c → old.left_since t n c)
+    (at_first : (n : List ℕ) (c : Option Held) → old.left_since old.moment n c → MayLeave old n c) where
+  one_moment : LeavesOnly old new (OldOrNewIfThere old place held) → (at : Option ℕ) → (t : ℕ) (n : List ℕ) (c : Option Held) → t ≤ old.moment
+      → IsMeant old (Some place) n → new.left_since t n c → old.left_since t n c ⊎ IsLeftBy (write place held at ∷ []) n c
+  one_moment only at t n c le meant l = ⊎_elim (λ was. inl was)
+      (λ may. ⊎_elim (λ was. inl (counts t n c le was)) (λ is. inr (inl (sym is.0, is.1))) (may (meant_there old place n meant)))
+      (only.before t n c le l)
+
+  no_moment : LeavesOnly old new (OldIfThere old place) → (t : ℕ) (n : List ℕ) (c : Option Held) → t ≤ old.moment
+      → IsMeant old (Some place) n → new.left_since t n c → old.left_since t n c ⊎ IsLeftBy [] n c
+  no_moment only t n c le meant l = ⊎_elim (λ was. inl was)
+      (λ may. inl (counts t n c le (may (meant_there old place n meant))))
+      (only.before t n c le l)
+
+  first_moment : (ws : List Write) (n : List ℕ) (c : Option Held) → old.left_since old.moment n c ⊎ IsLeftBy ws n c → MayLeave old n c ⊎ IsLeftBy ws n c
+  first_moment ws n c (inl was) = inl (at_first n c was)
+  first_moment ws n c (inr by) = inr by
+
+  -- one that failed
+  pub goes_by_fault : IsPlace old place → LeavesOnly old new (OldOrNewIfThere old place held) → FailsToPut old new place held → Goes old new (Some place)
+  goes_by_fault at only fault = go fault.log
+    where
+      go : TriesOne old new place held → Goes old new (Some place)
+      go (inl none) = record {
+        more = [];
+        grows = none.log ∙ sym (append-nil old.log);
+        begins = refl;
+        later = only.later;
+        paths = fault.paths at;
+        there = there_by_fault old new place held fault.seen;
+        at_target = tt;
+        any_moment = λ n c meant l. first_moment [] n c (no_moment none.moments old.moment n c (omega arith) meant l);
+        before = no_moment none.moments;
+        kept = tt;
+      }
+      go (inr (inl moved)) = record {
+        more = Moved place (Some held) ∷ [];
+        grows = moved;
+        begins = refl;
+        later = only.later;
+        paths = fault.paths at;
+        there = there_by_fault old new place held fault.seen;
+        at_target = (refl, tt);
+        any_moment = λ n c meant l. first_moment (write place held None ∷ []) n c (one_moment only None old.moment n c (omega arith) meant l);
+        before = one_moment only None;
+        kept = (tt, tt);
+      }
+      go (inr (inr moved)) = record {
+        more = NotMoved place (Some held) ∷ [];
+        grows = moved;
+        begins = refl;
+        later = only.later;
+        paths = fault.paths at;
+        there = there_by_fault old new place held fault.seen;
+        at_target = (refl, tt);
+        any_moment = λ n c meant l. first_moment (write place held None ∷ []) n c (one_moment only None old.moment n c (omega arith) meant l);
+        before = one_moment only None;
+        kept = (tt, tt);
+      }
+
+  -- one that succeeded
+  pub goes_by_write : IsPlace old place → LeavesOnly old new (OldOrNewIfThere old place held) → IsKept old new place held
+      → ((n : List ℕ) (c : Option Held) → new.left_since new.moment n c → MayLeave new n c) → Goes old new (Some place)
+  goes_by_write at only kept now = record {
+    more = Moved place (Some held) ∷ Synced new.moment ∷ [];
+    grows = kept.log;
+    begins = refl;
+    later = only.later;
+    paths = kept.paths at;
+    there = there_by_put old new place held kept.put;
+    at_target = (refl, tt);
+    any_moment = λ n c meant l.
+        first_moment (write place held (Some new.moment) ∷ []) n c (one_moment only (Some new.moment) old.moment n c (omega arith) meant l);
+    before = one_moment only (Some new.moment);
+    kept = (
+      record {
+        began = only.later;
+        ended = omega arith;
+        there = shown new place held kept.put.at_target;
+        left = λ c l. inl (kept.kept c (now place c l));
+      },
+      tt,
+    );
+  }
+
+-- no file was changed
+goes_unchanged : (old new : Disk) → ((t : ℕ) (n : List ℕ) (c : Option Held) → t ≤ old.moment → MayLeave old n c → old.left_since t n c)
+    → IsUnchanged old new → Goes old new None
+goes_unchanged old new counts same = record {
+  any_moment = λ n c meant l. inl (same.moments.each n c l);
+  more = [];
+  grows = same.stays.names.log ∙ sym (append-nil old.log);
+  begins = refl;
+  later = same.moments.later;
+  paths = same.stays.names.paths;
+  there = λ n is none. is (sym (same.stays.names.seen n) ∙ none);
+  at_target = tt;
+  before = λ t n c le meant l. ⊎_elim (λ was. inl was) (λ may. inl (counts t n c le may)) (same.moments.before t n c le l);
+  kept = tt;
+}
+
+-- one write, whatever the path leads to
+pub goes_once : {T E : Type 0} (old new : Disk) (target : Option (List ℕ)) (path : List ℕ) (held : Held) (result : Result T E)
+    → ((t : ℕ) (n : List ℕ) (c : Option Held) → t ≤ old.moment → MayLeave old n c → old.left_since t n c)
+    → ((n : List ℕ) (c : Option Held) → old.left_since old.moment n c → MayLeave old n c)
+    → ((n : List ℕ) (c : Option Held) → new.left_since new.moment n c → MayLeave new n c)
+    → old.paths path ≡ target → PutsOnce old new target held result → Goes old new target
+goes_once old new None path held result counts first now at once = goes_unchanged old new counts once
+goes_once old new (Some place) path held (Ok x) counts first now at once = goes_by_write old new place held counts first (path, at) once.any_moment once.ok now
+goes_once old new (Some place) path held (Err e) counts first now at once = goes_by_fault old new place held counts first (path, at) once.any_moment once.err

@@ -1,0 +1,18 @@
+use Rattle.std.proofs.Common.{rules, ◌≡◌, ◌∙◌, ℕ, List, [], ap, refl, subst, sym, ⊎_elim, inl, inr}
+use Rattle.std.proofs.lemmas.Paths.{path_join_absolute, path_join_relative}
+use Rattle.std.specs.Path.{path_buf_bytes, path_join, slash}
+use Rattle.std.specs.Prelude.{slice_index}
+use Rattle.std.proofs.lemmas.Bool.{cases_eq}
+use Rattle.irig_files.proofs.links.follow_links.Goals as goal
+
+-- a path in no folder
+join_none : (path : List ℕ) → path_join [] path ≡ path
+join_none path = ⊎_elim (λ is. path_join_absolute [] path is) (λ ne. path_join_relative [] path ne) (cases_eq (slice_index path 0) slash)
+
+pub loop-init : goal.loop-init
+loop-init g c =
+    let at : path_buf_bytes c.push.new.self ≡ c.args.path.now = search (rules, join_none c.args.path.now) in
+    record {
+      same = λ told. ap (g.C.Folder.disk c.args.system.now).paths at;
+      other = λ told. subst (g.C.FileSystem.is_other c.args.system.now) at;
+    }

@@ -1,0 +1,25 @@
+-- What one write makes of a disk. This project's own.
+use Rattle.std.specs.Prelude.{◌≡◌, ◌⊎◌, ℕ, List, Option, Some, None, Result, OnOk, OnErr}
+use Rattle.irig_disk.specs.Disk.{Disk, IsPlace, LeavesOnly}
+use Rattle.irig_disk.specs.Held.{Held}
+use Rattle.irig_disk.specs.Put.{IsKept, IsPut, OldOrNewIfThere, SeenSameIfThere, TriesOne}
+use Rattle.irig_disk.specs.Writing.{IsUnchanged}
+
+-- what a write that does not succeed leaves at its place
+pub record FailsToPut (old new : Disk) (place : List ℕ) (held : Held) : Type 0 where
+  pub seen : SeenSameIfThere old new place ⊎ IsPut old new place held
+  pub log : TriesOne old new place held
+  pub paths : IsPlace old place → new.paths ≡ old.paths
+
+-- the file at the place is replaced whole, or not
+pub record Replaces {T E : Type 0} (old new : Disk) (place : List ℕ) (held : Held)
+    (result : Result T E) : Type 0 where
+  pub any_moment : LeavesOnly old new (OldOrNewIfThere old place held)
+  pub ok : OnOk result (IsKept old new place held)
+  pub err : OnErr result (FailsToPut old new place held)
+
+-- that, if the path leads to a place of a regular file; if it leads to anything else, no file is
+-- changed
+abbrev pub PutsOnce : {T E : Type 0} → Disk → Disk → Option (List ℕ) → Held → Result T E → Type 0
+PutsOnce old new None held result = IsUnchanged old new
+PutsOnce old new (Some place) held result = Replaces old new place held result

@@ -1,0 +1,13 @@
+-- How a text is written to what a path leads to. This project's own.
+use Rattle.std.specs.Prelude.{◌≡◌, ℕ, List, Option, None}
+use Rattle.irig_files.specs.Paths.{LeadsTo}
+use Rattle.irig_files.specs.declared.way.Way.{Way}
+use Rattle.irig_files.specs.declared.way.Way.TheVariants.{Replaced, Output, Other}
+
+-- only what is no place of a regular file is not replaced
+abbrev pub IsWay : (List ℕ → Option (List ℕ)) → (List ℕ → Type 0)
+    → (List ℕ → Option (List ℕ)) → List ℕ → List ℕ → Way → Type 0
+IsWay link_at is_other paths path target (Replaced mode) =
+    LeadsTo link_at is_other paths path target × (is_other path → ⊥)
+IsWay link_at is_other paths path target Output = paths path ≡ None
+IsWay link_at is_other paths path target Other = paths path ≡ None

@@ -1,0 +1,106 @@
+//! Single calls on paths.
+
+ghost use Rattle.std.specs.Prelude.{◌≡◌, ◌≢◌, ◌<◌, ◌^◌, ℕ, List, Option, None, Some, IfOk, IfSome};
+ghost use Rattle.std.specs.Prelude.{IsErrOf, IsTrue, MatchOption, OnOk, codes, false, length};
+ghost use Rattle.std.specs.Prelude.{option_map, true, ⊤};
+ghost use Rattle.std.specs.Path.{path_buf_bytes};
+ghost use Rattle.irig_vcd.specs.Answer.{name_of};
+ghost use Rattle.irig_files.specs.Paths.{IsFolderOf, followed};
+ghost use Rattle.irig_files.specs.Reads.{IsReadOf};
+
+use crate::dump_file::DumpFileFault;
+use crate::intake::Parts;
+use irig_disk::Folder;
+use irig_vcd::VcdFault;
+use std::alloc::Global;
+use std::io::Write;
+use std::path::PathBuf;
+
+/// What a call says of a file.
+#[derive(Clone, Copy)]
+pub struct Described {
+    /// Whether it is a regular one.
+    pub is_file: bool,
+    /// Its mode.
+    pub mode: u32,
+    /// The numbers that no other file has.
+    pub id: (u64, u64),
+}
+
+/// Files and folders by their paths. Each method is one call.
+pub trait FileSystem: Folder {
+    /// A regular file, open to be described.
+    type Seen: Drop;
+
+    /// What is no regular file, open to be written.
+    type Other: Write + Drop;
+
+    /// The file that the program's answers go to, if it is one.
+    ghost output_id: { Self → Option (ℕ × ℕ) };
+
+    /// A path leads to what is no regular file, or to the one that the answers go to.
+    ghost is_other: { Self → List ℕ → Type 0 };
+
+    /// The text of the link at a path, if one is there.
+    ghost link_at: { Self → List ℕ → Option (List ℕ) };
+
+    /// What the file at a path holds, if it is known.
+    ghost held: { Self → List ℕ → Option (List ℕ) };
+
+    /// Reads the dump in the file at a path, of the wire of a name, or of the one wire of one bit.
+    fn read(
+        &self,
+        alloc: Global,
+        path: &str,
+        wire: Option<&[u8]>,
+    ) -> Result<Result<Parts, VcdFault>, DumpFileFault>
+        ensures read { IfOk result (IsReadOf (held self.now path.now) (name_of wire.entry)) }
+        ensures long { IsErrOf result DumpFileFault.TooLong
+            → IfSome (held self.now path.now) (λ all. 2 ^ 28 < length all) };
+
+    /// What a path leads to; none if nothing is there.
+    fn describe(&self, path: &str) -> Result<Option<Described>, Self::Fault>
+        ensures none { IsTrue Self.is_told → IfOk result
+            (λ found. MatchOption found (is_other self.now path.now → ⊥) (λ _. ⊤)) }
+        ensures file { IsTrue Self.is_told → IfOk result (λ found. IfSome found
+            (λ d. d.is_file ≡ true → Some d.id ≢ output_id self.now
+            → is_other self.now path.now → ⊥)) }
+        ensures other { IsTrue Self.is_told → IfOk result (λ found. IfSome found
+            (λ d. d.is_file ≡ false → (Self.disk self.now).paths path.now ≡ None)) }
+        ensures output { IsTrue Self.is_told → IfOk result (λ found. IfSome found
+            (λ d. Some d.id ≡ output_id self.now
+            → (Self.disk self.now).paths path.now ≡ None)) };
+
+    /// What the program's answers go to; none if they go nowhere.
+    fn output(&self) -> Result<Option<(u64, u64)>, Self::Fault>
+        ensures { IsTrue Self.is_told → IfOk result (λ found. found ≡ output_id self.now) };
+
+    /// Writes to where the program's answers go.
+    fn write_output(&self, bytes: &[u8]) -> Result<(), Self::Fault>;
+
+    /// The text of the link at a path; none if no link is there.
+    fn read_link(&self, path: &str) -> Result<Option<PathBuf>, Self::Fault>
+        ensures { IsTrue Self.is_told → IfOk result
+            (λ found. option_map path_buf_bytes found ≡ link_at self.now path.now) };
+
+    /// Opens the folder at a path.
+    fn open_folder(&self, dir: &mut Self::Dir, path: &str) -> Result<(), Self::Fault>
+        ensures { IsTrue Self.is_told → OnOk result (IsFolderOf (link_at self.now)
+            (is_other self.now) (Self.disk self.now).paths (Self.place dir.new) path.now) };
+
+    /// Opens what is no regular file, to write to it.
+    fn open_other(&self, path: &str) -> Result<Self::Other, Self::Fault>
+        requires { IsTrue Self.is_told → (Self.disk self.now).paths path.now ≡ None };
+
+    /// Opens a file as if to write to it. It fails if it must not be written.
+    fn open_seen(&self, path: &str) -> Result<Self::Seen, Self::Fault>;
+
+    /// What an open file is.
+    fn seen(&self, file: &Self::Seen) -> Result<Described, Self::Fault>;
+
+    /// A link leads where its text leads.
+    ghost follows: { (system : Self) (path : List ℕ) (text : List ℕ)
+        → link_at system path ≡ Some text
+        → ((Self.disk system).paths (followed path text) ≡ (Self.disk system).paths path)
+        × (is_other system (followed path text) → is_other system path) };
+}

@@ -1,0 +1,60 @@
+//! The files of a file system.
+
+ghost use Rattle.std.specs.Prelude.{◌≡◌};
+
+use crate::disk::Disk;
+use crate::dump_file::DumpFileFault;
+use crate::file_system::FileSystem;
+use crate::intake::Parts;
+use crate::put_file::put_file;
+use crate::room::Room;
+use crate::written::Written;
+use irig_text::{ShelfFault, Text};
+use irig_vcd::VcdFault;
+use std::alloc::Global;
+
+/// The files of a file system. `docs/FORMATS.md` says how one is written.
+#[derive(Drop)]
+pub struct Files<C: FileSystem> {
+    system: C,
+    dir: C::Dir,
+}
+
+impl<C: FileSystem> Files<C> {
+    /// The files of a system, with room for an open folder.
+    pub fn new(system: C, dir: C::Dir) -> Files<C>
+        ensures { result.system ≡ system }
+    {
+        Files { system, dir }
+    }
+}
+
+impl<C: FileSystem> Disk for Files<C> {
+    ghost held = { λ f. C.held f.system };
+
+    ghost is_told = { C.is_told };
+
+    ghost disk = { λ f. C.disk f.system };
+
+    ghost counts_now = { λ f. C.counts_now f.system };
+
+    ghost only_now = { λ f. C.only_now f.system };
+
+    fn read(
+        &self,
+        alloc: Global,
+        path: &str,
+        wire: Option<&[u8]>,
+    ) -> Result<Result<Parts, VcdFault>, DumpFileFault> {
+        self.system.read(alloc, path, wire)
+    }
+
+    fn put<T: Text>(
+        &mut self,
+        path: &str,
+        text: &mut T,
+        room: &mut Room,
+    ) -> Result<Written, ShelfFault> {
+        put_file(&mut self.system, &mut self.dir, path, text, room)
+    }
+}
