@@ -1,0 +1,64 @@
+-- What the program does for the words of its command line: from two files to the patch that is
+-- printed. This project's own.
+use Rattle.std.specs.Prelude.{◌≡◌, ◌↔◌, ◌⊎◌, Bool, true, ℕ, List, Option, Ok, Err}
+use Rattle.std.specs.Io.KnownBytes.{Appends}
+use Rattle.clap.specs.Words.{Text}
+use Rattle.irig_difference.specs.PatchText.{patch_text}
+use Rattle.irig_recording.specs.Recording.{RecordingView}
+use Rattle.irig_diff.specs.Printing.{AppendsFront}
+use Rattle.irig_diff.specs.Settings.{Reads}
+use Rattle.irig_diff.specs.Tracks.{HasFault, Says, name_in}
+use Rattle.irig_diff.specs.declared.chosen.Settings.{Settings}
+use Rattle.irig_diff.specs.declared.ending.Ending.{Ending}
+use Rattle.irig_diff.specs.declared.ending.Ending.TheVariants.{Usage, Unread, Compared, Unprinted}
+use Rattle.irig_diff.specs.declared.ending.TrackFault.{TrackFault}
+
+-- what the files hold, by their paths
+abbrev pub Held : Type 0
+Held = List ℕ → Option (List ℕ)
+
+-- the patch between two recordings was printed, and they are the same or not; or the output failed
+abbrev pub PrintsPatch : RecordingView → RecordingView → Option (List ℕ) → Option (List ℕ)
+    → Ending → Type 0
+PrintsPatch before after old new (Compared same) =
+    Appends old new (patch_text before after) × (same ≡ true ↔ before ≡ after)
+PrintsPatch before after old new Unprinted = AppendsFront old new (patch_text before after)
+PrintsPatch before after old new _ = ⊥
+
+-- the patch between the tracks of the settings was printed, and they are the same or not
+pub record Compares (held : Held) (chosen : Settings) (old new : Option (List ℕ)) (same : Bool)
+    : Type 0 where
+  pub before : RecordingView
+  pub after : RecordingView
+  pub of_before : Says (held chosen.before.now) (name_in chosen.wire) before
+  pub of_after : Says (held chosen.after.now) (name_in chosen.wire_after) after
+  pub printed : Appends old new (patch_text before after)
+  pub told : same ≡ true ↔ before ≡ after
+
+-- only a front of that patch was printed
+pub record Breaks (held : Held) (chosen : Settings) (old new : Option (List ℕ)) : Type 0 where
+  pub before : RecordingView
+  pub after : RecordingView
+  pub of_before : Says (held chosen.before.now) (name_in chosen.wire) before
+  pub of_after : Says (held chosen.after.now) (name_in chosen.wire_after) after
+  pub printed : AppendsFront old new (patch_text before after)
+
+-- a track of the settings has this fault
+abbrev pub HasFaultAt : Held → Settings → List ℕ → TrackFault → Type 0
+HasFaultAt held chosen path fault =
+    ((path ≡ chosen.before.now) × HasFault (held chosen.before.now) (name_in chosen.wire) fault)
+    ⊎ ((path ≡ chosen.after.now) × HasFault (held chosen.after.now) (name_in chosen.wire_after) fault)
+
+-- the tracks of the settings were compared; or one was not read, and nothing was printed
+abbrev pub Obeys : Held → Settings → Option (List ℕ) → Option (List ℕ) → Ending → Type 0
+Obeys held chosen old new (Compared same) = Compares held chosen old new same
+Obeys held chosen old new (Unread path fault) =
+    HasFaultAt held chosen path.now fault × (new ≡ old)
+Obeys held chosen old new Unprinted = Breaks held chosen old new
+Obeys held chosen old new (Usage error) = ⊥
+
+-- the settings are those of the words, and they were obeyed; or the words have none
+abbrev pub EndsBy : List Text → Held → Option (List ℕ) → Option (List ℕ) → Ending → Type 0
+EndsBy words held old new (Usage error) = Reads words (Err error) × (new ≡ old)
+EndsBy words held old new ending =
+    (chosen : Settings) × Reads words (Ok chosen) × Obeys held chosen old new ending

@@ -1,0 +1,7 @@
+pub mod Options
+pub mod Errors
+pub mod Settings
+pub mod Printing
+pub mod Tracks
+pub mod Ending
+pub mod Statuses

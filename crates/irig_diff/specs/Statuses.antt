@@ -1,0 +1,34 @@
+-- The statuses of the program as a process, after diff(1) of POSIX. This project's own.
+use Rattle.std.specs.Prelude.{◌≡◌, ◌⊎◌, ℕ, List, codes, true, false}
+use Rattle.clap.specs.Words.{Text}
+use Rattle.irig_files.specs.declared.dump_file.DumpFileFault.{DumpFileFault}
+use Rattle.irig_files.specs.declared.dump_file.DumpFileFault.TheVariants.{CannotBeRead, TooLong}
+use Rattle.irig_files.specs.declared.dump_file.DumpFileFault.TheVariants.{OutOfMemory}
+use Rattle.irig_diff.specs.Ending.{EndsBy, Held}
+use Rattle.irig_diff.specs.Errors.{IsHelp, IsMistake}
+use Rattle.irig_diff.specs.declared.ending.Ending.{Ending}
+use Rattle.irig_diff.specs.declared.ending.Ending.TheVariants.{Usage, Unread, Compared, Unprinted}
+use Rattle.std.specs.Prelude.{Option}
+
+-- what the program says of a file that it did not read
+abbrev pub unread_text : DumpFileFault → List ℕ
+unread_text CannotBeRead = codes "cannot be read"
+unread_text TooLong = codes "too long"
+unread_text OutOfMemory = codes "V14 OutOfMemory"
+
+-- the status for how the program ended: 0 if the tracks are the same, 1 if they differ, 2 in
+-- trouble. Help ends with 0, or with 2 if it could not be printed
+abbrev pub HasStatus : Ending → ℕ → Type 0
+HasStatus (Compared true) status = status ≡ 0
+HasStatus (Compared false) status = status ≡ 1
+HasStatus (Usage error) status =
+    (IsMistake error → status ≡ 2) × (IsHelp error → (status ≡ 0) ⊎ (status ≡ 2))
+HasStatus (Unread path fault) status = status ≡ 2
+HasStatus Unprinted status = status ≡ 2
+
+-- the words were obeyed, and the status of the process is the one of how that ended
+pub record Serves (words : List Text) (held : Held) (old new : Option (List ℕ)) (status : ℕ)
+    : Type 0 where
+  pub ending : Ending
+  pub obeyed : EndsBy words held old new ending
+  pub told : HasStatus ending status

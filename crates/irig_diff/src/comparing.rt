@@ -1,0 +1,111 @@
+//! The tracks of two dumps are compared, as the words of a command line ask.
+
+ghost use Rattle.std.specs.Prelude.{◌≡◌, map, option_map, string_bytes};
+ghost use Rattle.irig_vcd.specs.Answer.{name_of};
+ghost use Rattle.irig_diff.specs.Ending.{EndsBy, Obeys, PrintsPatch};
+ghost use Rattle.irig_diff.specs.Tracks.{IsTrackOf, name_in};
+
+use crate::chosen::Settings;
+use crate::command_line::settings;
+use crate::ending::{Ending, TrackFault};
+use crate::printing::print;
+use irig_difference::{PatchText, Recording};
+use irig_files::{Disk, DumpFileFault};
+use irig_text::new_block;
+use std::alloc::Global;
+use std::io::Write;
+
+/// Prints the patch between the tracks of the dumps that the words of a command line name, the
+/// program's name being the first.
+pub fn compare_words<'a, D: Disk, W: Write>(
+    alloc: Global,
+    words: &'a [String],
+    disk: &D,
+    out: &mut W,
+) -> Ending<'a>
+    ensures { EndsBy (map string_bytes words.entry.now) (D.held disk.now)
+        (W.contents out.old) (W.contents out.new) result }
+{
+    match settings(alloc, words) {
+        Ok(chosen) => compare_files(alloc, &chosen, disk, out),
+        Err(error) => Ending::Usage(error),
+    }
+}
+
+/// Prints the patch between the tracks of the settings. The memory for it is taken before they are
+/// read.
+fn compare_files<'a, D: Disk, W: Write>(
+    alloc: Global,
+    chosen: &Settings<'a>,
+    disk: &D,
+    out: &mut W,
+) -> Ending<'a>
+    ensures { Obeys (D.held disk.now) chosen.now (W.contents out.old) (W.contents out.new) result }
+{
+    let Ok(mut block) = new_block(alloc) else {
+        return Ending::Unread(chosen.before, TrackFault::File(DumpFileFault::OutOfMemory));
+    };
+    compare_with_block(alloc, chosen, disk, out, &mut block)
+}
+
+/// The same, in a block.
+fn compare_with_block<'a, D: Disk, W: Write>(
+    alloc: Global,
+    chosen: &Settings<'a>,
+    disk: &D,
+    out: &mut W,
+    block: &mut Vec<u8>,
+) -> Ending<'a>
+    ensures { Obeys (D.held disk.now) chosen.now (W.contents out.old) (W.contents out.new) result }
+{
+    let before = match read_track(alloc, disk, chosen.before, chosen.wire) {
+        Ok(before) => before,
+        Err(fault) => return Ending::Unread(chosen.before, fault),
+    };
+    let after = match read_track(alloc, disk, chosen.after, chosen.wire_after) {
+        Ok(after) => after,
+        Err(fault) => return Ending::Unread(chosen.after, fault),
+    };
+    print_patch(&before, &after, out, block)
+}
+
+/// Prints the patch between two recordings.
+fn print_patch<'a, W: Write>(
+    before: &Recording,
+    after: &Recording,
+    out: &mut W,
+    block: &mut Vec<u8>,
+) -> Ending<'a>
+    ensures { PrintsPatch before.now after.now (W.contents out.old) (W.contents out.new) result }
+{
+    match print(out, &mut PatchText::between(before, after), block) {
+        Ok(same) => Ending::Compared(same),
+        Err(_) => Ending::Unprinted,
+    }
+}
+
+/// The track of a wire in the dump at a path.
+fn read_track<D: Disk>(
+    alloc: Global,
+    disk: &D,
+    path: &str,
+    wire: Option<&str>,
+) -> Result<Recording, TrackFault>
+    ensures { IsTrackOf (D.held disk.now path.now) (name_in wire.entry) result }
+{
+    match disk.read(alloc, path, bytes_of(wire)) {
+        Ok(Ok((recording, _))) => Ok(recording),
+        Ok(Err(fault)) => Err(TrackFault::Dump(fault)),
+        Err(fault) => Err(TrackFault::File(fault)),
+    }
+}
+
+/// The bytes of a wire's name, if one is given.
+fn bytes_of<'a>(wire: Option<&'a str>) -> Option<&'a [u8]>
+    ensures { name_of result ≡ name_in wire.entry }
+{
+    match wire {
+        Some(name) => Some(name.as_bytes()),
+        None => None,
+    }
+}

@@ -1,0 +1,26 @@
+//! How the program ends.
+
+use irig_files::DumpFileFault;
+use irig_vcd::VcdFault;
+
+/// Why a track was not read.
+#[derive(Clone, Copy)]
+pub enum TrackFault {
+    /// The file of the dump was not read.
+    File(DumpFileFault),
+    /// The file is no dump of such a wire.
+    Dump(VcdFault),
+}
+
+/// How the program ends, before it is reported.
+#[derive(Drop)]
+pub enum Ending<'a> {
+    /// The command line asks for no comparison.
+    Usage(clap::Error),
+    /// The track at this path was not read.
+    Unread(&'a str, TrackFault),
+    /// The patch between the two tracks was printed. It tells whether they are the same.
+    Compared(bool),
+    /// The output failed.
+    Unprinted,
+}

@@ -1,0 +1,75 @@
+//! What differs between two recorded time tracks, as a script that makes the one of the other.
+#![tactic(auto)]
+
+mod chosen;
+mod command_line;
+mod comparing;
+mod ending;
+mod printing;
+mod statuses;
+
+ghost use Rattle.std.specs.Prelude.{◌≡◌, map, string_bytes};
+ghost use Rattle.std.specs.Process.{exit_status};
+ghost use Rattle.irig_diff.specs.Statuses.{Serves};
+
+use command_line::not_text;
+use comparing::compare_words;
+use irig_disk::{SystemDir, SystemFolder};
+use irig_files::{FileSystem, Files};
+use statuses::{explain, report, tell};
+use std::alloc::AllocError;
+use std::io::Write;
+use std::process::ExitCode;
+use std::rt::{Files as FileRuntime, Runtime};
+use std::{env, io};
+
+fn main(rt: HostRuntime) -> ExitCode {
+    let Ok(files) = system_files(&rt) else {
+        return tell_no_words(&rt, &io::Error::from(io::ErrorKind::OutOfMemory));
+    };
+    match arguments(&rt) {
+        Ok(words) => start(&rt, words.as_slice(), &files, &mut io::writer(&rt)),
+        Err(error) => tell_no_words(&rt, &error),
+    }
+}
+
+/// The files of the system. The memory of their paths is taken here.
+fn system_files<R: FileRuntime + Print + AllocGlobal>(
+    rt: &R,
+) -> Result<Files<SystemFolder<'_, R>>, AllocError> {
+    let system = SystemFolder::new(rt.alloc(), rt)?;
+    let dir = SystemDir::new(rt.alloc())?;
+    Ok(Files::new(system, dir))
+}
+
+/// Says why there are no words.
+fn tell_no_words<R: Print + Eprint + AllocGlobal>(rt: &R, error: &io::Error) -> ExitCode
+    ensures { exit_status result ≡ 2 }
+{
+    if error.kind() == io::ErrorKind::InvalidData {
+        explain(rt, &not_text(rt.alloc()))
+    } else {
+        tell(rt, error)
+    }
+}
+
+/// The words of the command line, the program's name being the first.
+fn arguments<R: Runtime + AllocGlobal>(rt: &R) -> io::Result<Vec<String>> {
+    let words = env::args(rt)?.collect(rt.alloc())?;
+    Ok(words)
+}
+
+/// Compares the tracks that the words name, by the files of this system and this output, and
+/// reports how that ended.
+fn start<P: Print + Eprint + AllocGlobal, C: FileSystem, W: Write>(
+    rt: &P,
+    words: &[String],
+    disk: &Files<C>,
+    out: &mut W,
+) -> ExitCode
+    ensures { Serves (map string_bytes words.now) (C.held disk.now.system)
+        (W.contents out.old) (W.contents out.new) (exit_status result) }
+{
+    let ending = compare_words(rt.alloc(), words, disk, out);
+    report(rt, &ending)
+}

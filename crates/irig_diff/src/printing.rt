@@ -1,0 +1,79 @@
+//! A text in parts is printed.
+
+ghost use Rattle.std.specs.Prelude.{◌≡◌, ◌↔◌, ◌++◌, ℕ, List, [], true, IfOk, OnOk, OnErr};
+ghost use Rattle.std.specs.Io.KnownBytes.{Appends};
+ghost use Rattle.irig_diff.specs.Printing.{AppendsFront};
+
+use irig_text::{ENOUGH, Text};
+use std::io::Write;
+
+/// The output failed.
+#[derive(Clone, Copy)]
+pub struct PrintFault;
+
+/// Prints a text. Its parts wait in the block, and what it holds before is lost. Returns whether
+/// the text has no byte.
+pub fn print<W: Write, T: Text>(
+    out: &mut W,
+    text: &mut T,
+    block: &mut Vec<u8>,
+) -> Result<bool, PrintFault>
+    ensures printed { OnOk result
+        (Appends (W.contents out.old) (W.contents out.new) (T.rest text.old)) }
+    ensures empty { IfOk result (λ empty. empty ≡ true ↔ T.rest text.old ≡ []) }
+    ensures err { OnErr result
+        (AppendsFront (W.contents out.old) (W.contents out.new) (T.rest text.old)) }
+{
+    let mut empty = true;
+    for _ in 0..u64::MAX {
+        if print_next(out, text, block, &mut empty)? {
+            return Ok(empty);
+        }
+    }
+    // no text has that many parts
+    Err(PrintFault)
+}
+
+/// Prints the next block of a text, and notes whether it has a byte. Returns whether it was the
+/// last one.
+fn print_next<W: Write, T: Text>(
+    out: &mut W,
+    text: &mut T,
+    block: &mut Vec<u8>,
+    empty: &mut bool,
+) -> Result<bool, PrintFault>
+    ensures ok { OnOk result ((part : List ℕ)
+        × (T.rest text.old ≡ part ++ T.rest text.new)
+        × (empty.new ≡ true ↔ (empty.old ≡ true) × (part ≡ []))
+        × Appends (W.contents out.old) (W.contents out.new) part) }
+    ensures end { IfOk result (λ ended. ended ≡ true → T.rest text.new ≡ []) }
+    ensures err { OnErr result
+        (AppendsFront (W.contents out.old) (W.contents out.new) (T.rest text.old)) }
+{
+    block.clear();
+    let Ok(ended) = text.fill(block, ENOUGH) else {
+        return Err(PrintFault);
+    };
+    *empty = *empty && block.is_empty();
+    match put_all(out, block) {
+        Ok(()) => Ok(ended),
+        Err(fault) => Err(fault),
+    }
+}
+
+/// Prints all of the bytes. A write that fails or takes none ends it.
+fn put_all<W: Write>(out: &mut W, bytes: &[u8]) -> Result<(), PrintFault>
+    ensures ok { OnOk result (Appends (W.contents out.old) (W.contents out.new) bytes.now) }
+    ensures err { OnErr result
+        (AppendsFront (W.contents out.old) (W.contents out.new) bytes.now) }
+{
+    let mut done = 0;
+    while done < bytes.len() {
+        match out.write(&bytes[done..]) {
+            Ok(0) => return Err(PrintFault),
+            Ok(count) => done += count,
+            Err(_) => return Err(PrintFault),
+        }
+    }
+    Ok(())
+}

@@ -1,0 +1,4 @@
+pub mod Flips
+pub mod Stretches
+pub mod PatchText
+pub mod EdgesLeft

@@ -1,0 +1,123 @@
+//! The patch between two recordings, as a text in parts.
+
+ghost use Rattle.std.specs.Prelude.{◌≡◌, ◌↔◌, ◌≤◌, ◌++◌, ◌∷◌, [], true, false, IfOk, OnOk, decimal};
+ghost use Rattle.std.specs.Prelude.{drop, length};
+ghost use Rattle.std.specs.Prelude.{vec_len};
+ghost use Rattle.irig_difference.specs.PatchText.{length_note, line_of, patch_text, script_of};
+
+use crate::differences::Differences;
+use irig_recording::Recording;
+use irig_text::Text;
+use std::alloc::AllocError;
+use std::marker::Model;
+
+/// The room for a space and the most decimal digits of a `u64`.
+const ROOM: usize = 21;
+
+/// The patch between two recordings, as lines of the editor's language: each inverts the level in
+/// one stretch in which they differ. If their lengths differ, a comment tells both before.
+#[derive(Drop)]
+pub struct PatchText<'a> {
+    is_told: bool,
+    before: u64,
+    after: u64,
+    left: Differences<'a>,
+}
+
+impl<'a> Model for PatchText<'a> {
+    ghost use Rattle.std.specs.Prelude.{ℕ, List};
+    ghost use Rattle.irig_difference.specs.PatchText.{patch_left};
+
+    ghost Value = { List ℕ };
+
+    ghost view = { λ p. patch_left p.is_told p.before p.after p.left };
+}
+
+impl<'a> PatchText<'a> {
+    /// The patch that makes the one recording of the other.
+    pub fn between(before: &'a Recording, after: &'a Recording) -> PatchText<'a>
+        ensures text { result ≡ patch_text before.now after.now }
+        // Nothing is written of two recordings that are the same, and of no others.
+        ensures same { result ≡ [] ↔ before.now ≡ after.now }
+    {
+        PatchText {
+            is_told: false,
+            before: before.length(),
+            after: after.length(),
+            left: Differences::between(before, after),
+        }
+    }
+}
+
+impl Text for PatchText<'_> {
+    ghost rest = { λ p. p };
+
+    fn fill(&mut self, block: &mut Vec<u8>, enough: usize) -> Result<bool, AllocError> {
+        if !self.is_told {
+            put_note(block, self.before, self.after)?;
+            self.is_told = true;
+        }
+        put_lines(block, &mut self.left, enough)
+    }
+}
+
+/// Writes the comment that tells two lengths, unless they are the same.
+fn put_note(block: &mut Vec<u8>, before: u64, after: u64) -> Result<(), AllocError>
+    ensures { OnOk result (block.new.items ≡ block.old.items ++ length_note before after) }
+{
+    if before == after {
+        return Ok(());
+    }
+    put_line(block, b"# length", before, after)
+}
+
+/// Writes lines of stretches until a block has `enough` bytes. Returns whether none is left.
+fn put_lines(
+    block: &mut Vec<u8>,
+    left: &mut Differences<'_>,
+    enough: usize,
+) -> Result<bool, AllocError>
+    ensures bytes { OnOk result
+        (block.new.items ++ script_of left.new ≡ block.old.items ++ script_of left.old) }
+    ensures end { IfOk result (λ ended. ended ≡ true → left.new ≡ []) }
+    ensures full { IfOk result (λ ended. ended ≡ false → enough ≤ vec_len block.new) }
+{
+    while block.len() < enough {
+        match left.next() {
+            Some(stretch) => put_line(block, b"invert", stretch.rise, stretch.fall)?,
+            None => return Ok(true),
+        }
+    }
+    Ok(false)
+}
+
+/// Writes a word and two numbers on a line.
+fn put_line(block: &mut Vec<u8>, word: &[u8], a: u64, b: u64) -> Result<(), AllocError>
+    ensures { OnOk result (block.new.items ≡ block.old.items ++ line_of word.now a b) }
+{
+    block.extend_from_slice(word)?;
+    put_number(block, a)?;
+    put_number(block, b)?;
+    block.extend_from_slice(b"\n")
+}
+
+/// Writes a space and a number in decimal.
+fn put_number(block: &mut Vec<u8>, number: u64) -> Result<(), AllocError>
+    ensures { OnOk result (block.new.items ≡ block.old.items ++ 32 ∷ decimal number) }
+{
+    let mut digits = [0; ROOM];
+    let start = put_digits(&mut digits, number);
+    block.extend_from_slice(&digits[start..])
+}
+
+/// Writes a space and a number in decimal so that they end where the bytes do. Returns where they
+/// start.
+fn put_digits(digits: &mut [u8], number: u64) -> usize
+    requires { length digits.old ≡ 21 }
+    ensures within { result ≤ length digits.new }
+    ensures written { drop result digits.new ≡ 32 ∷ decimal number }
+{
+    let start = itoa::write_digits(number, digits, ROOM) - 1;
+    digits[start] = b' ';
+    start
+}

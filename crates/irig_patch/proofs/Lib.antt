@@ -1,0 +1,4 @@
+pub mod Inverts
+pub mod InvertLines
+pub mod ScriptLines
+pub mod ScriptRuns

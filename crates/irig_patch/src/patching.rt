@@ -1,0 +1,42 @@
+//! A patch between two recordings, made on a session.
+
+ghost use Rattle.std.specs.Prelude.{◌≡◌, ◌+◌, IfErr, OnOk, length};
+ghost use Rattle.irig_recording.specs.Recording.{RisesFrom, UpTo};
+ghost use Rattle.irig_track.specs.Edges.{edges_of};
+ghost use Rattle.irig_difference.specs.Stretches.{stretches_between};
+ghost use Rattle.irig_edit.specs.State.State.{recording_of};
+ghost use Rattle.irig_patch.specs.Patched.{AreStretches, Patches, StopsPatch, made_of};
+
+use irig_difference::{Differences, Recording};
+use irig_edit::{Refusal, Session};
+
+/// Makes the edges of the recording after of those before, on a session of it, with as few inverts
+/// as do. Each is a step that can be undone. A refusal leaves the steps made so far.
+///
+/// E5 if there would be more than 2^22 pulses on the way, or E11.
+pub fn patch(session: &mut Session, before: &Recording, after: &Recording) -> Result<(), Refusal>
+    requires before { recording_of session.old.state ≡ before.now }
+    requires covers { UpTo before.now.micros after.now.edges }
+    ensures after { OnOk result
+        (recording_of session.new.state ≡ made_of before.now after.now) }
+    ensures patches { OnOk result
+        (Patches (stretches_between before.now after.now) session.old session.new) }
+    ensures refused { IfErr result StopsPatch }
+{
+    // Read for their laws alone.
+    let _lengths = (before.length(), after.length());
+    invert_all(session, &mut Differences::between(before, after))
+}
+
+/// Inverts the level in each of the stretches that are left.
+fn invert_all(session: &mut Session, left: &mut Differences<'_>) -> Result<(), Refusal>
+    requires track { RisesFrom 0 (edges_of session.old.state.pulses) }
+    requires left { AreStretches session.old.state.micros left.old }
+    ensures patches { OnOk result (Patches left.old session.old session.new) }
+    ensures refused { IfErr result StopsPatch }
+{
+    while let Some(stretch) = left.next() {
+        session.invert(stretch.rise, stretch.fall)?;
+    }
+    Ok(())
+}
