@@ -83,7 +83,7 @@ def verilator(top):
 def fine_frames(top, command, folder):
     """How many frames the last line leads to."""
     places = os.path.join(top, "tools") + ":" + os.path.join(folder, "bin") + ":" + os.environ["PATH"]
-    done = subprocess.run(["bash", "-c", command.replace("; irig_ed", "; echo frames | irig_ed")], cwd=folder,
+    done = subprocess.run(["bash", "-c", command], cwd=folder,
                           input=b"frames\n", env=dict(os.environ, PATH=places), stdout=subprocess.PIPE,
                           stderr=subprocess.DEVNULL, check=False)
     return done.stdout.decode().count(" fine\n")

@@ -54,8 +54,8 @@ ROWS = [
     ("a declaration that is not closed", (HEAD + UP).replace("a $end", "a"), [], EDGES, 0, "has no $end"),
     ("declarations that do not end", (HEAD + UP).replace("$enddefinitions $end", ""), [], EDGES, 0, "have no end"),
     ("two dumps", HEAD + UP + " " + HEAD + "#0 1! #1", [], EDGES, 1, "the file has 2 dumps"),
-    ("the second of two dumps", HEAD + UP + " " + HEAD + "#0 1! #1", ["--dump", "2"], [(0, 1), (1000, None)], 1, ""),
-    ("two recordings under one header", HEAD + UP + " #0 1! #1", ["--dump=2"], [(0, 1), (1000, None)], 1, ""),
+    ("the second of two dumps", HEAD + UP + " " + HEAD + "#0 1! #1", ["--dump", "2"], [(0, 1), (1000, None)], 0, "has 2 dumps"),
+    ("two recordings under one header", HEAD + UP + " #0 1! #1", ["--dump=2"], [(0, 1), (1000, None)], 0, ""),
     ("a dump that is not there", HEAD + UP, ["--dump=3"], None, 2, "has no dump 3; it has 1"),
     ("nanoseconds since 1970", (HEAD + "#0 x! #1700000000123456789 0! #1700000000123461789 1! #1700000000123463789 0! "
                                 "#1700000000123465789").replace("1 us", "1 ns"), [], EDGES[:0] + [

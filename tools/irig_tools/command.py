@@ -118,26 +118,3 @@ def run(program: str, usage: str, work: Callable[[Sequence[str]], int]) -> int:
         complain(named + str(error.strerror or error), program)
     return NOT_READ
 
-
-def write(path: str, text: str) -> None:
-    """Writes a file as a whole: nobody sees a part of it."""
-    folder, name = os.path.split(os.path.abspath(path))
-    if os.path.exists(path) and not os.path.isfile(path):
-        with open(path, "w", encoding="utf-8") as straight:
-            straight.write(text)
-        return
-    number, beside = tempfile.mkstemp(prefix="." + name, dir=folder)
-    try:
-        with os.fdopen(number, "w", encoding="utf-8") as new:
-            new.write(text)
-        os.chmod(beside, 0o666 & ~_umask())
-        os.replace(beside, path)
-    except OSError:
-        os.unlink(beside)
-        raise
-
-
-def _umask() -> int:
-    mask = os.umask(0)
-    os.umask(mask)
-    return mask

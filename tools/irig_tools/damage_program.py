@@ -4,9 +4,10 @@ from __future__ import annotations
 import os
 import sys
 
-from .command import FOUND, SOUND, Arguments, kept, run_on_track, write
+from .command import FOUND, SOUND, Arguments, kept, run_on_track
 from .damage import look
 from .editor import Editor, progress_to
+from .output import check_apart, write
 from .overview import sheet_of
 from .page import page
 from .picture import picture
@@ -34,6 +35,7 @@ not read.
 
 
 def work(arguments: Arguments) -> int:
+    check_apart(arguments.editor[-1], list(arguments.own.items()))
     with kept(arguments.editor) as options:
         seen = look(Editor(options), progress_to(sys.stderr))
     if arguments.own:

@@ -9,6 +9,7 @@ from .command import FOUND, SOUND, Usage, run
 from .cycles import Edge
 from .editor import complain
 from .options import Options, parse
+from .output import check_apart
 from .samples import RAW, Samples, ranks
 
 USAGE = """\
@@ -106,6 +107,7 @@ def work(words: Sequence[str]) -> int:
         raise Usage("one file of SAMPLES is needed")
     if name not in CARRIERS and not options.has("--level"):
         raise Usage("--format is A, B or E; G is read as a level")
+    check_apart(options.names[0])
     reader = reader_of(options, name)
     sys.stdout.write(HEAD + "$enddefinitions $end\n#0\n$dumpvars\n0!\n$end\n")
     pulses = 0

@@ -4,10 +4,11 @@ from __future__ import annotations
 import os
 import sys
 
-from .command import FOUND, SOUND, Arguments, kept, run_on_track, write
+from .command import FOUND, SOUND, Arguments, kept, run_on_track
 from .damage import look
 from .editor import Editor, progress_to
 from .mend import propose, text
+from .output import check_apart, write
 from .overview import sheet_of
 from .page import page
 
@@ -34,6 +35,7 @@ and 2 if the track was not read.
 
 
 def work(arguments: Arguments) -> int:
+    check_apart(arguments.editor[-1], [("--page", arguments.get("--page"))])
     with kept(arguments.editor) as options:
         editor, progress = Editor(options), progress_to(sys.stderr)
         script = propose(editor, progress, arguments.get("--steady") is not None)

@@ -6,6 +6,7 @@ from typing import Sequence
 
 from .command import FOUND, SOUND, Usage, kept, run
 from .options import parse
+from .output import check_apart
 from .what import What
 
 USAGE = """\
@@ -14,7 +15,8 @@ usage: irig_what [options] DUMP
 Says which wires of a value change dump carry IRIG 200-04 time code, upright or
 upside down, in which format, and for each coded expression how many frames are
 fine, with the time of the first and of the last. The last line is the command to
-go on with. DUMP is any dump that irig_wire reads; - is standard input.
+go on with: irig_mend for a damaged recording, else irig_ed. It writes over no
+file that is there. DUMP is any dump that irig_wire reads; - is standard input.
 
   --timescale UNIT    the unit of time, as 1ns, instead of the one in the dump
   --dump N            of several dumps in the file, the one with this number
@@ -32,11 +34,12 @@ def work(words: Sequence[str]) -> int:
     if len(options.names) != 1:
         raise Usage("one DUMP is needed")
     name = options.names[0]
+    check_apart(name)
     with kept(["/dev/stdin" if name == "-" else name]) as paths:
         what = What(paths[0], name, options.get("--timescale") or "", options.number("--dump", 1) or 1)
         lines = what.lines()
         if what.carriers:
-            lines.append(what.command())
+            lines += what.proposal().lines()
         else:
             lines.append("no wire of %d carries time code of format A, B, E or G" % what.found.looked_at)
         sys.stdout.write("".join(line + "\n" for line in lines))

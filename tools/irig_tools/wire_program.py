@@ -7,6 +7,7 @@ from typing import Sequence
 from .command import FOUND, SOUND, Usage, run
 from .editor import complain
 from .options import parse
+from .output import check_apart
 from .wire import Extract, Wish
 
 USAGE = """\
@@ -26,8 +27,8 @@ only one wire of one bit.
   -h, --help          prints this text
 
 The status is 0 if all is right, 1 if there is something to look at (several
-dumps, words that mean nothing, more than irig_ed reads), and 2 if the dump was
-not read.
+dumps and no --dump, words that mean nothing, more than irig_ed reads), and 2 if
+the dump was not read.
 """
 
 
@@ -37,8 +38,9 @@ def work(words: Sequence[str]) -> int:
         raise Usage("a DUMP and at most one WIRE are needed")
     name = options.names[1] if len(options.names) > 1 else None
     start, end = options.number("--from", 0), options.number("--to", 0)
-    dump = options.number("--dump", 1) or 1
+    dump = options.number("--dump", 1)
     wish = Wish(name, options.get("--timescale"), dump, start, end, options.has("--invert"))
+    check_apart(options.names[0])
     report = Extract(options.names[0], wish, sys.stdout.buffer).run()
     sys.stdout.buffer.flush()
     for text in report.done + report.doubtful:
