@@ -189,7 +189,12 @@ def refused():
     rows = [([], sound, 1), ([], silent, 1), ([], b"", 2), ([], b"RIFF", 2), ([], sound[:30], 2),
             (["--raw=s16"], b"", 2), (["--raw=what"], b"", 2), (["--format=G"], sound, 2),
             (["--format=A"], sound, 2), (["--channel=2"], sound, 2), (["--channel=0"], sound, 2),
-            (["--raw=text", "--rate=9"], b"a\n", 2), (["--what"], b"", 2), (["--swap", "--no-swap"], sound, 2),
+            (["--raw=text", "--rate=9"], b"a\n", 2), (["--raw=text", "--rate=8000"], b"1\nnan\n", 2),
+            (["--raw=text", "--rate=8000", "--level"], b"1\n-inf\n", 2),
+            (["--raw=text", "--rate=8000"], b"1e31\n", 2), (["--raw=text", "--rate=8000"], b"1" * 5000000, 2),
+            (["--raw=s16", "--rate=999999937"], b"0000", 2), (["--raw=s16", "--rate=8000"], b"0", 1),
+            (["--raw=s16", "--rate=8000", "--level"], b"0", 1), (["--raw=s24", "--rate=8000"], b"0000", 1),
+            ([], sound[:-1], 1), (["--level"], sound[:-1], 1), (["--what"], b"", 2), (["--swap", "--no-swap"], sound, 2),
             ([], wav(b"", 8000, 4), 2), (["--help"], b"", 0)]
     results = []
     for words, data, status in rows:

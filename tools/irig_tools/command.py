@@ -4,7 +4,6 @@ from __future__ import annotations
 import gc
 import os
 import shutil
-import signal
 import stat
 import sys
 import tempfile
@@ -12,9 +11,11 @@ from contextlib import contextmanager
 from dataclasses import dataclass, field
 from typing import Callable, Dict, Iterator, List, Optional, Sequence
 
-from .editor import Problem, complain
+from .editor import Problem
+from .ending import DEFECT, FOUND, NOT_READ, SOUND, Usage, complain, ended
 
-SOUND, FOUND, NOT_READ = 0, 1, 2  # statuses
+__all__ = ("FOUND", "SOUND", "Usage")
+
 VALUED = ("--wire", "--format", "--expression", "--out")  # the options of the editor
 LAST = [[option] for option in VALUED]  # what a value follows
 
@@ -28,10 +29,6 @@ class Arguments:
 
     def get(self, name: str) -> Optional[str]:
         return self.own.get(name)
-
-
-class Usage(Exception):
-    """Arguments that are not valid."""
 
 
 def parse(words: Sequence[str], own: Sequence[str], flags: Sequence[str] = ()) -> Arguments:
@@ -100,21 +97,12 @@ def help_or(usage: str, work: Callable[[Sequence[str]], int], words: Sequence[st
 
 
 def run(program: str, usage: str, work: Callable[[Sequence[str]], int]) -> int:
-    """Runs a program: its help, its complaints, and its end if nobody reads what it prints."""
-    if hasattr(signal, "SIGPIPE"):
-        signal.signal(signal.SIGPIPE, signal.SIG_DFL)
+    """Runs a program: its help, its complaints, and its end, also if nobody reads what it prints."""
+    closed = [name for name in ("stdin", "stdout", "stderr") if getattr(sys, name) is None]
+    if closed:
+        complain("%s is closed" % closed[0], program)
+        return NOT_READ
     try:
-        status = help_or(usage, work, sys.argv[1:])
-        sys.stdout.flush()
-        return status
-    except Usage as error:
-        complain("%s (%s --help says more)" % (error, program), program)
-    except Problem as error:
-        complain(str(error), program)
-    except KeyboardInterrupt:
-        return 130
-    except OSError as error:
-        named = "%s: " % error.filename if error.filename else ""
-        complain(named + str(error.strerror or error), program)
-    return NOT_READ
-
+        return ended(program, lambda: help_or(usage, work, sys.argv[1:]))
+    except BaseException:  # there is not even memory to say so
+        os._exit(DEFECT)

@@ -7,7 +7,7 @@ from typing import Iterator, Sequence, Union
 from .carrier import CARRIERS, Carrier
 from .command import FOUND, SOUND, Usage, run
 from .cycles import Edge
-from .editor import complain
+from .ending import complain
 from .options import Options, parse
 from .output import check_apart
 from .samples import RAW, Samples, ranks
@@ -118,6 +118,8 @@ def work(words: Sequence[str]) -> int:
     sys.stdout.flush()
     if pulses:
         remark(reader)
+    for note in reader.samples.notes:
+        complain(note, PROGRAM)
     complain("%d pulses in %.3f seconds" % (pulses, reader.length / reader.samples.rate), PROGRAM)
     return SOUND if pulses else FOUND
 

@@ -118,7 +118,3 @@ def progress_to(stream: IO[str]) -> Progress:
         print("\r%-70s" % text, end="\r" if text else "\r\033[K", file=stream, flush=True)
 
     return show if stream.isatty() else lambda text: None
-
-
-def complain(text: str, program: str) -> None:
-    print("%s: %s" % (program, text), file=sys.stderr)

@@ -1,26 +1,29 @@
 """Samples of a recorder, from a WAV file, raw integers, or numbers in lines, a stretch at a time."""
 from __future__ import annotations
 
+import math
 import sys
 import wave
 from array import array
-from typing import IO, Iterator, List, Sequence, Tuple, cast
+from typing import IO, Callable, Iterator, List, Sequence, Tuple, cast
 
 from .command import Usage
 from .editor import Problem
 
+LONGEST = 1000  # bytes of a line with a number
+LARGEST = 1e30  # of a number
 RAW = {"u8": ("B", 1), "s8": ("b", 1), "s16": ("h", 2), "s24": ("i", 3), "s32": ("i", 4)}
 
 
 def integers(data: bytes, letters: str, size: int) -> Sequence[int]:
-    """Little-endian integers."""
+    """Little-endian integers; the data holds whole ones."""
     if size == 3:
         wide = bytearray(len(data) // 3 * 4)
         for place in range(3):
-            wide[place + 1::4] = data[place::3][:len(wide) // 4]
+            wide[place + 1::4] = data[place::3]
         data = bytes(wide)
     values = array(letters)
-    values.frombytes(data[:len(data) // values.itemsize * values.itemsize])
+    values.frombytes(data)
     if sys.byteorder == "big":
         values.byteswap()
     return values
@@ -35,6 +38,7 @@ class Samples:
 
     def __init__(self, path: str, channel: int, raw: str, rate: int) -> None:
         self.path, self.channel, self.raw, self.rate = path, channel, raw, rate
+        self.notes: List[str] = []
         self.stream = opened(path)
         self.sound = None if raw else self._wave()
         if self.rate < 1:
@@ -63,30 +67,44 @@ class Samples:
 
     def _of_wave(self, sound: wave.Wave_read, length: int) -> Iterator[Sequence[float]]:
         letters, size = RAW[("u8", "s16", "s24")[sound.getsampwidth() - 1]]
-        data = sound.readframes(length)
-        while data:
-            yield integers(data, letters, size)[self.channel - 1::sound.getnchannels()]
-            data = sound.readframes(length)
+        channels = sound.getnchannels()
+        for data in self._whole(lambda: sound.readframes(length), size * channels):
+            yield integers(data, letters, size)[self.channel - 1::channels]
 
     def _of_raw(self, length: int) -> Iterator[Sequence[float]]:
         letters, size = RAW[self.raw]
-        data = self.stream.read(length * size)
-        while data:
+        for data in self._whole(lambda: self.stream.read(length * size), size):
             yield integers(data, letters, size)
-            data = self.stream.read(length * size)
+
+    def _whole(self, read: Callable[[], bytes], size: int) -> Iterator[bytes]:
+        """What is read, up to its end, in whole samples of all channels, of that many bytes."""
+        data = read()
+        while data:
+            over = len(data) % size
+            if over:
+                self.notes.append("the last sample is cut off: %d of its %d bytes are there, and were left out" % (over, size))
+            if over < len(data):
+                yield data[:len(data) - over]
+            data = read()
 
     def _numbers(self, length: int) -> Iterator[Sequence[float]]:
         values: List[float] = []
-        for number, line in enumerate(self.stream, 1):
-            try:
-                values.append(float(line))
-            except ValueError as error:
-                raise Problem("%s: line %d is no number" % (self.path, number)) from error
+        for number, line in enumerate(iter(lambda: self.stream.readline(LONGEST), b""), 1):
+            values.append(self._number(line, number))
             if len(values) == length:
                 yield values
                 values = []
         if values:
             yield values
+
+    def _number(self, line: bytes, number: int) -> float:
+        try:
+            value = float(line) if len(line) < LONGEST else math.nan
+        except ValueError as error:
+            raise Problem("%s: line %d is no number" % (self.path, number)) from error
+        if not -LARGEST <= value <= LARGEST:  # nor is it nan
+            raise Problem("%s: line %d is no number from -1e30 to 1e30" % (self.path, number))
+        return value
 
 
 def ranks(values: Sequence[float]) -> Tuple[float, float]:

@@ -5,7 +5,7 @@ import sys
 from typing import Sequence
 
 from .command import FOUND, SOUND, Usage, run
-from .editor import complain
+from .ending import complain
 from .options import parse
 from .output import check_apart
 from .wire import Extract, Wish
