@@ -3,7 +3,7 @@ import os
 import tempfile
 from unittest import mock
 
-from irig_tools import command
+from irig_tools import command, ending, options
 from rows import in_process
 from rows.tools_outputs import contents, filled, shell
 from rows.tools_what import dump
@@ -62,10 +62,11 @@ def without_memory(top):
 def raised(error, text, status, **more):
     """A work that raises an error: its status and the one line; where it was is shown only if that is asked for."""
 
-    def work(words):
+    def work(given):
         raise error
 
-    with mock.patch.dict(in_process.MAINS, irig_x=lambda: command.run("irig_x", "", work)):
+    program = options.Command("irig_x", (), "", (), "")
+    with mock.patch.dict(in_process.MAINS, irig_x=lambda: command.run(program, work)):
         with mock.patch.dict(os.environ, more):
             got, printed, said = in_process.run("irig_x", [])
     traced = said.startswith("Traceback") and said.count("\n") > 2
@@ -85,8 +86,8 @@ def raising():
     yield raised(OSError(12, "Cannot allocate memory"), "memory ran out", 70)
     yield raised(OSError(28, "No space left on device"), "No space left on device", 2)
     yield raised(OSError(2, "No such file", "a"), "a: No such file", 2)
-    yield raised(command.Usage("wrong"), "wrong (irig_x --help says more)", 2)
-    yield raised(command.Problem("bad"), "bad", 2)
+    yield raised(ending.Usage("wrong"), "wrong (irig_x --help says more)", 2)
+    yield raised(ending.Problem("bad"), "bad", 2)
 
 
 def check(top):

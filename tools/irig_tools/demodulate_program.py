@@ -1,40 +1,36 @@
 """The program irig_demodulate."""
 from __future__ import annotations
 
-import sys
-from typing import Iterator, Sequence, Union
+from typing import IO, Iterator, Sequence, Union
 
 from .carrier import CARRIERS, Carrier
-from .command import FOUND, SOUND, Usage, run
+from .command import run
 from .cycles import Edge
-from .ending import complain
-from .options import Options, parse
-from .output import check_apart
+from .ending import FOUND, SOUND, Usage, complain
+from .options import Command, Given, Option, a_file, whole
+from .output import check_apart, output
 from .samples import RAW, Samples, ranks
 
-USAGE = """\
-usage: irig_demodulate [options] SAMPLES > track.vcd
-
+FORMAT = Option("--format", "A|B|E", "the format of code on a carrier (10 kHz, 1 kHz, 100 Hz); B if it is not given",
+                choices=("A", "B", "E", "G"))
+CARRIER = Option("--carrier", "HERTZ", "another carrier: 1000 for format E", whole(1))
+LEVEL = Option("--level", about="the code is not on a carrier: the samples are its level")
+CHANNEL = Option("--channel", "N", "the channel of the WAV file, from 1", whole(1))
+SWAP = Option("--swap", about="the recorder swapped plus and minus; code on a carrier shows it if neither this nor "
+              "--no-swap is given")
+NO_SWAP = Option("--no-swap", about="the recorder did not swap plus and minus")
+KIND = Option("--raw", "KIND", "u8, s8, s16, s24 or s32: integers; text: a number a line", choices=(*RAW, "text"))
+RATE = Option("--rate", "HERTZ", "the samples in a second, with --raw", whole(1))
+OUT = Option("--out", "FILE", "the file to write, whole or not at all, instead of standard output", a_file)
+COMMAND = Command("irig_demodulate", ("SAMPLES",), """\
 Makes a dump of recorded samples of IRIG 200-04 time code. SAMPLES is a WAV file
 (PCM of 8, 16 or 24 bits), or with --raw little-endian integers or numbers, one a
 line; - is standard input.
-
-  --format A|B|E      the format of code on a carrier (10 kHz, 1 kHz, 100 Hz); B
-                      if it is not given
-  --carrier HERTZ     another carrier: 1000 for format E
-  --level             the code is not on a carrier: the samples are its level
-  --channel N         the channel of the WAV file, from 1
-  --swap, --no-swap   the recorder swapped plus and minus, or did not; code on a
-                      carrier shows it if neither is given
-  --raw KIND          u8, s8, s16, s24 or s32: integers; text: a number a line
-  --rate HERTZ        the samples in a second, with --raw
-  -h, --help          prints this text
-
-The status is 0 if pulses were found, 1 if there are none, and 2 if the samples
-were not read.
-"""
+""", (FORMAT, CARRIER, LEVEL, CHANNEL, SWAP, NO_SWAP, KIND, RATE, OUT), """\
+The status is 0 if pulses were found, 1 if there are none, 2 if the samples were
+not read, and 70 if memory ran out or the tool has a defect.
+""")
 HEAD = "$timescale 1 us $end\n$scope module irig $end\n$var wire 1 ! irig $end\n$upscope $end\n"
-PROGRAM = "irig_demodulate"
 STRETCH = 1 << 20  # samples of a level that are looked at together
 
 
@@ -69,23 +65,22 @@ class Levels:
             self.length += len(values)
 
 
-def samples_of(options: Options, swapped: bool) -> Samples:
-    raw = options.get("--raw") or ""
-    if raw and raw not in RAW and raw != "text":
-        raise Usage("--raw is one of %s and text" % ", ".join(RAW))
+def samples_of(given: Given, swapped: bool) -> Samples:
     kind = Negative if swapped else Samples
-    channel, rate = options.number("--channel", 1) or 1, options.number("--rate", 1) or 0
-    return kind(options.names[0], channel, raw, rate)
+    return kind(given.names[0], given.number(CHANNEL) or 1, given.text(KIND) or "", given.number(RATE) or 0)
 
 
-def reader_of(options: Options, name: str) -> Union[Levels, Carrier]:
-    if options.has("--swap") and options.has("--no-swap"):
+def reader_of(given: Given) -> Union[Levels, Carrier]:
+    name = given.text(FORMAT) or "B"
+    if given.has(SWAP) and given.has(NO_SWAP):
         raise Usage("--swap and --no-swap exclude each other")
-    if options.has("--level"):
-        return Levels(samples_of(options, options.has("--swap")))
-    known = options.has("--swap") or options.has("--no-swap")
-    hertz = options.number("--carrier", 1) or CARRIERS[name][0]
-    return Carrier(samples_of(options, False), hertz, options.has("--swap") if known else None)
+    if given.has(LEVEL):
+        return Levels(samples_of(given, given.has(SWAP)))
+    if name not in CARRIERS:
+        raise Usage("--format is A, B or E; G is read as a level")
+    known = given.has(SWAP) or given.has(NO_SWAP)
+    hertz = given.number(CARRIER) or CARRIERS[name][0]
+    return Carrier(samples_of(given, False), hertz, given.has(SWAP) if known else None)
 
 
 def remark(reader: Union[Levels, Carrier]) -> None:
@@ -93,36 +88,39 @@ def remark(reader: Union[Levels, Carrier]) -> None:
     if isinstance(reader, Carrier) and reader.asked:
         way = reader.ways[0]
         if not reader.chosen:
-            complain("nothing shows whether plus and minus are swapped; if they are, use --swap", PROGRAM)
+            say("nothing shows whether plus and minus are swapped; if they are, use --swap")
         elif way.swapped:
             text = "plus and minus are swapped, as %d of %d amplitude steps show; this is corrected"
-            complain(text % (way.sharp, way.steps), PROGRAM)
+            say(text % (way.sharp, way.steps))
 
 
-def work(words: Sequence[str]) -> int:
-    valued = "--format", "--carrier", "--channel", "--raw", "--rate"
-    options = parse(words, valued, ("--level", "--swap", "--no-swap"))
-    name = options.get("--format") or "B"
-    if len(options.names) != 1:
-        raise Usage("one file of SAMPLES is needed")
-    if name not in CARRIERS and not options.has("--level"):
-        raise Usage("--format is A, B or E; G is read as a level")
-    check_apart(options.names[0])
-    reader = reader_of(options, name)
-    sys.stdout.write(HEAD + "$enddefinitions $end\n#0\n$dumpvars\n0!\n$end\n")
+def say(text: str) -> None:
+    complain(text, COMMAND.name)
+
+
+def write_dump(reader: Union[Levels, Carrier], out: IO[bytes]) -> int:
+    """Writes the edges as a dump: the number of pulses."""
+    out.write((HEAD + "$enddefinitions $end\n#0\n$dumpvars\n0!\n$end\n").encode())
     pulses = 0
     for place, level in reader.edges():
         pulses += level
-        sys.stdout.write("#%d\n%d!\n" % (round(place * 1000000 / reader.samples.rate), level))
-    sys.stdout.write("#%d\n" % round(reader.length * 1000000 / reader.samples.rate))
-    sys.stdout.flush()
+        out.write(b"#%d\n%d!\n" % (round(place * 1000000 / reader.samples.rate), level))
+    out.write(b"#%d\n" % round(reader.length * 1000000 / reader.samples.rate))
+    return pulses
+
+
+def work(given: Given) -> int:
+    check_apart(given.names[0], [(OUT.name, given.text(OUT))])
+    reader = reader_of(given)
+    with output(given.text(OUT)) as out:
+        pulses = write_dump(reader, out)
     if pulses:
         remark(reader)
     for note in reader.samples.notes:
-        complain(note, PROGRAM)
-    complain("%d pulses in %.3f seconds" % (pulses, reader.length / reader.samples.rate), PROGRAM)
+        say(note)
+    say("%d pulses in %.3f seconds" % (pulses, reader.length / reader.samples.rate))
     return SOUND if pulses else FOUND
 
 
 def main() -> int:
-    return run(PROGRAM, USAGE, work)
+    return run(COMMAND, work)

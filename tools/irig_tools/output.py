@@ -3,6 +3,7 @@ from __future__ import annotations
 
 import os
 import stat
+import sys
 import tempfile
 from contextlib import contextmanager
 from typing import IO, Iterator, Optional, Sequence, Tuple, Union
@@ -16,14 +17,19 @@ STANDARD_INPUT, STANDARD_OUTPUT = 0, 1
 def check_apart(source: str, outputs: Sequence[Tuple[str, Optional[str]]] = ()) -> None:
     """Refuses an output that is the file that is read, by device and inode: nothing is read or written yet.
 
-    `outputs` are options with their files. The standard output is always looked at."""
+    `outputs` are options with their files, each a file of its own. The standard output is always looked at."""
+    named = [(option, path) for option, path in outputs if path is not None]
+    for place, (option, path) in enumerate(named):
+        for other, twin in named[:place]:
+            if os.path.realpath(path) == os.path.realpath(twin):
+                raise Problem("%s %s and %s %s are one file" % (other, twin, option, path))
     read = _identity(STANDARD_INPUT if source == "-" else source)
     if read is None:
         return
     text = "%s would write over the file that is read, %s"
     name = "standard input" if source == "-" else source
-    for option, path in outputs:
-        if path is not None and _identity(path) == read:
+    for option, path in named:
+        if _identity(path) == read:
             raise Problem(text % ("%s %s" % (option, path), name))
     if _identity(STANDARD_OUTPUT) == read:
         raise Problem(text % ("the standard output", name))
@@ -58,6 +64,17 @@ def new_file(path: str) -> Iterator[IO[bytes]]:
     except BaseException:
         os.unlink(beside)
         raise
+
+
+@contextmanager
+def output(path: Optional[str]) -> Iterator[IO[bytes]]:
+    """What is written: a new file, or the standard output."""
+    if path is None or path == "-":
+        yield sys.stdout.buffer
+        sys.stdout.buffer.flush()
+        return
+    with new_file(path) as new:
+        yield new
 
 
 def write(path: str, text: str) -> None:

@@ -7,8 +7,8 @@ import wave
 from array import array
 from typing import IO, Callable, Iterator, List, Sequence, Tuple, cast
 
-from .command import Usage
 from .editor import Problem
+from .ending import Usage
 
 LONGEST = 1000  # bytes of a line with a number
 LARGEST = 1e30  # of a number
