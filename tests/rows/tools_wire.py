@@ -62,6 +62,8 @@ ROWS = [
         (5000, 1), (7000, 0), (9000, None)], 0, "1700000000123456789 of the dump's unit was taken off"),
     ("a part", HEAD + "#0 0! #2 1! #8 0! #12 1! #20 0!", ["--from=4", "--to", "14"],
      [(0, 1), (4000, 0), (8000, 1), (10000, None)], 0, "4 of the dump's unit"),
+    ("an end before the start", HEAD + UP, ["--from", "9", "--to=3"], None, 2, "--to 3 is before --from 9"),
+    ("a part that is one moment", HEAD + UP, ["--from", "6", "--to=6"], [(0, None)], 1, "never changes"),
     ("upside down", HEAD + "#0 1! #5 0! #7 1! #9", ["--invert"], EDGES, 0, "swapped"),
     ("an extended dump", HEAD.replace("wire", "port").replace("!", "<0") + "#0 pD 6 0 <0 #5 pU 0 6 <0 #7 pN 0 0 <0 #9",
      [], EDGES, 0, "of ports"),

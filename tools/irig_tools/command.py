@@ -1,13 +1,15 @@
 """How the programs run: their help and version, where the track comes from, and how they end."""
 from __future__ import annotations
 
+import codecs
+import io
 import os
 import shutil
 import stat
 import sys
 import tempfile
 from contextlib import contextmanager
-from typing import Callable, Iterator
+from typing import Callable, Iterator, Tuple, Union
 
 from .editor import Problem
 from .ending import DEFECT, NOT_READ, complain, ended
@@ -41,12 +43,26 @@ def kept(path: str) -> Iterator[str]:
             raise Problem(str(error).replace(copy.name, name)) from error
 
 
+def as_given(error: UnicodeError) -> Tuple[Union[str, bytes], int]:
+    """What is printed for a letter that the terminal's code does not have: the byte that a file name has there, so
+    that the name can be used again, or else the number of the letter."""
+    assert isinstance(error, UnicodeEncodeError)
+    number = ord(error.object[error.start])
+    is_byte = 0xdc80 <= number <= 0xdcff
+    return bytes([number - 0xdc00]) if is_byte else "\\u%04x" % number, error.start + 1
+
+
+codecs.register_error("irig_tools", as_given)
+
+
 def run(command: Command, work: Callable[[Given], int]) -> int:
     """Runs a program: its help, its complaints, and its end, also if nobody reads what it prints."""
     closed = [name for name in ("stdin", "stdout", "stderr") if getattr(sys, name) is None]
     if closed:
         complain("%s is closed" % closed[0], command.name)
         return NOT_READ
+    if isinstance(sys.stdout, io.TextIOWrapper):
+        sys.stdout.reconfigure(errors="irig_tools")
     try:
         return ended(command.name, lambda: help_or(command, work))
     except BaseException:  # there is not even memory to say so

@@ -42,7 +42,8 @@ def work(given: Given) -> int:
         script = propose(editor, progress, given.has(STEADY))
         if path is not None:
             after = editor.ask([repair.lines() for repair in script])
-            write(path, page(sheet_of(os.path.basename(name), look(editor, progress), script, after)))
+            seen = look(editor, progress, given.has(STEADY))
+            write(path, page(sheet_of(os.path.basename(name), seen, script, after)))
     with output(given.text(OUT)) as out:
         out.write(text(script).encode("utf-8"))
     return FOUND if script else SOUND
