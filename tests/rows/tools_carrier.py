@@ -8,6 +8,8 @@ import subprocess
 import wave
 from array import array
 
+from cases import case
+from irig_tools import carrier
 from reference import timecode
 from rows.in_process import run
 from rows.tools_what import track
@@ -150,6 +152,104 @@ def polarity():
     return results
 
 
+def cycles_of(heights, start=0):
+    """Samples of a carrier of 1 kHz, eight in a cycle, with a height for each cycle."""
+    return array("h", [round(height * math.sin(math.pi / 4 * (place + start))) for height in heights
+                       for place in range(8)])
+
+
+def steps():
+    """Where pulses begin and end by the heights of the cycles; low is 6,000, high 18,000, in twenty pulses."""
+    results = []
+    # name, the heights of a pulse, and its first cycle and its length in cycles
+    for name, pulse, first, length in (
+            ("more than 0.6 of the way up", [13400, 18000, 18000], 0, 3),
+            ("less than that", [13000, 18000, 18000], 1, 2),
+            ("not less than 0.4 of the way down", [18000, 18000, 11000], 0, 3),
+            ("less than that, down", [18000, 18000, 10500], 0, 2),
+            ("a dip in a pulse", [18000, 11000, 18000], 0, 3)):
+        heights = ([6000] * 5 + pulse + [6000] * 2) * 20
+        status, dump, said = run("irig_demodulate", ["--no-swap", "-"], wav(cycles_of(heights), 8000))
+        wanted = [1000 * (5 + 10 * number + first) for number in range(20)]
+        found = edges_of(dump)
+        good = status == 0 and len(found) == 40 and all(
+            abs(found[2 * number][0] - at) < 60 and abs(found[2 * number + 1][0] - at - 1000 * length) < 60
+            for number, at in enumerate(wanted))
+        good or print("FAILED irig_demodulate, %s: %s, not %s: %s" % (name, found[:4], wanted[:2], said))
+        results.append(good)
+    return results
+
+
+def edges_of(dump):
+    time, found = 0, []
+    for line in dump.decode().partition("0!\n$end\n")[2].splitlines():
+        if line.startswith("#"):
+            time = int(line[1:])
+        else:
+            found.append((time, int(line[0])))
+    return found
+
+
+def ratios():
+    """A high amplitude of less than 1.6 times the low one is no code, one of more is; a carrier alone is none."""
+    results = []
+    for ratio, good in ((1.0, False), (1.5, False), (1.7, True), (2.4, True)):
+        heights = [8000 * (ratio if place % 10 < 4 else 1) for place in range(1000)]
+        status, dump, _ = run("irig_demodulate", ["--no-swap", "-"], wav(cycles_of(heights), 8000))
+        results.append((status, bool(rises_of(dump))) == (0 if good else 1, good))
+        results[-1] or print("FAILED irig_demodulate, a ratio of %.1f: status %d" % (ratio, status))
+    return results
+
+
+def shares():
+    """Three quarters of the steps have to be sharp, and there have to be 20; a stretch is 500 cycles."""
+    results = []
+    for steps_seen, sharp, known in ((60, 45, True), (60, 44, False), (60, 36, False), (20, 15, True), (19, 19, False)):
+        reader = carrier.Carrier(_Raw(8000), 1000)
+        for way in reader.ways:
+            way.steps, way.sharp = steps_seen, sharp if way.swapped else 0
+        list(reader._choose(0, 0))
+        results.append(reader.chosen == known and reader.ways[0].swapped == known)
+        results[-1] or print("FAILED irig_demodulate, %d of %d steps are sharp" % (sharp, steps_seen))
+    for rate, hertz, size in ((8000, 1000, 4000), (48000, 10000, 2400), (44100, 1000, 22050)):
+        results.append(carrier.Carrier(_Raw(rate), hertz).size == size)
+        results[-1] or print("FAILED irig_demodulate, stretches at %d samples" % rate)
+    return results
+
+
+class _Raw:
+    """Samples with a rate and nothing in them."""
+
+    def __init__(self, rate):
+        self.rate = rate
+
+
+def slope():
+    """If the clock is off by 200 parts in a million, no rise is off by more than a fiftieth of a cycle."""
+    values, rises = signal("B", random.Random(7), 8000, 1000, 4, 0, 2e-4, 0, 3)
+    found = rises_of(run("irig_demodulate", ["--no-swap", "-"], wav(values, 8000))[1])
+    worst = max(min(abs(rise - other) for other in found) for rise in rises[5:-5])
+    good = len(found) == len(rises) and worst <= 20
+    good or print("FAILED irig_demodulate, a clock that is off: %d of %d rises, worst %d" % (
+        len(found), len(rises), worst))
+    return good
+
+
+def hysteresis():
+    """A level that dips below its middle, and not below 0.4 of the way, keeps its pulse; so does one that overshoots."""
+    results = []
+    for name, dip, low in (("a dip", 4500, 0), ("a rise in a gap", 9000, 5000)):
+        values = array("h", [0] * 8000)
+        for place in range(10):
+            values[800 * place + 80:800 * place + 240] = array("h", [9000] * 160)
+            values[800 * place + 120] = dip
+            values[800 * place + 400] = low
+        status, dump, said = run("irig_demodulate", ["--level", "-"], wav(values, 8000))
+        results.append(status == 0 and rises_of(dump) == [100000 * place + 9938 for place in range(10)])
+        results[-1] or print("FAILED irig_demodulate --level, %s: %s %s" % (name, rises_of(dump)[:4], said))
+    return results
+
+
 def same(name, words, data, true):
     """Whether other samples of one signal give its rises, to 300 microseconds."""
     status, dump, said = run("irig_demodulate", [*words, "-"], data)
@@ -192,6 +292,7 @@ def refused():
             (["--raw=text", "--rate=9"], b"a\n", 2), (["--raw=text", "--rate=8000"], b"1\nnan\n", 2),
             (["--raw=text", "--rate=8000", "--level"], b"1\n-inf\n", 2),
             (["--raw=text", "--rate=8000"], b"1e31\n", 2), (["--raw=text", "--rate=8000"], b"1" * 5000000, 2),
+            (["--raw=text", "--rate=8000"], b"5" + b" " * 999 + b"6\n", 2),
             (["--raw=s16", "--rate=999999937"], b"0000", 2), (["--raw=s16", "--rate=8000"], b"0", 1),
             (["--raw=s16", "--rate=8000", "--level"], b"0", 1), (["--raw=s24", "--rate=8000"], b"0000", 1),
             ([], sound[:-1], 1), (["--level"], sound[:-1], 1), (["--what"], b"", 2), (["--swap", "--no-swap"], sound, 2),
@@ -205,5 +306,9 @@ def refused():
     return results
 
 
-def check():
-    return [rates()] + polarity() + forms() + refused()
+def cases(_):
+    """Each part by its name."""
+    return [case("carrier: random signals", rates), case("carrier: plus and minus", polarity),
+            case("carrier: thresholds", steps),
+            case("carrier: ratios", ratios), case("carrier: shares", shares), case("carrier: a clock that is off", slope),
+            case("carrier: a level that dips", hysteresis), case("carrier: forms of samples", forms), case("carrier: what is refused", refused)]

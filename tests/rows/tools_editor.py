@@ -4,6 +4,7 @@ import os
 import shutil
 import tempfile
 
+from cases import case
 from rows import tools
 from rows.tools_outputs import filled, shell
 from rows.tools_what import B, dump
@@ -114,6 +115,7 @@ def silent(top):
         yield good
 
 
-def check(top):
-    """Whether each row holds."""
-    return [row for part in (other_release, which, complaints, names, steady, silent) for row in part(top)]
+def cases(top):
+    """Each part by its name."""
+    return [case("editor: " + part.__name__, part, top)
+            for part in (other_release, which, complaints, names, steady, silent)]

@@ -3,6 +3,7 @@ import os
 import tempfile
 from unittest import mock
 
+from cases import case
 from irig_tools import command, ending, options
 from rows import in_process
 from rows.tools_outputs import contents, filled, shell
@@ -90,6 +91,7 @@ def raising():
     yield raised(ending.Problem("bad"), "bad", 2)
 
 
-def check(top):
-    """Whether each row holds."""
-    return list(closed(top)) + list(unwritten(top)) + list(without_memory(top)) + list(raising())
+def cases(top):
+    """Each part by its name."""
+    return [case("ending: closed streams", closed, top), case("ending: full devices and readers", unwritten, top),
+            case("ending: too little memory", without_memory, top), case("ending: errors", raising)]

@@ -4,6 +4,7 @@ import os
 import re
 import subprocess
 
+from cases import case
 from irig_tools import damage_program, demodulate_program, mend_program, what_program, wire_program
 from irig_tools.ending import Usage
 
@@ -101,6 +102,7 @@ def parted(program, line, wanted, values):
     return found == (wanted, values)
 
 
-def check(top):
-    """Whether each row holds."""
-    return [described(top, program.COMMAND) for program in PROGRAMS] + [parted(*line) for line in LINES]
+def cases(top):
+    """Each row by its name."""
+    return [*(case("options: pages of " + program.COMMAND.name, described, top, program.COMMAND) for program in PROGRAMS),
+            *(case("options: %s %s" % (line[0].COMMAND.name, line[1]), parted, *line) for line in LINES)]

@@ -4,6 +4,7 @@ import shutil
 import subprocess
 import tempfile
 
+from cases import case
 from rows.tools_carrier import wav
 from rows.tools_what import B, dump
 
@@ -131,6 +132,7 @@ def whole(top):
         yield good
 
 
-def check(top):
-    """Whether each row holds."""
-    return list(refused(top)) + list(proposed(top)) + list(whole(top))
+def cases(top):
+    """Each part by its name."""
+    return [case("outputs: refused", refused, top), case("outputs: proposed commands", proposed, top),
+            case("outputs: whole files", whole, top)]

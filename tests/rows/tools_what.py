@@ -5,6 +5,7 @@ import shlex
 import subprocess
 import tempfile
 
+from cases import case
 from reference import timecode
 from rows.in_process import run
 
@@ -116,7 +117,9 @@ def piped(top):
     return done.stdout == b"wire irig (code !), upright, format B\n" and not done.stderr
 
 
-def check(top):
+def cases(top):
+    """Each row by its name."""
     parts = ["wire TOP.bench.irig (code $), upright, format A", "expression 2: 1 of 1", "109 12:34:56.70"]
     simulated = "a simulator's dump", verilator(top), [], 0, parts, 1
-    return [row_holds(top, *row) for row in (*ROWS, simulated)] + [piped(top), run("irig_what", ["--help"])[0] == 0]
+    return [*(case("what: " + row[0], row_holds, top, *row) for row in (*ROWS, simulated)),
+            case("what: in a pipe", piped, top), case("what: help", lambda: run("irig_what", ["--help"])[0] == 0)]

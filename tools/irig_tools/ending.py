@@ -52,7 +52,6 @@ def _known(error: Exception, program: str) -> int:
     if isinstance(error, OSError):
         text = str(error.strerror or error)
         text = "%s: %s" % (error.filename, text) if error.filename else text
-        _drop_output()
     _last_words(text, program)
     return NOT_READ
 
