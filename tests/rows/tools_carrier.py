@@ -4,6 +4,7 @@ import math
 import os
 import random
 import statistics
+import struct
 import subprocess
 import wave
 from array import array
@@ -283,6 +284,77 @@ def forms():
             same("a level", ["--level"], wav(level, 8000), [100000 * place + 10000 for place in range(10)])]
 
 
+GUID = b"\x00\x00\x00\x00\x10\x00\x80\x00\x00\xaa\x00\x38\x9b\x71"
+W64 = b"\xf3\xac\xd3\x11\x8c\xd1\x00\xc0\x4f\x8e\xdb\x8a"  # the end of the names of its chunks but the first
+
+
+def riff(data, tag=1, size=2, channels=1, said=None, head=b"RIFF", extensible=False, before=b"", rate=8000):
+    """A sound file of data; `said` is the size that its head has."""
+    order = ">" if head == b"RIFX" else "<"
+    form = struct.pack(order + "HHIIHH", 0xfffe if extensible else tag, channels, rate, rate * size * channels,
+                       size * channels, 8 * size)
+    form += struct.pack("<HHIH", 22, 8 * size, 4, tag) + GUID if extensible else b""
+    size = len(data) if said is None else said
+    chunks = before + b"fmt " + struct.pack(order + "I", len(form)) + form + b"data" + struct.pack(order + "I", size)
+    return head + struct.pack(order + "I", min(4 + len(chunks) + size, 2**32 - 1)) + b"WAVE" + chunks + data
+
+
+def w64(data):
+    """A file of Sony's form with sizes of 64 bits."""
+    form = struct.pack("<HHIIHH", 1, 1, 8000, 16000, 2, 16)
+    fact = b"fact" + W64 + struct.pack("<Q", 27) + b"abc" + b"\0" * 5
+    chunks = fact + b"fmt " + W64 + struct.pack("<Q", 24 + 16) + form + b"data" + W64 + struct.pack("<Q", 24 + len(data))
+    return (b"riff\x2e\x91\xcf\x11\xa5\xd6\x28\xdb\x04\xc1\0\0" + struct.pack("<Q", 40 + len(chunks) + len(data))
+            + b"wave" + W64 + chunks + data)
+
+
+def sound_files():
+    """The same signal in every form of a sound file."""
+    values, rises = signal("B", random.Random(9), 8000, 1000, 3.3, 0.01, 0, 0, 2)
+    whole, raw = values.tobytes(), ["--rate=8000", "--raw"]
+    swapped = array("h", values)
+    swapped.byteswap()
+    wide = b"".join(b"\0" + whole[at:at + 2] for at in range(0, len(whole), 2))
+    floats = array("f", [value / 32768 for value in values]).tobytes()
+    double = array("d", [value / 32768 for value in values]).tobytes()
+    long = array("i", [value << 16 for value in values]).tobytes()
+    two = array("h", [part for value in values for part in (0, value)]).tobytes()
+    ds64 = b"ds64" + struct.pack("<IQQQI", 28, 0, len(whole), 0, 0)
+    notes = b"LIST" + struct.pack("<I", 3) + b"abc\0"
+    after = b"LIST" + struct.pack("<I", 4000) + b"\x7f" * 4000
+    files = (
+        ("32 bits", [], riff(long, size=4)), ("float 32", [], riff(floats, 3, 4)), ("float 64", [], riff(double, 3, 8)),
+        ("extensible 16", [], riff(whole, extensible=True)), ("extensible 24", [], riff(wide, size=3, extensible=True)),
+        ("extensible float", [], riff(floats, 3, 4, extensible=True)), ("the highest byte first", [], riff(
+            swapped.tobytes(), head=b"RIFX")),
+        ("two channels, extensible", ["--channel=2"], riff(two, channels=2, extensible=True)),
+        ("RF64", [], riff(whole, said=2**32 - 1, head=b"RF64", before=ds64) + after), ("W64", [], w64(whole)),
+        ("a size of 0", [], riff(whole, said=0)), ("a size that is not known", [], riff(whole, said=2**32 - 1)),
+        ("a size that is too large", [], riff(whole, said=len(whole) + 999)), ("chunks before", [], riff(whole, before=notes)),
+        ("a chunk after", [], riff(whole) + after), ("an odd end", [], riff(whole + b"a", said=0)),
+        ("raw f32", [*raw, "f32"], floats), ("raw f64", [*raw, "f64"], double), ("raw s32", [*raw, "s32"], long),
+        ("raw s16be", [*raw, "s16be"], swapped.tobytes()),
+        ("raw s24be", [*raw, "s24be"], b"".join(wide[at:at + 3][::-1] for at in range(0, len(wide), 3))))
+    return [same(name, words, data, rises) for name, words, data in files]
+
+
+def no_sound():
+    """What is no sound file that is read, and what is said of it."""
+    results = []
+    for data, status, text in (
+            (b"fLaC\0\0", 2, "'flac -dc FILE | irig_demodulate -' reads it"), (b"OggS", 2, "'sox FILE -t wav - |"),
+            (b"\x25\xeb\0\1", 2, "IRIG 106 Chapter 10"), (b"$date now $end", 2, "'irig_what FILE' finds"),
+            (b"hello", 2, "--raw reads samples without a head"), (riff(b"abcd", 2), 2, "in the form 2; 'sox FILE"),
+            (riff(b"abcd", rate=0), 2, "has 1 channels and 0 samples in a second"), (riff(b"")[:40], 2, "has no samples"),
+            (riff(b"", channels=0, size=0), 2, "has 0 channels"), (riff(b"abcdefg", said=9), 1, "the file is cut off"),
+            (riff(struct.pack("<4f", 1, 2, math.nan, 3), 3, 4), 2, "is no number from -1e30 to 1e30"),
+            (riff(struct.pack("<2d", 1e300, -1e300), 3, 8), 2, "is no number from -1e30 to 1e30")):
+        got, _, said = run("irig_demodulate", ["-"], data)
+        results.append(got == status and text in said and said.startswith("irig_demodulate: "))
+        results[-1] or print("FAILED irig_demodulate of %r: %d %s" % (data[:12], got, said))
+    return results
+
+
 def refused():
     """Statuses and what is said of samples that are not read."""
     sound, silent = wav(array("h", [0] * 8000), 8000), wav(b"", 8000)
@@ -296,7 +368,7 @@ def refused():
             (["--raw=s16", "--rate=999999937"], b"0000", 2), (["--raw=s16", "--rate=8000"], b"0", 1),
             (["--raw=s16", "--rate=8000", "--level"], b"0", 1), (["--raw=s24", "--rate=8000"], b"0000", 1),
             ([], sound[:-1], 1), (["--level"], sound[:-1], 1), (["--what"], b"", 2), (["--swap", "--no-swap"], sound, 2),
-            ([], wav(b"", 8000, 4), 2), (["--help"], b"", 0)]
+            ([], wav(b"", 8000, 4), 1), (["--help"], b"", 0)]
     results = []
     for words, data, status in rows:
         got, _, said = run("irig_demodulate", [*words, "-"], data)
@@ -311,4 +383,5 @@ def cases(_):
     return [case("carrier: random signals", rates), case("carrier: plus and minus", polarity),
             case("carrier: thresholds", steps),
             case("carrier: ratios", ratios), case("carrier: shares", shares), case("carrier: a clock that is off", slope),
-            case("carrier: a level that dips", hysteresis), case("carrier: forms of samples", forms), case("carrier: what is refused", refused)]
+            case("carrier: a level that dips", hysteresis), case("carrier: forms of samples", forms), case("carrier: sound files", sound_files),
+            case("carrier: no sound files", no_sound), case("carrier: what is refused", refused)]

@@ -86,7 +86,8 @@ LINES = (
     (wire_program, "a --from \u0663", "--from needs a whole number, at least 0, not '\u0663'", None),
     (damage_program, "a --format C", "--format is A, B, E or G, not 'C'", None),
     (mend_program, "a --expression 8", "--expression is 0, 1, 2, 3, 4, 5, 6 or 7, not '8'", None),
-    (demodulate_program, "a --raw s17", "--raw is u8, s8, s16, s24, s32 or text, not 's17'", None),
+    (demodulate_program, "a --raw s17", "--raw is u8, s8, s16, s24, s32, f32, f64, s16be, s24be, s32be, f32be, f64be or text, "
+     "not 's17'", None),
 )
 
 

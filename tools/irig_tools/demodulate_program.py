@@ -19,13 +19,14 @@ CHANNEL = Option("--channel", "N", "the channel of the WAV file, from 1", whole(
 SWAP = Option("--swap", about="the recorder swapped plus and minus; code on a carrier shows it if neither this nor "
               "--no-swap is given")
 NO_SWAP = Option("--no-swap", about="the recorder did not swap plus and minus")
-KIND = Option("--raw", "KIND", "u8, s8, s16, s24 or s32: integers; text: a number a line", choices=(*RAW, "text"))
+KIND = Option("--raw", "KIND", "u8, s8, s16, s24, s32: integers; f32, f64: floats; with be at the end, as s16be, the "
+              "highest byte is first; text: a number a line", choices=(*RAW, "text"))
 RATE = Option("--rate", "HERTZ", "the samples in a second, with --raw", whole(1))
 OUT = Option("--out", "FILE", "the file to write, whole or not at all, instead of standard output", a_file)
 COMMAND = Command("irig_demodulate", ("SAMPLES",), """\
 Makes a dump of recorded samples of IRIG 200-04 time code. SAMPLES is a WAV file
-(PCM of 8, 16 or 24 bits), or with --raw little-endian integers or numbers, one a
-line; - is standard input.
+(also WAVE_FORMAT_EXTENSIBLE, RF64 and W64) of integers or floats, or with --raw
+numbers without a head, or one a line; - is standard input.
 """, (FORMAT, CARRIER, LEVEL, CHANNEL, SWAP, NO_SWAP, KIND, RATE, OUT), """\
 The status is 0 if pulses were found, 1 if there are none, 2 if the samples were
 not read, and 70 if memory ran out or the tool has a defect.
