@@ -3,6 +3,7 @@ import io
 import math
 import os
 import random
+import re
 import statistics
 import struct
 import subprocess
@@ -284,6 +285,51 @@ def forms():
             same("a level", ["--level"], wav(level, 8000), [100000 * place + 10000 for place in range(10)])]
 
 
+def silences():
+    """Noise before, between and after code: the pulses of the code and no other, and a line for each gap."""
+    rng, code = random.Random(3), []
+    for place in range(128):  # 25 stretches
+        code += [0] * 80 + [9000] * (160 if place % 3 else 400) + [0] * (560 if place % 3 else 320)
+    noise = [0] * 16000  # 2 seconds
+    results = []
+    # name, samples before and after, the spread of the noise, options, the gaps in seconds, pulses
+    for name, parts, spread, words, gaps, pulses in (
+            ("code alone", (code,), 30, [], [], 128),
+            ("noise after code", (code, noise), 30, [], [(12.8, 14.8)], 128),
+            ("noise before code", (noise, code), 30, [], [(0, 2)], 128),
+            ("noise between", (code, noise, code), 300, [], [(12.8, 14.8)], 256),
+            ("noise alone", (noise,), 300, [], [(0, 2)], 0), ("hum alone", ("hum",), 0, [], [(0, 2)], 0),
+            ("two values alone", ("bits",), 0, [], [(0, 2)], 0), ("one value alone", (noise,), 0, [], [(0, 2)], 0),
+            ("noise as high as code", (code, "loud"), 30, [], [(12.8, 14.8)], 128),
+            ("too near", (code,), 30, ["--threshold=9500"], [(0, 12.8)], 0),
+            ("far enough", (code,), 30, ["--threshold", "8000"], [], 128)):
+        made = {"hum": [3000 * math.sin(place / 25) for place in range(16000)],
+                "bits": [rng.getrandbits(1) for _ in noise], "loud": [rng.gauss(0, 4000) for _ in noise]}
+        values = [value for part in parts for value in (made[part] if isinstance(part, str) else part)]
+        data = array("h", [round(value + rng.gauss(0, spread)) for value in values])
+        status, dump, said = run("irig_demodulate", ["--level", *words, "-"], wav(data, 8000))
+        told = [tuple(map(float, pair)) for pair in re.findall(r"no signal from ([0-9.]+) to ([0-9.]+) seconds", said)]
+        near = len(told) == len(gaps) and all(abs(a - b) <= 0.6 for one, two in zip(told, gaps) for a, b in zip(one, two))
+        good = (status, len(rises_of(dump))) == (0 if pulses else 1, pulses) and near
+        good or print("FAILED irig_demodulate --level, %s: %d pulses, %s" % (name, len(rises_of(dump)), said))
+        results.append(good)
+    return results
+
+
+def stretches():
+    """An edge whose middle is crossed at the end of a stretch has its time."""
+    values = array("h", [0] * 12000)
+    for place in range(20):
+        values[500 * place + 95:500 * place + 296] = array("h", [9000] * 201)
+        values[500 * place + 95] = 5200  # the middle is crossed before this sample, 0.6 after it
+    status, dump, _ = run("irig_demodulate", ["--level", "-"], wav(values, 8000))
+    wanted = [125 * (500 * place + 94 + 4500 / 5200) for place in range(20)]
+    good = status == 0 and len(rises_of(dump)) == 20
+    good = good and all(abs(one - two) <= 1 for one, two in zip(rises_of(dump), wanted))
+    good or print("FAILED irig_demodulate --level, a crossing at the end of a stretch: %s" % rises_of(dump)[:9])
+    return good
+
+
 GUID = b"\x00\x00\x00\x00\x10\x00\x80\x00\x00\xaa\x00\x38\x9b\x71"
 W64 = b"\xf3\xac\xd3\x11\x8c\xd1\x00\xc0\x4f\x8e\xdb\x8a"  # the end of the names of its chunks but the first
 
@@ -383,5 +429,7 @@ def cases(_):
     return [case("carrier: random signals", rates), case("carrier: plus and minus", polarity),
             case("carrier: thresholds", steps),
             case("carrier: ratios", ratios), case("carrier: shares", shares), case("carrier: a clock that is off", slope),
-            case("carrier: a level that dips", hysteresis), case("carrier: forms of samples", forms), case("carrier: sound files", sound_files),
+            case("carrier: a level that dips", hysteresis), case("carrier: forms of samples", forms),
+            case("carrier: silence of a level", silences),
+            case("carrier: stretches of a level", stretches), case("carrier: sound files", sound_files),
             case("carrier: no sound files", no_sound), case("carrier: what is refused", refused)]

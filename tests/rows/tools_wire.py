@@ -276,5 +276,6 @@ def cases(top):
     return [
         *(case("wire: " + row[0], row_holds, *row) for row in ROWS), case("wire: dumps of other tools", real, top),
         case("wire: what is written", written),
-        case("wire: limits", limits), case("wire: packed files", packed), case("wire: a long file", long_file, top), case("wire: hostile", hostile),
+        case("wire: limits", limits), case("wire: packed files", packed), case("wire: a long file", long_file, top),
+        case("wire: hostile", hostile),
         case("wire: random dumps", random_rows), case("wire: ends", ends, top)]

@@ -1,20 +1,36 @@
 """The program irig_demodulate."""
 from __future__ import annotations
 
-from typing import IO, Iterator, Sequence, Union
+import argparse
+import math
+from typing import IO, Union
 
 from .carrier import CARRIERS, Carrier
 from .command import run
-from .cycles import Edge
 from .ending import FOUND, SOUND, Usage, complain
+from .levels import Levels, Negative
 from .options import Command, Given, Option, a_file, whole
 from .output import check_apart, output
-from .samples import RAW, Samples, ranks
+from .samples import RAW, Samples
+
+
+def a_distance(word: str) -> float:
+    """Reads a distance of two levels."""
+    try:
+        value = float(word)
+    except ValueError:
+        value = math.nan
+    if not 0 <= value < math.inf:
+        raise argparse.ArgumentTypeError("needs a number, at least 0, not '%s'" % word)
+    return value
+
 
 FORMAT = Option("--format", "A|B|E", "the format of code on a carrier (10 kHz, 1 kHz, 100 Hz); B if it is not given",
                 choices=("A", "B", "E", "G"))
 CARRIER = Option("--carrier", "HERTZ", "another carrier: 1000 for format E", whole(1))
 LEVEL = Option("--level", about="the code is not on a carrier: the samples are its level")
+THRESHOLD = Option("--threshold", "N", "with --level: low and high that are no further apart are noise; if it is not "
+                   "given, a thousandth of the whole range of integers of 16 bits or more, and else 0", a_distance)
 CHANNEL = Option("--channel", "N", "the channel of the WAV file, from 1", whole(1))
 SWAP = Option("--swap", about="the recorder swapped plus and minus; code on a carrier shows it if neither this nor "
               "--no-swap is given")
@@ -27,43 +43,12 @@ COMMAND = Command("irig_demodulate", ("SAMPLES",), """\
 Makes a dump of recorded samples of IRIG 200-04 time code. SAMPLES is a WAV file
 (also WAVE_FORMAT_EXTENSIBLE, RF64 and W64) of integers or floats, or with --raw
 numbers without a head, or one a line; - is standard input.
-""", (FORMAT, CARRIER, LEVEL, CHANNEL, SWAP, NO_SWAP, KIND, RATE, OUT), """\
+""", (FORMAT, CARRIER, LEVEL, THRESHOLD, CHANNEL, SWAP, NO_SWAP, KIND, RATE, OUT), """\
 The status is 0 if pulses were found, 1 if there are none, 2 if the samples were
 not read, and 70 if memory ran out or the tool has a defect.
 """)
 HEAD = "$timescale 1 us $end\n$scope module irig $end\n$var wire 1 ! irig $end\n$upscope $end\n"
-STRETCH = 1 << 20  # samples of a level that are looked at together
-
-
-class Negative(Samples):
-    """Samples with plus and minus swapped."""
-
-    def chunks(self, length: int) -> Iterator[Sequence[float]]:
-        for values in super().chunks(length):
-            yield [-value for value in values]
-
-
-class Levels:
-    """Edges of a level: hysteresis about the middle, and a straight line between two samples."""
-
-    def __init__(self, samples: Samples) -> None:
-        self.samples, self.length, self.level = samples, 0, 0
-
-    def edges(self) -> Iterator[Edge]:
-        last = 0.0
-        for values in self.samples.chunks(STRETCH):
-            low, high = ranks(values)
-            up, down = low + 0.6 * (high - low), low + 0.4 * (high - low)
-            middle = (low + high) / 2
-            crossed = 0.0
-            for place, value in enumerate(values, self.length):
-                if (value > middle) != (last > middle) and value != last:
-                    crossed = max(0.0, place - 1 + (middle - last) / (value - last)) if place else 0.0
-                if high > low and (value > up and not self.level or value < down and self.level):
-                    self.level = 1 - self.level
-                    yield crossed, self.level
-                last = value
-            self.length += len(values)
+MOST_GAPS = 20  # that are named
 
 
 def samples_of(given: Given, swapped: bool) -> Samples:
@@ -76,12 +61,22 @@ def reader_of(given: Given) -> Union[Levels, Carrier]:
     if given.has(SWAP) and given.has(NO_SWAP):
         raise Usage("--swap and --no-swap exclude each other")
     if given.has(LEVEL):
-        return Levels(samples_of(given, given.has(SWAP)))
+        threshold = given.values.get(THRESHOLD.name)
+        return Levels(samples_of(given, given.has(SWAP)), threshold)
     if name not in CARRIERS:
         raise Usage("--format is A, B or E; G is read as a level")
     known = given.has(SWAP) or given.has(NO_SWAP)
     hertz = given.number(CARRIER) or CARRIERS[name][0]
     return Carrier(samples_of(given, False), hertz, given.has(SWAP) if known else None)
+
+
+def say_gaps(reader: Levels) -> None:
+    """Names the stretches without a signal."""
+    for start, end in reader.gaps[:MOST_GAPS]:
+        rate = reader.samples.rate
+        say("no signal from %.3f to %.3f seconds: no pulse is there" % (start / rate, end / rate))
+    if len(reader.gaps) > MOST_GAPS:
+        say("and %d such stretches more" % (len(reader.gaps) - MOST_GAPS))
 
 
 def remark(reader: Union[Levels, Carrier]) -> None:
@@ -117,6 +112,8 @@ def work(given: Given) -> int:
         pulses = write_dump(reader, out)
     if pulses:
         remark(reader)
+    if isinstance(reader, Levels):
+        say_gaps(reader)
     for note in reader.samples.notes:
         say(note)
     say("%d pulses in %.3f seconds" % (pulses, reader.length / reader.samples.rate))
