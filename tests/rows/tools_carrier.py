@@ -192,6 +192,19 @@ def edges_of(dump):
     return found
 
 
+def beginning():
+    """A pulse that begins with the recording begins at 0; if a sample of its first cycle is missing, with the next."""
+    heights = ([18000] * 8 + [6000] * 2 + [18000] * 5 + [6000] * 5) * 10
+    results = []
+    for start in (0, 1):
+        _, dump, said = run("irig_demodulate", ["--no-swap", "-"], wav(cycles_of(heights)[start:], 8000))
+        first = edges_of(dump)[:2]
+        wanted = [(0, 1), (8000, 0)] if not start else [(875, 1), (7875, 0)]
+        results.append(first == wanted)
+        results[-1] or print("FAILED irig_demodulate, the beginning without %d samples: %s %s" % (start, first, said))
+    return results
+
+
 def ratios():
     """A high amplitude of less than 1.6 times the low one is no code, one of more is; a carrier alone is none."""
     results = []
@@ -428,7 +441,7 @@ def cases(_):
     """Each part by its name."""
     return [case("carrier: random signals", rates), case("carrier: plus and minus", polarity),
             case("carrier: thresholds", steps),
-            case("carrier: ratios", ratios), case("carrier: shares", shares), case("carrier: a clock that is off", slope),
+            case("carrier: the beginning", beginning), case("carrier: ratios", ratios), case("carrier: shares", shares), case("carrier: a clock that is off", slope),
             case("carrier: a level that dips", hysteresis), case("carrier: forms of samples", forms),
             case("carrier: silence of a level", silences),
             case("carrier: stretches of a level", stretches), case("carrier: sound files", sound_files),
