@@ -250,6 +250,19 @@ def slope():
     return good
 
 
+def few():
+    """Far fewer pulses than the format has are reported: a carrier that is off, or silence; a sound one has no such line."""
+    results = []
+    for name, drift, words, silence, missing in (("sound", 1e-4, [], 0, False), ("off", 3e-3, [], 0, True),
+                                                 ("off, and named", 3e-3, ["--carrier=1003"], 0, False),
+                                                 ("silence", 0, [], 9000, True)):
+        values, _ = signal("B", random.Random(5), 8000, 1000, 3.3, 0.01, drift, 0, 3)
+        said = run("irig_demodulate", [*words, "-"], wav(values + array("h", [0] * silence), 8000))[2]
+        results.append(("are missing: silence, noise, or a carrier that is off" in said) == missing)
+        results[-1] or print("FAILED irig_demodulate, few pulses, %s: %s" % (name, said))
+    return results
+
+
 def hysteresis():
     """A level that dips below its middle, and not below 0.4 of the way, keeps its pulse; so does one that overshoots."""
     results = []
@@ -439,10 +452,8 @@ def refused():
 
 def cases(_):
     """Each part by its name."""
-    return [case("carrier: random signals", rates), case("carrier: plus and minus", polarity),
-            case("carrier: thresholds", steps),
-            case("carrier: the beginning", beginning), case("carrier: ratios", ratios), case("carrier: shares", shares), case("carrier: a clock that is off", slope),
-            case("carrier: a level that dips", hysteresis), case("carrier: forms of samples", forms),
-            case("carrier: silence of a level", silences),
-            case("carrier: stretches of a level", stretches), case("carrier: sound files", sound_files),
-            case("carrier: no sound files", no_sound), case("carrier: what is refused", refused)]
+    return [case("carrier: " + name, holds) for name, holds in (
+        ("random signals", rates), ("plus and minus", polarity), ("thresholds", steps), ("the beginning", beginning),
+        ("ratios", ratios), ("shares", shares), ("a clock that is off", slope), ("few pulses", few), ("a level that dips", hysteresis),
+        ("forms of samples", forms), ("silence of a level", silences), ("stretches of a level", stretches),
+        ("sound files", sound_files), ("no sound files", no_sound), ("what is refused", refused))]

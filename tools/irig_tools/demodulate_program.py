@@ -8,6 +8,7 @@ from typing import IO, Union
 from .carrier import CARRIERS, Carrier
 from .command import run
 from .ending import FOUND, SOUND, Usage, complain
+from .layout import INTERVAL
 from .levels import Levels, Negative
 from .options import Command, Given, Option, a_file, whole
 from .output import check_apart, output
@@ -49,6 +50,7 @@ not read, and 70 if memory ran out or the tool has a defect.
 """)
 HEAD = "$timescale 1 us $end\n$scope module irig $end\n$var wire 1 ! irig $end\n$upscope $end\n"
 MOST_GAPS = 20  # that are named
+ENOUGH = 0.9  # of the pulses that a format has in that time
 
 
 def samples_of(given: Given, swapped: bool) -> Samples:
@@ -90,6 +92,14 @@ def remark(reader: Union[Levels, Carrier]) -> None:
             say(text % (way.sharp, way.steps))
 
 
+def say_few(name: str, pulses: int, seconds: float) -> None:
+    """Says so if there are far fewer pulses than a format has in that time."""
+    wanted = round(seconds * 1000000 / INTERVAL[name])
+    if pulses < ENOUGH * wanted:
+        text = "format %s has %d pulses in that time, so %d are missing: silence, noise, or a carrier that is off by more "
+        say((text + "than 0.05 %% (--carrier HERTZ sets another)") % (name, wanted, wanted - pulses))
+
+
 def say(text: str) -> None:
     complain(text, COMMAND.name)
 
@@ -116,7 +126,10 @@ def work(given: Given) -> int:
         say_gaps(reader)
     for note in reader.samples.notes:
         say(note)
-    say("%d pulses in %.3f seconds" % (pulses, reader.length / reader.samples.rate))
+    seconds = reader.length / reader.samples.rate
+    say("%d pulses in %.3f seconds" % (pulses, seconds))
+    if isinstance(reader, Carrier):
+        say_few(given.text(FORMAT) or "B", pulses, seconds)
     return SOUND if pulses else FOUND
 
 
