@@ -33,18 +33,9 @@ class PageFailed(Exception):
     """The page threw."""
 
 
-def program(install: bool) -> Optional[str]:
-    """The path of a browser. If there is none, and it may be installed, Debian's is."""
-    found = shutil.which("chromium") or shutil.which("chromium-browser")
-    if found or not install or os.geteuid() != 0 or not shutil.which("apt-get"):
-        return found
-    asked = {**os.environ, "DEBIAN_FRONTEND": "noninteractive"}
-    for words in ("update -qq", "install -y -qq --no-install-recommends chromium"):
-        try:
-            subprocess.run(["apt-get", *words.split()], timeout=300, env=asked, **QUIET)
-        except (OSError, subprocess.TimeoutExpired):
-            return None
-    return shutil.which("chromium")
+def program() -> Optional[str]:
+    """The path of a browser, if there is one."""
+    return shutil.which("chromium") or shutil.which("chromium-browser")
 
 
 def high(end: int) -> int:

@@ -323,8 +323,8 @@ def processes(top):
             )
             status, said, complaint = run(top, "%s --expression 4 %s" % (tool, broken))
             yield same(tool + " on a broken track", (status, bool(said), complaint), (1, True, ""))
-            for words in ("--expression=4", "--expression 4 --"):
-                yield same("%s %s" % (tool, words), run(top, "%s %s %s" % (tool, words, broken)), (1, said, ""))
+            for words in ("--expression=4 %s", "--expression 4 -- %s", "%s --expression 4", "- --expression 4 < %s"):
+                yield same("%s %s" % (tool, words), run(top, "%s %s" % (tool, words % broken)), (1, said, ""))
             yield same(
                 tool + " in a pipe",
                 run(top, "cat %s | %s --expression 4 /dev/stdin" % (broken, tool)),

@@ -3,11 +3,15 @@ import io
 import math
 import os
 import random
+import re
 import statistics
+import struct
 import subprocess
 import wave
 from array import array
 
+from cases import case
+from irig_tools import carrier
 from reference import timecode
 from rows.in_process import run
 from rows.tools_what import track
@@ -150,6 +154,130 @@ def polarity():
     return results
 
 
+def cycles_of(heights, start=0):
+    """Samples of a carrier of 1 kHz, eight in a cycle, with a height for each cycle."""
+    return array("h", [round(height * math.sin(math.pi / 4 * (place + start))) for height in heights
+                       for place in range(8)])
+
+
+def steps():
+    """Where pulses begin and end by the heights of the cycles; low is 6,000, high 18,000, in twenty pulses."""
+    results = []
+    # name, the heights of a pulse, and its first cycle and its length in cycles
+    for name, pulse, first, length in (
+            ("more than 0.6 of the way up", [13400, 18000, 18000], 0, 3),
+            ("less than that", [13000, 18000, 18000], 1, 2),
+            ("not less than 0.4 of the way down", [18000, 18000, 11000], 0, 3),
+            ("less than that, down", [18000, 18000, 10500], 0, 2),
+            ("a dip in a pulse", [18000, 11000, 18000], 0, 3)):
+        heights = ([6000] * 5 + pulse + [6000] * 2) * 20
+        status, dump, said = run("irig_demodulate", ["--no-swap", "-"], wav(cycles_of(heights), 8000))
+        wanted = [1000 * (5 + 10 * number + first) for number in range(20)]
+        found = edges_of(dump)
+        good = status == 0 and len(found) == 40 and all(
+            abs(found[2 * number][0] - at) < 60 and abs(found[2 * number + 1][0] - at - 1000 * length) < 60
+            for number, at in enumerate(wanted))
+        good or print("FAILED irig_demodulate, %s: %s, not %s: %s" % (name, found[:4], wanted[:2], said))
+        results.append(good)
+    return results
+
+
+def edges_of(dump):
+    time, found = 0, []
+    for line in dump.decode().partition("0!\n$end\n")[2].splitlines():
+        if line.startswith("#"):
+            time = int(line[1:])
+        else:
+            found.append((time, int(line[0])))
+    return found
+
+
+def beginning():
+    """A pulse that begins with the recording begins at 0; if a sample of its first cycle is missing, with the next."""
+    heights = ([18000] * 8 + [6000] * 2 + [18000] * 5 + [6000] * 5) * 10
+    results = []
+    for start in (0, 1):
+        _, dump, said = run("irig_demodulate", ["--no-swap", "-"], wav(cycles_of(heights)[start:], 8000))
+        first = edges_of(dump)[:2]
+        wanted = [(0, 1), (8000, 0)] if not start else [(875, 1), (7875, 0)]
+        results.append(first == wanted)
+        results[-1] or print("FAILED irig_demodulate, the beginning without %d samples: %s %s" % (start, first, said))
+    return results
+
+
+def ratios():
+    """A high amplitude of less than 1.6 times the low one is no code, one of more is; a carrier alone is none."""
+    results = []
+    for ratio, good in ((1.0, False), (1.5, False), (1.7, True), (2.4, True)):
+        heights = [8000 * (ratio if place % 10 < 4 else 1) for place in range(1000)]
+        status, dump, _ = run("irig_demodulate", ["--no-swap", "-"], wav(cycles_of(heights), 8000))
+        results.append((status, bool(rises_of(dump))) == (0 if good else 1, good))
+        results[-1] or print("FAILED irig_demodulate, a ratio of %.1f: status %d" % (ratio, status))
+    return results
+
+
+def shares():
+    """Three quarters of the steps have to be sharp, and there have to be 20; a stretch is 500 cycles."""
+    results = []
+    for steps_seen, sharp, known in ((60, 45, True), (60, 44, False), (60, 36, False), (20, 15, True), (19, 19, False)):
+        reader = carrier.Carrier(_Raw(8000), 1000)
+        for way in reader.ways:
+            way.steps, way.sharp = steps_seen, sharp if way.swapped else 0
+        list(reader._choose(0, 0))
+        results.append(reader.chosen == known and reader.ways[0].swapped == known)
+        results[-1] or print("FAILED irig_demodulate, %d of %d steps are sharp" % (sharp, steps_seen))
+    for rate, hertz, size in ((8000, 1000, 4000), (48000, 10000, 2400), (44100, 1000, 22050)):
+        results.append(carrier.Carrier(_Raw(rate), hertz).size == size)
+        results[-1] or print("FAILED irig_demodulate, stretches at %d samples" % rate)
+    return results
+
+
+class _Raw:
+    """Samples with a rate and nothing in them."""
+
+    def __init__(self, rate):
+        self.rate = rate
+
+
+def slope():
+    """If the clock is off by 200 parts in a million, no rise is off by more than a fiftieth of a cycle."""
+    values, rises = signal("B", random.Random(7), 8000, 1000, 4, 0, 2e-4, 0, 3)
+    found = rises_of(run("irig_demodulate", ["--no-swap", "-"], wav(values, 8000))[1])
+    worst = max(min(abs(rise - other) for other in found) for rise in rises[5:-5])
+    good = len(found) == len(rises) and worst <= 20
+    good or print("FAILED irig_demodulate, a clock that is off: %d of %d rises, worst %d" % (
+        len(found), len(rises), worst))
+    return good
+
+
+def few():
+    """Far fewer pulses than the format has are reported: a carrier that is off, or silence; a sound one has no such line."""
+    results = []
+    for name, drift, words, silence, missing in (("sound", 1e-4, [], 0, False), ("off", 3e-3, [], 0, True),
+                                                 ("off, and named", 3e-3, ["--carrier=1003"], 0, False),
+                                                 ("silence", 0, [], 9000, True)):
+        values, _ = signal("B", random.Random(5), 8000, 1000, 3.3, 0.01, drift, 0, 3)
+        said = run("irig_demodulate", [*words, "-"], wav(values + array("h", [0] * silence), 8000))[2]
+        results.append(("are missing: silence, noise, or a carrier that is off" in said) == missing)
+        results[-1] or print("FAILED irig_demodulate, few pulses, %s: %s" % (name, said))
+    return results
+
+
+def hysteresis():
+    """A level that dips below its middle, and not below 0.4 of the way, keeps its pulse; so does one that overshoots."""
+    results = []
+    for name, dip, low in (("a dip", 4500, 0), ("a rise in a gap", 9000, 5000)):
+        values = array("h", [0] * 8000)
+        for place in range(10):
+            values[800 * place + 80:800 * place + 240] = array("h", [9000] * 160)
+            values[800 * place + 120] = dip
+            values[800 * place + 400] = low
+        status, dump, said = run("irig_demodulate", ["--level", "-"], wav(values, 8000))
+        results.append(status == 0 and rises_of(dump) == [100000 * place + 9938 for place in range(10)])
+        results[-1] or print("FAILED irig_demodulate --level, %s: %s %s" % (name, rises_of(dump)[:4], said))
+    return results
+
+
 def same(name, words, data, true):
     """Whether other samples of one signal give its rises, to 300 microseconds."""
     status, dump, said = run("irig_demodulate", [*words, "-"], data)
@@ -183,14 +311,136 @@ def forms():
             same("a level", ["--level"], wav(level, 8000), [100000 * place + 10000 for place in range(10)])]
 
 
+def silences():
+    """Noise before, between and after code: the pulses of the code and no other, and a line for each gap."""
+    rng, code = random.Random(3), []
+    for place in range(128):  # 25 stretches
+        code += [0] * 80 + [9000] * (160 if place % 3 else 400) + [0] * (560 if place % 3 else 320)
+    noise = [0] * 16000  # 2 seconds
+    results = []
+    # name, samples before and after, the spread of the noise, options, the gaps in seconds, pulses
+    for name, parts, spread, words, gaps, pulses in (
+            ("code alone", (code,), 30, [], [], 128),
+            ("noise after code", (code, noise), 30, [], [(12.8, 14.8)], 128),
+            ("noise before code", (noise, code), 30, [], [(0, 2)], 128),
+            ("noise between", (code, noise, code), 300, [], [(12.8, 14.8)], 256),
+            ("noise alone", (noise,), 300, [], [(0, 2)], 0), ("hum alone", ("hum",), 0, [], [(0, 2)], 0),
+            ("two values alone", ("bits",), 0, [], [(0, 2)], 0), ("one value alone", (noise,), 0, [], [(0, 2)], 0),
+            ("noise as high as code", (code, "loud"), 30, [], [(12.8, 14.8)], 128),
+            ("too near", (code,), 30, ["--threshold=9500"], [(0, 12.8)], 0),
+            ("far enough", (code,), 30, ["--threshold", "8000"], [], 128)):
+        made = {"hum": [3000 * math.sin(place / 25) for place in range(16000)],
+                "bits": [rng.getrandbits(1) for _ in noise], "loud": [rng.gauss(0, 4000) for _ in noise]}
+        values = [value for part in parts for value in (made[part] if isinstance(part, str) else part)]
+        data = array("h", [round(value + rng.gauss(0, spread)) for value in values])
+        status, dump, said = run("irig_demodulate", ["--level", *words, "-"], wav(data, 8000))
+        told = [tuple(map(float, pair)) for pair in re.findall(r"no signal from ([0-9.]+) to ([0-9.]+) seconds", said)]
+        near = len(told) == len(gaps) and all(abs(a - b) <= 0.6 for one, two in zip(told, gaps) for a, b in zip(one, two))
+        good = (status, len(rises_of(dump))) == (0 if pulses else 1, pulses) and near
+        good or print("FAILED irig_demodulate --level, %s: %d pulses, %s" % (name, len(rises_of(dump)), said))
+        results.append(good)
+    return results
+
+
+def stretches():
+    """An edge whose middle is crossed at the end of a stretch has its time."""
+    values = array("h", [0] * 12000)
+    for place in range(20):
+        values[500 * place + 95:500 * place + 296] = array("h", [9000] * 201)
+        values[500 * place + 95] = 5200  # the middle is crossed before this sample, 0.6 after it
+    status, dump, _ = run("irig_demodulate", ["--level", "-"], wav(values, 8000))
+    wanted = [125 * (500 * place + 94 + 4500 / 5200) for place in range(20)]
+    good = status == 0 and len(rises_of(dump)) == 20
+    good = good and all(abs(one - two) <= 1 for one, two in zip(rises_of(dump), wanted))
+    good or print("FAILED irig_demodulate --level, a crossing at the end of a stretch: %s" % rises_of(dump)[:9])
+    return good
+
+
+GUID = b"\x00\x00\x00\x00\x10\x00\x80\x00\x00\xaa\x00\x38\x9b\x71"
+W64 = b"\xf3\xac\xd3\x11\x8c\xd1\x00\xc0\x4f\x8e\xdb\x8a"  # the end of the names of its chunks but the first
+
+
+def riff(data, tag=1, size=2, channels=1, said=None, head=b"RIFF", extensible=False, before=b"", rate=8000):
+    """A sound file of data; `said` is the size that its head has."""
+    order = ">" if head == b"RIFX" else "<"
+    form = struct.pack(order + "HHIIHH", 0xfffe if extensible else tag, channels, rate, rate * size * channels,
+                       size * channels, 8 * size)
+    form += struct.pack("<HHIH", 22, 8 * size, 4, tag) + GUID if extensible else b""
+    size = len(data) if said is None else said
+    chunks = before + b"fmt " + struct.pack(order + "I", len(form)) + form + b"data" + struct.pack(order + "I", size)
+    return head + struct.pack(order + "I", min(4 + len(chunks) + size, 2**32 - 1)) + b"WAVE" + chunks + data
+
+
+def w64(data):
+    """A file of Sony's form with sizes of 64 bits."""
+    form = struct.pack("<HHIIHH", 1, 1, 8000, 16000, 2, 16)
+    fact = b"fact" + W64 + struct.pack("<Q", 27) + b"abc" + b"\0" * 5
+    chunks = fact + b"fmt " + W64 + struct.pack("<Q", 24 + 16) + form + b"data" + W64 + struct.pack("<Q", 24 + len(data))
+    return (b"riff\x2e\x91\xcf\x11\xa5\xd6\x28\xdb\x04\xc1\0\0" + struct.pack("<Q", 40 + len(chunks) + len(data))
+            + b"wave" + W64 + chunks + data)
+
+
+def sound_files():
+    """The same signal in every form of a sound file."""
+    values, rises = signal("B", random.Random(9), 8000, 1000, 3.3, 0.01, 0, 0, 2)
+    whole, raw = values.tobytes(), ["--rate=8000", "--raw"]
+    swapped = array("h", values)
+    swapped.byteswap()
+    wide = b"".join(b"\0" + whole[at:at + 2] for at in range(0, len(whole), 2))
+    floats = array("f", [value / 32768 for value in values]).tobytes()
+    double = array("d", [value / 32768 for value in values]).tobytes()
+    long = array("i", [value << 16 for value in values]).tobytes()
+    two = array("h", [part for value in values for part in (0, value)]).tobytes()
+    ds64 = b"ds64" + struct.pack("<IQQQI", 28, 0, len(whole), 0, 0)
+    notes = b"LIST" + struct.pack("<I", 3) + b"abc\0"
+    after = b"LIST" + struct.pack("<I", 4000) + b"\x7f" * 4000
+    files = (
+        ("32 bits", [], riff(long, size=4)), ("float 32", [], riff(floats, 3, 4)), ("float 64", [], riff(double, 3, 8)),
+        ("extensible 16", [], riff(whole, extensible=True)), ("extensible 24", [], riff(wide, size=3, extensible=True)),
+        ("extensible float", [], riff(floats, 3, 4, extensible=True)), ("the highest byte first", [], riff(
+            swapped.tobytes(), head=b"RIFX")),
+        ("two channels, extensible", ["--channel=2"], riff(two, channels=2, extensible=True)),
+        ("RF64", [], riff(whole, said=2**32 - 1, head=b"RF64", before=ds64) + after), ("W64", [], w64(whole)),
+        ("a size of 0", [], riff(whole, said=0)), ("a size that is not known", [], riff(whole, said=2**32 - 1)),
+        ("a size that is too large", [], riff(whole, said=len(whole) + 999)), ("chunks before", [], riff(whole, before=notes)),
+        ("a chunk after", [], riff(whole) + after), ("an odd end", [], riff(whole + b"a", said=0)),
+        ("raw f32", [*raw, "f32"], floats), ("raw f64", [*raw, "f64"], double), ("raw s32", [*raw, "s32"], long),
+        ("raw s16be", [*raw, "s16be"], swapped.tobytes()),
+        ("raw s24be", [*raw, "s24be"], b"".join(wide[at:at + 3][::-1] for at in range(0, len(wide), 3))))
+    return [same(name, words, data, rises) for name, words, data in files]
+
+
+def no_sound():
+    """What is no sound file that is read, and what is said of it."""
+    results = []
+    for data, status, text in (
+            (b"fLaC\0\0", 2, "'flac -dc FILE | irig_demodulate -' reads it"), (b"OggS", 2, "'sox FILE -t wav - |"),
+            (b"\x25\xeb\0\1", 2, "IRIG 106 Chapter 10"), (b"$date now $end", 2, "'irig_what FILE' finds"),
+            (b"hello", 2, "--raw reads samples without a head"), (riff(b"abcd", 2), 2, "in the form 2; 'sox FILE"),
+            (riff(b"abcd", rate=0), 2, "has 1 channels and 0 samples in a second"), (riff(b"")[:40], 2, "has no samples"),
+            (riff(b"", channels=0, size=0), 2, "has 0 channels"), (riff(b"abcdefg", said=9), 1, "the file is cut off"),
+            (riff(struct.pack("<4f", 1, 2, math.nan, 3), 3, 4), 2, "is no number from -1e30 to 1e30"),
+            (riff(struct.pack("<2d", 1e300, -1e300), 3, 8), 2, "is no number from -1e30 to 1e30")):
+        got, _, said = run("irig_demodulate", ["-"], data)
+        results.append(got == status and text in said and said.startswith("irig_demodulate: "))
+        results[-1] or print("FAILED irig_demodulate of %r: %d %s" % (data[:12], got, said))
+    return results
+
+
 def refused():
     """Statuses and what is said of samples that are not read."""
     sound, silent = wav(array("h", [0] * 8000), 8000), wav(b"", 8000)
     rows = [([], sound, 1), ([], silent, 1), ([], b"", 2), ([], b"RIFF", 2), ([], sound[:30], 2),
             (["--raw=s16"], b"", 2), (["--raw=what"], b"", 2), (["--format=G"], sound, 2),
             (["--format=A"], sound, 2), (["--channel=2"], sound, 2), (["--channel=0"], sound, 2),
-            (["--raw=text", "--rate=9"], b"a\n", 2), (["--what"], b"", 2), (["--swap", "--no-swap"], sound, 2),
-            ([], wav(b"", 8000, 4), 2), (["--help"], b"", 0)]
+            (["--raw=text", "--rate=9"], b"a\n", 2), (["--raw=text", "--rate=8000"], b"1\nnan\n", 2),
+            (["--raw=text", "--rate=8000", "--level"], b"1\n-inf\n", 2),
+            (["--raw=text", "--rate=8000"], b"1e31\n", 2), (["--raw=text", "--rate=8000"], b"1" * 5000000, 2),
+            (["--raw=text", "--rate=8000"], b"5" + b" " * 999 + b"6\n", 2),
+            (["--raw=s16", "--rate=999999937"], b"0000", 2), (["--raw=s16", "--rate=8000"], b"0", 1),
+            (["--raw=s16", "--rate=8000", "--level"], b"0", 1), (["--raw=s24", "--rate=8000"], b"0000", 1),
+            ([], sound[:-1], 1), (["--level"], sound[:-1], 1), (["--what"], b"", 2), (["--swap", "--no-swap"], sound, 2),
+            ([], wav(b"", 8000, 4), 1), (["--help"], b"", 0)]
     results = []
     for words, data, status in rows:
         got, _, said = run("irig_demodulate", [*words, "-"], data)
@@ -200,5 +450,10 @@ def refused():
     return results
 
 
-def check():
-    return [rates()] + polarity() + forms() + refused()
+def cases(_):
+    """Each part by its name."""
+    return [case("carrier: " + name, holds) for name, holds in (
+        ("random signals", rates), ("plus and minus", polarity), ("thresholds", steps), ("the beginning", beginning),
+        ("ratios", ratios), ("shares", shares), ("a clock that is off", slope), ("few pulses", few), ("a level that dips", hysteresis),
+        ("forms of samples", forms), ("silence of a level", silences), ("stretches of a level", stretches),
+        ("sound files", sound_files), ("no sound files", no_sound), ("what is refused", refused))]

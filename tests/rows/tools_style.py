@@ -1,15 +1,20 @@
 """flake8, mypy --strict and shellcheck find nothing in the tools and their tests.
 
-A checker that is missing is installed if that is allowed (root, with apt-get), or named as left out.
+A checker that is missing is left out by name. The versions whose findings count are in VERSIONS: another version can
+know more, so its findings are printed, and are no failure.
 """
 import glob
 import os
+import re
 import shutil
 import subprocess
 
+from cases import case
+
 SHELL = ("install", "irig_ed", "package", "completions/irig_ed")  # what a user runs that is no Python
-TESTS = ("tests/tools", "tests/tools_wire", "tests/page")  # scripts whose names do not end in .py
+TESTS = ("tests/tools", "tests/tools_wire", "tests/tools_planted", "tests/page")  # whose names do not end in .py
 TYPED_TESTS = ("tests/page", "tests/browser.py", "tests/page_look.py", "tests/page_rows.py")
+VERSIONS = {"flake8": "5.0.4", "mypy": "1.0.1", "shellcheck": "0.9.0"}  # those of Debian 12
 
 
 def commands(top):
@@ -23,33 +28,28 @@ def commands(top):
     )
 
 
-def installed(names):
-    """Tries to install what is missing."""
-    missing = [name for name in names if not shutil.which(name)]
-    if missing and os.geteuid() == 0 and shutil.which("apt-get"):
-        quiet = {"stdin": subprocess.DEVNULL, "stdout": subprocess.DEVNULL, "stderr": subprocess.DEVNULL}
-        asked = dict(os.environ, DEBIAN_FRONTEND="noninteractive")
-        for words in (["update", "-qq"], ["install", "-y", "-qq", "--no-install-recommends", *missing]):
-            try:
-                subprocess.run(["apt-get", *words], timeout=300, env=asked, **quiet)
-            except (OSError, subprocess.TimeoutExpired):
-                break
-    for name in missing:
-        if not shutil.which(name):
-            print("left out: tests/tools_wire, the style of the tools: it needs %s (apt-get install %s)" % (name, name))
+def version_of(name):
+    done = subprocess.run([name, "--version"], stdout=subprocess.PIPE, text=True, check=False)
+    found = re.search(r"\d+(\.\d+)+", done.stdout)
+    return found.group() if found else ""
 
 
-def check(top):
-    """Whether each checker that is there finds nothing."""
-    found = commands(top)
-    installed(sorted({name for name, _ in found}))
-    results = []
-    for name, command in found:
-        if not shutil.which(name):
-            continue
-        paths = dict(os.environ, MYPYPATH="tools:tests")
-        done = subprocess.run(command, cwd=top, env=paths, stdout=subprocess.PIPE, stderr=subprocess.STDOUT, text=True)
-        results.append(done.returncode == 0)
-        if done.returncode:
-            print("FAILED %s\n%s" % (" ".join(command), done.stdout[:2000]))
-    return results
+def finds_nothing(top, name, command):
+    """Whether a checker finds nothing, if it is there and its version is the one that counts."""
+    if not shutil.which(name):
+        print("left out: tests/tools_wire, the style of the tools: it needs %s %s" % (name, VERSIONS[name]))
+        return []
+    paths = dict(os.environ, MYPYPATH="tools:tests")
+    done = subprocess.run(command, cwd=top, env=paths, stdout=subprocess.PIPE, stderr=subprocess.STDOUT, text=True,
+                          check=False)
+    if not done.returncode:
+        return [True]
+    counts = version_of(name) == VERSIONS[name]
+    print("%s %s\n%s" % ("FAILED" if counts else "another version finds", " ".join(command), done.stdout[:2000]))
+    return [not counts]
+
+
+def cases(top):
+    """Each checker by its name."""
+    return [case("style: " + " ".join(command[:4]), finds_nothing, top, name, command)
+            for name, command in commands(top)]

@@ -5,6 +5,7 @@ import shlex
 import subprocess
 import tempfile
 
+from cases import case
 from reference import timecode
 from rows.in_process import run
 
@@ -83,7 +84,7 @@ def verilator(top):
 def fine_frames(top, command, folder):
     """How many frames the last line leads to."""
     places = os.path.join(top, "tools") + ":" + os.path.join(folder, "bin") + ":" + os.environ["PATH"]
-    done = subprocess.run(["bash", "-c", command.replace("; irig_ed", "; echo frames | irig_ed")], cwd=folder,
+    done = subprocess.run(["bash", "-c", command], cwd=folder,
                           input=b"frames\n", env=dict(os.environ, PATH=places), stdout=subprocess.PIPE,
                           stderr=subprocess.DEVNULL, check=False)
     return done.stdout.decode().count(" fine\n")
@@ -116,7 +117,9 @@ def piped(top):
     return done.stdout == b"wire irig (code !), upright, format B\n" and not done.stderr
 
 
-def check(top):
+def cases(top):
+    """Each row by its name."""
     parts = ["wire TOP.bench.irig (code $), upright, format A", "expression 2: 1 of 1", "109 12:34:56.70"]
     simulated = "a simulator's dump", verilator(top), [], 0, parts, 1
-    return [row_holds(top, *row) for row in (*ROWS, simulated)] + [piped(top), run("irig_what", ["--help"])[0] == 0]
+    return [*(case("what: " + row[0], row_holds, top, *row) for row in (*ROWS, simulated)),
+            case("what: in a pipe", piped, top), case("what: help", lambda: run("irig_what", ["--help"])[0] == 0)]

@@ -6,7 +6,11 @@ import os
 import random
 import subprocess
 import tempfile
+from unittest import mock
 
+from cases import case
+from irig_tools import wire
+from reference import dump
 from rows.in_process import run
 
 HEAD = "$timescale 1 us $end $var wire 1 ! a $end $enddefinitions $end "
@@ -54,19 +58,47 @@ ROWS = [
     ("a declaration that is not closed", (HEAD + UP).replace("a $end", "a"), [], EDGES, 0, "has no $end"),
     ("declarations that do not end", (HEAD + UP).replace("$enddefinitions $end", ""), [], EDGES, 0, "have no end"),
     ("two dumps", HEAD + UP + " " + HEAD + "#0 1! #1", [], EDGES, 1, "the file has 2 dumps"),
-    ("the second of two dumps", HEAD + UP + " " + HEAD + "#0 1! #1", ["--dump", "2"], [(0, 1), (1000, None)], 1, ""),
+    ("the second of two dumps", HEAD + UP + " " + HEAD + "#0 1! #1", ["--dump", "2"], [(0, 1), (1000, None)], 1, "never changes"),
     ("two recordings under one header", HEAD + UP + " #0 1! #1", ["--dump=2"], [(0, 1), (1000, None)], 1, ""),
+    ("two dumps, and the first is named", HEAD + UP + " " + HEAD + "#0 1! #1", ["--dump=1"], EDGES, 0, "has 2 dumps"),
     ("a dump that is not there", HEAD + UP, ["--dump=3"], None, 2, "has no dump 3; it has 1"),
     ("nanoseconds since 1970", (HEAD + "#0 x! #1700000000123456789 0! #1700000000123461789 1! #1700000000123463789 0! "
                                 "#1700000000123465789").replace("1 us", "1 ns"), [], EDGES[:0] + [
         (5000, 1), (7000, 0), (9000, None)], 0, "1700000000123456789 of the dump's unit was taken off"),
     ("a part", HEAD + "#0 0! #2 1! #8 0! #12 1! #20 0!", ["--from=4", "--to", "14"],
      [(0, 1), (4000, 0), (8000, 1), (10000, None)], 0, "4 of the dump's unit"),
+    ("an end before the start", HEAD + UP, ["--from", "9", "--to=3"], None, 2, "--to 3 is before --from 9"),
+    ("a part that is one moment", HEAD + UP, ["--from", "6", "--to=6"], [(0, 1), (0, None)], 1, "never changes"),
     ("upside down", HEAD + "#0 1! #5 0! #7 1! #9", ["--invert"], EDGES, 0, "swapped"),
     ("an extended dump", HEAD.replace("wire", "port").replace("!", "<0") + "#0 pD 6 0 <0 #5 pU 0 6 <0 #7 pN 0 0 <0 #9",
      [], EDGES, 0, "of ports"),
     ("a wire that never changes", HEAD + "#0 0! #9", [], [(9000, None)], 1, "never changes"),
     ("a track that is too long", HEAD + "#0 0! #5 1! #9000000000000 0!", [], None, 1, "reads at most"),
+    ("a wire that only becomes known", HEAD + "#0 x! #5 0! #9", [], [(9000, None)], 1, "never changes"),
+    ("a first time of 2^40 microseconds", HEAD + "#%d 1!" % 2**40, [], [(1000 * 2**40, 1), (1000 * 2**40, None)], 0, ""),
+    ("a first time one later", HEAD + "#%d 0! #%d 1! #%d 0!" % (2**40 + 1, 2**40 + 6, 2**40 + 8), [],
+     [(5000, 1), (7000, 0), (7000, None)], 0, "1099511627777 of the dump's unit was taken off"),
+    ("a length of 2^40 microseconds", HEAD + "#0 0! #5 1! #%d 0!" % 2**40, [],
+     [(5000, 1), (1000 * 2**40, 0), (1000 * 2**40, None)], 0, ""),
+    ("a length one more", HEAD + "#0 0! #5 1! #%d 0!" % (2**40 + 1), [], None, 1, "irig_ed reads at most 1099511627776"),
+    ("a change at the end", HEAD + "#0 0! #2 1! #8 0! #12", ["--to=8"], [(2000, 1), (8000, 0), (8000, None)], 0, ""),
+    ("times of 40 digits", HEAD + "#0 x! #{0}0 0! #{0}5 1! #{0}7 0! #{0}9".format("9" * 39), [], EDGES, 0, "taken off"),
+    ("times of 61 digits", HEAD + "#0 0! #5 1! #{0}7 0! #9".format("9" * 60), [], [(5000, 1), (5000, 0), (9000, None)], 1,
+     "1 words that mean no change"),
+    ("an unknown state of a port", HEAD.replace("wire", "port").replace("!", "<0")
+     + "#0 pD 6 0 <0 #5 pU 0 6 <0 #7 pF 0 0 <0 #9", [], EDGES, 0, ""),
+    ("a bit left of a short vector", TWO.replace("#1000", "#1000 b1 #"), ["bus[7]"], [(4000, None)], 1, "never changes"),
+    ("a bit left of a vector of x", TWO.replace("bx #", "b1 # #5000 b0 #"), ["bus[0]"], [(4000, 1), (5000, 0), (5000, None)],
+     0, ""),
+    ("thirty words before the header", "word " * 30 + HEAD + UP, [], EDGES, 0, "before the header was left out"),
+    ("too many words before the header", "word " * 10001 + HEAD + UP, [], None, 2, "no declaration is found"),
+    ("a unit of 200", (HEAD + UP).replace("1 us", "200 ns"), [], [(1000, 1), (1400, 0), (1800, None)], 0,
+     "200ns is written as 100 ns, and every time is multiplied by 2"),
+    ("a long word", HEAD + "$comment " + "x" * 3000000 + " $end " + UP, [], EDGES, 0, ""),
+    ("a word without end", HEAD + "x" * 18000000, [], None, 2, "a word has more than 16777216 bytes"),
+    ("a whole path that another path ends with", HEAD.replace("$enddefinitions",
+     "$scope module m $end $var wire 1 % a $end $upscope $end $enddefinitions") + "#0 0! 1% #5 1! #7 0! #9", ["a"],
+     EDGES, 0, "the wire is a (code !)"),
     ("no dump", "hello world\n", [], None, 2, "is no dump"),
     ("an empty file", "", [], None, 2, "is no dump"),
     ("declarations alone", "$timescale 1 us $end", [], None, 2, "do not end"),
@@ -107,6 +139,31 @@ REAL = {"icarus": "icarus", "ghdl": "ghdl", "gtkwave": "gtkwave", "verilator": "
         "sigrok_with_meta": "sigrok"}
 
 
+def written():
+    """What is written, letter by letter: a time once, and the level before the first change."""
+    wanted = ("$timescale 1 us $end\n$scope module irig $end\n$var wire 1 ! a $end\n$upscope $end\n"
+              "$enddefinitions $end\n#0\n$dumpvars\n0!\n$end\n#5\n1!\n#7\n0!\n")
+    results = []
+    for words, end in (("#0 0! #5 1! #7 0!", ""), ("#0 0! #5 1! 1! #7 0! #7", ""), (UP, "#9\n")):
+        printed = run("irig_wire", ["-"], (HEAD + words).encode())[1].decode()
+        results.append(printed == wanted + end)
+        results[-1] or print("FAILED irig_wire, what is written of %s: %s" % (words, printed))
+    return results
+
+
+def limits():
+    """The limits are those of the editor's reader, and what reaches one is not above it."""
+    known = wire.LONGEST == dump.LONGEST, wire.MOST_BYTES == dump.MOST_BYTES, wire.MOST_EDGES == dump.MOST_EDGES
+    results = list(known)
+    for name, limit, good in (("MOST_EDGES", 2, True), ("MOST_EDGES", 1, False), ("MOST_BYTES", 137, True),
+                              ("MOST_BYTES", 136, False)):
+        with mock.patch.object(wire, name, limit):
+            status, _, said = run("irig_wire", ["-"], (HEAD + UP).encode())
+        results.append((status, "reads at most %d: take a part" % limit in said) == ((0, False) if good else (1, True)))
+        results[-1] or print("FAILED irig_wire, %s of %d: %d %s" % (name, limit, status, said))
+    return results
+
+
 def real(top):
     """The edges in microseconds; the file of edges ends with the length."""
     results = []
@@ -133,7 +190,8 @@ def packed():
         good = status == 0 and edges_of(printed) == EDGES
         good or print("FAILED irig_wire, %s: %d %s" % (name, status, said))
         results.append(good)
-    heads = {b"\0" * 7 + b"\1I": "fst2vcd", b"\x13\x80": "lxt2vcd", b"PK\3\4": "sigrok-cli", b"RIFF": "WAV"}
+    heads = {b"\0" * 7 + b"\1I": "fst2vcd", b"\x13\x80": "lxt2vcd", b"PK\3\4": "sigrok-cli", b"RIFF": "WAV", b"fLaC": "flac -dc",
+             b"\x25\xeb": "IRIG 106 Chapter 10"}
     for head, text in heads.items():
         status, _, said = run("irig_wire", ["-"], head + plain)
         results.append(status == 2 and text in said)
@@ -176,8 +234,8 @@ def random_dump(rng):
 def random_rows():
     results = []
     for seed in range(30):
-        dump, name, edges = random_dump(random.Random(seed))
-        status, printed, said = run("irig_wire", ["-", name], dump.encode())
+        text, name, edges = random_dump(random.Random(seed))
+        status, printed, said = run("irig_wire", ["-", name], text.encode())
         good = status < 2 and edges_of(printed) == edges
         good or print("FAILED irig_wire, random dump %d: %s" % (seed, said))
         results.append(good)
@@ -213,6 +271,11 @@ def ends(top):
                 (full.returncode, full.stderr) == (2, b"irig_wire: No space left on device\n")]
 
 
-def check(top):
-    results = [row_holds(*row) for row in ROWS]
-    return results + real(top) + packed() + [long_file(top), hostile()] + random_rows() + ends(top)
+def cases(top):
+    """Each row by its name."""
+    return [
+        *(case("wire: " + row[0], row_holds, *row) for row in ROWS), case("wire: dumps of other tools", real, top),
+        case("wire: what is written", written),
+        case("wire: limits", limits), case("wire: packed files", packed), case("wire: a long file", long_file, top),
+        case("wire: hostile", hostile),
+        case("wire: random dumps", random_rows), case("wire: ends", ends, top)]

@@ -22,6 +22,7 @@ from .samples import Samples
 CARRIERS = {"A": (10000,), "B": (1000,), "E": (100, 1000)}
 CYCLES = 500  # over which a phase is measured
 FEWEST = 4  # samples in a cycle
+MOST = 1 << 20  # samples in a stretch: some hundreds of megabytes
 SOON, LATE = 50, 1000  # steps of the amplitude: the way can be chosen, and has to be
 FEW = 20  # steps; fewer in a whole recording do not show the way
 SHARP = 0.75  # of the steps, in the right way
@@ -39,6 +40,9 @@ class Carrier:
             raise Problem("%d samples a second are too few for a carrier of %d Hz" % (samples.rate, hertz))
         period = samples.rate // math.gcd(samples.rate, hertz)
         self.size = max(1, round(CYCLES * self.cycle / period)) * period
+        if self.size > MOST:
+            text = "%d samples a second are too many for a carrier of %d Hz; resample them, as sox does"
+            raise Problem(text % (samples.rate, hertz))
         turns = [2 * math.pi * place / self.cycle for place in range(period)]
         self.turns = [complex(math.cos(turn), math.sin(turn)) for turn in turns] * (self.size // period)
         self.turned = list(accumulate(self.turns, initial=0j))

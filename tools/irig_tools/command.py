@@ -1,143 +1,81 @@
-"""What the programs share: arguments, where the track comes from, and how they end."""
+"""How the programs run: their help and version, where the track comes from, and how they end."""
 from __future__ import annotations
 
-import gc
+import codecs
+import io
 import os
 import shutil
-import signal
 import stat
 import sys
 import tempfile
 from contextlib import contextmanager
-from dataclasses import dataclass, field
-from typing import Callable, Dict, Iterator, List, Optional, Sequence
+from typing import Callable, Iterator, Tuple, Union
 
-from .editor import Problem, complain
+from .editor import Problem
+from .ending import DEFECT, NOT_READ, complain, ended
+from .options import HELP, VERSION, Command, Given
+from .version import version
 
-SOUND, FOUND, NOT_READ = 0, 1, 2  # statuses
-VALUED = ("--wire", "--format", "--expression", "--out")  # the options of the editor
-LAST = [[option] for option in VALUED]  # what a value follows
-
-
-@dataclass
-class Arguments:
-    """The editor's options with the track as their last, and the values of the program's own options."""
-
-    editor: List[str]
-    own: Dict[str, str] = field(default_factory=dict)
-
-    def get(self, name: str) -> Optional[str]:
-        return self.own.get(name)
-
-
-class Usage(Exception):
-    """Arguments that are not valid."""
-
-
-def parse(words: Sequence[str], own: Sequence[str], flags: Sequence[str] = ()) -> Arguments:
-    """Parts the arguments; `own` are the options, each with a value, that are not the editor's, and `flags`
-    those without one."""
-    found, rest = Arguments([]), list(words)
-    while rest:
-        word = rest.pop(0)
-        name, equals, value = word.partition("=")
-        if name in own:
-            if not (value if equals else rest):
-                raise Usage("%s needs a file" % name)
-            found.own[name] = value if equals else rest.pop(0)
-        elif word in flags:
-            found.own[word] = ""
-        elif _is_unknown(word, found.editor):
-            raise Usage("'%s' is no option" % name)
-        else:
-            found.editor.append(word)
-    before = found.editor[:-1]
-    if not found.editor or before[-1:] in LAST or (found.editor[-1].startswith("--") and "--" not in before):
-        raise Usage("no TRACK is given")
-    return found
-
-
-def _is_unknown(word: str, before: Sequence[str]) -> bool:
-    """Whether a word is an option that the editor does not have either, and no value of one."""
-    is_option = word.startswith("--") and word != "--" and "--" not in before
-    return is_option and word.partition("=")[0] not in VALUED and before[-1:] not in LAST
+OPENED = ("/dev/fd/", "/dev/stdin", "/proc/")  # a path of a file that is open here, and not in the editor
 
 
 @contextmanager
-def kept(options: Sequence[str]) -> Iterator[List[str]]:
-    """The options with a track that can be read more than once: a copy, if it is a pipe."""
-    track = options[-1]
+def kept(path: str) -> Iterator[str]:
+    """A path of the track that can be read more than once, also by the editor: a copy, if it is a pipe. The path
+    `-` is the standard input."""
     try:
-        mode = os.stat(track).st_mode
+        mode = os.stat(0 if path == "-" else path).st_mode
     except OSError as error:
-        raise Problem("%s: %s" % (track, error.strerror)) from error
-    if stat.S_ISREG(mode):
-        yield list(options)
+        raise Problem("%s: %s" % (path, error.strerror)) from error
+    if stat.S_ISREG(mode) and path != "-" and not path.startswith(OPENED):
+        yield path
         return
     if stat.S_ISDIR(mode):
-        raise Problem("%s: is a folder" % track)
+        raise Problem("%s: is a folder" % path)
     with tempfile.NamedTemporaryFile(suffix=".vcd") as copy:
-        with open(track, "rb") as source:
+        with sys.stdin.buffer if path == "-" else open(path, "rb") as source:
             shutil.copyfileobj(source, copy)
         copy.flush()
-        yield [*options[:-1], copy.name]
+        try:
+            yield copy.name
+        except Problem as error:  # nobody knows the name of the copy
+            name = "standard input" if path == "-" else path
+            raise Problem(str(error).replace(copy.name, name)) from error
 
 
-def run_on_track(
-    program: str, usage: str, own: Sequence[str], work: Callable[[Arguments], int], flags: Sequence[str] = ()
-) -> int:
-    """Runs a program whose arguments are the editor's and some options of its own."""
-    gc.disable()  # millions of numbers, and nothing that refers to itself
-    return run(program, usage, lambda words: work(parse(words, own, flags)))
+def as_given(error: UnicodeError) -> Tuple[Union[str, bytes], int]:
+    """What is printed for a letter that the terminal's code does not have: the byte that a file name has there, so
+    that the name can be used again, or else the number of the letter."""
+    assert isinstance(error, UnicodeEncodeError)
+    number = ord(error.object[error.start])
+    is_byte = 0xdc80 <= number <= 0xdcff
+    return bytes([number - 0xdc00]) if is_byte else "\\u%04x" % number, error.start + 1
 
 
-def help_or(usage: str, work: Callable[[Sequence[str]], int], words: Sequence[str]) -> int:
-    """Prints the help if a word asks for it, and else works on the words."""
-    if "--help" not in words and "-h" not in words:
-        return work(words)
-    sys.stdout.write(usage)
+codecs.register_error("irig_tools", as_given)
+
+
+def run(command: Command, work: Callable[[Given], int]) -> int:
+    """Runs a program: its help, its complaints, and its end, also if nobody reads what it prints."""
+    closed = [name for name in ("stdin", "stdout", "stderr") if getattr(sys, name) is None]
+    if closed:
+        complain("%s is closed" % closed[0], command.name)
+        return NOT_READ
+    if isinstance(sys.stdout, io.TextIOWrapper):
+        sys.stdout.reconfigure(errors="irig_tools")
+    try:
+        return ended(command.name, lambda: help_or(command, work))
+    except BaseException:  # there is not even memory to say so
+        os._exit(DEFECT)
+
+
+def help_or(command: Command, work: Callable[[Given], int]) -> int:
+    """Prints the help or the version if a word asks for it, and else works on what is given."""
+    given = command.parse(sys.argv[1:])
+    if given.has(HELP):
+        sys.stdout.write(command.help())
+    elif given.has(VERSION):
+        sys.stdout.write("%s %s\n" % (command.name, version()))
+    else:
+        return work(given)
     return 0
-
-
-def run(program: str, usage: str, work: Callable[[Sequence[str]], int]) -> int:
-    """Runs a program: its help, its complaints, and its end if nobody reads what it prints."""
-    if hasattr(signal, "SIGPIPE"):
-        signal.signal(signal.SIGPIPE, signal.SIG_DFL)
-    try:
-        status = help_or(usage, work, sys.argv[1:])
-        sys.stdout.flush()
-        return status
-    except Usage as error:
-        complain("%s (%s --help says more)" % (error, program), program)
-    except Problem as error:
-        complain(str(error), program)
-    except KeyboardInterrupt:
-        return 130
-    except OSError as error:
-        named = "%s: " % error.filename if error.filename else ""
-        complain(named + str(error.strerror or error), program)
-    return NOT_READ
-
-
-def write(path: str, text: str) -> None:
-    """Writes a file as a whole: nobody sees a part of it."""
-    folder, name = os.path.split(os.path.abspath(path))
-    if os.path.exists(path) and not os.path.isfile(path):
-        with open(path, "w", encoding="utf-8") as straight:
-            straight.write(text)
-        return
-    number, beside = tempfile.mkstemp(prefix="." + name, dir=folder)
-    try:
-        with os.fdopen(number, "w", encoding="utf-8") as new:
-            new.write(text)
-        os.chmod(beside, 0o666 & ~_umask())
-        os.replace(beside, path)
-    except OSError:
-        os.unlink(beside)
-        raise
-
-
-def _umask() -> int:
-    mask = os.umask(0)
-    os.umask(mask)
-    return mask

@@ -9,6 +9,7 @@ from typing import Iterator, List, Optional, Sequence, Tuple
 from .samples import ranks
 
 LEAST_RATIO = 1.6  # of the amplitudes; below there is no code
+CUT = 0.05  # of the first cycle can be missing
 NEAR = 0.2  # of the way from low to high: the half cycles before and after a sharp step are that near
 
 Edge = Tuple[float, int]  # in samples, and the level after it
@@ -60,7 +61,7 @@ class Cycles:
         """The edges in a stretch."""
         end = now.begin + now.length
         if self.number == 0:
-            self.number = math.ceil(now.phase + self.shift + now.begin / self.cycle)
+            self.number = math.ceil(now.phase + self.shift + now.begin / self.cycle - CUT)
         first = self._starts(now, before or after, now.middle)
         starts = list(chain(first, self._starts(now, after or before, end)))
         heights = self._heights(starts, self.cycle, now, after)

@@ -87,7 +87,7 @@ def find(editor: Editor, progress: Progress) -> List[Damage]:
     return look(editor, progress).damages
 
 
-def look(editor: Editor, progress: Progress) -> Seen:
+def look(editor: Editor, progress: Progress, steady: bool = False) -> Seen:
     """All damage. What is there twice is first taken out, so that the rest is seen."""
     found: List[Damage] = []
     script: List[Repair] = []
@@ -98,7 +98,7 @@ def look(editor: Editor, progress: Progress) -> Seen:
         if script:
             listing = editor.ask([repair.lines() for repair in script])
         progress("looking at %d pulses" % len(listing.rises))
-        findings = examine(listing)
+        findings = examine(listing, steady)
         first = findings.whole + [copy for part in findings.parts for copy in part.copies]
         if not first or listing.refused or turn == ROUNDS:
             found += [origin.of(each) for each in _rest(listing, findings, listing.length - origin.gone())]

@@ -1,54 +1,57 @@
 """The program irig_damage."""
 from __future__ import annotations
 
+import gc
 import os
 import sys
 
-from .command import FOUND, SOUND, Arguments, kept, run_on_track, write
+from .command import kept, run
 from .damage import look
 from .editor import Editor, progress_to
+from .ending import FOUND, SOUND
+from .options import EDITOR, Command, Given, Option, a_file
+from .output import check_apart, write
 from .overview import sheet_of
 from .page import page
 from .picture import picture
 from .sheet import Sheet
 
-USAGE = """\
-usage: irig_damage [the options of irig_ed] TRACK
-
+PAGE = Option("--page", "FILE", "also writes a page (HTML) to look at: the whole recording, and each place as a "
+              "waveform", a_file)
+PICTURE = Option("--picture", "FILE", "also writes a picture (SVG) of the recording", a_file)
+COMMAND = Command("irig_damage", ("TRACK",), """\
 Lists where a recording of IRIG 200-04 time code is damaged, in the order of
 time, one line each: the time in microseconds, the frame, the element and the
-pulses, and what is seen there. The track is not changed. The interval is that of
-the recording: a clock that drifts and rises that tremble are said once. A leap
-second is no damage, and neither is a frame that is cut at either end.
-
-  --wire NAME, --format A|B|E|G, --expression 0..7    as irig_ed has them
-  --page FILE       also writes a page (HTML) to look at: the whole recording, and
-                    each place as a waveform
-  --picture FILE    also writes a picture (SVG) of the recording
-  -h, --help        prints this text
-
+pulses, and what is seen there. The track is not changed; - is standard input.
+The interval is that of the recording: a clock that drifts and rises that tremble
+are said once. A leap second is no damage, and neither is a frame that is cut at
+either end.
+""", (*EDITOR, PAGE, PICTURE), """\
 The editor is the program that IRIG_ED names, or irig_ed on the path.
-The status is 0 if nothing is wrong, 1 if something is, and 2 if the track was
-not read.
-"""
+The status is 0 if nothing is wrong, 1 if something is, 2 if the track was not
+read, and 70 if memory ran out or the tool has a defect.
+""")
 
 
-def work(arguments: Arguments) -> int:
-    with kept(arguments.editor) as options:
-        seen = look(Editor(options), progress_to(sys.stderr))
-    if arguments.own:
-        draw(arguments, sheet_of(os.path.basename(arguments.editor[-1]), seen))
+def work(given: Given) -> int:
+    name = given.names[0]
+    check_apart(name, [(option.name, given.text(option)) for option in (PAGE, PICTURE)])
+    with kept(name) as track:
+        seen = look(Editor([*given.of_editor(), track]), progress_to(sys.stderr))
+    if given.has(PAGE) or given.has(PICTURE):
+        draw(given, sheet_of(os.path.basename(name), seen))
     sys.stdout.write("".join(damage.line() + "\n" for damage in seen.damages))
     return FOUND if seen.damages else SOUND
 
 
-def draw(arguments: Arguments, sheet: Sheet) -> None:
+def draw(given: Given, sheet: Sheet) -> None:
     """Writes the files that were asked for."""
-    for option, text_of in (("--page", page), ("--picture", picture)):
-        path = arguments.get(option)
+    for option, text_of in ((PAGE, page), (PICTURE, picture)):
+        path = given.text(option)
         if path is not None:
             write(path, text_of(sheet))
 
 
 def main() -> int:
-    return run_on_track("irig_damage", USAGE, ("--page", "--picture"), work)
+    gc.disable()  # millions of numbers, and nothing that refers to itself
+    return run(COMMAND, work)

@@ -1,90 +1,84 @@
 """The program irig_demodulate."""
 from __future__ import annotations
 
-import sys
-from typing import Iterator, Sequence, Union
+import argparse
+import math
+from typing import IO, Union
 
 from .carrier import CARRIERS, Carrier
-from .command import FOUND, SOUND, Usage, run
-from .cycles import Edge
-from .editor import complain
-from .options import Options, parse
-from .samples import RAW, Samples, ranks
+from .command import run
+from .ending import FOUND, SOUND, Usage, complain
+from .layout import INTERVAL
+from .levels import Levels, Negative
+from .options import Command, Given, Option, a_file, whole
+from .output import check_apart, output
+from .samples import RAW, Samples
 
-USAGE = """\
-usage: irig_demodulate [options] SAMPLES > track.vcd
 
+def a_distance(word: str) -> float:
+    """Reads a distance of two levels."""
+    try:
+        value = float(word)
+    except ValueError:
+        value = math.nan
+    if not 0 <= value < math.inf:
+        raise argparse.ArgumentTypeError("needs a number, at least 0, not '%s'" % word)
+    return value
+
+
+FORMAT = Option("--format", "A|B|E", "the format of code on a carrier (10 kHz, 1 kHz, 100 Hz); B if it is not given",
+                choices=("A", "B", "E", "G"))
+CARRIER = Option("--carrier", "HERTZ", "another carrier: 1000 for format E", whole(1))
+LEVEL = Option("--level", about="the code is not on a carrier: the samples are its level")
+THRESHOLD = Option("--threshold", "N", "with --level: low and high that are no further apart are noise; if it is not "
+                   "given, a thousandth of the whole range of integers of 16 bits or more, and else 0", a_distance)
+CHANNEL = Option("--channel", "N", "the channel of the WAV file, from 1", whole(1))
+SWAP = Option("--swap", about="the recorder swapped plus and minus; code on a carrier shows it if neither this nor "
+              "--no-swap is given")
+NO_SWAP = Option("--no-swap", about="the recorder did not swap plus and minus")
+KIND = Option("--raw", "KIND", "u8, s8, s16, s24, s32: integers; f32, f64: floats; with be at the end, as s16be, the "
+              "highest byte is first; text: a number a line", choices=(*RAW, "text"))
+RATE = Option("--rate", "HERTZ", "the samples in a second, with --raw", whole(1))
+OUT = Option("--out", "FILE", "the file to write, whole or not at all, instead of standard output", a_file)
+COMMAND = Command("irig_demodulate", ("SAMPLES",), """\
 Makes a dump of recorded samples of IRIG 200-04 time code. SAMPLES is a WAV file
-(PCM of 8, 16 or 24 bits), or with --raw little-endian integers or numbers, one a
-line; - is standard input.
-
-  --format A|B|E      the format of code on a carrier (10 kHz, 1 kHz, 100 Hz); B
-                      if it is not given
-  --carrier HERTZ     another carrier: 1000 for format E
-  --level             the code is not on a carrier: the samples are its level
-  --channel N         the channel of the WAV file, from 1
-  --swap, --no-swap   the recorder swapped plus and minus, or did not; code on a
-                      carrier shows it if neither is given
-  --raw KIND          u8, s8, s16, s24 or s32: integers; text: a number a line
-  --rate HERTZ        the samples in a second, with --raw
-  -h, --help          prints this text
-
-The status is 0 if pulses were found, 1 if there are none, and 2 if the samples
-were not read.
-"""
+(also WAVE_FORMAT_EXTENSIBLE, RF64 and W64) of integers or floats, or with --raw
+numbers without a head, or one a line; - is standard input.
+""", (FORMAT, CARRIER, LEVEL, THRESHOLD, CHANNEL, SWAP, NO_SWAP, KIND, RATE, OUT), """\
+The status is 0 if pulses were found, 1 if there are none, 2 if the samples were
+not read, and 70 if memory ran out or the tool has a defect.
+""")
 HEAD = "$timescale 1 us $end\n$scope module irig $end\n$var wire 1 ! irig $end\n$upscope $end\n"
-PROGRAM = "irig_demodulate"
-STRETCH = 1 << 20  # samples of a level that are looked at together
+MOST_GAPS = 20  # that are named
+ENOUGH = 0.9  # of the pulses that a format has in that time
 
 
-class Negative(Samples):
-    """Samples with plus and minus swapped."""
-
-    def chunks(self, length: int) -> Iterator[Sequence[float]]:
-        for values in super().chunks(length):
-            yield [-value for value in values]
-
-
-class Levels:
-    """Edges of a level: hysteresis about the middle, and a straight line between two samples."""
-
-    def __init__(self, samples: Samples) -> None:
-        self.samples, self.length, self.level = samples, 0, 0
-
-    def edges(self) -> Iterator[Edge]:
-        last = 0.0
-        for values in self.samples.chunks(STRETCH):
-            low, high = ranks(values)
-            up, down = low + 0.6 * (high - low), low + 0.4 * (high - low)
-            middle = (low + high) / 2
-            crossed = 0.0
-            for place, value in enumerate(values, self.length):
-                if (value > middle) != (last > middle) and value != last:
-                    crossed = max(0.0, place - 1 + (middle - last) / (value - last)) if place else 0.0
-                if high > low and (value > up and not self.level or value < down and self.level):
-                    self.level = 1 - self.level
-                    yield crossed, self.level
-                last = value
-            self.length += len(values)
-
-
-def samples_of(options: Options, swapped: bool) -> Samples:
-    raw = options.get("--raw") or ""
-    if raw and raw not in RAW and raw != "text":
-        raise Usage("--raw is one of %s and text" % ", ".join(RAW))
+def samples_of(given: Given, swapped: bool) -> Samples:
     kind = Negative if swapped else Samples
-    channel, rate = options.number("--channel", 1) or 1, options.number("--rate", 1) or 0
-    return kind(options.names[0], channel, raw, rate)
+    return kind(given.names[0], given.number(CHANNEL) or 1, given.text(KIND) or "", given.number(RATE) or 0)
 
 
-def reader_of(options: Options, name: str) -> Union[Levels, Carrier]:
-    if options.has("--swap") and options.has("--no-swap"):
+def reader_of(given: Given) -> Union[Levels, Carrier]:
+    name = given.text(FORMAT) or "B"
+    if given.has(SWAP) and given.has(NO_SWAP):
         raise Usage("--swap and --no-swap exclude each other")
-    if options.has("--level"):
-        return Levels(samples_of(options, options.has("--swap")))
-    known = options.has("--swap") or options.has("--no-swap")
-    hertz = options.number("--carrier", 1) or CARRIERS[name][0]
-    return Carrier(samples_of(options, False), hertz, options.has("--swap") if known else None)
+    if given.has(LEVEL):
+        threshold = given.values.get(THRESHOLD.name)
+        return Levels(samples_of(given, given.has(SWAP)), threshold)
+    if name not in CARRIERS:
+        raise Usage("--format is A, B or E; G is read as a level")
+    known = given.has(SWAP) or given.has(NO_SWAP)
+    hertz = given.number(CARRIER) or CARRIERS[name][0]
+    return Carrier(samples_of(given, False), hertz, given.has(SWAP) if known else None)
+
+
+def say_gaps(reader: Levels) -> None:
+    """Names the stretches without a signal."""
+    for start, end in reader.gaps[:MOST_GAPS]:
+        rate = reader.samples.rate
+        say("no signal from %.3f to %.3f seconds: no pulse is there" % (start / rate, end / rate))
+    if len(reader.gaps) > MOST_GAPS:
+        say("and %d such stretches more" % (len(reader.gaps) - MOST_GAPS))
 
 
 def remark(reader: Union[Levels, Carrier]) -> None:
@@ -92,33 +86,52 @@ def remark(reader: Union[Levels, Carrier]) -> None:
     if isinstance(reader, Carrier) and reader.asked:
         way = reader.ways[0]
         if not reader.chosen:
-            complain("nothing shows whether plus and minus are swapped; if they are, use --swap", PROGRAM)
+            say("nothing shows whether plus and minus are swapped; if they are, use --swap")
         elif way.swapped:
             text = "plus and minus are swapped, as %d of %d amplitude steps show; this is corrected"
-            complain(text % (way.sharp, way.steps), PROGRAM)
+            say(text % (way.sharp, way.steps))
 
 
-def work(words: Sequence[str]) -> int:
-    valued = "--format", "--carrier", "--channel", "--raw", "--rate"
-    options = parse(words, valued, ("--level", "--swap", "--no-swap"))
-    name = options.get("--format") or "B"
-    if len(options.names) != 1:
-        raise Usage("one file of SAMPLES is needed")
-    if name not in CARRIERS and not options.has("--level"):
-        raise Usage("--format is A, B or E; G is read as a level")
-    reader = reader_of(options, name)
-    sys.stdout.write(HEAD + "$enddefinitions $end\n#0\n$dumpvars\n0!\n$end\n")
+def say_few(name: str, pulses: int, seconds: float) -> None:
+    """Says so if there are far fewer pulses than a format has in that time."""
+    wanted = round(seconds * 1000000 / INTERVAL[name])
+    if pulses < ENOUGH * wanted:
+        text = "format %s has %d pulses in that time, so %d are missing: silence, noise, or a carrier that is off by more "
+        say((text + "than 0.05 %% (--carrier HERTZ sets another)") % (name, wanted, wanted - pulses))
+
+
+def say(text: str) -> None:
+    complain(text, COMMAND.name)
+
+
+def write_dump(reader: Union[Levels, Carrier], out: IO[bytes]) -> int:
+    """Writes the edges as a dump: the number of pulses."""
+    out.write((HEAD + "$enddefinitions $end\n#0\n$dumpvars\n0!\n$end\n").encode())
     pulses = 0
     for place, level in reader.edges():
         pulses += level
-        sys.stdout.write("#%d\n%d!\n" % (round(place * 1000000 / reader.samples.rate), level))
-    sys.stdout.write("#%d\n" % round(reader.length * 1000000 / reader.samples.rate))
-    sys.stdout.flush()
+        out.write(b"#%d\n%d!\n" % (round(place * 1000000 / reader.samples.rate), level))
+    out.write(b"#%d\n" % round(reader.length * 1000000 / reader.samples.rate))
+    return pulses
+
+
+def work(given: Given) -> int:
+    check_apart(given.names[0], [(OUT.name, given.text(OUT))])
+    reader = reader_of(given)
+    with output(given.text(OUT)) as out:
+        pulses = write_dump(reader, out)
     if pulses:
         remark(reader)
-    complain("%d pulses in %.3f seconds" % (pulses, reader.length / reader.samples.rate), PROGRAM)
+    if isinstance(reader, Levels):
+        say_gaps(reader)
+    for note in reader.samples.notes:
+        say(note)
+    seconds = reader.length / reader.samples.rate
+    say("%d pulses in %.3f seconds" % (pulses, seconds))
+    if isinstance(reader, Carrier):
+        say_few(given.text(FORMAT) or "B", pulses, seconds)
     return SOUND if pulses else FOUND
 
 
 def main() -> int:
-    return run(PROGRAM, USAGE, work)
+    return run(COMMAND, work)

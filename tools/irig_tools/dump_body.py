@@ -13,7 +13,9 @@ PLAIN = {"0": "0", "1": "1", "x": "x", "X": "x", "z": "z", "Z": "z"}
 STRONG = {"h": "1", "H": "1", "l": "0", "L": "0", "u": "x", "U": "x", "w": "x", "W": "x", "-": "x"}
 PORTS = {"D": "0", "d": "0", "L": "0", "l": "0", "0": "0", "U": "1", "u": "1", "H": "1", "h": "1", "1": "1",
          "T": "z", "F": "z", "Z": "z"}
-SCALAR = frozenset(b"01xXzZuUwWlLhH-")
+LETTERS = {**PLAIN, **STRONG}
+SCALAR = frozenset(map(ord, LETTERS))
+MOST_KEPT = 1 << 14  # words whose meaning is kept
 PAIRS = frozenset(b"bBrRsS")
 SKIPPED = BODY | {b"$end"}
 
@@ -23,22 +25,26 @@ class Wanted:
     """The signals that are looked for: by code, each with its place from the right of a vector."""
 
     signals: Dict[bytes, List[Tuple[int, int]]] = field(default_factory=dict)
-    scalars: Dict[bytes, List[Tuple[int, str]]] = field(default_factory=dict)
+    scalars: Dict[bytes, List[Tuple[int, str]]] = field(default_factory=dict)  # what words mean that came up
 
     def add(self, signal: int, code: bytes, place: int) -> None:
         self.signals.setdefault(code, []).append((signal, place))
-        if place == 0:
-            for letter, value in {**PLAIN, **STRONG}.items():
-                self.scalars.setdefault(letter.encode() + code, []).append((signal, value))
 
     def drop(self, signal: int, code: bytes) -> None:
         """This signal is not looked for any more."""
         self.signals[code] = [pair for pair in self.signals[code] if pair[0] != signal]
         if not self.signals[code]:
             del self.signals[code]
-        for letter in {**PLAIN, **STRONG}:
-            name = letter.encode() + code
-            self.scalars[name] = [pair for pair in self.scalars.get(name, ()) if pair[0] != signal]
+        for letter in LETTERS:
+            self.scalars.pop(letter.encode() + code, None)
+
+    def meaning(self, word: bytes) -> List[Tuple[int, str]]:
+        """The changes that a word for wires of one bit means."""
+        value = LETTERS[chr(word[0])]
+        found = [(signal, value) for signal, place in self.signals.get(word[1:], ()) if place == 0]
+        if len(self.scalars) < MOST_KEPT:
+            self.scalars[word] = found
+        return found
 
 
 class Body:
@@ -57,17 +63,20 @@ class Body:
         scalars = self.wanted.scalars
         for word in self.source.words():
             found = scalars.get(word)
+            if found is None:
+                if word[0] not in SCALAR:
+                    if word[0] == 35:
+                        self._time(word)
+                    else:
+                        yield from self._other(word)
+                    if self.more:
+                        return
+                    continue
+                found = self.wanted.meaning(word)
             if found:
                 self.counts["letters"] += word[0] not in b"01xXzZ"
                 for signal, value in found:
                     yield self.now, signal, value
-            elif word[0] not in SCALAR:
-                if word[0] == 35:
-                    self._time(word)
-                else:
-                    yield from self._other(word)
-                if self.more:
-                    return
 
     def _other(self, word: bytes) -> Iterator[Change]:
         first = word[0]

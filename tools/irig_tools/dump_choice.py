@@ -2,8 +2,7 @@
 from __future__ import annotations
 
 import re
-from dataclasses import dataclass
-from typing import Dict, List, Optional, Tuple
+from typing import Dict, List, NamedTuple, Optional, Tuple
 
 from .dump_header import Header, Wire, shown
 from .editor import Problem
@@ -12,8 +11,7 @@ BIT = re.compile(r"(.+)\[(-?\d{1,9})\]", re.S)
 MOST_SHOWN = 20
 
 
-@dataclass(frozen=True)
-class Signal:
+class Signal(NamedTuple):
     """One bit: a code, the place of the bit from the right, and its name."""
 
     code: bytes

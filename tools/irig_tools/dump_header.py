@@ -3,7 +3,7 @@ from __future__ import annotations
 
 import re
 from dataclasses import dataclass, field
-from typing import List, Optional, Tuple
+from typing import List, NamedTuple, Optional, Tuple
 
 from .dump_source import Source
 from .editor import Problem
@@ -22,8 +22,7 @@ def shown(word: bytes) -> str:
     return "".join(letter if letter.isprintable() else "\ufffd" for letter in text)
 
 
-@dataclass(frozen=True)
-class Wire:
+class Wire(NamedTuple):
     """A variable of a dump, of one bit or more."""
 
     code: bytes

@@ -23,6 +23,9 @@ OTHERS = (
     (b"PK\x03\x04", "a packed folder; if sigrok wrote it, 'sigrok-cli -i FILE -O vcd' makes a dump of it"),
     (b"\x28\xb5\x2f\xfd", "packed by zstd; 'zstd -dc FILE' unpacks it"),
     (b"RIFF", "a WAV file; 'irig_demodulate FILE' makes a dump of it"),
+    (b"RF64", "a WAV file; 'irig_demodulate FILE' makes a dump of it"),
+    (b"fLaC", "a FLAC file; 'flac -dc FILE | irig_demodulate -' makes a dump of it"),
+    (b"\x25\xeb", "a recording of IRIG 106 Chapter 10, whose time packets can be enough; export its time code channel"),
 )
 PACKED: Tuple[Tuple[bytes, str, Callable[[IO[bytes]], object]], ...] = (
     (b"\x1f\x8b", "gzip", lambda stream: gzip.GzipFile(fileobj=stream)),

@@ -4,7 +4,6 @@ from __future__ import annotations
 import os
 import shutil
 import subprocess
-import sys
 import tempfile
 from dataclasses import dataclass, field
 from typing import IO, Callable, List, Optional, Sequence, Set
@@ -33,21 +32,48 @@ class Listing:
 
 
 def find_editor() -> str:
-    """The path of irig_ed: what IRIG_ED names, else the one on the path, else the one next to these tools."""
+    """The path of irig_ed: what IRIG_ED names, else the one that was installed with these tools, else the one on
+    the path, else the one of the repository, if it is built."""
     named = os.environ.get("IRIG_ED")
     if named:
         if shutil.which(named) is None:
             raise Problem("IRIG_ED names '%s', which is no program that can be run" % named)
         return named
-    on_path = shutil.which("irig_ed")
-    if on_path:
-        return on_path
     tools = os.path.dirname(os.path.dirname(os.path.realpath(__file__)))
-    # in the repository (if it is built), or under a prefix
-    for program, near in (("../crates/irig_ed/out/irig_ed", "../irig_ed"), ("../../../bin/irig_ed",) * 2):
-        if os.path.isfile(os.path.join(tools, program)) and shutil.which(os.path.join(tools, near)):
-            return os.path.normpath(os.path.join(tools, near))
-    raise Problem("irig_ed is not found: it is not on the path, and IRIG_ED does not name it")
+    installed = os.path.normpath(os.path.join(tools, "../../../bin/irig_ed"))
+    starter, built = os.path.join(tools, "../irig_ed"), os.path.join(tools, "../crates/irig_ed/out/irig_ed")
+    found = shutil.which(installed) or shutil.which("irig_ed")
+    if not found and os.path.isfile(built):
+        found = shutil.which(os.path.normpath(starter))
+    if not found:
+        raise Problem("irig_ed is not found: it is not on the path, and IRIG_ED does not name it")
+    return found
+
+
+@dataclass(frozen=True)
+class Info:
+    """An answer of the editor to `info`."""
+
+    length: int  # microseconds
+    pulses: int
+    kind: str
+    expression: int
+
+
+def info_of(words: Sequence[bytes]) -> Info:
+    """Reads the words of an answer to `info`; those of another release of the editor are refused."""
+    try:
+        if list(words[0:8:2]) != [b"length", b"pulses", b"frames", b"format"]:
+            raise ValueError
+        return Info(int(words[1]), int(words[3]), words[7].decode("ascii"), int(words[8]))
+    except (ValueError, IndexError) as error:
+        raise _other_release(words) from error
+
+
+def _other_release(words: Sequence[bytes]) -> Problem:
+    said = b" ".join(words)[:60].decode(errors="replace")
+    return Problem("irig_ed (%s) answers '%s', as this release does not; IRIG_ED can name another" % (
+        find_editor(), said))
 
 
 class Editor:
@@ -67,18 +93,22 @@ class Editor:
 
     def _run(self, script: IO[bytes], blocks: int) -> Listing:
         listing = Listing()
-        try:
-            program = subprocess.Popen(self.command, stdin=script, stdout=subprocess.PIPE)
-        except OSError as error:
-            raise Problem("%s cannot be run: %s" % (self.command[0], error.strerror)) from error
-        with program:
-            assert program.stdout is not None
-            said = _read_answers(program.stdout, listing, blocks)
-            if said is None:
-                _read_pulses(program.stdout, listing)
-            status = program.wait()
+        with tempfile.TemporaryFile() as complaints:
+            try:
+                pipe = subprocess.PIPE
+                program = subprocess.Popen(self.command, stdin=script, stdout=pipe, stderr=complaints)
+            except OSError as error:
+                raise Problem("%s cannot be run: %s" % (self.command[0], error.strerror)) from error
+            with program:
+                assert program.stdout is not None
+                said = _read_answers(program.stdout, listing, blocks)
+                if said is None:
+                    _read_pulses(program.stdout, listing)
+                status = program.wait()
+            complaints.seek(0)
+            told = " ".join(complaints.read().decode(errors="replace").split())
         if said is not None:
-            raise Problem(said or "irig_ed ended with status %d" % status)
+            raise Problem(told or said or "irig_ed ended with status %d" % status)
         return listing
 
 
@@ -94,7 +124,8 @@ def _read_answers(answers: IO[bytes], listing: Listing, blocks: int) -> Optional
             listing.refused.add(done)
             last = line.decode(errors="replace").strip()
         elif words[0] == b"length":
-            listing.length, listing.kind, listing.expression = int(words[1]), words[7].decode(), int(words[8])
+            info = info_of(words)
+            listing.length, listing.kind, listing.expression = info.length, info.kind, info.expression
             done += 1
     return None
 
@@ -105,9 +136,12 @@ def _read_pulses(answers: IO[bytes], listing: Listing) -> None:
         words = (answers.read(BLOCK) + answers.readline()).split()
         if not words or words[0] == b"?":
             break
-        listing.rises.extend(map(int, words[1::4]))
-        listing.falls.extend(map(int, words[2::4]))
-        blocks.append("".join(map(CLASSES.__getitem__, words[3::4])))
+        try:
+            listing.rises.extend(map(int, words[1::4]))
+            listing.falls.extend(map(int, words[2::4]))
+            blocks.append("".join(map(CLASSES.__getitem__, words[3::4])))
+        except (KeyError, ValueError) as error:
+            raise _other_release(words[:4]) from error
     listing.classes = "".join(blocks)
 
 
@@ -118,7 +152,3 @@ def progress_to(stream: IO[str]) -> Progress:
         print("\r%-70s" % text, end="\r" if text else "\r\033[K", file=stream, flush=True)
 
     return show if stream.isatty() else lambda text: None
-
-
-def complain(text: str, program: str) -> None:
-    print("%s: %s" % (program, text), file=sys.stderr)

@@ -1,52 +1,54 @@
 """The program irig_mend."""
 from __future__ import annotations
 
+import gc
 import os
 import sys
 
-from .command import FOUND, SOUND, Arguments, kept, run_on_track, write
+from .command import kept, run
 from .damage import look
 from .editor import Editor, progress_to
+from .ending import FOUND, SOUND
 from .mend import propose, text
+from .options import EDITOR, Command, Given, Option, a_file
+from .output import check_apart, output, write
 from .overview import sheet_of
 from .page import page
 
-USAGE = """\
-usage: irig_mend [the options of irig_ed] TRACK > repair.ed
-
+PAGE = Option("--page", "FILE", "also writes a page (HTML) to look at: the whole recording, each place before and "
+              "after its repair, and the script", a_file)
+STEADY = Option("--steady", about="the control functions never change: what one frame alone has is damage")
+OUT = Option("--out", "FILE", "the file to write, whole or not at all, instead of standard output", a_file)
+COMMAND = Command("irig_mend", ("TRACK",), """\
 Proposes a script that repairs a recording of IRIG 200-04 time code. Before each
 repair a comment says what was seen and why this repair follows. What nothing
-decides is a comment with the choices. The track itself is not changed:
+decides is a comment with the choices. The track itself is not changed; - is
+standard input:
 
   irig_mend --expression 4 track.vcd > repair.ed      read it, change it
   (cat repair.ed; echo write) | irig_ed --expression 4 --out new.vcd track.vcd
-
-  --wire NAME, --format A|B|E|G, --expression 0..7    as irig_ed has them
-  --page FILE   also writes a page (HTML) to look at: the whole recording, each place
-                before and after its repair, and the script
-  --steady      the control functions never change: what one frame alone has is damage
-  -h, --help    prints this text
-
+""", (*EDITOR, PAGE, STEADY, OUT), """\
 The editor is the program that IRIG_ED names, or irig_ed on the path.
-The status is 0 if there is nothing to repair, 1 if there is something,
-and 2 if the track was not read.
-"""
+The status is 0 if there is nothing to repair, 1 if there is something, 2 if the
+track was not read, and 70 if memory ran out or the tool has a defect.
+""")
 
 
-def work(arguments: Arguments) -> int:
-    with kept(arguments.editor) as options:
-        editor, progress = Editor(options), progress_to(sys.stderr)
-        script = propose(editor, progress, arguments.get("--steady") is not None)
-        path = arguments.get("--page")
+def work(given: Given) -> int:
+    name, path = given.names[0], given.text(PAGE)
+    check_apart(name, [(option.name, given.text(option)) for option in (PAGE, OUT)])
+    with kept(name) as track:
+        editor, progress = Editor([*given.of_editor(), track]), progress_to(sys.stderr)
+        script = propose(editor, progress, given.has(STEADY))
         if path is not None:
             after = editor.ask([repair.lines() for repair in script])
-            write(
-                path,
-                page(sheet_of(os.path.basename(arguments.editor[-1]), look(editor, progress), script, after)),
-            )
-    sys.stdout.write(text(script))
+            seen = look(editor, progress, given.has(STEADY))
+            write(path, page(sheet_of(os.path.basename(name), seen, script, after)))
+    with output(given.text(OUT)) as out:
+        out.write(text(script).encode("utf-8"))
     return FOUND if script else SOUND
 
 
 def main() -> int:
-    return run_on_track("irig_mend", USAGE, ("--page",), work, ("--steady",))
+    gc.disable()  # millions of numbers, and nothing that refers to itself
+    return run(COMMAND, work)

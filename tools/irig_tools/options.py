@@ -1,52 +1,152 @@
-"""The options of the programs that read other files than the editor does."""
+"""What a program can be given: one declaration for the parser, the help, and the tests of the pages."""
 from __future__ import annotations
 
+import argparse
 from dataclasses import dataclass, field
-from typing import Dict, List, Optional, Sequence
+from typing import Any, Callable, Dict, List, Optional, Sequence, Tuple
 
-from .command import Usage
+from .ending import Usage
+
+
+@dataclass(frozen=True)
+class Option:
+    """An option. `value` is how its value is called in the help; without one it is a flag."""
+
+    name: str
+    value: str = ""
+    about: str = ""
+    read: Optional[Callable[[str], object]] = None
+    choices: Tuple[str, ...] = ()
+
+    def reader(self) -> Callable[[str], object]:
+        """What makes a value of a word, or refuses it."""
+        return self.read or (lambda word: _one_of(self.choices, word) if self.choices else word)
+
+
+def _one_of(choices: Sequence[str], word: str) -> str:
+    if word not in choices:
+        listed = "%s or %s" % (", ".join(choices[:-1]), choices[-1])
+        raise argparse.ArgumentTypeError("is %s, not '%s'" % (listed, word))
+    return word
+
+
+def whole(least: int) -> Callable[[str], int]:
+    """Reads a whole number."""
+
+    def read(word: str) -> int:
+        if not (word.isascii() and word.isdigit() and len(word) < 40 and int(word) >= least):
+            raise argparse.ArgumentTypeError("needs a whole number, at least %d, not '%s'" % (least, word))
+        return int(word)
+
+    return read
+
+
+def a_file(word: str) -> str:
+    """Reads the name of a file."""
+    if not word:
+        raise argparse.ArgumentTypeError("needs a file")
+    return word
+
+
+HELP = Option("--help", about="prints this text")
+VERSION = Option("--version", about="prints the version")
+WIRE = Option("--wire", "NAME", "the wire of the dump, as irig_ed has it")
+FORMAT = Option("--format", "A|B|E|G", "the format; B if it is not given", choices=("A", "B", "E", "G"))
+EXPRESSION = Option("--expression", "0..7", "the coded expression; 2 if it is not given", choices=tuple("01234567"))
+EDITOR = (WIRE, FORMAT, EXPRESSION)  # those of irig_ed
+TIMESCALE = Option("--timescale", "UNIT", "the unit of time, as 1ns, instead of the one in the dump")
+DUMP = Option("--dump", "N", "of several dumps in the file, the one with this number", whole(1))
 
 
 @dataclass
-class Options:
-    """What is no option, in its order, and the options; a flag has the value ''."""
+class Given:
+    """What a program was given: its operands, and its options by their names."""
 
     names: List[str] = field(default_factory=list)
-    given: Dict[str, str] = field(default_factory=dict)
+    values: Dict[str, Any] = field(default_factory=dict)
 
-    def get(self, name: str) -> Optional[str]:
-        return self.given.get(name)
+    def has(self, option: Option) -> bool:
+        return self.values.get(option.name) not in (None, False)
 
-    def has(self, name: str) -> bool:
-        return name in self.given
+    def text(self, option: Option) -> Optional[str]:
+        value: Optional[str] = self.values.get(option.name)
+        return value
 
-    def number(self, name: str, least: int) -> Optional[int]:
-        """The whole number that an option has, if it is given."""
-        value = self.given.get(name)
-        if value is None:
-            return None
-        if not (value.isascii() and value.isdigit() and len(value) < 40 and int(value) >= least):
-            raise Usage("%s needs a whole number, at least %d, not '%s'" % (name, least, value))
-        return int(value)
+    def number(self, option: Option) -> Optional[int]:
+        value: Optional[int] = self.values.get(option.name)
+        return value
+
+    def of_editor(self) -> List[str]:
+        """The options for the editor, as words."""
+        return ["%s=%s" % (option.name, self.text(option)) for option in EDITOR if self.has(option)]
 
 
-def parse(words: Sequence[str], valued: Sequence[str], flags: Sequence[str] = ()) -> Options:
-    """Parts the arguments; after a word `--` there are no options."""
-    found, rest = Options(), list(words)
-    while rest:
-        word = rest.pop(0)
-        name, equals, value = word.partition("=")
-        if word == "--":
-            found.names += rest
-            break
-        if name in valued:
-            if not equals and not rest:
-                raise Usage("%s needs a value" % name)
-            found.given[name] = value if equals else rest.pop(0)
-        elif word in flags:
-            found.given[word] = ""
-        elif word.startswith("--"):
-            raise Usage("'%s' is no option" % word)
-        else:
-            found.names.append(word)
-    return found
+@dataclass(frozen=True)
+class Command:
+    """A program's name, its operands (one in brackets can be left out), what it does, its options, and how it
+    ends."""
+
+    name: str
+    operands: Tuple[str, ...]
+    about: str
+    options: Tuple[Option, ...]
+    ends: str
+
+    def all_options(self) -> Tuple[Option, ...]:
+        return (*self.options, VERSION, HELP)
+
+    def parser(self) -> argparse.ArgumentParser:
+        """The parser of the options. It has no operands, so that options can be anywhere between them."""
+        parser = argparse.ArgumentParser(
+            self.name, "%s [options] %s" % (self.name, " ".join(self.operands)), self.about, self.ends,
+            formatter_class=_formatter, add_help=False, allow_abbrev=False, exit_on_error=False)
+        group = parser.add_argument_group("options")
+        for option in self.all_options():
+            names = ("-h", option.name) if option is HELP else (option.name,)
+            if option.value:
+                group.add_argument(*names, dest=option.name, metavar=option.value, help=option.about,
+                                   type=option.reader())
+            else:
+                group.add_argument(*names, dest=option.name, action="store_true", help=option.about)
+        return parser
+
+    def help(self) -> str:
+        return self.parser().format_help()
+
+    def parse(self, words: Sequence[str]) -> Given:
+        """Parts the words of a command line. After a word `--` all are operands; `-` is one, too."""
+        end = list(words).index("--") if "--" in words else len(words)
+        try:
+            values, names = self.parser().parse_known_args(list(words[:end]))
+        except argparse.ArgumentError as error:
+            raise Usage(self._complaint(error)) from error
+        for name in names:
+            if name.startswith("-") and name != "-":
+                raise Usage("'%s' is no option" % name.partition("=")[0])
+        given = Given([*names, *words[end + 1:]], vars(values))
+        if not (given.has(HELP) or given.has(VERSION)):
+            self._check(given.names)
+        return given
+
+    def _check(self, names: Sequence[str]) -> None:
+        """Checks the number of operands."""
+        needed = [operand for operand in self.operands if not operand.startswith("[")]
+        if len(names) < len(needed):
+            raise Usage("no %s is given" % needed[len(names)])
+        if len(names) > len(self.operands):
+            raise Usage("'%s' is one too many; the operands are %s" % (
+                names[len(self.operands)], " ".join(self.operands)))
+
+    def _complaint(self, error: argparse.ArgumentError) -> str:
+        """The words of argparse differ from version to version; these do not."""
+        name = str(error.argument_name).rpartition("/")[2]
+        option = next(option for option in self.all_options() if option.name == name)
+        if not option.value:
+            return "%s has no value" % name
+        if error.message.startswith("expected"):
+            return "%s needs a %s" % (name, "file" if option.value == "FILE" else "value")
+        return "%s %s" % (name, error.message)
+
+
+def _formatter(prog: str) -> argparse.HelpFormatter:
+    return argparse.RawDescriptionHelpFormatter(prog, max_help_position=22, width=82)

@@ -7,7 +7,7 @@ from contextlib import contextmanager
 from dataclasses import dataclass, field
 from typing import IO, Iterator, List, Optional, Sequence, Set
 
-from .editor import Problem, find_editor
+from .editor import Problem, find_editor, info_of
 
 EXPRESSIONS = {"A": range(8), "B": range(8), "E": (1, 2, 5, 6), "G": (1, 2, 5, 6)}
 SECONDS = (0, 3, 4, 7)  # expressions with straight binary seconds
@@ -66,11 +66,12 @@ def read(track: str, kind: str) -> Readings:
         assert run.stdout is not None and run.stderr is not None
         for line in run.stdout:
             words = line.decode(errors="replace").split()
-            if words[0] == "length":
-                row = Reading(kind, int(words[8]))
+            if words[:1] == ["length"]:
+                info = info_of(line.split())
+                row = Reading(kind, info.expression)
                 found.rows.append(row)
-                found.length, found.pulses = int(words[1]), int(words[3])
-            elif words[0].isdigit():
+                found.length, found.pulses = info.length, info.pulses
+            elif len(words) > 4 and words[0].isdigit():
                 row.line(words)
         found.refused = run.stderr.read().decode(errors="replace").strip().rpartition(": ")[2]
     return found
@@ -94,8 +95,7 @@ def is_read(track: str, wire: Optional[str], pulses: int) -> bool:
             run = subprocess.run(command, stdin=lines, capture_output=True, check=False)
     except OSError as error:
         raise Problem("irig_ed cannot be run: %s" % error.strerror) from error
-    words = run.stdout.split()
-    return run.returncode == 0 and len(words) > 3 and int(words[3]) == pulses
+    return run.returncode == 0 and info_of(run.stdout.split()).pulses == pulses
 
 
 def best(rows: Sequence[Reading]) -> Reading:

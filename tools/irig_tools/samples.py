@@ -1,27 +1,35 @@
-"""Samples of a recorder, from a WAV file, raw integers, or numbers in lines, a stretch at a time."""
+"""Samples of a recorder, from a sound file, raw numbers, or numbers in lines, a stretch at a time."""
 from __future__ import annotations
 
+import math
 import sys
-import wave
 from array import array
-from typing import IO, Iterator, List, Sequence, Tuple, cast
+from typing import IO, Iterator, List, Optional, Sequence, Tuple, cast
 
-from .command import Usage
 from .editor import Problem
+from .ending import Usage
+from .sound import Reader
 
-RAW = {"u8": ("B", 1), "s8": ("b", 1), "s16": ("h", 2), "s24": ("i", 3), "s32": ("i", 4)}
+LONGEST = 1000  # bytes of a line with a number
+LARGEST = 1e30  # of a number
+LITTLE = {"u8": ("B", 1), "s8": ("b", 1), "s16": ("h", 2), "s24": ("i", 3), "s32": ("i", 4), "f32": ("f", 4),
+          "f64": ("d", 8)}
+BIG = {kind + "be": form for kind, form in LITTLE.items() if form[1] > 1}
+RAW = {**LITTLE, **BIG}  # the letter of an array, and bytes
 
 
-def integers(data: bytes, letters: str, size: int) -> Sequence[int]:
-    """Little-endian integers."""
+def numbers_of(data: bytes, kind: str) -> Sequence[float]:
+    """The numbers that bytes are; the data holds whole ones."""
+    letters, size = RAW[kind]
+    order = "big" if kind in BIG else "little"
     if size == 3:
-        wide = bytearray(len(data) // 3 * 4)
+        wide, first = bytearray(len(data) // 3 * 4), 0 if order == "big" else 1
         for place in range(3):
-            wide[place + 1::4] = data[place::3][:len(wide) // 4]
+            wide[place + first::4] = data[place::3]
         data = bytes(wide)
     values = array(letters)
-    values.frombytes(data[:len(data) // values.itemsize * values.itemsize])
-    if sys.byteorder == "big":
+    values.frombytes(data)
+    if sys.byteorder != order:
         values.byteswap()
     return values
 
@@ -34,59 +42,80 @@ class Samples:
     """One channel, and its rate in hertz."""
 
     def __init__(self, path: str, channel: int, raw: str, rate: int) -> None:
-        self.path, self.channel, self.raw, self.rate = path, channel, raw, rate
+        self.path, self.channel, self.kind, self.rate = path, channel, raw, rate
+        self.channels = 1
+        self.left: Optional[int] = None  # bytes of samples, if they are known
+        self.notes: List[str] = []
         self.stream = opened(path)
-        self.sound = None if raw else self._wave()
+        if not raw:
+            self._sound()
         if self.rate < 1:
             raise Usage("--raw needs --rate, in samples a second")
 
-    def _wave(self) -> wave.Wave_read:
-        try:
-            sound = wave.open(self.stream, "rb")
-        except (wave.Error, EOFError) as error:
-            text = "%s: is no WAV file of PCM samples (%s); --raw reads others"
-            raise Problem(text % (self.path, error)) from error
-        self.rate = sound.getframerate()
-        if self.channel > sound.getnchannels():
+    def _sound(self) -> None:
+        form = Reader(self.stream, self.path).form()
+        self.kind, self.channels, self.rate, self.left = form.kind, form.channels, form.rate, form.size
+        if self.channel > self.channels:
             text = "%s: has %d channels, and no channel %d"
-            raise Problem(text % (self.path, sound.getnchannels(), self.channel))
-        if sound.getsampwidth() > 3:
-            bits = 8 * sound.getsampwidth()
-            raise Problem("%s: has samples of %d bits; 8, 16 and 24 are read" % (self.path, bits))
-        return sound
+            raise Problem(text % (self.path, self.channels, self.channel))
 
     def chunks(self, length: int) -> Iterator[Sequence[float]]:
         """Stretches of this many samples; the last may be shorter."""
-        if self.sound:
-            return self._of_wave(self.sound, length)
-        return self._numbers(length) if self.raw == "text" else self._of_raw(length)
+        return self._in_lines(length) if self.kind == "text" else self._in_bytes(length)
 
-    def _of_wave(self, sound: wave.Wave_read, length: int) -> Iterator[Sequence[float]]:
-        letters, size = RAW[("u8", "s16", "s24")[sound.getsampwidth() - 1]]
-        data = sound.readframes(length)
+    def _in_bytes(self, length: int) -> Iterator[Sequence[float]]:
+        step = RAW[self.kind][1] * self.channels
+        for data in self._whole(length * step, step):
+            values = numbers_of(data, self.kind)[self.channel - 1 if self.channels > 1 else 0::self.channels]
+            if self.kind.startswith("f") and not _is_sound(values):
+                raise Problem("%s: a sample is no number from -1e30 to 1e30" % self.path)
+            yield values
+
+    def _read(self, size: int) -> bytes:
+        """The next bytes of samples, and not what follows them in a file."""
+        if self.left is None:
+            return self.stream.read(size)
+        data = self.stream.read(min(size, self.left))
+        self.left -= len(data)
+        return data
+
+    def _whole(self, size: int, step: int) -> Iterator[bytes]:
+        """What is read, up to its end, in whole samples of all channels, of that many bytes."""
+        data = self._read(size)
         while data:
-            yield integers(data, letters, size)[self.channel - 1::sound.getnchannels()]
-            data = sound.readframes(length)
+            over = len(data) % step
+            if over:
+                text = "the last sample is cut off: %d of its %d bytes are there, and were left out"
+                self.notes.append(text % (over, step))
+            if over < len(data):
+                yield data[:len(data) - over]
+            data = self._read(size)
+        if self.left:
+            self.notes.append("the file is cut off: it has %d bytes of samples less than it says" % self.left)
 
-    def _of_raw(self, length: int) -> Iterator[Sequence[float]]:
-        letters, size = RAW[self.raw]
-        data = self.stream.read(length * size)
-        while data:
-            yield integers(data, letters, size)
-            data = self.stream.read(length * size)
-
-    def _numbers(self, length: int) -> Iterator[Sequence[float]]:
+    def _in_lines(self, length: int) -> Iterator[Sequence[float]]:
         values: List[float] = []
-        for number, line in enumerate(self.stream, 1):
-            try:
-                values.append(float(line))
-            except ValueError as error:
-                raise Problem("%s: line %d is no number" % (self.path, number)) from error
+        for number, line in enumerate(iter(lambda: self.stream.readline(LONGEST), b""), 1):
+            values.append(self._number(line, number))
             if len(values) == length:
                 yield values
                 values = []
         if values:
             yield values
+
+    def _number(self, line: bytes, number: int) -> float:
+        try:
+            value = float(line) if len(line) < LONGEST else math.nan
+        except ValueError as error:
+            raise Problem("%s: line %d is no number" % (self.path, number)) from error
+        if not -LARGEST <= value <= LARGEST:  # nor is it nan
+            raise Problem("%s: line %d is no number from -1e30 to 1e30" % (self.path, number))
+        return value
+
+
+def _is_sound(values: Sequence[float]) -> bool:
+    """Whether all are finite and not too large; a sum with nan or an infinity in it is not finite."""
+    return math.isfinite(sum(values)) and -LARGEST <= min(values) and max(values) <= LARGEST
 
 
 def ranks(values: Sequence[float]) -> Tuple[float, float]:

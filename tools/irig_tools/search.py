@@ -108,9 +108,10 @@ def search(path: str, unit: str, number: int) -> Found:
 
     def use(header: Header) -> Body:
         named = unit[1:] if unit.startswith("=") else header.unit or unit
-        probes = [Probe(signal, steps_of(named)) for signal in signals(header)]
-        results.append(Found(header, named, probes, len(probes)))
-        return _look(source, probes)
+        looked_at = signals(header)
+        found = Found(header, named, [], len(looked_at))
+        results.append(found)
+        return _look(source, looked_at, steps_of(named), found)
 
     dumps = each_dump(source, number, use)
     found = results[0]
@@ -127,15 +128,22 @@ def steps_of(named: str) -> Dict[str, float]:
     return {kind: step * MICROSECOND / (unit.femtoseconds * unit.factor) for kind, step in INTERVAL.items()}
 
 
-def _look(source: Source, probes: List[Probe]) -> Body:
+def _look(source: Source, looked_at: List[Signal], steps: Dict[str, float], found: Found) -> Body:
+    """Reads one dump; only a wire that is high at some time has a probe, in the order of the wires."""
     wanted = Wanted()
-    for number, probe in enumerate(probes):
-        wanted.add(number, probe.signal.code, probe.signal.place)
+    probes: Dict[int, Probe] = {}
+    for number, signal in enumerate(looked_at):
+        wanted.add(number, signal.code, signal.place)
     body = Body(source, wanted)
     for time, number, letter in body.changes():
-        probe = probes[number]
+        probe = probes.get(number)
+        if probe is None:
+            if letter != "1":
+                continue
+            probe = probes[number] = Probe(looked_at[number], steps)
         if probe.change(time, letter == "1"):
             wanted.drop(number, probe.signal.code)
+    found.probes = [probes[number] for number in sorted(probes)]
     return body
 
 

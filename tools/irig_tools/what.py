@@ -1,16 +1,17 @@
 """Says which wires of a dump carry time code, and how to continue."""
 from __future__ import annotations
 
-import os
-import shlex
 import tempfile
-from dataclasses import dataclass
+from dataclasses import dataclass, field
 from typing import List, Optional
 
 from .dump_choice import Signal, choose, singles
 from .dump_header import Header, shown
-from .editor import Problem
+from .editor import Editor, Problem
+from .mend import propose
+from .proposal import Proposal, no_option
 from .readings import Reading, Readings, best, is_read, read
+from .script import Repair
 from .search import Found, Probe, search_any
 from .wire import Extract, Wish
 
@@ -26,6 +27,7 @@ class Carrier:
     kind: str
     readings: Readings
     doubtful: List[str]
+    script: List[Repair] = field(default_factory=list)  # that irig_mend proposes
 
     @property
     def best(self) -> Optional[Reading]:
@@ -34,6 +36,10 @@ class Carrier:
     @property
     def fine(self) -> int:
         return self.best.fine if self.best else 0
+
+    @property
+    def expression(self) -> int:
+        return self.best.expression if self.best else 2
 
     def lines(self) -> List[str]:
         side = "upside down" if self.inverted else "upright"
@@ -79,9 +85,10 @@ class What:
         with tempfile.NamedTemporaryFile(suffix=".vcd") as track:
             report = Extract(self.path, wish, track).run()
             track.flush()
-            readings = read(track.name, kind)
-        doubtful = [text for text in report.doubtful if not text.startswith("the file has")]
-        return Carrier(probe.signal, inverted, kind, readings, doubtful)
+            carrier = Carrier(probe.signal, inverted, kind, read(track.name, kind), report.doubtful)
+            if carrier.fine:
+                carrier.script = _script(track.name, kind, carrier.expression)
+        return carrier
 
     def lines(self) -> List[str]:
         found = self.found
@@ -99,22 +106,20 @@ class What:
         """Whether just one wire carries time code, and some frame is fine."""
         return len(self.found.probes) == 1 and self.found.dumps == 1 and self.carriers[0].fine > 0
 
-    def command(self) -> str:
-        """The command to continue with, for the wire with the most fine frames."""
+    def proposal(self) -> Proposal:
+        """How to continue, for the wire with the most fine frames."""
         carrier = self.carriers[0]
-        number = carrier.best.expression if carrier.best else 2
-        options = "--format %s --expression %d --out new.vcd" % (carrier.kind, number)
         name = self._wire_option()
-        if self._is_read(carrier, name):
-            wire = "" if name is None else "--wire=%s " % shlex.quote(name)
-            return "irig_ed %s%s %s" % (wire, options, shlex.quote(_no_option(self.shown_path)))
-        return "irig_wire %s > one.vcd; irig_ed %s one.vcd" % (self._extraction(carrier, name), options)
+        extraction = None if self._is_read(carrier, name) else self._extraction(carrier, name)
+        edits = sum(1 for repair in carrier.script if repair.edits)
+        return Proposal(self.shown_path, name, carrier.kind, carrier.expression, extraction, edits,
+                        len(carrier.script) - edits)
 
     def _is_read(self, carrier: Carrier, name: Optional[str]) -> bool:
         whole = not carrier.inverted and self.found.dumps == 1 and not self.unit
         return whole and self.shown_path != "-" and is_read(self.path, name, carrier.readings.pulses)
 
-    def _extraction(self, carrier: Carrier, name: Optional[str]) -> str:
+    def _extraction(self, carrier: Carrier, name: Optional[str]) -> List[str]:
         words = ["--invert"] if carrier.inverted else []
         if self.unit or not self.found.header.unit:
             words.append("--timescale=" + self.found.unit.replace(" ", ""))
@@ -122,8 +127,8 @@ class What:
             words.append("--dump=%d" % self.dump)
         if (name or "").startswith("--"):
             words.append("--")
-        words.append(_no_option(self.shown_path))
-        return " ".join(map(shlex.quote, words + ([] if name is None else [name])))
+        words.append(no_option(self.shown_path))
+        return words + ([] if name is None else [name])
 
     def _wire_option(self) -> Optional[str]:
         header, signal = self.found.header, self.carriers[0].signal
@@ -131,8 +136,10 @@ class What:
         return None if len(alone) == 1 and alone[0] == signal else wire_name(header, signal)
 
 
-def _no_option(path: str) -> str:
-    return os.path.join(".", path) if path.startswith("-") and path != "-" else path
+def _script(track: str, kind: str, expression: int) -> List[Repair]:
+    """What irig_mend proposes for a track of one wire."""
+    options = ["--format", kind, "--expression", str(expression), track]
+    return propose(Editor(options), lambda text: None)
 
 
 def wire_name(header: Header, signal: Signal) -> str:

@@ -25,7 +25,7 @@ class Wish:
 
     name: Optional[str] = None
     unit: Optional[str] = None  # instead of the dump's own
-    dump: int = 1
+    dump: Optional[int] = None  # the first, if none is named
     start: Optional[int] = None  # in the unit of the dump
     end: Optional[int] = None
     invert: bool = False
@@ -119,10 +119,12 @@ class Extract:
 
     def run(self) -> Report:
         """Reads the whole file, and writes the dump that is asked for."""
-        dumps = each_dump(self.source, self.wish.dump, self._write)
+        number = self.wish.dump or 1
+        dumps = each_dump(self.source, number, self._write)
         if dumps > 1:
             text = "the file has %d dumps, one after the other; this is number %d (--dump N)"
-            self.report.doubtful.append(text % (dumps, self.wish.dump))
+            named = self.report.done if self.wish.dump else self.report.doubtful
+            named.append(text % (dumps, number))
         return self.report
 
     def _write(self, header: Header) -> Body:

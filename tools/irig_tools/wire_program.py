@@ -1,50 +1,42 @@
 """The program irig_wire."""
 from __future__ import annotations
 
-import sys
-from typing import Sequence
-
-from .command import FOUND, SOUND, Usage, run
-from .editor import complain
-from .options import parse
+from .command import run
+from .ending import FOUND, SOUND, Usage, complain
+from .options import DUMP, TIMESCALE, Command, Given, Option, a_file, whole
+from .output import check_apart, output
 from .wire import Extract, Wish
 
-USAGE = """\
-usage: irig_wire [options] DUMP [WIRE] > one.vcd
-
+FROM = Option("--from", "TIME", "this time, in the dump's unit, is the new 0", whole(0))
+TO = Option("--to", "TIME", "the end, in the dump's unit", whole(0))
+INVERT = Option("--invert", about="high and low are swapped")
+OUT = Option("--out", "FILE", "the file to write, whole or not at all, instead of standard output", a_file)
+COMMAND = Command("irig_wire", ("DUMP", "[WIRE]"), """\
 Makes of any value change dump the dump of one wire, which irig_ed reads. It says
 on standard error what it changed. DUMP is a file of any size, plain or packed by
 gzip, bzip2 or xz; - is standard input. WIRE is a name, a path of scopes
 (tb.g.irig), a code, or a bit of a vector (bus[3]); it can be left out if there is
 only one wire of one bit.
-
-  --timescale UNIT    the unit of time, as 1ns, instead of the one in the dump
-  --dump N            of several dumps in the file, the one with this number
-  --from TIME         this time, in the dump's unit, is the new 0
-  --to TIME           the end, in the dump's unit
-  --invert            high and low are swapped
-  -h, --help          prints this text
-
+""", (TIMESCALE, DUMP, FROM, TO, INVERT, OUT), """\
 The status is 0 if all is right, 1 if there is something to look at (several
-dumps, words that mean nothing, more than irig_ed reads), and 2 if the dump was
-not read.
-"""
+dumps and no --dump, words that mean nothing, more than irig_ed reads), 2 if the
+dump was not read, and 70 if memory ran out or the tool has a defect.
+""")
 
 
-def work(words: Sequence[str]) -> int:
-    options = parse(words, ("--timescale", "--dump", "--from", "--to"), ("--invert",))
-    if not 1 <= len(options.names) <= 2:
-        raise Usage("a DUMP and at most one WIRE are needed")
-    name = options.names[1] if len(options.names) > 1 else None
-    start, end = options.number("--from", 0), options.number("--to", 0)
-    dump = options.number("--dump", 1) or 1
-    wish = Wish(name, options.get("--timescale"), dump, start, end, options.has("--invert"))
-    report = Extract(options.names[0], wish, sys.stdout.buffer).run()
-    sys.stdout.buffer.flush()
+def work(given: Given) -> int:
+    name = given.names[1] if len(given.names) > 1 else None
+    start, end = given.number(FROM), given.number(TO)
+    if start is not None and end is not None and end < start:
+        raise Usage("--to %d is before --from %d" % (end, start))
+    check_apart(given.names[0], [(OUT.name, given.text(OUT))])
+    wish = Wish(name, given.text(TIMESCALE), given.number(DUMP), start, end, given.has(INVERT))
+    with output(given.text(OUT)) as out:
+        report = Extract(given.names[0], wish, out).run()
     for text in report.done + report.doubtful:
-        complain(text, "irig_wire")
+        complain(text, COMMAND.name)
     return FOUND if report.doubtful else SOUND
 
 
 def main() -> int:
-    return run("irig_wire", USAGE, work)
+    return run(COMMAND, work)

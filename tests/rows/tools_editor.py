@@ -1,0 +1,121 @@
+"""The tools and the editor that they run: which one, what it complains of, and how files are named."""
+import json
+import os
+import shutil
+import tempfile
+
+from cases import case
+from rows import tools
+from rows.tools_outputs import filled, shell
+from rows.tools_what import B, dump
+
+
+def other_release(top):
+    """An editor that answers in another way is named, and is no crash."""
+    for answer in ("length 5 steps 6 format B 2", "length five pulses 1 frames 0 format B 2 cursor 1", "length 5"):
+        with tempfile.TemporaryDirectory() as folder:
+            filled(folder)
+            path = os.path.join(folder, "other")
+            with open(path, "w", encoding="ascii") as file:
+                file.write("#!/bin/sh\necho '%s'\n" % answer)
+            os.chmod(path, 0o755)
+            for tool in ("irig_damage", "irig_mend", "irig_what"):
+                status, printed, said = shell(top, folder, tool + " rec.vcd", IRIG_ED=path)
+                good = (status, printed, said.count("\n")) == (2, "", 1)
+                good = good and "answers '%s', as this release does not" % answer in said
+                good or print("FAILED %s and an editor that says %s: %d %s" % (tool, answer, status, said))
+                yield good
+
+
+def which(top):
+    """The editor that was installed with the tools comes before the one on the path."""
+    with tempfile.TemporaryDirectory() as folder:
+        filled(folder)
+        shutil.copytree(top + "/tools", folder + "/prefix/share/irig_ed/tools")
+        os.mkdir(folder + "/prefix/bin")
+        for name, text in (("prefix/bin/irig_ed", "own"), ("bin/irig_ed", "path")):
+            path = os.path.join(folder, name)
+            if os.path.islink(path):
+                os.unlink(path)
+            with open(path, "w", encoding="ascii") as file:
+                file.write("#!/bin/sh\necho %s >&2\n" % text)
+            os.chmod(path, 0o755)
+        tool = "unset IRIG_ED; python3 prefix/share/irig_ed/tools/irig_damage rec.vcd"
+        own = shell(top, folder, tool)[2]
+        os.unlink(folder + "/prefix/bin/irig_ed")
+        other = shell(top, folder, tool)[2]
+        good = (own, other) == ("irig_damage: own\n", "irig_damage: path\n")
+        good or print("FAILED which editor runs: %r %r" % (own, other))
+        yield good
+
+
+def complaints(top):
+    """What the editor complains of is one line, with the name that the user knows."""
+    with tempfile.TemporaryDirectory() as folder:
+        filled(folder)
+        with open(os.path.join(folder, "junk"), "w", encoding="ascii") as file:
+            file.write("hello world")
+        text = "irig_ed: %s: V9 BadToken at 0"
+        for tool in ("irig_damage", "irig_mend"):
+            for words, name in (("junk", "junk"), ("- < junk", "standard input"), ("/dev/stdin < junk", "/dev/stdin"),
+                                ("/dev/fd/5 5< junk", "/dev/fd/5")):
+                ended = shell(top, folder, "%s %s" % (tool, words))
+                good = ended == (2, "", "%s: %s\n" % (tool, text % name))
+                good or print("FAILED %s %s: %s" % (tool, words, ended))
+                yield good
+        for words in ("- < junk", "/dev/fd/5 5< junk"):
+            status, printed, said = shell(top, folder, "irig_what " + words)
+            name = "standard input" if words[0] == "-" else "/dev/fd/5"
+            good = (status, printed) == (2, "") and said.startswith("irig_what: %s: is no dump" % name)
+            good or print("FAILED irig_what %s: %s" % (words, said))
+            yield good
+
+
+def names(top):
+    """A file name with a byte that is no letter is printed as it is."""
+    with tempfile.TemporaryDirectory() as folder:
+        filled(folder)
+        path = os.path.join(os.fsencode(folder), b"n\xff.vcd")
+        with open(path, "wb") as file:
+            file.write(dump(*B).encode())
+        status, printed, said = shell(top, folder, "irig_what n\udcff.vcd", PYTHONIOENCODING="utf-8:strict")
+        last = printed.splitlines()[-1:]
+        good = (status, said) == (0, "") and last == ["irig_ed --format B --expression 2 --out new.vcd 'n\udcff.vcd'"]
+        good or print("FAILED a name that is no UTF-8: %d %s %s" % (status, last, said))
+        yield good
+
+
+def steady(top):
+    """With --steady the page has the place that is repaired."""
+    lone = tools.recording()
+    lone[364][1] = 3645000  # a control function
+    told = []
+    with tempfile.TemporaryDirectory() as folder:
+        path = tools.written(folder, lone, 8000000)
+        for words in ("", "--steady"):
+            shell(top, folder, "irig_mend --expression 4 %s --page page %s" % (words, path))
+            with open(os.path.join(folder, "page"), encoding="utf-8") as file:
+                places = json.loads(file.read().split('id="data">')[1].split("</script>")[0])["places"]
+            told.append("5000 wide, a one" in [place["title"] for place in places])
+    told == [False, True] or print("FAILED --steady --page: %s" % told)
+    yield told == [False, True]
+
+
+def silent(top):
+    """Many wires without a change take little memory."""
+    with tempfile.TemporaryDirectory() as folder:
+        with open(os.path.join(folder, "silent.vcd"), "w", encoding="ascii") as file:
+            file.writelines("$var wire 1 c%d w%d $end\n" % (number, number) for number in range(40000))
+            file.write("$timescale 1 us $end $enddefinitions $end #0\n")
+            file.writelines("0c%d\n" % number for number in range(40000))
+            file.write("#1000000\n")
+        ended = shell(top, folder, "ulimit -v 110000; irig_what silent.vcd")
+        good = ended == (1, "no wire of 40000 carries time code of format A, B, E or G\n", "")
+        good or print("FAILED 40,000 silent wires: %s" % (ended,))
+        yield good
+
+
+def cases(top):
+    """Each part by its name."""
+    return [case("editor: " + part.__name__, part, top)
+            for part in (other_release, which, complaints, names, steady, silent)]

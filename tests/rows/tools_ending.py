@@ -1,0 +1,97 @@
+"""How the tools end: closed streams, full devices, readers that go away, too little memory, and defects."""
+import os
+import tempfile
+from unittest import mock
+
+from cases import case
+from irig_tools import command, ending, options
+from rows import in_process
+from rows.tools_outputs import contents, filled, shell
+from rows.tools_what import dump
+
+TOOLS = {"irig_damage": "rec.vcd", "irig_mend": "rec.vcd", "irig_what": "rec.vcd", "irig_wire": "rec.vcd",
+         "irig_demodulate": "rec.wav"}
+# a redirection, and what is said; a tool that cannot say it just ends
+CLOSED = ((">&-", "stdout is closed"), ("<&-", "stdin is closed"), ("2>&-", ""), ("<&- >&- 2>&-", ""))
+
+
+def closed(top):
+    """A closed stream: status 2, one line, and nothing else."""
+    with tempfile.TemporaryDirectory() as folder:
+        filled(folder)
+        before = contents(folder)
+        for tool, name in TOOLS.items():
+            for words in (name, "--help"):
+                for closing, text in CLOSED:
+                    ended = shell(top, folder, "%s %s %s" % (tool, words, closing))
+                    good = ended == (2, "", "%s: %s\n" % (tool, text) if text else "")
+                    good = good and contents(folder) == before
+                    good or print("FAILED %s %s %s: %s" % (tool, words, closing, ended))
+                    yield good
+
+
+def unwritten(top):
+    """A full device is a failure, whatever is written to it; a pipe that breaks ends the tool quietly."""
+    with tempfile.TemporaryDirectory() as folder:
+        filled(folder)
+        for tool, name in TOOLS.items():
+            full = shell(top, folder, "%s %s > /dev/full 2> said; s=$?; tail -n 1 said; exit $s" % (tool, name))
+            deaf = shell(top, folder, "%s none.vcd 2> /dev/full" % tool)
+            broken = shell(top, folder, "%s %s 2>/dev/null | true; echo ${PIPESTATUS[0]}" % (tool, name))
+            good = full == (2, "%s: No space left on device\n" % tool, "") and deaf == (2, "", "")
+            good = good and broken[1:] == ("141\n", "")
+            good or print("FAILED %s: %s %s %s" % (tool, full, deaf, broken))
+            yield good
+
+
+def without_memory(top):
+    """With ever less memory a tool does its work, or ends with 70 and one line; Python itself starts in all."""
+    with tempfile.TemporaryDirectory() as folder:
+        filled(folder)
+        with open(os.path.join(folder, "long.vcd"), "w", encoding="ascii") as file:
+            file.write(dump([(5 * place, place % 2) for place in range(60000)], 300000))
+        for tool in ("irig_what", "irig_wire"):
+            ends = [shell(top, folder, "ulimit -v %d; %s long.vcd > said" % (kilobytes, tool))
+                    for kilobytes in range(16000, 34000, 2000)]
+            lines = {said.count("\n") for status, _, said in ends if status == 70}
+            good = {status for status, _, _ in ends} <= {0, 1, 70} and lines == {1}
+            good = good and not any("Traceback" in said for _, _, said in ends)
+            good or print("FAILED %s with little memory: %s" % (tool, ends))
+            yield good
+
+
+def raised(error, text, status, **more):
+    """A work that raises an error: its status and the one line; where it was is shown only if that is asked for."""
+
+    def work(given):
+        raise error
+
+    program = options.Command("irig_x", (), "", (), "")
+    with mock.patch.dict(in_process.MAINS, irig_x=lambda: command.run(program, work)):
+        with mock.patch.dict(os.environ, more):
+            got, printed, said = in_process.run("irig_x", [])
+    traced = said.startswith("Traceback") and said.count("\n") > 2
+    good = (got, printed, said.splitlines()[-1:]) == (status, b"", ["irig_x: " + text])
+    good = good and (traced if more else said.count("\n") == 1)
+    good or print("FAILED a work that raises %r: %d %s" % (error, got, said))
+    return good
+
+
+def raising():
+    defect = "a defect of this tool: %s (with IRIG_DEBUG=1 it shows where)"
+    yield raised(ZeroDivisionError("a\nb"), defect % "ZeroDivisionError: a b", 70)
+    yield raised(AssertionError(), defect % "AssertionError:", 70)
+    yield raised(KeyError("a"), defect % "KeyError: 'a'", 70, IRIG_DEBUG="1")
+    yield raised(RecursionError("deep"), defect % "RecursionError: deep", 70)
+    yield raised(MemoryError(), "memory ran out", 70)
+    yield raised(OSError(12, "Cannot allocate memory"), "memory ran out", 70)
+    yield raised(OSError(28, "No space left on device"), "No space left on device", 2)
+    yield raised(OSError(2, "No such file", "a"), "a: No such file", 2)
+    yield raised(ending.Usage("wrong"), "wrong (irig_x --help says more)", 2)
+    yield raised(ending.Problem("bad"), "bad", 2)
+
+
+def cases(top):
+    """Each part by its name."""
+    return [case("ending: closed streams", closed, top), case("ending: full devices and readers", unwritten, top),
+            case("ending: too little memory", without_memory, top), case("ending: errors", raising)]

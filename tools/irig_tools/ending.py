@@ -1,0 +1,80 @@
+"""How a program ends: its status, and the one line that says why."""
+from __future__ import annotations
+
+import errno
+import os
+import sys
+import traceback
+from typing import Callable
+
+from .editor import Problem
+
+SOUND, FOUND, NOT_READ = 0, 1, 2  # statuses
+DEFECT = 70  # a defect, or memory ran out: EX_SOFTWARE of sysexits.h
+INTERRUPTED, UNREAD = 130, 141  # as a shell shows the signals INT and PIPE
+
+
+class Usage(Exception):
+    """Arguments that are not valid."""
+
+
+def complain(text: str, program: str) -> None:
+    """Says something on standard error, if that is open."""
+    if sys.stderr is not None:
+        print("%s: %s" % (program, text), file=sys.stderr)
+
+
+def ended(program: str, work: Callable[[], int]) -> int:
+    """The status of some work. Whatever it raises has one line and a status of its own."""
+    try:
+        status = work()
+        sys.stdout.flush()
+        return status
+    except KeyboardInterrupt:
+        return INTERRUPTED
+    except BrokenPipeError:
+        _drop_output()
+        return UNREAD
+    except (Usage, Problem, OSError, MemoryError) as error:
+        return _known(error, program)
+    except Exception as error:  # pylint: disable=broad-except
+        name = " ".join(("%s: %s" % (type(error).__name__, error)).split())
+        return _unknown("a defect of this tool: %s (with IRIG_DEBUG=1 it shows where)" % name, program)
+
+
+def _known(error: Exception, program: str) -> int:
+    """The end after an error that is no defect."""
+    if isinstance(error, MemoryError) or isinstance(error, OSError) and error.errno == errno.ENOMEM:
+        return _unknown("memory ran out", program)
+    text = str(error)
+    if isinstance(error, Usage):
+        text += " (%s --help says more)" % program
+    if isinstance(error, OSError):
+        text = str(error.strerror or error)
+        text = "%s: %s" % (error.filename, text) if error.filename else text
+    _last_words(text, program)
+    return NOT_READ
+
+
+def _unknown(text: str, program: str) -> int:
+    if os.environ.get("IRIG_DEBUG"):
+        traceback.print_exc()
+    _last_words(text, program)
+    return DEFECT
+
+
+def _last_words(text: str, program: str) -> None:
+    """What is said last; the status is the same if nobody hears it."""
+    try:
+        complain(text, program)
+    except OSError:
+        pass
+
+
+def _drop_output() -> None:
+    """What is left in the buffer of the standard output goes nowhere: Python would try it again at the end."""
+    try:
+        with open(os.devnull, "wb") as nothing:
+            os.dup2(nothing.fileno(), sys.stdout.fileno())
+    except OSError:
+        pass

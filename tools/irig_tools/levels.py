@@ -1,0 +1,107 @@
+"""Time code that is no carrier: its edges are where the level crosses the middle between low and high.
+
+A stretch has a signal if its values are at two levels: few of them are in the middle, between 0.4 and 0.6 of the way
+from the low level to the high one (of noise it is a fifth, of hum an eighth), and the levels are far enough apart. A
+stretch without levels of its own is read by those of a stretch next to it, if its noise does not reach their middle.
+"""
+from __future__ import annotations
+
+from typing import Iterator, List, Optional, Sequence, Tuple
+
+from .cycles import Edge
+from .samples import LITTLE, RAW, Samples, ranks
+
+UP, DOWN = 0.6, 0.4  # of the way from low to high: what is above is high, what is below is low
+MIDDLE = 0.1  # of the values of a stretch: more between these two are noise
+STRETCH = 0.5  # seconds: five intervals of format E
+FEWEST, MOST = 1 << 12, 1 << 20  # samples in a stretch
+LEAST = 1 / 1000  # of the whole range of integers of 16 bits or more: levels that are nearer are noise
+
+Span = Tuple[float, float]  # a low and a high level
+
+
+class Negative(Samples):
+    """Samples with plus and minus swapped."""
+
+    def chunks(self, length: int) -> Iterator[Sequence[float]]:
+        for values in super().chunks(length):
+            yield [-value for value in values]
+
+
+class Levels:
+    """Edges of a level: hysteresis about the middle, and a straight line between two samples. `gaps` are the stretches
+    without a signal, in samples. Levels that are at most `threshold` apart are noise."""
+
+    def __init__(self, samples: Samples, threshold: Optional[float] = None) -> None:
+        self.samples, self.length, self.level = samples, 0, 0
+        self.threshold = least_of(samples.kind) if threshold is None else threshold
+        self.size = max(FEWEST, min(MOST, round(samples.rate * STRETCH)))
+        self.gaps: List[Tuple[int, int]] = []
+        self.span: Optional[Span] = None  # of the last stretch that had one of its own
+        self.last = self.crossed = 0.0  # a value, and where the middle was crossed
+
+    def edges(self) -> Iterator[Edge]:
+        waiting: Optional[Tuple[Sequence[float], Optional[Span]]] = None
+        for values in self.samples.chunks(self.size):
+            own = self._own(values)
+            if waiting:
+                yield from self._read(*waiting, own)
+            waiting = values, own
+        if waiting:
+            yield from self._read(*waiting, None)
+
+    def _own(self, values: Sequence[float]) -> Optional[Span]:
+        """The levels that a stretch shows."""
+        low, high = ranks(values)
+        wide = high - low
+        if wide <= self.threshold:
+            return None
+        down, up = low + DOWN * wide, low + UP * wide
+        between = sum(1 for value in values if down < value < up)
+        return (low, high) if between <= MIDDLE * len(values) else None
+
+    def _lent(self, values: Sequence[float], after: Optional[Span]) -> Optional[Span]:
+        """The levels of a neighbour, if the noise of a stretch does not reach their middle."""
+        span = self.span or after
+        low, high = ranks(values)
+        return span if span and high - low < DOWN * (span[1] - span[0]) else None
+
+    def _read(self, values: Sequence[float], own: Optional[Span], after: Optional[Span]) -> Iterator[Edge]:
+        """The edges in a stretch; the pulse that a gap cuts off ends there."""
+        span = own or self._lent(values, after)
+        self.span = own or self.span
+        found = list(self._crossings(values, span)) if span else []
+        self.last = values[-1]
+        if not span and self.level:
+            self.level = 0
+            found = [(float(self.length), 0)]
+        if not own and not found:
+            self._add_gap(self.length, self.length + len(values))
+        self.length += len(values)
+        yield from found
+
+    def _crossings(self, values: Sequence[float], span: Span) -> Iterator[Edge]:
+        low, high = span
+        up, down, middle = low + UP * (high - low), low + DOWN * (high - low), (low + high) / 2
+        last = self.last
+        for place, value in enumerate(values, self.length):
+            if (value > middle) != (last > middle) and value != last:
+                self.crossed = max(0.0, place - 1 + (middle - last) / (value - last)) if place else 0.0
+            if value > up and not self.level or value < down and self.level:
+                self.level = 1 - self.level
+                yield self.crossed, self.level
+            last = value
+
+    def _add_gap(self, start: int, end: int) -> None:
+        """Names a gap; a short end of a recording is none by itself."""
+        if self.gaps and self.gaps[-1][1] == start:
+            start = self.gaps.pop()[0]
+        if 2 * (end - start) >= self.size:
+            self.gaps.append((start, end))
+
+
+def least_of(kind: str) -> float:
+    """How near to each other two levels of noise can be: of integers of 16 bits or more, as recorders have them; the
+    zeros and ones of a logic analyser have 8 bits."""
+    form = RAW.get(kind, LITTLE["u8"])
+    return LEAST * 256.0 ** form[1] if form[1] > 1 and "f" not in kind else 0.0

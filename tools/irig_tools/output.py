@@ -1,0 +1,89 @@
+"""Files that are written: each as a whole, and never the file that is read."""
+from __future__ import annotations
+
+import os
+import stat
+import sys
+import tempfile
+from contextlib import contextmanager
+from typing import IO, Iterator, Optional, Sequence, Tuple, Union
+
+from .editor import Problem
+
+Place = Union[str, int]  # a path, or the number of an open file
+STANDARD_INPUT, STANDARD_OUTPUT = 0, 1
+
+
+def check_apart(source: str, outputs: Sequence[Tuple[str, Optional[str]]] = ()) -> None:
+    """Refuses an output that is the file that is read, by device and inode: nothing is read or written yet.
+
+    `outputs` are options with their files, each a file of its own. The standard output is always looked at."""
+    named = [(option, path) for option, path in outputs if path is not None]
+    for place, (option, path) in enumerate(named):
+        for other, twin in named[:place]:
+            if os.path.realpath(path) == os.path.realpath(twin):
+                raise Problem("%s %s and %s %s are one file" % (other, twin, option, path))
+    read = _identity(STANDARD_INPUT if source == "-" else source)
+    if read is None:
+        return
+    text = "%s would write over the file that is read, %s"
+    name = "standard input" if source == "-" else source
+    for option, path in named:
+        if _identity(path) == read:
+            raise Problem(text % ("%s %s" % (option, path), name))
+    if _identity(STANDARD_OUTPUT) == read:
+        raise Problem(text % ("the standard output", name))
+
+
+def _identity(place: Place) -> Optional[Tuple[int, int]]:
+    """The device and the inode of a regular file; nothing is lost in a device or a pipe."""
+    try:
+        found = os.stat(place)
+    except (OSError, ValueError):
+        return None
+    return (found.st_dev, found.st_ino) if stat.S_ISREG(found.st_mode) else None
+
+
+@contextmanager
+def new_file(path: str) -> Iterator[IO[bytes]]:
+    """A file that is written as a whole: it has its name only at the end, and after an error not at all."""
+    path = os.path.realpath(path)
+    if os.path.exists(path) and not os.path.isfile(path):
+        with open(path, "wb") as straight:
+            yield straight
+        return
+    folder, name = os.path.split(path)
+    number, beside = tempfile.mkstemp(prefix="." + name[:100], dir=folder)
+    try:
+        with os.fdopen(number, "wb") as new:
+            yield new
+            new.flush()
+            os.fsync(number)
+        os.chmod(beside, 0o666 & ~_umask())
+        os.replace(beside, path)
+    except BaseException:
+        os.unlink(beside)
+        raise
+
+
+@contextmanager
+def output(path: Optional[str]) -> Iterator[IO[bytes]]:
+    """What is written: a new file, or the standard output."""
+    if path is None or path == "-":
+        yield sys.stdout.buffer
+        sys.stdout.buffer.flush()
+        return
+    with new_file(path) as new:
+        yield new
+
+
+def write(path: str, text: str) -> None:
+    """Writes a text as a file."""
+    with new_file(path) as new:
+        new.write(text.encode("utf-8"))
+
+
+def _umask() -> int:
+    mask = os.umask(0)
+    os.umask(mask)
+    return mask

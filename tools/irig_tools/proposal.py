@@ -1,0 +1,64 @@
+"""The commands to continue with, for one wire of a dump. None of them writes over a file that is there."""
+from __future__ import annotations
+
+import os
+import shlex
+from dataclasses import dataclass
+from typing import List, Optional, Sequence
+
+
+def free_name(name: str) -> str:
+    """The name, or the first one with a number that no file has."""
+    stem, dot, end = name.rpartition(".")
+    found, number = name, 1
+    while os.path.lexists(found):
+        number += 1
+        found = "%s-%d%s%s" % (stem, number, dot, end)
+    return found
+
+
+def no_option(path: str) -> str:
+    """The path in a form that is not taken for an option; `-` is standard input."""
+    return os.path.join(".", path) if path.startswith("-") and path != "-" else path
+
+
+@dataclass
+class Proposal:
+    """What `irig_ed` or `irig_mend` has to be given. If the editor does not read the wire of the dump as it is, a
+    dump of the wire is made first, by these words of `irig_wire`."""
+
+    path: str
+    wire: Optional[str]
+    kind: str
+    expression: int
+    extraction: Optional[Sequence[str]] = None
+    repairs: int = 0  # that irig_mend proposes
+    remarks: int = 0
+
+    def lines(self) -> List[str]:
+        """The command is the last line; before it is what it is for, if the recording is damaged."""
+        new = shlex.quote(free_name("new.vcd"))
+        if not self.repairs + self.remarks:
+            return [self._first() + "irig_ed %s --out %s %s" % (self._options(), new, self._track())]
+        script = shlex.quote(free_name("repair.ed"))
+        edit = "(cat %s; echo write) | irig_ed %s --out %s %s" % (script, self._options(), new, self._track())
+        told = "damaged: irig_mend has %s; after the next line read %s, then: %s"
+        mend = "irig_mend %s %s > %s" % (self._options(), self._track(), script)
+        return [told % (self._counted(), script, edit), self._first() + mend]
+
+    def _counted(self) -> str:
+        parts = (self.repairs, "repair"), (self.remarks, "remark")
+        return " and ".join("%d %s%s" % (many, noun, "s" * (many > 1)) for many, noun in parts if many)
+
+    def _first(self) -> str:
+        if self.extraction is None:
+            return ""
+        words = " ".join(map(shlex.quote, self.extraction))
+        return "irig_wire %s > %s && " % (words, self._track())
+
+    def _track(self) -> str:
+        return shlex.quote(no_option(self.path) if self.extraction is None else free_name("one.vcd"))
+
+    def _options(self) -> str:
+        wire = "--wire=%s " % shlex.quote(self.wire) if self.wire is not None and self.extraction is None else ""
+        return "%s--format %s --expression %d" % (wire, self.kind, self.expression)
