@@ -19,7 +19,8 @@ Lists where a recording of IRIG 200-04 time code is damaged, in the order of
 time, one line each: the time in microseconds, the frame, the element and the
 pulses, and what is seen there. The track is not changed. The interval is that of
 the recording: a clock that drifts and rises that tremble are said once. A leap
-second is no damage, and neither is a frame that is cut at either end.
+second is no damage, and neither is a frame that is cut at either end. Silence
+before the first pulse and after the last one is a remark, and no damage.
 
   --wire NAME, --format A|B|E|G, --expression 0..7    as irig_ed has them
   --page FILE       also writes a page (HTML) to look at: the whole recording, and
@@ -39,7 +40,7 @@ def work(arguments: Arguments) -> int:
     if arguments.own:
         draw(arguments, sheet_of(os.path.basename(arguments.editor[-1]), seen))
     sys.stdout.write("".join(damage.line() + "\n" for damage in seen.damages))
-    return FOUND if seen.damages else SOUND
+    return FOUND if any(not damage.is_remark for damage in seen.damages) else SOUND
 
 
 def draw(arguments: Arguments, sheet: Sheet) -> None:
