@@ -3,7 +3,7 @@ no frame is worse."""
 from __future__ import annotations
 
 from dataclasses import dataclass, field
-from typing import List, Sequence, Set, Tuple
+from typing import Dict, List, Sequence, Set, Tuple
 
 from .analysis import Findings, examine
 from .check import Check, Harm, Moved
@@ -53,13 +53,14 @@ class _Mending:
     script: List[Repair] = field(default_factory=list)
     remarks: List[Repair] = field(default_factory=list)
     looks: List[Tuple[int, Listing, Findings]] = field(default_factory=list)  # repairs before each, and what is seen
+    after: Listing = field(default_factory=Listing)
 
     def run(self) -> None:
         for turn in range(ROUNDS + 1):
             before = " as it is after %d repairs" % len(self.script) if self.script else ""
             self.progress("reading the track" + before)
-            listing = obeyed(self.editor, self.script, self.refused)
-            if turn == ROUNDS or not self._look(listing):
+            self.after = obeyed(self.editor, self.script, self.refused)
+            if turn == ROUNDS or not self._look(self.after):
                 return
 
     def _look(self, listing: Listing) -> bool:
@@ -75,15 +76,14 @@ class _Mending:
 
     def harms(self) -> List[Harm]:
         """What the script makes worse, if the pulses had their classes before it."""
-        (done, before, first), (_, after, last) = next(
-            (look for look in self.looks if not look[2].whole), self.looks[-1]
-        ), self.looks[-1]
+        last = self.looks[-1][2]
+        done, before, first = next((look for look in self.looks if not look[2].whole), self.looks[-1])
         if first.clock is None or last.clock is None or not self.script[done:]:
             return []
         steps = [part.track.rises[part.track.runs[0].first] for part in last.parts]
         steps += [zone.right.first for part in last.parts for zone in part.track.zones if zone.late and zone.right]
         moved = Moved(self.script[done:])
-        return list(Check(first.layout, first.clock.interval, steps, (before, after), moved).harms())
+        return list(Check(first.layout, first.clock.interval, steps, (before, self.after), moved).harms())
 
 
 def propose(
@@ -94,7 +94,7 @@ def propose(
 
     First are remarks: what is undecided when all repairs are made."""
     refused: Set[str] = set()
-    taken: List[Repair] = []
+    taken: Dict[int, Repair] = {}
     for turn in range(MOST_CHECKS):
         mending = _Mending(editor, progress, steady, move, refused)
         mending.run()
@@ -103,11 +103,11 @@ def propose(
             break
         for repair, harm in _blamed(mending.script, harms, turn + 1 == MOST_CHECKS):
             refused.add("\n".join(repair.edits))
-            taken.append(_taken_back(repair, harm))
+            taken[repair.at] = _left_out(repair, harm)
     else:
         mending.script = []
     progress("")
-    return mending.remarks + taken + mending.script
+    return mending.remarks + [taken[at] for at in sorted(taken, reverse=True)] + mending.script
 
 
 def _blamed(script: Sequence[Repair], harms: Sequence[Harm], all_of_them: bool) -> List[Tuple[Repair, Harm]]:
@@ -122,7 +122,7 @@ def _blamed(script: Sequence[Repair], harms: Sequence[Harm], all_of_them: bool) 
     return found if found and not all_of_them else [(repair, harms[0]) for repair in edits]
 
 
-def _taken_back(repair: Repair, harm: Harm) -> Repair:
+def _left_out(repair: Repair, harm: Harm) -> Repair:
     said = "undecided: at %d: with these lines %s, so they are left out: %s" % (
         repair.at,
         harm.seen,
