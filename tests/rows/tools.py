@@ -349,6 +349,12 @@ def larger_rows():
     yield starts("a control function of one frame", script.splitlines(), [seen])
     yield same("a control function of one frame, the pulses", after, lone)
     yield same("the same, --steady", mended(lone, 8000000, True)[1], recording())
+    changing = recording(12)
+    for frame in (4, 7, 8):
+        changing[100 * frame + 74][1] += 3000
+    del changing[674]
+    seen = "# %s6, element 74, at 6740000: no pulse; undecided whether zero or one: nothing says it" % FRAME
+    yield starts("a control function that changes", mended(changing, 12000000)[0].splitlines()[:1], [seen])
     late = [[rise + 3000000000, fall + 3000000000] for rise, fall in recording()]
     del late[243]
     yield same(
