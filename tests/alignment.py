@@ -7,6 +7,7 @@ it had no time and gets a wrong one. It makes a frame wrong if the frame is fine
 truly had, and did not show that before.
 """
 import os
+import re
 import tempfile
 from bisect import bisect_right
 from dataclasses import dataclass, field
@@ -134,11 +135,12 @@ def step_is_seen(rng):
     at = rng.randrange(120, len(pulses) - 120)
     for pulse in pulses[at:]:
         pulse[0], pulse[1] = pulse[0] + by, pulse[1] + by
-    seen = [each.seen for each in _damage(recording, pulses, recording.length + max(0, by)) if "on all comes" in each.seen]
+    lines = " ".join(each.seen for each in _damage(recording, pulses, recording.length + max(0, by)))
+    seen = re.findall(r"on all comes (\d+) (late|early)", lines)
     if abs(by) < least:
         return not seen
-    words = seen[0].split() if len(seen) == 1 else []
-    return bool(words) and words[-1] == ("late" if by > 0 else "early") and abs(int(words[-2]) - abs(by)) <= least
+    way = "late" if by > 0 else "early"
+    return len(seen) == 1 and seen[0][1] == way and abs(int(seen[0][0]) - abs(by)) <= least
 
 
 def _damage(recording, pulses, length):

@@ -165,8 +165,8 @@ class Clock:
     def _step_at(self, first: int, after: int, last: int, rises: Sequence[int]) -> float:
         """By how much the pulses from `after` on come late, by those near it on both sides."""
         many = min(after - first, last - after + 1, NEAR)
-        near = [rises[at + 1] - rises[at] for at in range(after - many, after + many - 1)]
-        interval = statistics.median(near)
+        low, high = max(first, after - FAR), min(last, after + FAR - 1)
+        interval = (rises[after - 1] - rises[low] + rises[high] - rises[after]) / (high - low - 1)
         before = statistics.median([rises[after - 1 - k] + k * interval for k in range(many)])
         beyond = statistics.median([rises[after + k] - k * interval for k in range(many)])
         return beyond - before - interval
