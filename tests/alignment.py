@@ -17,6 +17,7 @@ from irig_tools import damage, editor, mend
 from random_input import damages, recorders
 
 NEAR = 100  # a time that is off by less than the interval by this is right
+FINEST = 5  # microseconds: what no hole of three frames shows if the clock is off
 
 
 @dataclass
@@ -190,7 +191,7 @@ def judged(case, move=False):
 
 
 def _count_samples(harm, case, before, after, interval):
-    near = interval / NEAR
+    near = max(interval / NEAR, FINEST if case.slow != 1 else 0)
     for where, moment in case.samples:
         was, now = before.error(where, moment), after.error(where, moment)
         harm.samples += 1

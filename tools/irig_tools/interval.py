@@ -15,6 +15,7 @@ from .phases import turns
 NEAR = 15  # pulses at the end of a run that say where it should rise
 FAR = 300  # pulses at the end of a run that say the interval there
 ENOUGH = 4  # stretches that long show how much the interval changes
+MOST_OF = 1.9  # of what is spread as by chance, eight of ten are within that many times what half are within
 NEAR_RUNS = 300  # elements: runs that are no farther apart can be on one clock
 FAR_RUNS = 1000  # the same if the clock is exact
 SPREADS = 5  # a step is seen if it is that many times as large as the spread of the distances
@@ -127,8 +128,8 @@ class Clock:
         ]
         if len(local) < ENOUGH:
             return 0.0003 * self.nominal
-        spread = statistics.quantiles(local, n=10)
-        return max(LEAST_STEP / long, spread[-1] - spread[0])
+        low, _, high = statistics.quantiles(local, n=4)
+        return max(LEAST_STEP / FAR, MOST_OF * (high - low))
 
     def _find_runs(self, apart: Sequence[int]) -> List[Run]:
         low, high = self.interval - self.margin, self.interval + self.margin
