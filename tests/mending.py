@@ -29,10 +29,12 @@ class Case:
         self.exact = True  # whether the undamaged edges are to come back
         self.late = []  # by how much a rest was late, each time
         self.steady = False  # whether irig_mend has to assume that control functions never change
+        self.move = False  # whether it has to move the rest, as if the time code alone had slipped
         self.gone = 0  # elements that are cut out; what follows comes at once
 
     def damage(self, kinds, many):
         """`many` damages, one each time from these kinds."""
+        self.move = self.move or damages.late_rest in kinds
         for _ in range(many):
             if len(self.pulses) < 400:
                 return
@@ -137,5 +139,6 @@ def mended(case):
         ):
             with open(path, "w") as file:
                 file.write(damages.dump(pulses, length))
-        script = mend.text(mend.propose(editor.Editor([*options, damaged_path]), lambda text: None, case.steady))
+        opened = editor.Editor([*options, damaged_path])
+        script = mend.text(mend.propose(opened, lambda text: None, case.steady, case.move))
         return judge(case, options, true_path, damaged_path, script), script

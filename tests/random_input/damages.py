@@ -23,15 +23,25 @@ class Recording:
         start = (rng.randrange(730486, 738000), rng.randrange(0, timecode.DAY, period))
         self.pulses = []
         for k in range(many):
-            values = timecode.generated(self.kind, start, k, self.control)
+            values = timecode.generated(self.kind, start, k, self.control_of(rng, k))
             self.add_frame(timecode.encode(self.kind, self.expression, values))
         self.length = self.begin + len(self.pulses) * self.interval
         self.first_element = self.cut(rng, many)
+
+    def control_of(self, rng, k):
+        """The control functions of a frame: here they never change."""
+        return self.control
 
     def add_frame(self, classes):
         for name in classes:
             rise = self.begin + len(self.pulses) * self.interval
             self.pulses.append([rise, rise + timecode.nominal(self.interval, name)])
+
+    def controls(self):
+        """The pulses of control functions."""
+        wanted = timecode.layout(self.kind, self.expression).get("control", [])
+        elements = {element for digit in wanted for element, _ in digit}
+        return [pulse for at, pulse in enumerate(self.pulses) if (at + self.first_element) % 100 in elements]
 
     def cut(self, rng, many):
         """Cuts the first and the last frame, mostly. Returns the element with which the recording then

@@ -4,7 +4,10 @@ import random
 import subprocess
 import tempfile
 
+from irig_tools import check as check_of
 from irig_tools import damage, editor, mend
+from irig_tools.layout import Layout
+from irig_tools.script import Repair
 from random_input import damages
 from reference import timecode
 
@@ -135,13 +138,13 @@ ROWS = (
         "no signal at the end",
         lambda pulses: None,
         8500000,
-        ["7998000 no pulse from there to the end at 8500000"],
+        ["7998000 remark: no pulse from there to the end at 8500000"],
     ),
     (
         "no signal at the beginning",
         lambda pulses: moved(pulses, 0, 500000),
         8500000,
-        ["0 no pulse before 500000"],
+        ["0 remark: no pulse before 500000"],
     ),
     ("a clock that is slow", slow, 8040000, [SLOW]),
     (
@@ -192,11 +195,11 @@ def starts(name, got, wanted):
     return good or same(name, got, wanted)
 
 
-def mended(pulses, length, steady=False):
+def mended(pulses, length, steady=False, move=False):
     """The script that is proposed, and the pulses after it."""
     with tempfile.TemporaryDirectory() as folder:
         opened = editor.Editor(["--expression", "4", written(folder, pulses, length)])
-        script = mend.propose(opened, lambda text: None, steady)
+        script = mend.propose(opened, lambda text: None, steady, move)
         after = opened.ask([repair.lines() for repair in script])
     return mend.text(script), [list(each) for each in zip(after.rises, after.falls)]
 
@@ -205,7 +208,7 @@ def gives_back(name, change, length):
     """Whether the script that is proposed gives back the recording, and is empty if nothing is damaged."""
     pulses = recording()
     change(pulses)
-    script, after = mended(pulses, length)
+    script, after = mended(pulses, length, move=name == "the rest is late")
     good = same(name + ", mended", after, recording())
     return good and same(name + ", a script", bool(script), name != "a sound recording")
 
@@ -230,6 +233,70 @@ def left_alone(pulses):
     for pulse in pulses[260:266]:
         pulse[0], pulse[1] = pulse[0] + 4300, pulse[1] + 4300
     del pulses[266:310], pulses[225:260]
+
+
+def two_sided(name, change, length, wanted):
+    """A step: what is said of it, and that no pulse is moved; --move gives back the recording."""
+    pulses = recording(12)
+    change(pulses)
+    script, after = mended(pulses, length)
+    yield starts(name, script.splitlines(), ["# undecided: at %s; that is left: if the recorder slipped" % wanted])
+    yield same(name + ", the pulses", after, pulses)
+    yield same(name + ", --move", mended(pulses, length, move=True)[1], recording(12))
+
+
+def in_a_hole(pulses):
+    """1.6 seconds lost, and the rest early."""
+    moved(pulses, 785, -600)
+    del pulses[625:785]
+
+
+def steps():
+    """Steps of the times: on one wire nothing says whether the recorder slipped."""
+    early = "from pulse 626 at 7849400 on all comes 600 early, and 160 elements before it are missing or damaged"
+    yield from two_sided("a hole, and the rest is early", in_a_hole, 12000000, "7849400: " + early)
+    late = "from pulse 846 at 8450400 on all comes 400 late"
+    yield from two_sided(
+        "a small step", lambda pulses: moved(pulses, 845, 400), 12000400, "8450400: " + late
+    )
+    copied = "5570000: the 130 elements from 4270000 on are there twice: at 5570000 the times begin again"
+    yield from two_sided("a copy", lambda pulses: again(pulses, 430, 130), 13300000, copied)
+
+
+def judged(pulses, length, edits):
+    """What a script makes worse."""
+    layout = Layout("B", 4)
+    with tempfile.TemporaryDirectory() as folder:
+        opened = editor.Editor(["--expression", "4", written(folder, pulses, length)])
+        repairs = [Repair(at, [], [edit]) for at, edit in edits]
+        listings = opened.ask([]), opened.ask([repair.lines() for repair in repairs])
+    harms = check_of.Check(layout, 10000, [], listings, check_of.Moved(repairs)).harms()
+    return [(harm.at, harm.seen) for harm in harms]
+
+
+def harms():
+    """What irig_mend sees if a script makes a frame worse."""
+    gap = recording(12)
+    del gap[500:700]
+    regen = "regen 5000000 2 2024-061T12:00:0"
+    led = "a frame would get a time that the frames around it do not lead to"
+    yield same("a script that is right", judged(gap, 12000000, [(5000000, regen + "5")]), [])
+    yield same(
+        "frames of another time",
+        judged(gap, 12000000, [(5000000, regen + "4")]),
+        [(4990000, led), (5990000, led)],
+    )
+    yield same(
+        "a frame that was fine",
+        judged(recording(12), 12000000, [(5020000, "503 force one")]),
+        [(4990000, "a frame that is fine would change")],
+    )
+    late = recording(12)
+    in_a_hole(late)
+    apart = "the frames before and after it would not follow each other"
+    move = "626,$ shift "
+    yield same("a rest that is moved by a frame", judged(late, 12000000, [(7849400, move + "-999400")]), [(7849400, apart)])
+    yield same("a rest that is moved right", judged(late, 12000000, [(7849400, move + "600")]), [])
 
 
 def larger_rows():
@@ -265,7 +332,7 @@ def larger_rows():
         ["0 the whole recording: rises tremble: half of all"],
     )
     yield gives_back("the time from parts of several frames", in_every_frame, 8000000)
-    script, after = mended(without_second(502), 11000000)  # a one of 5 and a one of 6 would be 7 seconds
+    script, after = mended(without_second(502), 11000000, move=True)  # a one of 5 and a one of 6 would be 7 seconds
     yield same("a frame that is put together of two", after, without_second(600))
     yield same("what is said of it", "times are 1.00 seconds later" in script, True)
     unsure = recording()
@@ -282,13 +349,19 @@ def larger_rows():
     yield starts("a control function of one frame", script.splitlines(), [seen])
     yield same("a control function of one frame, the pulses", after, lone)
     yield same("the same, --steady", mended(lone, 8000000, True)[1], recording())
+    changing = recording(12)
+    for frame in (4, 7, 8):
+        changing[100 * frame + 74][1] += 3000
+    del changing[674]
+    seen = "# %s6, element 74, at 6740000: no pulse; undecided whether zero or one: nothing says it" % FRAME
+    yield starts("a control function that changes", mended(changing, 12000000)[0].splitlines()[:1], [seen])
     late = [[rise + 3000000000, fall + 3000000000] for rise, fall in recording()]
     del late[243]
     yield same(
         "numbers are whole",
         lines_of(late, 3008000000),
         [
-            "0 no pulse before 3000000000",
+            "0 remark: no pulse before 3000000000",
             "3002430000 %s2, element 43: no pulse; a zero has to be there" % FRAME,
         ],
     )
@@ -314,6 +387,9 @@ def processes(top):
         os.rename(written(folder, lost, 8000000), sound)
         del lost[230:415]
         broken = written(folder, lost, 8000000)
+        silent = os.path.join(folder, "silent.vcd")
+        with open(silent, "w") as file:
+            file.write(damages.dump([[rise + 31000, fall + 31000] for rise, fall in recording()], 8500000))
         junk, missing = os.path.join(folder, "junk"), os.path.join(folder, "missing.vcd")
         with open(junk, "wb") as file:
             file.write(b"\0\xff junk")
@@ -321,6 +397,8 @@ def processes(top):
             yield same(
                 tool + " on a sound track", run(top, "%s --expression 4 %s" % (tool, sound)), (0, "", "")
             )
+            status, said, complaint = run(top, "%s --expression 4 %s" % (tool, silent))
+            yield same(tool + " on a track with silence at its ends", (status, complaint), (0, ""))
             status, said, complaint = run(top, "%s --expression 4 %s" % (tool, broken))
             yield same(tool + " on a broken track", (status, bool(said), complaint), (1, True, ""))
             for words in ("--expression=4 %s", "--expression 4 -- %s", "%s --expression 4", "- --expression 4 < %s"):
@@ -386,4 +464,5 @@ def check(top):
     """Whether each row holds."""
     results = [row(*each) for each in ROWS]
     results += [gives_back(name, change, length) for name, change, length, _ in ROWS[:9]]
-    return results + list(larger_rows()) + list(processes(top)) + list(no_line_refused(top))
+    results += [*larger_rows(), *steps(), *harms()]
+    return results + list(processes(top)) + list(no_line_refused(top))

@@ -13,6 +13,7 @@ from .layout import Layout
 from .remarks import remarks
 from .script import Repair
 from .slots import SURE, link, parts, sure_parts
+from .steps import Step, apart, cut, step_zones, stretches, turned
 from .threshold import level
 from .track import Track
 
@@ -43,7 +44,9 @@ class Findings:
     remarks: List[Remark] = field(default_factory=list)
 
 
-def examine(listing: Listing, steady: bool = False) -> Findings:
+def examine(listing: Listing, steady: bool = False, move: bool = False) -> Findings:
+    """What is found; if `move`, a rest that comes late is to be moved, and else both sides of a step are parts
+    of their own."""
     layout = Layout(listing.kind, listing.expression)
     layout.steady = steady
     findings = Findings(layout)
@@ -69,11 +72,11 @@ def examine(listing: Listing, steady: bool = False) -> Findings:
     else:
         findings.whole = level(listing, layout)
         if not findings.whole:
-            _examine_parts(listing, findings)
+            _examine_parts(listing, findings, move)
     return findings
 
 
-def _examine_parts(listing: Listing, findings: Findings) -> None:
+def _examine_parts(listing: Listing, findings: Findings, move: bool) -> None:
     clock = findings.clock = Clock(listing, findings.layout.interval)
     found = parts(clock, listing.classes)
     for runs in reversed(found):
@@ -84,7 +87,8 @@ def _examine_parts(listing: Listing, findings: Findings) -> None:
             findings.remarks.append(Remark(at, seen, "is it another format, or another wire?"))
         else:
             for part in reversed(sure_parts(runs)):
-                findings.parts.append(_part(listing, findings.layout, clock, part))
+                look = _moved if move else _kept
+                findings.parts += look(listing, findings.layout, clock, part)
             findings.remarks += [_of_unsure(listing, run) for run in runs if run.others]
     for before, after in zip(found, found[1:]):
         elements = round((after[0].begin - before[-1].end) / clock.interval) - 1
@@ -111,11 +115,32 @@ def _of_unsure(listing: Listing, run: Run) -> Remark:
     return Remark(listing.rises[run.first], seen, choice)
 
 
-def _part(listing: Listing, layout: Layout, clock: Clock, runs: List[Run]) -> Part:
+def _moved(listing: Listing, layout: Layout, clock: Clock, runs: List[Run]) -> List[Part]:
+    """The part if what comes late is to be moved."""
     track = Track(listing, layout, clock, runs)
     times = Times(track)
     copies = take_out(track, times)
     if not copies and settle(track, times):
         track = Track(listing, layout, clock, runs)
         times = Times(track)
-    return Part(track, times, copies, Faults(track, times), remarks(track, times))
+    return [Part(track, times, copies, Faults(track, times), remarks(track, times))]
+
+
+def _kept(listing: Listing, layout: Layout, clock: Clock, runs: List[Run]) -> List[Part]:
+    """The parts, from the last to the first, if all times are kept: what is between two steps is one."""
+    whole = Track(listing, layout, clock, runs)
+    times = Times(whole)
+    steps = step_zones(whole)
+    if not steps:
+        return [_part(whole, times)]
+    tracks = [Track(listing, layout, clock, own) for own in apart(whole, steps)]
+    parts, between = [_part(track, Times(track)) for track in tracks], stretches(whole, steps)
+    for zone, left, right, part in zip(steps, between, between[1:], parts[1:]):
+        part.remarks.append(Step(whole, times, zone, left, right).remark(part.faults))
+    return parts[::-1]
+
+
+def _part(track: Track, times: Times) -> Part:
+    """Frames that a step cuts, or near which the times go on elsewhere, stay as they are."""
+    left = {*cut(track), *turned(times)}
+    return Part(track, times, [], Faults(track, times, left), remarks(track, times))

@@ -7,6 +7,7 @@ from itertools import accumulate
 from typing import Iterable, List, NamedTuple, Optional, Tuple
 
 from .frames import LONGEST_CUT, Span, Times
+from .interval import Run
 from .script import Repair
 from .track import Track
 from .zones import Zone
@@ -118,6 +119,15 @@ def without_copy(track: Track, first: int, many: int) -> Optional[Repair]:
     return Repair(begin, [why], edits, (first, after - first, by))
 
 
+def copy_between(track: Track, times: Times, left: List[Run], right: List[Run]) -> Optional[Tuple[int, int]]:
+    """The first pulse, and how many elements follow it, of a stretch that is as the one before it, between
+    these runs; None if there is none."""
+    frames, zone = times.frames_between(left, right), track.zone_of[right[0].place]
+    many = 0 if frames is None else -zone.skipped() - 100 * frames
+    first = _copied(track, zone, many) if 0 < many <= LONGEST_CUT else None
+    return None if first is None else (first, many)
+
+
 def take_out(track: Track, times: Times) -> List[Repair]:
     """The repairs that take out what is there twice, from the end to the beginning."""
     found: List[Tuple[int, int]] = []
@@ -128,11 +138,9 @@ def take_out(track: Track, times: Times) -> List[Repair]:
                 found.append((again.first, again.many))
     stretches = track.stretches()
     for left, right in zip(stretches, stretches[1:]):
-        frames, zone = times.frames_between(left, right), track.zone_of[right[0].place]
-        many = 0 if frames is None else -zone.skipped() - 100 * frames
-        first = _copied(track, zone, many) if 0 < many <= LONGEST_CUT else None
-        if first is not None:
-            found.append((first, many))
+        copy = copy_between(track, times, left, right)
+        if copy:
+            found.append(copy)
     repairs, done = [], len(track.rises)
     for pulse, many in sorted(found, reverse=True):
         repair = without_copy(track, pulse, many) if pulse + many <= done else None

@@ -1,7 +1,7 @@
 """The places of damage of a recording, in the order of time, one line each."""
 from __future__ import annotations
 
-from dataclasses import dataclass, field, replace
+from dataclasses import dataclass
 from typing import List, Sequence, Tuple
 
 from .analysis import Findings, Part, examine
@@ -9,7 +9,6 @@ from .editor import Editor, Listing, Progress
 from .faults import Faults, Remark
 from .interval import Clock
 from .script import Repair
-from .wholes import shifts
 
 DRIFT = 0.001  # intervals: a clock that is less off is sound
 TREMBLE = 0.005  # intervals: rises that stray less are sound
@@ -28,6 +27,7 @@ class Damage:
     name: str
     seen: str
     pulses: Tuple[int, int] = (0, -1)  # the first and the last, counted from 0
+    is_remark: bool = False  # it is named, and no damage
 
     def line(self) -> str:
         first, last = self.pulses
@@ -38,39 +38,8 @@ class Damage:
             if first == last
             else ", pulses %d to %d" % (first + 1, last + 1)
         )
-        name = self.name + pulses if self.name else pulses[2:]
+        name = self.name + pulses if self.name else "remark" if self.is_remark else pulses[2:]
         return "%d %s%s" % (self.at, name + ": " if name else "", self.seen)
-
-
-@dataclass
-class Origin:
-    """Times and numbers of pulses as they were before stretches were taken out: the newest is the last."""
-
-    # time, first pulse, pulses, microseconds
-    removed: List[Tuple[int, int, int, int]] = field(default_factory=list)
-
-    def time(self, time: int) -> int:
-        for at, _, _, by in reversed(self.removed):
-            time += by * (time >= at)
-        return time
-
-    def pulse(self, pulse: int) -> int:
-        for _, first, many, _ in reversed(self.removed):
-            pulse += many * (pulse >= first)
-        return pulse
-
-    def gone(self) -> int:
-        """By how much the rest was moved, in microseconds."""
-        return sum(by for _, _, _, by in self.removed)
-
-    def of(self, damage: Damage) -> Damage:
-        first, last = damage.pulses
-        return replace(
-            damage,
-            at=self.time(damage.at),
-            until=self.time(damage.until),
-            pulses=(self.pulse(first), self.pulse(last)) if first <= last else damage.pulses,
-        )
 
 
 @dataclass
@@ -79,7 +48,6 @@ class Seen:
 
     listing: Listing
     findings: Findings
-    origin: Origin
     damages: List[Damage]
 
 
@@ -88,10 +56,9 @@ def find(editor: Editor, progress: Progress) -> List[Damage]:
 
 
 def look(editor: Editor, progress: Progress, steady: bool = False) -> Seen:
-    """All damage. What is there twice is first taken out, so that the rest is seen."""
+    """All damage. A threshold is first undone, so that the rest is seen; no time is moved."""
     found: List[Damage] = []
     script: List[Repair] = []
-    origin = Origin()
     progress("reading the track")
     track = listing = editor.ask([])
     for turn in range(ROUNDS + 1):
@@ -99,40 +66,32 @@ def look(editor: Editor, progress: Progress, steady: bool = False) -> Seen:
             listing = editor.ask([repair.lines() for repair in script])
         progress("looking at %d pulses" % len(listing.rises))
         findings = examine(listing, steady)
-        first = findings.whole + [copy for part in findings.parts for copy in part.copies]
-        if not first or listing.refused or turn == ROUNDS:
-            found += [origin.of(each) for each in _rest(listing, findings, listing.length - origin.gone())]
+        if not findings.whole or listing.refused or turn == ROUNDS:
+            found += _rest(listing, findings)
             break
-        found += [origin.of(Damage(each.at, each.at, "", each.comments[0])) for each in _told_once(first)]
+        found.append(Damage(findings.whole[0].at, findings.whole[0].at, "", findings.whole[0].comments[0]))
         if findings.turned:
             break
-        script += first
-        origin.removed += [(each.at, *each.removed) for each in first if each.removed[1]]
+        script += findings.whole
     progress("")
     found = sorted(set(found), key=lambda each: (each.at, each.until, each.name, each.seen))
-    return Seen(track, findings, origin, found)
+    return Seen(track, findings, found)
 
 
-def _told_once(repairs: Sequence[Repair]) -> List[Repair]:
-    """The copies, and of the repairs of a threshold the first."""
-    copies = [each for each in repairs if each.removed[1]]
-    return copies or list(repairs[:1])
-
-
-def _rest(listing: Listing, findings: Findings, end: int) -> List[Damage]:
-    """What is found if nothing is there twice; the signal should go on until `end`."""
+def _rest(listing: Listing, findings: Findings) -> List[Damage]:
+    """What is found if every pulse has its own class."""
     found = [_of_remark(remark) for remark in findings.remarks]
     if findings.clock:
         found += _of_clock(findings.clock, listing)
     for part in findings.parts:
         found += _of_part(part)
     if findings.parts:
-        found += _of_ends(listing, findings.parts[-1], findings.parts[0], end)
+        found += _of_ends(listing, findings.parts[-1], findings.parts[0])
     return found
 
 
 def _of_remark(remark: Remark) -> Damage:
-    return Damage(remark.at, remark.at, "", remark.seen)
+    return Damage(remark.at, remark.at, remark.name, remark.seen)
 
 
 def _of_clock(clock: Clock, listing: Listing) -> List[Damage]:
@@ -150,8 +109,8 @@ def _of_clock(clock: Clock, listing: Listing) -> List[Damage]:
     if clock.noise >= TREMBLE * clock.nominal:
         seen = (
             "rises tremble: half of all distances are off by more than %d microseconds, %.1f %% of "
-            "the interval"
-            % (clock.noise, 100 * clock.noise / clock.nominal)
+            "the interval, and a step of less than %d does not show"
+            % (clock.noise, 100 * clock.noise / clock.nominal, clock.least_step)
         )
         found.append(Damage(0, end, "the whole recording", seen))
     return found
@@ -168,9 +127,6 @@ def _range(clock: Clock) -> str:
 def _of_part(part: Part) -> List[Damage]:
     faults = part.faults
     found = [_of_remark(remark) for remark in part.remarks]
-    for item in shifts(faults):  # may add remarks, and takes away places that cannot be repaired
-        at = faults.track.rise_at(int(item.high + 0.5))
-        found.append(Damage(at, at, faults.name(int(item.high + 0.5)), item.why))
     found += [_of_remark(remark) for remark in faults.remarks]
     group: List[int] = []
     for place in sorted(faults.wanted):
@@ -214,7 +170,7 @@ def _of_place(faults: Faults, place: int) -> Damage:
     return Damage(at, at + round(faults.clock.interval), faults.name(place), seen, ends)
 
 
-def _of_ends(listing: Listing, first: Part, last: Part, end: int) -> List[Damage]:
+def _of_ends(listing: Listing, first: Part, last: Part) -> List[Damage]:
     """What is before the first frame and after the last one."""
     rises, found, many = listing.rises, [], len(listing.rises)
     before = min(pulse for pulses in first.track.zones[0].pulses.values() for pulse in pulses)
@@ -225,12 +181,15 @@ def _of_ends(listing: Listing, first: Part, last: Part, end: int) -> List[Damage
         found.append(Damage(rises[0], rises[before], "", NO_FRAME, (0, before - 1)))
     if after + 1 < many:
         found.append(Damage(rises[after + 1], listing.length, "", NO_FRAME, (after + 1, many - 1)))
-    if rises[0] > 1.5 * first.faults.clock.interval:
-        found.append(Damage(0, rises[0], "", "no pulse before %d" % rises[0]))
-    if end - rises[-1] > 1.5 * last.faults.clock.interval:
-        found.append(
-            Damage(
-                listing.falls[-1], listing.length, "", "no pulse from there to the end at %d" % listing.length
-            )
-        )
+    return found + _of_silence(listing, last.faults.clock.interval)
+
+
+def _of_silence(listing: Listing, interval: float) -> List[Damage]:
+    """A recorder seldom begins at the first pulse and ends at the last one, so silence there is no damage."""
+    found, first, last, end = [], listing.rises[0], listing.falls[-1], listing.length
+    if first > 1.5 * interval:
+        found.append(Damage(0, first, "", "no pulse before %d" % first, is_remark=True))
+    if end - listing.rises[-1] > 1.5 * interval:
+        seen = "no pulse from there to the end at %d" % end
+        found.append(Damage(last, end, "", seen, is_remark=True))
     return found

@@ -25,7 +25,8 @@ time, one line each: the time in microseconds, the frame, the element and the
 pulses, and what is seen there. The track is not changed; - is standard input.
 The interval is that of the recording: a clock that drifts and rises that tremble
 are said once. A leap second is no damage, and neither is a frame that is cut at
-either end.
+either end. Silence before the first pulse and after the last one is a remark, and
+no damage.
 """, (*EDITOR, PAGE, PICTURE), """\
 The editor is the program that IRIG_ED names, or irig_ed on the path.
 The status is 0 if nothing is wrong, 1 if something is, 2 if the track was not
@@ -41,7 +42,7 @@ def work(given: Given) -> int:
     if given.has(PAGE) or given.has(PICTURE):
         draw(given, sheet_of(os.path.basename(name), seen))
     sys.stdout.write("".join(damage.line() + "\n" for damage in seen.damages))
-    return FOUND if seen.damages else SOUND
+    return FOUND if any(not damage.is_remark for damage in seen.damages) else SOUND
 
 
 def draw(given: Given, sheet: Sheet) -> None:

@@ -2,7 +2,7 @@
 from __future__ import annotations
 
 from dataclasses import dataclass
-from typing import Dict, List, Optional
+from typing import Dict, Iterable, List, Optional
 
 from .frames import Times
 from .layout import NAMES, POSITIONS, READABLE, SHARE
@@ -22,6 +22,7 @@ class Remark:
     at: int  # microseconds
     seen: str
     choice: str = ""
+    name: str = ""  # its frame and element, if they are to be named
 
     def comment(self) -> str:
         return "undecided: at %d: %s%s" % (self.at, self.seen, "; " + self.choice if self.choice else "")
@@ -30,8 +31,10 @@ class Remark:
 class Faults:
     """The places whose pulse is not what follows, each with the class that has to be there."""
 
-    def __init__(self, track: Track, times: Times) -> None:
+    def __init__(self, track: Track, times: Times, left: Iterable[int] = ()) -> None:
+        """`left` are frames that are to stay as they are."""
         self.track, self.layout, self.clock, self.times = track, track.layout, track.clock, times
+        self.left = set(left)
         self.rises, self.falls = track.rises, track.falls
         self.wanted: Dict[int, str] = {}
         self.guesses: Dict[int, str] = {}  # places of control functions that nothing says
@@ -41,6 +44,10 @@ class Faults:
             self._compare_control(number, text)
             if number not in times.sound:
                 self._look_at(number, text, times.expected(number))
+
+    def leave(self) -> None:
+        """Forgets what is wrong in frames that are to stay as they are."""
+        self.wanted = {place: name for place, name in self.wanted.items() if place // 100 not in self.left}
 
     def _look_at(self, number: int, text: str, expected: str) -> None:
         """Compares a frame with what follows for it."""
@@ -62,7 +69,7 @@ class Faults:
             else:
                 unknown.append(element)
         self._doubt_control(number, text)
-        if unknown:
+        if unknown and number not in self.left:
             at = self.track.rise_at(100 * number + unknown[0])
             seen = "%s, element %s: nothing says whether zero or one" % (
                 self.times.name(number),
@@ -91,14 +98,14 @@ class Faults:
         return True
 
     def _decide(self, place: int, control: bool) -> Optional[str]:
-        """Zero or one if nothing follows for a place: by its shape, else by its neighbours, else the
-        nearest."""
+        """Zero or one if nothing follows for a place: by its shape, else by its neighbours, else a guess that
+        is named as one."""
         pulses, (number, element) = self.track.pulses_at(place), divmod(place, 100)
         if element in self.usual:
             return self.usual[element]
         near = self.times.neighbours(number, element) if control else None
-        own, burst = self._shape_of(place), near is not None and self._in_burst(place)
-        if own and (not near or (self._is_nominal(pulses[0], own) and not burst)):
+        own, burst = self._shape_of(place), control and self._in_burst(place)
+        if own and not burst and (not near or self._is_nominal(pulses[0], own)):
             return own
         cost = {target: self.difference(place, target) for target in "01"}
         best = min("01", key=lambda target: cost[target])
@@ -106,7 +113,7 @@ class Faults:
             return best
         if near or not control:
             return near
-        self.guesses[place] = best if pulses else "0"
+        self.guesses[place] = self.times.likely(number, element) or (best if pulses else "0")
         return self.guesses[place]
 
     def _compare_control(self, number: int, text: str) -> None:

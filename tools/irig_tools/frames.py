@@ -12,6 +12,7 @@ from .leap import find_leap
 from .moments import DAY, Calendar
 from .spans import fit
 from .splices import spliced
+from .steadiness import Steadiness
 from .track import Track
 
 LONGEST_CUT = 3000  # elements; after more than that the places are not counted on
@@ -50,6 +51,7 @@ class Times:
         stray = {number for number in self.own if "1" in unused(self.texts[number])}
         self.doubtful = len(stray) > 2 + len(self.read) // 10  # the expression
         self.kept = set(self.layout.control) | set(self.layout.unused if self.doubtful else ())
+        self._steadiness = Steadiness(sorted(self.kept), list(self.texts.values()))
         self.sound = {
             number
             for number, base in self.own.items()
@@ -183,19 +185,32 @@ class Times:
             text[element] = "."
         return "".join(text)
 
-    def neighbours(self, number: int, element: int) -> Optional[str]:
-        """What most of the nearest frames have there, two before and two after whose element is sound; None
-        if they differ."""
+    def _nearest(self, number: int, element: int) -> Tuple[List[int], List[int]]:
+        """Two frames before this one, and two after it, whose element is sound."""
+        having = self._frames_having(element)
+        at = bisect_left(having, number)
+        return having[max(0, at - 2):at], having[at + (having[at:at + 1] == [number]):][:2]
+
+    def _frames_having(self, element: int) -> List[int]:
         if element not in self._having:
             self._having[element] = [each for each, text in self.texts.items() if text[element] in "01"]
-        having = self._having[element]
-        at = bisect_left(having, number)
-        near = Counter(
-            self.texts[each][element] for each in having[max(0, at - 2):at] + having[at:at + 2]
-        )
-        told, many = near.most_common(1)[0] if near else ("", 0)
-        total = sum(near.values())
-        return told if near and many >= max(1, total - (total > 2)) else None
+        return self._having[element]
+
+    def neighbours(self, number: int, element: int) -> Optional[str]:
+        """What an element has that no field decides: what the two nearest frames on both sides have, if all
+        four agree and the element is steady; else None."""
+        before, after = self._nearest(number, element)
+        near = {self.texts[each][element] for each in (*before, *after)}
+        if len(before) < 2 or len(after) < 2 or len(near) > 1:
+            return None
+        steady = self._steadiness.holds(element, number - before[-1], after[0] - number)
+        return near.pop() if steady else None
+
+    def likely(self, number: int, element: int) -> Optional[str]:
+        """What most of the nearest frames have there; None if as many differ."""
+        near = Counter(self.texts[each][element] for part in self._nearest(number, element) for each in part)
+        often = near.most_common(2)
+        return None if not often or (len(often) > 1 and often[0][1] == often[1][1]) else often[0][0]
 
     def usual(self) -> Dict[int, str]:
         """The classes of control functions that all frames have but one in ten."""

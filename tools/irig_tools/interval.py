@@ -3,18 +3,26 @@ pulses in step."""
 from __future__ import annotations
 
 import statistics
+from collections import Counter
 from dataclasses import dataclass, field
 from itertools import compress, count, islice
 from operator import sub
-from typing import List, Optional, Sequence
+from typing import Iterator, List, Optional, Sequence
 
 from .editor import Listing
 from .phases import turns
 
 NEAR = 15  # pulses at the end of a run that say where it should rise
 FAR = 300  # pulses at the end of a run that say the interval there
+ENOUGH = 4  # stretches that long show how much the interval changes
+MOST_OF = 1.9  # of what is spread as by chance, eight of ten are within that many times what half are within
 NEAR_RUNS = 300  # elements: runs that are no farther apart can be on one clock
 FAR_RUNS = 1000  # the same if the clock is exact
+SPREADS = 5  # a step is seen if it is that many times as large as the spread of the distances
+LEAST_STEP = 2  # microseconds: times are whole numbers, so less is no step
+AGAIN = 3  # distances that are off by one sample
+SIDE = 5  # pulses on each side of a step
+TENTH = 2.44  # of what is spread as by chance, nine of ten are within that many times what half are within
 
 
 @dataclass
@@ -58,6 +66,21 @@ def share_in_step(times: Sequence[int], interval: int) -> float:
     return many / max(1, len(looked_at))
 
 
+def _grid(listing: Listing, between: Sequence[int], interval: float) -> int:
+    """How far apart the samples of the recorder were, in microseconds, if distances are off by one sample now
+    and then; else 0."""
+    off = Counter(int(abs(each - interval)) for each in between if abs(each - interval) >= 2)
+    size, many = min(((size, many) for size, many in off.items() if many >= AGAIN), default=(0, 0))
+    if not many or any(time % size for time in _since_first(listing)):
+        return 0
+    return size
+
+
+def _since_first(listing: Listing) -> Iterator[int]:
+    first = listing.rises[0]
+    return (time - first for times in (listing.rises, listing.falls) for time in times)
+
+
 class Clock:
     """The interval as it was recorded, how far rises stray from it, and the runs."""
 
@@ -73,27 +96,40 @@ class Clock:
         )
         self.margin = min(0.09 * nominal, max(0.04 * nominal, 6 * self.noise))  # what counts as in step
         self.stray = min(0.07 * nominal, max(0.04 * nominal, 4 * self.noise))  # how far one pulse may be off
-        self.runs = [part for run in self._find_runs(apart) for part in parted(run, listing.classes)]
-        self._measure(listing.rises)
-        for run in self.runs:
-            self._fit(run, listing.rises)
-        self.doubt = self._find_doubt()  # of the interval, within a hole
+        self.grid = _grid(listing, between, self.interval)
+        self.least_step = self._find_least_step(between)
+        steady = [part for run in self._find_runs(apart) for part in self._stepped(run, listing.rises, apart)]
+        self.runs = [part for run in steady for part in parted(run, listing.classes)]
+        self._measure([listing.rises[run.last] - listing.rises[run.first] for run in self.runs])
+        self._fit_all(listing.rises)
+        # again, as now no pulse that strays at an end of a run counts
+        self._measure([run.end - run.begin for run in self.runs])
+        self._fit_all(listing.rises)
+        self.doubt = self._find_doubt(listing.rises)
 
-    def _measure(self, rises: Sequence[int]) -> None:
-        steps = sum(run.count - 1 for run in self.runs if run.count > 9)
-        if steps:
-            whole = sum(rises[run.last] - rises[run.first] for run in self.runs if run.count > 9)
-            self.interval = whole / steps
+    def _measure(self, lengths: Sequence[float]) -> None:
+        """The interval by the lengths of the runs, in microseconds."""
+        long = [(run.count - 1, length) for run, length in zip(self.runs, lengths) if run.count > 9]
+        if long:
+            self.interval = sum(length for _, length in long) / sum(steps for steps, _ in long)
         if abs(self.interval - self.nominal) < self.nominal / 10000:
             self.interval = self.nominal
         self.exact = self.interval == self.nominal and self.noise == 0
 
-    def _find_doubt(self) -> float:
+    def _find_doubt(self, rises: Sequence[int]) -> float:
+        """By how much the interval within a hole may differ from the one next to it."""
         if self.exact:
             return 0
-        ends = [end for run in self.runs for end in (run.begin_interval, run.end_interval) if end]
-        spread: Sequence[float] = statistics.quantiles(ends, n=10) if len(ends) > 3 else [0]
-        return max(0.0003 * self.nominal, (spread[-1] - spread[0]) / 4)
+        long = FAR if sum(run.count // FAR for run in self.runs) >= ENOUGH else FAR // 3
+        local = [
+            (rises[at + long] - rises[at]) / long
+            for run in self.runs
+            for at in range(run.first, run.last - long + 1, long)
+        ]
+        if len(local) < ENOUGH:
+            return 0.0003 * self.nominal
+        low, _, high = statistics.quantiles(local, n=4)
+        return max(LEAST_STEP / FAR, MOST_OF * (high - low))
 
     def _find_runs(self, apart: Sequence[int]) -> List[Run]:
         low, high = self.interval - self.margin, self.interval + self.margin
@@ -101,7 +137,47 @@ class Clock:
         breaks = list(compress(count(1), map(odd.__contains__, apart)))
         return [Run(first, after - 1) for first, after in zip([0] + breaks, breaks + [len(apart) + 1])]
 
-    def _fit(self, run: Run, rises: Sequence[int]) -> None:
+    def _find_least_step(self, between: Sequence[int]) -> float:
+        """A step within a run shows from this many microseconds on, as the distances of the recording are
+        spread."""
+        off = sorted(abs(each - self.interval) for each in between)
+        spread = max(self.noise, off[len(off) * 9 // 10] / TENTH) if off else 0
+        return max(LEAST_STEP, SPREADS * spread, 1.5 * self.grid)
+
+    def _stepped(self, run: Run, rises: Sequence[int], apart: Sequence[int]) -> List[Run]:
+        """The run, or its parts if all that follow a pulse come late or early by a step too small to end a
+        run."""
+        found, first = [], run.first
+        for after in self._odd(run, apart):
+            if after - first >= SIDE and run.last - after + 1 >= SIDE:
+                if abs(self._step_at(first, after, run.last, rises)) >= self.least_step:
+                    found.append(Run(first, after - 1))
+                    first = after
+        return found + [Run(first, run.last)]
+
+    def _odd(self, run: Run, apart: Sequence[int]) -> List[int]:
+        """The pulses of a run, but the first, whose distance from the one before may be a step."""
+        most = 0.7 * self.least_step
+        low, high = self.interval - most, self.interval + most
+        return [
+            at for at, each in enumerate(apart[run.first:run.last], run.first + 1) if not low < each < high
+        ]
+
+    def _step_at(self, first: int, after: int, last: int, rises: Sequence[int]) -> float:
+        """By how much the pulses from `after` on come late, by those near it on both sides."""
+        many = min(after - first, last - after + 1, NEAR)
+        low, high = max(first, after - FAR), min(last, after + FAR - 1)
+        interval = (rises[after - 1] - rises[low] + rises[high] - rises[after]) / (high - low - 1)
+        before = statistics.median([rises[after - 1 - k] + k * interval for k in range(many)])
+        beyond = statistics.median([rises[after + k] - k * interval for k in range(many)])
+        return beyond - before - interval
+
+    def _fit_all(self, rises: Sequence[int]) -> None:
+        for run in self.runs:
+            self.fit(run, rises)
+
+    def fit(self, run: Run, rises: Sequence[int]) -> None:
+        """Finds when the ends of a run should rise, and the interval there."""
         near = (min(run.count, NEAR) - 1) // 2 * 2 + 1
         run.begin = statistics.median_low([rises[run.first + k] - k * self.interval for k in range(near)])
         run.end = statistics.median_low([rises[run.last - k] + k * self.interval for k in range(near)])
@@ -131,7 +207,8 @@ class Clock:
 
     def least_late(self, steps: int) -> float:
         """A rest that is less late than this is left as it is."""
-        return 1 if self.exact else min(0.4 * self.nominal, max(2, 5 * self.noise) + self.doubt * steps)
+        least = 1 if self.exact else min(0.4 * self.nominal, max(2, 5 * self.noise) + self.doubt * steps)
+        return max(least, 1.5 * self.grid)
 
 
 def parted(run: Run, classes: str) -> List[Run]:

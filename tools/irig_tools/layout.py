@@ -38,6 +38,7 @@ class Layout:
         used = {*self.carried, *self.control, *POSITIONS}
         self.unused = [element for element in range(100) if element not in used]
         self._carried_of = itemgetter(*self.carried)
+        self._unused_of = itemgetter(*self.unused)
         self._parts = [(name, rows[0][0], rows[-1][0] + 1) for name, rows in self.fields.items()]
 
     def _add_time(self) -> None:
@@ -106,6 +107,10 @@ class Layout:
         ):
             return None
         return told
+
+    def shown(self, text: str) -> Optional[Fields]:
+        """The fields of a frame that is fine; None if it has a one that the expression does not use."""
+        return self.decode(text) if "1" not in self._unused_of(text) else None
 
     def encode(self, told: Fields) -> List[str]:
         """The 100 classes of a frame with these fields; `.` for a control function, which no field says."""

@@ -1,14 +1,18 @@
-"""Proposes a script: looks at the track, adds repairs, and looks at the repaired track again."""
+"""Proposes a script: looks at the track, adds repairs, looks at the repaired track again, and in the end checks that
+no frame is worse."""
 from __future__ import annotations
 
-from typing import List, Sequence, Set
+from dataclasses import dataclass, field
+from typing import Dict, List, Sequence, Set, Tuple
 
 from .analysis import Findings, examine
+from .check import Check, Harm, Moved
 from .editor import Editor, Listing, Progress
 from .repairs import repairs
-from .script import Repair
+from .script import BY_LINE, Repair
 
 ROUNDS = 5  # after that many the script is as it is
+MOST_CHECKS = 5  # after that many no repair is left
 
 
 def called_for(findings: Findings) -> List[Repair]:
@@ -37,28 +41,94 @@ def obeyed(editor: Editor, script: List[Repair], refused: Set[str]) -> Listing:
     return listing
 
 
-def propose(editor: Editor, progress: Progress, steady: bool = False) -> List[Repair]:
-    """The script that repairs what the editor's track has; no line of it is refused. If control functions
-    are `steady`, no frame has others than most.
+@dataclass
+class _Mending:
+    """One way through the rounds, without the repairs that are refused."""
+
+    editor: Editor
+    progress: Progress
+    steady: bool
+    move: bool
+    refused: Set[str]
+    script: List[Repair] = field(default_factory=list)
+    remarks: List[Repair] = field(default_factory=list)
+    looks: List[Tuple[int, Listing, Findings]] = field(default_factory=list)  # repairs before each, and what is seen
+    after: Listing = field(default_factory=Listing)
+
+    def run(self) -> None:
+        for turn in range(ROUNDS + 1):
+            before = " as it is after %d repairs" % len(self.script) if self.script else ""
+            self.progress("reading the track" + before)
+            self.after = obeyed(self.editor, self.script, self.refused)
+            if turn == ROUNDS or not self._look(self.after):
+                return
+
+    def _look(self, listing: Listing) -> bool:
+        """Whether there are new repairs."""
+        self.progress("looking at %d pulses" % len(listing.rises))
+        findings = examine(listing, self.steady, self.move)
+        found = called_for(findings)
+        self.looks.append((len(self.script), listing, findings))
+        self.remarks = [each for each in found if not each.edits]
+        new = [each for each in found if each.edits and "\n".join(each.edits) not in self.refused]
+        self.script += new
+        return bool(new)
+
+    def harms(self) -> List[Harm]:
+        """What the script makes worse, if the pulses had their classes before it."""
+        last = self.looks[-1][2]
+        done, before, first = next((look for look in self.looks if not look[2].whole), self.looks[-1])
+        if first.clock is None or last.clock is None or not self.script[done:]:
+            return []
+        steps = [part.track.rises[part.track.runs[0].first] for part in last.parts]
+        steps += [zone.right.first for part in last.parts for zone in part.track.zones if zone.late and zone.right]
+        moved = Moved(self.script[done:])
+        return list(Check(first.layout, first.clock.interval, steps, (before, self.after), moved).harms())
+
+
+def propose(
+    editor: Editor, progress: Progress, steady: bool = False, move: bool = False
+) -> List[Repair]:
+    """The script that repairs what the editor's track has; no line of it is refused, and none makes a frame worse.
+    If control functions are `steady`, no frame has others than most. If not `move`, no pulse in step is moved.
 
     First are remarks: what is undecided when all repairs are made."""
-    script: List[Repair] = []
-    remarks: List[Repair] = []
     refused: Set[str] = set()
-    for turn in range(ROUNDS + 1):
-        progress("reading the track%s" % (" as it is after %d repairs" % len(script) if script else ""))
-        listing = obeyed(editor, script, refused)
-        if turn == ROUNDS:
+    taken: Dict[int, Repair] = {}
+    for turn in range(MOST_CHECKS):
+        mending = _Mending(editor, progress, steady, move, refused)
+        mending.run()
+        harms = mending.harms()
+        if not harms:
             break
-        progress("looking at %d pulses" % len(listing.rises))
-        found = called_for(examine(listing, steady))
-        remarks = [each for each in found if not each.edits]
-        new = [each for each in found if each.edits and "\n".join(each.edits) not in refused]
-        script += new
-        if not new:
-            break
+        for repair, harm in _blamed(mending.script, harms, turn + 1 == MOST_CHECKS):
+            refused.add("\n".join(repair.edits))
+            taken[repair.at] = _left_out(repair, harm)
+    else:
+        mending.script = []
     progress("")
-    return remarks + script
+    return mending.remarks + [taken[at] for at in sorted(taken, reverse=True)] + mending.script
+
+
+def _blamed(script: Sequence[Repair], harms: Sequence[Harm], all_of_them: bool) -> List[Tuple[Repair, Harm]]:
+    """The repairs that make something worse: those that touch it, or all."""
+    edits = [repair for repair in script if repair.edits]
+    found = [
+        (repair, harm)
+        for repair in edits
+        for harm in harms
+        if repair.at <= harm.until and harm.at <= max(repair.at, repair.until)
+    ]
+    return found if found and not all_of_them else [(repair, harms[0]) for repair in edits]
+
+
+def _left_out(repair: Repair, harm: Harm) -> Repair:
+    said = "undecided: at %d: with these lines %s, so they are left out: %s" % (
+        repair.at,
+        harm.seen,
+        "; ".join(repair.edits)[:BY_LINE],
+    )
+    return Repair(repair.at, [said])
 
 
 def text(script: Sequence[Repair]) -> str:

@@ -5,10 +5,11 @@ import re
 from typing import Dict, List, Optional, Sequence, Set, Tuple
 
 from .analysis import Part
-from .damage import Damage, Origin, Seen
+from .damage import Damage, Seen
 from .editor import Listing
 from .script import Repair
 from .sheet import DAMAGED, LOST, SOUND, Place, Sheet, Stretch, Wave, cut, merged
+from .steps import cut as cut_by_a_step
 
 AROUND = 4  # intervals that are shown on both sides of a place
 REST = re.compile(r"[^,]+,\$ shift (-?\d+)$")
@@ -17,7 +18,7 @@ REST = re.compile(r"[^,]+,\$ shift (-?\d+)$")
 def sheet_of(name: str, seen: Seen, script: Sequence[Repair] = (), after: Optional[Listing] = None) -> Sheet:
     """The data of a recording; `after` is the listing after the script."""
     layout = seen.findings.layout
-    notes = [each for each in seen.damages if each.name == "the whole recording"]
+    notes = [each for each in seen.damages if each.is_remark or each.name == "the whole recording"]
     places = [_place(seen, each, script, after) for each in seen.damages if each not in notes]
     lines = tuple(line for repair in script for line in repair.lines())
     return Sheet(
@@ -59,20 +60,20 @@ def _moved(script: Sequence[Repair], at: int) -> int:
 def _stretches(seen: Seen) -> Tuple[Stretch, ...]:
     found: List[Stretch] = []
     for part in reversed(seen.findings.parts):
-        found += _of_part(part, seen.origin)
+        found += _of_part(part)
     if not found:
         return (Stretch(0, seen.listing.length, DAMAGED),)
     return merged(found)
 
 
-def _of_part(part: Part, origin: Origin) -> List[Stretch]:
+def _of_part(part: Part) -> List[Stretch]:
     """A stretch for each frame."""
     track = part.track
     found: List[Stretch] = []
     faulty: Dict[int, int] = {}
     for place in part.faults.wanted:
         faulty[place // 100] = faulty.get(place // 100, 0) + (not track.pulses_at(place))
-    remarked = _remarked(part)
+    remarked, cut_by_steps = _remarked(part), set(cut_by_a_step(track))
     for number in track.frames():
         first, beyond = max(track.first, 100 * number), min(track.last, 100 * number + 100)
         start, end = track.rise_at(first), track.rise_at(beyond)
@@ -80,13 +81,13 @@ def _of_part(part: Part, origin: Origin) -> List[Stretch]:
             LOST
             if faulty.get(number, 0) > 50
             else DAMAGED
-            if number in faulty or number in remarked
+            if number in faulty or number in remarked or number in cut_by_steps
             else SOUND
         )
         if found and start < found[-1].end:
             start = found[-1].end
         if start < end:
-            found.append(Stretch(origin.time(start), origin.time(end - 1) + 1, state))
+            found.append(Stretch(start, end, state))
     return found
 
 

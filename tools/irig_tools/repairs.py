@@ -16,6 +16,7 @@ MOST_AGAIN = 2000  # places that are written again one by one
 
 def repairs(faults: Faults) -> List[Repair]:
     """What the faults call for. What is close together is one repair."""
+    faults.leave()
     moved = shifts(faults)
     whole = lost_frames(faults)
     groups: List[List[Item]] = []

@@ -14,7 +14,7 @@ UNLIKELY = 8  # a way that costs so much more than the cheapest does not count
 HOPELESS = 12  # a way that costs so much more up to a run is not followed, so that the search stays short
 LONG = 40  # pulses of a run whose position identifiers say its phase
 MOST_LATE = 12  # elements
-EARLY = 0.4  # intervals by which a run may come early if rises stray
+EARLY = 5  # what a rest costs that is early
 BARELY = 2  # what a rest costs that is late by less than a pulse may stray
 LEAST = 2  # a run whose phase leads by less is left alone
 LEAD = 3  # a run whose phase leads by less is looked at again, with what most frames have
@@ -64,15 +64,13 @@ def _trim(runs: List[Run], classes: str) -> List[Run]:
 def _hop(clock: Clock, distance: float, interval: float, step: int) -> Tuple[int, float, float]:
     """Elements to go on by (`step` modulo 100), how late what follows then is, and what it costs to believe
     that."""
-    # a run that comes early by less than this is not taken for one that comes late by nearly a frame
-    early = max(clock.slack(distance / interval), EARLY * interval if clock.noise else 0)
-    more = int((distance + early) / interval - step) // 100
-    steps = step + 100 * max(0, more)
+    # of all whole frames those from which the run is the least late or early
+    steps = step + 100 * max(0, round((distance / interval - step) / 100))
     late = distance - steps * interval
     if abs(late) <= clock.slack(steps):
         return steps, late, 0 if steps == 1 else 0.3 if abs(late) <= clock.least_late(steps) else BARELY
     if late < 0:
-        return steps, late, 6
+        return steps, late, EARLY
     return steps, late, 3 + (steps > 1) + 0.5 * (late > 3.2 * interval)
 
 

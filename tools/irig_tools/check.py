@@ -1,0 +1,152 @@
+"""Looks at the frames that are fine before a script and after it: the script makes none worse.
+
+A frame that was fine stays as it is, unless its neighbours agree on another time. A frame that becomes fine has the
+time to which the frames next to it lead. What is moved agrees with what is before it.
+"""
+from __future__ import annotations
+
+import re
+from bisect import bisect_left
+from dataclasses import dataclass
+from itertools import combinations, compress, count
+from typing import Dict, Iterator, List, NamedTuple, Optional, Sequence, Tuple
+
+from .editor import Listing
+from .interval import distances
+from .layout import Layout
+from .moments import DAY, Calendar
+from .script import Repair
+
+MARKED = re.compile("P(?=P[01]{8}P(?:[01]{9}P){9})")
+REST = re.compile(r"[^,]+,\$ shift (-?\d+)$")
+NEAR = 0.2  # intervals: a marker that is moved by less is the same
+ON_CLOCK = 0.5  # intervals: by how much less than a whole number of frames apart are the frames of one clock
+DRIFT = 0.002  # the same for each interval between them
+APART = 30  # intervals: the same if there is a step between them
+
+
+@dataclass
+class Harm:
+    """A frame that a script makes worse, or a rest that it moves to where it does not belong."""
+
+    at: int  # its first microsecond in the repaired track
+    until: int
+    seen: str
+
+
+class Moved:
+    """Where a script moves what is at a time."""
+
+    def __init__(self, script: Sequence[Repair] = ()) -> None:
+        self.steps: List[Tuple[int, int, int]] = []  # from when on, by how much, and how long a part goes
+        for repair in script:
+            for move in filter(None, map(REST.match, repair.edits)):
+                self.steps.append((repair.at, int(move[1]), repair.removed[2]))
+
+    def time(self, at: int) -> Optional[int]:
+        """None if the script takes it out."""
+        for begin, by, gone in self.steps:
+            if begin <= at < begin + gone:
+                return None
+            at += by * (at >= begin)
+        return at
+
+
+class Frame(NamedTuple):
+    """A frame that is fine."""
+
+    at: int  # the rise of its marker
+    moment: int  # that it shows
+    text: str  # its classes
+
+
+class Frames:
+    """The frames of a listing that are fine, where a script moves them, in the order of time."""
+
+    def __init__(self, listing: Listing, layout: Layout, moved: Moved) -> None:
+        calendar, interval = Calendar(layout), layout.interval
+        apart = distances(listing.rises)
+        odd = {each for each in set(apart) if 10 * abs(each - interval) > interval}
+        breaks = list(compress(count(1), map(odd.__contains__, apart)))
+        found: Dict[int, Frame] = {}
+        for match in MARKED.finditer(listing.classes):
+            marker = match.start() + 1
+            text, broken = listing.classes[marker:marker + 100], bisect_left(breaks, marker)
+            at, told = moved.time(listing.rises[marker]), layout.shown(text)
+            if at is not None and told and (broken == len(breaks) or breaks[broken] >= marker + 100):
+                found[at] = Frame(at, calendar.number(told), text)
+        self.all = [found[at] for at in sorted(found)]
+        self.times = sorted(found)
+
+    def near(self, at: int, within: float) -> Optional[Frame]:
+        """The frame whose marker is no farther from a time than that."""
+        place = bisect_left(self.times, at - within)
+        return self.all[place] if place < len(self.all) and self.times[place] <= at + within else None
+
+
+def around(frames: Sequence[Frame], at: int, many: int) -> List[Frame]:
+    """That many frames before a time, and after it."""
+    low, high = bisect_left(frames, (at,)), bisect_left(frames, (at + 1,))
+    return [*frames[max(0, low - many):low], *frames[high:high + many]]
+
+
+class Check:
+    """What a script does to the frames of a track; `steps` are the times at which those of the repaired track
+    step."""
+
+    def __init__(
+        self, layout: Layout, interval: float, steps: Sequence[int], listings: Tuple[Listing, Listing], moved: Moved
+    ) -> None:
+        self.layout, self.interval, self.steps, self.moved = layout, interval, sorted(steps), moved
+        self.old, self.new = Frames(listings[0], layout, moved), Frames(listings[1], layout, Moved())
+        self.with_year = layout.with_year
+        self.kept = [frame for frame in self.old.all if self._stays(frame)]
+
+    def harms(self) -> Iterator[Harm]:
+        kept = set(self.kept)
+        for frame in self.old.all:
+            if frame not in kept and self._is_trusted(frame):
+                yield self._harm(frame, "a frame that is fine would change")
+        for frame in self.new.all:
+            if self.old.near(frame.at, 0) != frame and not self._is_led_to(frame):
+                yield self._harm(frame, "a frame would get a time that the frames around it do not lead to")
+        for begin, _, _ in self.moved.steps:
+            near = around(self.kept, self.moved.time(begin) or begin, 1)
+            if len(near) == 2 and not self._agree(*near):
+                yield Harm(begin, begin, "the frames before and after it would not follow each other")
+
+    def _harm(self, frame: Frame, seen: str) -> Harm:
+        return Harm(frame.at - round(self.interval), frame.at + round(100 * self.interval), seen)
+
+    def _stays(self, frame: Frame) -> bool:
+        """Whether it is there after the script, but for control functions that are said to be steady."""
+        new = self.new.near(frame.at, NEAR * self.interval)
+        free = self.layout.control if self.layout.steady else ()
+        return new is not None and all(
+            a == b or element in free for element, (a, b) in enumerate(zip(frame.text, new.text))
+        )
+
+    def _is_trusted(self, frame: Frame) -> bool:
+        """Whether it has the time of a frame next to it, or those next to it do not agree on another one."""
+        near = around(self.old.all, frame.at, 2)
+        if not near or any(self._agree(frame, each) for each in near):
+            return True
+        return not any(self._agree(*pair) for pair in combinations(near, 2))
+
+    def _is_led_to(self, frame: Frame) -> bool:
+        """Whether a frame that becomes fine has the time to which those that stay lead."""
+        near = around(self.kept, frame.at, 1)
+        if not near:
+            return any(self._agree(frame, each) for each in around(self.new.all, frame.at, 1))
+        said = [self._agree(frame, each) for each in near]
+        return all(said) or (any(said) and not self._agree(near[0], near[-1]))
+
+    def _agree(self, one: Frame, other: Frame) -> bool:
+        """Whether two frames are as far apart as their times say."""
+        low, high = sorted((one, other))
+        elements = (high.at - low.at) / self.interval
+        apart = high.moment - low.moment
+        stepped = bisect_left(self.steps, low.at) != bisect_left(self.steps, high.at)
+        most = APART if stepped else min(APART, ON_CLOCK + DRIFT * elements)
+        years = (0,) if self.with_year else (0, 365 * DAY, 366 * DAY)
+        return any(abs(elements - 100 * (apart + year) / self.layout.period) <= most for year in years)

@@ -1,0 +1,126 @@
+"""Where the time code steps against the clock of the recording. Nothing there says whether the recorder slipped
+with all its wires or the time code alone, so both sides are looked at on their own clocks, and no time is moved."""
+from __future__ import annotations
+
+from dataclasses import replace
+from typing import Iterator, List
+
+from .copies import copy_between, without_copy
+from .faults import Faults, Remark
+from .frames import Times
+from .interval import Run
+from .track import Track
+from .zones import Zone
+
+LEAST_COPY = 10  # elements; fewer are alike by chance
+RECORDER = "that is left: if the recorder slipped, all its wires did, and these times are right"
+ALONE = "; if the time code alone slipped, irig_mend --move moves it, or after this script "
+
+
+class Step:
+    """What is between two stretches of runs, each of which is on one clock."""
+
+    def __init__(self, track: Track, times: Times, zone: Zone, left: List[Run], right: List[Run]) -> None:
+        self.track, self.zone = track, zone
+        assert self.zone.border is not None
+        self.pulse = self.zone.border  # the first one after the step, from 0
+        self.at = track.rises[self.pulse]
+        frames = times.frames_between(left, right)
+        self.known = frames is not None  # whether the times on both sides say how many frames passed
+        self.elements = right[0].step + 100 * (frames or 0)  # from the last pulse before to the first after
+        self.late = round(right[0].begin - left[-1].end - self.elements * self.zone.interval)
+        copy = copy_between(track, times, left, right) if self.late > LEAST_COPY * self.zone.interval else None
+        self.copy = without_copy(track, *copy) if copy and self._is_dense() else None
+
+    def remark(self, right: Faults) -> Remark:
+        """What is said of it; `right` is what comes after it."""
+        if self.copy:
+            seen = self.copy.comments[0].partition("; ")[0]
+            return Remark(self.copy.at, seen, _choice(self.copy.edits))
+        missing = self._missing()
+        if missing:
+            return Remark(self.at, missing, _choice(self._edits()))
+        place = right.track.first - round((right.track.rise_at(right.track.first) - self.at) / self.zone.interval)
+        return Remark(self.at, self._moved(), _choice(self._edits()), right.name(place))
+
+    def _missing(self) -> str:
+        """How many elements are missing if a pulse follows the other; else nothing."""
+        if not self.zone.glued or not self._is_dense() or (self.known and self.late > 0):
+            return ""
+        if self.known:
+            many = "%d elements are missing by the times of the frames" % (self.elements - self.zone.straight())
+        else:
+            many = "%d elements are missing, not counting whole frames" % (self.zone.skipped() % 100)
+        return many + ", and the rest follows at once"
+
+    def _moved(self) -> str:
+        """By how much the rest comes late or early."""
+        way = "late" if self.late > 0 else "early"
+        seen = "from pulse %d at %d on all comes %d %s" % (self.pulse + 1, self.at, abs(self.late), way)
+        if self.elements > 1 and not self._is_dense():
+            seen += ", and %d elements before it are missing or damaged" % (self.elements - 1)
+        return seen if self.known else seen + ", not counting whole frames"
+
+    def _is_dense(self) -> bool:
+        """Whether there is a pulse for each interval between the two sides."""
+        assert self.zone.left and self.zone.right
+        return self.zone.right.first - self.zone.left.last == max(1, self.zone.straight())
+
+    def _edits(self) -> List[str]:
+        """The lines that move the rest back; none if it does not fit the recording."""
+        if self.late < 0 and self.track.falls[-1] - self.late > self.track.listing.length:
+            return []
+        return ["mark z %d" % self.at, "'z,$ shift %d" % -self.late, "unmark z"]
+
+
+def _choice(edits: List[str]) -> str:
+    """Both ways to see it, and the lines of the second; none if there is no room."""
+    return RECORDER + (ALONE + "; ".join(edits) if edits else "")
+
+
+def step_zones(track: Track) -> List[Zone]:
+    """What lies between two runs that are not on one clock."""
+    return [zone for zone in track.zones if zone.left and zone.right and (zone.glued or abs(zone.late) > 0.5)]
+
+
+def stretches(track: Track, steps: List[Zone]) -> List[List[Run]]:
+    """The runs, parted at each step."""
+    firsts, found = {id(zone.right) for zone in steps}, [[track.runs[0]]]
+    for run in track.runs[1:]:
+        if id(run) in firsts:
+            found.append([])
+        found[-1].append(run)
+    return found
+
+
+def apart(track: Track, steps: List[Zone]) -> List[List[Run]]:
+    """The same, each as runs of its own, without the pulses that may be of either side."""
+    found = [[replace(run) for run in runs] for runs in stretches(track, steps)]
+    for zone, left, right in zip(steps, found, found[1:]):
+        _trim(track, left[-1], 0, zone.tail)
+        _trim(track, right[0], zone.head, 0)
+        left[-1].ends += "]"
+        right[0].glued, right[0].late, right[0].ends = False, 0, right[0].ends + "["
+    return found
+
+
+def _trim(track: Track, run: Run, head: int, tail: int) -> None:
+    """Leaves out that many pulses of a run, but one stays."""
+    head, tail = min(head, run.count - 1), min(tail, run.count - 1)
+    run.first, run.last, run.place = run.first + head, run.last - tail, run.place + head
+    if head or tail:
+        track.clock.fit(run, track.rises)
+
+
+def cut(track: Track) -> Iterator[int]:
+    """The frames of a stretch that a step cuts."""
+    if "[" in track.runs[0].ends and track.first % 100:
+        yield track.first // 100
+    if "]" in track.runs[-1].ends and track.last % 100 != 99:
+        yield track.last // 100
+
+
+def turned(times: Times) -> Iterator[int]:
+    """The frames from which, or to which, the times of a stretch go on elsewhere."""
+    for before, after in zip(times.spans, times.spans[1:]):
+        yield from range(before.last, after.first + 1)
