@@ -1,5 +1,5 @@
 use Rattle.std.proofs.Common.{◌≡◌, ◌≤◌, ◌++◌, ◌+◌, ◌∙◌, false, inl, List, Option, Some, ℕ, length, take, drop, ap, sym, subst}
-use Rattle.irig_vcd.specs.Answer.{IsFaultOf, bytes_of}
+use Rattle.irig_vcd.specs.Answer.{IsFaultOf}
 use Rattle.irig_vcd.specs.Code.DumpReader.{HasRead, HasReadWords, Stage, StopsAt}
 use Rattle.irig_vcd.specs.Code.Gathered.{gathered, so_far}
 use Rattle.irig_vcd.specs.Code.Joins.{ends_inside}
