@@ -5,7 +5,7 @@ use Rattle.std.specs.Borrow.{Bor}
 use Rattle.irig_saved.specs.Lines.{line, numbered}
 use Rattle.irig_codes.specs.declared.format.Kind.{Kind}
 use Rattle.irig_saved.specs.Ranges.{IsNumber}
-use Rattle.irig_saved.specs.Values.{words_of_format}
+use Rattle.irig_saved.specs.Values.{AreThree, words_of_format, words_of_three}
 
 -- the first line is read, with what is after it; else the text begins with no such line
 abbrev pub FirstLine : {X : Type 0} → (X → Type 0) → (X → List ℕ) → List ℕ
@@ -35,6 +35,14 @@ Leads x [] text rest = text ≡ rest
 Leads x (None ∷ ms) text rest = LacksMark x text × Leads (x + 1) ms text rest
 Leads x (Some t ∷ ms) text rest = IsNumber t
     × ((mid : List ℕ) × (text ≡ mark_line x t ++ 10 ∷ mid) × Leads (x + 1) ms mid rest)
+
+-- the text begins with the first line of a splice, and it puts pulses
+pub record BeginsSplice (text : List ℕ) : Type 0 where
+  pub three : ℕ × ℕ × ℕ
+  pub numbers : AreThree three
+  pub some : 0 < three.2
+  pub more : List ℕ
+  pub same : text ≡ line (codes "splice") (words_of_three three) ++ 10 ∷ more
 
 -- the text begins with the first line of a step
 pub record BeginsStep (text : List ℕ) : Type 0 where

@@ -8,7 +8,8 @@ ghost use Rattle.irig_saved.specs.SavedText.{pulse_lines, single_lines, singles_
 ghost use Rattle.irig_saved.specs.SavedText.{change_lines, step_lines, steps_lines, counted_lines};
 ghost use Rattle.irig_saved.specs.SavedText.{mark_lines};
 ghost use Rattle.irig_saved.specs.Reading.{Any, Parses, IsWordy};
-ghost use Rattle.irig_saved.specs.Leading.{BeginsSome, BeginsStep, BeginsSteps, Leads};
+ghost use Rattle.irig_saved.specs.Leading.{BeginsSome, BeginsSplice, BeginsStep, BeginsSteps};
+ghost use Rattle.irig_saved.specs.Leading.{Leads};
 
 use crate::change::Change;
 use crate::cut::line_of;
@@ -24,7 +25,7 @@ use std::alloc::Global;
 
 /// This many lines of pulses.
 pub fn pulses(alloc: Global, count: u64, text: &[u8]) -> Result<(Pulses, &[u8]), Stop<'_>>
-    ensures { Parses (ArePulses count) pulse_lines Any text.now result }
+    ensures { Parses (ArePulses count) pulse_lines (λ _. 0 < count) text.now result }
 {
     let mut pulses = Pulses::new(alloc);
     let mut rest = text;
@@ -43,9 +44,9 @@ pub fn pulses(alloc: Global, count: u64, text: &[u8]) -> Result<(Pulses, &[u8]),
     Ok((pulses, rest))
 }
 
-/// One change.
+/// One change. Only the pulses of a splice take memory.
 pub fn single(alloc: Global, text: &[u8]) -> Result<(Single, &[u8]), Stop<'_>>
-    ensures { Parses IsSingle single_lines Any text.now result }
+    ensures { Parses IsSingle single_lines BeginsSplice text.now result }
 {
     let Some((line, next)) = line_of(text) else {
         return Err(Stop::At(text));

@@ -1,10 +1,12 @@
 -- A dump that comes in parts: what is read of its words, part by part.
 use Rattle.std.proofs.Common.{◌≡◌, ◌⊎◌, ◌++◌, ◌+◌, [], ℕ, false, List, Option, Some, None, Result, Ok, Err, IfErr, OnOk, length, take, refl, ap, inl, inr}
-use Rattle.std.proofs.Common.{◌∙◌, sym, subst, append_assoc, drop, ◌≤◌, arith, length-append, ◌≢◌}
+use Rattle.std.proofs.Common.{◌∙◌, sym, subst, append_assoc, drop, ◌≤◌, ◌<◌, arith, length-append}
+use Rattle.std.specs.Prelude.{vec_capacity, vec_len}
+use Rattle.std.specs.Global.{Vec}
 use Rattle.std.proofs.lemmas.List.{length-take-le, take-append-drop}
 use Rattle.irig_vcd.specs.Answer.{◌>>=◌, IsFaultOf, bytes_of, pair_of}
 use Rattle.irig_vcd.specs.Code.DumpReader.{HasRead, HasReadWords, ScansTo, Stage, StopsAt, StopsIn}
-use Rattle.irig_vcd.specs.Code.Gathered.{gathered, part_at, so_far}
+use Rattle.irig_vcd.specs.Code.Gathered.{bytes_at, gathered, part_at, so_far}
 use Rattle.irig_vcd.specs.Code.Joins.{ends_inside}
 use Rattle.irig_vcd.specs.Code.Journals.{place_view}
 use Rattle.irig_vcd.specs.Code.NextPart.{TakesMemory}
@@ -153,11 +155,11 @@ stops_dump wire bytes words more e is h =
     no_dump wire bytes e (fails_now e (dump wire bytes) (dump_scanned wire bytes h.0 h.1 _ all
     ∙ ap (λ r. r >>= λ x. recorded x.0 x.1) (ends_so h.0 _ e (more_stops h.1 h.0 h.2 more e h.4))))
 
-pub stops_at : (known : Option ℕ) (wire : Option (List ℕ)) (bytes : List ℕ) (words more : List Word) (e : VcdFault) → words_of bytes ≡ words ++ more
-    → StopsAt known wire words e → IsFaultOf e (dump_parts wire bytes)
-stops_at (Some unit) wire bytes words more e is h = stops_dump wire bytes words more e is h
-stops_at None wire bytes words more e is (inl h) = stops_dump wire bytes words more e is h
-stops_at None wire bytes words more e is (inr h) = rw h.0 tt
+pub stops_at : (known : Option ℕ) (kept : Vec ℕ) (wire : Option (List ℕ)) (bytes : List ℕ) (words more : List Word) (e : VcdFault) → words_of bytes ≡ words ++ more
+    → StopsAt known kept wire words e → IsFaultOf e (dump_parts wire bytes)
+stops_at (Some unit) kept wire bytes words more e is h = stops_dump wire bytes words more e is h
+stops_at None kept wire bytes words more e is (inl h) = stops_dump wire bytes words more e is h
+stops_at None kept wire bytes words more e is (inr h) = rw h.0 tt
 
 -- the changes before the first fault, by the scan of the words
 pub before_scanned : (wire : Option (List ℕ)) (bytes : List ℕ) (unit : ℕ) (code : List ℕ) (end : Scan × Option VcdFault)
@@ -172,18 +174,19 @@ edge_dump wire bytes words more is h =
     subst HasEdge (sym (before_scanned wire bytes h.0 h.1 _ all)) (more_edges h.1 h.0 h.2 more h.4)
 
 -- memory for an edge or the code
-pub memory_at : (known : Option ℕ) (wire : Option (List ℕ)) (bytes front rest : List ℕ) (more : List Word) → bytes ≡ front ++ rest
-    → (ends_inside false front ≡ false) ⊎ (rest ≡ []) → words_of bytes ≡ words_of front ++ more → StopsAt known wire (words_of front) fault.OutOfMemory → TakesMemory wire known bytes
-memory_at (Some unit) wire bytes front rest more whole outside is h = inl (edge_dump wire bytes (words_of front) more is h)
-memory_at None wire bytes front rest more whole outside is (inl h) = inl (edge_dump wire bytes (words_of front) more is h)
-memory_at None wire bytes front rest more whole outside is (inr h) =
-    inr (record { front = front; rest = rest; whole = whole; outside = outside; unit = h.1; code = h.2; s = h.3; read = h.4; kept = inl refl })
+pub memory_at : (known : Option ℕ) (kept journal : Vec ℕ) (wire : Option (List ℕ)) (bytes front rest : List ℕ) (more : List Word) → bytes ≡ front ++ rest
+    → (ends_inside false front ≡ false) ⊎ (rest ≡ []) → words_of bytes ≡ words_of front ++ more
+    → StopsAt known kept wire (words_of front) fault.OutOfMemory → TakesMemory wire known kept journal bytes
+memory_at (Some unit) kept journal wire bytes front rest more whole outside is h = inl (edge_dump wire bytes (words_of front) more is h)
+memory_at None kept journal wire bytes front rest more whole outside is (inl h) = inl (edge_dump wire bytes (words_of front) more is h)
+memory_at None kept journal wire bytes front rest more whole outside is (inr h) =
+    inr (record { front = front; rest = rest; whole = whole; outside = outside; unit = h.1; code = h.2; s = h.3; read = h.5; full = inl (refl, h.4) })
 
 -- memory for a journal
-pub memory_journal : (known : Option ℕ) (wire : Option (List ℕ)) (bytes front rest : List ℕ) (unit top : ℕ) (code : List ℕ) (r : Reading)
-    → bytes ≡ front ++ rest → (ends_inside false front ≡ false) ⊎ (rest ≡ []) → HasReadWords wire (words_of front) unit code r → (so_far (place_view r.journals.first) r.pending top ≢ None)
-    → TakesMemory wire known bytes
-memory_journal known wire bytes front rest unit top code r whole outside h some = inr (record {
+pub memory_journal : (known : Option ℕ) (kept journal : Vec ℕ) (wire : Option (List ℕ)) (bytes front rest : List ℕ) (unit : ℕ) (code : List ℕ) (r : Reading)
+    → bytes ≡ front ++ rest → (ends_inside false front ≡ false) ⊎ (rest ≡ []) → HasReadWords wire (words_of front) unit code r
+    → vec_capacity journal < length (gathered r front) → TakesMemory wire known kept journal bytes
+memory_journal known kept journal wire bytes front rest unit code r whole outside h full = inr (record {
   front = front;
   rest = rest;
   whole = whole;
@@ -192,7 +195,8 @@ memory_journal known wire bytes front rest unit top code r whole outside h some 
   code = code;
   s = h.0;
   read = h.1;
-  kept = inr (top, λ none. some (so_far_is h.0 r.journals r.pending top h.2.keeps ∙ none));
+  full = inr (subst (λ (p : Option (ℕ × ℕ)). vec_capacity journal < length (bytes_at p front))
+      (so_far_is h.0 r.journals r.pending (length front) h.2.keeps) full);
 })
 
 -- the bytes that are read with the next part, and those that are left
@@ -228,6 +232,27 @@ gathers_same old mid place n held gone journal =
     ∙ (ap (λ k. old.journal.items ++ part_at (place (k + n)) k (take n mid.held.items)) gone
     ∙ ap (λ v. old.journal.items ++ part_at (place (old.gone + n)) old.gone (take n v.items)) held)
 
+-- so they have no room, if the journal with them has none
+pub no_room : (old mid : Progress) (place : ℕ → Option (ℕ × ℕ)) (n : ℕ) (all : List ℕ) → mid.held ≡ old.held → mid.gone ≡ old.gone
+    → mid.journal ≡ old.journal → old.journal.items ++ part_at (place (old.gone + n)) old.gone (take n old.held.items) ≡ all
+    → vec_capacity mid.journal < vec_len mid.journal + length (part_at (place (mid.gone + n)) mid.gone (take n mid.held.items))
+    → vec_capacity old.journal < length all
+no_room old mid place n all held gone journal is full =
+    let same = ap length (gathers_same old mid place n held gone journal ∙ is) in
+    let sum = length-append mid.journal.items (part_at (place (mid.gone + n)) mid.gone (take n mid.held.items)) in
+    omega (arith, same, sum, ap vec_capacity journal, full, mid.journal.ok.0)
+
+-- with them the journal so far is gathered
+pub gathers_next : (wire : Option (List ℕ)) (bytes : List ℕ) (s : Progress) (n unit : ℕ) (code : List ℕ) (new : Reading) → n ≤ length s.held.items
+    → (r : HasRead wire bytes s) → HasReadWords wire (words_of r.front ++ words_from s.gone false (take n s.held.items)) unit code new
+    → s.journal.items ++ part_at (so_far (place_view new.journals.first) new.pending (s.gone + n)) s.gone (take n s.held.items)
+    ≡ gathered new (r.front ++ take n s.held.items)
+gathers_next wire bytes s n unit code new within r h =
+    let part = take n s.held.items in
+    let long : length part ≡ n = length-take-le n s.held.items within in
+    ap (λ (l : List ℕ). l ++ part_at (so_far (place_view new.journals.first) new.pending (s.gone + n)) s.gone part) r.journal
+    ∙ more_gathered wire r.front part s.unit s.code.items code unit s.gone (s.gone + n) s.reading new r.place (omega (arith, long)) r.stage r.none h
+
 -- held bytes are read
 pub put_read : (wire : Option (List ℕ)) (bytes : List ℕ) (old mid new : Progress) (n unit : ℕ)
     → n ≤ length old.held.items → ends_inside false (take n old.held.items) ≡ false
@@ -261,14 +286,10 @@ put_read wire bytes old mid new n unit within cut mheld mgone mwire nheld ngone 
           (subst (λ (l : List Word). HasReadWords (bytes_of old.wire) l unit mid.code.items mid.reading) (sym words) got));
       none = λ no. let both : Some unit ≡ None = sym some ∙ no in absurd (cc both);
       journal =
-          let long : length (take n held) ≡ n = length-take-le n held within in
           let words = words_of r.front ++ words_from old.gone false (take n held) in
-          let more = more_gathered wire r.front (take n held) old.unit old.code.items mid.code.items unit old.gone (old.gone + n) old.reading mid.reading
-          r.place (omega (arith, long)) r.stage r.none
+          let more = gathers_next wire bytes old n unit mid.code.items mid.reading within r
           (subst (λ (w : Option (List ℕ)). HasReadWords w words unit mid.code.items mid.reading) r.name got) in
-          let there = njournal ∙ (ap (λ (l : List ℕ). l ++ part_at (so_far (place_view mid.reading.journals.first) mid.reading.pending (old.gone + n)) old.gone
-          (take n held)) r.journal ∙ more) in
-          rw nreading there;
+          rw nreading (njournal ∙ more);
     }
 
 -- what the dump is, after all words are read
@@ -297,12 +318,12 @@ all_words wire bytes s whole all h r =
 
 pub last_fault : (wire : Option (List ℕ)) (bytes : List ℕ) (s : Progress) (whole : ℕ) (e : VcdFault) → take whole s.held.items ≡ s.held.items
     → ((words : List Word) → Stage (bytes_of s.wire) words s.unit s.code.items s.reading → (s.unit ≡ None → s.gone ≡ 0)
-    → StopsAt s.unit (bytes_of s.wire) (words ++ words_from s.gone false (take whole s.held.items)) e)
-    → HasRead wire bytes s → StopsAt s.unit wire (words_of bytes) e
+    → StopsAt s.unit s.code (bytes_of s.wire) (words ++ words_from s.gone false (take whole s.held.items)) e)
+    → HasRead wire bytes s → StopsAt s.unit s.code wire (words_of bytes) e
 last_fault wire bytes s whole e all fails r =
     let stage = subst (λ (w : Option (List ℕ)). Stage w (words_of r.front) s.unit s.code.items s.reading) (sym r.name) r.stage in
-    subst (λ (w : Option (List ℕ)). StopsAt s.unit w (words_of bytes) e) r.name
-    (subst (λ (l : List Word). StopsAt s.unit (bytes_of s.wire) l e) (sym (all_words wire bytes s whole all r r)) (fails (words_of r.front) stage r.none))
+    subst (λ (w : Option (List ℕ)). StopsAt s.unit s.code w (words_of bytes) e) r.name
+    (subst (λ (l : List Word). StopsAt s.unit s.code (bytes_of s.wire) l e) (sym (all_words wire bytes s whole all r r)) (fails (words_of r.front) stage r.none))
 
 pub last_read : (wire : Option (List ℕ)) (bytes : List ℕ) (s : Progress) (whole unit : ℕ) (code : List ℕ) (reading : Reading)
     → take whole s.held.items ≡ s.held.items

@@ -80,8 +80,9 @@ impl DumpReader {
     }
 
     /// Reads the next part of the dump, or holds it until there is enough to read. A fault is one
-    /// of the dump, whatever comes after the part. Memory runs out only for the bytes that are held, for an
-    /// edge before the first fault, and, if there is no fault so far, for the code and a journal.
+    /// of the dump, whatever comes after the part. Memory runs out only for the bytes that are held,
+    /// for an edge before the first fault, and, if there is no fault so far, for the code and a
+    /// journal.
     pub fn put(self, part: &[u8]) -> Result<DumpReader, VcdFault>
         requires short { bytes_read self + length part.now ≤ 2 ^ 48 }
         ensures read { IfOk result (λ r. (wire : Option (List ℕ)) (bytes : List ℕ)
@@ -93,7 +94,7 @@ impl DumpReader {
         ensures memory { result ≡ Err OutOfMemory
             → (wire : Option (List ℕ)) (bytes : List ℕ) → HasRead wire bytes self
             → (vec_capacity self.held < vec_len self.held + length part.now)
-            ⊎ TakesMemory wire self.unit (bytes ++ part.now) }
+            ⊎ TakesMemory wire self.unit self.code self.journal (bytes ++ part.now) }
         ensures enough { IfOk result (HasReadEnough self.wanted) }
     {
         let mut progress = self.progress;
@@ -117,7 +118,7 @@ impl DumpReader {
             (λ x. IfSome x.1 (λ journal. vec_len journal ≤ bytes_read self)) }
         ensures memory { result ≡ Err OutOfMemory
             → (wire : Option (List ℕ)) (bytes : List ℕ) → HasRead wire bytes self
-            → TakesMemory wire self.unit bytes }
+            → TakesMemory wire self.unit self.code self.journal bytes }
     {
         let mut progress = self.progress;
         match read_rest(&mut progress) {
@@ -142,7 +143,8 @@ fn put_part(progress: &mut Progress, part: &[u8]) -> Result<(), VcdFault>
     ensures memory { result ≡ Err OutOfMemory
         → (wire : Option (List ℕ)) (bytes : List ℕ) → HasRead wire bytes progress.old
         → (vec_capacity progress.old.held < vec_len progress.old.held + length part.now)
-        ⊎ TakesMemory wire progress.old.unit (bytes ++ part.now) }
+        ⊎ TakesMemory wire progress.old.unit progress.old.code progress.old.journal
+        (bytes ++ part.now) }
     ensures enough { OnOk result (HasReadEnough progress.old.wanted progress.new) }
 {
     progress.held.extend_from_slice(part)?;
@@ -166,7 +168,7 @@ fn read_held(progress: &mut Progress) -> Result<(), VcdFault>
         → HasRead wire bytes progress.old → IsFaultOf e (dump_parts wire (bytes ++ more))) }
     ensures memory { result ≡ Err OutOfMemory
         → (wire : Option (List ℕ)) (bytes : List ℕ) → HasRead wire bytes progress.old
-        → TakesMemory wire progress.old.unit bytes }
+        → TakesMemory wire progress.old.unit progress.old.code progress.old.journal bytes }
 {
     let whole = whole_len(progress.held.as_slice());
     match progress.read_to(whole) {
@@ -200,7 +202,7 @@ fn read_rest(progress: &mut Progress) -> Result<Unit, VcdFault>
     ensures within { OnOk result (vec_len progress.new.journal ≤ bytes_read progress.old) }
     ensures memory { result ≡ Err OutOfMemory
         → (wire : Option (List ℕ)) (bytes : List ℕ) → HasRead wire bytes progress.old
-        → TakesMemory wire progress.old.unit bytes }
+        → TakesMemory wire progress.old.unit progress.old.code progress.old.journal bytes }
 {
     let all = progress.held.len();
     match progress.read_to(all) {

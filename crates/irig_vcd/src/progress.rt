@@ -1,8 +1,8 @@
 //! How far a dump that comes in parts is read.
 
-ghost use Rattle.std.specs.Prelude.{◌≡◌, ◌≢◌, ◌≤◌, ◌+◌, ◌*◌, ◌++◌, ◌^◌, [], ℕ, List, Option, Some};
+ghost use Rattle.std.specs.Prelude.{◌≡◌, ◌≤◌, ◌<◌, ◌+◌, ◌*◌, ◌++◌, ◌^◌, [], ℕ, List, Option, Some};
 ghost use Rattle.std.specs.Prelude.{None, Ok, Err, IfOk, IfErr, OnErr, OnOk, false};
-ghost use Rattle.std.specs.Prelude.{length, take, drop, vec_len};
+ghost use Rattle.std.specs.Prelude.{length, take, drop, vec_capacity, vec_len};
 ghost use Rattle.irig_vcd.specs.Answer.{bytes_of, name_of};
 ghost use Rattle.irig_vcd.specs.Code.DumpReader.{HasReadWords, IsNew, IsReady, Stage, StopsAt};
 ghost use Rattle.irig_vcd.specs.Code.DumpReader.{StopsIn};
@@ -65,7 +65,7 @@ impl Progress {
         ensures fault { IfErr result (λ e. (words : List Word)
             → Stage (bytes_of self.old.wire) words self.old.unit self.old.code.items
             self.old.reading → (self.old.unit ≡ None → self.old.gone ≡ 0)
-            → StopsAt self.old.unit (bytes_of self.old.wire)
+            → StopsAt self.old.unit self.old.code (bytes_of self.old.wire)
             (words ++ words_from self.old.gone false (take whole self.old.held.items)) e) }
     {
         match self.unit {
@@ -100,8 +100,10 @@ impl Progress {
             ++ part_at (so_far (place_view self.old.reading.journals.first)
             self.old.reading.pending (self.old.gone + whole)) self.old.gone
             (take whole self.old.held.items)) }
-        ensures memory { OnErr result (so_far (place_view self.old.reading.journals.first)
-            self.old.reading.pending (self.old.gone + whole) ≢ None) }
+        ensures full { OnErr result (vec_capacity self.old.journal < vec_len self.old.journal
+            + length (part_at (so_far (place_view self.old.reading.journals.first)
+            self.old.reading.pending (self.old.gone + whole)) self.old.gone
+            (take whole self.old.held.items))) }
         ensures within { OnOk result (vec_len self.new.journal ≤ vec_len self.old.journal + whole) }
         ensures rest { (self.new.wire ≡ self.old.wire) × (self.new.unit ≡ self.old.unit)
             × (self.new.code ≡ self.old.code) × (self.new.reading ≡ self.old.reading)
@@ -182,7 +184,7 @@ fn begin(
         → declarations_of (name_of wire.entry) (words_of part.now) ≡ Err e
         → result ≡ Ok (Err e) }
     ensures fault { IfErr result (λ e. IsNew reading.old
-        → StopsAt None (name_of wire.entry) (words_of part.now) e) }
+        → StopsAt None code.old (name_of wire.entry) (words_of part.now) e) }
 {
     let mut tokens = Tokens::new(part);
     match declarations(&mut tokens, wire) {

@@ -6,6 +6,8 @@ use Rattle.std.specs.List.{AllByRecursion}
 use Rattle.irig_codes.specs.Format.{is_permitted}
 use Rattle.irig_saved.specs.declared.saved.Saved.{Saved}
 use Rattle.irig_recording.specs.Recording.{RecordingView}
+use Rattle.irig_recording.specs.declared.pulse.Pulse.{Pulse}
+use Rattle.irig_track.specs.Edges.{edges_of}
 use Rattle.irig_edit.specs.Changes.Laws.Edges.{pulses_of-edges_of}
 use Rattle.irig_edit.specs.Opened.Opened.{head_fault, mark_beyond, state_of}
 use Rattle.irig_edit.specs.Changes.Single.{pulses_of}
@@ -26,6 +28,19 @@ unless_is false x y is = let bad : false ≡ true = is in cc
 
 lt_no : {X : Type 0} (m n : ℕ) (x y : X) → n ≤ m → (if nat_lt m n then x else y) ≡ y
 lt_no m n x y more = let past : nat_lt m n ≡ false = grind (arith, nat_tests) in rw past refl
+
+-- as many pulses as their edges make
+pub pulses_count : (ps : List Pulse) (edges : List ℕ) → edges_of ps ≡ edges → length ps ≡ length (pulses_of edges)
+pulses_count ps edges is = ap length (sym (pulses_of-edges_of ps)) ∙ ap (λ (xs : List ℕ). length (pulses_of xs)) is
+
+-- marks of a head that is right
+pub head_within : (s : State) (saved : Saved) → head_fault s saved ≡ None → mark_beyond s.micros 4 saved.marks ≡ None
+head_within s saved none =
+    by (is_permitted saved.kind saved.expression) (nat_lt (length s.pulses) saved.cursor) (mark_beyond s.micros 4 saved.marks) none where
+      by : (permitted past : Bool) (m : Option ℕ) → (if not permitted then Some 2 else if past then Some 3 else m) ≡ None → m ≡ None
+      by false past m none = absurd (cc)
+      by true true m none = absurd (cc)
+      by true false m none = none
 
 -- and then the marks
 pub head_marks : (s : State) (saved : Saved) → IsTrue (is_permitted saved.kind saved.expression) → saved.cursor ≤ length s.pulses

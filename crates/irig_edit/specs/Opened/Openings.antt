@@ -1,6 +1,6 @@
 -- What the opening of a dump answers. This project's own.
-use Rattle.std.specs.Prelude.{◌≡◌, ◌⊎◌, ℕ, List, Option, Some, None, Result, Ok, Err, IsTrue}
-use Rattle.irig_codes.specs.Format.{FormatView, is_permitted}
+use Rattle.std.specs.Prelude.{◌≡◌, ◌⊎◌, ℕ, List, Option, Some, None, Result, Ok, Err}
+use Rattle.irig_codes.specs.Format.{FormatView}
 use Rattle.irig_saved.specs.Faults.{IsFault, ReachesSteps}
 use Rattle.irig_saved.specs.Ranges.{IsSaved}
 use Rattle.irig_saved.specs.SavedText.{journal_text}
@@ -11,7 +11,7 @@ use Rattle.irig_recording.specs.Recording.{RecordingView}
 use Rattle.irig_vcd.specs.declared.fault.VcdFault.{VcdFault}
 use Rattle.irig_vcd.specs.declared.fault.VcdFault.TheVariants.{BadJournal, OutOfMemory}
 use Rattle.irig_edit.specs.Session.Machine.{NoMarks}
-use Rattle.irig_edit.specs.Opened.Opened.{IsAccepted, IsLineAtFault, state_of}
+use Rattle.irig_edit.specs.Opened.Opened.{IsAccepted, IsLineAtFault, head_fault, state_of}
 use Rattle.irig_edit.specs.Session.Session.{SessionView, started}
 use Rattle.irig_edit.specs.State.State.{recording_of}
 
@@ -63,11 +63,10 @@ IsUnopened wire bytes fault =
     (dump_parts wire bytes ≡ Ok (r, Some text)) × IsBad (IsJournalFault r text) fault)))
 
 -- what a dump says can be read, so memory may run out after it: for the session; if it carries a
--- journal, only if its text reaches the steps, or is whole and names a permitted format
+-- journal, only for the lines of its steps, or if no line above its steps is at fault
 abbrev pub MayBeShort : Result (RecordingView × Option (List ℕ)) VcdFault → Type 0
 MayBeShort (Err e) = ⊥
 MayBeShort (Ok (r, None)) = Unit {0}
 MayBeShort (Ok (r, Some text)) =
     ReachesSteps text
-    ⊎ ((saved : Saved) × IsTextOf text saved
-    × IsTrue (is_permitted saved.kind saved.expression))
+    ⊎ ((saved : Saved) × IsTextOf text saved × (head_fault (state_of r saved) saved ≡ None))

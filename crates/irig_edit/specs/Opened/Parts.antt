@@ -1,11 +1,11 @@
 -- A session of what a dump says, part by part. This project's own.
-use Rattle.std.specs.Prelude.{ℕ, List, Option, Some, None, IsTrue}
-use Rattle.irig_codes.specs.Format.{FormatView, is_permitted}
+use Rattle.std.specs.Prelude.{◌≡◌, ℕ, List, Option, Some, None}
+use Rattle.irig_codes.specs.Format.{FormatView}
 use Rattle.irig_saved.specs.Faults.{IsFault}
 use Rattle.irig_saved.specs.declared.saved.Saved.{Saved}
 use Rattle.irig_recording.specs.Recording.{RecordingView}
 use Rattle.irig_vcd.specs.declared.fault.VcdFault.{VcdFault}
-use Rattle.irig_edit.specs.Opened.Opened.{IsAccepted, IsLineAtFault, state_of}
+use Rattle.irig_edit.specs.Opened.Opened.{IsAccepted, IsLineAtFault, head_fault, state_of}
 use Rattle.irig_edit.specs.Opened.Openings.{IsBad, IsStart, IsTextOf}
 use Rattle.irig_edit.specs.Session.Session.{SessionView}
 
@@ -30,7 +30,7 @@ abbrev pub HasNoSession : RecordingView → Option Saved → VcdFault → Type 0
 HasNoSession r None = IsBad (λ line. ⊥)
 HasNoSession r (Some saved) = IsBad (IsLineAtFault (state_of r saved) saved)
 
--- the journal names a permitted format, if there is one
-abbrev pub IsPermitted : Option Saved → Type 0
-IsPermitted None = Unit {0}
-IsPermitted (Some saved) = IsTrue (is_permitted saved.kind saved.expression)
+-- no line above the steps of the journal is at fault, if there is one
+abbrev pub HasHead : RecordingView → Option Saved → Type 0
+HasHead r None = Unit {0}
+HasHead r (Some saved) = head_fault (state_of r saved) saved ≡ None

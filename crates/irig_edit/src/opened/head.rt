@@ -1,13 +1,13 @@
 //! What a saved journal says above its steps: format, cursor and marks.
 
-ghost use Rattle.std.specs.Prelude.{◌≡◌, ◌+◌, ◌≤◌, Err, IfOk, IfErr, IsTrue, MatchResult, None};
+ghost use Rattle.std.specs.Prelude.{◌≡◌, ◌+◌, ◌≤◌, Err, IfOk, IfErr, MatchResult, None};
 ghost use Rattle.std.specs.Prelude.{Some, [], length};
-ghost use Rattle.irig_codes.specs.Format.{is_permitted};
 ghost use Rattle.irig_saved.specs.SavedText.{mark_lines};
 ghost use Rattle.irig_vcd.specs.declared.fault.VcdFault.TheVariants.{OutOfMemory};
+ghost use Rattle.irig_edit.specs.Changes.Single.{pulses_of};
 ghost use Rattle.irig_edit.specs.Opened.Opened.{head_fault, mark_beyond, state_of};
 ghost use Rattle.irig_edit.specs.Opened.Openings.{IsBad};
-ghost use Rattle.irig_edit.specs.State.State.{recording_of, state};
+ghost use Rattle.irig_edit.specs.State.State.{state};
 ghost use Rattle.irig_edit.specs.Opened.Walk.{walk};
 
 use crate::opened::walk::Walk;
@@ -19,7 +19,7 @@ use irig_vcd::VcdFault;
 use std::alloc::Global;
 
 /// The state of a recording with format, cursor and marks of a journal, with no steps, and the
-/// number of the line after its marks.
+/// number of the line after its marks. Format, cursor and marks are judged before it takes memory.
 pub(crate) fn start(
     alloc: Global,
     recording: Recording,
@@ -33,77 +33,59 @@ pub(crate) fn start(
     ensures fault { IfErr result
         (IsBad (λ line. head_fault (state_of recording saved.now) saved.now ≡ Some line)) }
     ensures memory { result ≡ Err OutOfMemory
-        → IsTrue (is_permitted saved.now.kind saved.now.expression) }
+        → head_fault (state_of recording saved.now) saved.now ≡ None }
 {
-    let mut present = match opened(alloc, recording, saved) {
-        Ok(present) => present,
-        Err(fault) => return Err(fault),
+    let (format, line) = match head_of(&recording, saved) {
+        Ok(head) => head,
+        Err(line) => return Err(VcdFault::BadJournal(line)),
     };
-    match present.put_head(saved) {
-        Ok(line) => Ok((Walk::new(alloc, present, saved.cursor as usize), line)),
-        Err(line) => Err(VcdFault::BadJournal(line)),
+    match Present::open(alloc, recording, format) {
+        Ok(mut present) => {
+            present.put_marks(&saved.marks);
+            Ok((Walk::new(alloc, present, saved.cursor as usize), line))
+        }
+        Err(_) => Err(VcdFault::OutOfMemory),
     }
 }
 
-/// The state of a recording with the format of a journal.
-fn opened(alloc: Global, recording: Recording, saved: &Saved) -> Result<Present, VcdFault>
-    ensures opened { IfOk result (λ present. (recording_of present.state ≡ recording)
-        × ((present.state.format
-        ≡ record { kind = saved.now.kind; expression = saved.now.expression })
-        × IsTrue (is_permitted saved.now.kind saved.now.expression))) }
-    ensures fault { IfErr result
-        (IsBad (λ line. head_fault (state_of recording saved.now) saved.now ≡ Some line)) }
-    ensures memory { result ≡ Err OutOfMemory
-        → IsTrue (is_permitted saved.now.kind saved.now.expression) }
+/// The format of a journal, and the number of the line after its marks, from 1, if the format is
+/// permitted, the cursor within the pulses and no mark beyond the length. Else it is the number of
+/// the first line at fault.
+fn head_of(recording: &Recording, saved: &Saved) -> Result<(Format, usize), usize>
+    ensures { MatchResult result
+        (λ head. (head_fault (state_of recording.now saved.now) saved.now ≡ None)
+        × ((head.0 ≡ record { kind = saved.now.kind; expression = saved.now.expression })
+        × ((head.1 ≡ 4 + length (mark_lines 97 saved.now.marks))
+        × (saved.now.cursor ≤ length (state_of recording.now saved.now).pulses))))
+        (λ line. head_fault (state_of recording.now saved.now) saved.now ≡ Some line) }
 {
-    match Format::new(saved.kind, saved.expression) {
-        Ok(format) => match Present::open(alloc, recording, format) {
-            Ok(present) => Ok(present),
-            Err(_) => Err(VcdFault::OutOfMemory),
-        },
-        Err(_) => Err(VcdFault::BadJournal(2)),
+    let Ok(format) = Format::new(saved.kind, saved.expression) else {
+        return Err(2);
+    };
+    if saved.cursor > pulse_count(recording) as u64 {
+        return Err(3);
     }
+    match line_behind(&saved.marks, recording.length()) {
+        Ok(line) => Ok((format, line)),
+        Err(line) => Err(line),
+    }
+}
+
+/// How many pulses a recording has.
+fn pulse_count(recording: &Recording) -> usize
+    ensures { result ≡ length (pulses_of recording.now.edges) }
+{
+    recording.pulses().len()
 }
 
 impl Present {
-    /// Replaces all marks by those of a journal, if its cursor is within the pulses and no mark is
-    /// beyond the length: the answer is the number of the line after the marks, from 1. Else it is
-    /// the number of the first line at fault.
-    fn put_head(&mut self, saved: &Saved) -> Result<usize, usize>
-        requires permitted { IsTrue (is_permitted saved.now.kind saved.now.expression) }
-        ensures { MatchResult result
-            (λ line. (head_fault self.old.state saved.now ≡ None)
-            × ((line ≡ 4 + length (mark_lines 97 saved.now.marks))
-            × ((saved.now.cursor ≤ length self.old.state.pulses)
-            × (self.new.state ≡ state self.old.state.micros self.old.state.pulses
-            self.old.state.format saved.now.marks))))
-            (λ line. head_fault self.old.state saved.now ≡ Some line) }
+    /// Replaces all marks by these.
+    fn put_marks(&mut self, marks: &Marks)
+        requires { mark_beyond self.old.state.micros 4 marks.now ≡ None }
+        ensures { self.new.state
+            ≡ state self.old.state.micros self.old.state.pulses self.old.state.format marks.now }
     {
-        if saved.cursor > self.track().len() as u64 {
-            return Err(3);
-        }
-        match self.put_marks(&saved.marks) {
-            Ok(line) => Ok(line),
-            Err(line) => Err(line),
-        }
-    }
-
-    /// Replaces all marks by these, if none is beyond the length: the answer is the
-    /// number of the line after theirs, from 1, the first being line 4. Else it is the number of
-    /// the line of the first that is.
-    fn put_marks(&mut self, marks: &Marks) -> Result<usize, usize>
-        ensures { MatchResult result
-            (λ line. (mark_beyond self.old.state.micros 4 marks.now ≡ None)
-            × ((line ≡ 4 + length (mark_lines 97 marks.now)) × (self.new.state
-            ≡ state self.old.state.micros self.old.state.pulses self.old.state.format marks.now)))
-            (λ line. mark_beyond self.old.state.micros 4 marks.now ≡ Some line) }
-    {
-        let line = match line_behind(marks, self.track().length()) {
-            Ok(line) => line,
-            Err(line) => return Err(line),
-        };
         self.marks = *marks;
-        Ok(line)
     }
 }
 

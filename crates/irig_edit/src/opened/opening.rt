@@ -1,8 +1,7 @@
 //! A session is opened from a dump, with the journal that it carries.
 
-ghost use Rattle.std.specs.Prelude.{◌≡◌, ◌≤◌, ◌^◌, ℕ, List, Option, Ok, Err, IfOk, IfErr, IfSome};
-ghost use Rattle.std.specs.Prelude.{IsTrue, length};
-ghost use Rattle.irig_codes.specs.Format.{is_permitted};
+ghost use Rattle.std.specs.Prelude.{◌≡◌, ◌≤◌, ◌^◌, ◌⊎◌, ℕ, List, Option, Ok, Err, IfOk, IfErr, IfSome};
+ghost use Rattle.std.specs.Prelude.{None, length};
 ghost use Rattle.irig_saved.specs.Faults.{IsFault, ReachesSteps};
 ghost use Rattle.irig_saved.specs.SavedText.{saved_lines};
 ghost use Rattle.irig_vcd.specs.Answer.{bytes_of, name_of};
@@ -13,11 +12,11 @@ ghost use Rattle.irig_vcd.specs.Parts.{dump_parts};
 ghost use Rattle.irig_vcd.specs.Words.{words_of};
 ghost use Rattle.irig_vcd.specs.declared.fault.VcdFault.{VcdFault};
 ghost use Rattle.irig_vcd.specs.declared.fault.VcdFault.TheVariants.{OutOfMemory};
-ghost use Rattle.irig_edit.specs.Opened.Opened.{IsAccepted, IsLineAtFault, state_of};
+ghost use Rattle.irig_edit.specs.Opened.Opened.{IsAccepted, IsLineAtFault, head_fault, state_of};
 ghost use Rattle.irig_edit.specs.Opened.Openings.{ArePartsOf, IsBad, IsOpened, IsTextOf};
 ghost use Rattle.irig_edit.specs.Opened.Openings.{IsUnopened};
 ghost use Rattle.irig_edit.specs.Opened.Openings.{MayBeShort};
-ghost use Rattle.irig_edit.specs.Opened.Parts.{HasBadText, HasNoSession, IsJournalOf, IsPermitted};
+ghost use Rattle.irig_edit.specs.Opened.Parts.{HasBadText, HasHead, HasNoSession, IsJournalOf};
 ghost use Rattle.irig_edit.specs.Opened.Parts.{IsSessionOf};
 
 use crate::opened::head::start;
@@ -33,7 +32,8 @@ impl Session {
     /// in this format, as `open` does; else format, marks, cursor, past and future are those of the
     /// journal. The bytes are dropped before the session takes its memory.
     ///
-    /// A fault of the dump; V13 with the number of the line at fault of the journal, from 1.
+    /// A fault of the dump; V13 with the number of the line at fault of the journal, from 1. Memory
+    /// runs out only for an edge of the wire before the first fault, or as in `open_parts`.
     pub fn open_dump(
         alloc: Global,
         bytes: Vec<u8>,
@@ -46,8 +46,9 @@ impl Session {
             → declarations_of (name_of wire.entry) (words_of bytes.items) ≡ Err e
             → result ≡ Err e }
         ensures fault { IfErr result (λ e. IsUnopened (name_of wire.entry) bytes.items e) }
-        ensures memory { (HasEdge (changes_before (name_of wire.entry) bytes.items) → ⊥)
-            → result ≡ Err OutOfMemory → MayBeShort (dump_parts (name_of wire.entry) bytes.items) }
+        ensures memory { result ≡ Err OutOfMemory
+            → HasEdge (changes_before (name_of wire.entry) bytes.items)
+            ⊎ MayBeShort (dump_parts (name_of wire.entry) bytes.items) }
     {
         match parts_of(alloc, bytes, wire) {
             Ok((recording, journal)) => session_with(alloc, recording, journal, format),
@@ -59,7 +60,8 @@ impl Session {
     /// dump: `open_dump` without its bytes. The text is dropped before the session takes its
     /// memory.
     ///
-    /// V13 with the number of the line at fault of the journal, from 1.
+    /// V13 with the number of the line at fault of the journal, from 1. Memory runs out only for the
+    /// lines of its steps, or after all its lines, its format, cursor and marks are found right.
     pub fn open_parts(
         alloc: Global,
         recording: Recording,
@@ -95,8 +97,9 @@ fn parts_of(
     ensures heading { (e : VcdFault)
         → declarations_of (name_of wire.entry) (words_of bytes.items) ≡ Err e → result ≡ Err e }
     ensures fault { IfErr result (λ e. IsUnopened (name_of wire.entry) bytes.items e) }
-    ensures memory { (HasEdge (changes_before (name_of wire.entry) bytes.items) → ⊥)
-        → result ≡ Err OutOfMemory → MayBeShort (dump_parts (name_of wire.entry) bytes.items) }
+    ensures memory { result ≡ Err OutOfMemory
+        → HasEdge (changes_before (name_of wire.entry) bytes.items)
+        ⊎ MayBeShort (dump_parts (name_of wire.entry) bytes.items) }
 {
     match read_parts(alloc, bytes.as_slice(), wire) {
         Ok((recording, journal)) => match journal {
@@ -152,7 +155,7 @@ fn session_with(
     requires short { IfSome journal (λ saved. length (saved_lines saved) ≤ 2 ^ 28) }
     ensures opened { IfOk result (IsSessionOf recording journal format) }
     ensures fault { IfErr result (HasNoSession recording journal) }
-    ensures memory { result ≡ Err OutOfMemory → IsPermitted journal }
+    ensures memory { result ≡ Err OutOfMemory → HasHead recording journal }
 {
     match journal {
         Some(saved) => session_of(alloc, recording, saved),
@@ -169,7 +172,7 @@ fn session_of(alloc: Global, recording: Recording, saved: Saved) -> Result<Sessi
     ensures opened { IfOk result (IsAccepted (state_of recording saved) saved) }
     ensures fault { IfErr result (IsBad (IsLineAtFault (state_of recording saved) saved)) }
     ensures memory { result ≡ Err OutOfMemory
-        → IsTrue (is_permitted saved.kind saved.expression) }
+        → head_fault (state_of recording saved) saved ≡ None }
 {
     match start(alloc, recording, &saved) {
         Ok((walk, line)) => walk.open(alloc, saved, line),

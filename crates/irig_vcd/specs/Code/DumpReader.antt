@@ -1,6 +1,7 @@
 -- What a reader of parts has read.
-use Rattle.std.specs.Prelude.{◌≡◌, ◌≤◌, ◌⊎◌, ◌+◌, ◌*◌, ◌++◌, ◌^◌, ℕ, false, List, [], Option, Some, None}
-use Rattle.std.specs.Prelude.{Ok, length, vec_len}
+use Rattle.std.specs.Prelude.{◌≡◌, ◌≤◌, ◌<◌, ◌⊎◌, ◌+◌, ◌*◌, ◌++◌, ◌^◌, ℕ, false, List, [], Option, Some, None}
+use Rattle.std.specs.Prelude.{Ok, length, vec_capacity, vec_len}
+use Rattle.std.specs.Global.{Vec}
 use Rattle.irig_vcd.specs.Answer.{bytes_of}
 use Rattle.irig_vcd.specs.Code.Gathered.{gathered}
 use Rattle.irig_vcd.specs.Code.Joins.{ends_inside}
@@ -31,14 +32,14 @@ StopsIn wire words e =
     (unit : ℕ) × (code : List ℕ) × (end : Scan × Option VcdFault)
     × ScansTo wire words unit code end × Stops unit end e
 
--- the same of a reader that knows the unit or not; if not, memory may run out for the code, when
--- all words are read
-abbrev pub StopsAt : Option ℕ → Option (List ℕ) → List Word → VcdFault → Type 0
-StopsAt (Some unit) wire words e = StopsIn wire words e
-StopsAt None wire words e =
+-- the same of a reader that knows the unit or not; if not, memory may run out when all words are
+-- read, if its buffer has no room for the code
+abbrev pub StopsAt : Option ℕ → Vec ℕ → Option (List ℕ) → List Word → VcdFault → Type 0
+StopsAt (Some unit) kept wire words e = StopsIn wire words e
+StopsAt None kept wire words e =
     StopsIn wire words e
     ⊎ ((e ≡ OutOfMemory) × (unit : ℕ) × (code : List ℕ) × (s : Scan)
-    × ScansTo wire words unit code (s, None))
+    × (vec_capacity kept < vec_len kept + length code) × ScansTo wire words unit code (s, None))
 
 -- nothing is read after the declarations
 abbrev pub IsNew : Reading → Type 0

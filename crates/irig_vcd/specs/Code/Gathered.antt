@@ -1,5 +1,5 @@
 -- The bytes of the first journal, while its dump comes in parts. This project's own.
-use Rattle.std.specs.Prelude.{◌-◌, ◌≢◌, ℕ, List, [], ◌∷◌, Option, Some, None, length, take, drop}
+use Rattle.std.specs.Prelude.{◌-◌, ℕ, List, [], ◌∷◌, Option, Some, None, length, take, drop}
 use Rattle.std.specs.Prelude.{if◌then◌else◌}
 use Rattle.irig_vcd.specs.Code.Journals.{place_view}
 use Rattle.irig_vcd.specs.Journals.{Comment, comment, is_journal}
@@ -33,10 +33,6 @@ place_by [] (comment_of (Some w)) top =
 abbrev pub place_in : Scan → ℕ → Option (ℕ × ℕ)
 place_in s top = place_by s.journals s.opened top
 
--- a journal has begun
-abbrev pub HasBegun : Scan → Type 0
-HasBegun s = (top : ℕ) × (place_in s top ≢ None)
-
 -- the bytes at such a place
 abbrev pub bytes_at : Option (ℕ × ℕ) → List ℕ → List ℕ
 bytes_at None bytes = []
@@ -48,6 +44,10 @@ part_at None gone part = []
 part_at (Some place) gone part =
     take ((place.1 - gone) - (place.0 - gone)) (drop (place.0 - gone) part)
 
--- the bytes of the first journal among those that are read
+-- the bytes of the first journal so far among those that are read, of a scan
+abbrev pub journal_in : Scan → List ℕ → List ℕ
+journal_in s front = bytes_at (place_in s (length front)) front
+
+-- the same of what the code keeps
 abbrev pub gathered : Reading → List ℕ → List ℕ
 gathered r front = bytes_at (so_far (place_view r.journals.first) r.pending (length front)) front

@@ -1,10 +1,11 @@
 -- What a reader of parts does with the next part.
-use Rattle.std.specs.Prelude.{◌≡◌, ◌<◌, ◌*◌, ◌++◌, ◌⊎◌, ℕ, not, true, false, List, [], Option, Some, None}
-use Rattle.std.specs.Prelude.{Err, drop, take, vec_len}
+use Rattle.std.specs.Prelude.{◌≡◌, ◌<◌, ◌+◌, ◌*◌, ◌++◌, ◌⊎◌, ℕ, not, true, false, List, [], Option, Some, None}
+use Rattle.std.specs.Prelude.{Err, drop, length, take, vec_capacity, vec_len}
+use Rattle.std.specs.Global.{Vec}
 use Rattle.std.specs.List.{list_all}
 use Rattle.irig_vcd.specs.Answer.{bytes_of}
 use Rattle.irig_vcd.specs.Code.DumpReader.{ScansTo}
-use Rattle.irig_vcd.specs.Code.Gathered.{HasBegun}
+use Rattle.irig_vcd.specs.Code.Gathered.{journal_in}
 use Rattle.irig_vcd.specs.Code.Joins.{ends_inside}
 use Rattle.irig_vcd.specs.Declarations.{declarations_of}
 use Rattle.irig_vcd.specs.Dump.{changes_before}
@@ -18,9 +19,10 @@ use Rattle.irig_vcd.specs.declared.progress.Progress.{Progress}
 abbrev pub IsDark : List ℕ → Type 0
 IsDark bytes = list_all (λ b. not (is_space b)) bytes ≡ true
 
--- bytes up to a place outside a word, or to the end, were read without a fault, and the code was not known before, or a journal has
--- begun
-pub record KeepsMore (wire : Option (List ℕ)) (known : Option ℕ) (bytes : List ℕ) : Type 0 where
+-- bytes up to a place outside a word, or to the end, were read without a fault; and a buffer has no
+-- room for the code, which was not known before, or for the first journal so far
+pub record KeepsMore (wire : Option (List ℕ)) (known : Option ℕ) (kept journal : Vec ℕ)
+    (bytes : List ℕ) : Type 0 where
   pub front : List ℕ
   pub rest : List ℕ
   pub whole : bytes ≡ front ++ rest
@@ -29,12 +31,13 @@ pub record KeepsMore (wire : Option (List ℕ)) (known : Option ℕ) (bytes : Li
   pub code : List ℕ
   pub s : Scan
   pub read : ScansTo wire (words_of front) unit code (s, None)
-  pub kept : (known ≡ None) ⊎ HasBegun s
+  pub full : ((known ≡ None) × (vec_capacity kept < vec_len kept + length code))
+      ⊎ (vec_capacity journal < length (journal_in s front))
 
 -- reading bytes takes memory: for an edge before the first fault, or for the code or a journal
-abbrev pub TakesMemory : Option (List ℕ) → Option ℕ → List ℕ → Type 0
-TakesMemory wire known bytes =
-    HasEdge (changes_before wire bytes) ⊎ KeepsMore wire known bytes
+abbrev pub TakesMemory : Option (List ℕ) → Option ℕ → Vec ℕ → Vec ℕ → List ℕ → Type 0
+TakesMemory wire known kept journal bytes =
+    HasEdge (changes_before wire bytes) ⊎ KeepsMore wire known kept journal bytes
 
 -- nothing more can be read of what is held: it is a word without its end; or it is all that came,
 -- and its declarations, up to the last white space, are at fault, or do not end

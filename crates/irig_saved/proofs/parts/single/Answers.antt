@@ -1,3 +1,4 @@
+use Rattle.std.proofs.Common.{◌++◌, ◌∷◌, ◌∙◌, ℕ, List, ap}
 use Rattle.irig_saved.proofs.Carried.{stopped}
 use Rattle.irig_saved.proofs.SingleParts.{splice_stops, short_reads, single_line_stops, no_single_stops}
 use Rattle.irig_saved.proofs.parts.single.Goals as goal
@@ -20,4 +21,10 @@ returns-in-Err c =
     stopped c.in-Err.stop
     (λ rest s. splice_stops c.args.text.now c.in-Some.line.now c.in-Some.next.now rest (c.in-Some-splice.at, c.in-Some-splice.count, c.in-Some-splice.put)
     c.in-Some.ensures.0 c.in-Some.ensures.1 c.in-Some-splice.ensures.0 c.in-Some-splice.ensures.1 s)
-    (λ m. tt) c.in-Err.ensures
+    (λ some. record {
+      three = (c.in-Some-splice.at, c.in-Some-splice.count, c.in-Some-splice.put);
+      numbers = c.in-Some-splice.ensures.0;
+      some = some;
+      more = c.in-Some.next.now;
+      same = c.in-Some.ensures.0 ∙ ap (λ (l : List ℕ). l ++ 10 ∷ c.in-Some.next.now) c.in-Some-splice.ensures.1;
+    }) c.in-Err.ensures

@@ -1,14 +1,15 @@
 use Rattle.std.proofs.Common.{◌≡◌, ◌≤◌, ◌++◌, ◌+◌, ◌∙◌, false, inl, List, Option, Some, ℕ, length, take, drop, ap, sym, subst}
-use Rattle.irig_vcd.specs.Answer.{IsFaultOf, bytes_of}
+use Rattle.irig_vcd.specs.Answer.{IsFaultOf}
 use Rattle.irig_vcd.specs.Code.DumpReader.{HasRead, HasReadWords, Stage, StopsAt}
-use Rattle.irig_vcd.specs.Code.Gathered.{so_far}
+use Rattle.irig_vcd.specs.Code.Gathered.{gathered, so_far}
 use Rattle.irig_vcd.specs.Code.Joins.{ends_inside}
 use Rattle.irig_vcd.specs.Code.Journals.{place_view}
 use Rattle.irig_vcd.specs.Code.NextPart.{IsDark, IsReadUp}
 use Rattle.irig_vcd.specs.Parts.{dump_parts}
 use Rattle.irig_vcd.specs.Words.{Word, words_from, words_of}
 use Rattle.irig_vcd.specs.declared.fault.VcdFault.TheVariants.{OutOfMemory}
-use Rattle.irig_vcd.proofs.PartSteps.{gathers_same, memory_at, memory_journal, next_bytes, part_words, put_read, stops_at}
+use Rattle.irig_vcd.proofs.PartSteps.{gathers_next, gathers_same, memory_at, memory_journal, next_bytes, no_room, part_words, put_read}
+use Rattle.irig_vcd.proofs.PartSteps.{stops_at}
 use Rattle.irig_vcd.proofs.dump_reader.read_held.Goals as goal
 use Rattle.irig_vcd.proofs.dump_reader.read_held.Goals.{After-whole_len-whole, In-Err}
 
@@ -18,12 +19,12 @@ outside c = ap (λ (l : List ℕ). ends_inside false (take c.whole_len-whole.res
 
 -- what stops the reading
 stops : (c : In-Err) (wire : Option (List ℕ)) (bytes : List ℕ) → (r : HasRead wire bytes c.args.progress.now)
-    → StopsAt c.args.progress.now.unit wire (words_of r.front ++ words_from c.args.progress.now.gone false
+    → StopsAt c.args.progress.now.unit c.args.progress.now.code wire (words_of r.front ++ words_from c.args.progress.now.gone false
     (take c.whole_len-whole.result c.args.progress.now.held.items)) c.in-Err.fault
 stops c wire bytes r =
     let s = c.args.progress.now in
     let stage = subst (λ (w : Option (List ℕ)). Stage w (words_of r.front) s.unit s.code.items s.reading) (sym r.name) r.stage in
-    subst (λ (w : Option (List ℕ)). StopsAt s.unit w (words_of r.front ++ words_from s.gone false (take c.whole_len-whole.result s.held.items)) c.in-Err.fault)
+    subst (λ (w : Option (List ℕ)). StopsAt s.unit s.code w (words_of r.front ++ words_from s.gone false (take c.whole_len-whole.result s.held.items)) c.in-Err.fault)
     r.name (c.in-Err.ensures.fault (words_of r.front) stage r.none)
 
 pub returns-in-Err-clause-fault : goal.returns-in-Err-clause-fault
@@ -32,7 +33,7 @@ returns-in-Err-clause-fault c = λ wire bytes more r.
     let n = c.whole_len-whole.result in
     let cut = outside (goal.at.returns-in-Err-clause-fault c).After-whole_len-whole in
     subst (λ (l : List ℕ). IsFaultOf c.in-Err.fault (dump_parts wire (l ++ more))) (sym r.whole)
-    (stops_at s.unit wire ((r.front ++ s.held.items) ++ more) _ _ c.in-Err.fault (part_words r.front s.held.items more n s.gone r.place r.closed cut)
+    (stops_at s.unit s.code wire ((r.front ++ s.held.items) ++ more) _ _ c.in-Err.fault (part_words r.front s.held.items more n s.gone r.place r.closed cut)
     (stops (goal.at.returns-in-Err-clause-fault c).In-Err wire bytes r))
 
 pub returns-in_ok-gather-in-Ok-Ok-clause-read : goal.returns-in_ok-gather-in-Ok-Ok-clause-read
@@ -68,9 +69,9 @@ returns-in-Err-clause-memory c = λ memory wire bytes r.
     let n = c.whole_len-whole.result in
     let is : c.in-Err.fault ≡ OutOfMemory = cc memory in
     let next = next_bytes wire bytes s n (outside (goal.at.returns-in-Err-clause-memory c).After-whole_len-whole) r in
-    memory_at s.unit wire bytes (r.front ++ take n s.held.items) (drop n s.held.items) next.more next.bytes_so (inl next.closed) next.all
-    (subst (λ (l : List Word). StopsAt s.unit wire l OutOfMemory) (sym next.words_so)
-    (subst (λ e. StopsAt s.unit wire (words_of r.front ++ words_from s.gone false (take n s.held.items)) e) is
+    memory_at s.unit s.code s.journal wire bytes (r.front ++ take n s.held.items) (drop n s.held.items) next.more next.bytes_so (inl next.closed) next.all
+    (subst (λ (l : List Word). StopsAt s.unit s.code wire l OutOfMemory) (sym next.words_so)
+    (subst (λ e. StopsAt s.unit s.code wire (words_of r.front ++ words_from s.gone false (take n s.held.items)) e) is
     (stops (goal.at.returns-in-Err-clause-memory c).In-Err wire bytes r)))
 
 pub returns-in_err-gather-in-Ok-Ok-clause-memory : goal.returns-in_err-gather-in-Ok-Ok-clause-memory
@@ -82,9 +83,11 @@ returns-in_err-gather-in-Ok-Ok-clause-memory c = λ memory wire bytes r.
     let front = r.front ++ take n s.held.items in
     let next = next_bytes wire bytes s n (outside (goal.at.returns-in_err-gather-in-Ok-Ok-clause-memory c).After-whole_len-whole) r in
     let stage = subst (λ (w : Option (List ℕ)). Stage w (words_of r.front) s.unit s.code.items s.reading) (sym r.name) r.stage in
-    let got = (rw c.in-Ok-Ok.field-0-is at c.in-Ok-Ok.ensures.read) (words_of r.front) stage r.none in
-    memory_journal s.unit wire bytes front (drop n s.held.items) unit (mid.gone + n) mid.code.items mid.reading next.bytes_so
-    (inl next.closed)
-    (subst (λ (w : Option (List ℕ)). HasReadWords w (words_of front) unit mid.code.items mid.reading) r.name
-    (subst (λ (l : List Word). HasReadWords (bytes_of s.wire) l unit mid.code.items mid.reading) (sym next.words_so) got))
-    c.in_err-gather-in-Ok-Ok.ensures.memory
+    let got = subst (λ (w : Option (List ℕ)). HasReadWords w (words_of r.front ++ words_from s.gone false (take n s.held.items)) unit mid.code.items mid.reading)
+    r.name ((rw c.in-Ok-Ok.field-0-is at c.in-Ok-Ok.ensures.read) (words_of r.front) stage r.none) in
+    let within : n ≤ length s.held.items = subst (λ (l : List ℕ). n ≤ length l) c.as_slice.ensures.value c.whole_len-whole.ensures.within in
+    let kept = c.in-Ok-Ok.ensures.kept in
+    memory_journal s.unit s.code s.journal wire bytes front (drop n s.held.items) unit mid.code.items mid.reading next.bytes_so (inl next.closed)
+    (subst (λ (l : List Word). HasReadWords wire l unit mid.code.items mid.reading) (sym next.words_so) got)
+    (no_room s mid (so_far (place_view mid.reading.journals.first) mid.reading.pending) n (gathered mid.reading front) kept.0 kept.1 kept.3
+    (gathers_next wire bytes s n unit mid.code.items mid.reading within r got) c.in_err-gather-in-Ok-Ok.ensures.full)

@@ -1,11 +1,12 @@
-use Rattle.std.proofs.Common.{◌≡◌, ◌∙◌, ◌+◌, [], inr, refl, length, take, arith, sym, subst}
+use Rattle.std.proofs.Common.{◌≡◌, ◌∙◌, ◌+◌, ◌++◌, [], inr, refl, length, take, arith, sym, subst}
 use Rattle.std.proofs.lemmas.List.{append-nil, take_all}
-use Rattle.irig_vcd.specs.Code.Gathered.{so_far}
+use Rattle.irig_vcd.specs.Code.Gathered.{gathered, part_at, so_far}
 use Rattle.irig_vcd.specs.Code.Journals.{place_view}
 use Rattle.irig_vcd.specs.Code.DumpReader.{StopsAt}
 use Rattle.irig_vcd.specs.Words.{words_of}
 use Rattle.irig_vcd.specs.declared.fault.VcdFault.TheVariants.{OutOfMemory}
-use Rattle.irig_vcd.proofs.PartSteps.{gathers_same, last_early, last_fault, last_gathered, last_read, memory_at, memory_journal, stops_at}
+use Rattle.irig_vcd.proofs.PartSteps.{gathers_same, last_early, last_fault, last_gathered, last_read, memory_at, memory_journal, no_room}
+use Rattle.irig_vcd.proofs.PartSteps.{stops_at}
 use Rattle.irig_vcd.proofs.Sound.{never_declared}
 use Rattle.irig_vcd.proofs.WholeDump.{fails_now, no_parts}
 use Rattle.irig_vcd.proofs.dump_reader.read_rest.Goals as goal
@@ -18,15 +19,15 @@ all_held c = let s = c.args.progress.now in take_all c.len-all.result s.held.ite
 pub returns-in-Err-clause-fault : goal.returns-in-Err-clause-fault
 returns-in-Err-clause-fault c = λ wire bytes r.
     let s = c.args.progress.now in
-    stops_at s.unit wire bytes (words_of bytes) [] c.in-Err.fault (sym (append-nil (words_of bytes)))
+    stops_at s.unit s.code wire bytes (words_of bytes) [] c.in-Err.fault (sym (append-nil (words_of bytes)))
     (last_fault wire bytes s c.len-all.result c.in-Err.fault (all_held (goal.at.returns-in-Err-clause-fault c).After-len-all) c.in-Err.ensures.fault r)
 
 pub returns-in-Err-clause-memory : goal.returns-in-Err-clause-memory
 returns-in-Err-clause-memory c = λ memory wire bytes r.
     let s = c.args.progress.now in
     let is : c.in-Err.fault ≡ OutOfMemory = cc memory in
-    memory_at s.unit wire bytes bytes [] [] (sym (append-nil bytes)) (inr refl) (sym (append-nil (words_of bytes)))
-    (subst (λ e. StopsAt s.unit wire (words_of bytes) e) is (last_fault wire bytes s c.len-all.result c.in-Err.fault
+    memory_at s.unit s.code s.journal wire bytes bytes [] [] (sym (append-nil bytes)) (inr refl) (sym (append-nil (words_of bytes)))
+    (subst (λ e. StopsAt s.unit s.code wire (words_of bytes) e) is (last_fault wire bytes s c.len-all.result c.in-Err.fault
     (all_held (goal.at.returns-in-Err-clause-memory c).After-len-all) c.in-Err.ensures.fault r))
 
 pub returns-in-Ok-Err-clause-fault : goal.returns-in-Ok-Err-clause-fault
@@ -48,9 +49,17 @@ returns-in_err-gather-in-Ok-Ok-clause-memory c = λ memory wire bytes r.
     let s = c.args.progress.now in
     let mid = c.read_to.new.self in
     let n = c.len-all.result in
-    memory_journal s.unit wire bytes bytes [] c.in-Ok-Ok.unit (mid.gone + n) mid.code.items mid.reading (sym (append-nil bytes)) (inr refl)
-    (last_read wire bytes s n c.in-Ok-Ok.unit mid.code.items mid.reading (all_held (goal.at.returns-in_err-gather-in-Ok-Ok-clause-memory c).After-len-all)
-    (rw c.in-Ok-Ok.field-0-is at c.in-Ok-Ok.ensures.read) r) c.in_err-gather-in-Ok-Ok.ensures.memory
+    let unit = c.in-Ok-Ok.unit in
+    let long : n ≡ length s.held.items = omega (arith, c.len-all.ensures, s.held.ok.0) in
+    let all = all_held (goal.at.returns-in_err-gather-in-Ok-Ok-clause-memory c).After-len-all in
+    let reads = rw c.in-Ok-Ok.field-0-is at c.in-Ok-Ok.ensures.read in
+    let kept = c.in-Ok-Ok.ensures.kept in
+    let place = so_far (place_view mid.reading.journals.first) mid.reading.pending in
+    memory_journal s.unit s.code s.journal wire bytes bytes [] unit mid.code.items mid.reading (sym (append-nil bytes)) (inr refl)
+    (last_read wire bytes s n unit mid.code.items mid.reading all reads r)
+    (no_room s mid place n (gathered mid.reading bytes) kept.0 kept.1 kept.3
+    (last_gathered wire bytes s n unit mid.code.items (s.journal.items ++ part_at (place (s.gone + n)) s.gone (take n s.held.items)) mid.reading long all refl
+    reads r) c.in_err-gather-in-Ok-Ok.ensures.full)
 
 pub returns-in_ok-gather-in-Ok-Ok-clause-read : goal.returns-in_ok-gather-in-Ok-Ok-clause-read
 returns-in_ok-gather-in-Ok-Ok-clause-read c = λ wire bytes r.

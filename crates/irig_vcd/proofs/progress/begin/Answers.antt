@@ -38,6 +38,7 @@ returns-in_err-extend_from_slice-in-Ok-clause-fault c =
       unit,
       c.in-Ok.start.code.now,
       r.0,
+      c.in_err-extend_from_slice-in-Ok.ensures.full,
       (c.declarations.new.tokens, begun (goal.at.returns-in_err-extend_from_slice-in-Ok-clause-fault c).In-Ok, r.1),
     ))
 

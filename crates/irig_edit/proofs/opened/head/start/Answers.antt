@@ -1,23 +1,20 @@
-use Rattle.std.proofs.Common.{◌≡◌, ◌≤◌, [], Some, None, ap, length, subst, ◌∙◌}
-use Rattle.irig_edit.specs.Opened.Opened.{head_fault}
+use Rattle.std.proofs.Common.{◌≡◌, [], ℕ, None, ap, subst, sym, ◌∙◌}
+use Rattle.irig_recording.specs.Recording.{RecordingView}
+use Rattle.irig_edit.specs.Opened.Opened.{mark_beyond, state_of}
 use Rattle.irig_edit.specs.State.State.{State}
 use Rattle.irig_edit.specs.Opened.Walk.{walk}
-use Rattle.irig_edit.proofs.OpenedLemmas.Heads.{opened_state}
+use Rattle.irig_edit.proofs.OpenedLemmas.Heads.{head_within, opened_state}
 use Rattle.irig_edit.proofs.opened.head.start.Goals as goal
 
-pub returns-in-Ok-put_head-clause-start : goal.returns-in-Ok-put_head-clause-start
-returns-in-Ok-put_head-clause-start c =
+pub put_marks-requires : goal.put_marks-requires
+put_marks-requires c =
     let saved = c.args.saved.now in
-    let same = opened_state c.in-Ok.present.state c.args.recording saved c.in-Ok.ensures.opened.0 c.in-Ok.ensures.opened.1.0 in (
-      c.new.ensures ∙ ap (λ (s : State). walk s saved.cursor [] []) (c.in-Ok-put_head.ensures.1.1.1 ∙ same),
-      (
-        subst (λ (s : State). head_fault s saved ≡ None) same c.in-Ok-put_head.ensures.0,
-        (c.in-Ok-put_head.ensures.1.0, subst (λ (s : State). saved.cursor ≤ length s.pulses) same c.in-Ok-put_head.ensures.1.1.0),
-      ),
-    )
+    subst (λ (n : ℕ). mark_beyond n 4 saved.marks ≡ None) (sym (ap (λ (r : RecordingView). r.micros) c.in-Ok-open.ensures.0))
+    (head_within (state_of c.args.recording saved) saved c.in-Ok.ensures.0)
 
-pub returns-in-Err-put_head-clause-fault : goal.returns-in-Err-put_head-clause-fault
-returns-in-Err-put_head-clause-fault c =
+pub returns-in-Ok-open-clause-start : goal.returns-in-Ok-open-clause-start
+returns-in-Ok-open-clause-start c =
     let saved = c.args.saved.now in
-    let same = opened_state c.in-Ok.present.state c.args.recording saved c.in-Ok.ensures.opened.0 c.in-Ok.ensures.opened.1.0 in
-    subst (λ (s : State). head_fault s saved ≡ Some c.in-Err-put_head.line) same c.in-Err-put_head.ensures
+    let head = c.in-Ok.ensures in
+    let same = opened_state c.in-Ok-open.present.state c.args.recording saved c.in-Ok-open.ensures.0 (c.in-Ok-open.ensures.1 ∙ head.1.0) in
+    (c.new.ensures ∙ ap (λ (s : State). walk s saved.cursor [] []) (c.put_marks.ensures ∙ same), (head.0, (head.1.1.0, head.1.1.1)))
