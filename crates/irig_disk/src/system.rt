@@ -1,8 +1,10 @@
 //! A folder of the system: each method is one call, and only it makes the answer of that call.
 
-ghost use Rattle.std.specs.Prelude.{OnOk, false};
+ghost use Rattle.std.specs.Prelude.{◌≡◌, ◌≤◌, IfOk, IsSome, OnOk, false};
 ghost use Rattle.std.specs.Io.KnownBytes.{Appends};
+ghost use Rattle.std.specs.Path.{path_buf_cap};
 ghost use Rattle.irig_disk.specs.System.{untold, untold_now};
+ghost use Rattle.irig_disk.specs.declared.system.TheConstants.{PATH};
 
 use crate::folder::Folder;
 use std::alloc::{AllocError, Global};
@@ -27,7 +29,11 @@ pub struct SystemFolder<'a, R: Files> {
 
 impl<'a, R: Files> SystemFolder<'a, R> {
     /// The names of folders that a runtime opens. The memory of their paths is taken here.
-    pub fn new(alloc: Global, runtime: &'a R) -> Result<Self, AllocError> {
+    pub fn new(alloc: Global, runtime: &'a R) -> Result<Self, AllocError>
+        ensures runtime { IfOk result (λ folder. folder.runtime.now ≡ runtime.now) }
+        ensures room { IfOk result (λ folder. PATH ≤ path_buf_cap folder.one) }
+        ensures other_room { IfOk result (λ folder. PATH ≤ path_buf_cap folder.other) }
+    {
         Ok(SystemFolder {
             runtime,
             one: PathBuf::with_capacity(alloc, PATH)?,
@@ -36,7 +42,9 @@ impl<'a, R: Files> SystemFolder<'a, R> {
     }
 
     /// The runtime.
-    pub fn runtime(&self) -> &'a R {
+    pub fn runtime(&self) -> &'a R
+        ensures { result.now ≡ self.now.runtime.now }
+    {
         self.runtime
     }
 }
@@ -50,7 +58,9 @@ pub struct SystemDir<F: Drop> {
 
 impl<F: Drop> SystemDir<F> {
     /// No folder, with room for the path of one.
-    pub fn new(alloc: Global) -> Result<SystemDir<F>, AllocError> {
+    pub fn new(alloc: Global) -> Result<SystemDir<F>, AllocError>
+        ensures { IfOk result (λ dir. PATH ≤ path_buf_cap dir.path) }
+    {
         Ok(SystemDir {
             file: None,
             path: PathBuf::with_capacity(alloc, PATH)?,
@@ -58,7 +68,9 @@ impl<F: Drop> SystemDir<F> {
     }
 
     /// Opens the folder at a path.
-    pub fn open<R: Files<File = F>>(&mut self, runtime: &R, path: &str) -> Result<(), SystemFault> {
+    pub fn open<R: Files<File = F>>(&mut self, runtime: &R, path: &str) -> Result<(), SystemFault>
+        ensures { OnOk result (IsSome self.new.file) }
+    {
         put_path(&mut self.path, path, "")?;
         match fs::open(runtime, path) {
             Ok(file) => {

@@ -64,7 +64,7 @@ pub is_read_of : (before after wire : Option (List ℕ)) (some : List ℕ) (at :
     → IfOk result (λ read. (w : Option (List ℕ)) (bytes : List ℕ) → HasTaken w bytes at → Gives parts_of read (dump_parts w bytes))
     → IfOk result HasFewBytes → IfOk result (λ _. 0 < at.left) → IfOk result (IsReadOf before wire)
 is_read_of before after wire some at (Ok read) took used end gives few short =
-    record { source = some; whole = all_used before after some used (end short); parts = gives wire some took; few = few }
+    record { source = some; whole = all_used before after some used (end short); most = omega (arith, took.left, short); parts = gives wire some took; few = few }
 is_read_of before after wire some at (Err fault) took used end gives few short = tt
 
 -- what has no place left is too long

@@ -25,7 +25,7 @@ texts_at None writes = None
 texts_at (Some place) None = None
 texts_at (Some place) (Some writes) = texts_of place writes
 
--- the writes on a disk, if its contracts tell
+-- the writes on a disk, if its contracts give them
 abbrev pub writes_on : Bool → Disk → Option (List Write)
 writes_on told disk = if told then Some (writes_in disk.log) else None
 

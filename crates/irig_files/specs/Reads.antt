@@ -37,10 +37,12 @@ parts_of x = (x.0, bytes_of x.1)
 abbrev pub HasFewBytes : Result (RecordingView × Option (Vec ℕ)) VcdFault → Type 0
 HasFewBytes read = IfOk read (λ x. IfSome x.1 (λ journal. length journal.items ≤ 2 ^ 28))
 
--- what the bytes of a file say of a wire is read: all of them, if they are known
+-- what the bytes of a file say of a wire is read: all of them, if they are known, and no more than
+-- 2^28
 pub record IsReadOf (known wire : Option (List ℕ))
     (read : Result (RecordingView × Option (Vec ℕ)) VcdFault) : Type 0 where
   pub source : List ℕ
   pub whole : IfSome known (λ all. source ≡ all)
+  pub most : length source ≤ 2 ^ 28
   pub parts : Gives parts_of read (dump_parts wire source)
   pub few : HasFewBytes read

@@ -89,6 +89,6 @@ pub record Goes (old new : Disk) (target : Option (List ℕ)) : Type 0 where
   -- After a write that succeeded a crash leaves it, or a later one.
   pub kept : EachIsKept old new (writes_in more)
 
--- so it was from one state to another, to where the path leads, if the contracts tell it
+-- so it was from one state to another, to where the path leads, if the contracts give it
 abbrev pub GoesTo : Bool → Disk → Disk → List ℕ → Type 0
 GoesTo told old new path = IsTrue told → Goes old new (old.paths path)

@@ -1,7 +1,9 @@
 //! The dump in a file, read in parts.
 
 ghost use Rattle.std.specs.Prelude.{◌≡◌, ◌≢◌, ◌<◌, ◌^◌, ◌↔◌, ℕ, List, None, IfOk, OnOk};
-ghost use Rattle.std.specs.Prelude.{IfErr, IfSome, IsErrOf, IsTrue, true, false, length};
+ghost use Rattle.std.specs.Prelude.{IfErr, IfSome, IsErrOf, IsOk, IsTrue, MatchResult, true, false};
+ghost use Rattle.std.specs.Prelude.{length};
+ghost use Rattle.std.specs.IoError.{error_kind};
 ghost use Rattle.std.specs.Fs.{IsFile, file_type, metadata_len};
 ghost use Rattle.std.specs.Io.KnownBytes.{Consumes, IsAtEnd};
 ghost use Rattle.irig_vcd.specs.Answer.{name_of};
@@ -41,9 +43,12 @@ impl From<io::Error> for DumpFileFault {
     }
 }
 
-/// Whether an open file shows that it has more than 2^28 bytes.
-fn is_too_long<F: OpenFile>(file: &F) -> bool {
-    match file.metadata() {
+/// Whether a file shows that it has more than 2^28 bytes, if the system describes it.
+fn is_too_long(described: io::Result<Metadata>) -> bool
+    ensures { MatchResult described (λ d. IsTrue result
+        ↔ (IsFile (file_type d) × (2 ^ 28 < metadata_len d))) (λ _. result ≡ false) }
+{
+    match described {
         Ok(described) => shows_more(&described),
         Err(_) => false,
     }
@@ -60,6 +65,7 @@ fn shows_more(described: &Metadata) -> bool
 /// After an error more can be read only if it was an interruption. Any other is the fault.
 fn after_error(error: io::Error) -> Result<bool, DumpFileFault>
     ensures more { IfOk result (λ is_more. is_more ≡ true) }
+    ensures interrupted { IsOk result ↔ (error_kind error ≡ ErrorKind.Interrupted) }
     ensures read { IfErr result (λ fault. fault ≢ TooLong) }
 {
     match error.kind() {
@@ -168,7 +174,18 @@ pub fn read_dump<R: Files>(
     ensures { IfOk result (IsReadOf None (name_of wire.entry)) }
 {
     let file = fs::open(rt, path)?;
-    if is_too_long(&file) {
+    read_open(alloc, file, wire)
+}
+
+/// The same of an open file.
+fn read_open<F: OpenFile + Read + Drop>(
+    alloc: Global,
+    file: F,
+    wire: Option<&[u8]>,
+) -> Result<Result<Parts, VcdFault>, DumpFileFault>
+    ensures { IfOk result (IsReadOf (F.remaining file) (name_of wire.entry)) }
+{
+    if is_too_long(file.metadata()) {
         return Err(DumpFileFault::TooLong);
     }
     read_whole(alloc, file, wire)

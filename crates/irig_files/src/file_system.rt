@@ -8,33 +8,16 @@ ghost use Rattle.irig_vcd.specs.Answer.{name_of};
 ghost use Rattle.irig_files.specs.Paths.{IsFolderOf, followed};
 ghost use Rattle.irig_files.specs.Reads.{IsReadOf};
 
+use crate::described::Described;
 use crate::dump_file::DumpFileFault;
 use crate::intake::Parts;
-use irig_disk::Folder;
+use crate::plain_calls::PlainCalls;
 use irig_vcd::VcdFault;
 use std::alloc::Global;
-use std::io::Write;
 use std::path::PathBuf;
 
-/// What a call says of a file.
-#[derive(Clone, Copy)]
-pub struct Described {
-    /// Whether it is a regular one.
-    pub is_file: bool,
-    /// Its mode.
-    pub mode: u32,
-    /// The numbers that no other file has.
-    pub id: (u64, u64),
-}
-
-/// Files and folders by their paths. Each method is one call.
-pub trait FileSystem: Folder {
-    /// A regular file, open to be described.
-    type Seen: Drop;
-
-    /// What is no regular file, open to be written.
-    type Other: Write + Drop;
-
+/// Files and folders by their paths. Each method is one call, as those of `PlainCalls` are.
+pub trait FileSystem: PlainCalls {
     /// The file that the program's answers go to, if it is one.
     ghost output_id: { Self → Option (ℕ × ℕ) };
 
@@ -75,9 +58,6 @@ pub trait FileSystem: Folder {
     fn output(&self) -> Result<Option<(u64, u64)>, Self::Fault>
         ensures { IsTrue Self.is_told → IfOk result (λ found. found ≡ output_id self.now) };
 
-    /// Writes to where the program's answers go.
-    fn write_output(&self, bytes: &[u8]) -> Result<(), Self::Fault>;
-
     /// The text of the link at a path; none if no link is there.
     fn read_link(&self, path: &str) -> Result<Option<PathBuf>, Self::Fault>
         ensures { IsTrue Self.is_told → IfOk result
@@ -87,16 +67,6 @@ pub trait FileSystem: Folder {
     fn open_folder(&self, dir: &mut Self::Dir, path: &str) -> Result<(), Self::Fault>
         ensures { IsTrue Self.is_told → OnOk result (IsFolderOf (link_at self.now)
             (is_other self.now) (Self.disk self.now).paths (Self.place dir.new) path.now) };
-
-    /// Opens what is no regular file, to write to it.
-    fn open_other(&self, path: &str) -> Result<Self::Other, Self::Fault>
-        requires { IsTrue Self.is_told → (Self.disk self.now).paths path.now ≡ None };
-
-    /// Opens a file as if to write to it. It fails if it must not be written.
-    fn open_seen(&self, path: &str) -> Result<Self::Seen, Self::Fault>;
-
-    /// What an open file is.
-    fn seen(&self, file: &Self::Seen) -> Result<Described, Self::Fault>;
 
     /// A link leads where its text leads.
     ghost follows: { (system : Self) (path : List ℕ) (text : List ℕ)

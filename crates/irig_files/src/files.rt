@@ -27,6 +27,13 @@ impl<C: FileSystem> Files<C> {
     {
         Files { system, dir }
     }
+
+    /// The system.
+    pub fn system(&self) -> &C
+        ensures { result.now ≡ self.now.system }
+    {
+        &self.system
+    }
 }
 
 impl<C: FileSystem> Disk for Files<C> {

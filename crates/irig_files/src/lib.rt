@@ -1,6 +1,7 @@
 //! Files: the dump that is read, and the shelf that is written.
 #![tactic(auto)]
 
+mod described;
 mod disk;
 mod dump_file;
 mod file_shelf;
@@ -10,6 +11,8 @@ mod in_place;
 mod intake;
 mod links;
 mod memory_system;
+mod opening;
+mod plain_calls;
 mod put_file;
 mod room;
 mod system;
@@ -17,11 +20,13 @@ mod way;
 mod whole;
 mod written;
 
+pub use described::Described;
 pub use disk::Disk;
 pub use dump_file::DumpFileFault;
 pub use file_shelf::FileShelf;
-pub use file_system::{Described, FileSystem};
+pub use file_system::FileSystem;
 pub use files::Files;
 pub use intake::Parts;
+pub use opening::system_files;
 pub use room::Room;
 pub use written::Written;

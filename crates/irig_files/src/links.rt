@@ -8,8 +8,8 @@ use crate::file_system::FileSystem;
 use irig_text::ShelfFault;
 use std::path::PathBuf;
 
-/// How many symbolic links a path may lead through.
-const LINKS: u32 = 40;
+/// How many turns a path may take: 40 symbolic links, and the place where no link is.
+const TURNS: u32 = 41;
 
 /// Follows the chain of symbolic links from a path, and leaves in `target` where it leads.
 pub fn follow_links<C: FileSystem>(
@@ -24,7 +24,7 @@ pub fn follow_links<C: FileSystem>(
     let Ok(()) = target.push(path) else {
         return Err(ShelfFault);
     };
-    for _ in 0..LINKS {
+    for _ in 0..TURNS {
         match follow_link(system, target) {
             Ok(true) => {}
             Ok(false) => return Ok(()),

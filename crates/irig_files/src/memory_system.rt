@@ -4,9 +4,11 @@ ghost use Rattle.std.specs.Prelude.{◌≡◌, None};
 ghost use Rattle.irig_disk.specs.Log.{own_place};
 ghost use Rattle.irig_files.specs.InMemory.{holds_at, no_links};
 
+use crate::described::Described;
 use crate::dump_file::{DumpFileFault, read_whole};
-use crate::file_system::{Described, FileSystem};
+use crate::file_system::FileSystem;
 use crate::intake::Parts;
+use crate::plain_calls::PlainCalls;
 use irig_disk::{Memory, MemoryFault, bytes_of, file_at, is_name, mode_of};
 use irig_vcd::VcdFault;
 use std::alloc::Global;
@@ -28,11 +30,32 @@ impl Write for Nothing {
     }
 }
 
-impl FileSystem for Memory {
+impl PlainCalls for Memory {
     type Seen = Described;
 
     type Other = Nothing;
 
+    fn write_output(&self, _: &[u8]) -> Result<(), MemoryFault> {
+        Err(MemoryFault::NoSuchName)
+    }
+
+    fn open_other(&self, _: &str) -> Result<Nothing, MemoryFault> {
+        Ok(Nothing)
+    }
+
+    fn open_seen(&self, path: &str) -> Result<Described, MemoryFault> {
+        match self.describe(path) {
+            Ok(Some(found)) => Ok(found),
+            _ => Err(MemoryFault::NoSuchName),
+        }
+    }
+
+    fn seen(&self, file: &Described) -> Result<Described, MemoryFault> {
+        Ok(*file)
+    }
+}
+
+impl FileSystem for Memory {
     ghost output_id = { λ _. None };
 
     ghost is_other = { λ _ path. own_place path ≡ None };
@@ -80,10 +103,6 @@ impl FileSystem for Memory {
         Ok(None)
     }
 
-    fn write_output(&self, _: &[u8]) -> Result<(), MemoryFault> {
-        Err(MemoryFault::NoSuchName)
-    }
-
     fn read_link(&self, _: &str) -> Result<Option<PathBuf>, MemoryFault> {
         Ok(None)
     }
@@ -94,20 +113,5 @@ impl FileSystem for Memory {
         } else {
             Err(MemoryFault::NoSuchName)
         }
-    }
-
-    fn open_other(&self, _: &str) -> Result<Nothing, MemoryFault> {
-        Ok(Nothing)
-    }
-
-    fn open_seen(&self, path: &str) -> Result<Described, MemoryFault> {
-        match self.describe(path) {
-            Ok(Some(found)) => Ok(found),
-            _ => Err(MemoryFault::NoSuchName),
-        }
-    }
-
-    fn seen(&self, file: &Described) -> Result<Described, MemoryFault> {
-        Ok(*file)
     }
 }

@@ -8,7 +8,8 @@ ghost use Rattle.irig_files.specs.Paths.{LeadsTo, folder_of};
 ghost use Rattle.irig_files.specs.Puts.{count_of};
 ghost use Rattle.irig_files.specs.Ways.{IsWay};
 
-use crate::file_system::{Described, FileSystem};
+use crate::described::Described;
+use crate::file_system::FileSystem;
 use crate::in_place::write_in_place;
 use crate::links::follow_links;
 use crate::room::Room;

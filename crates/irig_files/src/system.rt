@@ -2,9 +2,11 @@
 
 ghost use Rattle.std.specs.Prelude.{None};
 
+use crate::described::Described;
 use crate::dump_file::{DumpFileFault, read_dump};
-use crate::file_system::{Described, FileSystem};
+use crate::file_system::FileSystem;
 use crate::intake::Parts;
+use crate::plain_calls::PlainCalls;
 use irig_disk::{SystemDir, SystemFault, SystemFolder};
 use irig_vcd::VcdFault;
 use std::alloc::Global;
@@ -19,11 +21,41 @@ use std::{fs, io};
 #[derive(Drop)]
 pub struct SystemSeen<F: Drop>(F);
 
-impl<R: Files + Print + AllocGlobal> FileSystem for SystemFolder<'_, R> {
+impl<R: Files + Print + AllocGlobal> PlainCalls for SystemFolder<'_, R> {
     type Seen = SystemSeen<R::File>;
 
     type Other = R::File;
 
+    fn write_output(&self, bytes: &[u8]) -> Result<(), SystemFault> {
+        match io::writer(self.runtime()).write_all(bytes) {
+            Ok(()) => Ok(()),
+            Err(error) => Err(SystemFault(error)),
+        }
+    }
+
+    fn open_other(&self, path: &str) -> Result<R::File, SystemFault> {
+        match OpenOptions::new().write(true).open(self.runtime(), path) {
+            Ok(file) => Ok(file),
+            Err(error) => Err(SystemFault(error)),
+        }
+    }
+
+    fn open_seen(&self, path: &str) -> Result<SystemSeen<R::File>, SystemFault> {
+        match OpenOptions::new().write(true).open(self.runtime(), path) {
+            Ok(file) => Ok(SystemSeen(file)),
+            Err(error) => Err(SystemFault(error)),
+        }
+    }
+
+    fn seen(&self, file: &SystemSeen<R::File>) -> Result<Described, SystemFault> {
+        match file.0.metadata() {
+            Ok(found) => Ok(described(&found)),
+            Err(error) => Err(SystemFault(error)),
+        }
+    }
+}
+
+impl<R: Files + Print + AllocGlobal> FileSystem for SystemFolder<'_, R> {
     ghost output_id = { λ _. None };
 
     ghost is_other = { λ _ _. ⊥ };
@@ -59,13 +91,6 @@ impl<R: Files + Print + AllocGlobal> FileSystem for SystemFolder<'_, R> {
         }
     }
 
-    fn write_output(&self, bytes: &[u8]) -> Result<(), SystemFault> {
-        match io::writer(self.runtime()).write_all(bytes) {
-            Ok(()) => Ok(()),
-            Err(error) => Err(SystemFault(error)),
-        }
-    }
-
     fn read_link(&self, path: &str) -> Result<Option<PathBuf>, SystemFault> {
         match fs::read_link(self.runtime(), path) {
             Ok(text) => Ok(Some(text)),
@@ -78,27 +103,6 @@ impl<R: Files + Print + AllocGlobal> FileSystem for SystemFolder<'_, R> {
 
     fn open_folder(&self, dir: &mut SystemDir<R::File>, path: &str) -> Result<(), SystemFault> {
         dir.open(self.runtime(), path)
-    }
-
-    fn open_other(&self, path: &str) -> Result<R::File, SystemFault> {
-        match OpenOptions::new().write(true).open(self.runtime(), path) {
-            Ok(file) => Ok(file),
-            Err(error) => Err(SystemFault(error)),
-        }
-    }
-
-    fn open_seen(&self, path: &str) -> Result<SystemSeen<R::File>, SystemFault> {
-        match OpenOptions::new().write(true).open(self.runtime(), path) {
-            Ok(file) => Ok(SystemSeen(file)),
-            Err(error) => Err(SystemFault(error)),
-        }
-    }
-
-    fn seen(&self, file: &SystemSeen<R::File>) -> Result<Described, SystemFault> {
-        match file.0.metadata() {
-            Ok(found) => Ok(described(&found)),
-            Err(error) => Err(SystemFault(error)),
-        }
     }
 }
 

@@ -1,6 +1,8 @@
 //! The block that the parts of a text wait in.
 
-ghost use Rattle.std.specs.Prelude.{◌≡◌, [], IfOk};
+ghost use Rattle.std.specs.Prelude.{◌≡◌, ◌≤◌, ◌+◌, [], IfOk};
+ghost use Rattle.std.specs.Vec.{vec_capacity};
+ghost use Rattle.irig_text.specs.declared.block.TheConstants.{ENOUGH};
 
 use std::alloc::{AllocError, Global};
 
@@ -12,7 +14,8 @@ const LAST: usize = 2048;
 
 /// A block with no bytes. It has room for all parts that are added until it has `ENOUGH` bytes.
 pub fn new_block(alloc: Global) -> Result<Vec<u8>, AllocError>
-    ensures { IfOk result (λ block. block.items ≡ []) }
+    ensures empty { IfOk result (λ block. block.items ≡ []) }
+    ensures room { IfOk result (λ block. ENOUGH + 2048 ≤ vec_capacity block) }
 {
     Vec::with_capacity(alloc, ENOUGH + LAST)
 }

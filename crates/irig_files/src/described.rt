@@ -1,0 +1,12 @@
+//! What a call says of a file.
+
+/// What a call says of a file.
+#[derive(Clone, Copy)]
+pub struct Described {
+    /// Whether it is a regular one.
+    pub is_file: bool,
+    /// Its mode.
+    pub mode: u32,
+    /// The numbers that no other file has.
+    pub id: (u64, u64),
+}
