@@ -8,7 +8,10 @@
 //!
 //! `baseline [--wire NAME] --edit A|B|E|G --expression N TRACK`: reads TRACK, finds its frames and obeys the script on
 //! standard input (editor.rs).
+//!
+//! `baseline [--wire NAME] --diff BEFORE AFTER`: prints what differs between two tracks (difference.rs).
 
+mod difference;
 mod editor;
 
 use std::env;
@@ -405,6 +408,11 @@ fn main() {
     let listed = option(&mut arguments, "--list");
     let edited = option(&mut arguments, "--edit");
     let expression = option(&mut arguments, "--expression").map_or(2, |number| number.parse().unwrap());
+    if let Some(before) = option(&mut arguments, "--diff") {
+        let [before, after] = [&before, &arguments[0]].map(|path| read(&fs::read(path).unwrap(), wire.as_deref()).unwrap());
+        let mut out = BufWriter::with_capacity(65536, io::stdout().lock());
+        exit(if difference::print(&before, &after, &mut out).unwrap() { 0 } else { 1 });
+    }
     let source = fs::read(&arguments[0]).unwrap();
     match read(&source, wire.as_deref()) {
         Err(fault) => {

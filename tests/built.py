@@ -1,8 +1,9 @@
-"""Where this repository is, and the program that a test runs."""
+"""Where this repository is, and the programs that a test runs."""
 import os
 
 TOP = os.path.dirname(os.path.dirname(os.path.abspath(__file__)))
 BUILT = os.path.join(TOP, "crates/irig_ed/out/irig_ed")
+DIFF = os.path.join(TOP, "crates/irig_diff/out/irig_diff")
 
 
 def program_of(words):

@@ -1,5 +1,4 @@
 pub mod Options
-pub mod Errors
 pub mod Settings
 pub mod Printing
 pub mod Tracks

@@ -4,8 +4,8 @@ use Rattle.clap.specs.Words.{Text, first_value, found_of}
 use Rattle.clap.specs.declared.error.Error.{Error}
 use Rattle.clap.specs.declared.parser.matches.Found.{Found}
 use Rattle.clap.specs.declared.parser.matches.ArgMatches.{ArgMatches}
-use Rattle.irig_diff.specs.Errors.{MayRefuse}
-use Rattle.irig_diff.specs.Options.{IsParsed}
+use Rattle.irig_words.specs.Errors.{MayRefuse}
+use Rattle.irig_diff.specs.Options.{IsParsed, the_command}
 use Rattle.irig_diff.specs.declared.chosen.Settings.{Settings}
 
 -- the settings are the values of the matches
@@ -19,4 +19,4 @@ pub record AreValues (f : Found) (s : Settings) : Type 0 where
 -- is one that the parse may give
 abbrev pub Reads : List Text → Result Settings Error → Type 0
 Reads words (Ok s) = (matches : ArgMatches) × IsParsed words matches × AreValues (found_of matches) s
-Reads words (Err error) = MayRefuse words error
+Reads words (Err error) = MayRefuse the_command words error

@@ -5,7 +5,7 @@ use Rattle.irig_files.specs.declared.dump_file.DumpFileFault.{DumpFileFault}
 use Rattle.irig_files.specs.declared.dump_file.DumpFileFault.TheVariants.{CannotBeRead, TooLong}
 use Rattle.irig_files.specs.declared.dump_file.DumpFileFault.TheVariants.{OutOfMemory}
 use Rattle.irig_diff.specs.Ending.{EndsBy, Held}
-use Rattle.irig_diff.specs.Errors.{IsHelp, IsMistake}
+use Rattle.irig_words.specs.Errors.{IsHelp, IsMistake}
 use Rattle.irig_diff.specs.declared.ending.Ending.{Ending}
 use Rattle.irig_diff.specs.declared.ending.Ending.TheVariants.{Usage, Unread, Compared, Unprinted}
 use Rattle.std.specs.Prelude.{Option}

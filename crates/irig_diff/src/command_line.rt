@@ -2,13 +2,14 @@
 
 ghost use Rattle.std.specs.Prelude.{◌≡◌, IfErr, IfOk, None, false, map, string_bytes};
 ghost use Rattle.clap.specs.Words.{app_of, found_of, rule_of};
-ghost use Rattle.irig_diff.specs.Options.{IsCommand, IsParsed, IsWired, option, path};
-ghost use Rattle.irig_diff.specs.Errors.{IsMistake, MayRefuse, WantsMemory};
+ghost use Rattle.irig_diff.specs.Options.{IsCommand, IsParsed, IsWired, the_command};
 ghost use Rattle.irig_diff.specs.Settings.{AreValues, Reads};
+ghost use Rattle.irig_words.specs.Arguments.{option};
+ghost use Rattle.irig_words.specs.Errors.{IsMistake, MayRefuse, WantsMemory};
 
 use crate::chosen::Settings;
-use clap::error::ErrorKind;
-use clap::{Arg, ArgAction, ArgMatches, Command, Error};
+use clap::{Arg, ArgMatches, Command, Error};
+use irig_words::{matches_of, needed_arg, option_arg};
 use std::alloc::{AllocError, Global};
 
 /// What the words of a command line ask for, the program's name being the first.
@@ -25,30 +26,7 @@ pub fn settings<'a>(alloc: Global, words: &'a [String]) -> Result<Settings<'a>, 
 pub fn not_text(alloc: Global) -> Error
     ensures { IsMistake result }
 {
-    match said_of_bytes(alloc) {
-        Ok(error) => error,
-        Err(error) => error.into(),
-    }
-}
-
-/// The same, if memory suffices.
-fn said_of_bytes(alloc: Global) -> Result<Error, AllocError>
-    ensures { IfOk result IsMistake }
-{
-    match command(alloc) {
-        Ok(mut command) => error_of_bytes(&mut command),
-        Err(error) => Err(error),
-    }
-}
-
-/// The error of a command for an argument that is not UTF-8.
-fn error_of_bytes(command: &mut Command<'_>) -> Result<Error, AllocError>
-    ensures { IfOk result IsMistake }
-{
-    command.error(
-        ErrorKind::InvalidValue,
-        "invalid UTF-8 was detected in one or more arguments",
-    )
+    irig_words::not_text(command(alloc))
 }
 
 /// What the matches ask for.
@@ -73,17 +51,17 @@ fn chosen_of<'a>(matches: &ArgMatches<'a>) -> Result<Settings<'a>, Error>
 /// The matches of a command line that is accepted.
 fn parse_words<'a>(alloc: Global, words: &'a [String]) -> Result<ArgMatches<'a>, Error>
     ensures parsed { IfOk result (IsParsed (map string_bytes words.entry.now)) }
-    ensures refused { IfErr result (MayRefuse (map string_bytes words.entry.now)) }
+    ensures refused { IfErr result (MayRefuse the_command (map string_bytes words.entry.now)) }
 {
-    command(alloc)?.try_get_matches_from(words)
+    matches_of(command(alloc)?, words)
 }
 
 /// The command line of the program.
 fn command<'a>(alloc: Global) -> Result<Command<'a>, AllocError>
     ensures { IfOk result (λ c. IsCommand (app_of c)) }
 {
-    let before = path_arg(alloc, "BEFORE", "the dump of the track before");
-    let after = path_arg(alloc, "AFTER", "the dump of the track after");
+    let before = needed_arg(alloc, "BEFORE", "the dump of the track before");
+    let after = needed_arg(alloc, "AFTER", "the dump of the track after");
     wired(alloc)?.arg(before)?.arg(after)
 }
 
@@ -98,23 +76,8 @@ fn wired<'a>(alloc: Global) -> Result<Command<'a>, AllocError>
 
 /// An option `--name` with the name of a wire.
 fn wire_arg<'a>(alloc: Global, name: &'a str, help: &'a str) -> Arg<'a>
-    ensures rule { rule_of result ≡ option name.entry.now }
+    ensures rule { rule_of result ≡ option name.entry.now None }
     ensures local { result.global ≡ false }
 {
-    Arg::new(alloc, name)
-        .long(name)
-        .value_name("NAME")
-        .help(help)
-        .action(ArgAction::Set)
-}
-
-/// A path, which has to be there.
-fn path_arg<'a>(alloc: Global, name: &'a str, help: &'a str) -> Arg<'a>
-    ensures rule { rule_of result ≡ path name.entry.now }
-    ensures local { result.global ≡ false }
-{
-    Arg::new(alloc, name)
-        .required(true)
-        .help(help)
-        .action(ArgAction::Set)
+    option_arg(alloc, name, "NAME", help)
 }

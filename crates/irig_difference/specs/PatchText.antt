@@ -13,7 +13,7 @@ abbrev pub script_of : List Pulse → List ℕ
 script_of [] = []
 script_of (p ∷ ps) = line_of (codes "invert") p.rise p.fall ++ script_of ps
 
--- the comment that tells two lengths, unless they are the same: no line changes a length
+-- the comment with two lengths, unless they are the same: no line changes a length
 abbrev pub length_note : ℕ → ℕ → List ℕ
 length_note before after = if before == after then [] else line_of (codes "# length") before after
 
@@ -22,7 +22,7 @@ abbrev pub patch_text : RecordingView → RecordingView → List ℕ
 patch_text before after =
     length_note before.micros after.micros ++ script_of (stretches_between before after)
 
--- what of a patch is still to come: the comment, unless it was told, and the stretches left
+-- what of a patch is still to come: the comment, unless it was written, and the stretches left
 abbrev pub patch_left : Bool → ℕ → ℕ → List Pulse → List ℕ
 patch_left is_told before after left =
     (if is_told then [] else length_note before after) ++ script_of left

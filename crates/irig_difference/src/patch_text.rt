@@ -15,7 +15,7 @@ use std::marker::Model;
 const ROOM: usize = 21;
 
 /// The patch between two recordings, as lines of the editor's language: each inverts the level in
-/// one stretch in which they differ. If their lengths differ, a comment tells both before.
+/// one stretch in which they differ. If their lengths differ, a comment before them has both.
 #[derive(Drop)]
 pub struct PatchText<'a> {
     is_told: bool,
@@ -61,7 +61,7 @@ impl Text for PatchText<'_> {
     }
 }
 
-/// Writes the comment that tells two lengths, unless they are the same.
+/// Writes the comment with two lengths, unless they are the same.
 fn put_note(block: &mut Vec<u8>, before: u64, after: u64) -> Result<(), AllocError>
     ensures { OnOk result (block.new.items ≡ block.old.items ++ length_note before after) }
 {

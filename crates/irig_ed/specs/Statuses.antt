@@ -1,6 +1,6 @@
 -- The statuses of the program as a process. This project's own.
 use Rattle.std.specs.Prelude.{◌≡◌, ◌⊎◌, ℕ, List, Result, Ok, Err, codes}
-use Rattle.irig_settings.specs.Errors.{IsHelp, IsMistake}
+use Rattle.irig_words.specs.Errors.{IsHelp, IsMistake}
 use Rattle.irig_settings.specs.declared.chosen.UsageFault.TheVariants.{Words, BadExpression}
 use Rattle.irig_files.specs.declared.dump_file.DumpFileFault.{DumpFileFault}
 use Rattle.irig_files.specs.declared.dump_file.DumpFileFault.TheVariants.{CannotBeRead, TooLong}

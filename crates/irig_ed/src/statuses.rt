@@ -3,7 +3,7 @@
 ghost use Rattle.std.specs.Prelude.{◌≡◌, ◌⊎◌};
 ghost use Rattle.std.specs.Process.{exit_status};
 ghost use Rattle.irig_ed.specs.Statuses.{HasStatus, status_number, unread_text};
-ghost use Rattle.irig_settings.specs.Errors.{IsHelp, IsMistake};
+ghost use Rattle.irig_words.specs.Errors.{IsHelp, IsMistake};
 
 use crate::ending::Ending;
 use irig_files::DumpFileFault;

@@ -1,11 +1,11 @@
 -- The command line: four options and the track. This project's own.
-use Rattle.std.specs.Prelude.{◌≡◌, true, List, [], ◌∷◌, map, codes, Option, Some, None}
-use Rattle.clap.specs.Words.{App, Rule, Text, new_app, new_rule, with_rule, HasMatchesOf}
-use Rattle.clap.specs.declared.builder.ArgAction.TheVariants.{Set}
+use Rattle.std.specs.Prelude.{◌≡◌, List, [], ◌∷◌, map, codes, Some, None}
+use Rattle.clap.specs.Words.{App, Rule, Text, new_app, with_rule, HasMatchesOf}
 use Rattle.clap.specs.declared.builder.value_parser.ValueParser.{ValueParser}
 use Rattle.clap.specs.declared.builder.value_parser.ValueParser.TheVariants.{Names}
 use Rattle.clap.specs.declared.parser.matches.ArgMatches.{ArgMatches}
 use Rattle.irig_codes.specs.Words.{kind_word, kinds}
+use Rattle.irig_words.specs.Arguments.{needed, option}
 
 -- the parser takes just these texts
 abbrev pub TakesJust : List Text → ValueParser → Type 0
@@ -22,11 +22,6 @@ digits =
     codes "0" ∷ codes "1" ∷ codes "2" ∷ codes "3" ∷ codes "4" ∷ codes "5" ∷ codes "6"
     ∷ codes "7" ∷ []
 
--- an option with a value
-abbrev pub option : Text → Option ValueParser → Rule
-option name parser =
-    record (new_rule name) { long = Some name; action = Some Set; value_names = 1; parser = parser }
-
 -- an option with one of these values
 abbrev pub IsChoice : Text → List Text → Rule → Type 0
 IsChoice name values rule =
@@ -34,7 +29,7 @@ IsChoice name values rule =
 
 -- the track, which has to be there
 abbrev pub track : Rule
-track = record (new_rule (codes "TRACK")) { action = Some Set; required = true }
+track = needed (codes "TRACK")
 
 -- how the track is read: the wire's name, the format and its expression
 abbrev pub reading_with : Rule → Rule → App

@@ -8,11 +8,12 @@ use Rattle.irig_codes.specs.Format.{is_permitted}
 use Rattle.irig_codes.specs.Words.{kind_named}
 use Rattle.irig_codes.specs.declared.format.Kind.{Kind}
 use Rattle.irig_codes.specs.declared.format.Kind.TheVariants as kind
-use Rattle.irig_settings.specs.Errors.{MayRefuse, WantsMemory}
+use Rattle.irig_settings.specs.Errors.{MayRefuse}
 use Rattle.irig_settings.specs.Options.{IsParsed}
 use Rattle.irig_settings.specs.declared.chosen.Settings.{Settings}
 use Rattle.irig_settings.specs.declared.chosen.UsageFault.{UsageFault}
 use Rattle.irig_settings.specs.declared.chosen.UsageFault.TheVariants as fault
+use Rattle.irig_words.specs.Errors.{WantsMemory}
 
 -- the kind of time code with this letter; B for any other text
 abbrev pub kind_or_b : Text → Kind

@@ -4,15 +4,17 @@ ghost use Rattle.std.specs.Prelude.{◌≡◌, IfErr, IfOk, None, false, codes, 
 ghost use Rattle.std.specs.Prelude.{MatchOption, true};
 ghost use Rattle.clap.specs.Words.{Rule, app_of, found_of, new_app, rule_of, with_rule};
 ghost use Rattle.irig_settings.specs.Options.{IsCommand, IsReading, IsChoice, IsParsed};
-ghost use Rattle.irig_settings.specs.Options.{letters, option, track};
-ghost use Rattle.irig_settings.specs.Errors.{IsMistake, MayRefuse};
+ghost use Rattle.irig_settings.specs.Options.{letters, track};
+ghost use Rattle.irig_settings.specs.Errors.{MayRefuse};
 ghost use Rattle.irig_settings.specs.Settings.{Chooses, Reads, digit_named, expression_of};
 ghost use Rattle.irig_settings.specs.Settings.{is_chosen_format, kind_of, kind_or_b};
+ghost use Rattle.irig_words.specs.Arguments.{option};
+ghost use Rattle.irig_words.specs.Errors.{IsMistake};
 
 use crate::chosen::{Settings, UsageFault};
-use clap::error::ErrorKind;
-use clap::{Arg, ArgAction, ArgMatches, Command, Error};
+use clap::{Arg, ArgMatches, Command, Error};
 use irig_codes::{Format, Kind, kind_named};
+use irig_words::{matches_of, needed_arg, option_arg};
 use std::alloc::{AllocError, Global};
 
 static LETTERS: [&str; 4] = ["A", "B", "E", "G"];
@@ -33,30 +35,7 @@ pub fn settings<'a>(alloc: Global, words: &'a [String]) -> Result<Settings<'a>, 
 pub fn not_text(alloc: Global) -> Error
     ensures { IsMistake result }
 {
-    match said_of_bytes(alloc) {
-        Ok(error) => error,
-        Err(error) => error.into(),
-    }
-}
-
-/// The same, if memory suffices.
-fn said_of_bytes(alloc: Global) -> Result<Error, AllocError>
-    ensures { IfOk result IsMistake }
-{
-    match command(alloc) {
-        Ok(mut command) => error_of_bytes(&mut command),
-        Err(error) => Err(error),
-    }
-}
-
-/// The error of a command for an argument that is not UTF-8.
-fn error_of_bytes(command: &mut Command<'_>) -> Result<Error, AllocError>
-    ensures { IfOk result IsMistake }
-{
-    command.error(
-        ErrorKind::InvalidValue,
-        "invalid UTF-8 was detected in one or more arguments",
-    )
+    irig_words::not_text(command(alloc))
 }
 
 /// What the matches ask for.
@@ -114,7 +93,7 @@ fn parse_words<'a>(alloc: Global, words: &'a [String]) -> Result<ArgMatches<'a>,
     ensures parsed { IfOk result (IsParsed (map string_bytes words.entry.now)) }
     ensures refused { IfErr result (MayRefuse (map string_bytes words.entry.now)) }
 {
-    command(alloc)?.try_get_matches_from(words)
+    matches_of(command(alloc)?, words)
 }
 
 /// The command line of the program.
@@ -166,18 +145,6 @@ fn lettered<'a>(alloc: Global) -> Result<Command<'a>, AllocError>
     ))
 }
 
-/// An option `--name` with a value.
-fn option_arg<'a>(alloc: Global, name: &'a str, value: &'a str, help: &'a str) -> Arg<'a>
-    ensures rule { rule_of result ≡ option name.entry.now None }
-    ensures local { result.global ≡ false }
-{
-    Arg::new(alloc, name)
-        .long(name)
-        .value_name(value)
-        .help(help)
-        .action(ArgAction::Set)
-}
-
 /// An option `--name` with one of these values.
 fn choice_arg<'a>(
     alloc: Global,
@@ -197,8 +164,5 @@ fn track_arg<'a>(alloc: Global) -> Arg<'a>
     ensures rule { rule_of result ≡ track }
     ensures local { result.global ≡ false }
 {
-    Arg::new(alloc, "TRACK")
-        .required(true)
-        .help("the dump; commands come on standard input")
-        .action(ArgAction::Set)
+    needed_arg(alloc, "TRACK", "the dump; commands come on standard input")
 }

@@ -1,10 +1,9 @@
--- The errors of the command line. This project's own.
+-- The errors of a command line. This project's own.
 use Rattle.std.specs.Prelude.{◌≡◌, ◌≢◌, ◌⊎◌, true, List}
-use Rattle.clap.specs.Words.{HasKind, Text, fault_of, kind_of, takes}
+use Rattle.clap.specs.Words.{App, HasKind, Text, fault_of, kind_of, takes}
 use Rattle.clap.specs.declared.error.Error.{Error}
 use Rattle.clap.specs.declared.error.kind.ErrorKind.TheVariants.{DisplayHelp, DisplayVersion}
 use Rattle.clap.specs.declared.error.kind.ErrorKind.TheVariants.{OutOfMemory}
-use Rattle.irig_diff.specs.Options.{the_command}
 
 -- an error of the command line that is no call for help
 abbrev pub IsMistake : Error → Type 0
@@ -20,10 +19,10 @@ WantsMemory error = kind_of error ≡ OutOfMemory
 
 -- the command refuses the words with an error of this kind; if it takes them, only because memory
 -- ran out
-pub record IsRefused (words : List Text) (error : Error) : Type 0 where
-  pub taken : takes the_command words ≡ true → WantsMemory error
-  pub kind : HasKind (fault_of the_command words) error
+pub record IsRefused (app : App) (words : List Text) (error : Error) : Type 0 where
+  pub taken : takes app words ≡ true → WantsMemory error
+  pub kind : HasKind (fault_of app words) error
 
 -- an error that a parse of the words by the command may give
-abbrev pub MayRefuse : List Text → Error → Type 0
-MayRefuse words error = WantsMemory error ⊎ IsRefused words error
+abbrev pub MayRefuse : App → List Text → Error → Type 0
+MayRefuse app words error = WantsMemory error ⊎ IsRefused app words error

@@ -1,0 +1,51 @@
+//! What a command takes, and what it refuses.
+
+ghost use Rattle.std.specs.Prelude.{◌≡◌, IfErr, IfOk, map, string_bytes, true};
+ghost use Rattle.clap.specs.Words.{HasMatchesOf, app_of, is_simple_and_free};
+ghost use Rattle.irig_words.specs.Errors.{IsMistake, MayRefuse};
+
+use clap::error::ErrorKind;
+use clap::{ArgMatches, Command, Error};
+use std::alloc::AllocError;
+
+/// The matches of the words of a command line, the program's name being the first, if the command
+/// takes them. None of its arguments has a rule on another.
+pub fn matches_of<'a>(command: Command<'a>, words: &'a [String]) -> Result<ArgMatches<'a>, Error>
+    requires { is_simple_and_free (app_of command) ≡ true }
+    ensures parsed { IfOk result
+        (HasMatchesOf (app_of command.entry) (map string_bytes words.entry.now)) }
+    ensures refused { IfErr result
+        (MayRefuse (app_of command.entry) (map string_bytes words.entry.now)) }
+{
+    command.try_get_matches_from(words)
+}
+
+/// What `clap` says of an argument that is not UTF-8, by a command or the lack of memory for it.
+pub fn not_text(command: Result<Command<'_>, AllocError>) -> Error
+    ensures { IsMistake result }
+{
+    match said_of_bytes(command) {
+        Ok(error) => error,
+        Err(error) => error.into(),
+    }
+}
+
+/// The same, if memory suffices.
+fn said_of_bytes(command: Result<Command<'_>, AllocError>) -> Result<Error, AllocError>
+    ensures { IfOk result IsMistake }
+{
+    match command {
+        Ok(mut command) => error_of_bytes(&mut command),
+        Err(error) => Err(error),
+    }
+}
+
+/// The error of a command for an argument that is not UTF-8.
+fn error_of_bytes(command: &mut Command<'_>) -> Result<Error, AllocError>
+    ensures { IfOk result IsMistake }
+{
+    command.error(
+        ErrorKind::InvalidValue,
+        "invalid UTF-8 was detected in one or more arguments",
+    )
+}
