@@ -1,4 +1,4 @@
--- The time that a frame tells, after IRIG Standard 200-04. A time is a minute of a year and the
+-- The time of a frame, after IRIG Standard 200-04. A time is a minute of a year and the
 -- microseconds since that minute began, so that a second 60 has a time of its own. This project's
 -- own.
 use Rattle.std.specs.Prelude.{ℕ, ◌+◌, ◌*◌, nat_le, Option, Some, None, if◌then◌else◌, unwrap_or}

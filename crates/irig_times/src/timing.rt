@@ -118,7 +118,7 @@ fn shared(format: Format, point: &Point, part: u64, whole: u64) -> Time
     time_in(&point.fields, point.element as u64 * interval + over)
 }
 
-/// How much of an interval is over, if so many microseconds and picoseconds of `whole` are.
+/// How much of an interval is over, if these microseconds and picoseconds of `whole` are.
 fn share(interval: u64, micros: u64, picos: u64, whole: u64) -> u64
     requires interval { interval ≤ 100000 }
     requires picos { picos < 1000000 }
