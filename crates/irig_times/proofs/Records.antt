@@ -1,0 +1,142 @@
+-- The records of a track by their places, and which of them a pulse belongs to.
+use Rattle.std.proofs.Common.{◌≡◌, ℕ, suc, zero, ◌+◌, ◌-◌, ◌<◌, ◌≤◌, List, length, slice_get, Option, Some, None, refl, sym, ap, ◌∙◌, ◌⊎◌, inl, inr}
+use Rattle.std.proofs.Common.{subst, arith}
+use Rattle.std.specs.Prelude.{Contains}
+use Rattle.std.proofs.lemmas.Bool.{cases_lt, cases_order}
+use Rattle.std.proofs.lemmas.Option.{get_or_from_slice_get, none-some, same_Some, slice_get_within}
+use Rattle.irig_codes.specs.Format.{FormatView}
+use Rattle.irig_codes.specs.declared.fields.Fields.{Fields}
+use Rattle.irig_codes.specs.declared.note.Note.TheVariants.{Fine}
+use Rattle.irig_recording.specs.declared.pulse.Pulse.{Pulse}
+use Rattle.irig_index.specs.declared.record.Record.{Record}
+use Rattle.irig_index.specs.Frames.{frame_at, frames}
+use Rattle.irig_index.specs.Laws.{TellsOfMarker}
+use Rattle.irig_index.specs.Verdict.{verdict_of}
+use Rattle.irig_index.specs.declared.record.Verdict.TheVariants.{Read}
+use Rattle.irig_index.proofs.MarkerLaws.{frames_are_the_markers, markers_rise}
+use Rattle.irig_times.specs.Elements.{AreFrames, IsElement}
+use Rattle.irig_times.specs.FrameLooks.{PartedAt, MarkersRise}
+use Rattle.irig_times.specs.Times.{timed}
+use Rattle.irig_times.proofs.SoundFrames.{element-stands, none-within, timed-read}
+
+module _ (f : FormatView) (ps : List Pulse) where
+  -- the records rise
+  pub frames-rise : MarkersRise (frames f ps)
+  frames-rise i j r s here there lt =
+      let first = get_or_from_slice_get (frames f ps) i r r here in
+      let second = get_or_from_slice_get (frames f ps) j s r there in
+      let rise = markers_rise f ps i j r lt (slice_get_within (frames f ps) j s there) in
+      omega (arith, rise, ap (λ (z : Record). z.marker) first, ap (λ (z : Record). z.marker) second)
+
+  -- each is of a marker
+  pub frame-tells : (k : ℕ) (r : Record) → slice_get (frames f ps) k ≡ Some r → TellsOfMarker f ps r
+  frame-tells k r here =
+      (frames_are_the_markers f ps r).0 (k, slice_get_within (frames f ps) k r here, get_or_from_slice_get (frames f ps) k r r here)
+
+  -- a frame with a time is read
+  pub frame-reads : (k : ℕ) (r : Record) (g : Fields) → slice_get (frames f ps) k ≡ Some r → timed f r.verdict ≡ Some g
+      → verdict_of f (frame_at ps r.marker) ≡ Read g Fine
+  frame-reads k r g here tells = sym (frame-tells k r here).verdict ∙ timed-read f r.verdict g tells
+
+  -- the next marker after a frame with a time is not within it
+  pub frames-apart : (i j : ℕ) (r s : Record) (g : Fields) → slice_get (frames f ps) i ≡ Some r → slice_get (frames f ps) j ≡ Some s
+      → timed f r.verdict ≡ Some g → r.marker < s.marker → r.marker + 99 < s.marker
+  frames-apart i j r s g here there tells lt = elim (cases_lt (r.marker + 99) s.marker) [
+    | inl far ↦ far
+    | inr near ↦ absurd (none-within f ps r.marker g Fine (frame-reads i r g here tells) s (frame-tells j s there) lt near)
+  ]
+
+  -- after each but the last element of a frame with a time comes another pulse
+  pub next-stands : (number element : ℕ) (g : Fields) → IsElement f (frames f ps) number element g → element < 99
+      → (p : Pulse) × (slice_get ps (number + 1) ≡ Some p)
+  next-stands number element g is lt =
+      let it = element-stands f ps is.one.marker g Fine (frame-reads is.at is.one g is.there is.tells) (element + 1) (omega arith) (omega arith) in
+      let place : is.one.marker + (element + 1) ≡ number + 1 = omega (arith, is.place) in
+      (it.0, ap (slice_get ps) (sym place) ∙ it.1)
+
+  -- a marker is a pulse
+  pub marker-stands : (number : ℕ) (g : Fields) → IsElement f (frames f ps) number 0 g → (p : Pulse) × (slice_get ps number ≡ Some p)
+  marker-stands number g is =
+      let it = frame-tells is.at is.one is.there in
+      let place : is.one.marker ≡ number = omega (arith, is.place) in
+      (it.marker, ap (slice_get ps) (sym place) ∙ it.stands)
+
+module _ (rs : List Record) (number m : ℕ) (one : Record) (rise : MarkersRise rs) (here : slice_get rs m ≡ Some one) where
+  -- up to a record of a marker up to a number, all are
+  pub up_to_here : one.marker ≤ number → (k : ℕ) (r : Record) → slice_get rs k ≡ Some r → k < m + 1 → r.marker ≤ number
+  up_to_here le k r there lt = elim (cases_lt k m) [
+    | inl less ↦ omega (arith, rise k m r one there here less)
+    | inr last ↦ let place : k ≡ m = omega arith in
+        let same : r ≡ one = same_Some r one (sym there ∙ (ap (slice_get rs) place ∙ here)) in
+        omega (arith, ap (λ (z : Record). z.marker) same)
+  ]
+
+  -- from a record of a later marker on, all are
+  pub after_here : number < one.marker → (k : ℕ) (r : Record) → slice_get rs k ≡ Some r → m ≤ k → number < r.marker
+  after_here lt k r there le = elim (cases_lt m k) [
+    | inl more ↦ omega (arith, rise m k one r here there more)
+    | inr first ↦ let place : k ≡ m = omega arith in
+        let same : r ≡ one = same_Some r one (sym there ∙ (ap (slice_get rs) place ∙ here)) in
+        omega (arith, ap (λ (z : Record). z.marker) same)
+  ]
+
+-- the same of records that are the frames of a track
+pub records-rise : (f : FormatView) (rs : List Record) → AreFrames f rs → MarkersRise rs
+records-rise f rs are = subst MarkersRise (sym are.are) (frames-rise f are.pulses)
+
+module _ (f : FormatView) (rs : List Record) (are : AreFrames f rs) where
+  records-apart : (i j : ℕ) (r s : Record) (g : Fields) → slice_get rs i ≡ Some r → slice_get rs j ≡ Some s
+      → timed f r.verdict ≡ Some g → r.marker < s.marker → r.marker + 99 < s.marker
+  records-apart = subst (λ (ts : List Record). (i j : ℕ) (r s : Record) (g : Fields) → slice_get ts i ≡ Some r → slice_get ts j ≡ Some s
+      → timed f r.verdict ≡ Some g → r.marker < s.marker → r.marker + 99 < s.marker) (sym are.are) (frames-apart f are.pulses)
+
+  -- the record of the frame that has a pulse is the last one up to that pulse
+  pub element-last : (number element count : ℕ) (g : Fields) (r : Record) → PartedAt rs number (count + 1) → slice_get rs count ≡ Some r
+      → IsElement f rs number element g → (r.marker + element ≡ number) × (timed f r.verdict ≡ Some g)
+  element-last number element count g r parted here is = elim (cases_order is.at count) [
+    | inl same ↦
+        let one : is.one ≡ r = same_Some is.one r (sym is.there ∙ (ap (slice_get rs) same ∙ here)) in
+        subst (λ (z : Record). (z.marker + element ≡ number) × (timed f z.verdict ≡ Some g)) one (is.place, is.tells)
+    | inr other ↦ elim other [
+      | inl lt ↦
+          let rise = records-rise f rs are is.at count is.one r is.there here lt in
+          let apart = records-apart is.at count is.one r g is.there here is.tells rise in
+          let up = parted.before count r here (omega arith) in
+          absurd (omega (arith, apart, up, is.place, is.few))
+      | inr gt ↦
+          let after = parted.after is.at is.one is.there (omega arith) in
+          absurd (omega (arith, after, is.place))
+    ]
+  ]
+
+  -- a pulse up to which there is no marker is no element
+  pub element-none : (number element : ℕ) (g : Fields) → PartedAt rs number 0 → IsElement f rs number element g → ⊥
+  element-none number element g parted is =
+      let after = parted.after is.at is.one is.there (omega arith) in
+      omega (arith, after, is.place)
+
+  -- a frame that begins with the next pulse has the next record
+  pub begins-next : (number count : ℕ) (g : Fields) (r : Record) → PartedAt rs number count → slice_get rs count ≡ Some r
+      → IsElement f rs (number + 1) 0 g → (r.marker ≡ number + 1) × (timed f r.verdict ≡ Some g)
+  begins-next number count g r parted here is = elim (cases_order is.at count) [
+    | inl same ↦
+        let one : is.one ≡ r = same_Some is.one r (sym is.there ∙ (ap (slice_get rs) same ∙ here)) in
+        let place : is.one.marker ≡ number + 1 = omega (arith, is.place) in
+        subst (λ (z : Record). (z.marker ≡ number + 1) × (timed f z.verdict ≡ Some g)) one (place, is.tells)
+    | inr other ↦ elim other [
+      | inl lt ↦
+          let up = parted.before is.at is.one is.there lt in
+          absurd (omega (arith, up, is.place))
+      | inr gt ↦
+          let rise = records-rise f rs are count is.at r is.one here is.there gt in
+          let after = parted.after count r here (omega arith) in
+          absurd (omega (arith, after, rise, is.place))
+    ]
+  ]
+
+  -- there is none without a next record
+  pub begins-none : (number count : ℕ) (g : Fields) → PartedAt rs number count → length rs ≤ count → IsElement f rs (number + 1) 0 g → ⊥
+  begins-none number count g parted past is =
+      let within = slice_get_within rs is.at is.one is.there in
+      let up = parted.before is.at is.one is.there (omega arith) in
+      omega (arith, up, is.place)

@@ -1,0 +1,84 @@
+-- Known times and known ends of minutes, days and years, proved of the definitions by computing.
+use Rattle.std.proofs.Common.{◌≡◌, ℕ, Bool, true, false, [], ◌∷◌, map, Option, Some, None, refl}
+use Rattle.irig_codes.specs.Format.{FormatView}
+use Rattle.irig_codes.specs.declared.fields.Fields.{Fields}
+use Rattle.irig_codes.specs.declared.format.Kind.{Kind}
+use Rattle.irig_codes.specs.declared.format.Kind.TheVariants.{A, B, E, G}
+use Rattle.irig_codes.specs.declared.note.Note.TheVariants.{Fine, SbsDisagrees}
+use Rattle.irig_index.specs.declared.record.Verdict.TheVariants.{Read}
+use Rattle.irig_times.specs.declared.time.Time.{Time}
+use Rattle.irig_times.specs.Elements.{share}
+use Rattle.irig_times.specs.Follows.{is_later}
+use Rattle.irig_times.specs.Times.{minute_micros, timed}
+
+-- a time of a second
+abbrev at : Option ℕ → ℕ → ℕ → ℕ → ℕ → Time
+at year days hours minutes micros = record { year = year; days = days; hours = hours; minutes = minutes; micros = micros }
+
+-- fields of a second and hundredths
+abbrev fields : Option ℕ → ℕ → Fields
+fields hundredths seconds = record {
+  hundredths = hundredths;
+  seconds = seconds;
+  minutes = 59;
+  hours = 23;
+  days = 61;
+  year = None;
+  sbs = None;
+  control = None;
+}
+
+-- tenths of A, whole seconds of B, tens of seconds of E, hundredths of G
+pub in-minute : map minute_micros (fields (Some 90) 12 ∷ fields None 60 ∷ fields None 50 ∷ fields (Some 7) 3 ∷ []) ≡ 12900000 ∷ 60000000 ∷ 50000000 ∷ 3070000 ∷ []
+in-minute = refl
+
+-- a frame of a second 60 has a time, except in E, whose frames are longer than that second
+abbrev has : Kind → Option ℕ → ℕ → Bool
+has k hundredths seconds = told (timed (record { kind = k; expression = 1 }) (Read (fields hundredths seconds) Fine))
+  where
+    told : Option Fields → Bool
+    told None = false
+    told (Some g) = true
+
+pub second-60 : has A (Some 90) 60 ∷ has B None 60 ∷ has G (Some 99) 60 ∷ has E None 50 ∷ has E None 60 ∷ [] ≡ true ∷ true ∷ true ∷ true ∷ false ∷ []
+second-60 = refl
+
+-- the frame after one in the middle of a minute, for each format
+pub within-minute : is_later 20 100000 (at None 61 12 34 56900000) (at None 61 12 35 0)
+    ∷ is_later 20 1000000 (at None 61 12 34 56000000) (at None 61 12 34 57000000)
+    ∷ is_later 20 10000000 (at None 61 12 34 50000000) (at None 61 12 35 0)
+    ∷ is_later 20 10000 (at None 61 12 34 56990000) (at None 61 12 34 57000000)
+    ∷ is_later 20 1000000 (at None 61 12 34 56000000) (at None 61 12 34 58000000)
+    ∷ is_later 20 1000000 (at None 61 12 34 56000000) (at None 61 12 34 56000000) ∷ [] ≡ false ∷ true ∷ true ∷ true ∷ false ∷ false ∷ []
+within-minute = refl
+
+-- a minute of 61 seconds: second 60 follows second 59, and the next minute follows second 60 alone or second 59
+pub leap-second : is_later 20 1000000 (at None 61 23 59 59000000) (at None 61 23 59 60000000)
+    ∷ is_later 20 1000000 (at None 61 23 59 60000000) (at None 62 0 0 0)
+    ∷ is_later 20 1000000 (at None 61 23 59 59000000) (at None 62 0 0 0)
+    ∷ is_later 20 1000000 (at None 61 23 59 60000000) (at None 61 23 59 60000000)
+    ∷ is_later 20 100000 (at None 61 23 59 60900000) (at None 62 0 0 0)
+    ∷ is_later 20 100000 (at None 61 23 59 60000000) (at None 62 0 0 0) ∷ [] ≡ true ∷ true ∷ true ∷ false ∷ true ∷ false ∷ []
+leap-second = refl
+
+-- the end of a year that is not known: after day 365 or 366
+pub unknown-year : is_later 20 1000000 (at None 365 23 59 59000000) (at None 1 0 0 0)
+    ∷ is_later 20 1000000 (at None 365 23 59 59000000) (at None 366 0 0 0)
+    ∷ is_later 20 1000000 (at None 366 23 59 59000000) (at None 1 0 0 0)
+    ∷ is_later 20 1000000 (at None 364 23 59 59000000) (at None 1 0 0 0) ∷ [] ≡ true ∷ true ∷ true ∷ false ∷ []
+unknown-year = refl
+
+-- the end of a year of two digits: 23 has 365 days, 24 has 366; 00 has 366 in 2000 and 365 in 1900; 00 comes after 99
+pub known-year : is_later 20 1000000 (at (Some 23) 365 23 59 59000000) (at (Some 24) 1 0 0 0)
+    ∷ is_later 20 1000000 (at (Some 24) 365 23 59 59000000) (at (Some 25) 1 0 0 0)
+    ∷ is_later 20 1000000 (at (Some 24) 366 23 59 60000000) (at (Some 25) 1 0 0 0)
+    ∷ is_later 20 1000000 (at (Some 23) 365 23 59 59000000) (at (Some 23) 366 0 0 0)
+    ∷ is_later 20 1000000 (at (Some 0) 366 23 59 59000000) (at (Some 1) 1 0 0 0)
+    ∷ is_later 19 1000000 (at (Some 0) 366 23 59 59000000) (at (Some 1) 1 0 0 0)
+    ∷ is_later 19 1000000 (at (Some 99) 365 23 59 59000000) (at (Some 0) 1 0 0 0)
+    ∷ is_later 20 1000000 (at (Some 23) 365 23 59 59000000) (at None 1 0 0 0) ∷ [] ≡ true ∷ false ∷ true ∷ false ∷ true ∷ false ∷ true ∷ false ∷ []
+known-year = refl
+
+-- a share is rounded down: of a nominal interval, of a fast clock's and of a slow clock's
+pub shares : share 10000 4999 10000 ∷ share 10000 9998 9999 ∷ share 10000 10000 10001 ∷ share 100 0 99 ∷ [] ≡ 4999 ∷ 9998 ∷ 9999 ∷ 0 ∷ []
+shares = refl

@@ -1,0 +1,58 @@
+use Rattle.std.proofs.Common.{◌≡◌, ℕ, ◌+◌, ◌-◌, ◌*◌, true, Some, refl, ap, ap₂, sym, ◌∙◌, subst, arith}
+use Rattle.std.proofs.lemmas.Option.{none-some, same_Some}
+use Rattle.irig_codes.specs.Format.{frame_period_of}
+use Rattle.irig_times.specs.Follows.{is_later}
+use Rattle.irig_times.specs.Times.{time_in}
+use Rattle.irig_times.proofs.FrameLookLemmas.{looked-next, looked-none}
+use Rattle.irig_times.proofs.Records.{begins-next, begins-none}
+use Rattle.irig_times.proofs.point.is_followed.Goals as goal
+
+pub returns-then-point-len-clause-exact : goal.returns-then-point-len-clause-exact
+returns-then-point-len-clause-exact c = (
+  λ no. absurd cc,
+  λ h. absurd (begins-none c.args.format c.args.records.now.records c.requires.frames c.args.number c.args.point.now.next h.next c.requires.parted
+      (omega (arith, c.if-point-len.true, c.len.ensures)) h.begins),
+)
+
+pub returns-then-record-number-clause-exact : goal.returns-then-record-number-clause-exact
+returns-then-record-number-clause-exact c = (
+  λ no. absurd cc,
+  λ h. (let is = begins-next c.args.format c.args.records.now.records c.requires.frames c.args.number c.args.point.now.next h.next c.record-record.result
+      c.requires.parted c.record-record.ensures.value h.begins in
+      absurd (c.if-record-number.true (omega (arith, is.0)))),
+)
+
+pub returns-in-Some-clause-exact : goal.returns-in-Some-clause-exact
+returns-in-Some-clause-exact c =
+    let period = frame_period_of c.args.format.kind in
+    let told : c.is_later.result ≡ is_later c.args.century period (time_in c.args.point.now.fields 0) (time_in c.in-Some.fields 0) =
+    c.is_later.ensures
+    ∙ λ i. is_later c.args.century (c.frame_period.ensures i) (c.time_in.ensures.value i) (c.time_in-in-Some.ensures.value i) in (
+      λ yes'. record {
+        next = c.in-Some.fields;
+        begins = record {
+          at = c.args.point.now.next;
+          one = c.record-record.result;
+          there = c.record-record.ensures.value;
+          tells = sym c.in-Some.ensures;
+          place = omega (arith, c.if-record-number.false, c.requires.parted.after c.args.point.now.next c.record-record.result c.record-record.ensures.value (omega arith));
+          few = omega arith;
+        };
+        later = sym told ∙ yes';
+      },
+      λ h. (let is = begins-next c.args.format c.args.records.now.records c.requires.frames c.args.number c.args.point.now.next h.next c.record-record.result
+          c.requires.parted c.record-record.ensures.value h.begins in
+          let same : c.in-Some.fields ≡ h.next = same_Some c.in-Some.fields h.next (c.in-Some.ensures ∙ is.1) in
+          told ∙ (ap (λ g. is_later c.args.century period (time_in c.args.point.now.fields 0) (time_in g 0)) same ∙ h.later)),
+    )
+
+pub returns-in-Some-clause-looked : goal.returns-in-Some-clause-looked
+returns-in-Some-clause-looked c = looked-next _ _ _ 0 (looked-none c.args.records.now 0) c.record-record.ensures.counted
+
+pub returns-in-None-clause-exact : goal.returns-in-None-clause-exact
+returns-in-None-clause-exact c = (
+  λ no. absurd cc,
+  λ h. (let is = begins-next c.args.format c.args.records.now.records c.requires.frames c.args.number c.args.point.now.next h.next c.record-record.result
+      c.requires.parted c.record-record.ensures.value h.begins in
+      absurd (none-some h.next (c.in-None.ensures ∙ is.1))),
+)

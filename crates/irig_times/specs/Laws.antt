@@ -1,0 +1,57 @@
+-- What holds of the times of every track, in the words of the subject. This project's own.
+use Rattle.std.specs.Prelude.{◌≡◌, ◌↔◌, ℕ, ◌+◌, ◌*◌, ◌/◌, ◌<◌, ◌≤◌, List, slice_get, Some}
+use Rattle.irig_codes.specs.Format.{FormatView, interval_of}
+use Rattle.irig_codes.specs.declared.fields.Fields.{Fields}
+use Rattle.irig_recording.specs.declared.pulse.Pulse.{Pulse}
+use Rattle.irig_track.specs.Track.{IsTrack}
+use Rattle.irig_index.specs.Frames.{frames}
+use Rattle.irig_times.specs.declared.time.Time.{Time}
+use Rattle.irig_times.specs.Elements.{HasTime, IsElement}
+use Rattle.irig_times.specs.Times.{time_in}
+
+-- n / d microseconds after the start there is one time at most
+abbrev pub OneTime : Type 0
+OneTime = (f : FormatView) (century : ℕ) (ps : List Pulse) (d n : ℕ) (x y : Time)
+    → HasTime f century ps d n x → HasTime f century ps d n y → x ≡ y
+
+-- at an index point the time is that of the frame and as many intervals as there are elements before
+abbrev pub ExactAtPoints : Type 0
+ExactAtPoints = (f : FormatView) (century micros : ℕ) (ps : List Pulse) → IsTrack micros ps
+    → (d : ℕ) → 0 < d
+    → (number element : ℕ) (g : Fields) (p : Pulse) → IsElement f (frames f ps) number element g
+    → slice_get ps number ≡ Some p
+    → HasTime f century ps d (d * p.rise) (time_in g (element * interval_of f.kind))
+
+-- the second time is in the minute of the first, and not before it
+pub record NotBefore (x y : Time) : Type 0 where
+  pub year : y.year ≡ x.year
+  pub days : y.days ≡ x.days
+  pub hours : y.hours ≡ x.hours
+  pub minutes : y.minutes ≡ x.minutes
+  pub micros : x.micros ≤ y.micros
+
+-- within a frame the time never falls
+abbrev pub NeverFalls : Type 0
+NeverFalls = (f : FormatView) (century micros : ℕ) (ps : List Pulse) → IsTrack micros ps
+    → (d : ℕ) → 0 < d
+    → (n m : ℕ) (x y : Time) (a : HasTime f century ps d n x) (b : HasTime f century ps d m y)
+    → n ≤ m → a.is_element.one.marker ≡ b.is_element.one.marker → NotBefore x y
+
+-- from an index point on the time is not before that of the point, and it stays before that of the
+-- next one: one interval later, or after the last element a whole frame period after the marker
+abbrev pub BeforeTheNext : Type 0
+BeforeTheNext = (f : FormatView) (century micros : ℕ) (ps : List Pulse) → IsTrack micros ps
+    → (d : ℕ) → 0 < d → (n : ℕ) (x : Time) (a : HasTime f century ps d n x)
+    → NotBefore (time_in a.fields (a.element * interval_of f.kind)) x
+    × (x.micros < (time_in a.fields ((a.element + 1) * interval_of f.kind)).micros)
+
+-- a time is in its minute, of 61 seconds at most
+abbrev pub InItsMinute : Type 0
+InItsMinute = (f : FormatView) (century micros : ℕ) (ps : List Pulse) → IsTrack micros ps
+    → (d : ℕ) → 0 < d → (n : ℕ) (x : Time) → HasTime f century ps d n x → x.micros < 61000000
+
+-- whole picoseconds are fine enough: to round down to them changes no time
+abbrev pub PicosecondsSuffice : Type 0
+PicosecondsSuffice = (f : FormatView) (century micros : ℕ) (ps : List Pulse) → IsTrack micros ps
+    → (d : ℕ) → 0 < d → (n : ℕ) (x : Time)
+    → HasTime f century ps d n x ↔ HasTime f century ps 1000000 (n * 1000000 / d) x

@@ -1,0 +1,135 @@
+//! Which time is one frame period after another.
+
+ghost use Rattle.std.specs.Prelude.{◌≡◌, ◌+◌, ◌*◌, ◌%◌, ◌≤◌, ◌<◌, ◌^◌, pos};
+ghost use Rattle.jiff_core.specs.Calendar.{days_in_year};
+ghost use Rattle.irig_times.specs.Follows.{same_year, next_year, same_day, same_hour, same_minute};
+ghost use Rattle.irig_times.specs.Follows.{is_day_after, day_follows, hour_follows};
+ghost use Rattle.irig_times.specs.Follows.{minute_follows, is_later_in, is_later};
+
+use crate::time::Time;
+use jiff_core::civil::days_in_year;
+
+/// Whether two years are the same, or both are unknown.
+fn same_year(year: Option<u32>, other: Option<u32>) -> bool
+    ensures { result ≡ same_year year other }
+{
+    match (year, other) {
+        (None, None) => true,
+        (Some(year), Some(other)) => year == other,
+        (None, Some(_)) => false,
+        (Some(_), None) => false,
+    }
+}
+
+/// The year after a year of two digits.
+fn next_year(year: Option<u32>) -> Option<u32>
+    ensures { result ≡ next_year year }
+{
+    match year {
+        Some(year) => Some((year % 100 + 1) % 100),
+        None => None,
+    }
+}
+
+/// Whether two times are on the same day.
+fn same_day(a: &Time, b: &Time) -> bool
+    ensures { result ≡ same_day a.now b.now }
+{
+    same_year(a.year, b.year) && a.days == b.days
+}
+
+/// Whether two times are in the same hour.
+fn same_hour(a: &Time, b: &Time) -> bool
+    ensures { result ≡ same_hour a.now b.now }
+{
+    same_day(a, b) && a.hours == b.hours
+}
+
+/// Whether two times are in the same minute.
+fn same_minute(a: &Time, b: &Time) -> bool
+    ensures { result ≡ same_minute a.now b.now }
+{
+    same_hour(a, b) && a.minutes == b.minutes
+}
+
+/// Whether the second time is on the day after that of the first, if its year has `count` days.
+fn is_day_after(count: u32, a: &Time, b: &Time) -> bool
+    ensures { result ≡ is_day_after count a.now b.now }
+{
+    if a.days < count {
+        same_year(a.year, b.year) && b.days == a.days + 1
+    } else {
+        a.days == count && same_year(next_year(a.year), b.year) && b.days == 1
+    }
+}
+
+/// The same, by the year of a century; 365 or 366 days, if it is unknown.
+fn day_follows(century: u32, a: &Time, b: &Time) -> bool
+    requires { century ≤ 99 }
+    ensures { result ≡ day_follows century a.now.year a.now b.now }
+{
+    match a.year {
+        None => is_day_after(365, a, b) || is_day_after(366, a, b),
+        Some(year) => is_day_after(year_length(century, year), a, b),
+    }
+}
+
+/// How many days a year of a century has.
+fn year_length(century: u32, year: u32) -> u32
+    requires { century ≤ 99 }
+    ensures { result ≡ days_in_year (pos (100 * century + year % 100)) }
+{
+    days_in_year((100 * century + year % 100) as i16) as u32
+}
+
+/// Whether the second time is in the hour after that of the first.
+fn hour_follows(century: u32, a: &Time, b: &Time) -> bool
+    requires { century ≤ 99 }
+    ensures { result ≡ hour_follows century a.now b.now }
+{
+    if a.hours < 23 {
+        same_day(a, b) && b.hours == a.hours + 1
+    } else {
+        b.hours == 0 && day_follows(century, a, b)
+    }
+}
+
+/// Whether the second time is in the minute after that of the first.
+fn minute_follows(century: u32, a: &Time, b: &Time) -> bool
+    requires { century ≤ 99 }
+    ensures { result ≡ minute_follows century a.now b.now }
+{
+    if a.minutes < 59 {
+        same_hour(a, b) && b.minutes == a.minutes + 1
+    } else {
+        b.minutes == 0 && hour_follows(century, a, b)
+    }
+}
+
+/// Whether the second time is a frame period later, if the first is in a minute of this length.
+fn is_later_in(length: u64, century: u32, period: u64, a: &Time, b: &Time) -> bool
+    requires century { century ≤ 99 }
+    requires small { (length < 2 ^ 32) × (period < 2 ^ 32) }
+    requires times { (a.now.micros < 2 ^ 60) × (b.now.micros < 2 ^ 60) }
+    ensures { result ≡ is_later_in length century period a.now b.now }
+{
+    if a.micros >= length {
+        return false;
+    }
+    let later = a.micros + period;
+    if later < length {
+        same_minute(a, b) && b.micros == later
+    } else {
+        minute_follows(century, a, b) && b.micros + length == later
+    }
+}
+
+/// Whether the second time is a frame period later, in a minute of 60 seconds or of 61.
+pub fn is_later(century: u32, period: u64, a: &Time, b: &Time) -> bool
+    requires century { century ≤ 99 }
+    requires small { period < 2 ^ 32 }
+    requires times { (a.now.micros < 2 ^ 60) × (b.now.micros < 2 ^ 60) }
+    ensures { result ≡ is_later century period a.now b.now }
+{
+    is_later_in(60_000_000, century, period, a, b) || is_later_in(61_000_000, century, period, a, b)
+}

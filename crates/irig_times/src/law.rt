@@ -1,0 +1,14 @@
+//! What holds of the times of every track.
+
+ghost use Rattle.irig_times.specs.Laws.{BeforeTheNext, ExactAtPoints, InItsMinute, NeverFalls};
+ghost use Rattle.irig_times.specs.Laws.{OneTime, PicosecondsSuffice};
+
+/// Does nothing. Its contract is what holds of the times of every track.
+pub fn times_are_exact()
+    ensures one { OneTime }
+    ensures points { ExactAtPoints }
+    ensures falls { NeverFalls }
+    ensures between { BeforeTheNext }
+    ensures minute { InItsMinute }
+    ensures picos { PicosecondsSuffice }
+{}
