@@ -40,7 +40,16 @@ fn write(
     };
     let mut name = String::new(alloc);
     let mut block = Vec::new(alloc);
-    put_text(folder, &(), &mut name, "t", "next", None, &mut text, &mut block)
+    put_text(
+        folder,
+        &(),
+        &mut name,
+        "t",
+        "next",
+        None,
+        &mut text,
+        &mut block,
+    )
 }
 
 /// A text of three blocks.

@@ -29,11 +29,11 @@ pub loop-byte-preserved : goal.loop-byte-preserved
 loop-byte-preserved g c = record {
   since = g.met.S.Shelf.since_then _ _ _ c.loop-byte.invariant.since c.in-Ok-false.ensures.since;
   so_far = λ text h.
-    let step = rw c.in-Ok-false.field-0-test at c.in-Ok-false.ensures.ok in
-    let i = c.loop-byte.byte-index in
-    let l = c.args.bytes.now in
-    rw (← next_text text l i c.loop-byte-test.true) (obeyed_more false _ _ _ _ _ _ _ _ _ (text ++ take i l) (get_or l i 0 ∷ []) c.loop-byte.line
-    c.obey_byte.new.line (c.loop-byte.invariant.so_far text h) step);
+      let step = rw c.in-Ok-false.field-0-test at c.in-Ok-false.ensures.ok in
+      let i = c.loop-byte.byte-index in
+      let l = c.args.bytes.now in
+      rw (← next_text text l i c.loop-byte-test.true) (obeyed_more false _ _ _ _ _ _ _ _ _ (text ++ take i l) (get_or l i 0 ∷ []) c.loop-byte.line
+      c.obey_byte.new.line (c.loop-byte.invariant.so_far text h) step);
 }
 
 pub returns-clause-ok : goal.returns-clause-ok

@@ -7,7 +7,7 @@ abbrev pub invariant-loop-byte : goal.invariant-loop-byte
 invariant-loop-byte g l = record {
   since : g.S.Shelf.since l.fn.shelf l.shelf;
   so_far : (text : List ℕ) → Holds text l.fn.line → Obeyed false
-    (desk (g.W.Write.contents l.fn.out) (g.S.Shelf.known l.fn.shelf))
-    (desk (g.W.Write.contents l.out) (g.S.Shelf.known l.shelf))
-    l.fn.status l.status l.fn.session l.session (text ++ take l.byte-index l.bytes) l.line;
+      (desk (g.W.Write.contents l.fn.out) (g.S.Shelf.known l.fn.shelf))
+      (desk (g.W.Write.contents l.out) (g.S.Shelf.known l.shelf))
+      l.fn.status l.status l.fn.session l.session (text ++ take l.byte-index l.bytes) l.line;
 }

@@ -36,7 +36,7 @@ pub loop-reads-preserved : goal.loop-reads-preserved
 loop-reads-preserved g c = record {
   since = g.met.S.Shelf.since_then _ _ _ c.loop-reads.invariant.since c.in-Ok-false.ensures.since;
   so_far = let few : c.loop-reads.reads < 2 ^ 32 = omega arith in
-    (rw c.in-Ok-false.field-0-test at c.in-Ok-false.ensures.goes_on) c.loop-reads.reads _ _ _ few c.loop-reads.invariant.so_far;
+      (rw c.in-Ok-false.field-0-test at c.in-Ok-false.ensures.goes_on) c.loop-reads.reads _ _ _ few c.loop-reads.invariant.so_far;
 }
 
 pub returns-clause-reads : goal.returns-clause-reads

@@ -6,7 +6,7 @@ abbrev pub invariant-loop-reads : goal.invariant-loop-reads
 invariant-loop-reads g l = record {
   since : g.S.Shelf.since l.fn.shelf l.shelf;
   so_far : IsUnderway l.reads (g.R.Read.remaining l.fn.script) (g.R.Read.remaining l.script)
-    (desk (g.W.Write.contents l.fn.out) (g.S.Shelf.known l.fn.shelf))
-    (desk (g.W.Write.contents l.out) (g.S.Shelf.known l.shelf))
-    l.status l.fn.session l.session l.line;
+      (desk (g.W.Write.contents l.fn.out) (g.S.Shelf.known l.fn.shelf))
+      (desk (g.W.Write.contents l.out) (g.S.Shelf.known l.shelf))
+      l.status l.fn.session l.session l.line;
 }
