@@ -42,7 +42,7 @@ script_lines-more (p ∷ ps) rest u =
 pub script_lines-script : (ps : List Pulse) → UpTo (2 ^ 40) (edges_of ps) → script_lines (script_of ps) ≡ invert_lines ps
 script_lines-script ps u = ap script_lines (sym (append-nil (script_of ps))) ∙ script_lines-more ps [] u ∙ append-nil (invert_lines ps)
 
--- the lines of the comment that tells two lengths
+-- the lines of the comment that has two lengths
 abbrev pub note_lines : ℕ → ℕ → List (List ℕ)
 note_lines m n = if m == n then [] else note_line m n ∷ []
 

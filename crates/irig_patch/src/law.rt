@@ -7,7 +7,7 @@ ghost use Rattle.irig_patch.specs.Scripts.{AsLong, PatchesMake, PatchesStop, Pat
 ///
 /// It is run on a session of the recording before, whose length no edge of the one after is above.
 /// If no line is refused, it leaves a session with the edges of the recording after, with one step
-/// for each stretch. A line is refused by E5 or E11 alone. With `write` behind it, the text that is
+/// for each stretch. A line is refused by E5 or E11 alone. With `write` after it, the text that is
 /// written is the dump of these edges. If both recordings are as long, that is the recording after.
 pub fn patches_are_scripts()
     ensures make { PatchesMake }
