@@ -1,7 +1,8 @@
 """Looks at the frames that are fine before a script and after it: the script makes none worse.
 
-A frame that was fine stays as it is, unless its neighbours agree on another time. A frame that becomes fine has the
-time to which the frames next to it lead. What is moved agrees with what is before it.
+A frame that was fine stays as it is, unless its neighbours agree on another time; damage can make a frame read well with
+a wrong time. If no neighbour was fine, those of the result say it: parts of at least three frames led to theirs. A frame
+that becomes fine has the time to which the frames next to it lead. What is moved agrees with what is before it.
 """
 from __future__ import annotations
 
@@ -127,11 +128,21 @@ class Check:
         )
 
     def _is_trusted(self, frame: Frame) -> bool:
-        """Whether it has the time of a frame next to it, or those next to it do not agree on another one."""
+        """Whether it has the time of a frame next to it, or neither those next to it nor those of the result agree on
+        another one."""
         near = around(self.old.all, frame.at, 2)
-        if not near or any(self._agree(frame, each) for each in near):
+        if any(self._agree(frame, each) for each in near):
             return True
-        return not any(self._agree(*pair) for pair in combinations(near, 2))
+        return not any(self._agree(*pair) for pair in combinations(near, 2)) and not self._is_outvoted(frame)
+
+    def _is_outvoted(self, frame: Frame) -> bool:
+        """Whether at least three frames of the result, next to it, agree on another time."""
+        near = around(self.new.all, frame.at, 3)
+        return (
+            len(near) >= 3
+            and all(self._agree(*pair) for pair in combinations(near, 2))
+            and not any(self._agree(frame, each) for each in near)
+        )
 
     def _is_led_to(self, frame: Frame) -> bool:
         """Whether a frame that becomes fine has the time to which those that stay lead."""
