@@ -1,0 +1,38 @@
+-- Days counted from month to month, and the first frame that has a time.
+use Rattle.std.proofs.Common.{◌≡◌, ◌≤◌, ◌<◌, ◌+◌, ◌-◌, ◌∷◌, ℕ, zero, suc, Bool, List, Option, Some, None, drop, slice_get, ap, refl, ◌∙◌}
+use Rattle.std.specs.Prelude.{pos, if◌then◌else◌}
+use Rattle.std.proofs.Math.Dec.{eqb-suc-zero}
+use Rattle.std.proofs.Math.Seq.{drop-cons}
+use Rattle.std.proofs.lemmas.Bool.{le-leb, lt-leb}
+use Rattle.std.proofs.lemmas.Option.{get_or_from_slice_get, slice_get_within}
+use Rattle.jiff_core.specs.Calendar.{days_in_month}
+use Rattle.irig_codes.specs.Format.{FormatView}
+use Rattle.irig_codes.specs.declared.fields.Fields.{Fields}
+use Rattle.irig_index.specs.declared.record.Record.{Record}
+use Rattle.irig_times.specs.Times.{timed}
+use Rattle.irig_stamps.specs.Dates.{date_after, date_from, day_or, first_day}
+
+pub date-now : (y n m days : ℕ) → days ≤ days_in_month (pos y) m → date_after y (suc n) m days ≡ Some (m, days)
+date-now y n m days le =
+    ap (λ (b : Bool). if b then Some (m, days) else date_after y n (m + 1) (days - days_in_month (pos y) m)) (le-leb days (days_in_month (pos y) m) le)
+
+pub date-later : (y n m days : ℕ) → days_in_month (pos y) m < days → date_after y (suc n) m days ≡ date_after y n (m + 1) (days - days_in_month (pos y) m)
+date-later y n m days lt =
+    ap (λ (b : Bool). if b then Some (m, days) else date_after y n (m + 1) (days - days_in_month (pos y) m)) (lt-leb days (days_in_month (pos y) m) lt)
+
+-- the records from a place on begin with that at the place
+from-place : (rs : List Record) (k : ℕ) (r : Record) → slice_get rs k ≡ Some r → drop k rs ≡ r ∷ drop (suc k) rs
+from-place rs k r is = drop-cons rs k r (slice_get_within rs k r is) ∙ ap (λ (x : Record). x ∷ drop (suc k) rs) (get_or_from_slice_get rs k r r is)
+
+pub first-is : (f : FormatView) (rs : List Record) (k : ℕ) (r : Record) (g : Fields) → slice_get rs k ≡ Some r → timed f r.verdict ≡ Some g
+    → first_day f (drop k rs) ≡ g.days
+first-is f rs k r g is t = ap (first_day f) (from-place rs k r is) ∙ ap (λ (o : Option Fields). day_or o (first_day f (drop (suc k) rs))) t
+
+pub first-later : (f : FormatView) (rs : List Record) (k : ℕ) (r : Record) → slice_get rs k ≡ Some r → timed f r.verdict ≡ None
+    → first_day f (drop k rs) ≡ first_day f (drop (suc k) rs)
+first-later f rs k r is t = ap (first_day f) (from-place rs k r is) ∙ ap (λ (o : Option Fields). day_or o (first_day f (drop (suc k) rs))) t
+
+-- a day that is one
+pub date-some : (y days : ℕ) → (days ≡ 0 → ⊥) → date_from y days ≡ date_after y 12 1 days
+date-some y zero h = absurd (h refl)
+date-some y (suc d) h = ap (λ (b : Bool). if b then None else date_after y 12 1 (suc d)) (eqb-suc-zero d)

@@ -1,0 +1,11 @@
+pub mod Cuts
+pub mod Digits
+pub mod Late
+pub mod Words
+pub mod StampedLines
+pub mod Endings
+pub mod DateSteps
+pub mod TakenBytes
+pub mod Added
+pub mod Known
+pub mod RunSteps

@@ -1,0 +1,50 @@
+-- How a text is cut at the first byte of some kind, and a line into columns. This project's own.
+use Rattle.std.specs.Prelude.{◌==◌, ℕ, zero, suc, Bool, not, ◌&&◌, ◌||◌, nat_le, List, [], ◌∷◌}
+use Rattle.std.specs.Prelude.{Option, Some, None, if◌then◌else◌}
+use Rattle.irig_stamps.specs.declared.cutting.Until.{Until}
+use Rattle.irig_stamps.specs.declared.cutting.Until.TheVariants.{Blank, Text, Other, Comma}
+
+-- the white space of a line: space, tab and carriage return
+abbrev pub is_space : ℕ → Bool
+is_space b = (b == 32) || ((b == 9) || (b == 13))
+
+-- a decimal digit
+abbrev pub is_digit : ℕ → Bool
+is_digit b = nat_le 48 b && nat_le b 57
+
+-- a text is cut before such a byte
+abbrev pub is_at : Until → ℕ → Bool
+is_at Blank b = is_space b
+is_at Text b = not (is_space b)
+is_at Other b = not (is_digit b)
+is_at (Comma c) b = b == c
+
+-- what is before the first such byte
+abbrev pub before : Until → List ℕ → List ℕ
+before until [] = []
+before until (b ∷ bs) = if is_at until b then [] else b ∷ before until bs
+
+-- what is from the first such byte on
+abbrev pub onward : Until → List ℕ → List ℕ
+onward until [] = []
+onward until (b ∷ bs) = if is_at until b then b ∷ bs else onward until bs
+
+-- all but the first byte
+abbrev pub rest_of : List ℕ → List ℕ
+rest_of [] = []
+rest_of (b ∷ bs) = bs
+
+-- column k of a line, from 0, if white space parts them
+abbrev pub word_at : ℕ → List ℕ → List ℕ
+word_at zero text = before Blank (onward Text text)
+word_at (suc k) text = word_at k (onward Blank (onward Text text))
+
+-- column k, from 0, if a byte parts them
+abbrev pub part_at : ℕ → ℕ → List ℕ → List ℕ
+part_at c zero text = before (Comma c) text
+part_at c (suc k) text = part_at c k (rest_of (onward (Comma c) text))
+
+-- column k of a line, from 0; no byte if it is not there
+abbrev pub column_of : Option ℕ → ℕ → List ℕ → List ℕ
+column_of None k text = word_at k text
+column_of (Some c) k text = part_at c k text

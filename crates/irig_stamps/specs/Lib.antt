@@ -1,0 +1,9 @@
+pub mod Columns
+pub mod Numbers
+pub mod Dates
+pub mod Texts
+pub mod Stamps
+pub mod Runs
+pub mod Steps
+pub mod Aligned
+pub mod Front

@@ -1,0 +1,102 @@
+-- A run over a text of lines: what it reads and what it prints. This project's own.
+use Rattle.std.specs.Prelude.{◌≡◌, ◌≢◌, ◌⊎◌, ◌≤◌, ◌==◌, ◌^◌, ◌-◌, ◌&&◌, ℕ, suc, Bool}
+use Rattle.std.specs.Prelude.{true, not, if◌then◌else◌}
+use Rattle.std.specs.Prelude.{List, [], ◌∷◌, ◌++◌, length, min, Option, Result, Ok, Err}
+use Rattle.std.specs.List.{list_all, flat_map}
+use Rattle.std.specs.Io.KnownBytes.{Appends, Consumes, IsAtEnd}
+use Rattle.irig_codes.specs.Format.{FormatView}
+use Rattle.irig_recording.specs.declared.pulse.Pulse.{Pulse}
+use Rattle.irig_track.specs.Looks.{counted}
+use Rattle.irig_stamps.specs.Stamps.{IsOut, is_header, is_numbered}
+use Rattle.irig_stamps.specs.declared.fault.RunFault.{RunFault}
+use Rattle.irig_stamps.specs.declared.fault.RunFault.TheVariants.{ReadFailed, TooManyReads}
+use Rattle.irig_stamps.specs.declared.fault.RunFault.TheVariants.{PrintFailed, TooLong, OutOfMemory}
+use Rattle.irig_stamps.specs.declared.settings.Settings.{Settings}
+
+-- the text has no newline in it
+abbrev pub is_plain : List ℕ → Bool
+is_plain text = list_all (λ b. not (b == 10)) text
+
+-- each line has its own text, in order, and there are as many lines as texts; n lines are before
+abbrev pub AreOut : FormatView → List Pulse → Settings → ℕ → List (List ℕ) → List (List ℕ) → Type 0
+AreOut f ps s n [] [] = Unit {0}
+AreOut f ps s n (line ∷ lines) (out ∷ outs) =
+    (is_plain line ≡ true)
+    × (IsOut f ps s (is_header s n) line out × AreOut f ps s (suc n) lines outs)
+AreOut f ps s n [] (out ∷ outs) = ⊥
+AreOut f ps s n (line ∷ lines) [] = ⊥
+
+-- whether the column of each line has a number, but for the header; n lines are before
+abbrev pub are_numbered : Settings → ℕ → List (List ℕ) → Bool
+are_numbered s n [] = true
+are_numbered s n (line ∷ lines) = is_numbered s n line && are_numbered s (suc n) lines
+
+-- lines with the newlines that end them
+abbrev pub unlines : List (List ℕ) → List ℕ
+unlines lines = flat_map (λ line. line ++ 10 ∷ []) lines
+
+-- these bytes are whole lines and a rest, and the text is what comes out for just those lines.
+-- `count` is their number, up to 2^64 - 1, and `all` whether each of them has a number
+pub record Stamped (f : FormatView) (ps : List Pulse) (s : Settings) (bytes text rest : List ℕ)
+    (count : ℕ) (all : Bool) : Type 0 where
+  pub lines : List (List ℕ)
+  pub outs : List (List ℕ)
+  pub cut : bytes ≡ unlines lines ++ rest
+  pub begun : is_plain rest ≡ true
+  pub each : AreOut f ps s 0 lines outs
+  pub whole : text ≡ flat_map (λ out. out) outs
+  pub counts : count ≡ min (length lines) (2 ^ 64 - 1)
+  pub numbers : all ≡ are_numbered s 0 lines
+
+-- the newline that the last line of some bytes lacks
+abbrev pub ending_of : List ℕ → List ℕ
+ending_of [] = []
+ending_of (b ∷ []) = if b == 10 then [] else 10 ∷ []
+ending_of (b ∷ c ∷ bs) = ending_of (c ∷ bs)
+
+-- all bytes were read, and what comes out for their lines was printed
+pub record Ran (f : FormatView) (ps : List Pulse) (s : Settings)
+    (lines left from to : Option (List ℕ)) (all : Bool) : Type 0 where
+  pub bytes : List ℕ
+  pub text : List ℕ
+  pub count : ℕ
+  pub read : Consumes lines left bytes
+  pub end : IsAtEnd left
+  pub stamped : Stamped f ps s (bytes ++ ending_of bytes) text [] count all
+  pub printed : Appends from to text
+
+-- why a run was broken off: what was read and not stamped, what was stamped and not printed, the
+-- front of the line that was begun, and how many lines are before it
+abbrev pub IsCause : RunFault → List ℕ → List ℕ → List ℕ → ℕ → Type 0
+IsCause ReadFailed more back rest count = (more ≡ []) × (back ≡ [])
+IsCause TooManyReads more back rest count = (more ≡ []) × (back ≡ [])
+IsCause PrintFailed more back rest count = back ≢ []
+IsCause OutOfMemory more back rest count = back ≡ []
+IsCause (TooLong number) more back rest count =
+    (byte : ℕ) × (others : List ℕ) × (more ≡ byte ∷ others) × (byte ≢ 10) × (2 ^ 20 ≤ length rest)
+    × (number ≡ counted count 1) × (back ≡ [])
+
+-- a front of what comes out for the lines that were read was printed
+pub record Broke (f : FormatView) (ps : List Pulse) (s : Settings)
+    (lines left from to : Option (List ℕ)) (fault : RunFault) : Type 0 where
+  pub bytes : List ℕ
+  pub ending : List ℕ
+  pub more : List ℕ
+  pub rest : List ℕ
+  pub text : List ℕ
+  pub front : List ℕ
+  pub back : List ℕ
+  pub count : ℕ
+  pub all : Bool
+  pub read : Consumes lines left (bytes ++ more)
+  pub is_ending : (ending ≡ []) ⊎ ((ending ≡ ending_of bytes) × IsAtEnd left)
+  pub stamped : Stamped f ps s (bytes ++ ending) text rest count all
+  pub part : text ≡ front ++ back
+  pub printed : Appends from to front
+  pub cause : IsCause fault more back rest count
+
+-- how a run ends
+abbrev pub Ends : FormatView → List Pulse → Settings → Option (List ℕ) → Option (List ℕ)
+    → Option (List ℕ) → Option (List ℕ) → Result Bool RunFault → Type 0
+Ends f ps s lines left from to (Ok all) = Ran f ps s lines left from to all
+Ends f ps s lines left from to (Err fault) = Broke f ps s lines left from to fault

@@ -1,0 +1,46 @@
+-- A line with its time before it. This project's own.
+use Rattle.std.specs.Prelude.{◌≡◌, ℕ, ◌-◌, ◌≤◌, ◌++◌, List, [], ◌∷◌, Option, Some, None, unwrap_or}
+use Rattle.std.specs.Prelude.{Bool, true, false, ◌||◌, nat_lt, is_some}
+use Rattle.irig_codes.specs.Format.{FormatView}
+use Rattle.irig_recording.specs.declared.pulse.Pulse.{Pulse}
+use Rattle.irig_times.specs.declared.time.Time.{Time}
+use Rattle.irig_times.specs.Elements.{HasTime}
+use Rattle.irig_stamps.specs.Columns.{column_of}
+use Rattle.irig_stamps.specs.Numbers.{number_in}
+use Rattle.irig_stamps.specs.Texts.{word_of}
+use Rattle.irig_stamps.specs.declared.settings.Settings.{Settings}
+
+-- the recorder's time in a line, in picoseconds, if it is a number; the offset is not yet taken off
+abbrev pub picos_in : Settings → List ℕ → Option ℕ
+picos_in s line = number_in s.places (column_of s.comma s.column line)
+
+-- the time of year v picoseconds after the recorder's zero; the track starts `offset` after it
+abbrev pub IsTimeOf : FormatView → List Pulse → Settings → ℕ → Time → Type 0
+IsTimeOf f ps s v x = (s.offset ≤ v) × HasTime f s.century ps 1000000 (v - s.offset) x
+
+-- the word before a line: its time of year, or a hyphen if it has none
+abbrev pub IsWord : FormatView → List Pulse → Settings → Option ℕ → List ℕ → Type 0
+IsWord f ps s None word = word ≡ 45 ∷ []
+IsWord f ps s (Some v) word =
+    ((x : Time) → IsTimeOf f ps s v x → word ≡ word_of s (Some x))
+    × (((x : Time) → IsTimeOf f ps s v x → ⊥) → word ≡ 45 ∷ [])
+
+-- what comes out for a line: its word, the separator, and the line as it was
+pub record IsStamped (f : FormatView) (ps : List Pulse) (s : Settings) (line out : List ℕ)
+    : Type 0 where
+  pub word : List ℕ
+  pub is_word : IsWord f ps s (picos_in s line) word
+  pub whole : out ≡ word ++ (unwrap_or s.comma 9 ∷ line ++ 10 ∷ [])
+
+-- whether a line is one of the header, if n lines are before it
+abbrev pub is_header : Settings → ℕ → Bool
+is_header s n = nat_lt n s.header
+
+-- what comes out for a line: the line as it was, if it is one of the header
+abbrev pub IsOut : FormatView → List Pulse → Settings → Bool → List ℕ → List ℕ → Type 0
+IsOut f ps s true line out = out ≡ line ++ 10 ∷ []
+IsOut f ps s false line out = IsStamped f ps s line out
+
+-- whether the column of a line has a number, if it is none of the header
+abbrev pub is_numbered : Settings → ℕ → List ℕ → Bool
+is_numbered s n line = is_header s n || is_some (picos_in s line)

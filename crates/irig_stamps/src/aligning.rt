@@ -1,0 +1,79 @@
+//! Lines that are aligned with a track.
+
+ghost use Rattle.std.specs.Prelude.{◌≡◌, ◌≤◌, ◌<◌, ◌^◌, IfSome};
+ghost use Rattle.irig_index.specs.Frames.{frames};
+ghost use Rattle.irig_stamps.specs.Aligned.{Aligns, with_first_day};
+ghost use Rattle.irig_stamps.specs.Dates.{first_day};
+ghost use Rattle.irig_stamps.specs.Runs.{Ends};
+
+use crate::fault::RunFault;
+use crate::first_day::first_day;
+use crate::running::run;
+use crate::settings::Settings;
+use irig_codes::Format;
+use irig_index::Index;
+use irig_recording::Recording;
+use irig_times::FrameLens;
+use irig_track::Track;
+use std::alloc::Global;
+use std::io::{Read, Write};
+
+/// Prints lines with the times that a recording gives them. Returns whether the column of each has
+/// a number, but for the header.
+pub fn align<R: Read, W: Write>(
+    alloc: Global,
+    recording: Recording,
+    lines: &mut R,
+    out: &mut W,
+    format: Format,
+    settings: &Settings,
+) -> Result<bool, RunFault>
+    requires century { settings.now.century ≤ 99 }
+    requires offset { settings.now.offset ≤ 2 ^ 119 }
+    requires year { IfSome settings.now.year (λ y. y ≤ 9998) }
+    requires header { settings.now.header < 2 ^ 64 }
+    ensures { Aligns format recording.edges settings.now (R.remaining lines.old)
+        (R.remaining lines.new) (W.contents out.old) (W.contents out.new) result }
+{
+    let Ok(track) = Track::new(recording) else {
+        return Err(RunFault::OutOfMemory);
+    };
+    align_track(alloc, &track, lines, out, format, settings)
+}
+
+/// The same with a track.
+fn align_track<R: Read, W: Write>(
+    alloc: Global,
+    track: &Track,
+    lines: &mut R,
+    out: &mut W,
+    format: Format,
+    settings: &Settings,
+) -> Result<bool, RunFault>
+    requires century { settings.now.century ≤ 99 }
+    requires offset { settings.now.offset ≤ 2 ^ 119 }
+    requires year { IfSome settings.now.year (λ y. y ≤ 9998) }
+    requires header { settings.now.header < 2 ^ 64 }
+    ensures { Ends format track.now.pulses (with_first_day format track.now.pulses settings.now)
+        (R.remaining lines.old) (R.remaining lines.new) (W.contents out.old) (W.contents out.new)
+        result }
+{
+    let mut lens = track.lens();
+    let Ok(index) = Index::build(alloc, &mut lens, format) else {
+        return Err(RunFault::OutOfMemory);
+    };
+    let mut records = FrameLens::new(&index);
+    let settings = Settings {
+        first_day: first_day(&mut records, format),
+        ..*settings
+    };
+    run(
+        alloc,
+        lines,
+        out,
+        &mut lens,
+        &mut records,
+        format,
+        &settings,
+    )
+}

@@ -1,0 +1,54 @@
+//! The columns of a line.
+
+ghost use Rattle.std.specs.Prelude.{◌≡◌};
+ghost use Rattle.irig_stamps.specs.Columns.{column_of, word_at, part_at, rest_of};
+
+use crate::cutting::{Until, cut};
+
+/// Column `k` of a line, from 0: columns are parted by a byte, or else by white space. No byte if
+/// the line has no such column.
+pub fn column(comma: Option<u8>, k: usize, line: &[u8]) -> &[u8]
+    ensures { result.now ≡ column_of comma k line.now }
+{
+    match comma {
+        Some(comma) => part(comma, k, line),
+        None => word(k, line),
+    }
+}
+
+/// Column `k`, if white space parts them.
+fn word(k: usize, line: &[u8]) -> &[u8]
+    ensures { result.now ≡ word_at k line.now }
+{
+    let mut left = line;
+    for passed in 0..k {
+        let (_, text) = cut(left, Until::Text);
+        (_, left) = cut(text, Until::Blank);
+    }
+    let (_, text) = cut(left, Until::Text);
+    let (word, _) = cut(text, Until::Blank);
+    word
+}
+
+/// Column `k`, if a byte parts them.
+fn part(comma: u8, k: usize, line: &[u8]) -> &[u8]
+    ensures { result.now ≡ part_at comma k line.now }
+{
+    let mut left = line;
+    for passed in 0..k {
+        let (_, text) = cut(left, Until::Comma(comma));
+        left = rest(text);
+    }
+    let (part, _) = cut(left, Until::Comma(comma));
+    part
+}
+
+/// All but the first byte.
+fn rest(text: &[u8]) -> &[u8]
+    ensures { result.now ≡ rest_of text.now }
+{
+    match text {
+        [_, rest @ ..] => rest,
+        [] => text,
+    }
+}

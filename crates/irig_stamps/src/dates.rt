@@ -1,0 +1,70 @@
+//! Years and dates of times, by the calendar of jiff.
+
+ghost use Rattle.std.specs.Prelude.{◌≡◌, ◌≤◌, IfSome};
+ghost use Rattle.irig_stamps.specs.Dates.{counted_on, date_from, date_in, year_in};
+
+use crate::settings::Settings;
+use irig_times::Time;
+use jiff_core::civil::days_in_month;
+
+/// The year of a time: that of its field in the century, or else that of the first frame; a day
+/// before the one of the first frame is in the year after.
+pub fn year_in(settings: &Settings, time: &Time) -> Option<u32>
+    requires century { settings.now.century ≤ 99 }
+    requires year { IfSome settings.now.year (λ y. y ≤ 9998) }
+    ensures value { result ≡ year_in settings.now time.now }
+    ensures range { IfSome result (λ y. y ≤ 9999) }
+{
+    match time.year {
+        Some(year) => Some(100 * settings.century + year % 100),
+        None => counted_on(settings, time.days),
+    }
+}
+
+/// The year of a day, if frames carry no year.
+fn counted_on(settings: &Settings, days: u32) -> Option<u32>
+    requires year { IfSome settings.now.year (λ y. y ≤ 9998) }
+    ensures value { result ≡ counted_on settings.now days }
+    ensures range { IfSome result (λ y. y ≤ 9999) }
+{
+    match settings.year {
+        Some(year) => {
+            if days < settings.first_day {
+                Some(year + 1)
+            } else {
+                Some(year)
+            }
+        }
+        None => None,
+    }
+}
+
+/// The month and the day of it of a day in a year, if the year is known and has such a day.
+pub fn date_in(year: Option<u32>, days: u32) -> Option<(u32, u32)>
+    requires { IfSome year (λ y. y ≤ 9999) }
+    ensures { result ≡ date_in year days }
+{
+    match year {
+        Some(year) => date_from(year, days),
+        None => None,
+    }
+}
+
+/// The same for a year that is known.
+fn date_from(year: u32, days: u32) -> Option<(u32, u32)>
+    requires { year ≤ 9999 }
+    ensures { result ≡ date_from year days }
+{
+    if days == 0 {
+        return None;
+    }
+    let mut left = days;
+    for month in 1..13 {
+        let length = days_in_month(year as i16, month as u8) as u32;
+        if left <= length {
+            return Some((month, left));
+        }
+        left -= length;
+    }
+    None
+}

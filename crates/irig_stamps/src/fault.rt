@@ -1,0 +1,32 @@
+//! Why a run over lines is broken off.
+
+use thiserror::Error;
+
+/// Why a run over lines was broken off.
+#[derive(Clone, Copy, Debug, Error)]
+pub enum RunFault {
+    /// The lines could not be read.
+    #[error("cannot read the lines")]
+    ReadFailed,
+    /// There were 2^32 reads, and the lines had not ended.
+    #[error("too many reads")]
+    TooManyReads,
+    /// What comes out could not be written.
+    #[error("output failed")]
+    PrintFailed,
+    /// The line with this number, from 1, has more than 1 MiB.
+    #[error("line {0}: too long")]
+    TooLong(u64),
+    /// There is no memory.
+    #[error("out of memory")]
+    OutOfMemory,
+}
+
+/// Why a line was not taken.
+#[derive(Clone, Copy)]
+pub enum TakeFault {
+    /// The line has more than 1 MiB.
+    TooLong,
+    /// There is no memory.
+    OutOfMemory,
+}

@@ -1,0 +1,22 @@
+//! Lines with a recorder's time, and the time of day before each.
+#![tactic(auto)]
+
+mod aligning;
+mod columns;
+mod cutting;
+mod dates;
+mod fault;
+mod first_day;
+mod lines;
+mod numbers;
+mod printing;
+mod running;
+mod settings;
+mod stamping;
+mod taking;
+mod text;
+
+pub use aligning::align;
+pub use fault::RunFault;
+pub use numbers::{number, whole};
+pub use settings::{Form, Settings};

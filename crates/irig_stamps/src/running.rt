@@ -1,0 +1,189 @@
+//! The run over a text of lines.
+
+ghost use Rattle.std.specs.Prelude.{◌≡◌, ◌≤◌, ◌<◌, ◌^◌, [], ℕ, List, Option, true};
+ghost use Rattle.std.specs.Prelude.{OnOk, IfOk, IfSome};
+ghost use Rattle.std.specs.Io.{ReadsAtMost};
+ghost use Rattle.std.specs.Io.KnownBytes.{IsAtEnd, ReadConsumes};
+ghost use Rattle.irig_index.specs.Frames.{frames};
+ghost use Rattle.irig_stamps.specs.Runs.{Ends};
+ghost use Rattle.irig_stamps.specs.Steps.{GoesOn, PrintsAll, Stops, Underway};
+
+use crate::fault::{RunFault, TakeFault};
+use crate::lines::Lines;
+use crate::printing::put_all;
+use crate::settings::Settings;
+use crate::taking::{end_line, take_part};
+use irig_codes::Format;
+use irig_times::FrameLens;
+use irig_track::Lens;
+use std::alloc::Global;
+use std::io::{Read, Write};
+
+/// The most bytes of one read. What comes out for them is at most 16 times as long, for lines of
+/// two bytes.
+const READ_LIMIT: usize = 32_768;
+
+/// The most reads.
+const READS_LIMIT: u64 = 4_294_967_296;
+
+/// Reads lines to their end, and prints each with its time before it. Returns whether the column of
+/// each has a number, but for the header.
+pub fn run<R: Read, W: Write>(
+    alloc: Global,
+    lines: &mut R,
+    out: &mut W,
+    pulses: &mut Lens<'_>,
+    records: &mut FrameLens<'_>,
+    format: Format,
+    settings: &Settings,
+) -> Result<bool, RunFault>
+    requires frames { records.old.records ≡ frames format pulses.old.track.pulses }
+    requires century { settings.now.century ≤ 99 }
+    requires offset { settings.now.offset ≤ 2 ^ 119 }
+    requires year { IfSome settings.now.year (λ y. y ≤ 9998) }
+    requires header { settings.now.header < 2 ^ 64 }
+    ensures { Ends format pulses.old.track.pulses settings.now (R.remaining lines.old)
+        (R.remaining lines.new) (W.contents out.old) (W.contents out.new) result }
+{
+    let mut buffer = [0; READ_LIMIT];
+    let mut state = Lines::new(alloc);
+    let mut text = Vec::new(alloc);
+    for reads in 0..READS_LIMIT {
+        match run_read(
+            lines,
+            out,
+            &mut buffer,
+            &mut state,
+            &mut text,
+            pulses,
+            records,
+            format,
+            settings,
+        ) {
+            Ok(true) => return Ok(state.all),
+            Ok(false) => {}
+            Err(fault) => return Err(fault),
+        }
+    }
+    Err(RunFault::TooManyReads)
+}
+
+/// Reads a part of the lines and prints what comes out for it, and returns whether it was the last.
+fn run_read<R: Read, W: Write>(
+    lines: &mut R,
+    out: &mut W,
+    buffer: &mut [u8; READ_LIMIT],
+    state: &mut Lines,
+    text: &mut Vec<u8>,
+    pulses: &mut Lens<'_>,
+    records: &mut FrameLens<'_>,
+    format: Format,
+    settings: &Settings,
+) -> Result<bool, RunFault>
+    requires frames { records.old.records ≡ frames format pulses.old.track.pulses }
+    requires century { settings.now.century ≤ 99 }
+    requires offset { settings.now.offset ≤ 2 ^ 119 }
+    requires year { IfSome settings.now.year (λ y. y ≤ 9998) }
+    requires header { settings.now.header < 2 ^ 64 }
+    requires empty { text.old.items ≡ [] }
+    ensures step { (start : Option (List ℕ)) (from : Option (List ℕ))
+        → Underway format pulses.old.track.pulses settings.now start (R.remaining lines.old) from
+        (W.contents out.old) state.old.line.items state.old.count state.old.all
+        → GoesOn format pulses.old.track.pulses settings.now start (R.remaining lines.new) from
+        (W.contents out.new) state.new result }
+    ensures empty { OnOk result (text.new.items ≡ []) }
+    ensures pulses { pulses.new.track ≡ pulses.old.track }
+    ensures same { records.new.records ≡ records.old.records }
+{
+    let Ok(count) = read_part(lines, buffer) else {
+        return Err(RunFault::ReadFailed);
+    };
+    if count == 0 {
+        return end(out, state, text, pulses, records, format, settings);
+    }
+    match take_part(
+        state,
+        text,
+        pulses,
+        records,
+        format,
+        settings,
+        &buffer[..count],
+    ) {
+        Ok(()) => print(out, text, false),
+        Err(fault) => Err(stop(out, text, state.count, fault)),
+    }
+}
+
+/// One read. An error of the system goes no further than this.
+fn read_part<R: Read>(lines: &mut R, buffer: &mut [u8; READ_LIMIT]) -> Result<usize, RunFault>
+    ensures bound { ReadsAtMost result buffer.new }
+    ensures bytes { ReadConsumes (R.remaining lines.old) (R.remaining lines.new) result buffer.new }
+{
+    match lines.read(buffer) {
+        Ok(count) => Ok(count),
+        Err(_) => Err(RunFault::ReadFailed),
+    }
+}
+
+/// Ends the last line, which no newline ends, and prints what comes out for it.
+fn end<W: Write>(
+    out: &mut W,
+    state: &mut Lines,
+    text: &mut Vec<u8>,
+    pulses: &mut Lens<'_>,
+    records: &mut FrameLens<'_>,
+    format: Format,
+    settings: &Settings,
+) -> Result<bool, RunFault>
+    requires frames { records.old.records ≡ frames format pulses.old.track.pulses }
+    requires century { settings.now.century ≤ 99 }
+    requires offset { settings.now.offset ≤ 2 ^ 119 }
+    requires year { IfSome settings.now.year (λ y. y ≤ 9998) }
+    requires header { settings.now.header < 2 ^ 64 }
+    requires empty { text.old.items ≡ [] }
+    ensures step { (start : Option (List ℕ)) (left : Option (List ℕ)) (from : Option (List ℕ))
+        → IsAtEnd left → Underway format pulses.old.track.pulses settings.now start left from
+        (W.contents out.old) state.old.line.items state.old.count state.old.all
+        → GoesOn format pulses.old.track.pulses settings.now start left from
+        (W.contents out.new) state.new result }
+    ensures empty { OnOk result (text.new.items ≡ []) }
+    ensures ended { IfOk result (λ ended. ended ≡ true) }
+    ensures pulses { pulses.new.track ≡ pulses.old.track }
+    ensures same { records.new.records ≡ records.old.records }
+{
+    if state.line.is_empty() {
+        return Ok(true);
+    }
+    match end_line(state, text, pulses, records, format, settings) {
+        Ok(()) => print(out, text, true),
+        Err(_) => Err(RunFault::OutOfMemory),
+    }
+}
+
+/// Prints a text and makes it empty. Returns what it is given.
+fn print<W: Write>(out: &mut W, text: &mut Vec<u8>, ended: bool) -> Result<bool, RunFault>
+    ensures printed { PrintsAll (W.contents out.old) (W.contents out.new) text.old.items result }
+    ensures empty { OnOk result (text.new.items ≡ []) }
+    ensures ended { IfOk result (λ b. b ≡ ended) }
+{
+    let Ok(()) = put_all(out, text) else {
+        return Err(RunFault::PrintFailed);
+    };
+    text.clear();
+    Ok(ended)
+}
+
+/// Prints what comes out for the lines before one that was not taken, if it is whole. Returns why
+/// the run is broken off.
+fn stop<W: Write>(out: &mut W, text: &[u8], count: u64, fault: TakeFault) -> RunFault
+    ensures { Stops (W.contents out.old) (W.contents out.new) text.now count fault result }
+{
+    match fault {
+        TakeFault::OutOfMemory => RunFault::OutOfMemory,
+        TakeFault::TooLong => match put_all(out, text) {
+            Ok(()) => RunFault::TooLong(count.saturating_add(1)),
+            Err(_) => RunFault::PrintFailed,
+        },
+    }
+}

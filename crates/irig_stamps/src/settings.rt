@@ -1,0 +1,35 @@
+//! How lines are read and stamped.
+
+/// How a time is written.
+#[derive(Clone, Copy)]
+pub enum Form {
+    /// The day by its number in the year: `[YYYY-]DDDThh:mm:ss.ffffff`.
+    Ordinal,
+    /// The day by its month: `YYYY-MM-DDThh:mm:ss.ffffff`.
+    Calendar,
+    /// The seconds since midnight, with six decimals.
+    Seconds,
+}
+
+/// How lines are read and stamped.
+#[derive(Clone, Copy)]
+pub struct Settings {
+    /// 10^`places` picoseconds are a unit of the recorder's time.
+    pub places: usize,
+    /// The recorder's time at the start of the track, in picoseconds.
+    pub offset: u128,
+    /// The column of the recorder's time, from 0.
+    pub column: usize,
+    /// The byte that parts columns; white space if it is missing.
+    pub comma: Option<u8>,
+    /// How many lines from the first on are handed through as they are.
+    pub header: u64,
+    /// The century of years of two digits.
+    pub century: u32,
+    /// The year of the first frame that has a time, if frames carry no year.
+    pub year: Option<u32>,
+    /// The day of that frame in its year. `align` finds it.
+    pub first_day: u32,
+    /// How a time is written.
+    pub form: Form,
+}

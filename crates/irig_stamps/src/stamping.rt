@@ -1,0 +1,149 @@
+//! A line with its time before it.
+
+ghost use Rattle.std.specs.Prelude.{◌≡◌, ◌↔◌, ◌≤◌, ◌^◌, ◌++◌, ◌∷◌, [], ℕ, List, Some, min, Option};
+ghost use Rattle.std.specs.Prelude.{IfOk, IfSome, OnOk, is_some, option_map, unwrap_or};
+ghost use Rattle.irig_index.specs.Frames.{frames};
+ghost use Rattle.irig_times.specs.declared.time.Time.{Time};
+ghost use Rattle.irig_stamps.specs.Stamps.{IsOut, IsStamped, IsTimeOf, IsWord, is_header};
+ghost use Rattle.irig_stamps.specs.Stamps.{is_numbered, picos_in};
+ghost use Rattle.irig_stamps.specs.Texts.{word_of};
+
+use crate::columns::column;
+use crate::numbers::number;
+use crate::settings::Settings;
+use crate::text::put_word;
+use irig_codes::Format;
+use irig_times::{FrameLens, Time, time_at};
+use irig_track::Lens;
+use std::alloc::AllocError;
+
+/// No time is as late, in picoseconds after the start of a track: 2^62.
+const LATE: u128 = 4_611_686_018_427_387_904;
+
+/// The time of year of a recorder's time in picoseconds; 2^120 stands for all later.
+fn time_of(
+    pulses: &mut Lens<'_>,
+    records: &mut FrameLens<'_>,
+    format: Format,
+    settings: &Settings,
+    picos: u128,
+) -> Option<Time>
+    requires frames { records.old.records ≡ frames format pulses.old.track.pulses }
+    requires century { settings.now.century ≤ 99 }
+    requires offset { settings.now.offset ≤ 2 ^ 119 }
+    ensures exact { (v : ℕ) → picos ≡ min v (2 ^ 120) → (x : Time) → (result ≡ Some x)
+        ↔ IsTimeOf format pulses.old.track.pulses settings.now v x }
+    ensures pulses { pulses.new.track ≡ pulses.old.track }
+    ensures same { records.new.records ≡ records.old.records }
+{
+    // Read for its bounds alone.
+    let _count = pulses.len();
+    if picos < settings.offset {
+        return None;
+    }
+    let since = picos - settings.offset;
+    if since >= LATE {
+        return None;
+    }
+    time_at(pulses, records, format, settings.century, since as u64)
+}
+
+/// The time of year of a recorder's time, if there is one.
+fn word_time(
+    pulses: &mut Lens<'_>,
+    records: &mut FrameLens<'_>,
+    format: Format,
+    settings: &Settings,
+    told: Option<u128>,
+) -> Option<Time>
+    requires frames { records.old.records ≡ frames format pulses.old.track.pulses }
+    requires century { settings.now.century ≤ 99 }
+    requires offset { settings.now.offset ≤ 2 ^ 119 }
+    ensures word { (number : Option ℕ) → told ≡ option_map (λ v. min v (2 ^ 120)) number
+        → IsWord format pulses.old.track.pulses settings.now number
+        (word_of settings.now result) }
+    ensures pulses { pulses.new.track ≡ pulses.old.track }
+    ensures same { records.new.records ≡ records.old.records }
+{
+    match told {
+        Some(picos) => time_of(pulses, records, format, settings, picos),
+        None => None,
+    }
+}
+
+/// Adds a line to a text, with the separator before it.
+fn put_line(text: &mut Vec<u8>, comma: Option<u8>, line: &[u8]) -> Result<(), AllocError>
+    ensures { OnOk result
+        (text.new.items ≡ text.old.items ++ (unwrap_or comma 9 ∷ line.now ++ 10 ∷ [])) }
+{
+    text.extend_from_slice(&[comma.unwrap_or(b'\t')])?;
+    text.extend_from_slice(line)?;
+    text.extend_from_slice(b"\n")
+}
+
+/// Adds a line to a text as it is.
+fn put_header(text: &mut Vec<u8>, line: &[u8]) -> Result<(), AllocError>
+    ensures { OnOk result (text.new.items ≡ text.old.items ++ (line.now ++ 10 ∷ [])) }
+{
+    text.extend_from_slice(line)?;
+    text.extend_from_slice(b"\n")
+}
+
+/// Adds a line to a text with its time before it. Returns whether its column has a number.
+fn stamp(
+    text: &mut Vec<u8>,
+    pulses: &mut Lens<'_>,
+    records: &mut FrameLens<'_>,
+    format: Format,
+    settings: &Settings,
+    line: &[u8],
+) -> Result<bool, AllocError>
+    requires frames { records.old.records ≡ frames format pulses.old.track.pulses }
+    requires century { settings.now.century ≤ 99 }
+    requires offset { settings.now.offset ≤ 2 ^ 119 }
+    requires year { IfSome settings.now.year (λ y. y ≤ 9998) }
+    ensures number { IfOk result (λ numbered.
+        numbered ≡ is_some (picos_in settings.now line.now)) }
+    ensures stamped { OnOk result ((out : List ℕ)
+        × IsStamped format pulses.old.track.pulses settings.now line.now out
+        × (text.new.items ≡ text.old.items ++ out)) }
+    ensures pulses { pulses.new.track ≡ pulses.old.track }
+    ensures same { records.new.records ≡ records.old.records }
+{
+    let column = column(settings.comma, settings.column, line);
+    let told = number(settings.places, column);
+    let time = word_time(pulses, records, format, settings, told);
+    put_word(text, settings, time)?;
+    put_line(text, settings.comma, line)?;
+    Ok(told.is_some())
+}
+
+/// Adds to a text what comes out for a line, before which there are `count`. Returns whether its
+/// column has a number, or it is one of the header.
+pub fn line_out(
+    text: &mut Vec<u8>,
+    pulses: &mut Lens<'_>,
+    records: &mut FrameLens<'_>,
+    format: Format,
+    settings: &Settings,
+    count: u64,
+    line: &[u8],
+) -> Result<bool, AllocError>
+    requires frames { records.old.records ≡ frames format pulses.old.track.pulses }
+    requires century { settings.now.century ≤ 99 }
+    requires offset { settings.now.offset ≤ 2 ^ 119 }
+    requires year { IfSome settings.now.year (λ y. y ≤ 9998) }
+    ensures number { IfOk result (λ numbered.
+        numbered ≡ is_numbered settings.now count line.now) }
+    ensures out { OnOk result ((out : List ℕ)
+        × IsOut format pulses.old.track.pulses settings.now (is_header settings.now count) line.now
+        out × (text.new.items ≡ text.old.items ++ out)) }
+    ensures pulses { pulses.new.track ≡ pulses.old.track }
+    ensures same { records.new.records ≡ records.old.records }
+{
+    if count < settings.header {
+        put_header(text, line)?;
+        return Ok(true);
+    }
+    stamp(text, pulses, records, format, settings, line)
+}

@@ -1,0 +1,117 @@
+//! Bytes of lines, as they come.
+
+ghost use Rattle.std.specs.Prelude.{◌≡◌, ◌≢◌, ◌≤◌, ◌<◌, ◌^◌, ◌∷◌, [], OnOk, IfSome};
+ghost use Rattle.irig_index.specs.Frames.{frames};
+ghost use Rattle.irig_stamps.specs.Steps.{PushesAs, Takes, TakesAs};
+
+use crate::fault::TakeFault;
+use crate::lines::Lines;
+use crate::settings::Settings;
+use crate::stamping::line_out;
+use irig_codes::Format;
+use irig_times::FrameLens;
+use irig_track::Lens;
+use std::alloc::AllocError;
+
+/// The most bytes of a line, its newline not counted: 1 MiB.
+const LINE_LIMIT: usize = 1_048_576;
+
+/// Takes a byte: a newline ends the line so far, and what comes out for it is added to the text.
+fn take_byte(
+    lines: &mut Lines,
+    text: &mut Vec<u8>,
+    pulses: &mut Lens<'_>,
+    records: &mut FrameLens<'_>,
+    format: Format,
+    settings: &Settings,
+    byte: u8,
+) -> Result<(), TakeFault>
+    requires frames { records.old.records ≡ frames format pulses.old.track.pulses }
+    requires century { settings.now.century ≤ 99 }
+    requires offset { settings.now.offset ≤ 2 ^ 119 }
+    requires year { IfSome settings.now.year (λ y. y ≤ 9998) }
+    requires header { settings.now.header < 2 ^ 64 }
+    ensures taken { TakesAs format pulses.old.track.pulses settings.now (byte ∷ [])
+        text.old.items text.new.items lines.old lines.new result }
+    ensures pulses { pulses.new.track ≡ pulses.old.track }
+    ensures same { records.new.records ≡ records.old.records }
+{
+    if byte != b'\n' {
+        return push_byte(lines, byte);
+    }
+    match end_line(lines, text, pulses, records, format, settings) {
+        Ok(()) => Ok(()),
+        Err(_) => Err(TakeFault::OutOfMemory),
+    }
+}
+
+/// Adds a byte to the line so far.
+fn push_byte(lines: &mut Lines, byte: u8) -> Result<(), TakeFault>
+    requires plain { byte ≢ 10 }
+    ensures { PushesAs byte lines.old lines.new result }
+{
+    if lines.line.len() >= LINE_LIMIT {
+        return Err(TakeFault::TooLong);
+    }
+    match lines.line.push(byte) {
+        Ok(()) => Ok(()),
+        Err(_) => Err(TakeFault::OutOfMemory),
+    }
+}
+
+/// Ends the line so far.
+pub fn end_line(
+    lines: &mut Lines,
+    text: &mut Vec<u8>,
+    pulses: &mut Lens<'_>,
+    records: &mut FrameLens<'_>,
+    format: Format,
+    settings: &Settings,
+) -> Result<(), AllocError>
+    requires frames { records.old.records ≡ frames format pulses.old.track.pulses }
+    requires century { settings.now.century ≤ 99 }
+    requires offset { settings.now.offset ≤ 2 ^ 119 }
+    requires year { IfSome settings.now.year (λ y. y ≤ 9998) }
+    requires header { settings.now.header < 2 ^ 64 }
+    ensures taken { OnOk result (Takes format pulses.old.track.pulses settings.now (10 ∷ [])
+        text.old.items text.new.items lines.old lines.new) }
+    ensures next { OnOk result (lines.new.line.items ≡ []) }
+    ensures pulses { pulses.new.track ≡ pulses.old.track }
+    ensures same { records.new.records ≡ records.old.records }
+{
+    let line = lines.line.as_slice();
+    let numbered = line_out(text, pulses, records, format, settings, lines.count, line)?;
+    lines.all &= numbered;
+    lines.count = lines.count.saturating_add(1);
+    lines.line.clear();
+    Ok(())
+}
+
+/// Takes some bytes.
+pub fn take_part(
+    lines: &mut Lines,
+    text: &mut Vec<u8>,
+    pulses: &mut Lens<'_>,
+    records: &mut FrameLens<'_>,
+    format: Format,
+    settings: &Settings,
+    part: &[u8],
+) -> Result<(), TakeFault>
+    requires frames { records.old.records ≡ frames format pulses.old.track.pulses }
+    requires century { settings.now.century ≤ 99 }
+    requires offset { settings.now.offset ≤ 2 ^ 119 }
+    requires year { IfSome settings.now.year (λ y. y ≤ 9998) }
+    requires header { settings.now.header < 2 ^ 64 }
+    ensures taken { TakesAs format pulses.old.track.pulses settings.now part.now
+        text.old.items text.new.items lines.old lines.new result }
+    ensures pulses { pulses.new.track ≡ pulses.old.track }
+    ensures same { records.new.records ≡ records.old.records }
+{
+    for byte in part {
+        match take_byte(lines, text, pulses, records, format, settings, *byte) {
+            Ok(()) => {}
+            Err(fault) => return Err(fault),
+        }
+    }
+    Ok(())
+}
