@@ -1,0 +1,26 @@
+-- Numbers within limits. The greatest ones are not kept.
+use Rattle.std.proofs.Common.{◌≡◌, ◌&&◌, ◌^◌, ◌<◌, ℕ, Bool, Option, Some, None, min, ap, sym, ◌∙◌, inl, inr, arith, nat_le}
+use Rattle.std.specs.Prelude.{option_map, if◌then◌else◌}
+use Rattle.std.proofs.Math.Bool.{and-false}
+use Rattle.std.proofs.lemmas.Bool.{cases_lt, lt-leb}
+use Rattle.std.proofs.lemmas.Option.{none-some, same_Some}
+use Rattle.irig_time.specs.Values.{within}
+
+past : (first last v : ℕ) → last < v → within first last (Some v) ≡ None
+past first last v lt =
+    ap (λ (b : Bool). if nat_le first v && b then Some v else None) (lt-leb v last lt)
+    ∙ ap (λ (b : Bool). if b then Some v else None) (and-false (nat_le first v))
+
+-- the greatest number is kept for all that are greater, and none of them is within
+pub capped : (first last n : ℕ) (number : Option ℕ) → last < 2 ^ 120 → Some n ≡ option_map (λ v. min v (2 ^ 120)) number
+    → within first last (Some n) ≡ within first last number
+capped first last n None small e = absurd (none-some n (sym e))
+capped first last n (Some v) small e =
+    let is : n ≡ min v (2 ^ 120) = same_Some n (min v (2 ^ 120)) e in
+    elim (cases_lt v (2 ^ 120)) [
+      | inl low ↦ (let same : n ≡ v = omega (arith, is, low) in ap (λ (m : ℕ). within first last (Some m)) same)
+      | inr high ↦
+          let one : last < n = omega (arith, is, high, small) in
+          let other : last < v = omega (arith, high, small) in
+          past first last n one ∙ sym (past first last v other)
+    ]

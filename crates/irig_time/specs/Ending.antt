@@ -1,0 +1,57 @@
+-- What the program does for the words of its command line: from a dump and lines to the lines with
+-- their times. This project's own.
+use Rattle.std.specs.Prelude.{◌≡◌, ℕ, List, Option, Ok, Err}
+use Rattle.clap.specs.Words.{Text}
+use Rattle.irig_recording.specs.Recording.{RecordingView}
+use Rattle.irig_stamps.specs.Aligned.{Aligns}
+use Rattle.irig_time.specs.Settings.{Reads}
+use Rattle.irig_time.specs.Tracks.{HasFault, Says, name_in}
+use Rattle.irig_time.specs.declared.chosen.Chosen.{Chosen}
+use Rattle.irig_time.specs.declared.command_line.UsageFault.TheVariants.{Words}
+use Rattle.irig_time.specs.declared.command_line.UsageFault.TheVariants.{Value as of_value}
+use Rattle.irig_time.specs.declared.ending.Ending.{Ending}
+use Rattle.irig_time.specs.declared.ending.Ending.TheVariants.{Usage, Value, Unread, Aligned}
+use Rattle.irig_time.specs.declared.ending.Ending.TheVariants.{Broken}
+
+-- what the files hold, by their paths
+abbrev pub Held : Type 0
+Held = List ℕ → Option (List ℕ)
+
+-- the lines were aligned with the pulses that have these edges, or the run was broken off
+abbrev pub AlignsAs : Chosen → List ℕ → Option (List ℕ) → Option (List ℕ) → Option (List ℕ)
+    → Option (List ℕ) → Ending → Type 0
+AlignsAs chosen edges lines left from to (Aligned all) =
+    Aligns chosen.format edges chosen.settings lines left from to (Ok all)
+AlignsAs chosen edges lines left from to (Broken fault) =
+    Aligns chosen.format edges chosen.settings lines left from to (Err fault)
+AlignsAs chosen edges lines left from to _ = ⊥
+
+-- the same with the edges of the wire that the file says
+pub record AlignsFile (held : Held) (chosen : Chosen) (lines left from to : Option (List ℕ))
+    (ending : Ending) : Type 0 where
+  pub recording : RecordingView
+  pub of_track : Says (held chosen.track.now) (name_in chosen.wire) recording
+  pub aligned : AlignsAs chosen recording.edges lines left from to ending
+
+-- the lines were aligned with the track; or it was not read, and nothing was read or printed
+abbrev pub Obeys : Held → Chosen → Option (List ℕ) → Option (List ℕ) → Option (List ℕ)
+    → Option (List ℕ) → Ending → Type 0
+Obeys held chosen lines left from to (Unread path fault) =
+    (path ≡ chosen.track) × (HasFault (held chosen.track.now) (name_in chosen.wire) fault
+    × ((left ≡ lines) × (to ≡ from)))
+Obeys held chosen lines left from to (Usage error) = ⊥
+Obeys held chosen lines left from to (Value fault) = ⊥
+Obeys held chosen lines left from to (Aligned all) =
+    AlignsFile held chosen lines left from to (Aligned all)
+Obeys held chosen lines left from to (Broken fault) =
+    AlignsFile held chosen lines left from to (Broken fault)
+
+-- what the words ask for was done; or they ask for nothing, and nothing was read or printed
+abbrev pub EndsBy : List Text → Held → Option (List ℕ) → Option (List ℕ) → Option (List ℕ)
+    → Option (List ℕ) → Ending → Type 0
+EndsBy words held lines left from to (Usage error) =
+    Reads words (Err (Words error)) × ((left ≡ lines) × (to ≡ from))
+EndsBy words held lines left from to (Value fault) =
+    Reads words (Err (of_value fault)) × ((left ≡ lines) × (to ≡ from))
+EndsBy words held lines left from to ending =
+    (chosen : Chosen) × Reads words (Ok chosen) × Obeys held chosen lines left from to ending

@@ -1,0 +1,8 @@
+pub mod Options
+pub mod Errors
+pub mod Values
+pub mod Chosen
+pub mod Settings
+pub mod Tracks
+pub mod Ending
+pub mod Statuses

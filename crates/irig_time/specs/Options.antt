@@ -1,0 +1,52 @@
+-- The command line: ten options and the track. This project's own.
+use Rattle.std.specs.Prelude.{◌≡◌, true, List, codes, Some}
+use Rattle.clap.specs.Words.{App, Rule, Text, new_app, new_rule, with_rule, HasMatchesOf}
+use Rattle.clap.specs.declared.builder.ArgAction.TheVariants.{Set}
+use Rattle.clap.specs.declared.parser.matches.ArgMatches.{ArgMatches}
+
+-- an option with a value
+abbrev pub option : Text → Rule
+option name = record (new_rule name) { long = Some name; action = Some Set; value_names = 1 }
+
+-- the track, which has to be there
+abbrev pub track : Rule
+track = record (new_rule (codes "TRACK")) { action = Some Set; required = true }
+
+-- how the track is read
+abbrev pub reading : App
+reading =
+    with_rule (with_rule (with_rule (new_app (codes "irig_time")) (option (codes "wire")))
+    (option (codes "format"))) (option (codes "expression"))
+
+-- and where the recorder's time is in a line
+abbrev pub placing : App
+placing =
+    with_rule (with_rule (with_rule (with_rule reading (option (codes "unit")))
+    (option (codes "offset"))) (option (codes "column"))) (option (codes "comma"))
+
+-- and how a time is written
+abbrev pub writing : App
+writing =
+    with_rule (with_rule (with_rule placing (option (codes "header"))) (option (codes "year")))
+    (option (codes "form"))
+
+-- the command
+abbrev pub the_command : App
+the_command = with_rule writing track
+
+abbrev pub IsReading : App → Type 0
+IsReading app = app ≡ reading
+
+abbrev pub IsPlacing : App → Type 0
+IsPlacing app = app ≡ placing
+
+abbrev pub IsWriting : App → Type 0
+IsWriting app = app ≡ writing
+
+-- it is the command line of the program
+abbrev pub IsCommand : App → Type 0
+IsCommand app = app ≡ the_command
+
+-- matches that a parse of the words by the command may give
+abbrev pub IsParsed : List Text → ArgMatches → Type 0
+IsParsed words matches = HasMatchesOf the_command words matches

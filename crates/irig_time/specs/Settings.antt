@@ -1,0 +1,39 @@
+-- What the words of a command line ask for. This project's own.
+use Rattle.std.specs.Prelude.{◌≡◌, List, codes, Some, Result, Ok, Err, option_map}
+use Rattle.clap.specs.Words.{Text, first_value, found_of}
+use Rattle.clap.specs.declared.parser.matches.Found.{Found}
+use Rattle.clap.specs.declared.parser.matches.ArgMatches.{ArgMatches}
+use Rattle.irig_time.specs.Chosen.{HasFault, IsChosen}
+use Rattle.irig_time.specs.Errors.{MayRefuse}
+use Rattle.irig_time.specs.Options.{IsParsed}
+use Rattle.irig_time.specs.declared.asked.Asked.{Asked}
+use Rattle.irig_time.specs.declared.chosen.Chosen.{Chosen}
+use Rattle.irig_time.specs.declared.command_line.UsageFault.{UsageFault}
+use Rattle.irig_time.specs.declared.command_line.UsageFault.TheVariants.{Words, Value}
+
+-- the values are those of the matches
+pub record AreValues (f : Found) (a : Asked) : Type 0 where
+  pub track : first_value f (codes "TRACK") ≡ Some a.track.now
+  pub wire : first_value f (codes "wire") ≡ option_map (λ w. w.now) a.wire
+  pub format : first_value f (codes "format") ≡ option_map (λ w. w.now) a.format
+  pub expression : first_value f (codes "expression") ≡ option_map (λ w. w.now) a.expression
+  pub unit : first_value f (codes "unit") ≡ option_map (λ w. w.now) a.unit
+  pub offset : first_value f (codes "offset") ≡ option_map (λ w. w.now) a.offset
+  pub column : first_value f (codes "column") ≡ option_map (λ w. w.now) a.column
+  pub comma : first_value f (codes "comma") ≡ option_map (λ w. w.now) a.comma
+  pub header : first_value f (codes "header") ≡ option_map (λ w. w.now) a.header
+  pub year : first_value f (codes "year") ≡ option_map (λ w. w.now) a.year
+  pub form : first_value f (codes "form") ≡ option_map (λ w. w.now) a.form
+
+-- there are matches that a parse of the words may give, and these are their values
+pub record Values (words : List Text) (asked : Asked) : Type 0 where
+  pub matches : ArgMatches
+  pub parsed : IsParsed words matches
+  pub values : AreValues (found_of matches) asked
+
+-- what the words ask for; or the error is one that the parse may give, or an option has a value
+-- that it cannot have
+abbrev pub Reads : List Text → Result Chosen UsageFault → Type 0
+Reads words (Ok chosen) = (asked : Asked) × Values words asked × IsChosen asked chosen
+Reads words (Err (Words error)) = MayRefuse words error
+Reads words (Err (Value fault)) = (asked : Asked) × Values words asked × HasFault asked fault

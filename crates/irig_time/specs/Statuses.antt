@@ -1,0 +1,36 @@
+-- The statuses of the program as a process. This project's own.
+use Rattle.std.specs.Prelude.{◌≡◌, ◌⊎◌, ℕ, List, codes, true, false, Option}
+use Rattle.clap.specs.Words.{Text}
+use Rattle.irig_files.specs.declared.dump_file.DumpFileFault.{DumpFileFault}
+use Rattle.irig_files.specs.declared.dump_file.DumpFileFault.TheVariants.{CannotBeRead, TooLong}
+use Rattle.irig_files.specs.declared.dump_file.DumpFileFault.TheVariants.{OutOfMemory}
+use Rattle.irig_time.specs.Ending.{EndsBy, Held}
+use Rattle.irig_time.specs.Errors.{IsHelp, IsMistake}
+use Rattle.irig_time.specs.declared.ending.Ending.{Ending}
+use Rattle.irig_time.specs.declared.ending.Ending.TheVariants.{Usage, Value, Unread, Aligned}
+use Rattle.irig_time.specs.declared.ending.Ending.TheVariants.{Broken}
+
+-- what the program says of a file that it did not read
+abbrev pub unread_text : DumpFileFault → List ℕ
+unread_text CannotBeRead = codes "cannot be read"
+unread_text TooLong = codes "too long"
+unread_text OutOfMemory = codes "V14 OutOfMemory"
+
+-- the status for how the program ended: 0 if each line has a number, 1 if some have none, 2 for
+-- another command line, 3 if the track was not read, 4 if the run was broken off. Help ends with 0,
+-- or with 4 if it could not be printed
+abbrev pub HasStatus : Ending → ℕ → Type 0
+HasStatus (Aligned true) status = status ≡ 0
+HasStatus (Aligned false) status = status ≡ 1
+HasStatus (Usage error) status =
+    (IsMistake error → status ≡ 2) × (IsHelp error → (status ≡ 0) ⊎ (status ≡ 4))
+HasStatus (Value fault) status = status ≡ 2
+HasStatus (Unread path fault) status = status ≡ 3
+HasStatus (Broken fault) status = status ≡ 4
+
+-- what the words ask for was done, and the status of the process is the one of how that ended
+pub record Serves (words : List Text) (held : Held) (lines left from to : Option (List ℕ))
+    (status : ℕ) : Type 0 where
+  pub ending : Ending
+  pub obeyed : EndsBy words held lines left from to ending
+  pub told : HasStatus ending status

@@ -1,0 +1,62 @@
+-- The values of the command line. This project's own.
+use Rattle.std.specs.Prelude.{◌==◌, ◌&&◌, ◌^◌, ◌-◌, ℕ, Bool, not, nat_le, List, [], ◌∷◌}
+use Rattle.std.specs.Prelude.{Option, Some, None, codes, if◌then◌else◌, option_map, unwrap_or}
+use Rattle.std.specs.Str.{bytes_eq}
+use denote.Ref.{Bor}
+use Rattle.irig_stamps.specs.Columns.{is_digit}
+use Rattle.irig_stamps.specs.Numbers.{number_in, whole_in}
+use Rattle.irig_stamps.specs.declared.settings.Form.{Form}
+use Rattle.irig_stamps.specs.declared.settings.Form.TheVariants.{Ordinal, Calendar, Seconds}
+
+-- the text of an option, or another one if it is not given
+abbrev pub text_or : Option (Bor (List ℕ)) → List ℕ → List ℕ
+text_or value other = unwrap_or (option_map (λ v. v.now) value) other
+
+-- the number of a text that is one digit
+abbrev pub digit_named : List ℕ → Option ℕ
+digit_named [] = None
+digit_named (d ∷ []) = if is_digit d then Some (d - 48) else None
+digit_named (d ∷ e ∷ ds) = None
+
+-- a number, if it is one from the first to the last
+abbrev pub within : ℕ → ℕ → Option ℕ → Option ℕ
+within first last None = None
+within first last (Some v) = if nat_le first v && nat_le v last then Some v else None
+
+-- a whole number from the first to the last
+abbrev pub whole_between : ℕ → ℕ → List ℕ → Option ℕ
+whole_between first last text = within first last (whole_in text)
+
+-- 10^n picoseconds are the unit with this letter before its s
+abbrev pub prefix_places : ℕ → Option ℕ
+prefix_places p =
+    if p == 109 then Some 9 else (if p == 117 then Some 6
+    else (if p == 110 then Some 3 else (if p == 112 then Some 0 else None)))
+
+-- 10^n picoseconds are the unit with this name: s, ms, us, ns or ps
+abbrev pub places_named : List ℕ → Option ℕ
+places_named [] = None
+places_named (b ∷ []) = if b == 115 then Some 12 else None
+places_named (p ∷ b ∷ []) = if b == 115 then prefix_places p else None
+places_named (p ∷ b ∷ c ∷ bs) = None
+
+-- a byte of ASCII that can part columns: no digit, no point, and no end of a line
+abbrev pub is_parting : ℕ → Bool
+is_parting b = nat_le b 127 && (not (is_digit b) && (not (b == 46) && not (b == 10)))
+
+-- what parts columns, if it is given
+abbrev pub comma_named : List ℕ → Option ℕ
+comma_named [] = None
+comma_named (b ∷ []) = if is_parting b then Some b else None
+comma_named (b ∷ c ∷ bs) = None
+
+-- a number in a unit, in picoseconds: at most 2^119
+abbrev pub offset_named : ℕ → List ℕ → Option ℕ
+offset_named places text = within 0 (2 ^ 119) (number_in places text)
+
+-- the form with this name
+abbrev pub form_named : List ℕ → Option Form
+form_named text =
+    if bytes_eq text (codes "ordinal") then Some Ordinal
+    else (if bytes_eq text (codes "calendar") then Some Calendar
+    else (if bytes_eq text (codes "seconds") then Some Seconds else None))

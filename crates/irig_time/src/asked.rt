@@ -1,0 +1,28 @@
+//! The values of a command line.
+
+/// The values of a command line, as they are written.
+#[derive(Drop)]
+pub struct Asked<'a> {
+    /// The path of the track.
+    pub track: &'a str,
+    /// The name of its wire.
+    pub wire: Option<&'a str>,
+    /// The letter of its format.
+    pub format: Option<&'a str>,
+    /// The number of its coded expression.
+    pub expression: Option<&'a str>,
+    /// The unit of the recorder's time.
+    pub unit: Option<&'a str>,
+    /// The recorder's time at the start of the track.
+    pub offset: Option<&'a str>,
+    /// The column of the recorder's time, from 1.
+    pub column: Option<&'a str>,
+    /// What parts columns.
+    pub comma: Option<&'a str>,
+    /// How many lines are handed through.
+    pub header: Option<&'a str>,
+    /// The year of the first frame.
+    pub year: Option<&'a str>,
+    /// The form of a time.
+    pub form: Option<&'a str>,
+}

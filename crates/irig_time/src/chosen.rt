@@ -1,0 +1,53 @@
+//! What a command line asks for.
+
+use irig_codes::Format;
+use irig_stamps::Settings;
+use thiserror::Error;
+
+/// What a command line asks for.
+#[derive(Drop)]
+pub struct Chosen<'a> {
+    /// The path of the track.
+    pub track: &'a str,
+    /// The name of its wire, if one is given.
+    pub wire: Option<&'a str>,
+    /// The format in which frames are read.
+    pub format: Format,
+    /// How lines are read and stamped.
+    pub settings: Settings,
+}
+
+/// An option with a value that it cannot have.
+#[derive(Clone, Copy, Debug, Error)]
+pub enum OptionFault {
+    /// The letter of no format.
+    #[error("--format: not A, B, E or G")]
+    Format,
+    /// No expression, or one that the format does not permit.
+    #[error("--expression: not one of the format")]
+    Expression,
+    /// No unit.
+    #[error("--unit: not s, ms, us, ns or ps")]
+    Unit,
+    /// No number, or one that is too great.
+    #[error("--offset: not a number in the unit")]
+    Offset,
+    /// No number of a column.
+    #[error("--column: not a number from 1 to 65536")]
+    Column,
+    /// Nothing that can part columns.
+    #[error("--comma: not one character of ASCII that no number has")]
+    Comma,
+    /// No number of lines.
+    #[error("--header: not a number of lines")]
+    Header,
+    /// No year.
+    #[error("--year: not a year from 1 to 9998")]
+    Year,
+    /// No form.
+    #[error("--form: not ordinal, calendar or seconds")]
+    Form,
+    /// A date is asked for, and neither the frames nor the options have the year.
+    #[error("--form calendar: frames of this expression have no year, so give --year")]
+    NoYear,
+}

@@ -1,0 +1,198 @@
+//! The command line, read by `clap`.
+
+ghost use Rattle.std.specs.Prelude.{◌≡◌, ◌≤◌, IfErr, IfOk, None, false, map, string_bytes};
+ghost use Rattle.clap.specs.Words.{app_of, found_of, rule_of};
+ghost use Rattle.irig_time.specs.Chosen.{IsSound};
+ghost use Rattle.irig_time.specs.Errors.{IsMistake, MayRefuse, WantsMemory};
+ghost use Rattle.irig_time.specs.Options.{IsCommand, IsParsed, IsPlacing, IsReading, IsWriting};
+ghost use Rattle.irig_time.specs.Options.{option, track};
+ghost use Rattle.irig_time.specs.Settings.{AreValues, Reads, Values};
+
+use crate::asked::Asked;
+use crate::chosen::{Chosen, OptionFault};
+use crate::options::chosen_of;
+use clap::error::ErrorKind;
+use clap::{Arg, ArgAction, ArgMatches, Command, Error};
+use std::alloc::{AllocError, Global};
+
+/// Why a command line asks for nothing.
+#[derive(Drop)]
+pub enum UsageFault {
+    /// The words are not those of the command line, or ask for help.
+    Words(Error),
+    /// An option has a value that it cannot have.
+    Value(OptionFault),
+}
+
+/// What the words of a command line ask for, the program's name being the first.
+pub fn chosen<'a>(alloc: Global, words: &'a [String]) -> Result<Chosen<'a>, UsageFault>
+    ensures reads { Reads (map string_bytes words.entry.now) result }
+    ensures sound { IfOk result (λ c. IsSound c.settings) }
+{
+    let asked = match asked(alloc, words) {
+        Ok(asked) => asked,
+        Err(error) => return Err(UsageFault::Words(error)),
+    };
+    match chosen_of(&asked) {
+        Ok(chosen) => Ok(chosen),
+        Err(fault) => Err(UsageFault::Value(fault)),
+    }
+}
+
+/// The values of a command line.
+fn asked<'a>(alloc: Global, words: &'a [String]) -> Result<Asked<'a>, Error>
+    ensures values { IfOk result (Values (map string_bytes words.entry.now)) }
+    ensures refused { IfErr result (MayRefuse (map string_bytes words.entry.now)) }
+{
+    match parse_words(alloc, words) {
+        Ok(matches) => values_of(&matches),
+        Err(error) => Err(error),
+    }
+}
+
+/// What `clap` says of an argument that is not UTF-8.
+pub fn not_text(alloc: Global) -> Error
+    ensures { IsMistake result }
+{
+    match said_of_bytes(alloc) {
+        Ok(error) => error,
+        Err(error) => error.into(),
+    }
+}
+
+/// The same, if memory suffices.
+fn said_of_bytes(alloc: Global) -> Result<Error, AllocError>
+    ensures { IfOk result IsMistake }
+{
+    match command(alloc) {
+        Ok(mut command) => error_of_bytes(&mut command),
+        Err(error) => Err(error),
+    }
+}
+
+/// The error of a command for an argument that is not UTF-8.
+fn error_of_bytes(command: &mut Command<'_>) -> Result<Error, AllocError>
+    ensures { IfOk result IsMistake }
+{
+    command.error(
+        ErrorKind::InvalidValue,
+        "invalid UTF-8 was detected in one or more arguments",
+    )
+}
+
+/// The values of the matches.
+fn values_of<'a>(matches: &ArgMatches<'a>) -> Result<Asked<'a>, Error>
+    ensures values { IfOk result (AreValues (found_of matches.now)) }
+    ensures memory { IfErr result WantsMemory }
+{
+    let Some(track) = matches.get_str("TRACK") else {
+        return Err(AllocError.into());
+    };
+    Ok(Asked {
+        track,
+        wire: matches.get_str("wire"),
+        format: matches.get_str("format"),
+        expression: matches.get_str("expression"),
+        unit: matches.get_str("unit"),
+        offset: matches.get_str("offset"),
+        column: matches.get_str("column"),
+        comma: matches.get_str("comma"),
+        header: matches.get_str("header"),
+        year: matches.get_str("year"),
+        form: matches.get_str("form"),
+    })
+}
+
+/// The matches of a command line that is accepted.
+fn parse_words<'a>(alloc: Global, words: &'a [String]) -> Result<ArgMatches<'a>, Error>
+    ensures parsed { IfOk result (IsParsed (map string_bytes words.entry.now)) }
+    ensures refused { IfErr result (MayRefuse (map string_bytes words.entry.now)) }
+{
+    command(alloc)?.try_get_matches_from(words)
+}
+
+/// The command line of the program.
+fn command<'a>(alloc: Global) -> Result<Command<'a>, AllocError>
+    ensures { IfOk result (λ c. IsCommand (app_of c)) }
+{
+    let Ok(writing) = writing(alloc) else {
+        return Err(AllocError);
+    };
+    writing.arg(track_arg(alloc))
+}
+
+/// Its options: also how a time is written.
+fn writing<'a>(alloc: Global) -> Result<Command<'a>, AllocError>
+    ensures { IfOk result (λ c. IsWriting (app_of c)) }
+{
+    let header = option_arg(alloc, "header", "NUMBER", "lines handed through: 0");
+    let year = option_arg(alloc, "year", "YEAR", "the year of the first fine frame");
+    let form = option_arg(alloc, "form", "FORM", "ordinal, calendar or seconds");
+    placing(alloc)?.arg(header)?.arg(year)?.arg(form)
+}
+
+/// Its options: also where the recorder's time is in a line.
+fn placing<'a>(alloc: Global) -> Result<Command<'a>, AllocError>
+    ensures { IfOk result (λ c. IsPlacing (app_of c)) }
+{
+    let unit = option_arg(alloc, "unit", "UNIT", "s, ms, us, ns or ps: us");
+    let offset = option_arg(
+        alloc,
+        "offset",
+        "NUMBER",
+        "its time at the start of TRACK: 0",
+    );
+    let column = option_arg(
+        alloc,
+        "column",
+        "NUMBER",
+        "the column of its time, from 1: 1",
+    );
+    let comma = option_arg(
+        alloc,
+        "comma",
+        "CHARACTER",
+        "parts columns, if not white space",
+    );
+    reading(alloc)?
+        .arg(unit)?
+        .arg(offset)?
+        .arg(column)?
+        .arg(comma)
+}
+
+/// Its options: how the track is read.
+fn reading<'a>(alloc: Global) -> Result<Command<'a>, AllocError>
+    ensures { IfOk result (λ c. IsReading (app_of c)) }
+{
+    let wire = option_arg(alloc, "wire", "NAME", "the wire of the dump");
+    let format = option_arg(alloc, "format", "FORMAT", "A, B, E or G: B");
+    let expression = option_arg(alloc, "expression", "NUMBER", "of the format: 2");
+    Command::new(alloc, "irig_time")
+        .arg(wire)?
+        .arg(format)?
+        .arg(expression)
+}
+
+/// An option `--name` with a value.
+fn option_arg<'a>(alloc: Global, name: &'a str, value: &'a str, help: &'a str) -> Arg<'a>
+    ensures rule { rule_of result ≡ option name.entry.now }
+    ensures local { result.global ≡ false }
+{
+    Arg::new(alloc, name)
+        .long(name)
+        .value_name(value)
+        .help(help)
+        .action(ArgAction::Set)
+}
+
+/// The track, which has to be there.
+fn track_arg<'a>(alloc: Global) -> Arg<'a>
+    ensures rule { rule_of result ≡ track }
+    ensures local { result.global ≡ false }
+{
+    Arg::new(alloc, "TRACK")
+        .required(true)
+        .help("the dump; lines come on standard input")
+        .action(ArgAction::Set)
+}

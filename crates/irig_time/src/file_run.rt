@@ -1,0 +1,103 @@
+//! Lines are aligned with the track of a dump, as the words of a command line ask.
+
+ghost use Rattle.std.specs.Prelude.{◌≡◌, map, option_map, string_bytes};
+ghost use Rattle.irig_vcd.specs.Answer.{name_of};
+ghost use Rattle.irig_time.specs.Chosen.{IsSound};
+ghost use Rattle.irig_time.specs.Ending.{AlignsAs, EndsBy, Obeys};
+ghost use Rattle.irig_time.specs.Tracks.{IsTrackOf, name_in};
+
+use crate::chosen::Chosen;
+use crate::command_line::{UsageFault, chosen};
+use crate::ending::{Ending, TrackFault};
+use irig_files::Disk;
+use irig_recording::Recording;
+use irig_stamps::align;
+use std::alloc::Global;
+use std::io::{Read, Write};
+
+/// Aligns lines as the words of a command line ask, the program's name being the first.
+pub fn align_words<'a, D: Disk, R: Read, W: Write>(
+    alloc: Global,
+    words: &'a [String],
+    disk: &D,
+    lines: &mut R,
+    out: &mut W,
+) -> Ending<'a>
+    ensures { EndsBy (map string_bytes words.entry.now) (D.held disk.now) (R.remaining lines.old)
+        (R.remaining lines.new) (W.contents out.old) (W.contents out.new) result }
+{
+    match chosen(alloc, words) {
+        Ok(chosen) => align_file(alloc, &chosen, disk, lines, out),
+        Err(UsageFault::Words(error)) => Ending::Usage(error),
+        Err(UsageFault::Value(fault)) => Ending::Value(fault),
+    }
+}
+
+/// Aligns lines with the track that is chosen.
+fn align_file<'a, D: Disk, R: Read, W: Write>(
+    alloc: Global,
+    chosen: &Chosen<'a>,
+    disk: &D,
+    lines: &mut R,
+    out: &mut W,
+) -> Ending<'a>
+    requires sound { IsSound chosen.now.settings }
+    ensures { Obeys (D.held disk.now) chosen.now (R.remaining lines.old) (R.remaining lines.new)
+        (W.contents out.old) (W.contents out.new) result }
+{
+    match read_track(alloc, disk, chosen.track, chosen.wire) {
+        Ok(recording) => align_track(alloc, chosen, recording, lines, out),
+        Err(fault) => Ending::Unread(chosen.track, fault),
+    }
+}
+
+/// Aligns lines with a recording.
+fn align_track<'a, R: Read, W: Write>(
+    alloc: Global,
+    chosen: &Chosen<'a>,
+    recording: Recording,
+    lines: &mut R,
+    out: &mut W,
+) -> Ending<'a>
+    requires sound { IsSound chosen.now.settings }
+    ensures { AlignsAs chosen.now recording.edges (R.remaining lines.old)
+        (R.remaining lines.new) (W.contents out.old) (W.contents out.new) result }
+{
+    match align(
+        alloc,
+        recording,
+        lines,
+        out,
+        chosen.format,
+        &chosen.settings,
+    ) {
+        Ok(all) => Ending::Aligned(all),
+        Err(fault) => Ending::Broken(fault),
+    }
+}
+
+/// The track of a wire in the dump at a path.
+fn read_track<D: Disk>(
+    alloc: Global,
+    disk: &D,
+    path: &str,
+    wire: Option<&str>,
+) -> Result<Recording, TrackFault>
+    ensures { IsTrackOf (D.held disk.now path.now) (name_in wire.entry) result }
+{
+    match disk.read(alloc, path, bytes_of(wire)) {
+        Ok(Ok((recording, _))) => Ok(recording),
+        Ok(Err(fault)) => Err(TrackFault::Dump(fault)),
+        Err(fault) => Err(TrackFault::File(fault)),
+    }
+}
+
+/// The bytes of a wire's name, if one is given.
+fn bytes_of<'a>(wire: Option<&'a str>) -> Option<&'a [u8]>
+    ensures { name_of result ≡ name_in wire.entry }
+{
+    match wire {
+        Some(name) => Some(name.as_bytes()),
+        None => None,
+    }
+}

@@ -1,0 +1,83 @@
+//! The time of day of each line that a recorder wrote next to a time track.
+#![tactic(auto)]
+
+mod asked;
+mod chosen;
+mod command_line;
+mod ending;
+mod file_run;
+mod options;
+mod statuses;
+
+ghost use Rattle.std.specs.Prelude.{◌≡◌, map, string_bytes};
+ghost use Rattle.std.specs.Process.{exit_status};
+ghost use Rattle.irig_time.specs.Statuses.{Serves};
+
+use command_line::not_text;
+use file_run::align_words;
+use irig_disk::{SystemDir, SystemFolder};
+use irig_files::{FileSystem, Files};
+use statuses::{explain, report, tell};
+use std::alloc::AllocError;
+use std::io::{Read, Write};
+use std::process::ExitCode;
+use std::rt::{Files as FileRuntime, Runtime};
+use std::{env, io};
+
+fn main(rt: HostRuntime) -> ExitCode {
+    let Ok(files) = system_files(&rt) else {
+        return tell_no_words(&rt, &io::Error::from(io::ErrorKind::OutOfMemory));
+    };
+    match arguments(&rt) {
+        Ok(words) => start(
+            &rt,
+            words.as_slice(),
+            &files,
+            &mut rt.reader(),
+            &mut io::writer(&rt),
+        ),
+        Err(error) => tell_no_words(&rt, &error),
+    }
+}
+
+/// The files of the system. The memory of their paths is taken here.
+fn system_files<R: FileRuntime + Print + AllocGlobal>(
+    rt: &R,
+) -> Result<Files<SystemFolder<'_, R>>, AllocError> {
+    let system = SystemFolder::new(rt.alloc(), rt)?;
+    let dir = SystemDir::new(rt.alloc())?;
+    Ok(Files::new(system, dir))
+}
+
+/// Says why there are no words.
+fn tell_no_words<R: Print + Eprint + AllocGlobal>(rt: &R, error: &io::Error) -> ExitCode
+    ensures { exit_status result ≡ 2 }
+{
+    if error.kind() == io::ErrorKind::InvalidData {
+        explain(rt, &not_text(rt.alloc()))
+    } else {
+        tell(rt, 2, error)
+    }
+}
+
+/// The words of the command line, the program's name being the first.
+fn arguments<R: Runtime + AllocGlobal>(rt: &R) -> io::Result<Vec<String>> {
+    let words = env::args(rt)?.collect(rt.alloc())?;
+    Ok(words)
+}
+
+/// Aligns lines with the track that the words name, by the files of this system, and reports how
+/// that ended.
+fn start<P: Print + Eprint + AllocGlobal, C: FileSystem, R: Read, W: Write>(
+    rt: &P,
+    words: &[String],
+    disk: &Files<C>,
+    lines: &mut R,
+    out: &mut W,
+) -> ExitCode
+    ensures { Serves (map string_bytes words.now) (C.held disk.now.system) (R.remaining lines.old)
+        (R.remaining lines.new) (W.contents out.old) (W.contents out.new) (exit_status result) }
+{
+    let ending = align_words(rt.alloc(), words, disk, lines, out);
+    report(rt, &ending)
+}

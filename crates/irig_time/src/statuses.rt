@@ -1,0 +1,65 @@
+//! The statuses of the program as a process, and what it says of faults.
+
+ghost use Rattle.std.specs.Prelude.{◌≡◌, ◌⊎◌};
+ghost use Rattle.std.specs.Process.{exit_status};
+ghost use Rattle.irig_time.specs.Errors.{IsHelp, IsMistake};
+ghost use Rattle.irig_time.specs.Statuses.{HasStatus, unread_text};
+
+use crate::ending::{Ending, TrackFault};
+use irig_files::DumpFileFault;
+use std::fmt::Display;
+use std::process::ExitCode;
+
+/// The status of the process for how the program ended, which is reported if it is a fault.
+pub fn report<R: Print + Eprint>(rt: &R, ending: &Ending<'_>) -> ExitCode
+    ensures { HasStatus ending.now (exit_status result) }
+{
+    match ending {
+        Ending::Usage(error) => explain(rt, error),
+        Ending::Value(fault) => tell(rt, 2, fault),
+        Ending::Unread(path, TrackFault::File(fault)) => tell_of(rt, path, &unread_text(*fault)),
+        Ending::Unread(path, TrackFault::Dump(fault)) => tell_of(rt, path, fault),
+        Ending::Aligned(true) => ExitCode::SUCCESS,
+        Ending::Aligned(false) => ExitCode::from(1),
+        Ending::Broken(fault) => tell(rt, 4, fault),
+    }
+}
+
+/// Says why the program ends with a status.
+pub fn tell<R: Eprint, T: Display>(rt: &R, status: u8, why: &T) -> ExitCode
+    ensures { exit_status result ≡ status }
+{
+    let _ = eprintln!(rt; "irig_time: {why}");
+    ExitCode::from(status)
+}
+
+/// Says why a track was not read.
+fn tell_of<R: Eprint, T: Display>(rt: &R, path: &str, why: &T) -> ExitCode
+    ensures { exit_status result ≡ 3 }
+{
+    let _ = eprintln!(rt; "irig_time: {path}: {why}");
+    ExitCode::from(3)
+}
+
+/// Prints what `clap` says: help on the standard output, a mistake on the standard error.
+pub fn explain<R: Print + Eprint>(rt: &R, error: &clap::Error) -> ExitCode
+    ensures mistake { IsMistake error.now → exit_status result ≡ 2 }
+    ensures help { IsHelp error.now → (exit_status result ≡ 0) ⊎ (exit_status result ≡ 4) }
+{
+    match error.print(rt) {
+        _ if error.use_stderr() => ExitCode::from(2),
+        Ok(()) => ExitCode::SUCCESS,
+        Err(_) => tell(rt, 4, &"output failed"),
+    }
+}
+
+/// What the program says of a file that it did not read.
+fn unread_text<'a>(fault: DumpFileFault) -> &'a str
+    ensures { result.now ≡ unread_text fault }
+{
+    match fault {
+        DumpFileFault::CannotBeRead => "cannot be read",
+        DumpFileFault::TooLong => "too long",
+        DumpFileFault::OutOfMemory => "V14 OutOfMemory",
+    }
+}
