@@ -72,7 +72,7 @@ def complaints(top):
 
 
 def names(top):
-    """A file name with a byte that is no letter is printed as it is."""
+    """A file name with a byte that is no letter is printed as it is. The editor takes no such name, so a dump is made first."""
     with tempfile.TemporaryDirectory() as folder:
         filled(folder)
         path = os.path.join(os.fsencode(folder), b"n\xff.vcd")
@@ -80,7 +80,8 @@ def names(top):
             file.write(dump(*B).encode())
         status, printed, said = shell(top, folder, "irig_what n\udcff.vcd", PYTHONIOENCODING="utf-8:strict")
         last = printed.splitlines()[-1:]
-        good = (status, said) == (0, "") and last == ["irig_ed --format B --expression 2 --out new.vcd 'n\udcff.vcd'"]
+        good = (status, said) == (0, "") and last == [
+            "irig_wire 'n\udcff.vcd' > one.vcd && irig_ed --format B --expression 2 --out new.vcd one.vcd"]
         good or print("FAILED a name that is no UTF-8: %d %s %s" % (status, last, said))
         yield good
 
