@@ -5,8 +5,6 @@ ghost use Rattle.std.specs.Prelude.{◌≤◌, ◌^◌, length};
 mod cuts;
 mod journals;
 mod pieces;
-mod plain;
-mod small_dumps;
 mod texts;
 mod units;
 mod whole;

@@ -1,9 +1,5 @@
-//! Worked rows, and the definitions, computed slowly, against the edits.
+//! Worked rows of edits, and texts in parts.
 
 mod helpers;
 mod parts;
 mod rows;
-mod sets;
-mod shifts;
-mod small;
-mod splices;
