@@ -4,6 +4,7 @@ from __future__ import annotations
 from dataclasses import dataclass, field
 from typing import List, Optional
 
+from . import limits
 from .copies import settle, take_out
 from .editor import Listing
 from .faults import Faults, Remark
@@ -12,12 +13,10 @@ from .interval import Clock, Run, share_in_step
 from .layout import Layout
 from .remarks import remarks
 from .script import Repair
-from .slots import SURE, link, parts, sure_parts
+from .slots import link, parts, sure_parts
 from .steps import Step, apart, cut, step_zones, stretches, turned
 from .threshold import level
 from .track import Track
-
-FEW = SURE  # pulses; fewer make no run
 
 
 @dataclass
@@ -50,7 +49,7 @@ def examine(listing: Listing, steady: bool = False, move: bool = False) -> Findi
     layout = Layout(listing.kind, listing.expression)
     layout.steady = steady
     findings = Findings(layout)
-    if len(listing.rises) < FEW:
+    if len(listing.rises) < limits.SURE_RUN:
         findings.remarks.append(
             Remark(0, "%d pulses are too few to make a frame" % len(listing.rises), "is it another wire?")
         )
@@ -58,10 +57,10 @@ def examine(listing: Listing, steady: bool = False, move: bool = False) -> Findi
     upright, turned = share_in_step(listing.rises, layout.interval), share_in_step(
         listing.falls, layout.interval
     )
-    if turned > 0.8 and turned > upright + 0.1:
+    if turned > limits.UPSIDE_DOWN and turned > upright + limits.MORE_THAN_UPRIGHT:
         why = "the falls come at one distance, the rises do not: the wire is upside down"
         findings.turned, findings.whole = True, [Repair(0, [why], ["invert 0 %d" % listing.length])]
-    elif upright < 0.5:
+    elif upright < limits.FIT:
         findings.remarks.append(
             Remark(
                 0,
@@ -81,7 +80,7 @@ def _examine_parts(listing: Listing, findings: Findings, move: bool) -> None:
     found = parts(clock, listing.classes)
     for runs in reversed(found):
         cost = link(clock, runs, listing.classes, findings.layout.unused)
-        if cost > 5 + sum(run.count for run in runs) / 18:
+        if cost > limits.FAULTS_AT_LEAST + limits.FAULTS_A_PULSE * sum(run.count for run in runs):
             at = listing.rises[runs[0].first]
             seen = "from pulse %d on the position identifiers are not ten apart" % (runs[0].first + 1)
             findings.remarks.append(Remark(at, seen, "is it another format, or another wire?"))

@@ -6,7 +6,8 @@ from bisect import bisect_left
 from itertools import accumulate
 from typing import Iterable, List, NamedTuple, Optional, Tuple
 
-from .frames import LONGEST_CUT, Span, Times
+from . import limits
+from .frames import Span, Times
 from .interval import Run
 from .script import Repair
 from .track import Track
@@ -30,7 +31,7 @@ def settle(track: Track, times: Times) -> bool:
         frames, zone = times.frames_between(left, right), track.zone_of[right[0].place]
         if frames is not None and zone.skipped() + 100 * frames > 0:
             right[0].gone = zone.skipped() + 100 * frames
-            if frames and right[0].gone <= LONGEST_CUT:
+            if frames and right[0].gone <= limits.LONGEST_CUT:
                 changed = True
                 track.move_on(right[0], 100 * frames)
     return changed or _settle_late(track, times)
@@ -79,7 +80,8 @@ def _copied(track: Track, zone: Zone, many: int) -> Optional[int]:
 
     unlike, alike = _sums((told(at - many), told(at)) for at in range(low, high + many))
     faults, at = min((unlike[at + many] - unlike[at], at) for at in range(high - low + 1))
-    is_copy = faults <= many // 25 and alike[at + many] - alike[at] >= many // 2
+    fit, same = many // limits.UNLIKE_IN_COPY, many // limits.ALIKE_IN_COPY
+    is_copy = faults <= fit and alike[at + many] - alike[at] >= same
     return right.first + low + at if is_copy else None
 
 
@@ -89,7 +91,7 @@ def again_within(track: Track, before: Span, after: Span) -> Optional[Again]:
     many = 100 * (before.base - after.base) // track.layout.period
     low = max(100 * before.last, track.first + many)
     high = min(100 * after.first + 99, track.last - many)
-    if many <= 0 or low >= high or max(many, high - low) > LONGEST_CUT:
+    if many <= 0 or low >= high or max(many, high - low) > limits.LONGEST_CUT:
         return None
     text, begin = track.told, low - track.first
     unlike, _ = _sums(zip(text[begin - many:], text[begin:high + many + 1 - track.first]))
@@ -97,7 +99,7 @@ def again_within(track: Track, before: Span, after: Span) -> Optional[Again]:
     least = min(faults)
     place = low + faults.index(least)
     first, rest = track.pulses_at(place), track.pulses_at(place + many)
-    if least > many // 50 or len(first) != 1 or len(rest) != 1 or rest[0] - first[0] != many:
+    if least > many // limits.UNLIKE_WITHIN or len(first) != 1 or len(rest) != 1 or rest[0] - first[0] != many:
         return None
     return Again(first[0], many, min(faults[-low % 100:: 100], default=9) > least + 1)
 
@@ -106,7 +108,7 @@ def without_copy(track: Track, first: int, many: int) -> Optional[Repair]:
     """The repair that takes that many elements out, from a pulse on; None if the rest does not follow
     them."""
     begin, by = track.rises[first], round(many * track.clock.interval)
-    after = bisect_left(track.rises, begin + by - 0.2 * track.clock.interval)
+    after = bisect_left(track.rises, begin + by - limits.BEFORE_ITS_RISE * track.clock.interval)
     if after == len(track.rises):
         return None
     if abs(track.rises[after] - begin - by) <= track.clock.slack(many):
@@ -124,7 +126,7 @@ def copy_between(track: Track, times: Times, left: List[Run], right: List[Run]) 
     these runs; None if there is none."""
     frames, zone = times.frames_between(left, right), track.zone_of[right[0].place]
     many = 0 if frames is None else -zone.skipped() - 100 * frames
-    first = _copied(track, zone, many) if 0 < many <= LONGEST_CUT else None
+    first = _copied(track, zone, many) if 0 < many <= limits.LONGEST_CUT else None
     return None if first is None else (first, many)
 
 

@@ -5,11 +5,11 @@ import re
 from dataclasses import dataclass, field
 from typing import Dict, List, Optional, Sequence, Tuple
 
+from . import limits
 from .faults import Faults
 from .layout import NAMES
 
 NOTHING_DONE = -1 << 60
-UNLIKE = 0.02  # intervals: a width that is more off than that is not the one of its class
 
 
 @dataclass
@@ -63,7 +63,7 @@ def _divide(faults: Faults, place: int, many: int, pulses: Sequence[int]) -> Opt
         fall = track.rise_at(place + k) + faults.width(faults.wanted[place + k])
         edits.append("%d split %d %d" % (first + k, fall, track.rise_at(place + k + 1)))
     if abs(track.falls[pulses[-1]] - track.rise_at(last) - faults.width(faults.wanted[last])) > (
-        UNLIKE * faults.layout.interval
+        limits.UNLIKE * faults.layout.interval
     ):
         edits.append("%d force %s" % (first + many, NAMES[faults.wanted[last]]))
     reasons = ", then ".join(faults.reason(place + k) for k in range(many + 1))
@@ -97,7 +97,7 @@ def _reduce(faults: Faults, place: int, pulses: Sequence[int], target: str) -> I
         edits.append("%d,%d delete" % (number, pulses[first - 1] + 1))
     move = begin - faults.rises[pulses[first]]
     width = faults.falls[pulses[last]] - faults.rises[pulses[first]]
-    if (edits or off) and abs(width - faults.width(target)) > UNLIKE * faults.layout.interval:
+    if (edits or off) and abs(width - faults.width(target)) > limits.UNLIKE * faults.layout.interval:
         wrong = True  # it is edited anyway, so it gets its width, too
     change = ["%d force %s" % (number, NAMES[target])] * wrong + ["%d shift %d" % (number, move)] * off
     edits += change if move > 0 else reversed(change)

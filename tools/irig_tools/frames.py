@@ -6,6 +6,7 @@ from collections import Counter
 from operator import itemgetter
 from typing import Dict, List, NamedTuple, Optional, Sequence, Tuple
 
+from . import limits
 from .interval import Run
 from .layout import READABLE, Fields
 from .leap import find_leap
@@ -14,8 +15,6 @@ from .spans import fit
 from .splices import spliced
 from .steadiness import Steadiness
 from .track import Track
-
-LONGEST_CUT = 3000  # elements; after more than that the places are not counted on
 
 
 class Span(NamedTuple):
@@ -49,7 +48,7 @@ class Times:
         """Which frames are sound, and which elements are kept as they are."""
         unused = itemgetter(*self.layout.unused)
         stray = {number for number in self.own if "1" in unused(self.texts[number])}
-        self.doubtful = len(stray) > 2 + len(self.read) // 10  # the expression
+        self.doubtful = len(stray) > limits.STRAY_ONES + len(self.read) * limits.STRAY_SHARE // 1  # the expression
         self.kept = set(self.layout.control) | set(self.layout.unused if self.doubtful else ())
         self._steadiness = Steadiness(sorted(self.kept), list(self.texts.values()))
         self.sound = {
@@ -95,7 +94,7 @@ class Times:
         apart = {
             zone.right.place // 100
             for zone in self.track.zones
-            if zone.glued and zone.right and not 0 < (zone.right.gone or 0) <= LONGEST_CUT
+            if zone.glued and zone.right and not 0 < (zone.right.gone or 0) <= limits.LONGEST_CUT
         }
         gap: List[int] = []
         left: Optional[int] = None
@@ -218,7 +217,7 @@ class Times:
         for element in self.layout.control:
             often = Counter(text[element] for text in self.texts.values() if text[element] in "01")
             for told, many in often.most_common(1):
-                if many >= 0.9 * sum(often.values()) - 1:
+                if many >= limits.MOSTLY * sum(often.values()) - 1:
                     found[element] = told
         return found
 

@@ -5,14 +5,12 @@ from __future__ import annotations
 from dataclasses import dataclass, field
 from typing import Dict, List, Sequence, Set, Tuple
 
+from . import limits
 from .analysis import Findings, examine
 from .check import Check, Harm, Moved
 from .editor import Editor, Listing, Progress
 from .repairs import repairs
 from .script import BY_LINE, Repair
-
-ROUNDS = 5  # after that many the script is as it is
-MOST_CHECKS = 5  # after that many no repair is left
 
 
 def called_for(findings: Findings) -> List[Repair]:
@@ -56,11 +54,11 @@ class _Mending:
     after: Listing = field(default_factory=Listing)
 
     def run(self) -> None:
-        for turn in range(ROUNDS + 1):
+        for turn in range(limits.ROUNDS + 1):
             before = " as it is after %d repairs" % len(self.script) if self.script else ""
             self.progress("reading the track" + before)
             self.after = obeyed(self.editor, self.script, self.refused)
-            if turn == ROUNDS or not self._look(self.after):
+            if turn == limits.ROUNDS or not self._look(self.after):
                 return
 
     def _look(self, listing: Listing) -> bool:
@@ -95,13 +93,13 @@ def propose(
     First are remarks: what is undecided when all repairs are made."""
     refused: Set[str] = set()
     taken: Dict[int, Repair] = {}
-    for turn in range(MOST_CHECKS):
+    for turn in range(limits.MOST_CHECKS):
         mending = _Mending(editor, progress, steady, move, refused)
         mending.run()
         harms = mending.harms()
         if not harms:
             break
-        for repair, harm in _blamed(mending.script, harms, turn + 1 == MOST_CHECKS):
+        for repair, harm in _blamed(mending.script, harms, turn + 1 == limits.MOST_CHECKS):
             refused.add("\n".join(repair.edits))
             taken[repair.at] = _left_out(repair, harm)
     else:

@@ -4,6 +4,7 @@ from __future__ import annotations
 from collections import Counter
 from typing import TYPE_CHECKING, Callable, Dict, Optional, Sequence
 
+from . import limits
 from .moments import DAY
 
 if TYPE_CHECKING:
@@ -16,7 +17,6 @@ LEVELS = (
     ("minutes", 6000, 360000),
     ("hours", 360000, DAY),
 )
-WITNESSES = 2  # frames that have to say a field
 
 
 class _Pieces:
@@ -39,7 +39,7 @@ class _Pieces:
     def _vote(self, name: str, means: Callable[[int, int], int]) -> Optional[int]:
         """What most frames mean by a field; None if too few say it, or as many say another thing."""
         often = Counter(means(number, value) for number, value in self._read(name).items()).most_common(2)
-        if not often or often[0][1] < WITNESSES or (len(often) > 1 and often[1][1] == often[0][1]):
+        if not often or often[0][1] < limits.WITNESSES or (len(often) > 1 and often[1][1] == often[0][1]):
             return None
         return often[0][0]
 

@@ -4,14 +4,13 @@ from __future__ import annotations
 
 from typing import Dict, List
 
+from . import limits
 from .chance import misread
 from .edits import Item, items
 from .faults import Faults
 from .layout import SHARE
 from .script import Repair
 from .wholes import lost_frames, shifts
-
-MOST_AGAIN = 2000  # places that are written again one by one
 
 
 def repairs(faults: Faults) -> List[Repair]:
@@ -56,9 +55,9 @@ def _written_again(faults: Faults, group: List[Item]) -> List[str]:
     for item in group:
         targets.update(item.targets or _wanted(faults, item))
     places = range(min(targets), max(targets) + 1)
-    for place in places[:MOST_AGAIN]:
+    for place in places[:limits.MOST_AGAIN]:
         targets.setdefault(place, faults.track.told[place - faults.track.first])
-    if len(places) > MOST_AGAIN or not set(targets.values()) <= set(SHARE):
+    if len(places) > limits.MOST_AGAIN or not set(targets.values()) <= set(SHARE):
         return []
     pulses = sorted({pulse for place in places for pulse in faults.track.pulses_at(place)})
     edits = []

@@ -4,21 +4,19 @@ from __future__ import annotations
 
 from typing import TYPE_CHECKING, Dict, List, Optional, Sequence, Tuple
 
+from . import limits
 from .pieces import pieced
 
 if TYPE_CHECKING:
     from .frames import Times
 
-CHANGE = 3
-MOST_CHOICES = 12
-
 
 def _sums(choices: Sequence[int], rows: Sequence[List[int]], start: Optional[int]) -> List[List[int]]:
     """For each frame and each choice the least cost of a way from the start to it."""
-    cost = [0 if start in (None, base) else CHANGE for base in choices]
+    cost = [0 if start in (None, base) else limits.CHANGE for base in choices]
     table = []
     for row in rows:
-        least = min(cost, default=0) + CHANGE
+        least = min(cost, default=0) + limits.CHANGE
         cost = [min(each, least) + fault for each, fault in zip(cost, row)]
         table.append(cost)
     return table
@@ -26,7 +24,8 @@ def _sums(choices: Sequence[int], rows: Sequence[List[int]], start: Optional[int
 
 def _borne(times: Times, base: int, gap: Sequence[int]) -> bool:
     """Whether at least two frames bear a base out, and each element that speaks against it is outvoted."""
-    return sum(times.against(number, base) < (1, -19) for number in gap) > 1 and times.is_borne(gap, base)
+    most = limits.MOST_AGAINST, -limits.FEWEST_FOR
+    return sum(times.against(number, base) < most for number in gap) > 1 and times.is_borne(gap, base)
 
 
 def fit(
@@ -37,7 +36,7 @@ def fit(
         return {}
     together = pieced(times, gap) if left is right is None else None
     known = {left, right, together, *(times.own.get(number) for number in gap)}
-    choices = sorted(base for base in known if base is not None)[:MOST_CHOICES]
+    choices = sorted(base for base in known if base is not None)[:limits.MOST_BASES]
     if len(choices) == 1 and (left or right):
         return {number: choices[0] for number in gap}
     faults = [[times.against(number, base)[0] for base in choices] for number in gap]

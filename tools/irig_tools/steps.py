@@ -5,6 +5,7 @@ from __future__ import annotations
 from dataclasses import replace
 from typing import Iterator, List
 
+from . import limits
 from .copies import copy_between, without_copy
 from .faults import Faults, Remark
 from .frames import Times
@@ -12,7 +13,6 @@ from .interval import Run
 from .track import Track
 from .zones import Zone
 
-LEAST_COPY = 10  # elements; fewer are alike by chance
 RECORDER = "that is left: if the recorder slipped, all its wires did, and these times are right"
 ALONE = "; if the time code alone slipped, irig_mend --move moves it, or after this script "
 
@@ -29,7 +29,7 @@ class Step:
         self.known = frames is not None  # whether the times on both sides say how many frames passed
         self.elements = right[0].step + 100 * (frames or 0)  # from the last pulse before to the first after
         self.late = round(right[0].begin - left[-1].end - self.elements * self.zone.interval)
-        copy = copy_between(track, times, left, right) if self.late > LEAST_COPY * self.zone.interval else None
+        copy = copy_between(track, times, left, right) if self.late > limits.LEAST_COPY * self.zone.interval else None
         self.copy = without_copy(track, *copy) if copy and self._is_dense() else None
 
     def remark(self, right: Faults) -> Remark:

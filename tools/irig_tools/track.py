@@ -5,6 +5,7 @@ from __future__ import annotations
 from bisect import bisect_right
 from typing import List, Optional, Sequence, Tuple
 
+from . import limits
 from .editor import Listing
 from .interval import Clock, Run
 from .layout import Layout
@@ -74,7 +75,7 @@ class Track:
         many = 0
         while (
             place + many < self.last
-            and self.falls[pulse] > self.rise_at(place + many + 1) + self.clock.interval // 50
+            and self.falls[pulse] > self.rise_at(place + many + 1) + limits.OVERLAP * self.clock.interval
         ):
             many += 1
         return many

@@ -5,14 +5,10 @@ from bisect import bisect_left
 from dataclasses import dataclass
 from typing import List, Optional
 
+from . import limits
 from .edits import Item
 from .faults import Faults, Remark
-from .slots import LEAD
 from .zones import Zone
-
-# intervals; what comes later is moved only if the position identifiers on both sides are unmistakable
-MOST_LATE = 12
-FEWEST = 8  # lost elements of a frame that is generated again
 
 
 def shifts(faults: Faults) -> List[Item]:
@@ -53,9 +49,9 @@ def _why_not(faults: Faults, zone: Zone) -> str:
     assert zone.left and zone.right
     if zone.late < 0 and faults.falls[-1] - zone.late > faults.track.listing.length:
         return "the recording is too short to move the rest back"
-    sure = min(zone.left.lead, zone.right.lead) >= LEAD
+    sure = min(zone.left.lead, zone.right.lead) >= limits.LEAD
     timed = any(100 * number + 99 <= zone.first for number, _ in faults.times.read)
-    if abs(zone.late) > MOST_LATE * zone.interval and zone.right.step > 1 and not (sure and timed):
+    if abs(zone.late) > limits.MOST_MOVED * zone.interval and zone.right.step > 1 and not (sure and timed):
         return "that is too uncertain to move the rest"
     return ""
 
@@ -76,7 +72,7 @@ def _can_generate(faults: Faults, number: int) -> bool:
         return False
     lost = sum(place in faults.wanted for place in places)
     moment = faults.times.moment(number)
-    if lost < FEWEST or (lost < 100 and not faults.clock.exact) or moment is None:
+    if lost < limits.FEWEST_LOST or (lost < 100 and not faults.clock.exact) or moment is None:
         return False
     begin = track.rise_at(places[0])
     return (
