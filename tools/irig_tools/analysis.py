@@ -5,7 +5,7 @@ from dataclasses import dataclass, field
 from typing import List, Optional
 
 from . import limits
-from .copies import settle, take_out
+from .copies import settled, take_out
 from .editor import Listing
 from .faults import Faults, Remark
 from .frames import Times
@@ -79,16 +79,16 @@ def _examine_parts(listing: Listing, findings: Findings, move: bool) -> None:
     clock = findings.clock = Clock(listing, findings.layout.interval)
     found = parts(clock, listing.classes)
     for runs in reversed(found):
-        cost = link(clock, runs, listing.classes, findings.layout.unused)
+        cost, linked = link(clock, runs, listing.classes, findings.layout.unused)
         if cost > limits.FAULTS_AT_LEAST + limits.FAULTS_A_PULSE * sum(run.count for run in runs):
             at = listing.rises[runs[0].first]
             seen = "from pulse %d on the position identifiers are not ten apart" % (runs[0].first + 1)
             findings.remarks.append(Remark(at, seen, "is it another format, or another wire?"))
         else:
-            for part in reversed(sure_parts(runs)):
+            for part in reversed(sure_parts(linked)):
                 look = _moved if move else _kept
                 findings.parts += look(listing, findings.layout, clock, part)
-            findings.remarks += [_of_unsure(listing, run) for run in runs if run.others]
+            findings.remarks += [_of_unsure(listing, run) for run in linked if run.others]
     for before, after in zip(found, found[1:]):
         elements = round((after[0].begin - before[-1].end) / clock.interval) - 1
         findings.remarks.append(
@@ -119,9 +119,11 @@ def _moved(listing: Listing, layout: Layout, clock: Clock, runs: List[Run]) -> L
     track = Track(listing, layout, clock, runs)
     times = Times(track)
     copies = take_out(track, times)
-    if not copies and settle(track, times):
-        track = Track(listing, layout, clock, runs)
-        times = Times(track)
+    if not copies:
+        again = settled(track, times)
+        if again != runs:
+            track = Track(listing, layout, clock, again)
+            times = Times(track)
     return [Part(track, times, copies, Faults(track, times), remarks(track, times))]
 
 

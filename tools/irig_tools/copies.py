@@ -3,8 +3,9 @@ a copy."""
 from __future__ import annotations
 
 from bisect import bisect_left
+from dataclasses import replace
 from itertools import accumulate
-from typing import Iterable, List, NamedTuple, Optional, Tuple
+from typing import Dict, Iterable, List, Mapping, NamedTuple, Optional, Tuple
 
 from . import limits
 from .frames import Span, Times
@@ -22,23 +23,36 @@ class Again(NamedTuple):
     within: bool  # whether it begins within a frame for sure; else the clock may have been set back
 
 
-def settle(track: Track, times: Times) -> bool:
-    """If a rest came more than a frame late, the times on both sides say how many frames were really lost.
-    Returns whether places changed."""
-    changed = False
+def settled(track: Track, times: Times) -> List[Run]:
+    """The runs, moved on by whole frames if a rest came more than a frame late: the times on both sides say how many
+    frames were really lost."""
+    gone: Dict[int, int] = {}  # by the first pulse of a run
+    on: Dict[int, int] = {}  # how many places it is moved on
     stretches = track.stretches()
     for left, right in zip(stretches, stretches[1:]):
-        frames, zone = times.frames_between(left, right), track.zone_of[right[0].place]
-        if frames is not None and zone.skipped() + 100 * frames > 0:
-            right[0].gone = zone.skipped() + 100 * frames
-            if frames and right[0].gone <= limits.LONGEST_CUT:
-                changed = True
-                track.move_on(right[0], 100 * frames)
-    return changed or _settle_late(track, times)
+        frames, skipped = times.frames_between(left, right), track.zone_before(right[0]).skipped()
+        if frames is not None and skipped + 100 * frames > 0:
+            gone[right[0].first] = skipped + 100 * frames
+            if frames and skipped + 100 * frames <= limits.LONGEST_CUT:
+                on[right[0].first] = 100 * frames
+    runs = [replace(run, gone=gone.get(run.first, run.gone)) for run in track.runs]
+    return _moved_on(track, runs, on or _late_frames(track, times))
 
 
-def _settle_late(track: Track, times: Times) -> bool:
-    changed = False
+def _moved_on(track: Track, runs: List[Run], on: Mapping[int, int]) -> List[Run]:
+    """These runs, some moved on by that many places with all that follow."""
+    moved, found = 0, []
+    for run in runs:
+        by = on.get(run.first, 0)
+        moved += by
+        late = run.late - by * track.clock.interval
+        found.append(replace(run, step=run.step + by, late=late, place=run.place + moved))
+    return found
+
+
+def _late_frames(track: Track, times: Times) -> Dict[int, int]:
+    """By how many places the runs are moved on, by their first pulse, if whole frames were taken for lost."""
+    found: Dict[int, int] = {}
     for before, after in zip(times.spans, times.spans[1:]):
         frames = (before.base - after.base) // track.layout.period
         late = [
@@ -51,9 +65,8 @@ def _settle_late(track: Track, times: Times) -> bool:
             and zone.right.step > 100 * frames > 0
         ]
         if late:
-            changed = True
-            track.move_on(late[-1], -100 * frames)
-    return changed
+            found[late[-1].first] = -100 * frames
+    return found
 
 
 def _sums(pairs: Iterable[Tuple[str, str]]) -> Tuple[List[int], List[int]]:
@@ -124,7 +137,7 @@ def without_copy(track: Track, first: int, many: int) -> Optional[Repair]:
 def copy_between(track: Track, times: Times, left: List[Run], right: List[Run]) -> Optional[Tuple[int, int]]:
     """The first pulse, and how many elements follow it, of a stretch that is as the one before it, between
     these runs; None if there is none."""
-    frames, zone = times.frames_between(left, right), track.zone_of[right[0].place]
+    frames, zone = times.frames_between(left, right), track.zone_before(right[0])
     many = 0 if frames is None else -zone.skipped() - 100 * frames
     first = _copied(track, zone, many) if 0 < many <= limits.LONGEST_CUT else None
     return None if first is None else (first, many)

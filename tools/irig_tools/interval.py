@@ -4,19 +4,20 @@ from __future__ import annotations
 
 import statistics
 from collections import Counter
-from dataclasses import dataclass, field
+from dataclasses import dataclass, replace
 from itertools import compress, count, islice
 from operator import sub
-from typing import Iterator, List, Optional, Sequence
+from typing import Iterator, List, Optional, Sequence, Tuple
 
 from . import limits
 from .editor import Listing
 from .phases import turns
 
 
-@dataclass
+@dataclass(frozen=True)
 class Run:
-    """Pulses `first` to `last` (counted from 0) that follow each other in step."""
+    """Pulses `first` to `last` (counted from 0) that follow each other in step. `interval` finds them, `slots` gives
+    them their places."""
 
     first: int
     last: int
@@ -30,7 +31,7 @@ class Run:
     glued: bool = False  # it follows the run before at once, but with another element
     gone: Optional[int] = None  # how many elements are missing before a glued run, if the times say so
     lead: float = 0  # how much dearer it is to give it another phase
-    others: List[int] = field(default_factory=list)  # the elements that it may as well begin with
+    others: Tuple[int, ...] = ()  # the elements that it may as well begin with
     # `<` or `>` if nothing says the phase of the pulses before or after it; `[` or `]` if those are left
     # alone
     ends: str = ""
@@ -98,10 +99,10 @@ class Clock:
         steady = [part for run in self._find_runs(apart) for part in self._stepped(run, listing.rises, apart)]
         self.runs = [part for run in steady for part in parted(run, listing.classes)]
         self._measure([listing.rises[run.last] - listing.rises[run.first] for run in self.runs])
-        self._fit_all(listing.rises)
+        self.runs = [self.fit(run, listing.rises) for run in self.runs]
         # again, as now no pulse that strays at an end of a run counts
         self._measure([run.end - run.begin for run in self.runs])
-        self._fit_all(listing.rises)
+        self.runs = [self.fit(run, listing.rises) for run in self.runs]
         self.doubt = self._find_doubt(listing.rises)
 
     def _within(self, least: float, by_noise: float, most: float) -> float:
@@ -178,19 +179,16 @@ class Clock:
         beyond = statistics.median([rises[after + k] - k * interval for k in range(many)])
         return beyond - before - interval
 
-    def _fit_all(self, rises: Sequence[int]) -> None:
-        for run in self.runs:
-            self.fit(run, rises)
-
-    def fit(self, run: Run, rises: Sequence[int]) -> None:
-        """Finds when the ends of a run should rise, and the interval there."""
+    def fit(self, run: Run, rises: Sequence[int]) -> Run:
+        """The run with when its ends should rise, and the interval there."""
         near = (min(run.count, limits.NEAR) - 1) // 2 * 2 + 1
-        run.begin = statistics.median_low([rises[run.first + k] - k * self.interval for k in range(near)])
-        run.end = statistics.median_low([rises[run.last - k] + k * self.interval for k in range(near)])
-        if run.count > limits.LOCAL and not self.exact:
-            far = min(run.count - 1, limits.FAR)
-            run.begin_interval = (rises[run.first + far] - run.begin) / far
-            run.end_interval = (run.end - rises[run.last - far]) / far
+        begin = statistics.median_low([rises[run.first + k] - k * self.interval for k in range(near)])
+        end = statistics.median_low([rises[run.last - k] + k * self.interval for k in range(near)])
+        if run.count <= limits.LOCAL or self.exact:
+            return replace(run, begin=begin, end=end)
+        far = min(run.count - 1, limits.FAR)
+        first, last = (rises[run.first + far] - begin) / far, (end - rises[run.last - far]) / far
+        return replace(run, begin=begin, end=end, begin_interval=first, end_interval=last)
 
     def interval_between(self, left: Optional[Run], right: Optional[Run]) -> float:
         """The interval near these two runs."""
@@ -221,12 +219,10 @@ def parted(run: Run, classes: str) -> List[Run]:
     """The run, or the parts of it that have one phase each."""
     if run.count < limits.LONG_RUN:
         return [run]
-    parts, first = [], run.first
+    parts: List[Run] = []
+    first = run.first
     for low, high in turns(classes[run.first:run.last + 1]):
         if run.first + low > first and high < run.count:
-            parts.append(Run(first, run.first + low - 1))
+            parts.append(Run(first, run.first + low - 1, glued=bool(parts)))
             first = run.first + high
-    parts.append(Run(first, run.last))
-    for part in parts[1:]:
-        part.glued = True
-    return parts
+    return parts + [Run(first, run.last, glued=bool(parts))]

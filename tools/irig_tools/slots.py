@@ -2,6 +2,7 @@
 to be."""
 from __future__ import annotations
 
+from dataclasses import replace
 from math import inf
 from typing import Callable, Dict, Iterator, List, NamedTuple, Optional, Sequence, Tuple
 
@@ -41,12 +42,21 @@ def parts(clock: Clock, classes: str) -> List[List[Run]]:
 def _trim(runs: List[Run], classes: str) -> List[Run]:
     """Leaves runs at either end alone that are glued to their neighbour and too short to show their phase."""
     while len(runs) > 1 and runs[-1].glued and not tells_phase(_classes(runs[-1], classes)):
-        runs.pop()
-        runs[-1].ends += ">"
+        runs = _without_last(runs)
     while len(runs) > 1 and runs[1].glued and not tells_phase(_classes(runs[0], classes)):
-        del runs[0]
-        runs[0].glued, runs[0].ends = False, runs[0].ends + "<"
+        runs = _without_first(runs)
+        runs[0] = replace(runs[0], glued=False)
     return runs
+
+
+def _without_last(runs: Sequence[Run]) -> List[Run]:
+    """Leaves the pulses of the last run alone."""
+    return [*runs[:-2], replace(runs[-2], ends=runs[-2].ends + ">")]
+
+
+def _without_first(runs: Sequence[Run]) -> List[Run]:
+    """Leaves the pulses of the first run alone."""
+    return [replace(runs[1], ends=runs[1].ends + "<"), *runs[2:]]
 
 
 def _hop(clock: Clock, distance: float, interval: float, step: int) -> Tuple[int, float, float]:
@@ -71,6 +81,13 @@ def _jump(distance: float, interval: float, step: int) -> Tuple[int, float, floa
     steps = straight + 100 + (step - straight) % 100
     same = steps == straight + 100
     return steps, distance - steps * interval, limits.JUMP_TO_SAME if same else limits.JUMP
+
+
+class Linked(NamedTuple):
+    """Runs with their places, and what it costs to believe them."""
+
+    cost: float
+    runs: List[Run]
 
 
 class _Way(NamedTuple):
@@ -153,27 +170,22 @@ class _Linker:
             return count >= limits.LONG_RUN or alone
         return count >= limits.LONG_RUN and faults <= min(1 + count // 100, 1 + marks.faults(marks.best(0, 1)[0]))
 
-    def follow(self) -> float:
-        """Gives each run its phase as its place, from the last to the first, and returns what the way
-        costs."""
+    def follow(self) -> Linked:
+        """The cheapest way, from its end to its beginning: each run has its phase as its place."""
         phase: Optional[int] = min(self.table[-1], key=lambda each: self.table[-1][each][0])
         cost = self.table[-1][phase or 0][0]
-        for run, choices in zip(reversed(self.runs), reversed(self.table)):
-            run.place = phase or 0
-            _, phase, run.step, run.late = choices[run.place]
-        self._find_leads(cost)
-        return cost
-
-    def _find_leads(self, cost: float) -> None:
-        """For each run, how much dearer the cheapest way is on which it has another phase."""
         rest = dict.fromkeys(self.table[-1], 0.0)
+        runs: List[Run] = []
         for at in range(len(self.runs) - 1, -1, -1):
-            run, choices = self.runs[at], self.table[at]
+            choices, own = self.table[at], phase or 0
             if at < len(self.ways):
                 rest = {old: self._least_rest(at, old, rest) for old in choices}
-            others = {phase: choices[phase][0] + rest[phase] for phase in choices if phase != run.place}
-            run.lead = min(others.values(), default=cost + limits.UNLIKELY) - cost
-            run.others = [phase for phase, each in sorted(others.items()) if each < cost + limits.LEAST_LEAD]
+            others = {other: choices[other][0] + rest[other] for other in choices if other != own}
+            _, phase, step, late = choices[own]
+            lead = min(others.values(), default=cost + limits.UNLIKELY) - cost
+            near = tuple(other for other, each in sorted(others.items()) if each < cost + limits.LEAST_LEAD)
+            runs.append(replace(self.runs[at], place=own, step=step, late=late, lead=lead, others=near))
+        return Linked(cost, runs[::-1])
 
     def _least_rest(self, at: int, old: int, rest: Dict[int, float]) -> float:
         """What the cheapest way from a phase of run `at` to the last run costs; `rest` is that of the next
@@ -182,26 +194,18 @@ class _Linker:
         return min(costs, default=inf)
 
 
-def _without_strays(clock: Clock, runs: List[Run], classes: str) -> bool:
-    """Drops a run at an end whose phase nothing says, if it is not on the clock of the others; whether one
-    was dropped."""
-    if (
-        len(runs) > 1
-        and abs(runs[1].late) > clock.least_late(runs[1].step)
-        and _says_nothing(runs[0], classes)
-    ):
-        del runs[0]
-        runs[0].ends += "<"
-        return True
-    if (
-        len(runs) > 1
-        and abs(runs[-1].late) > clock.least_late(runs[-1].step)
-        and _says_nothing(runs[-1], classes)
-    ):
-        runs.pop()
-        runs[-1].ends += ">"
-        return True
-    return False
+def _without_stray(clock: Clock, runs: List[Run], classes: str) -> List[Run]:
+    """Drops a run at an end whose phase nothing says, if it is not on the clock of the others."""
+    if len(runs) > 1 and _is_off(clock, runs[1]) and _says_nothing(runs[0], classes):
+        return _without_first(runs)
+    if len(runs) > 1 and _is_off(clock, runs[-1]) and _says_nothing(runs[-1], classes):
+        return _without_last(runs)
+    return runs
+
+
+def _is_off(clock: Clock, run: Run) -> bool:
+    """Whether a run is late or early after the one before it."""
+    return abs(run.late) > clock.least_late(run.step)
 
 
 def _says_nothing(run: Run, classes: str) -> bool:
@@ -209,41 +213,48 @@ def _says_nothing(run: Run, classes: str) -> bool:
     return run.count < limits.SHORT_RUN and len(equal) == limits.MANY_PHASES
 
 
-def _follow(clock: Clock, runs: List[Run], classes: str, unused: Sequence[int]) -> float:
+def _follow(clock: Clock, runs: List[Run], classes: str, unused: Sequence[int]) -> Linked:
     """The cheapest way; if it leads by little, again with the classes that most frames have."""
-    cost = _Linker(clock, runs, classes, Usual(unused)).follow()
-    if all(run.lead >= limits.LEAD and abs(run.late) <= clock.least_late(run.step) for run in runs):
-        return cost
-    usual = Usual(unused, ((_classes(run, classes), run.place) for run in runs if run.lead >= limits.LEAD))
-    return _Linker(clock, runs, classes, usual).follow()
+    found = _Linker(clock, runs, classes, Usual(unused)).follow()
+    if all(run.lead >= limits.LEAD and not _is_off(clock, run) for run in found.runs):
+        return found
+    leading = ((_classes(run, classes), run.place) for run in found.runs if run.lead >= limits.LEAD)
+    return _Linker(clock, runs, classes, Usual(unused, leading)).follow()
 
 
 def sure_parts(runs: Sequence[Run]) -> List[List[Run]]:
     """The runs whose phase is sure, parted at those that are left alone."""
     found: List[List[Run]] = [[]]
+    is_left = False  # whether the run before is
     for run in runs:
         if run.lead >= limits.LEAST_LEAD:
-            found[-1].append(run)
+            found[-1].append(replace(run, glued=False, ends=run.ends + "[") if is_left else run)
         elif found[-1]:
-            found[-1][-1].ends += "]"
+            found[-1][-1] = replace(found[-1][-1], ends=found[-1][-1].ends + "]")
             found.append([])
-    for before, after in zip(runs, runs[1:]):
-        if before.lead < limits.LEAST_LEAD <= after.lead:
-            after.glued, after.ends = False, after.ends + "["
+        is_left = run.lead < limits.LEAST_LEAD
     return [part for part in found if part]
 
 
-def link(clock: Clock, runs: List[Run], classes: str, unused: Sequence[int]) -> float:
-    """Gives each run its place, and returns what it costs to believe them."""
-    cost = _follow(clock, runs, classes, unused)
-    while _without_strays(clock, runs, classes):
-        cost = _follow(clock, runs, classes, unused)
-    for before, run in zip(runs, runs[1:]):
-        whole = 100 * clock.interval
-        if run.late < -limits.NO_TIME * clock.interval and not run.glued and tells_phase(_classes(run, classes)):
-            # elements are missing for sure, and there is no time for them
-            run.glued, run.step, run.late = True, run.step + 100, run.late - whole
-        elif run.glued and abs(run.late + whole) <= clock.slack(run.step):  # the phase is the same after all
-            run.glued, run.step, run.late = False, run.step - 100, run.late + whole
-        run.place = before.last_place + run.step
-    return cost
+def link(clock: Clock, runs: List[Run], classes: str, unused: Sequence[int]) -> Linked:
+    """The runs with their places, and what it costs to believe them."""
+    way = _follow(clock, runs, classes, unused)
+    kept = _without_stray(clock, way.runs, classes)
+    while len(kept) < len(way.runs):
+        way = _follow(clock, kept, classes, unused)
+        kept = _without_stray(clock, way.runs, classes)
+    found = way.runs[:1]
+    for run in way.runs[1:]:
+        run = _glued(clock, run, tells_phase(_classes(run, classes)))
+        found.append(replace(run, place=found[-1].last_place + run.step))
+    return Linked(way.cost, found)
+
+
+def _glued(clock: Clock, run: Run, tells: bool) -> Run:
+    """A run that is glued if elements are missing for which there is no time, and only then."""
+    whole = 100 * clock.interval
+    if run.late < -limits.NO_TIME * clock.interval and not run.glued and tells:
+        return replace(run, glued=True, step=run.step + 100, late=run.late - whole)
+    if run.glued and abs(run.late + whole) <= clock.slack(run.step):  # the phase is the same after all
+        return replace(run, glued=False, step=run.step - 100, late=run.late + whole)
+    return run

@@ -95,21 +95,22 @@ def stretches(track: Track, steps: List[Zone]) -> List[List[Run]]:
 
 def apart(track: Track, steps: List[Zone]) -> List[List[Run]]:
     """The same, each as runs of its own, without the pulses that may be of either side."""
-    found = [[replace(run) for run in runs] for runs in stretches(track, steps)]
+    found = stretches(track, steps)
     for zone, left, right in zip(steps, found, found[1:]):
-        _trim(track, left[-1], 0, zone.tail)
-        _trim(track, right[0], zone.head, 0)
-        left[-1].ends += "]"
-        right[0].glued, right[0].late, right[0].ends = False, 0, right[0].ends + "["
+        left[-1] = _trimmed(track, left[-1], 0, zone.tail)
+        left[-1] = replace(left[-1], ends=left[-1].ends + "]")
+        right[0] = _trimmed(track, right[0], zone.head, 0)
+        right[0] = replace(right[0], glued=False, late=0, ends=right[0].ends + "[")
     return found
 
 
-def _trim(track: Track, run: Run, head: int, tail: int) -> None:
-    """Leaves out that many pulses of a run, but one stays."""
+def _trimmed(track: Track, run: Run, head: int, tail: int) -> Run:
+    """A run without that many pulses, but one stays."""
     head, tail = min(head, run.count - 1), min(tail, run.count - 1)
-    run.first, run.last, run.place = run.first + head, run.last - tail, run.place + head
-    if head or tail:
-        track.clock.fit(run, track.rises)
+    if not head and not tail:
+        return run
+    shorter = replace(run, first=run.first + head, last=run.last - tail, place=run.place + head)
+    return track.clock.fit(shorter, track.rises)
 
 
 def cut(track: Track) -> Iterator[int]:

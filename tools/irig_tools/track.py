@@ -104,8 +104,6 @@ class Track:
             found[-1].append(run)
         return found
 
-    def move_on(self, moved: Run, places: int) -> None:
-        """Moves a run and all that follow that many places on."""
-        moved.step, moved.late = moved.step + places, moved.late - places * self.clock.interval
-        for run in self.runs[self.runs.index(moved):]:
-            run.place += places
+    def zone_before(self, run: Run) -> Zone:
+        """What lies before one of its runs."""
+        return next(zone for zone in self.zones if zone.right is run)
