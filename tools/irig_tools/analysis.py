@@ -6,6 +6,7 @@ from typing import List, Optional
 
 from . import limits
 from .copies import settled, take_out
+from .edit import Edit, repair_of
 from .editor import Listing
 from .faults import Faults, Remark
 from .frames import Times
@@ -59,7 +60,7 @@ def examine(listing: Listing, steady: bool = False, move: bool = False) -> Findi
     )
     if turned > limits.UPSIDE_DOWN and turned > upright + limits.MORE_THAN_UPRIGHT:
         why = "the falls come at one distance, the rises do not: the wire is upside down"
-        findings.turned, findings.whole = True, [Repair(0, [why], ["invert 0 %d" % listing.length])]
+        findings.turned, findings.whole = True, [repair_of(0, [why], [Edit("invert", (0, listing.length))])]
     elif upright < limits.FIT:
         findings.remarks.append(
             Remark(

@@ -20,7 +20,6 @@ from .moments import DAY, Calendar
 from .script import Repair
 
 MARKED = re.compile("P(?=P[01]{8}P(?:[01]{9}P){9})")
-REST = re.compile(r"[^,]+,\$ shift (-?\d+)$")
 
 
 @dataclass
@@ -38,8 +37,7 @@ class Moved:
     def __init__(self, script: Sequence[Repair] = ()) -> None:
         self.steps: List[Tuple[int, int, int]] = []  # from when on, by how much, and how long a part goes
         for repair in script:
-            for move in filter(None, map(REST.match, repair.edits)):
-                self.steps.append((repair.at, int(move[1]), repair.removed[2]))
+            self.steps += [(repair.at, by, repair.removed[2]) for by in repair.moves]
 
     def time(self, at: int) -> Optional[int]:
         """None if the script takes it out."""

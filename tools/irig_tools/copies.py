@@ -8,9 +8,11 @@ from itertools import accumulate
 from typing import Dict, Iterable, List, Mapping, NamedTuple, Optional, Tuple
 
 from . import limits
-from .frames import Span, Times
+from .edit import moved_rest, of_pulses, repair_of
+from .frames import Times
 from .interval import Run
 from .script import Repair
+from .spans import Span
 from .track import Track
 from .zones import Zone
 
@@ -130,8 +132,8 @@ def without_copy(track: Track, first: int, many: int) -> Optional[Repair]:
         "the %d elements from %d on are there twice: at %d the times begin again; the second are deleted, "
         "and the rest goes back by %d" % (many, begin - by, begin, by)
     )
-    edits = ["%d,%d delete" % (first + 1, after), "%d,$ shift -%d" % (first + 1, by)]
-    return Repair(begin, [why], edits, (first, after - first, by))
+    edits = [of_pulses("delete", first, after - 1), moved_rest(first, -by)]
+    return repair_of(begin, [why], edits, removed=(first, after - first, by))
 
 
 def copy_between(track: Track, times: Times, left: List[Run], right: List[Run]) -> Optional[Tuple[int, int]]:

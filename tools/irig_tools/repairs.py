@@ -6,6 +6,7 @@ from typing import Dict, List
 
 from . import limits
 from .chance import misread
+from .edit import Edit, of_pulses, repair_of
 from .edits import Item, items
 from .faults import Faults
 from .layout import SHARE
@@ -39,14 +40,13 @@ def _repair(faults: Faults, group: List[Item]) -> Repair:
     comments += _of_lost(faults, lost)
     at = faults.track.rise_at(max(faults.track.first, int(group[-1].low + 0.5)))
     until = faults.track.rise_at(min(faults.track.last, int(group[0].high + 0.5)))
-    repair = Repair(at, comments, [edit for item in group for edit in item.edits], until=until)
-    repair.instead = _written_again(faults, group)
-    if all(item.single for item in group) and 0 < len(repair.instead) < len(repair.edits):
-        return Repair(at, comments, repair.instead, until=until)
-    return repair
+    edits, instead = [edit for item in group for edit in item.edits], _written_again(faults, group)
+    if all(item.single for item in group) and 0 < len(instead) < len(edits):
+        return repair_of(at, comments, instead, until)
+    return repair_of(at, comments, edits, until, instead=instead)
 
 
-def _written_again(faults: Faults, group: List[Item]) -> List[str]:
+def _written_again(faults: Faults, group: List[Item]) -> List[Edit]:
     """Deletes all pulses from the first to the last faulty place and inserts those that are wanted; nothing
     if more than that is to be done, or if a class is not known there."""
     if not all(item.targets or item.single or item.low in faults.wanted for item in group):
@@ -60,14 +60,10 @@ def _written_again(faults: Faults, group: List[Item]) -> List[str]:
     if len(places) > limits.MOST_AGAIN or not set(targets.values()) <= set(SHARE):
         return []
     pulses = sorted({pulse for place in places for pulse in faults.track.pulses_at(place)})
-    edits = []
-    if pulses:
-        edits.append(
-            "%d,%d delete" % (pulses[0] + 1, pulses[-1] + 1) if pulses[1:] else "%d delete" % (pulses[0] + 1)
-        )
+    edits = [of_pulses("delete", pulses[0], pulses[-1])] if pulses else []
     for place in reversed(places):
         rise = faults.track.rise_at(place)
-        edits.append("insert %d %d" % (rise, rise + faults.width(targets[place])))
+        edits.append(Edit("insert", (rise, rise + faults.width(targets[place]))))
     return edits
 
 

@@ -7,6 +7,7 @@ from typing import Iterator, List
 
 from . import limits
 from .copies import copy_between, without_copy
+from .edit import lines_of, moved_from
 from .faults import Faults, Remark
 from .frames import Times
 from .interval import Run
@@ -70,7 +71,7 @@ class Step:
         """The lines that move the rest back; none if it does not fit the recording."""
         if self.late < 0 and self.track.falls[-1] - self.late > self.track.listing.length:
             return []
-        return ["mark z %d" % self.at, "'z,$ shift %d" % -self.late, "unmark z"]
+        return lines_of(moved_from(self.at, -self.late))
 
 
 def _choice(edits: List[str]) -> str:

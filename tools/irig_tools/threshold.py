@@ -5,6 +5,7 @@ from collections import Counter
 from typing import Dict, List, Mapping, Tuple
 
 from . import limits
+from .edit import Edit, of_pulse, repair_of
 from .editor import Listing
 from .layout import NAMES, READABLE, SHARE, Layout
 from .script import Repair
@@ -59,18 +60,18 @@ def level(listing: Listing, layout: Layout) -> List[Repair]:
     return _groups(_forced(listing, layout, classes), [why], ["pulses that are %s, as above" % way])
 
 
-def _forced(listing: Listing, layout: Layout, classes: str) -> List[str]:
+def _forced(listing: Listing, layout: Layout, classes: str) -> List[Edit]:
     """The edits for all pulses that have a class and room for it."""
     beyond = listing.rises[1:] + [listing.length + 1]
     return [
-        "%d force %s" % (pulse, NAMES[name])
-        for pulse, (name, rise, end) in enumerate(zip(classes, listing.rises, beyond), 1)
+        of_pulse("force", pulse, NAMES[name])
+        for pulse, (name, rise, end) in enumerate(zip(classes, listing.rises, beyond))
         if name != "b" and rise + SHARE[name] * layout.interval < end
     ]
 
 
-def _groups(edits: List[str], first: List[str], others: List[str]) -> List[Repair]:
+def _groups(edits: List[Edit], first: List[str], others: List[str]) -> List[Repair]:
     return [
-        Repair(0, others if at else first, edits[at:at + limits.MOST_EDITS])
+        repair_of(0, others if at else first, edits[at:at + limits.MOST_EDITS])
         for at in range(0, len(edits), limits.MOST_EDITS)
     ]

@@ -6,6 +6,7 @@ from dataclasses import dataclass
 from typing import List, Optional
 
 from . import limits
+from .edit import Edit, moved_from, moved_rest
 from .edits import Item
 from .faults import Faults, Remark
 from .zones import Zone
@@ -37,11 +38,8 @@ def _shift(faults: Faults, zone: Zone) -> Optional[Item]:
         why += ", and %d elements before it are missing or damaged" % between
     if late > 0 and any(place in faults.wanted for place in range(zone.first, zone.border_place)):
         # what is before it is repaired first, and that may change the numbers of pulses
-        edits = ["mark z %d" % at, "'z,$ shift %d" % -late, "unmark z"]
-        return Item(zone.first - 0.5, zone.border_place - 0.5, edits, why)
-    return Item(
-        zone.border_place - 0.5, zone.border_place - 0.5, ["%d,$ shift %d" % (zone.border + 1, -late)], why
-    )
+        return Item(zone.first - 0.5, zone.border_place - 0.5, moved_from(at, -late), why)
+    return Item(zone.border_place - 0.5, zone.border_place - 0.5, [moved_rest(zone.border, -late)], why)
 
 
 def _why_not(faults: Faults, zone: Zone) -> str:
@@ -162,16 +160,17 @@ def _generate(faults: Faults, frames: _Frames) -> Item:
     lost = {place: faults.wanted.pop(place) for place in range(first, beyond) if place in faults.wanted}
     moment = faults.times.moment(frames.number)
     assert moment is not None
-    edit = "regen %d %d %s" % (frames.rise, frames.many, faults.times.calendar.text(moment))
+    values = frames.rise, frames.many, faults.times.calendar.text(moment)
     why = "%d elements of %d frame(s) from %d on are lost or damaged; the frames around them lead to %s" % (
         len(lost),
         frames.many,
         frames.rise,
         faults.times.name(frames.number),
     )
-    if frames.control:
-        edit, why = edit + " %x" % frames.control, why + " and to the control functions %x" % frames.control
+    control = ["%x" % frames.control] if frames.control else []
+    if control:
+        why += " and to the control functions " + control[0]
     guessed = sorted({place % 100 for place in faults.guesses if first <= place < beyond})
     if guessed:
         why += "; undecided are the control elements %s" % ", ".join(map(str, guessed))
-    return Item(first, beyond - 1, [edit], why, targets=lost)
+    return Item(first, beyond - 1, [Edit("regen", (*values, *control))], why, targets=lost)
