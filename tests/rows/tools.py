@@ -268,7 +268,7 @@ def judged(pulses, length, edits):
     layout = Layout("B", 4)
     with tempfile.TemporaryDirectory() as folder:
         opened = editor.Editor(["--expression", "4", written(folder, pulses, length)])
-        repairs = [Repair(at, [], [edit]) for at, edit in edits]
+        repairs = [Repair(at, [], [edit], moves=list(moves)) for at, edit, *moves in edits]
         listings = opened.ask([]), opened.ask([repair.lines() for repair in repairs])
     harms = check_of.Check(layout, 10000, [], listings, check_of.Moved(repairs)).harms()
     return [(harm.at, harm.seen) for harm in harms]
@@ -295,8 +295,8 @@ def harms():
     in_a_hole(late)
     apart = "the frames before and after it would not follow each other"
     move = "626,$ shift "
-    yield same("a rest that is moved by a frame", judged(late, 12000000, [(7849400, move + "-999400")]), [(7849400, apart)])
-    yield same("a rest that is moved right", judged(late, 12000000, [(7849400, move + "600")]), [])
+    yield same("a rest that is moved by a frame", judged(late, 12000000, [(7849400, move + "-999400", -999400)]), [(7849400, apart)])
+    yield same("a rest that is moved right", judged(late, 12000000, [(7849400, move + "600", 600)]), [])
 
 
 def larger_rows():

@@ -1,8 +1,9 @@
 """What is wrong at each place of a track, and what has to be there."""
 from __future__ import annotations
 
+import copy
 from dataclasses import dataclass
-from typing import Dict, Iterable, List, Optional
+from typing import Container, Dict, Iterable, List, Optional
 
 from . import limits
 from .frames import Times
@@ -41,9 +42,15 @@ class Faults:
             if number not in times.sound:
                 self._look_at(number, text, times.expected(number))
 
-    def leave(self) -> None:
-        """Forgets what is wrong in frames that are to stay as they are."""
-        self.wanted = {place: name for place, name in self.wanted.items() if place // 100 not in self.left}
+    def without(self, places: Container[int]) -> Faults:
+        """The same, as if nothing were wrong at these places."""
+        found = copy.copy(self)
+        found.wanted = {place: name for place, name in self.wanted.items() if place not in places}
+        return found
+
+    def in_left_frames(self) -> List[int]:
+        """The faulty places of frames that are to stay as they are."""
+        return [place for place in self.wanted if place // 100 in self.left]
 
     def _look_at(self, number: int, text: str, expected: str) -> None:
         """Compares a frame with what follows for it."""

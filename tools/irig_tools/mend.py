@@ -21,8 +21,8 @@ def called_for(findings: Findings) -> List[Repair]:
         if part.copies:
             found += part.copies
             continue
-        edits = repairs(part.faults)  # may add remarks
-        said = part.remarks + part.faults.remarks
+        edits, left = repairs(part.faults)
+        said = part.remarks + part.faults.remarks + left
         found += [Repair(remark.at, [remark.comment()]) for remark in said] + edits
     return found
 

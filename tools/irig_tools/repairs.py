@@ -2,30 +2,33 @@
 true."""
 from __future__ import annotations
 
-from typing import Dict, List
+from typing import Dict, List, Tuple
 
 from . import limits
 from .chance import misread
 from .edit import Edit, of_pulses, repair_of
 from .edits import Item, items
-from .faults import Faults
+from .faults import Faults, Remark
 from .layout import SHARE
 from .script import Repair
-from .wholes import lost_frames, shifts
+from .wholes import late_zones, left_rest, lost_frames, shift
 
 
-def repairs(faults: Faults) -> List[Repair]:
-    """What the faults call for. What is close together is one repair."""
-    faults.leave()
-    moved = shifts(faults)
+def repairs(seen: Faults) -> Tuple[List[Repair], List[Remark]]:
+    """What the faults call for, and what is said of a rest that is left. What is close together is one repair."""
+    moved, left = late_zones(seen)
+    between = [place for zone in left for place in range(zone.first + 1, zone.last)]
+    faults = seen.without({*seen.in_left_frames(), *between})
     whole = lost_frames(faults)
+    single = faults.without({place for item in whole for place in item.targets})
+    found = [shift(faults, zone) for zone in moved] + whole + misread(single) + items(single)
     groups: List[List[Item]] = []
-    for item in sorted(moved + whole + misread(faults) + items(faults), key=lambda item: -item.low):
+    for item in sorted(found, key=lambda item: -item.low):
         if groups and groups[-1][-1].low - item.high <= 1:
             groups[-1].append(item)
         else:
             groups.append([item])
-    return [_repair(faults, group) for group in groups]
+    return [_repair(single, group) for group in groups], [left_rest(seen, zone) for zone in left]
 
 
 def _repair(faults: Faults, group: List[Item]) -> Repair:

@@ -3,7 +3,7 @@ from __future__ import annotations
 
 from bisect import bisect_left
 from dataclasses import dataclass
-from typing import List, Optional
+from typing import List, Optional, Tuple
 
 from . import limits
 from .edit import Edit, moved_from, moved_rest
@@ -12,26 +12,24 @@ from .faults import Faults, Remark
 from .zones import Zone
 
 
-def shifts(faults: Faults) -> List[Item]:
-    found = [_shift(faults, zone) for zone in faults.track.zones if round(zone.late) and not zone.glued]
-    return [item for item in found if item]
+def late_zones(faults: Faults) -> Tuple[List[Zone], List[Zone]]:
+    """Those after which the rest is moved, and those after which it is left, with all that is between."""
+    late = [zone for zone in faults.track.zones if round(zone.late) and not zone.glued]
+    return [zone for zone in late if not _why_not(faults, zone)], [zone for zone in late if _why_not(faults, zone)]
 
 
-def _shift(faults: Faults, zone: Zone) -> Optional[Item]:
-    """Moves the rest back to where it should be; None if the recording is too short for that."""
+def left_rest(faults: Faults, zone: Zone) -> Remark:
+    """What is said of a rest that is not moved."""
+    assert zone.right and zone.border is not None
+    way = "late" if zone.late > 0 else "early"
+    seen = "%d elements are missing, and the rest comes %d %s" % (zone.right.step - 1, abs(round(zone.late)), way)
+    return Remark(faults.rises[zone.border], seen, _why_not(faults, zone))
+
+
+def shift(faults: Faults, zone: Zone) -> Item:
+    """Moves the rest back to where it should be."""
     assert zone.right and zone.border is not None
     late, at, between = round(zone.late), faults.rises[zone.border], zone.right.step - 1
-    choice = _why_not(faults, zone)
-    if choice:
-        seen = "%d elements are missing, and the rest comes %d %s" % (
-            between,
-            abs(late),
-            "late" if late > 0 else "early",
-        )
-        faults.remarks.append(Remark(at, seen, choice))
-        for place in range(zone.first + 1, zone.last):
-            faults.wanted.pop(place, None)
-        return None
     way = "late" if late > 0 else "early"
     why = "from pulse %d at %d on all comes %d %s" % (zone.border + 1, at, abs(late), way)
     if between:
@@ -151,13 +149,13 @@ def _lost_frames(faults: Faults) -> List[_Frames]:
 
 
 def lost_frames(faults: Faults) -> List[Item]:
-    """Whole frames that are generated again; their places are then no longer wanted one by one."""
+    """Whole frames that are generated again; their places are then not repaired one by one."""
     return [_generate(faults, frames) for frames in _lost_frames(faults)]
 
 
 def _generate(faults: Faults, frames: _Frames) -> Item:
     first, beyond = 100 * frames.number, 100 * (frames.number + frames.many)
-    lost = {place: faults.wanted.pop(place) for place in range(first, beyond) if place in faults.wanted}
+    lost = {place: faults.wanted[place] for place in range(first, beyond) if place in faults.wanted}
     moment = faults.times.moment(frames.number)
     assert moment is not None
     values = frames.rise, frames.many, faults.times.calendar.text(moment)
