@@ -2,12 +2,12 @@
 from __future__ import annotations
 
 from dataclasses import dataclass, field
-from typing import List, Optional
+from typing import Callable, Iterator, List, Optional, Sequence, Tuple
 
 from . import limits
 from .copies import settled, take_out
 from .edit import Edit, repair_of
-from .editor import Listing
+from .editor import Listing, Progress
 from .faults import Faults, Remark
 from .frames import Times
 from .interval import Clock, Run, share_in_step
@@ -42,6 +42,19 @@ class Findings:
     whole: List[Repair] = field(default_factory=list)
     parts: List[Part] = field(default_factory=list)  # from the last to the first
     remarks: List[Remark] = field(default_factory=list)
+
+
+def looks(obeyed: Callable[[], Listing], progress: Progress, script: Sequence[Repair], steady: bool = False,
+          move: bool = False) -> Iterator[Tuple[Listing, Findings]]:
+    """The track as it is after a script, and what is found in it; again as long as the script has grown since."""
+    for _ in range(limits.ROUNDS + 1):
+        repairs = len(script)
+        progress("reading the track" + (" as it is after %d repairs" % repairs if repairs else ""))
+        listing = obeyed()
+        progress("looking at %d pulses" % len(listing.rises))
+        yield listing, examine(listing, steady, move)
+        if len(script) == repairs:
+            return
 
 
 def examine(listing: Listing, steady: bool = False, move: bool = False) -> Findings:

@@ -5,7 +5,7 @@ from dataclasses import dataclass
 from typing import List, Sequence, Tuple
 
 from . import limits
-from .analysis import Findings, Part, examine
+from .analysis import Findings, Part, looks
 from .editor import Editor, Listing, Progress
 from .faults import Faults, Remark
 from .interval import Clock
@@ -56,23 +56,17 @@ def look(editor: Editor, progress: Progress, steady: bool = False) -> Seen:
     """All damage. A threshold is first undone, so that the rest is seen; no time is moved."""
     found: List[Damage] = []
     script: List[Repair] = []
-    progress("reading the track")
-    track = listing = editor.ask([])
-    for turn in range(limits.ROUNDS + 1):
-        if script:
-            listing = editor.ask([repair.lines() for repair in script])
-        progress("looking at %d pulses" % len(listing.rises))
-        findings = examine(listing, steady)
-        if not findings.whole or listing.refused or turn == limits.ROUNDS:
+    seen: List[Tuple[Listing, Findings]] = []
+    for listing, findings in looks(lambda: editor.ask([each.lines() for each in script]), progress, script, steady):
+        seen.append((listing, findings))
+        if not findings.whole or listing.refused:
             found += _rest(listing, findings)
-            break
-        found.append(Damage(findings.whole[0].at, findings.whole[0].at, "", findings.whole[0].comments[0]))
-        if findings.turned:
-            break
-        script += findings.whole
+        else:
+            found.append(Damage(findings.whole[0].at, findings.whole[0].at, "", findings.whole[0].comments[0]))
+            script += [] if findings.turned else findings.whole
     progress("")
     found = sorted(set(found), key=lambda each: (each.at, each.until, each.name, each.seen))
-    return Seen(track, findings, found)
+    return Seen(seen[0][0], seen[-1][1], found)
 
 
 def _rest(listing: Listing, findings: Findings) -> List[Damage]:

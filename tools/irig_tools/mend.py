@@ -6,7 +6,7 @@ from dataclasses import dataclass, field
 from typing import Dict, List, Sequence, Set, Tuple
 
 from . import limits
-from .analysis import Findings, examine
+from .analysis import Findings, looks
 from .check import Check, Harm, Moved
 from .editor import Editor, Listing, Progress
 from .repairs import repairs
@@ -54,23 +54,19 @@ class _Mending:
     after: Listing = field(default_factory=Listing)
 
     def run(self) -> None:
-        for turn in range(limits.ROUNDS + 1):
-            before = " as it is after %d repairs" % len(self.script) if self.script else ""
-            self.progress("reading the track" + before)
-            self.after = obeyed(self.editor, self.script, self.refused)
-            if turn == limits.ROUNDS or not self._look(self.after):
-                return
+        rounds = looks(lambda: obeyed(self.editor, self.script, self.refused), self.progress, self.script, self.steady,
+                       self.move)
+        for turn, (listing, findings) in enumerate(rounds):
+            self.after = listing
+            if turn < limits.ROUNDS:
+                self._add(listing, findings)
 
-    def _look(self, listing: Listing) -> bool:
-        """Whether there are new repairs."""
-        self.progress("looking at %d pulses" % len(listing.rises))
-        findings = examine(listing, self.steady, self.move)
+    def _add(self, listing: Listing, findings: Findings) -> None:
+        """Adds the repairs that the findings call for."""
         found = called_for(findings)
         self.looks.append((len(self.script), listing, findings))
         self.remarks = [each for each in found if not each.edits]
-        new = [each for each in found if each.edits and "\n".join(each.edits) not in self.refused]
-        self.script += new
-        return bool(new)
+        self.script += [each for each in found if each.edits and "\n".join(each.edits) not in self.refused]
 
     def harms(self) -> List[Harm]:
         """What the script makes worse, if the pulses had their classes before it."""
