@@ -30,6 +30,7 @@ class Run:
     late: float = 0  # how much it came late
     glued: bool = False  # it follows the run before at once, but with another element
     gone: Optional[int] = None  # how many elements are missing before a glued run, if the times say so
+    cost: float = 0  # of the cheapest way up to it, in faults
     lead: float = 0  # how much dearer it is to give it another phase
     others: Tuple[int, ...] = ()  # the elements that it may as well begin with
     # `<` or `>` if nothing says the phase of the pulses before or after it; `[` or `]` if those are left

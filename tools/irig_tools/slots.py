@@ -181,10 +181,11 @@ class _Linker:
             if at < len(self.ways):
                 rest = {old: self._least_rest(at, old, rest) for old in choices}
             others = {other: choices[other][0] + rest[other] for other in choices if other != own}
-            _, phase, step, late = choices[own]
+            so_far, phase, step, late = choices[own]
             lead = min(others.values(), default=cost + limits.UNLIKELY) - cost
             near = tuple(other for other, each in sorted(others.items()) if each < cost + limits.LEAST_LEAD)
-            runs.append(replace(self.runs[at], place=own, step=step, late=late, lead=lead, others=near))
+            runs.append(replace(
+                self.runs[at], place=own, step=step, late=late, cost=so_far, lead=lead, others=near))
         return Linked(cost, runs[::-1])
 
     def _least_rest(self, at: int, old: int, rest: Dict[int, float]) -> float:
