@@ -125,7 +125,7 @@ def of_slots():
         ("a hole, and a marker is a one", marker, 1.3, [0, 415]),
         ("a hole, and a little late", late(without(*gap), 230, 100), 2, [0, 415]),
         ("the rest is late", late(tools.recording(), 450, 3300), 3, [0, 450]),
-        ("the rest is very late", late(tools.recording(), 450, 33000), 3.5, [0, 450]),
+        ("the rest is very late", late(tools.recording(), 450, 33000), 3, [0, 450]),
         ("a hole, and late", late(without(*gap), 230, 3300), 4, [0, 415]),
         ("a hole, and early", late(without(*gap), 230, -600), 5, [0, 415]),
         # ten apart are also those of the other phase, up to the marker of frame 5; a frame more may be missing

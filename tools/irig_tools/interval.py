@@ -107,7 +107,7 @@ class Clock:
         self.doubt = self._find_doubt(listing.rises)
 
     def _within(self, least: float, by_noise: float, most: float) -> float:
-        """So many times the noise, between two shares of the interval, in microseconds."""
+        """That many times the noise, between two shares of the interval, in microseconds."""
         return min(most * self.nominal, max(least * self.nominal, by_noise * self.noise))
 
     def _to_nominal(self, interval: float) -> float:
@@ -116,7 +116,7 @@ class Clock:
 
     def _measure(self, lengths: Sequence[float]) -> None:
         """The interval by the lengths of the runs, in microseconds."""
-        long = [(run.count - 1, length) for run, length in zip(self.runs, lengths) if run.count >= limits.LEAST_LENGTH]
+        long = [(run.count - 1, length) for run, length in zip(self.runs, lengths) if run.count >= limits.SURE_RUN]
         if long:
             self.interval = sum(length for _, length in long) / sum(steps for steps, _ in long)
         self.interval = self._to_nominal(self.interval)
@@ -165,8 +165,7 @@ class Clock:
 
     def _odd(self, run: Run, apart: Sequence[int]) -> List[int]:
         """The pulses of a run, but the first, whose distance from the one before may be a step."""
-        most = limits.ODD_DISTANCE * self.least_step
-        low, high = self.interval - most, self.interval + most
+        low, high = self.interval - self.least_step, self.interval + self.least_step
         return [
             at for at, each in enumerate(apart[run.first:run.last], run.first + 1) if not low < each < high
         ]
@@ -205,8 +204,6 @@ class Clock:
         distance, interval = right.begin - left.end, self.interval_between(left, right)
         steps = round(distance / interval)
         off = abs(distance - steps * interval)
-        if self.exact and off <= 1:
-            return 0 < steps <= limits.FAR_RUNS
         return 0 < steps <= limits.NEAR_RUNS and off <= self.slack(steps)
 
     def least_late(self, steps: int) -> float:

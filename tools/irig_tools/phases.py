@@ -137,7 +137,7 @@ def turns(classes: str) -> List[Place]:
     whole = whole_frames(classes)
     text, every = classes.translate(ONLY_P), range(100)
     if not whole:
-        alone = _turn(text, every, every) if len(text) > limits.LONE_TURN else None
+        alone = _turn(text, every, every)
         return [alone] if alone else []
     found: List[Place] = []
     ahead = _turn(text[: whole[0] + 100], every, [-whole[0] % 100])

@@ -70,8 +70,7 @@ def _hop(clock: Clock, distance: float, interval: float, step: int) -> Tuple[int
         return steps, late, 0 if steps == 1 else limits.HOLE if on_time else limits.BARELY
     if late < 0:
         return steps, late, limits.EARLY
-    very_late = limits.VERY_LATE * (late > limits.MOST_PLAIN_LATE * interval)
-    return steps, late, limits.LATE + limits.LATE_HOLE * (steps > 1) + very_late
+    return steps, late, limits.LATE + limits.LATE_HOLE * (steps > 1)
 
 
 def _jump(distance: float, interval: float, step: int) -> Tuple[int, float, float]:
@@ -106,7 +105,7 @@ class _Linker:
     def __init__(self, clock: Clock, runs: Sequence[Run], classes: str, usual: Usual) -> None:
         self.clock, self.runs, self.classes, self.usual = clock, runs, classes, usual
         marks, price = self._marks(runs[0])
-        first = marks.best(limits.WITHIN, 100 if runs[0].count < limits.TELLING else limits.FIRST_PHASES)
+        first = marks.best(limits.WITHIN, 100 if runs[0].count < limits.TELLING else limits.MOST_PHASES)
         self.table: List[Dict[int, Choice]] = [{phase: (price(phase), None, 0, 0) for phase in first}]
         self.ways: List[_Way] = []
         for before, run in zip(runs, runs[1:]):
@@ -145,7 +144,7 @@ class _Linker:
             for phase, step, late, cost in self._onward(len(self.table) - 1, old):
                 if phase not in choices or told[0] + cost < choices[phase][0]:
                     choices[phase] = told[0] + cost, old, step, late
-        most = limits.HOPELESS + min(choice[0] for choice in choices.values())
+        most = limits.UNLIKELY + min(choice[0] for choice in choices.values())
         return {phase: choice for phase, choice in choices.items() if choice[0] <= most}
 
     def _way(self, before: Run, run: Run) -> _Way:
@@ -158,7 +157,7 @@ class _Linker:
                 return _Way(price, distance, interval, [straight], ())
         steps = {1, *range(max(1, straight - limits.MOST_LATE), straight + 1)}.union({0} if straight == 0 else ())
         within = limits.WITHIN if run.count >= limits.TELLING else 0
-        own = marks.best(within, limits.OWN_PHASES) if within or marks.many else ()
+        own = marks.best(within, limits.MOST_PHASES) if within or marks.many else ()
         return _Way(price, distance, interval, sorted(steps), own)
 
     def _follows(self, marks: Marks, count: int, onward: int) -> bool:
@@ -210,8 +209,7 @@ def _is_off(clock: Clock, run: Run) -> bool:
 
 
 def _says_nothing(run: Run, classes: str) -> bool:
-    equal = Marks(_classes(run, classes)).best(0, limits.MANY_PHASES)
-    return run.count < limits.SHORT_RUN and len(equal) == limits.MANY_PHASES
+    return "P" not in _classes(run, classes)
 
 
 def _follow(clock: Clock, runs: List[Run], classes: str, unused: Sequence[int]) -> Linked:

@@ -47,7 +47,7 @@ def _why_not(faults: Faults, zone: Zone) -> str:
         return "the recording is too short to move the rest back"
     sure = min(zone.left.lead, zone.right.lead) >= limits.LEAD
     timed = any(100 * number + 99 <= zone.first for number, _ in faults.times.read)
-    if abs(zone.late) > limits.MOST_MOVED * zone.interval and zone.right.step > 1 and not (sure and timed):
+    if abs(zone.late) > limits.MOST_LATE * zone.interval and zone.right.step > 1 and not (sure and timed):
         return "that is too uncertain to move the rest"
     return ""
 
