@@ -25,11 +25,13 @@ def case(name, holds, *values):
     return Case(name, lambda: holds(*values))
 
 
-def chosen(about):
-    """The command line: -k WORD, -v and the program."""
+def chosen(about, *flags):
+    """The command line: -k WORD, -v, these flags and the program."""
     parser = argparse.ArgumentParser(description=about)
     parser.add_argument("-k", metavar="WORD", default="", dest="word", help="runs the cases whose name has the word")
     parser.add_argument("-v", action="store_true", dest="lists", help="has a line for each case")
+    for flag in flags:
+        parser.add_argument(flag, action="store_true")
     parser.add_argument("program", nargs="?", default=BUILT)
     found = parser.parse_args()
     os.environ["IRIG_ED"] = os.path.abspath(found.program)

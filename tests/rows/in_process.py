@@ -1,5 +1,7 @@
-"""A tool run in this process, as a program would be."""
+"""A tool run in this process, as a program would be, with memory that any of its tests can do with."""
+import contextlib
 import io
+import resource
 import sys
 from unittest import mock
 
@@ -7,6 +9,19 @@ from irig_tools import demodulate_program, what_program, wire_program
 
 MAINS = {"irig_wire": wire_program.main, "irig_what": what_program.main,
          "irig_demodulate": demodulate_program.main}
+MEMORY = 1 << 30  # bytes: a tool that asks for all memory must not get it
+
+
+@contextlib.contextmanager
+def little_memory():
+    """This process gets no more memory than that."""
+    soft, hard = resource.getrlimit(resource.RLIMIT_AS)
+    least = MEMORY if soft == resource.RLIM_INFINITY else min(MEMORY, soft)
+    resource.setrlimit(resource.RLIMIT_AS, (least, hard))
+    try:
+        yield
+    finally:
+        resource.setrlimit(resource.RLIMIT_AS, (soft, hard))
 
 
 def run(tool, words, data=b""):
@@ -14,7 +29,7 @@ def run(tool, words, data=b""):
     out, said = io.TextIOWrapper(io.BytesIO(), "utf-8"), io.StringIO()
     given = io.TextIOWrapper(io.BytesIO(data))
     with mock.patch.multiple(sys, argv=[tool, *words], stdin=given, stdout=out, stderr=said):
-        with mock.patch("signal.signal"):
+        with mock.patch("signal.signal"), little_memory():
             status = MAINS[tool]()
     out.flush()
     return status, out.buffer.getvalue(), said.getvalue()

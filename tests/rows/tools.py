@@ -4,6 +4,8 @@ import random
 import subprocess
 import tempfile
 
+from built import TOP
+from cases import case
 from irig_tools import check as check_of
 from irig_tools import damage, editor, mend
 from irig_tools.layout import Layout
@@ -268,7 +270,7 @@ def judged(pulses, length, edits):
     layout = Layout("B", 4)
     with tempfile.TemporaryDirectory() as folder:
         opened = editor.Editor(["--expression", "4", written(folder, pulses, length)])
-        repairs = [Repair(at, [], [edit]) for at, edit in edits]
+        repairs = [Repair(at, [], [edit], moves=list(moves)) for at, edit, *moves in edits]
         listings = opened.ask([]), opened.ask([repair.lines() for repair in repairs])
     harms = check_of.Check(layout, 10000, [], listings, check_of.Moved(repairs)).harms()
     return [(harm.at, harm.seen) for harm in harms]
@@ -295,8 +297,8 @@ def harms():
     in_a_hole(late)
     apart = "the frames before and after it would not follow each other"
     move = "626,$ shift "
-    yield same("a rest that is moved by a frame", judged(late, 12000000, [(7849400, move + "-999400")]), [(7849400, apart)])
-    yield same("a rest that is moved right", judged(late, 12000000, [(7849400, move + "600")]), [])
+    yield same("a rest that is moved by a frame", judged(late, 12000000, [(7849400, move + "-999400", -999400)]), [(7849400, apart)])
+    yield same("a rest that is moved right", judged(late, 12000000, [(7849400, move + "600", 600)]), [])
 
 
 def larger_rows():
@@ -365,6 +367,24 @@ def larger_rows():
             "3002430000 %s2, element 43: no pulse; a zero has to be there" % FRAME,
         ],
     )
+
+
+def explained():
+    """What irig_mend --explain prints of a hole: the runs with their places and costs, the base, and what is wanted."""
+    pulses = recording()
+    del pulses[600:640], pulses[230:415]
+    with tempfile.TemporaryDirectory() as folder:
+        done = run(TOP, "irig_mend --explain --expression 4 " + written(folder, pulses, 8000000))
+    lines = done[1].splitlines()
+    yield same("the status", done[0], 1)
+    yield starts("the runs", [line for line in lines if line.startswith("run")], [
+        "run: pulses 1 to 230, places 0 to 229; step 0, 0 late; cost 0.0, and 0.0 in all; lead",
+        "run: pulses 231 to 415, places 415 to 599; step 186, 0 late; cost 0.3, and 0.3 in all; lead",
+        "run: pulses 416 to 575, places 640 to 799; step 41, 0 late; cost 0.3, and 0.6 in all; lead"])
+    yield same("the span", [line for line in lines if line.startswith("frames")],
+               ["frames 0 to 7: base %d, frame 0 at 2024-061T12:00:00" % (DAY * timecode.DAY + NOON)])
+    yield starts("what is wanted", [line for line in lines if line.startswith("place")],
+                 ["places 230 to 414, from 2300000 on: no pulse; wanted are 1000", "places 600 to 639, from 6000000 on"])
 
 
 def run(top, command, **more):
@@ -460,9 +480,10 @@ def no_line_refused(top):
         yield same("hostile track %d" % number, refused, set())
 
 
-def check(top):
-    """Whether each row holds."""
-    results = [row(*each) for each in ROWS]
-    results += [gives_back(name, change, length) for name, change, length, _ in ROWS[:9]]
-    results += [*larger_rows(), *steps(), *harms()]
-    return results + list(processes(top)) + list(no_line_refused(top))
+def cases(top):
+    """Each row, and each group of rows, by its name."""
+    found = [case("mend: row: " + each[0], row, *each) for each in ROWS]
+    found += [case("mend: repaired: " + name, gives_back, name, change, length) for name, change, length, _ in ROWS[:9]]
+    groups = (("larger rows", larger_rows), ("steps", steps), ("harms", harms), ("explained", explained))
+    found += [case("mend: " + name, rows) for name, rows in groups]
+    return found + [case("mend: processes", processes, top), case("mend: hostile tracks", no_line_refused, top)]

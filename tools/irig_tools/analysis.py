@@ -2,22 +2,22 @@
 from __future__ import annotations
 
 from dataclasses import dataclass, field
-from typing import List, Optional
+from typing import Callable, Iterator, List, Optional, Sequence, Tuple
 
-from .copies import settle, take_out
-from .editor import Listing
+from . import limits
+from .copies import settled, take_out
+from .edit import Edit, repair_of
+from .editor import Listing, Progress
 from .faults import Faults, Remark
 from .frames import Times
 from .interval import Clock, Run, share_in_step
 from .layout import Layout
 from .remarks import remarks
 from .script import Repair
-from .slots import SURE, link, parts, sure_parts
+from .slots import link, parts, sure_parts
 from .steps import Step, apart, cut, step_zones, stretches, turned
 from .threshold import level
 from .track import Track
-
-FEW = SURE  # pulses; fewer make no run
 
 
 @dataclass
@@ -44,13 +44,26 @@ class Findings:
     remarks: List[Remark] = field(default_factory=list)
 
 
+def looks(obeyed: Callable[[], Listing], progress: Progress, script: Sequence[Repair], steady: bool = False,
+          move: bool = False) -> Iterator[Tuple[Listing, Findings]]:
+    """The track as it is after a script, and what is found in it; again as long as the script has grown since."""
+    for _ in range(limits.ROUNDS + 1):
+        repairs = len(script)
+        progress("reading the track" + (" as it is after %d repairs" % repairs if repairs else ""))
+        listing = obeyed()
+        progress("looking at %d pulses" % len(listing.rises))
+        yield listing, examine(listing, steady, move)
+        if len(script) == repairs:
+            return
+
+
 def examine(listing: Listing, steady: bool = False, move: bool = False) -> Findings:
     """What is found; if `move`, a rest that comes late is to be moved, and else both sides of a step are parts
     of their own."""
     layout = Layout(listing.kind, listing.expression)
     layout.steady = steady
     findings = Findings(layout)
-    if len(listing.rises) < FEW:
+    if len(listing.rises) < limits.SURE_RUN:
         findings.remarks.append(
             Remark(0, "%d pulses are too few to make a frame" % len(listing.rises), "is it another wire?")
         )
@@ -58,10 +71,10 @@ def examine(listing: Listing, steady: bool = False, move: bool = False) -> Findi
     upright, turned = share_in_step(listing.rises, layout.interval), share_in_step(
         listing.falls, layout.interval
     )
-    if turned > 0.8 and turned > upright + 0.1:
+    if turned > limits.UPSIDE_DOWN and turned > upright + limits.MORE_THAN_UPRIGHT:
         why = "the falls come at one distance, the rises do not: the wire is upside down"
-        findings.turned, findings.whole = True, [Repair(0, [why], ["invert 0 %d" % listing.length])]
-    elif upright < 0.5:
+        findings.turned, findings.whole = True, [repair_of(0, [why], [Edit("invert", (0, listing.length))])]
+    elif upright < limits.FIT:
         findings.remarks.append(
             Remark(
                 0,
@@ -80,16 +93,16 @@ def _examine_parts(listing: Listing, findings: Findings, move: bool) -> None:
     clock = findings.clock = Clock(listing, findings.layout.interval)
     found = parts(clock, listing.classes)
     for runs in reversed(found):
-        cost = link(clock, runs, listing.classes, findings.layout.unused)
-        if cost > 5 + sum(run.count for run in runs) / 18:
+        cost, linked = link(clock, runs, listing.classes, findings.layout.unused)
+        if cost > limits.FAULTS_AT_LEAST + limits.FAULTS_A_PULSE * sum(run.count for run in runs):
             at = listing.rises[runs[0].first]
             seen = "from pulse %d on the position identifiers are not ten apart" % (runs[0].first + 1)
             findings.remarks.append(Remark(at, seen, "is it another format, or another wire?"))
         else:
-            for part in reversed(sure_parts(runs)):
+            for part in reversed(sure_parts(linked)):
                 look = _moved if move else _kept
                 findings.parts += look(listing, findings.layout, clock, part)
-            findings.remarks += [_of_unsure(listing, run) for run in runs if run.others]
+            findings.remarks += [_of_unsure(listing, run) for run in linked if run.others]
     for before, after in zip(found, found[1:]):
         elements = round((after[0].begin - before[-1].end) / clock.interval) - 1
         findings.remarks.append(
@@ -120,9 +133,11 @@ def _moved(listing: Listing, layout: Layout, clock: Clock, runs: List[Run]) -> L
     track = Track(listing, layout, clock, runs)
     times = Times(track)
     copies = take_out(track, times)
-    if not copies and settle(track, times):
-        track = Track(listing, layout, clock, runs)
-        times = Times(track)
+    if not copies:
+        again = settled(track, times)
+        if again != runs:
+            track = Track(listing, layout, clock, again)
+            times = Times(track)
     return [Part(track, times, copies, Faults(track, times), remarks(track, times))]
 
 

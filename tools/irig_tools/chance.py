@@ -3,6 +3,7 @@ from __future__ import annotations
 
 from typing import List, Optional
 
+from .edit import of_pulse
 from .edits import Item
 from .faults import Faults
 from .layout import READABLE
@@ -58,4 +59,4 @@ def _broken(faults: Faults, place: int, marker: int, other: int) -> Item:
         "time; pulse %d is deleted, so that no time is read there"
         % (faults.name(place), other + 1, marker + 1, other + 1)
     )
-    return Item(place, place, ["%d delete" % (other + 1)], why)
+    return Item(place, place, [of_pulse("delete", other)], why)

@@ -12,6 +12,7 @@ from dataclasses import dataclass
 from itertools import combinations, compress, count
 from typing import Dict, Iterator, List, NamedTuple, Optional, Sequence, Tuple
 
+from . import limits
 from .editor import Listing
 from .interval import distances
 from .layout import Layout
@@ -19,11 +20,6 @@ from .moments import DAY, Calendar
 from .script import Repair
 
 MARKED = re.compile("P(?=P[01]{8}P(?:[01]{9}P){9})")
-REST = re.compile(r"[^,]+,\$ shift (-?\d+)$")
-NEAR = 0.2  # intervals: a marker that is moved by less is the same
-ON_CLOCK = 0.5  # intervals: by how much less than a whole number of frames apart are the frames of one clock
-DRIFT = 0.002  # the same for each interval between them
-APART = 30  # intervals: the same if there is a step between them
 
 
 @dataclass
@@ -41,8 +37,7 @@ class Moved:
     def __init__(self, script: Sequence[Repair] = ()) -> None:
         self.steps: List[Tuple[int, int, int]] = []  # from when on, by how much, and how long a part goes
         for repair in script:
-            for move in filter(None, map(REST.match, repair.edits)):
-                self.steps.append((repair.at, int(move[1]), repair.removed[2]))
+            self.steps += [(repair.at, by, repair.removed[2]) for by in repair.moves]
 
     def time(self, at: int) -> Optional[int]:
         """None if the script takes it out."""
@@ -67,7 +62,7 @@ class Frames:
     def __init__(self, listing: Listing, layout: Layout, moved: Moved) -> None:
         calendar, interval = Calendar(layout), layout.interval
         apart = distances(listing.rises)
-        odd = {each for each in set(apart) if 10 * abs(each - interval) > interval}
+        odd = {each for each in set(apart) if abs(each - interval) > limits.IN_STEP * interval}
         breaks = list(compress(count(1), map(odd.__contains__, apart)))
         found: Dict[int, Frame] = {}
         for match in MARKED.finditer(listing.classes):
@@ -121,7 +116,7 @@ class Check:
 
     def _stays(self, frame: Frame) -> bool:
         """Whether it is there after the script, but for control functions that are said to be steady."""
-        new = self.new.near(frame.at, NEAR * self.interval)
+        new = self.new.near(frame.at, limits.MOVED * self.interval)
         free = self.layout.control if self.layout.steady else ()
         return new is not None and all(
             a == b or element in free for element, (a, b) in enumerate(zip(frame.text, new.text))
@@ -137,9 +132,9 @@ class Check:
 
     def _is_outvoted(self, frame: Frame) -> bool:
         """Whether at least three frames of the result, next to it, agree on another time."""
-        near = around(self.new.all, frame.at, 3)
+        near = around(self.new.all, frame.at, limits.OUTVOTED)
         return (
-            len(near) >= 3
+            len(near) >= limits.OUTVOTED
             and all(self._agree(*pair) for pair in combinations(near, 2))
             and not any(self._agree(frame, each) for each in near)
         )
@@ -158,6 +153,6 @@ class Check:
         elements = (high.at - low.at) / self.interval
         apart = high.moment - low.moment
         stepped = bisect_left(self.steps, low.at) != bisect_left(self.steps, high.at)
-        most = APART if stepped else min(APART, ON_CLOCK + DRIFT * elements)
+        most = limits.AT_STEP if stepped else min(limits.AT_STEP, limits.ON_CLOCK + limits.CLOCK_DRIFT * elements)
         years = (0,) if self.with_year else (0, 365 * DAY, 366 * DAY)
         return any(abs(elements - 100 * (apart + year) / self.layout.period) <= most for year in years)

@@ -3,12 +3,16 @@ a copy."""
 from __future__ import annotations
 
 from bisect import bisect_left
+from dataclasses import replace
 from itertools import accumulate
-from typing import Iterable, List, NamedTuple, Optional, Tuple
+from typing import Dict, Iterable, List, Mapping, NamedTuple, Optional, Tuple
 
-from .frames import LONGEST_CUT, Span, Times
+from . import limits
+from .edit import moved_rest, of_pulses, repair_of
+from .frames import Times
 from .interval import Run
 from .script import Repair
+from .spans import Span
 from .track import Track
 from .zones import Zone
 
@@ -21,23 +25,36 @@ class Again(NamedTuple):
     within: bool  # whether it begins within a frame for sure; else the clock may have been set back
 
 
-def settle(track: Track, times: Times) -> bool:
-    """If a rest came more than a frame late, the times on both sides say how many frames were really lost.
-    Returns whether places changed."""
-    changed = False
+def settled(track: Track, times: Times) -> List[Run]:
+    """The runs, moved on by whole frames if a rest came more than a frame late: the times on both sides say how many
+    frames were really lost."""
+    gone: Dict[int, int] = {}  # by the first pulse of a run
+    on: Dict[int, int] = {}  # how many places it is moved on
     stretches = track.stretches()
     for left, right in zip(stretches, stretches[1:]):
-        frames, zone = times.frames_between(left, right), track.zone_of[right[0].place]
-        if frames is not None and zone.skipped() + 100 * frames > 0:
-            right[0].gone = zone.skipped() + 100 * frames
-            if frames and right[0].gone <= LONGEST_CUT:
-                changed = True
-                track.move_on(right[0], 100 * frames)
-    return changed or _settle_late(track, times)
+        frames, skipped = times.frames_between(left, right), track.zone_before(right[0]).skipped()
+        if frames is not None and skipped + 100 * frames > 0:
+            gone[right[0].first] = skipped + 100 * frames
+            if frames and skipped + 100 * frames <= limits.LONGEST_CUT:
+                on[right[0].first] = 100 * frames
+    runs = [replace(run, gone=gone.get(run.first, run.gone)) for run in track.runs]
+    return _moved_on(track, runs, on or _late_frames(track, times))
 
 
-def _settle_late(track: Track, times: Times) -> bool:
-    changed = False
+def _moved_on(track: Track, runs: List[Run], on: Mapping[int, int]) -> List[Run]:
+    """These runs, some moved on by that many places with all that follow."""
+    moved, found = 0, []
+    for run in runs:
+        by = on.get(run.first, 0)
+        moved += by
+        late = run.late - by * track.clock.interval
+        found.append(replace(run, step=run.step + by, late=late, place=run.place + moved))
+    return found
+
+
+def _late_frames(track: Track, times: Times) -> Dict[int, int]:
+    """By how many places the runs are moved on, by their first pulse, if whole frames were taken for lost."""
+    found: Dict[int, int] = {}
     for before, after in zip(times.spans, times.spans[1:]):
         frames = (before.base - after.base) // track.layout.period
         late = [
@@ -50,9 +67,8 @@ def _settle_late(track: Track, times: Times) -> bool:
             and zone.right.step > 100 * frames > 0
         ]
         if late:
-            changed = True
-            track.move_on(late[-1], -100 * frames)
-    return changed
+            found[late[-1].first] = -100 * frames
+    return found
 
 
 def _sums(pairs: Iterable[Tuple[str, str]]) -> Tuple[List[int], List[int]]:
@@ -79,7 +95,8 @@ def _copied(track: Track, zone: Zone, many: int) -> Optional[int]:
 
     unlike, alike = _sums((told(at - many), told(at)) for at in range(low, high + many))
     faults, at = min((unlike[at + many] - unlike[at], at) for at in range(high - low + 1))
-    is_copy = faults <= many // 25 and alike[at + many] - alike[at] >= many // 2
+    fit, same = many // limits.UNLIKE_IN_COPY, many // limits.ALIKE_IN_COPY
+    is_copy = faults <= fit and alike[at + many] - alike[at] >= same
     return right.first + low + at if is_copy else None
 
 
@@ -89,7 +106,7 @@ def again_within(track: Track, before: Span, after: Span) -> Optional[Again]:
     many = 100 * (before.base - after.base) // track.layout.period
     low = max(100 * before.last, track.first + many)
     high = min(100 * after.first + 99, track.last - many)
-    if many <= 0 or low >= high or max(many, high - low) > LONGEST_CUT:
+    if many <= 0 or low >= high or max(many, high - low) > limits.LONGEST_CUT:
         return None
     text, begin = track.told, low - track.first
     unlike, _ = _sums(zip(text[begin - many:], text[begin:high + many + 1 - track.first]))
@@ -97,7 +114,7 @@ def again_within(track: Track, before: Span, after: Span) -> Optional[Again]:
     least = min(faults)
     place = low + faults.index(least)
     first, rest = track.pulses_at(place), track.pulses_at(place + many)
-    if least > many // 50 or len(first) != 1 or len(rest) != 1 or rest[0] - first[0] != many:
+    if least > many // limits.UNLIKE_WITHIN or len(first) != 1 or len(rest) != 1 or rest[0] - first[0] != many:
         return None
     return Again(first[0], many, min(faults[-low % 100:: 100], default=9) > least + 1)
 
@@ -106,7 +123,7 @@ def without_copy(track: Track, first: int, many: int) -> Optional[Repair]:
     """The repair that takes that many elements out, from a pulse on; None if the rest does not follow
     them."""
     begin, by = track.rises[first], round(many * track.clock.interval)
-    after = bisect_left(track.rises, begin + by - 0.2 * track.clock.interval)
+    after = bisect_left(track.rises, begin + by - limits.BEFORE_ITS_RISE * track.clock.interval)
     if after == len(track.rises):
         return None
     if abs(track.rises[after] - begin - by) <= track.clock.slack(many):
@@ -115,16 +132,16 @@ def without_copy(track: Track, first: int, many: int) -> Optional[Repair]:
         "the %d elements from %d on are there twice: at %d the times begin again; the second are deleted, "
         "and the rest goes back by %d" % (many, begin - by, begin, by)
     )
-    edits = ["%d,%d delete" % (first + 1, after), "%d,$ shift -%d" % (first + 1, by)]
-    return Repair(begin, [why], edits, (first, after - first, by))
+    edits = [of_pulses("delete", first, after - 1), moved_rest(first, -by)]
+    return repair_of(begin, [why], edits, removed=(first, after - first, by))
 
 
 def copy_between(track: Track, times: Times, left: List[Run], right: List[Run]) -> Optional[Tuple[int, int]]:
     """The first pulse, and how many elements follow it, of a stretch that is as the one before it, between
     these runs; None if there is none."""
-    frames, zone = times.frames_between(left, right), track.zone_of[right[0].place]
+    frames, zone = times.frames_between(left, right), track.zone_before(right[0])
     many = 0 if frames is None else -zone.skipped() - 100 * frames
-    first = _copied(track, zone, many) if 0 < many <= LONGEST_CUT else None
+    first = _copied(track, zone, many) if 0 < many <= limits.LONGEST_CUT else None
     return None if first is None else (first, many)
 
 

@@ -4,17 +4,14 @@ from __future__ import annotations
 from dataclasses import dataclass
 from typing import List, Sequence, Tuple
 
-from .analysis import Findings, Part, examine
+from . import limits
+from .analysis import Findings, Part, looks
 from .editor import Editor, Listing, Progress
 from .faults import Faults, Remark
 from .interval import Clock
 from .script import Repair
 
-DRIFT = 0.001  # intervals: a clock that is less off is sound
-TREMBLE = 0.005  # intervals: rises that stray less are sound
-ROUNDS = 5
 NO_FRAME = "pulses that belong to no frame"
-TOGETHER = 3  # that many faulty places one after the other are one line
 
 
 @dataclass(frozen=True)
@@ -59,23 +56,17 @@ def look(editor: Editor, progress: Progress, steady: bool = False) -> Seen:
     """All damage. A threshold is first undone, so that the rest is seen; no time is moved."""
     found: List[Damage] = []
     script: List[Repair] = []
-    progress("reading the track")
-    track = listing = editor.ask([])
-    for turn in range(ROUNDS + 1):
-        if script:
-            listing = editor.ask([repair.lines() for repair in script])
-        progress("looking at %d pulses" % len(listing.rises))
-        findings = examine(listing, steady)
-        if not findings.whole or listing.refused or turn == ROUNDS:
+    seen: List[Tuple[Listing, Findings]] = []
+    for listing, findings in looks(lambda: editor.ask([each.lines() for each in script]), progress, script, steady):
+        seen.append((listing, findings))
+        if not findings.whole or listing.refused:
             found += _rest(listing, findings)
-            break
-        found.append(Damage(findings.whole[0].at, findings.whole[0].at, "", findings.whole[0].comments[0]))
-        if findings.turned:
-            break
-        script += findings.whole
+        else:
+            found.append(Damage(findings.whole[0].at, findings.whole[0].at, "", findings.whole[0].comments[0]))
+            script += [] if findings.turned else findings.whole
     progress("")
     found = sorted(set(found), key=lambda each: (each.at, each.until, each.name, each.seen))
-    return Seen(track, findings, found)
+    return Seen(seen[0][0], seen[-1][1], found)
 
 
 def _rest(listing: Listing, findings: Findings) -> List[Damage]:
@@ -98,7 +89,7 @@ def _of_clock(clock: Clock, listing: Listing) -> List[Damage]:
     """Drift and jitter, each said once."""
     found, end = [], listing.rises[-1]
     off = clock.interval / clock.nominal - 1
-    if abs(off) >= DRIFT:
+    if abs(off) >= limits.DRIFT:
         seen = "the clock is %.2f %% %s: pulses come every %.1f microseconds, not every %d" % (
             abs(100 * off),
             "slow" if off > 0 else "fast",
@@ -106,7 +97,7 @@ def _of_clock(clock: Clock, listing: Listing) -> List[Damage]:
             clock.nominal,
         )
         found.append(Damage(0, end, "the whole recording", seen + _range(clock)))
-    if clock.noise >= TREMBLE * clock.nominal:
+    if clock.noise >= limits.TREMBLE * clock.nominal:
         seen = (
             "rises tremble: half of all distances are off by more than %d microseconds, %.1f %% of "
             "the interval, and a step of less than %d does not show"
@@ -119,7 +110,7 @@ def _of_clock(clock: Clock, listing: Listing) -> List[Damage]:
 def _range(clock: Clock) -> str:
     """The least and the largest interval, if they differ."""
     local = [each for run in clock.runs for each in (run.begin_interval, run.end_interval) if each]
-    if not local or max(local) - min(local) < DRIFT * clock.nominal:
+    if not local or max(local) - min(local) < limits.DRIFT * clock.nominal:
         return ""
     return ", in places from %.1f to %.1f" % (min(local), max(local))
 
@@ -145,7 +136,7 @@ def _of_places(faults: Faults, group: Sequence[int]) -> List[Damage]:
     until = faults.track.rise_at(last) + round(faults.clock.interval)
     at_first = faults.track.pulses_at(first)
     reach = faults.track.spans(first, at_first[-1]) if at_first else 0
-    if len(group) > 1 and (len(group) >= TOGETHER or reach == len(group) - 1):
+    if len(group) > 1 and (len(group) >= limits.TOGETHER or reach == len(group) - 1):
         empty = sum(not faults.track.pulses_at(place) for place in group)
         seen = (
             "%d pulses have run together" % len(group)
@@ -187,9 +178,9 @@ def _of_ends(listing: Listing, first: Part, last: Part) -> List[Damage]:
 def _of_silence(listing: Listing, interval: float) -> List[Damage]:
     """A recorder seldom begins at the first pulse and ends at the last one, so silence there is no damage."""
     found, first, last, end = [], listing.rises[0], listing.falls[-1], listing.length
-    if first > 1.5 * interval:
+    if first > limits.SILENCE * interval:
         found.append(Damage(0, first, "", "no pulse before %d" % first, is_remark=True))
-    if end - listing.rises[-1] > 1.5 * interval:
+    if end - listing.rises[-1] > limits.SILENCE * interval:
         seen = "no pulse from there to the end at %d" % end
         found.append(Damage(last, end, "", seen, is_remark=True))
     return found

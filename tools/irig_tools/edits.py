@@ -1,15 +1,15 @@
 """The fewest edits that give each place the pulse that it has to have."""
 from __future__ import annotations
 
-import re
 from dataclasses import dataclass, field
 from typing import Dict, List, Optional, Sequence, Tuple
 
+from . import limits
+from .edit import Edit, of_pulse, of_pulses
 from .faults import Faults
 from .layout import NAMES
 
 NOTHING_DONE = -1 << 60
-UNLIKE = 0.02  # intervals: a width that is more off than that is not the one of its class
 
 
 @dataclass
@@ -18,7 +18,7 @@ class Item:
 
     low: float
     high: float
-    edits: List[str]
+    edits: List[Edit]
     why: str
     lost: bool = False  # a pulse that is missing and that follows
     single: bool = False  # it gives each of its places the pulse that is wanted
@@ -43,7 +43,7 @@ def _item(faults: Faults, place: int) -> Optional[Item]:
     if not pulses:
         rise = faults.track.rise_at(place)
         why = "%s: no pulse; %s" % (faults.where(place), faults.reason(place))
-        insert = "insert %d %d" % (rise, rise + faults.width(target))
+        insert = Edit("insert", (rise, rise + faults.width(target)))
         return Item(place, place, [insert], why, place not in faults.guesses, True)
     many = faults.track.spans(place, pulses[-1])
     return _divide(faults, place, many, pulses) if many else _reduce(faults, place, pulses, target)
@@ -53,22 +53,23 @@ def _divide(faults: Faults, place: int, many: int, pulses: Sequence[int]) -> Opt
     """Parts one pulse that reaches over several places."""
     if any(place + k not in faults.wanted for k in range(many + 1)):
         return None
-    track, edits, first, last = faults.track, [], pulses[0] + 1, place + many
+    track, first, last = faults.track, pulses[0], place + many
+    edits: List[Edit] = []
     extra = [pulse for k in range(1, many + 1) for pulse in track.pulses_at(place + k)]
     if extra:
-        edits.append("%d,%d delete" % (extra[0] + 1, extra[-1] + 1))
+        edits.append(of_pulses("delete", extra[0], extra[-1]))
     if len(pulses) > 1:
-        edits.append("%d,%d join" % (first, pulses[-1] + 1))
+        edits.append(of_pulses("join", first, pulses[-1]))
     for k in range(many):
         fall = track.rise_at(place + k) + faults.width(faults.wanted[place + k])
-        edits.append("%d split %d %d" % (first + k, fall, track.rise_at(place + k + 1)))
+        edits.append(of_pulse("split", first + k, fall, track.rise_at(place + k + 1)))
     if abs(track.falls[pulses[-1]] - track.rise_at(last) - faults.width(faults.wanted[last])) > (
-        UNLIKE * faults.layout.interval
+        limits.UNLIKE * faults.layout.interval
     ):
-        edits.append("%d force %s" % (first + many, NAMES[faults.wanted[last]]))
+        edits.append(of_pulse("force", first + many, NAMES[faults.wanted[last]]))
     reasons = ", then ".join(faults.reason(place + k) for k in range(many + 1))
     why = "%s: %s; %s" % (faults.where(place), faults.seen(place), reasons)
-    return Item(place, last, [_short(edit) for edit in edits], why, single=True)
+    return Item(place, last, edits, why, single=True)
 
 
 def _choose(faults: Faults, pulses: Sequence[int], begin: int, target: str) -> Tuple[int, int, bool, bool]:
@@ -88,23 +89,19 @@ def _reduce(faults: Faults, place: int, pulses: Sequence[int], target: str) -> I
     """Of the pulses of a place the one that is wanted: some joined, others deleted."""
     begin = faults.track.rise_at(place)
     first, last, off, wrong = _choose(faults, pulses, begin, target)
-    edits, number = [], pulses[0] + 1
+    edits: List[Edit] = []
     if last < len(pulses) - 1:
-        edits.append("%d,%d delete" % (pulses[last + 1] + 1, pulses[-1] + 1))
+        edits.append(of_pulses("delete", pulses[last + 1], pulses[-1]))
     if last > first:
-        edits.append("%d,%d join" % (pulses[first] + 1, pulses[last] + 1))
+        edits.append(of_pulses("join", pulses[first], pulses[last]))
     if first > 0:
-        edits.append("%d,%d delete" % (number, pulses[first - 1] + 1))
+        edits.append(of_pulses("delete", pulses[0], pulses[first - 1]))
     move = begin - faults.rises[pulses[first]]
     width = faults.falls[pulses[last]] - faults.rises[pulses[first]]
-    if (edits or off) and abs(width - faults.width(target)) > UNLIKE * faults.layout.interval:
+    if (edits or off) and abs(width - faults.width(target)) > limits.UNLIKE * faults.layout.interval:
         wrong = True  # it is edited anyway, so it gets its width, too
-    change = ["%d force %s" % (number, NAMES[target])] * wrong + ["%d shift %d" % (number, move)] * off
+    force, shift = of_pulse("force", pulses[0], NAMES[target]), of_pulse("shift", pulses[0], move)
+    change = [force] * wrong + [shift] * off
     edits += change if move > 0 else reversed(change)
     why = "%s: %s; %s" % (faults.where(place), faults.seen(place), faults.reason(place))
-    return Item(place, place, [_short(edit) for edit in edits], why, single=True)
-
-
-def _short(edit: str) -> str:
-    """A range of one pulse as an address."""
-    return re.sub(r"^(\d+),\1 ", r"\1 ", edit)
+    return Item(place, place, edits, why, single=True)

@@ -1,18 +1,15 @@
 """What is wrong at each place of a track, and what has to be there."""
 from __future__ import annotations
 
+import copy
 from dataclasses import dataclass
-from typing import Dict, Iterable, List, Optional
+from typing import Container, Dict, Iterable, List, Optional
 
+from . import limits
 from .frames import Times
 from .layout import NAMES, POSITIONS, READABLE, SHARE
 from .texts import counted
 from .track import Track
-
-LIKE = 0.08  # intervals: a level that differs from a class for less than that is this class
-LIKE_IN_BURST = 0.03  # the same in a burst of damage, which can look like a class by chance
-NOMINAL = 0.03  # intervals: a width that is no more off is the one of its class
-BURST = 2  # of the two places before and the two after one, at least that many are damaged in a burst
 
 
 @dataclass
@@ -45,9 +42,15 @@ class Faults:
             if number not in times.sound:
                 self._look_at(number, text, times.expected(number))
 
-    def leave(self) -> None:
-        """Forgets what is wrong in frames that are to stay as they are."""
-        self.wanted = {place: name for place, name in self.wanted.items() if place // 100 not in self.left}
+    def without(self, places: Container[int]) -> Faults:
+        """The same, as if nothing were wrong at these places."""
+        found = copy.copy(self)
+        found.wanted = {place: name for place, name in self.wanted.items() if place not in places}
+        return found
+
+    def in_left_frames(self) -> List[int]:
+        """The faulty places of frames that are to stay as they are."""
+        return [place for place in self.wanted if place // 100 in self.left]
 
     def _look_at(self, number: int, text: str, expected: str) -> None:
         """Compares a frame with what follows for it."""
@@ -86,7 +89,7 @@ class Faults:
         ]
         binary = {element for element, _ in self.layout.fields.get("binary", ())}
         twice_told = number in self.times.own and not binary.isdisjoint(against)
-        if len(against) <= (0 if twice_told or self.times.turns_at(number) else 3):
+        if len(against) <= (0 if twice_told or self.times.turns_at(number) else limits.MOST_CONTRARY):
             return False
         at = self.track.rise_at(max(self.track.first, 100 * number))
         seen = "%s: %s show%s another time than the one its neighbours lead to" % (
@@ -109,7 +112,7 @@ class Faults:
             return own
         cost = {target: self.difference(place, target) for target in "01"}
         best = min("01", key=lambda target: cost[target])
-        if cost[best] < (LIKE_IN_BURST if burst else LIKE) * self.layout.interval:
+        if cost[best] < (limits.LIKE_IN_BURST if burst else limits.LIKE) * self.layout.interval:
             return best
         if near or not control:
             return near
@@ -132,10 +135,10 @@ class Faults:
         """Whether places on both sides, or two on one side, are damaged."""
         at = place - self.track.first
         near = self.track.told[max(0, at - 2):max(0, at)] + self.track.told[at + 1:at + 3]
-        return sum(letter not in "01P~" for letter in near) >= BURST
+        return sum(letter not in "01P~" for letter in near) >= limits.BURST
 
     def _is_nominal(self, pulse: int, name: str) -> bool:
-        return abs(self.falls[pulse] - self.rises[pulse] - self.width(name)) <= NOMINAL * self.layout.interval
+        return abs(self.falls[pulse] - self.rises[pulse] - self.width(name)) <= limits.NOMINAL * self.layout.interval
 
     def _doubt_control(self, number: int, text: str) -> None:
         """A control function next to damage that has no nominal width is damage, too, if its neighbours say
@@ -151,13 +154,13 @@ class Faults:
     def _is_sound(self, place: int, told: str) -> bool:
         """Whether a pulse next to damage has the width of its class, and in a burst its place, too."""
         if self._in_burst(place):
-            return self.difference(place, told) < LIKE_IN_BURST * self.layout.interval
+            return self.difference(place, told) < limits.LIKE_IN_BURST * self.layout.interval
         return self._is_nominal(self.track.pulses_at(place)[0], told)
 
     def difference(self, place: int, target: str) -> float:
         """For how many microseconds the level is not that of the target, within its interval."""
         begin = self.track.rise_at(place)
-        end, fall = begin + round(0.95 * self.clock.interval), begin + self.width(target)
+        end, fall = begin + round(limits.INTERVAL_SEEN * self.clock.interval), begin + self.width(target)
         nearby = range(max(self.track.first, place - 3), min(self.track.last, place + 1) + 1)
         high = both = 0
         for pulse in {pulse for near in nearby for pulse in self.track.pulses_at(near)}:

@@ -4,52 +4,36 @@ from __future__ import annotations
 from bisect import bisect_left
 from collections import Counter
 from operator import itemgetter
-from typing import Dict, List, NamedTuple, Optional, Sequence, Tuple
+from typing import Dict, List, Optional, Sequence, Tuple
 
+from . import limits
 from .interval import Run
-from .layout import READABLE, Fields
-from .leap import find_leap
-from .moments import DAY, Calendar
-from .spans import fit
+from .layout import READABLE
+from .moments import DAY
+from .spans import Span, fit
 from .splices import spliced
 from .steadiness import Steadiness
 from .track import Track
-
-LONGEST_CUT = 3000  # elements; after more than that the places are not counted on
-
-
-class Span(NamedTuple):
-    """Frames `first` to `last` with one base: the time of frame 0, if their clock had run all along."""
-
-    first: int
-    last: int
-    base: int
+from .votes import Votes
 
 
-class Times:
+class Times(Votes):
     """For each frame the moment that most frames near it lead to."""
 
     def __init__(self, track: Track) -> None:
-        self.track, self.layout = track, track.layout
-        self.calendar = Calendar(self.layout)
-        self.texts = {number: track.frame(number) for number in track.frames()}
-        decoded = [(number, self.layout.decode(text)) for number, text in self.texts.items()]
-        self.read: List[Tuple[int, Fields]] = [(number, told) for number, told in decoded if told]
+        super().__init__(track)
         self._having: Dict[int, List[int]] = {}  # element -> frames in which it is sound
-        self._find_year_length()
-        self.calendar.leap = find_leap(self.calendar, self.read, self._base)
-        self.own = {number: self._base(number, told) for number, told in self.read}
-        self.bases = self._find_bases()
-        self.spans = self._find_spans()
-        self.spliced = spliced(self)
-        self.bases.update(self.spliced)
+        bases = self._find_bases()
+        self.spans = self._find_spans(bases)
+        self.spliced = spliced(self, self.spans)
+        self.bases = {**bases, **self.spliced}
         self._find_sound()
 
     def _find_sound(self) -> None:
         """Which frames are sound, and which elements are kept as they are."""
         unused = itemgetter(*self.layout.unused)
         stray = {number for number in self.own if "1" in unused(self.texts[number])}
-        self.doubtful = len(stray) > 2 + len(self.read) // 10  # the expression
+        self.doubtful = len(stray) > limits.STRAY_ONES + len(self.read) * limits.STRAY_SHARE // 1  # the expression
         self.kept = set(self.layout.control) | set(self.layout.unused if self.doubtful else ())
         self._steadiness = Steadiness(sorted(self.kept), list(self.texts.values()))
         self.sound = {
@@ -59,21 +43,6 @@ class Times:
             and (self.doubtful or number not in stray)
             and READABLE.fullmatch(self.texts[number])
         }
-
-    def _base(self, number: int, told: Fields) -> int:
-        base = self.calendar.number(told) - number * self.layout.period
-        return base if self.calendar.with_year else (base - DAY) % (self.calendar.days * DAY) + DAY
-
-    def _find_year_length(self) -> None:
-        """Without a year the frames themselves show the day after 365."""
-        if self.calendar.with_year:
-            return
-        agree = {}
-        for days in (366, 365):
-            self.calendar.days = days
-            agree[days] = max(Counter(self._base(*each) for each in self.read).values(), default=0)
-        long = agree[366] > agree[365] or any(told["days"] == 366 for _, told in self.read)
-        self.calendar.days = 366 if long else 365
 
     def _find_bases(self) -> Dict[int, Optional[int]]:
         """The base of each frame: if two neighbours agree, theirs; between such frames the one that fits
@@ -88,14 +57,15 @@ class Times:
                 right is not None and self.own[right],
             ):
                 bases[number] = self.own[number]
-        self._fill(bases)
-        return bases
+        return self._filled(bases)
 
-    def _fill(self, bases: Dict[int, Optional[int]]) -> None:
+    def _filled(self, known: Dict[int, Optional[int]]) -> Dict[int, Optional[int]]:
+        """The base of every frame; those of some are known."""
+        bases = dict(known)
         apart = {
             zone.right.place // 100
             for zone in self.track.zones
-            if zone.glued and zone.right and not 0 < (zone.right.gone or 0) <= LONGEST_CUT
+            if zone.glued and zone.right and not 0 < (zone.right.gone or 0) <= limits.LONGEST_CUT
         }
         gap: List[int] = []
         left: Optional[int] = None
@@ -109,32 +79,12 @@ class Times:
             bases.update(fit(self, gap, left, bases[number]))
             gap, left = [], bases[number]
         bases.update(fit(self, gap, left, None))
+        return bases
 
-    def against(self, number: int, base: int) -> Tuple[int, int]:
-        """How many elements of a frame speak against a base, and, negative, how many for it."""
-        votes = self.votes(number, base).values()
-        wrong = sum(each < 0 for each in votes)
-        return wrong, wrong - len(votes)
-
-    def votes(self, number: int, base: int) -> Dict[int, int]:
-        """For each element of a frame that can be read, 1 if it speaks for a base, and -1 if against it."""
-        text, fields = self.texts[number], self.calendar.fields(base + number * self.layout.period)
-        wanted = self.layout.encode(fields)
-        read = [element for element in self.layout.carried if text[element] in "01"]
-        return {element: 1 if text[element] == wanted[element] else -1 for element in read}
-
-    def is_borne(self, numbers: Sequence[int], base: int) -> bool:
-        """Whether at least one element of these frames speaks for a base, and each that speaks against it is
-        outvoted."""
-        votes: Counter[int] = Counter()
-        for number in numbers:
-            votes.update(self.votes(number, base))
-        return min(votes.values(), default=0) > 0
-
-    def _find_spans(self) -> List[Span]:
+    def _find_spans(self, bases: Dict[int, Optional[int]]) -> List[Span]:
         spans: List[Span] = []
         for number in self.texts:
-            base = self.bases[number]
+            base = bases[number]
             if base is not None and spans and spans[-1].base == base:
                 spans[-1] = Span(spans[-1].first, number, base)
             elif base is not None:
@@ -218,7 +168,7 @@ class Times:
         for element in self.layout.control:
             often = Counter(text[element] for text in self.texts.values() if text[element] in "01")
             for told, many in often.most_common(1):
-                if many >= 0.9 * sum(often.values()) - 1:
+                if many >= limits.MOSTLY * sum(often.values()) - 1:
                     found[element] = told
         return found
 

@@ -4,30 +4,20 @@ from __future__ import annotations
 
 import statistics
 from collections import Counter
-from dataclasses import dataclass, field
+from dataclasses import dataclass, replace
 from itertools import compress, count, islice
 from operator import sub
-from typing import Iterator, List, Optional, Sequence
+from typing import Iterator, List, Optional, Sequence, Tuple
 
+from . import limits
 from .editor import Listing
 from .phases import turns
 
-NEAR = 15  # pulses at the end of a run that say where it should rise
-FAR = 300  # pulses at the end of a run that say the interval there
-ENOUGH = 4  # stretches that long show how much the interval changes
-MOST_OF = 1.9  # of what is spread as by chance, eight of ten are within that many times what half are within
-NEAR_RUNS = 300  # elements: runs that are no farther apart can be on one clock
-FAR_RUNS = 1000  # the same if the clock is exact
-SPREADS = 5  # a step is seen if it is that many times as large as the spread of the distances
-LEAST_STEP = 2  # microseconds: times are whole numbers, so less is no step
-AGAIN = 3  # distances that are off by one sample
-SIDE = 5  # pulses on each side of a step
-TENTH = 2.44  # of what is spread as by chance, nine of ten are within that many times what half are within
 
-
-@dataclass
+@dataclass(frozen=True)
 class Run:
-    """Pulses `first` to `last` (counted from 0) that follow each other in step."""
+    """Pulses `first` to `last` (counted from 0) that follow each other in step. `interval` finds them, `slots` gives
+    them their places."""
 
     first: int
     last: int
@@ -40,8 +30,9 @@ class Run:
     late: float = 0  # how much it came late
     glued: bool = False  # it follows the run before at once, but with another element
     gone: Optional[int] = None  # how many elements are missing before a glued run, if the times say so
+    cost: float = 0  # of the cheapest way up to it, in faults
     lead: float = 0  # how much dearer it is to give it another phase
-    others: List[int] = field(default_factory=list)  # the elements that it may as well begin with
+    others: Tuple[int, ...] = ()  # the elements that it may as well begin with
     # `<` or `>` if nothing says the phase of the pulses before or after it; `[` or `]` if those are left
     # alone
     ends: str = ""
@@ -60,17 +51,26 @@ def distances(times: Sequence[int]) -> List[int]:
 
 
 def share_in_step(times: Sequence[int], interval: int) -> float:
-    """How many of the neighbours, of 20000 at most, are one interval apart: 0 to 1."""
-    looked_at = range(0, len(times) - 1, len(times) // 20000 + 1)
-    many = sum(0.9 * interval <= times[at + 1] - times[at] <= 1.1 * interval for at in looked_at)
-    return many / max(1, len(looked_at))
+    """How many of the neighbours are one interval apart: 0 to 1."""
+    return len(_in_step(distances(times), interval)) / max(1, len(_sampled(distances(times))))
+
+
+def _sampled(apart: Sequence[int]) -> Sequence[int]:
+    """The distances that are looked at, if they are very many."""
+    return apart[:: len(apart) // limits.MOST_SAMPLED + 1]
+
+
+def _in_step(apart: Sequence[int], interval: int) -> List[int]:
+    """Those of them that are about one interval."""
+    least, most = (1 - limits.IN_STEP) * interval, (1 + limits.IN_STEP) * interval
+    return [each for each in _sampled(apart) if least <= each <= most]
 
 
 def _grid(listing: Listing, between: Sequence[int], interval: float) -> int:
     """How far apart the samples of the recorder were, in microseconds, if distances are off by one sample now
     and then; else 0."""
-    off = Counter(int(abs(each - interval)) for each in between if abs(each - interval) >= 2)
-    size, many = min(((size, many) for size, many in off.items() if many >= AGAIN), default=(0, 0))
+    off = Counter(int(abs(each - interval)) for each in between if abs(each - interval) >= limits.LEAST_STEP)
+    size, many = min(((size, many) for size, many in off.items() if many >= limits.OFF_BY_SAMPLE), default=(0, 0))
     if not many or any(time % size for time in _since_first(listing)):
         return 0
     return size
@@ -87,49 +87,57 @@ class Clock:
     def __init__(self, listing: Listing, nominal: int) -> None:
         self.nominal = nominal
         apart = distances(listing.rises)
-        between = [
-            each for each in apart[:: len(apart) // 50000 + 1] if 0.9 * nominal <= each <= 1.1 * nominal
-        ]
+        between = _in_step(apart, nominal)
         self.interval: float = statistics.median_low(between) if between else nominal
         self.noise: float = (
             statistics.median([abs(each - self.interval) for each in between]) if between else 0
         )
-        self.margin = min(0.09 * nominal, max(0.04 * nominal, 6 * self.noise))  # what counts as in step
-        self.stray = min(0.07 * nominal, max(0.04 * nominal, 4 * self.noise))  # how far one pulse may be off
+        # what counts as in step, and how far one pulse may be off
+        self.margin = self._within(limits.LEAST_MARGIN, limits.MARGIN_BY_NOISE, limits.MOST_MARGIN)
+        self.stray = self._within(limits.LEAST_STRAY, limits.STRAY_BY_NOISE, limits.MOST_STRAY)
         self.grid = _grid(listing, between, self.interval)
         self.least_step = self._find_least_step(between)
         steady = [part for run in self._find_runs(apart) for part in self._stepped(run, listing.rises, apart)]
         self.runs = [part for run in steady for part in parted(run, listing.classes)]
         self._measure([listing.rises[run.last] - listing.rises[run.first] for run in self.runs])
-        self._fit_all(listing.rises)
+        self.runs = [self.fit(run, listing.rises) for run in self.runs]
         # again, as now no pulse that strays at an end of a run counts
         self._measure([run.end - run.begin for run in self.runs])
-        self._fit_all(listing.rises)
+        self.runs = [self.fit(run, listing.rises) for run in self.runs]
         self.doubt = self._find_doubt(listing.rises)
+
+    def _within(self, least: float, by_noise: float, most: float) -> float:
+        """That many times the noise, between two shares of the interval, in microseconds."""
+        return min(most * self.nominal, max(least * self.nominal, by_noise * self.noise))
+
+    def _to_nominal(self, interval: float) -> float:
+        """The nominal interval if this one is hardly another."""
+        return self.nominal if abs(interval - self.nominal) < limits.SAME_CLOCK * self.nominal else interval
 
     def _measure(self, lengths: Sequence[float]) -> None:
         """The interval by the lengths of the runs, in microseconds."""
-        long = [(run.count - 1, length) for run, length in zip(self.runs, lengths) if run.count > 9]
+        long = [(run.count - 1, length) for run, length in zip(self.runs, lengths) if run.count >= limits.SURE_RUN]
         if long:
             self.interval = sum(length for _, length in long) / sum(steps for steps, _ in long)
-        if abs(self.interval - self.nominal) < self.nominal / 10000:
-            self.interval = self.nominal
+        self.interval = self._to_nominal(self.interval)
         self.exact = self.interval == self.nominal and self.noise == 0
 
     def _find_doubt(self, rises: Sequence[int]) -> float:
         """By how much the interval within a hole may differ from the one next to it."""
         if self.exact:
             return 0
-        long = FAR if sum(run.count // FAR for run in self.runs) >= ENOUGH else FAR // 3
+        long = limits.FAR
+        if sum(run.count // long for run in self.runs) < limits.STRETCHES:
+            long = limits.LOCAL
         local = [
             (rises[at + long] - rises[at]) / long
             for run in self.runs
             for at in range(run.first, run.last - long + 1, long)
         ]
-        if len(local) < ENOUGH:
-            return 0.0003 * self.nominal
+        if len(local) < limits.STRETCHES:
+            return limits.UNKNOWN_DOUBT * self.nominal
         low, _, high = statistics.quantiles(local, n=4)
-        return max(LEAST_STEP / FAR, MOST_OF * (high - low))
+        return max(limits.LEAST_STEP / limits.FAR, limits.EIGHT_OF_TEN * (high - low))
 
     def _find_runs(self, apart: Sequence[int]) -> List[Run]:
         low, high = self.interval - self.margin, self.interval + self.margin
@@ -141,15 +149,15 @@ class Clock:
         """A step within a run shows from this many microseconds on, as the distances of the recording are
         spread."""
         off = sorted(abs(each - self.interval) for each in between)
-        spread = max(self.noise, off[len(off) * 9 // 10] / TENTH) if off else 0
-        return max(LEAST_STEP, SPREADS * spread, 1.5 * self.grid)
+        spread = max(self.noise, off[len(off) * 9 // 10] / limits.NINE_OF_TEN) if off else 0
+        return max(limits.LEAST_STEP, limits.SPREADS * spread, limits.BY_GRID * self.grid)
 
     def _stepped(self, run: Run, rises: Sequence[int], apart: Sequence[int]) -> List[Run]:
         """The run, or its parts if all that follow a pulse come late or early by a step too small to end a
         run."""
         found, first = [], run.first
         for after in self._odd(run, apart):
-            if after - first >= SIDE and run.last - after + 1 >= SIDE:
+            if min(after - first, run.last - after + 1) >= limits.SIDE:
                 if abs(self._step_at(first, after, run.last, rises)) >= self.least_step:
                     found.append(Run(first, after - 1))
                     first = after
@@ -157,70 +165,62 @@ class Clock:
 
     def _odd(self, run: Run, apart: Sequence[int]) -> List[int]:
         """The pulses of a run, but the first, whose distance from the one before may be a step."""
-        most = 0.7 * self.least_step
-        low, high = self.interval - most, self.interval + most
+        low, high = self.interval - self.least_step, self.interval + self.least_step
         return [
             at for at, each in enumerate(apart[run.first:run.last], run.first + 1) if not low < each < high
         ]
 
     def _step_at(self, first: int, after: int, last: int, rises: Sequence[int]) -> float:
         """By how much the pulses from `after` on come late, by those near it on both sides."""
-        many = min(after - first, last - after + 1, NEAR)
-        low, high = max(first, after - FAR), min(last, after + FAR - 1)
+        many = min(after - first, last - after + 1, limits.NEAR)
+        low, high = max(first, after - limits.FAR), min(last, after + limits.FAR - 1)
         interval = (rises[after - 1] - rises[low] + rises[high] - rises[after]) / (high - low - 1)
         before = statistics.median([rises[after - 1 - k] + k * interval for k in range(many)])
         beyond = statistics.median([rises[after + k] - k * interval for k in range(many)])
         return beyond - before - interval
 
-    def _fit_all(self, rises: Sequence[int]) -> None:
-        for run in self.runs:
-            self.fit(run, rises)
-
-    def fit(self, run: Run, rises: Sequence[int]) -> None:
-        """Finds when the ends of a run should rise, and the interval there."""
-        near = (min(run.count, NEAR) - 1) // 2 * 2 + 1
-        run.begin = statistics.median_low([rises[run.first + k] - k * self.interval for k in range(near)])
-        run.end = statistics.median_low([rises[run.last - k] + k * self.interval for k in range(near)])
-        if run.count > 100 and not self.exact:
-            far = min(run.count - 1, FAR)
-            run.begin_interval = (rises[run.first + far] - run.begin) / far
-            run.end_interval = (run.end - rises[run.last - far]) / far
+    def fit(self, run: Run, rises: Sequence[int]) -> Run:
+        """The run with when its ends should rise, and the interval there."""
+        near = (min(run.count, limits.NEAR) - 1) // 2 * 2 + 1
+        begin = statistics.median_low([rises[run.first + k] - k * self.interval for k in range(near)])
+        end = statistics.median_low([rises[run.last - k] + k * self.interval for k in range(near)])
+        if run.count <= limits.LOCAL or self.exact:
+            return replace(run, begin=begin, end=end)
+        far = min(run.count - 1, limits.FAR)
+        first, last = (rises[run.first + far] - begin) / far, (end - rises[run.last - far]) / far
+        return replace(run, begin=begin, end=end, begin_interval=first, end_interval=last)
 
     def interval_between(self, left: Optional[Run], right: Optional[Run]) -> float:
         """The interval near these two runs."""
         known = [each for each in (left and left.end_interval, right and right.begin_interval) if each]
-        interval = sum(known) / len(known) if known else self.interval
-        return self.nominal if abs(interval - self.nominal) < self.nominal / 10000 else interval
+        return self._to_nominal(sum(known) / len(known) if known else self.interval)
 
     def slack(self, steps: float) -> float:
         """How far two runs on one clock may be off after that many steps."""
-        return min(0.4 * self.nominal, self.margin + self.doubt * steps)
+        return min(limits.MOST_SLACK * self.nominal, self.margin + self.doubt * steps)
 
     def on_one_clock(self, left: Run, right: Run) -> bool:
         """Whether two runs, not far apart, are a whole number of intervals apart."""
         distance, interval = right.begin - left.end, self.interval_between(left, right)
         steps = round(distance / interval)
         off = abs(distance - steps * interval)
-        if self.exact and off <= 1:
-            return 0 < steps <= FAR_RUNS
-        return 0 < steps <= NEAR_RUNS and off <= self.slack(steps)
+        return 0 < steps <= limits.NEAR_RUNS and off <= self.slack(steps)
 
     def least_late(self, steps: int) -> float:
         """A rest that is less late than this is left as it is."""
-        least = 1 if self.exact else min(0.4 * self.nominal, max(2, 5 * self.noise) + self.doubt * steps)
-        return max(least, 1.5 * self.grid)
+        spread = max(limits.LEAST_STEP, limits.SPREADS * self.noise) + self.doubt * steps
+        least = 1 if self.exact else min(limits.MOST_SLACK * self.nominal, spread)
+        return max(least, limits.BY_GRID * self.grid)
 
 
 def parted(run: Run, classes: str) -> List[Run]:
     """The run, or the parts of it that have one phase each."""
-    if run.count < 40:
+    if run.count < limits.LONG_RUN:
         return [run]
-    parts, first = [], run.first
+    parts: List[Run] = []
+    first = run.first
     for low, high in turns(classes[run.first:run.last + 1]):
         if run.first + low > first and high < run.count:
-            parts.append(Run(first, run.first + low - 1))
+            parts.append(Run(first, run.first + low - 1, glued=bool(parts)))
             first = run.first + high
-    parts.append(Run(first, run.last))
-    for part in parts[1:]:
-        part.glued = True
-    return parts
+    return parts + [Run(first, run.last, glued=bool(parts))]

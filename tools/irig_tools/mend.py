@@ -5,14 +5,12 @@ from __future__ import annotations
 from dataclasses import dataclass, field
 from typing import Dict, List, Sequence, Set, Tuple
 
-from .analysis import Findings, examine
+from . import limits
+from .analysis import Findings, looks
 from .check import Check, Harm, Moved
 from .editor import Editor, Listing, Progress
 from .repairs import repairs
 from .script import BY_LINE, Repair
-
-ROUNDS = 5  # after that many the script is as it is
-MOST_CHECKS = 5  # after that many no repair is left
 
 
 def called_for(findings: Findings) -> List[Repair]:
@@ -23,8 +21,8 @@ def called_for(findings: Findings) -> List[Repair]:
         if part.copies:
             found += part.copies
             continue
-        edits = repairs(part.faults)  # may add remarks
-        said = part.remarks + part.faults.remarks
+        edits, left = repairs(part.faults)
+        said = part.remarks + part.faults.remarks + left
         found += [Repair(remark.at, [remark.comment()]) for remark in said] + edits
     return found
 
@@ -56,23 +54,19 @@ class _Mending:
     after: Listing = field(default_factory=Listing)
 
     def run(self) -> None:
-        for turn in range(ROUNDS + 1):
-            before = " as it is after %d repairs" % len(self.script) if self.script else ""
-            self.progress("reading the track" + before)
-            self.after = obeyed(self.editor, self.script, self.refused)
-            if turn == ROUNDS or not self._look(self.after):
-                return
+        rounds = looks(lambda: obeyed(self.editor, self.script, self.refused), self.progress, self.script, self.steady,
+                       self.move)
+        for turn, (listing, findings) in enumerate(rounds):
+            self.after = listing
+            if turn < limits.ROUNDS:
+                self._add(listing, findings)
 
-    def _look(self, listing: Listing) -> bool:
-        """Whether there are new repairs."""
-        self.progress("looking at %d pulses" % len(listing.rises))
-        findings = examine(listing, self.steady, self.move)
+    def _add(self, listing: Listing, findings: Findings) -> None:
+        """Adds the repairs that the findings call for."""
         found = called_for(findings)
         self.looks.append((len(self.script), listing, findings))
         self.remarks = [each for each in found if not each.edits]
-        new = [each for each in found if each.edits and "\n".join(each.edits) not in self.refused]
-        self.script += new
-        return bool(new)
+        self.script += [each for each in found if each.edits and "\n".join(each.edits) not in self.refused]
 
     def harms(self) -> List[Harm]:
         """What the script makes worse, if the pulses had their classes before it."""
@@ -95,13 +89,13 @@ def propose(
     First are remarks: what is undecided when all repairs are made."""
     refused: Set[str] = set()
     taken: Dict[int, Repair] = {}
-    for turn in range(MOST_CHECKS):
+    for turn in range(limits.MOST_CHECKS):
         mending = _Mending(editor, progress, steady, move, refused)
         mending.run()
         harms = mending.harms()
         if not harms:
             break
-        for repair, harm in _blamed(mending.script, harms, turn + 1 == MOST_CHECKS):
+        for repair, harm in _blamed(mending.script, harms, turn + 1 == limits.MOST_CHECKS):
             refused.add("\n".join(repair.edits))
             taken[repair.at] = _left_out(repair, harm)
     else:

@@ -2,6 +2,7 @@
 from __future__ import annotations
 
 import datetime
+from dataclasses import dataclass
 from typing import Optional
 
 from .layout import Fields, Layout
@@ -10,22 +11,32 @@ DAY = 8640000  # hundredths of a second
 SECOND = 100
 
 
+# of each year of two digits, counted since year 1
+FIRST_DAYS = [datetime.date(2000 + year, 1, 1).toordinal() for year in range(100)]
+
+
+@dataclass(frozen=True)
 class Calendar:
     """Counts since year 1 if the format has a year, else since the year began."""
 
-    def __init__(self, layout: Layout) -> None:
-        self.layout, self.with_year = layout, layout.with_year
-        self.days = 365  # of the year that ends within the recording, if the format has no year
-        self.leap: Optional[int] = None  # the moment at which second 60 begins
-        self._first_days = {
-            year: datetime.date(2000 + year, 1, 1).toordinal() if self.with_year else 1 for year in range(100)
-        }
+    layout: Layout
+    days: int = 365  # of the year that ends within the recording, if the format has no year
+    leap: Optional[int] = None  # the moment at which second 60 begins
+
+    @property
+    def with_year(self) -> bool:
+        return self.layout.with_year
+
+    def base(self, number: int, told: Fields) -> int:
+        """The time of frame 0, if frame `number` shows this one and the clock had run all along."""
+        base = self.number(told) - number * self.layout.period
+        return base if self.with_year else (base - DAY) % (self.days * DAY) + DAY
 
     def number(self, told: Fields) -> int:
         within = 100 * (3600 * told["hours"] + 60 * told["minutes"] + told["seconds"]) + told.get(
             "hundredths", 0
         )
-        first = self._first_days[told.get("year", 0)]
+        first = FIRST_DAYS[told.get("year", 0)] if self.with_year else 1
         plain = (first + told["days"] - 1) * DAY + within
         if self.leap is None:
             return plain

@@ -1,7 +1,6 @@
 """A recording, its damage and its repairs as the data that a page or a picture shows."""
 from __future__ import annotations
 
-import re
 from typing import Dict, List, Optional, Sequence, Set, Tuple
 
 from .analysis import Part
@@ -12,7 +11,6 @@ from .sheet import DAMAGED, LOST, SOUND, Place, Sheet, Stretch, Wave, cut, merge
 from .steps import cut as cut_by_a_step
 
 AROUND = 4  # intervals that are shown on both sides of a place
-REST = re.compile(r"[^,]+,\$ shift (-?\d+)$")
 
 
 def sheet_of(name: str, seen: Seen, script: Sequence[Repair] = (), after: Optional[Listing] = None) -> Sheet:
@@ -53,8 +51,7 @@ def _place(seen: Seen, damage: Damage, script: Sequence[Repair], after: Optional
 
 def _moved(script: Sequence[Repair], at: int) -> int:
     """By how much the script moves what is at this time: rests that begin before it."""
-    moves = [REST.match(edit) for repair in script if repair.at < at for edit in repair.edits]
-    return sum(int(move[1]) for move in moves if move)
+    return sum(sum(repair.moves) for repair in script if repair.at < at)
 
 
 def _stretches(seen: Seen) -> Tuple[Stretch, ...]:

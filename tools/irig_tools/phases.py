@@ -11,12 +11,12 @@ from itertools import accumulate, cycle, islice
 from operator import add, ne
 from typing import Callable, Container, Iterable, List, Optional, Sequence, Tuple
 
+from . import limits
 from .layout import POSITIONS
 
 ONLY_P = str.maketrans("01b", "---")
 NO_DIGITS = str.maketrans("01", "--")
 PATTERN = "".join("P" if element in POSITIONS else "-" for element in range(100))
-LONGEST_TURN = 3000  # elements
 
 Place = Tuple[int, int]
 
@@ -54,7 +54,8 @@ class Marks:
             place = (element - phase) % 100
             hits += self.places[place]
             wanted += cycles + (place < rest)
-        return self.many - hits + wanted - hits + (4 if self.whole and phase not in self.whole else 0)
+        against = self.whole and phase not in self.whole
+        return self.many - hits + wanted - hits + (limits.NO_WHOLE_FRAME if against else 0)
 
     def best(self, within: int, most: int) -> List[int]:
         """The phases with the fewest faults, and with at most `within` more."""
@@ -85,7 +86,7 @@ class Usual:
 
 def _mask(counted: Sequence[Counter[str]], name: str) -> int:
     """A bit for each element that is mostly of this class, twice one after the other."""
-    usual = [each[name] >= max(2, 0.9 * (each["0"] + each["1"])) for each in counted]
+    usual = [each[name] >= max(2, limits.MOSTLY * (each["0"] + each["1"])) for each in counted]
     return sum(1 << at for at, is_usual in enumerate(usual * 2) if is_usual)
 
 
@@ -118,16 +119,16 @@ def _turn(text: str, lefts: Sequence[int], rights: Sequence[int]) -> Optional[Pl
     """The first and last place at which the phase may change in a text. At most one side's phase is known."""
     marks = Marks(text)
     whole = min(map(marks.faults, lefts if len(lefts) <= len(rights) else rights))
-    if whole < 2 or len(text) > LONGEST_TURN:
+    if whole < 2 or len(text) > limits.LONGEST_TURN:
         return None
     least, low, high, left, right = parting(text, lefts, rights)
     one_known = len(lefts) + len(rights) == 101
-    if whole - least >= (3 if one_known else 8):
+    if whole - least >= (limits.FEWER_AFTER_ONE if one_known else limits.FEWER_FAULTS):
         return low, high
     # position identifiers that are ten apart agree on both sides but for the marker
     ten_apart = left != right and (left - right) % 10 == 0 and least == 0 and one_known
     marked = _has_marker(left, low) if len(lefts) > 1 else _has_marker((right + high) % 100, len(text) - high)
-    return (low, high) if whole - least >= 2 and ten_apart and marked else None
+    return (low, high) if whole - least >= limits.FEWER_AT_MARKER and ten_apart and marked else None
 
 
 def turns(classes: str) -> List[Place]:
@@ -136,7 +137,7 @@ def turns(classes: str) -> List[Place]:
     whole = whole_frames(classes)
     text, every = classes.translate(ONLY_P), range(100)
     if not whole:
-        alone = _turn(text, every, every) if len(text) > 60 else None
+        alone = _turn(text, every, every)
         return [alone] if alone else []
     found: List[Place] = []
     ahead = _turn(text[: whole[0] + 100], every, [-whole[0] % 100])

@@ -2,12 +2,11 @@
 from __future__ import annotations
 
 from collections import Counter
-from typing import TYPE_CHECKING, Callable, Dict, Optional, Sequence
+from typing import Callable, Dict, Optional, Sequence
 
+from . import limits
 from .moments import DAY
-
-if TYPE_CHECKING:
-    from .frames import Times
+from .votes import Votes
 
 # each field with how many hundredths of a second one of it is, and after how many it begins again
 LEVELS = (
@@ -16,20 +15,19 @@ LEVELS = (
     ("minutes", 6000, 360000),
     ("hours", 360000, DAY),
 )
-WITNESSES = 2  # frames that have to say a field
 
 
 class _Pieces:
     """The fields that can be read in some frames, one by one."""
 
-    def __init__(self, times: Times, numbers: Sequence[int]) -> None:
-        self.times, self.layout, self.numbers = times, times.layout, numbers
+    def __init__(self, votes: Votes, numbers: Sequence[int]) -> None:
+        self.votes, self.layout, self.numbers = votes, votes.layout, numbers
 
     def _read(self, name: str) -> Dict[int, int]:
         """What the frames say of a field."""
         rows, said = self.layout.fields[name], {}
         for number in self.numbers:
-            text = self.times.texts[number]
+            text = self.votes.texts[number]
             if all(text[element] in "01" for element, _ in rows):
                 value = self.layout.value(name, text)
                 if value >= 0:
@@ -39,7 +37,7 @@ class _Pieces:
     def _vote(self, name: str, means: Callable[[int, int], int]) -> Optional[int]:
         """What most frames mean by a field; None if too few say it, or as many say another thing."""
         often = Counter(means(number, value) for number, value in self._read(name).items()).most_common(2)
-        if not often or often[0][1] < WITNESSES or (len(often) > 1 and often[1][1] == often[0][1]):
+        if not often or often[0][1] < limits.WITNESSES or (len(often) > 1 and often[1][1] == often[0][1]):
             return None
         return often[0][0]
 
@@ -70,13 +68,13 @@ class _Pieces:
         def means(number: int, value: int) -> int:
             """The base by the day of the year that a frame has."""
             later = number * self.layout.period
-            return self.times.calendar.number({**midnight, "days": value}) + (start + later) % DAY - later
+            return self.votes.calendar.number({**midnight, "days": value}) + (start + later) % DAY - later
 
         return self._vote("days", means)
 
 
-def pieced(times: Times, numbers: Sequence[int]) -> Optional[int]:
+def pieced(votes: Votes, numbers: Sequence[int]) -> Optional[int]:
     """The base that these frames lead to together: two of them say each field, and no element is outvoted.
     """
-    base = _Pieces(times, numbers).base() if len(numbers) > 1 else None
-    return base if base is not None and times.is_borne(numbers, base) else None
+    base = _Pieces(votes, numbers).base() if len(numbers) > 1 else None
+    return base if base is not None and votes.is_borne(numbers, base) else None

@@ -7,7 +7,8 @@ from typing import List
 
 from .copies import again_within, without_copy
 from .faults import Remark
-from .frames import Span, Times
+from .frames import Times
+from .spans import Span
 from .track import Track
 
 LEFT_CONTROL = "they are left; irig_mend --steady takes them for damage"

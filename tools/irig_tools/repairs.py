@@ -2,30 +2,33 @@
 true."""
 from __future__ import annotations
 
-from typing import Dict, List
+from typing import Dict, List, Tuple
 
+from . import limits
 from .chance import misread
+from .edit import Edit, of_pulses, repair_of
 from .edits import Item, items
-from .faults import Faults
+from .faults import Faults, Remark
 from .layout import SHARE
 from .script import Repair
-from .wholes import lost_frames, shifts
-
-MOST_AGAIN = 2000  # places that are written again one by one
+from .wholes import late_zones, left_rest, lost_frames, shift
 
 
-def repairs(faults: Faults) -> List[Repair]:
-    """What the faults call for. What is close together is one repair."""
-    faults.leave()
-    moved = shifts(faults)
+def repairs(seen: Faults) -> Tuple[List[Repair], List[Remark]]:
+    """What the faults call for, and what is said of a rest that is left. What is close together is one repair."""
+    moved, left = late_zones(seen)
+    between = [place for zone in left for place in range(zone.first + 1, zone.last)]
+    faults = seen.without({*seen.in_left_frames(), *between})
     whole = lost_frames(faults)
+    single = faults.without({place for item in whole for place in item.targets})
+    found = [shift(faults, zone) for zone in moved] + whole + misread(single) + items(single)
     groups: List[List[Item]] = []
-    for item in sorted(moved + whole + misread(faults) + items(faults), key=lambda item: -item.low):
+    for item in sorted(found, key=lambda item: -item.low):
         if groups and groups[-1][-1].low - item.high <= 1:
             groups[-1].append(item)
         else:
             groups.append([item])
-    return [_repair(faults, group) for group in groups]
+    return [_repair(single, group) for group in groups], [left_rest(seen, zone) for zone in left]
 
 
 def _repair(faults: Faults, group: List[Item]) -> Repair:
@@ -40,14 +43,13 @@ def _repair(faults: Faults, group: List[Item]) -> Repair:
     comments += _of_lost(faults, lost)
     at = faults.track.rise_at(max(faults.track.first, int(group[-1].low + 0.5)))
     until = faults.track.rise_at(min(faults.track.last, int(group[0].high + 0.5)))
-    repair = Repair(at, comments, [edit for item in group for edit in item.edits], until=until)
-    repair.instead = _written_again(faults, group)
-    if all(item.single for item in group) and 0 < len(repair.instead) < len(repair.edits):
-        return Repair(at, comments, repair.instead, until=until)
-    return repair
+    edits, instead = [edit for item in group for edit in item.edits], _written_again(faults, group)
+    if all(item.single for item in group) and 0 < len(instead) < len(edits):
+        return repair_of(at, comments, instead, until)
+    return repair_of(at, comments, edits, until, instead=instead)
 
 
-def _written_again(faults: Faults, group: List[Item]) -> List[str]:
+def _written_again(faults: Faults, group: List[Item]) -> List[Edit]:
     """Deletes all pulses from the first to the last faulty place and inserts those that are wanted; nothing
     if more than that is to be done, or if a class is not known there."""
     if not all(item.targets or item.single or item.low in faults.wanted for item in group):
@@ -56,19 +58,15 @@ def _written_again(faults: Faults, group: List[Item]) -> List[str]:
     for item in group:
         targets.update(item.targets or _wanted(faults, item))
     places = range(min(targets), max(targets) + 1)
-    for place in places[:MOST_AGAIN]:
+    for place in places[:limits.MOST_AGAIN]:
         targets.setdefault(place, faults.track.told[place - faults.track.first])
-    if len(places) > MOST_AGAIN or not set(targets.values()) <= set(SHARE):
+    if len(places) > limits.MOST_AGAIN or not set(targets.values()) <= set(SHARE):
         return []
     pulses = sorted({pulse for place in places for pulse in faults.track.pulses_at(place)})
-    edits = []
-    if pulses:
-        edits.append(
-            "%d,%d delete" % (pulses[0] + 1, pulses[-1] + 1) if pulses[1:] else "%d delete" % (pulses[0] + 1)
-        )
+    edits = [of_pulses("delete", pulses[0], pulses[-1])] if pulses else []
     for place in reversed(places):
         rise = faults.track.rise_at(place)
-        edits.append("insert %d %d" % (rise, rise + faults.width(targets[place])))
+        edits.append(Edit("insert", (rise, rise + faults.width(targets[place]))))
     return edits
 
 

@@ -19,6 +19,7 @@ class Repair:
     removed: Tuple[int, int, int] = (0, 0, 0)
     instead: List[str] = field(default_factory=list)  # what also does it, if an edit is refused
     until: int = 0  # where it ends, in microseconds
+    moves: List[int] = field(default_factory=list)  # by how many microseconds it moves all that follow, edit by edit
 
     def lines(self) -> List[str]:
         edits = ["begin", *self.edits, "end"] if len(self.edits) > 1 else self.edits

@@ -2,24 +2,13 @@
 to be."""
 from __future__ import annotations
 
+from dataclasses import replace
 from math import inf
 from typing import Callable, Dict, Iterator, List, NamedTuple, Optional, Sequence, Tuple
 
+from . import limits
 from .interval import Clock, Run
 from .phases import Marks, Usual, tells_phase
-
-SURE = 5  # a run of that many pulses is no accident
-MANY = 13  # phases that fit equally well: no position identifier is there
-UNLIKELY = 8  # a way that costs so much more than the cheapest does not count
-HOPELESS = 12  # a way that costs so much more up to a run is not followed, so that the search stays short
-LONG = 40  # pulses of a run whose position identifiers say its phase
-MOST_LATE = 12  # elements
-EARLY = 5  # what a rest costs that is early
-BARELY = 2  # what a rest costs that is late by less than a pulse may stray
-LEAST = 2  # a run whose phase leads by less is left alone
-LEAD = 3  # a run whose phase leads by less is looked at again, with what most frames have
-ODD = 0.5  # what an element costs that is not as in most frames
-LONGEST_HOLE = 200000  # elements; what is farther apart is mended part by part
 
 # what a phase costs, the phase of the run before, the elements between, how late it comes
 Choice = Tuple[float, Optional[int], int, float]
@@ -32,10 +21,10 @@ def _classes(run: Run, classes: str) -> str:
 def parts(clock: Clock, classes: str) -> List[List[Run]]:
     """The sure runs, parted at holes too long to fill. At the ends shorter ones count that are on the same
     clock."""
-    sure = [at for at, run in enumerate(clock.runs) if run.count >= SURE]
+    sure = [at for at, run in enumerate(clock.runs) if run.count >= limits.SURE_RUN]
     if not sure:
         return []
-    runs = [run for run in clock.runs[sure[0]:sure[-1] + 1] if run.count >= SURE]
+    runs = [run for run in clock.runs[sure[0]:sure[-1] + 1] if run.count >= limits.SURE_RUN]
     for run in clock.runs[sure[-1] + 1:]:
         if run.count > 1 and clock.on_one_clock(runs[-1], run):
             runs.append(run)
@@ -44,7 +33,7 @@ def parts(clock: Clock, classes: str) -> List[List[Run]]:
             runs.insert(0, run)
     found = [runs[:1]]
     for before, run in zip(runs, runs[1:]):
-        if run.begin - before.end > LONGEST_HOLE * clock.interval:
+        if run.begin - before.end > limits.LONGEST_HOLE * clock.interval:
             found.append([])
         found[-1].append(run)
     return [_trim(each, classes) for each in found]
@@ -53,12 +42,21 @@ def parts(clock: Clock, classes: str) -> List[List[Run]]:
 def _trim(runs: List[Run], classes: str) -> List[Run]:
     """Leaves runs at either end alone that are glued to their neighbour and too short to show their phase."""
     while len(runs) > 1 and runs[-1].glued and not tells_phase(_classes(runs[-1], classes)):
-        runs.pop()
-        runs[-1].ends += ">"
+        runs = _without_last(runs)
     while len(runs) > 1 and runs[1].glued and not tells_phase(_classes(runs[0], classes)):
-        del runs[0]
-        runs[0].glued, runs[0].ends = False, runs[0].ends + "<"
+        runs = _without_first(runs)
+        runs[0] = replace(runs[0], glued=False)
     return runs
+
+
+def _without_last(runs: Sequence[Run]) -> List[Run]:
+    """Leaves the pulses of the last run alone."""
+    return [*runs[:-2], replace(runs[-2], ends=runs[-2].ends + ">")]
+
+
+def _without_first(runs: Sequence[Run]) -> List[Run]:
+    """Leaves the pulses of the first run alone."""
+    return [replace(runs[1], ends=runs[1].ends + "<"), *runs[2:]]
 
 
 def _hop(clock: Clock, distance: float, interval: float, step: int) -> Tuple[int, float, float]:
@@ -68,10 +66,11 @@ def _hop(clock: Clock, distance: float, interval: float, step: int) -> Tuple[int
     steps = step + 100 * max(0, round((distance / interval - step) / 100))
     late = distance - steps * interval
     if abs(late) <= clock.slack(steps):
-        return steps, late, 0 if steps == 1 else 0.3 if abs(late) <= clock.least_late(steps) else BARELY
+        on_time = abs(late) <= clock.least_late(steps)
+        return steps, late, 0 if steps == 1 else limits.HOLE if on_time else limits.BARELY
     if late < 0:
-        return steps, late, EARLY
-    return steps, late, 3 + (steps > 1) + 0.5 * (late > 3.2 * interval)
+        return steps, late, limits.EARLY
+    return steps, late, limits.LATE + limits.LATE_HOLE * (steps > 1)
 
 
 def _jump(distance: float, interval: float, step: int) -> Tuple[int, float, float]:
@@ -79,7 +78,15 @@ def _jump(distance: float, interval: float, step: int) -> Tuple[int, float, floa
     them."""
     straight = round(distance / interval)
     steps = straight + 100 + (step - straight) % 100
-    return steps, distance - steps * interval, 6 if steps == straight + 100 else 1
+    same = steps == straight + 100
+    return steps, distance - steps * interval, limits.JUMP_TO_SAME if same else limits.JUMP
+
+
+class Linked(NamedTuple):
+    """Runs with their places, and what it costs to believe them."""
+
+    cost: float
+    runs: List[Run]
 
 
 class _Way(NamedTuple):
@@ -98,7 +105,7 @@ class _Linker:
     def __init__(self, clock: Clock, runs: Sequence[Run], classes: str, usual: Usual) -> None:
         self.clock, self.runs, self.classes, self.usual = clock, runs, classes, usual
         marks, price = self._marks(runs[0])
-        first = marks.best(2, 100 if runs[0].count < 12 else 40)
+        first = marks.best(limits.WITHIN, 100 if runs[0].count < limits.TELLING else limits.MOST_PHASES)
         self.table: List[Dict[int, Choice]] = [{phase: (price(phase), None, 0, 0) for phase in first}]
         self.ways: List[_Way] = []
         for before, run in zip(runs, runs[1:]):
@@ -113,7 +120,7 @@ class _Linker:
 
         def price(phase: int) -> float:
             if phase not in known:
-                known[phase] = marks.faults(phase) + ODD * unlike(phase)
+                known[phase] = marks.faults(phase) + limits.UNUSUAL * unlike(phase)
             return known[phase]
 
         return marks, price
@@ -137,7 +144,7 @@ class _Linker:
             for phase, step, late, cost in self._onward(len(self.table) - 1, old):
                 if phase not in choices or told[0] + cost < choices[phase][0]:
                     choices[phase] = told[0] + cost, old, step, late
-        most = HOPELESS + min(choice[0] for choice in choices.values())
+        most = limits.UNLIKELY + min(choice[0] for choice in choices.values())
         return {phase: choice for phase, choice in choices.items() if choice[0] <= most}
 
     def _way(self, before: Run, run: Run) -> _Way:
@@ -148,8 +155,9 @@ class _Linker:
         if not run.glued and abs(distance - straight * interval) <= self.clock.least_late(straight):
             if self._follows(marks, run.count, before.count - 1 + straight):
                 return _Way(price, distance, interval, [straight], ())
-        steps = {1, *range(max(1, straight - MOST_LATE), straight + 1)}.union({0} if straight == 0 else ())
-        own = marks.best(2, 20) if run.count >= 12 else marks.best(0, 20) if marks.many else ()
+        steps = {1, *range(max(1, straight - limits.MOST_LATE), straight + 1)}.union({0} if straight == 0 else ())
+        within = limits.WITHIN if run.count >= limits.TELLING else 0
+        own = marks.best(within, limits.MOST_PHASES) if within or marks.many else ()
         return _Way(price, distance, interval, sorted(steps), own)
 
     def _follows(self, marks: Marks, count: int, onward: int) -> bool:
@@ -157,30 +165,27 @@ class _Linker:
         costs = sorted((told[0], old) for old, told in self.table[-1].items())
         faults = marks.faults((costs[0][1] + onward) % 100)
         if not faults:
-            return count >= LONG or len(costs) == 1 or costs[1][0] > costs[0][0] + UNLIKELY
-        return count >= LONG and faults <= min(1 + count // 100, 1 + marks.faults(marks.best(0, 1)[0]))
+            alone = len(costs) == 1 or costs[1][0] > costs[0][0] + limits.UNLIKELY
+            return count >= limits.LONG_RUN or alone
+        return count >= limits.LONG_RUN and faults <= min(1 + count // 100, 1 + marks.faults(marks.best(0, 1)[0]))
 
-    def follow(self) -> float:
-        """Gives each run its phase as its place, from the last to the first, and returns what the way
-        costs."""
+    def follow(self) -> Linked:
+        """The cheapest way, from its end to its beginning: each run has its phase as its place."""
         phase: Optional[int] = min(self.table[-1], key=lambda each: self.table[-1][each][0])
         cost = self.table[-1][phase or 0][0]
-        for run, choices in zip(reversed(self.runs), reversed(self.table)):
-            run.place = phase or 0
-            _, phase, run.step, run.late = choices[run.place]
-        self._find_leads(cost)
-        return cost
-
-    def _find_leads(self, cost: float) -> None:
-        """For each run, how much dearer the cheapest way is on which it has another phase."""
         rest = dict.fromkeys(self.table[-1], 0.0)
+        runs: List[Run] = []
         for at in range(len(self.runs) - 1, -1, -1):
-            run, choices = self.runs[at], self.table[at]
+            choices, own = self.table[at], phase or 0
             if at < len(self.ways):
                 rest = {old: self._least_rest(at, old, rest) for old in choices}
-            others = {phase: choices[phase][0] + rest[phase] for phase in choices if phase != run.place}
-            run.lead = min(others.values(), default=cost + UNLIKELY) - cost
-            run.others = [phase for phase, each in sorted(others.items()) if each < cost + LEAST]
+            others = {other: choices[other][0] + rest[other] for other in choices if other != own}
+            so_far, phase, step, late = choices[own]
+            lead = min(others.values(), default=cost + limits.UNLIKELY) - cost
+            near = tuple(other for other, each in sorted(others.items()) if each < cost + limits.LEAST_LEAD)
+            runs.append(replace(
+                self.runs[at], place=own, step=step, late=late, cost=so_far, lead=lead, others=near))
+        return Linked(cost, runs[::-1])
 
     def _least_rest(self, at: int, old: int, rest: Dict[int, float]) -> float:
         """What the cheapest way from a phase of run `at` to the last run costs; `rest` is that of the next
@@ -189,67 +194,66 @@ class _Linker:
         return min(costs, default=inf)
 
 
-def _without_strays(clock: Clock, runs: List[Run], classes: str) -> bool:
-    """Drops a run at an end whose phase nothing says, if it is not on the clock of the others; whether one
-    was dropped."""
-    if (
-        len(runs) > 1
-        and abs(runs[1].late) > clock.least_late(runs[1].step)
-        and _says_nothing(runs[0], classes)
-    ):
-        del runs[0]
-        runs[0].ends += "<"
-        return True
-    if (
-        len(runs) > 1
-        and abs(runs[-1].late) > clock.least_late(runs[-1].step)
-        and _says_nothing(runs[-1], classes)
-    ):
-        runs.pop()
-        runs[-1].ends += ">"
-        return True
-    return False
+def _without_stray(clock: Clock, runs: List[Run], classes: str) -> List[Run]:
+    """Drops a run at an end whose phase nothing says, if it is not on the clock of the others."""
+    if len(runs) > 1 and _is_off(clock, runs[1]) and _says_nothing(runs[0], classes):
+        return _without_first(runs)
+    if len(runs) > 1 and _is_off(clock, runs[-1]) and _says_nothing(runs[-1], classes):
+        return _without_last(runs)
+    return runs
+
+
+def _is_off(clock: Clock, run: Run) -> bool:
+    """Whether a run is late or early after the one before it."""
+    return abs(run.late) > clock.least_late(run.step)
 
 
 def _says_nothing(run: Run, classes: str) -> bool:
-    return run.count < 30 and len(Marks(_classes(run, classes)).best(0, MANY)) == MANY
+    return "P" not in _classes(run, classes)
 
 
-def _follow(clock: Clock, runs: List[Run], classes: str, unused: Sequence[int]) -> float:
+def _follow(clock: Clock, runs: List[Run], classes: str, unused: Sequence[int]) -> Linked:
     """The cheapest way; if it leads by little, again with the classes that most frames have."""
-    cost = _Linker(clock, runs, classes, Usual(unused)).follow()
-    if all(run.lead >= LEAD and abs(run.late) <= clock.least_late(run.step) for run in runs):
-        return cost
-    usual = Usual(unused, ((_classes(run, classes), run.place) for run in runs if run.lead >= LEAD))
-    return _Linker(clock, runs, classes, usual).follow()
+    found = _Linker(clock, runs, classes, Usual(unused)).follow()
+    if all(run.lead >= limits.LEAD and not _is_off(clock, run) for run in found.runs):
+        return found
+    leading = ((_classes(run, classes), run.place) for run in found.runs if run.lead >= limits.LEAD)
+    return _Linker(clock, runs, classes, Usual(unused, leading)).follow()
 
 
 def sure_parts(runs: Sequence[Run]) -> List[List[Run]]:
     """The runs whose phase is sure, parted at those that are left alone."""
     found: List[List[Run]] = [[]]
+    is_left = False  # whether the run before is
     for run in runs:
-        if run.lead >= LEAST:
-            found[-1].append(run)
+        if run.lead >= limits.LEAST_LEAD:
+            found[-1].append(replace(run, glued=False, ends=run.ends + "[") if is_left else run)
         elif found[-1]:
-            found[-1][-1].ends += "]"
+            found[-1][-1] = replace(found[-1][-1], ends=found[-1][-1].ends + "]")
             found.append([])
-    for before, after in zip(runs, runs[1:]):
-        if before.lead < LEAST <= after.lead:
-            after.glued, after.ends = False, after.ends + "["
+        is_left = run.lead < limits.LEAST_LEAD
     return [part for part in found if part]
 
 
-def link(clock: Clock, runs: List[Run], classes: str, unused: Sequence[int]) -> float:
-    """Gives each run its place, and returns what it costs to believe them."""
-    cost = _follow(clock, runs, classes, unused)
-    while _without_strays(clock, runs, classes):
-        cost = _follow(clock, runs, classes, unused)
-    for before, run in zip(runs, runs[1:]):
-        whole = 100 * clock.interval
-        if run.late < -1.5 * clock.interval and not run.glued and tells_phase(_classes(run, classes)):
-            # elements are missing for sure, and there is no time for them
-            run.glued, run.step, run.late = True, run.step + 100, run.late - whole
-        elif run.glued and abs(run.late + whole) <= clock.slack(run.step):  # the phase is the same after all
-            run.glued, run.step, run.late = False, run.step - 100, run.late + whole
-        run.place = before.last_place + run.step
-    return cost
+def link(clock: Clock, runs: List[Run], classes: str, unused: Sequence[int]) -> Linked:
+    """The runs with their places, and what it costs to believe them."""
+    way = _follow(clock, runs, classes, unused)
+    kept = _without_stray(clock, way.runs, classes)
+    while len(kept) < len(way.runs):
+        way = _follow(clock, kept, classes, unused)
+        kept = _without_stray(clock, way.runs, classes)
+    found = way.runs[:1]
+    for run in way.runs[1:]:
+        run = _glued(clock, run, tells_phase(_classes(run, classes)))
+        found.append(replace(run, place=found[-1].last_place + run.step))
+    return Linked(way.cost, found)
+
+
+def _glued(clock: Clock, run: Run, tells: bool) -> Run:
+    """A run that is glued if elements are missing for which there is no time, and only then."""
+    whole = 100 * clock.interval
+    if run.late < -limits.NO_TIME * clock.interval and not run.glued and tells:
+        return replace(run, glued=True, step=run.step + 100, late=run.late - whole)
+    if run.glued and abs(run.late + whole) <= clock.slack(run.step):  # the phase is the same after all
+        return replace(run, glued=False, step=run.step - 100, late=run.late + whole)
+    return run

@@ -2,45 +2,50 @@
 do not fit."""
 from __future__ import annotations
 
-from typing import TYPE_CHECKING, Dict, List, Optional, Sequence, Tuple
+from typing import Dict, List, NamedTuple, Optional, Sequence, Tuple
 
+from . import limits
 from .pieces import pieced
+from .votes import Votes
 
-if TYPE_CHECKING:
-    from .frames import Times
 
-CHANGE = 3
-MOST_CHOICES = 12
+class Span(NamedTuple):
+    """Frames `first` to `last` with one base."""
+
+    first: int
+    last: int
+    base: int
 
 
 def _sums(choices: Sequence[int], rows: Sequence[List[int]], start: Optional[int]) -> List[List[int]]:
     """For each frame and each choice the least cost of a way from the start to it."""
-    cost = [0 if start in (None, base) else CHANGE for base in choices]
+    cost = [0 if start in (None, base) else limits.CHANGE for base in choices]
     table = []
     for row in rows:
-        least = min(cost, default=0) + CHANGE
+        least = min(cost, default=0) + limits.CHANGE
         cost = [min(each, least) + fault for each, fault in zip(cost, row)]
         table.append(cost)
     return table
 
 
-def _borne(times: Times, base: int, gap: Sequence[int]) -> bool:
+def _borne(votes: Votes, base: int, gap: Sequence[int]) -> bool:
     """Whether at least two frames bear a base out, and each element that speaks against it is outvoted."""
-    return sum(times.against(number, base) < (1, -19) for number in gap) > 1 and times.is_borne(gap, base)
+    most = limits.MOST_AGAINST, -limits.FEWEST_FOR
+    return sum(votes.against(number, base) < most for number in gap) > 1 and votes.is_borne(gap, base)
 
 
 def fit(
-    times: Times, gap: Sequence[int], left: Optional[int], right: Optional[int]
+    votes: Votes, gap: Sequence[int], left: Optional[int], right: Optional[int]
 ) -> Dict[int, Optional[int]]:
     """The base of each frame of a gap, or None if two are as good, between the bases `left` and `right`."""
     if not gap:
         return {}
-    together = pieced(times, gap) if left is right is None else None
-    known = {left, right, together, *(times.own.get(number) for number in gap)}
-    choices = sorted(base for base in known if base is not None)[:MOST_CHOICES]
+    together = pieced(votes, gap) if left is right is None else None
+    known = {left, right, together, *(votes.own.get(number) for number in gap)}
+    choices = sorted(base for base in known if base is not None)[:limits.MOST_BASES]
     if len(choices) == 1 and (left or right):
         return {number: choices[0] for number in gap}
-    faults = [[times.against(number, base)[0] for base in choices] for number in gap]
+    faults = [[votes.against(number, base)[0] for base in choices] for number in gap]
     ahead = _sums(choices, faults, left)
     back = _sums(choices, faults[::-1], right)
     found: Dict[int, Optional[int]] = {}
@@ -51,6 +56,6 @@ def fit(
         found[number] = None
         if whole and (len(whole) == 1 or whole[0][0] < whole[1][0]):
             base = whole[0][1]
-            if base in (left, right, together) or _borne(times, base, gap):
+            if base in (left, right, together) or _borne(votes, base, gap):
                 found[number] = base
     return found

@@ -1,22 +1,21 @@
 """Frames that are put together of two: within them whole frames were cut out, or begin again."""
 from __future__ import annotations
 
-from typing import TYPE_CHECKING, Dict, Iterator
+from typing import Dict, Iterator, Sequence
 
 from .layout import READABLE
+from .spans import Span
+from .votes import Votes
 
-if TYPE_CHECKING:
-    from .frames import Span, Times
 
-
-def spliced(times: Times) -> Dict[int, int]:
+def spliced(votes: Votes, spans: Sequence[Span]) -> Dict[int, int]:
     """The base that the marker of each such frame has: the one that the frames before it lead to."""
     return {
         number: before.base
-        for before, after in zip(times.spans, times.spans[1:])
-        if not times.track.is_glued(before.last, after.first)
+        for before, after in zip(spans, spans[1:])
+        if not votes.track.is_glued(before.last, after.first)
         for number in _between(before, after)
-        if _is_spliced(times, number, before.base, after.base)
+        if _is_spliced(votes, number, before.base, after.base)
     }
 
 
@@ -25,12 +24,12 @@ def _between(before: Span, after: Span) -> Iterator[int]:
     return iter(range(max(before.last, before.first + 1), min(after.first, after.last - 1) + 1))
 
 
-def _is_spliced(times: Times, number: int, left: int, right: int) -> bool:
+def _is_spliced(votes: Votes, number: int, left: int, right: int) -> bool:
     """Whether a frame that can be read shows one time up to an element, another from there on, and neither
     of them as a whole."""
-    if not READABLE.fullmatch(times.texts[number]):
+    if not READABLE.fullmatch(votes.texts[number]):
         return False
     unlike_left, unlike_right = (
-        [element for element, vote in times.votes(number, base).items() if vote < 0] for base in (left, right)
+        [element for element, vote in votes.votes(number, base).items() if vote < 0] for base in (left, right)
     )
     return bool(unlike_left and unlike_right) and max(unlike_right) < min(unlike_left)

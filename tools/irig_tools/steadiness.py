@@ -3,8 +3,8 @@ from __future__ import annotations
 
 from typing import Dict, Sequence
 
-CHANCE = 0.001  # that an element differs from its neighbours, if it is said to be steady
-ENOUGH = 24  # times that an element could have changed: if it never did, it differs by a smaller chance
+from . import limits
+
 UNSOUND = str.maketrans("", "", "Pb-?~")
 
 
@@ -25,7 +25,7 @@ class Steadiness:
         """Whether an element is as in the frames that far before and after, which agree: it never changed, or
         so seldom that two changes between them have a small chance."""
         did, could = self._did[element], self._could[element]
-        if not did and (self._none_did or could >= ENOUGH):
+        if not did and (self._none_did or could >= limits.CHANCES):
             return True
         rate = (did + 1) / (could + 2)
-        return before * after * rate * rate < CHANCE
+        return before * after * rate * rate < limits.CHANCE

@@ -5,14 +5,15 @@ from __future__ import annotations
 from dataclasses import replace
 from typing import Iterator, List
 
+from . import limits
 from .copies import copy_between, without_copy
+from .edit import lines_of, moved_from
 from .faults import Faults, Remark
 from .frames import Times
 from .interval import Run
 from .track import Track
 from .zones import Zone
 
-LEAST_COPY = 10  # elements; fewer are alike by chance
 RECORDER = "that is left: if the recorder slipped, all its wires did, and these times are right"
 ALONE = "; if the time code alone slipped, irig_mend --move moves it, or after this script "
 
@@ -29,7 +30,7 @@ class Step:
         self.known = frames is not None  # whether the times on both sides say how many frames passed
         self.elements = right[0].step + 100 * (frames or 0)  # from the last pulse before to the first after
         self.late = round(right[0].begin - left[-1].end - self.elements * self.zone.interval)
-        copy = copy_between(track, times, left, right) if self.late > LEAST_COPY * self.zone.interval else None
+        copy = copy_between(track, times, left, right) if self.late > limits.LEAST_COPY * self.zone.interval else None
         self.copy = without_copy(track, *copy) if copy and self._is_dense() else None
 
     def remark(self, right: Faults) -> Remark:
@@ -70,7 +71,7 @@ class Step:
         """The lines that move the rest back; none if it does not fit the recording."""
         if self.late < 0 and self.track.falls[-1] - self.late > self.track.listing.length:
             return []
-        return ["mark z %d" % self.at, "'z,$ shift %d" % -self.late, "unmark z"]
+        return lines_of(moved_from(self.at, -self.late))
 
 
 def _choice(edits: List[str]) -> str:
@@ -95,21 +96,22 @@ def stretches(track: Track, steps: List[Zone]) -> List[List[Run]]:
 
 def apart(track: Track, steps: List[Zone]) -> List[List[Run]]:
     """The same, each as runs of its own, without the pulses that may be of either side."""
-    found = [[replace(run) for run in runs] for runs in stretches(track, steps)]
+    found = stretches(track, steps)
     for zone, left, right in zip(steps, found, found[1:]):
-        _trim(track, left[-1], 0, zone.tail)
-        _trim(track, right[0], zone.head, 0)
-        left[-1].ends += "]"
-        right[0].glued, right[0].late, right[0].ends = False, 0, right[0].ends + "["
+        left[-1] = _trimmed(track, left[-1], 0, zone.tail)
+        left[-1] = replace(left[-1], ends=left[-1].ends + "]")
+        right[0] = _trimmed(track, right[0], zone.head, 0)
+        right[0] = replace(right[0], glued=False, late=0, ends=right[0].ends + "[")
     return found
 
 
-def _trim(track: Track, run: Run, head: int, tail: int) -> None:
-    """Leaves out that many pulses of a run, but one stays."""
+def _trimmed(track: Track, run: Run, head: int, tail: int) -> Run:
+    """A run without that many pulses, but one stays."""
     head, tail = min(head, run.count - 1), min(tail, run.count - 1)
-    run.first, run.last, run.place = run.first + head, run.last - tail, run.place + head
-    if head or tail:
-        track.clock.fit(run, track.rises)
+    if not head and not tail:
+        return run
+    shorter = replace(run, first=run.first + head, last=run.last - tail, place=run.place + head)
+    return track.clock.fit(shorter, track.rises)
 
 
 def cut(track: Track) -> Iterator[int]:

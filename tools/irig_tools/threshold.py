@@ -4,17 +4,17 @@ from __future__ import annotations
 from collections import Counter
 from typing import Dict, List, Mapping, Tuple
 
+from . import limits
+from .edit import Edit, of_pulse, repair_of
 from .editor import Listing
 from .layout import NAMES, READABLE, SHARE, Layout
 from .script import Repair
-
-MOST_EDITS = 10000  # in one group
 
 
 def _peaks(shift: int) -> List[Tuple[str, int]]:
     """(Class, width) in hundredths of an interval, if every pulse is that much longer; none gets as long as
     the interval."""
-    return [(name, min(98, round(100 * share) + shift)) for name, share in SHARE.items()]
+    return [(name, min(limits.WIDEST_PEAK, round(100 * share) + shift)) for name, share in SHARE.items()]
 
 
 def _find_shift(widths: Mapping[int, int]) -> int:
@@ -22,23 +22,25 @@ def _find_shift(widths: Mapping[int, int]) -> int:
 
     def near(shift: int) -> int:
         return sum(
-            many * max(0, 6 - min(abs(width - peak) for _, peak in _peaks(shift)))
+            many * max(0, limits.PEAK - min(abs(width - peak) for _, peak in _peaks(shift)))
             for width, many in widths.items()
         )
 
-    return max(range(-17, 28), key=near)
+    return max(limits.THRESHOLD_SHIFTS, key=near)
 
 
 def _classes_by(shift: int) -> Dict[int, str]:
     return {
-        width: name for name, peak in _peaks(shift) for width in range(max(1, peak - 7), min(100, peak + 8))
+        width: name
+        for name, peak in _peaks(shift)
+        for width in range(max(1, peak - limits.AT_PEAK), min(99, peak + limits.AT_PEAK) + 1)
     }
 
 
 def level(listing: Listing, layout: Layout) -> List[Repair]:
     """Gives each pulse the class that its width has among all others, if the classes as they are make few
     frames."""
-    if listing.classes.count("b") < len(listing.classes) / 100:
+    if listing.classes.count("b") < limits.SOME_BAD * len(listing.classes):
         return []
     interval = layout.interval
     widths = [min(100, 100 * (fall - rise) // interval) for rise, fall in zip(listing.rises, listing.falls)]
@@ -46,7 +48,8 @@ def level(listing: Listing, layout: Layout) -> List[Repair]:
     class_of = _classes_by(shift)
     classes = "".join([class_of.get(width, "b") for width in widths])
     before, after = len(READABLE.findall(listing.classes)), len(READABLE.findall(classes))
-    if abs(shift) < 6 or after < 1 or after <= 2 * before or classes.count("b") > 0.3 * len(classes):
+    many_bad = classes.count("b") > limits.MOST_BAD * len(classes)
+    if abs(shift) < limits.LEAST_SHIFT or after <= 2 * before or many_bad:
         return []
     way, cause = ("longer", "low") if shift > 0 else ("shorter", "high")
     why = (
@@ -57,18 +60,18 @@ def level(listing: Listing, layout: Layout) -> List[Repair]:
     return _groups(_forced(listing, layout, classes), [why], ["pulses that are %s, as above" % way])
 
 
-def _forced(listing: Listing, layout: Layout, classes: str) -> List[str]:
+def _forced(listing: Listing, layout: Layout, classes: str) -> List[Edit]:
     """The edits for all pulses that have a class and room for it."""
     beyond = listing.rises[1:] + [listing.length + 1]
     return [
-        "%d force %s" % (pulse, NAMES[name])
-        for pulse, (name, rise, end) in enumerate(zip(classes, listing.rises, beyond), 1)
+        of_pulse("force", pulse, NAMES[name])
+        for pulse, (name, rise, end) in enumerate(zip(classes, listing.rises, beyond))
         if name != "b" and rise + SHARE[name] * layout.interval < end
     ]
 
 
-def _groups(edits: List[str], first: List[str], others: List[str]) -> List[Repair]:
+def _groups(edits: List[Edit], first: List[str], others: List[str]) -> List[Repair]:
     return [
-        Repair(0, others if at else first, edits[at:at + MOST_EDITS])
-        for at in range(0, len(edits), MOST_EDITS)
+        repair_of(0, others if at else first, edits[at:at + limits.MOST_EDITS])
+        for at in range(0, len(edits), limits.MOST_EDITS)
     ]

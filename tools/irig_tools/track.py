@@ -5,6 +5,7 @@ from __future__ import annotations
 from bisect import bisect_right
 from typing import List, Optional, Sequence, Tuple
 
+from . import limits
 from .editor import Listing
 from .interval import Clock, Run
 from .layout import Layout
@@ -74,7 +75,7 @@ class Track:
         many = 0
         while (
             place + many < self.last
-            and self.falls[pulse] > self.rise_at(place + many + 1) + self.clock.interval // 50
+            and self.falls[pulse] > self.rise_at(place + many + 1) + limits.OVERLAP * self.clock.interval
         ):
             many += 1
         return many
@@ -103,8 +104,6 @@ class Track:
             found[-1].append(run)
         return found
 
-    def move_on(self, moved: Run, places: int) -> None:
-        """Moves a run and all that follow that many places on."""
-        moved.step, moved.late = moved.step + places, moved.late - places * self.clock.interval
-        for run in self.runs[self.runs.index(moved):]:
-            run.place += places
+    def zone_before(self, run: Run) -> Zone:
+        """What lies before one of its runs."""
+        return next(zone for zone in self.zones if zone.right is run)

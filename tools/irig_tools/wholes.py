@@ -3,49 +3,41 @@ from __future__ import annotations
 
 from bisect import bisect_left
 from dataclasses import dataclass
-from typing import List, Optional
+from typing import List, Optional, Tuple
 
+from . import limits
+from .edit import Edit, moved_from, moved_rest
 from .edits import Item
 from .faults import Faults, Remark
-from .slots import LEAD
 from .zones import Zone
 
-# intervals; what comes later is moved only if the position identifiers on both sides are unmistakable
-MOST_LATE = 12
-FEWEST = 8  # lost elements of a frame that is generated again
+
+def late_zones(faults: Faults) -> Tuple[List[Zone], List[Zone]]:
+    """Those after which the rest is moved, and those after which it is left, with all that is between."""
+    late = [zone for zone in faults.track.zones if round(zone.late) and not zone.glued]
+    return [zone for zone in late if not _why_not(faults, zone)], [zone for zone in late if _why_not(faults, zone)]
 
 
-def shifts(faults: Faults) -> List[Item]:
-    found = [_shift(faults, zone) for zone in faults.track.zones if round(zone.late) and not zone.glued]
-    return [item for item in found if item]
+def left_rest(faults: Faults, zone: Zone) -> Remark:
+    """What is said of a rest that is not moved."""
+    assert zone.right and zone.border is not None
+    way = "late" if zone.late > 0 else "early"
+    seen = "%d elements are missing, and the rest comes %d %s" % (zone.right.step - 1, abs(round(zone.late)), way)
+    return Remark(faults.rises[zone.border], seen, _why_not(faults, zone))
 
 
-def _shift(faults: Faults, zone: Zone) -> Optional[Item]:
-    """Moves the rest back to where it should be; None if the recording is too short for that."""
+def shift(faults: Faults, zone: Zone) -> Item:
+    """Moves the rest back to where it should be."""
     assert zone.right and zone.border is not None
     late, at, between = round(zone.late), faults.rises[zone.border], zone.right.step - 1
-    choice = _why_not(faults, zone)
-    if choice:
-        seen = "%d elements are missing, and the rest comes %d %s" % (
-            between,
-            abs(late),
-            "late" if late > 0 else "early",
-        )
-        faults.remarks.append(Remark(at, seen, choice))
-        for place in range(zone.first + 1, zone.last):
-            faults.wanted.pop(place, None)
-        return None
     way = "late" if late > 0 else "early"
     why = "from pulse %d at %d on all comes %d %s" % (zone.border + 1, at, abs(late), way)
     if between:
         why += ", and %d elements before it are missing or damaged" % between
     if late > 0 and any(place in faults.wanted for place in range(zone.first, zone.border_place)):
         # what is before it is repaired first, and that may change the numbers of pulses
-        edits = ["mark z %d" % at, "'z,$ shift %d" % -late, "unmark z"]
-        return Item(zone.first - 0.5, zone.border_place - 0.5, edits, why)
-    return Item(
-        zone.border_place - 0.5, zone.border_place - 0.5, ["%d,$ shift %d" % (zone.border + 1, -late)], why
-    )
+        return Item(zone.first - 0.5, zone.border_place - 0.5, moved_from(at, -late), why)
+    return Item(zone.border_place - 0.5, zone.border_place - 0.5, [moved_rest(zone.border, -late)], why)
 
 
 def _why_not(faults: Faults, zone: Zone) -> str:
@@ -53,9 +45,9 @@ def _why_not(faults: Faults, zone: Zone) -> str:
     assert zone.left and zone.right
     if zone.late < 0 and faults.falls[-1] - zone.late > faults.track.listing.length:
         return "the recording is too short to move the rest back"
-    sure = min(zone.left.lead, zone.right.lead) >= LEAD
+    sure = min(zone.left.lead, zone.right.lead) >= limits.LEAD
     timed = any(100 * number + 99 <= zone.first for number, _ in faults.times.read)
-    if abs(zone.late) > MOST_LATE * zone.interval and zone.right.step > 1 and not (sure and timed):
+    if abs(zone.late) > limits.MOST_LATE * zone.interval and zone.right.step > 1 and not (sure and timed):
         return "that is too uncertain to move the rest"
     return ""
 
@@ -76,7 +68,7 @@ def _can_generate(faults: Faults, number: int) -> bool:
         return False
     lost = sum(place in faults.wanted for place in places)
     moment = faults.times.moment(number)
-    if lost < FEWEST or (lost < 100 and not faults.clock.exact) or moment is None:
+    if lost < limits.FEWEST_LOST or (lost < 100 and not faults.clock.exact) or moment is None:
         return False
     begin = track.rise_at(places[0])
     return (
@@ -157,25 +149,26 @@ def _lost_frames(faults: Faults) -> List[_Frames]:
 
 
 def lost_frames(faults: Faults) -> List[Item]:
-    """Whole frames that are generated again; their places are then no longer wanted one by one."""
+    """Whole frames that are generated again; their places are then not repaired one by one."""
     return [_generate(faults, frames) for frames in _lost_frames(faults)]
 
 
 def _generate(faults: Faults, frames: _Frames) -> Item:
     first, beyond = 100 * frames.number, 100 * (frames.number + frames.many)
-    lost = {place: faults.wanted.pop(place) for place in range(first, beyond) if place in faults.wanted}
+    lost = {place: faults.wanted[place] for place in range(first, beyond) if place in faults.wanted}
     moment = faults.times.moment(frames.number)
     assert moment is not None
-    edit = "regen %d %d %s" % (frames.rise, frames.many, faults.times.calendar.text(moment))
+    values = frames.rise, frames.many, faults.times.calendar.text(moment)
     why = "%d elements of %d frame(s) from %d on are lost or damaged; the frames around them lead to %s" % (
         len(lost),
         frames.many,
         frames.rise,
         faults.times.name(frames.number),
     )
-    if frames.control:
-        edit, why = edit + " %x" % frames.control, why + " and to the control functions %x" % frames.control
+    control = ["%x" % frames.control] if frames.control else []
+    if control:
+        why += " and to the control functions " + control[0]
     guessed = sorted({place % 100 for place in faults.guesses if first <= place < beyond})
     if guessed:
         why += "; undecided are the control elements %s" % ", ".join(map(str, guessed))
-    return Item(first, beyond - 1, [edit], why, targets=lost)
+    return Item(first, beyond - 1, [Edit("regen", (*values, *control))], why, targets=lost)

@@ -1,20 +1,18 @@
 """What lies between two runs: which pulse belongs to which place there."""
 from __future__ import annotations
 
+from math import floor
 from typing import Dict, List, Optional, Tuple
 
+from . import limits
 from .editor import Listing
 from .interval import Clock, Run
 from .phases import ONLY_P, faults_along
 
-EARLY = 0.2  # a pulse belongs to a place from this share of an interval before its rise on
-EXACT = 0.005  # intervals: on an exact clock a pulse that is no more off keeps its time
-FAR_BELOW = 1000000  # keeps a quotient positive while it is rounded down
-
 
 def whole_steps(distance: float, interval: float) -> int:
     """How many elements further a pulse is."""
-    return int(distance / interval + FAR_BELOW + EARLY) - FAR_BELOW
+    return floor(distance / interval + limits.BEFORE_ITS_RISE)
 
 
 class Zone:
@@ -65,10 +63,9 @@ class Zone:
         """How many pulses at the head of the right run may belong to the left one, and at the tail of the
         left to the right."""
         assert self.left and self.right
-        head = classes[self.right.first:self.right.first + min(300, self.right.count - 1)].translate(ONLY_P)
-        tail = classes[self.left.last - min(300, self.left.count - 1) + 1:self.left.last + 1].translate(
-            ONLY_P
-        )
+        heads, tails = (min(limits.EITHER_SIDE, run.count - 1) for run in (self.right, self.left))
+        head = classes[self.right.first:self.right.first + heads].translate(ONLY_P)
+        tail = classes[self.left.last - tails + 1:self.left.last + 1].translate(ONLY_P)
         onward = self.left.last_place + self.straight()
         back = self.right.place - self.straight() - len(tail) + 1
         behind = faults_along(tail, back % 100)
@@ -90,7 +87,7 @@ class Zone:
         rises, beyond = listing.rises, pulse + way
         while (
             0 <= beyond < len(rises)
-            and abs(rises[beyond] - rises[pulse]) < 2.5 * self.interval
+            and abs(rises[beyond] - rises[pulse]) < limits.REACH * self.interval
             and rises[beyond] > 0
             and listing.falls[beyond] < listing.length
         ):
@@ -102,7 +99,7 @@ class Zone:
 
     def _find_border(self, left: Run, right: Run) -> int:
         """Goes back from the right run while pulses keep its time and not that of the left run."""
-        border, margin = right.first, (EXACT if self.clock.exact else self.clock.margin / self.interval)
+        border, margin = right.first, (limits.EXACT if self.clock.exact else self.clock.margin / self.interval)
         for pulse in range(right.first - 1, left.last, -1):
             back = (right.begin - self.rises[pulse]) / self.interval
             onward = (self.rises[pulse] - left.end) / self.interval

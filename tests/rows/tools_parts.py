@@ -1,0 +1,428 @@
+"""The parts of the method of irig_damage and irig_mend, one by one: docs/METHOD.md has their words.
+
+The recordings are those of the reference encoder; costs, places and times are worked out by hand.
+"""
+import glob
+import os
+import re
+
+from built import TOP
+from cases import case
+from irig_tools import analysis, edit, limits, mend, phases, slots, spans, steadiness, threshold, zones
+from irig_tools.copies import take_out
+from irig_tools.editor import Listing
+from irig_tools.frames import Times
+from irig_tools.interval import Clock, share_in_step
+from irig_tools.layout import Layout
+from irig_tools.moments import Calendar
+from irig_tools.pieces import pieced
+from irig_tools.track import Track
+from irig_tools.votes import Votes
+from reference import timecode
+from rows import tools
+
+NOON = tools.DAY * timecode.DAY + tools.NOON  # of the first frame, in hundredths of a second
+
+
+def same(name, got, wanted):
+    if got != wanted:
+        print("FAILED %s\n wanted %s\n got    %s" % (name, wanted, got))
+    return got == wanted
+
+
+def listing_of(pulses, length=0, expression=4):
+    layout, listing = Layout("B", expression), Listing()
+    listing.length, listing.expression = length or pulses[-1][1] + 2000, expression
+    listing.rises, listing.falls = [rise for rise, _ in pulses], [fall for _, fall in pulses]
+    listing.classes = "".join(layout.class_of(fall - rise) for rise, fall in pulses)
+    return listing
+
+
+def letters(frames=8, **more):
+    """The classes of a sound recording."""
+    return listing_of(tools.recording(frames, **more)).classes
+
+
+def without(first, beyond, frames=8):
+    """A recording without some pulses."""
+    pulses = tools.recording(frames)
+    del pulses[first:beyond]
+    return pulses
+
+
+def late(pulses, at, by):
+    tools.moved(pulses, at, by)
+    return pulses
+
+
+# phases
+
+
+def of_phases():
+    """Where a frame begins, which phase fits, and where it changes."""
+    text = letters(4)
+    yield same("whole frames", phases.whole_frames(text), [100, 200, 300])
+    yield same("a frame without an identifier", phases.whole_frames(changed(text, 119, "0")), [200, 300])
+    part = text[115:165]
+    yield same("no fault", phases.Marks(part).faults(15), 0)
+    yield same("a lost position", phases.Marks(part[:4] + "0" + part[5:]).faults(15), 1)
+    yield same("a position too many", phases.Marks("P" + part[1:]).faults(15), 1)
+    yield same("ten phases fit", phases.Marks("0" * 8 + "P").best(0, 100), [1, 11, 21, 31, 41, 51, 61, 71, 81, 91])
+    yield same("one phase fits", phases.tells_phase("0" * 8 + "PP"), True)
+    # with phase 10 the first P of each marker is one too many, and one is missing: 2 faults a frame
+    yield same("a phase against whole frames", [phases.Marks(text[:many]).faults(10) for many in (100, 400)], [2, 8 + 4])
+    yield same("no turn", phases.turns(text), [])
+    turns = phases.turns(text[:133] + text[157:])
+    yield same("a turn", len(turns) == 1 and turns[0][0] <= 133 <= turns[0][1], True)
+    yield same("an element that is not as usual", [phases.Usual([45]).unlike("1")(at) for at in (44, 45)], [0, 1])
+
+
+# interval
+
+
+def of_clock():
+    """The interval, the noise, the grid of samples and the runs."""
+    yield same("two of three in step", share_in_step([0, 10000, 20000, 31500], 10000), 2 / 3)
+    yield same("a tenth is in step", share_in_step([0, 11000, 20000], 10000), 1)
+    slow = tools.recording()
+    tools.slow(slow)
+    yield same("a slow clock", Clock(listing_of(slow), 10000).interval, 10050)
+    hardly = [[rise + rise // 20000, fall + rise // 20000] for rise, fall in tools.recording()]
+    yield same("a clock that is hardly slow", Clock(listing_of(hardly), 10000).interval, 10000)
+    noisy = tools.recording()
+    for at, pulse in enumerate(noisy):  # distances are off by 10, 40, -20, 50 and -80: by 0, 30, 30, 40 and 90 from 10010
+        pulse[0] += (0, 10, 50, 30, 80)[at % 5]
+    clock = Clock(listing_of(noisy), 10000)
+    yield same("noise", (clock.noise, clock.exact, round(clock.interval)), (30, False, 10000))
+    sampled = [[rise // 7 * 7, fall // 7 * 7] for rise, fall in tools.recording()]
+    yield same("a grid of samples", Clock(listing_of(sampled), 10000).grid, 7)
+    stepped = Clock(listing_of(late(tools.recording(), 450, 3)), 10000)
+    yield same("a step of 3", [(run.first, run.last) for run in stepped.runs], [(0, 449), (450, 799)])
+    near = Clock(listing_of(late(tools.recording(), 450, 1)), 10000)
+    yield same("a step of 1", len(near.runs), 1)
+    hole = Clock(listing_of(without(230, 415)), 10000)
+    yield same("runs at a hole", [(run.first, run.last, run.begin) for run in hole.runs], [(0, 229, 0), (230, 614, 4150000)])
+    yield same("on one clock", hole.on_one_clock(*hole.runs), True)
+
+
+# slots
+
+
+def linked(pulses):
+    listing = listing_of(pulses)
+    clock = Clock(listing, 10000)
+    return slots.link(clock, slots.parts(clock, listing.classes)[0], listing.classes, Layout("B", 4).unused)
+
+
+def of_slots():
+    """What it costs to believe a recording, and the places that follow: docs/METHOD.md has the prices."""
+    gap, cut = (230, 415), without(430, 460)
+    marker = without(*gap)
+    marker[500 - 185][1] = 5005000
+    rows = (
+        ("a sound recording", tools.recording(), 0, [0]),
+        ("a hole", without(*gap), 0.3, [0, 415]),
+        ("a hole, and a marker is a one", marker, 1.3, [0, 415]),
+        ("a hole, and a little late", late(without(*gap), 230, 100), 2, [0, 415]),
+        ("the rest is late", late(tools.recording(), 450, 3300), 3, [0, 450]),
+        ("the rest is very late", late(tools.recording(), 450, 33000), 3, [0, 450]),
+        ("a hole, and late", late(without(*gap), 230, 3300), 4, [0, 415]),
+        ("a hole, and early", late(without(*gap), 230, -600), 5, [0, 415]),
+        # ten apart are also those of the other phase, up to the marker of frame 5; a frame more may be missing
+        ("elements are missing", late(cut, 430, -300000), 1, [0, 600]),
+    )
+    for name, pulses, cost, places in rows:
+        found = linked(pulses)
+        yield same(name + ", the cost", round(found.cost, 6), cost)
+        yield same(name + ", the places", [run.place for run in found.runs], places)
+        yield same(name + ", the lead", all(run.lead >= 3 for run in found.runs), True)
+
+
+def of_parts():
+    """Which runs count, and which are left alone."""
+    few = without(230, 415)
+    del few[:226]  # four pulses, and then a run
+    listing = listing_of(few)
+    clock = Clock(listing, 10000)
+    yield same("a short run on the same clock", len(slots.parts(clock, listing.classes)[0]), 2)
+    off = late(without(230, 415), 230, 4000)
+    del off[:226]
+    listing = listing_of(off)
+    yield same("a short run on another clock", len(slots.parts(Clock(listing, 10000), listing.classes)[0]), 1)
+    runs = linked(late(tools.recording(), 450, 3300)).runs
+    yield same("all are sure", [len(part) for part in slots.sure_parts(runs)], [2])
+    unsure = [runs[0], runs[1].__class__(**{**vars(runs[1]), "lead": 1})]
+    found = slots.sure_parts(unsure)
+    yield same("one is not", [[run.ends for run in part] for part in found], [["]"]])
+    yield same("what was given is as before", runs[0].ends, "")
+
+
+# places between runs
+
+
+def track_of(pulses, length=0, expression=4):
+    listing, layout = listing_of(pulses, length, expression), Layout("B", expression)
+    clock = Clock(listing, 10000)
+    way = slots.link(clock, slots.parts(clock, listing.classes)[0], listing.classes, layout.unused)
+    return Track(listing, layout, clock, way.runs)
+
+
+def of_places():
+    """Which pulse is at which place, and its letter."""
+    found = [zones.whole_steps(distance, 10000) for distance in (8100, 7900, -1900, -2100)]
+    yield same("early by a fifth", found, [1, 0, 0, -1])
+    lone = tools.recording()
+    del lone[301:415]
+    del lone[230:300]
+    track = track_of(lone)
+    yield same("a pulse in a hole", list(track.pulses_at(300)), [230])
+    yield same("its neighbours", [list(track.pulses_at(place)) for place in (299, 301)], [[], []])
+    yield same("the letters of the hole", track.told[229:302], letters()[229] + "-" * 70 + "P-")
+    yield same("when it should rise", track.rise_at(350), 3500000)
+    border = late(without(420, 450), 424, 3300)
+    del border[426]  # two late pulses, one that is missing, and then the run
+    zone = next(zone for zone in track_of(border).zones if zone.late)
+    yield same("the first pulse that is late", (zone.border, zone.border_place), (424, 454))
+    twice = tools.recording()
+    tools.glitch(twice)
+    yield same("two pulses", track_of(twice).told[300:303], "P?" + letters()[302])
+    joined = tools.recording()
+    joined[232:234] = [[2320000, 2332000]]
+    yield same("over how many more places it reaches", track_of(joined).spans(232, 232), 1)
+    cut = tools.recording()
+    track = track_of(cut[30:], cut[-1][1])
+    yield same("before the recording", track.frame(0)[:31], "~" * 30 + letters()[30])
+    yield same("the end is cut", track.told[-1], "~")
+
+
+# times of frames
+
+
+class Frames:
+    """Frames as a track has them."""
+
+    def __init__(self, texts, expression=4):
+        self.layout, self.texts = Layout("B", expression), texts
+
+    def frames(self):
+        return range(len(self.texts))
+
+    def frame(self, number):
+        return self.texts[number]
+
+
+def texts_of(frames=8, leap=False):
+    text = letters(frames, leap=leap)
+    return [text[at:at + 100] for at in range(0, len(text), 100)]
+
+
+def changed(text, element, letter):
+    return text[:element] + letter + text[element + 1:]
+
+
+def of_votes():
+    """What frames say, one by one and together."""
+    texts = texts_of()
+    texts[6] = changed(texts[6], 21, "0")  # the hours are 10, and seconds since midnight say 12
+    texts[2] = changed(changed(texts[2], 2, "-"), 1, "1")
+    votes = Votes(Frames(texts))
+    base = NOON
+    yield same("the base of a frame", votes.own[5], base)
+    yield same("a frame that contradicts itself", 6 in votes.own, False)
+    yield same("its votes", votes.against(6, base)[0], 1)
+    yield same("a damaged frame", [votes.votes(2, base)[element] if element != 2 else element in votes.votes(2, base)
+                                   for element in (1, 2, 3)], [-1, False, 1])
+    yield same("a base that is borne out", votes.is_borne([1, 3], base), True)
+    yield same("and one that is not", votes.is_borne([1, 3], base + 100), False)
+
+
+class Said:
+    """Frames with bases of their own, and how many elements are against a base."""
+
+    def __init__(self, own, against):
+        self.own, self.wrong = own, against
+
+    def against(self, number, base):
+        wrong = self.wrong.get((number, base), 0)
+        return wrong, wrong - 20
+
+
+def of_spans():
+    """The cheapest way from base to base: a change costs three elements."""
+    rows = (
+        ("five elements are damage", {2: 200}, {(2, 100): 5, (1, 200): 9, (3, 200): 9}, 100, 100, {1: 100, 2: 100, 3: 100}),
+        ("six are as good as two changes", {2: 200}, {(2, 100): 6, (1, 200): 9, (3, 200): 9}, 100, 100,
+         {1: 100, 2: None, 3: 100}),
+        ("seven in one frame are no new time", {2: 200}, {(2, 100): 7, (1, 200): 9, (3, 200): 9}, 100, 100,
+         {1: 100, 2: None, 3: 100}),
+        ("the time changes between", {}, {(1, 200): 4, (2, 200): 4, (3, 100): 4}, 100, 200, {1: 100, 2: 100, 3: 200}),
+        ("only one side", {}, {(2, 100): 9}, 100, None, {1: 100, 2: 100, 3: 100}),
+    )
+    for name, own, against, left, right, wanted in rows:
+        yield same(name, spans.fit(Said(own, against), [1, 2, 3], left, right), wanted)
+
+
+def of_pieces():
+    """The time that parts of frames say together: two must say each field."""
+    texts = texts_of(4)
+    broken = [changed(changed(text, 9, "-"), 80, "-") for text in texts]
+    for text, lost in ((0, (12,)), (1, (12, 22)), (2, (22, 31)), (3, (31,))):
+        for element in lost:
+            broken[text] = changed(broken[text], element, "-")
+    votes = Votes(Frames(broken))
+    yield same("no frame is read", votes.own, {})
+    yield same("all together", pieced(votes, [0, 1, 2, 3]), NOON)
+    broken[3] = changed(broken[3], 12, "-")
+    yield same("one frame has the minutes", pieced(Votes(Frames(broken)), [0, 1, 2, 3]), None)
+
+
+def of_leap():
+    """A second 60 that is shown, or lost with time for it."""
+    end = 736329 * timecode.DAY + timecode.DAY  # of 31 December 2016
+    texts = texts_of(10, leap=True)
+    yield same("it is shown", Votes(Frames(texts)).calendar.leap, end)
+    yield same("each frame leads to one base", set(Votes(Frames(texts)).own.values()), {end - 400})
+    lost = [*texts[:4], "-" * 100, *texts[5:]]
+    found = Votes(Frames(lost))
+    yield same("it is lost", found.calendar.leap, end)
+    yield same("one base", set(found.own.values()), {end - 400})
+    yield same("its fields", [found.calendar.fields(end + 50)[name] for name in ("hours", "minutes", "seconds", "days")],
+               [23, 59, 60, 366])
+    yield same("what follows", [found.calendar.fields(end + 100)[name] for name in ("seconds", "days")], [0, 1])
+    noon = texts_of(8)
+    yield same("none at noon", Votes(Frames([*noon[:3], "-" * 100, *noon[3:]])).calendar.leap, None)
+    yield same("none without a loss", Votes(Frames(texts_of(8))).calendar.leap, None)
+
+
+def of_moments():
+    """Moments and fields."""
+    with_year, without_year = Calendar(Layout("B", 4)), Calendar(Layout("B", 2))
+    told = {"year": 24, "days": 61, "hours": 12, "minutes": 0, "seconds": 0}
+    yield same("a number", with_year.number(told), NOON)
+    yield same("its text", with_year.text(NOON), "2024-061T12:00:00")
+    yield same("the day after 365", without_year.fields(366 * timecode.DAY)["days"], 1)
+    yield same("in a long year", Calendar(Layout("B", 2), 366).fields(366 * timecode.DAY)["days"], 366)
+    last = {"days": 365, "hours": 23, "minutes": 59, "seconds": 58}
+    first = {"days": 1, "hours": 0, "minutes": 0, "seconds": 1}
+    yield same("one base over the end of a year", without_year.base(0, last), without_year.base(3, first))
+
+
+def hour_less(number):
+    """Eight frames of expression 2 at one o'clock, one with a zero for the one of its hours."""
+    pulses = []
+    for k in range(8):
+        for name in timecode.encode("B", 2, timecode.generated("B", (tools.DAY, 360000 + 100 * k), 0, 0)):
+            pulses.append([10000 * len(pulses), 10000 * len(pulses) + timecode.nominal(10000, name)])
+    pulses[100 * number + 20][1] -= 3000
+    return pulses
+
+
+def of_times():
+    """The time of each frame of a track, if one is damaged or the clock was set."""
+    pulses = tools.recording()
+    pulses[621][1] = 6212000
+    times = Times(track_of(pulses))
+    yield same("one base", set(times.bases.values()), {NOON})
+    yield same("one span", [(span.first, span.last) for span in times.spans], [(0, 7)])
+    yield same("which are sound", times.sound, {0, 1, 2, 3, 4, 5, 7})
+    yield same("what follows", times.expected(6)[20:23], "010")
+    plain = Times(track_of(hour_less(6), expression=2))
+    yield same("a frame of another hour", (plain.own[6] - plain.own[5], plain.bases[6] - plain.bases[5]), (-360000, 0))
+    yield same("it is not sound", plain.sound, {0, 1, 2, 3, 4, 5, 7})
+    clock_set = tools.recording(4) + [[rise + 4000000, fall + 4000000] for rise, fall in tools.recording(4)]
+    found = Times(track_of(clock_set)).spans
+    yield same("the clock was set", [(span.first, span.last, span.base - NOON) for span in found], [(0, 3, 0), (4, 7, -400)])
+
+
+def of_steadiness():
+    """How often an element may have changed: two changes need a chance below 1 in 1,000."""
+    def rows(changes, frames):
+        row = "01" * changes + "1" * frames
+        return ["-" * 50 + row[at] for at in range(frames)]
+
+    for name, texts, before, after, wanted in (
+            ("it never changed", ["-" * 50 + "0"] * 25, 9, 9, True),
+            ("it never changed in few frames, and no other did", ["-" * 50 + "0"] * 5, 9, 9, True),
+            ("one change in 99", rows(0, 50) + ["-" * 50 + "0"] * 50, 1, 1, True),
+            ("the same, two frames away", rows(0, 50) + ["-" * 50 + "0"] * 50, 2, 2, False),
+            ("it changes always", rows(10, 20), 1, 1, False)):
+        yield same(name, steadiness.Steadiness([50], texts).holds(50, before, after), wanted)
+    two = ["0" + "01"[at % 2] for at in range(10)]
+    yield same("too few chances, and another element changed", steadiness.Steadiness([0, 1], two).holds(0, 9, 9), False)
+
+
+# what is there twice, and repairs
+
+
+def of_copies():
+    """A stretch that is there twice is taken out, and the rest goes back."""
+    copied = tools.recording(12)
+    tools.again(copied, 430, 130)
+    track = track_of(copied)
+    lines = [line for repair in take_out(track, Times(track)) for line in repair.lines()[1:]]
+    yield same("a copy", lines, ["begin", "558,687 delete", "558,$ shift -1300000", "end"])
+    track = track_of(tools.recording(12))
+    yield same("no copy", take_out(track, Times(track)), [])
+
+
+def script_of(pulses, **more):
+    """What the first look calls for, without comments."""
+    found = mend.called_for(analysis.examine(listing_of(pulses, 8100000), **more))
+    return [line for repair in found for line in repair.lines() if not line.startswith("#")], found
+
+
+def of_edits():
+    """The text of an edit, and what is chosen."""
+    yield same("one pulse", edit.of_pulses("delete", 4, 4).line(), "5 delete")
+    yield same("some pulses", edit.of_pulses("delete", 4, 6).line(), "5,7 delete")
+    yield same("no pulse", edit.Edit("insert", (10, 20)).line(), "insert 10 20")
+    yield same("a rest", (edit.moved_rest(450, -3300).line(), edit.moved_rest(450, -3300).move), ("451,$ shift -3300", -3300))
+    yield same("from a time on", edit.lines_of(edit.moved_from(9, -3)), ["mark z 9", "'z,$ shift -3", "unmark z"])
+    yield same("one pulse is no rest", edit.of_pulse("shift", 4, 7).move, 0)
+    seven, eight = without(430, 437), without(430, 438)
+    yield same("seven are lost", [line.split()[0] for line in script_of(seven)[0]], ["begin", *["insert"] * 7, "end"])
+    yield same("eight are lost", script_of(eight)[0], ["regen 4000000 1 2024-061T12:00:04"])
+    both = without(430, 431)
+    del both[120]
+    yield same("the last comes first", script_of(both)[0], ["insert 4300000 4305000", "insert 1200000 1202000"])
+    rest, found = script_of(late(tools.recording(), 450, 3300), move=True)
+    yield same("a rest that is late", (rest, found[0].moves), (["451,$ shift -3300"], [-3300]))
+    early = late(without(230, 415), 230, -600)
+    early[-1][1] = 8099900
+    said = "".join(repair.comments[0] for repair in script_of(early, move=True)[1])
+    yield same("no room for a rest", "185 elements are missing, and the rest comes 600 early; the recording is too short"
+               in said, True)
+
+
+def of_threshold():
+    """Every pulse is longer by 0.17 of an interval: classes as they were."""
+    pulses = [[rise, fall + 1700] for rise, fall in tools.recording()]
+    listing = listing_of(pulses, 8002000)
+    found = threshold.level(listing, Layout("B", 4))
+    names = {"zero": "0", "one": "1", "position": "P"}
+    given = [(line.split()[0], names[line.split()[2]]) for repair in found for line in repair.edits]
+    yield same("each pulse gets its class", given, [(str(at), name) for at, name in enumerate(letters(), 1)])
+    yield same("a sound recording", threshold.level(listing_of(tools.recording()), Layout("B", 4)), [])
+
+
+def of_limits():
+    """Each cost and limit is used, has a comment, and is written as a number nowhere else."""
+    with open(limits.__file__, encoding="utf-8") as file:
+        lines = file.read().splitlines()
+    texts = ""
+    for path in glob.glob(os.path.join(TOP, "tools", "irig_tools", "*.py")):
+        with open(path, encoding="utf-8") as file:
+            texts += file.read()
+    names = [name for name in vars(limits) if name.isupper()]
+    yield same("each is used", [name for name in names if not re.search(r"limits\.%s\b" % name, texts)], [])
+    bare = [line for line in lines if re.match("[A-Z_, ]+ =", line) and "  # " not in line]
+    yield same("each has a unit or a reason", bare, [])
+
+
+def cases():
+    """Each part by its name."""
+    return [case("mend: part: " + name, holds) for name, holds in (
+        ("phases", of_phases), ("clock", of_clock), ("slots", of_slots), ("sure runs", of_parts), ("places", of_places),
+        ("votes", of_votes), ("spans", of_spans), ("pieces", of_pieces), ("leap seconds", of_leap), ("moments", of_moments),
+        ("times", of_times), ("steadiness", of_steadiness), ("copies", of_copies), ("edits", of_edits),
+        ("threshold", of_threshold), ("limits", of_limits))]

@@ -1,0 +1,65 @@
+"""An edit: one line of a script, and what it moves."""
+from __future__ import annotations
+
+from dataclasses import dataclass
+from typing import List, Optional, Sequence, Tuple, Union
+
+from .script import Repair
+
+THE_LAST = -1  # instead of a pulse: the last one of the track
+
+
+@dataclass(frozen=True)
+class Edit:
+    """A word of the editor, the pulses that it concerns (from 0; `first` can be a mark), and its values."""
+
+    word: str
+    values: Tuple[Union[int, str], ...] = ()
+    first: Union[int, str, None] = None
+    last: Optional[int] = None  # if it is not the first
+
+    def line(self) -> str:
+        """As the editor reads it: pulses are counted from 1."""
+        return " ".join([*self._address(), self.word, *map(str, self.values)])
+
+    def _address(self) -> List[str]:
+        if self.first is None:
+            return []
+        first = self.first if isinstance(self.first, str) else str(self.first + 1)
+        if self.last in (None, self.first):
+            return [first]
+        return ["%s,%s" % (first, "$" if self.last == THE_LAST else (self.last or 0) + 1)]
+
+    @property
+    def move(self) -> int:
+        """By how many microseconds it moves all that follow."""
+        return int(self.values[0]) if self.word == "shift" and self.last == THE_LAST else 0
+
+
+def of_pulses(word: str, first: int, last: int, *values: Union[int, str]) -> Edit:
+    return Edit(word, values, first, last)
+
+
+def of_pulse(word: str, pulse: int, *values: Union[int, str]) -> Edit:
+    return Edit(word, values, pulse)
+
+
+def moved_rest(first: int, by: int) -> Edit:
+    """Moves a pulse and all after it."""
+    return Edit("shift", (by,), first, THE_LAST)
+
+
+def moved_from(at: int, by: int) -> List[Edit]:
+    """Moves all from a time on, whatever the numbers of the pulses are then."""
+    return [Edit("mark", ("z", at)), Edit("shift", (by,), "'z", THE_LAST), Edit("unmark", ("z",))]
+
+
+def lines_of(edits: Sequence[Edit]) -> List[str]:
+    return [edit.line() for edit in edits]
+
+
+def repair_of(at: int, comments: Sequence[str], edits: Sequence[Edit], until: int = 0,
+              removed: Tuple[int, int, int] = (0, 0, 0), instead: Sequence[Edit] = ()) -> Repair:
+    """The edits that belong together, with what they move."""
+    moves = [edit.move for edit in edits if edit.move]
+    return Repair(at, list(comments), lines_of(edits), removed, lines_of(instead), until, moves)

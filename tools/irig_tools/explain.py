@@ -1,0 +1,81 @@
+"""What the first look at a recording finds, step by step: the clock, the runs with their costs, the frames with their votes,
+and the places. docs/METHOD.md has the words."""
+from __future__ import annotations
+
+from typing import Iterator, List
+
+from .analysis import Findings, Part
+from .editor import Listing
+from .frames import Times
+from .interval import Clock, Run
+from .layout import NAMES
+
+
+def explained(listing: Listing, findings: Findings) -> List[str]:
+    lines = ["%d pulses in %d microseconds" % (len(listing.rises), listing.length)]
+    lines += ["the whole recording: " + repair.comments[0] for repair in findings.whole]
+    if findings.clock:
+        lines.append(_of_clock(findings.clock))
+    lines += ["remark: at %d: %s" % (remark.at, remark.seen) for remark in findings.remarks]
+    for number, part in enumerate(reversed(findings.parts), 1):
+        lines.append("part %d of %d" % (number, len(findings.parts)))
+        lines += [*_of_runs(part), *_of_times(part.times), *_of_places(part)]
+    return lines
+
+
+def _of_clock(clock: Clock) -> str:
+    return ("clock: interval %.2f of %d, noise %.1f%s; in step within %.0f, a step from %.0f on, doubt %.3f an interval"
+            % (clock.interval, clock.nominal, clock.noise, ", exact" if clock.exact else "", clock.margin,
+               clock.least_step, clock.doubt))
+
+
+def _of_runs(part: Part) -> Iterator[str]:
+    before = 0.0
+    for run in part.track.runs:
+        glued = ", glued" if run.glued else ""
+        yield "run: pulses %d to %d, places %d to %d; step %d%s, %.0f late; cost %.1f, and %.1f in all; lead %.1f%s" % (
+            run.first + 1, run.last + 1, run.place, run.last_place, run.step, glued, run.late, run.cost - before,
+            run.cost, run.lead, _others(run))
+        before = run.cost
+
+
+def _others(run: Run) -> str:
+    return ", or from element " + " or ".join(map(str, run.others)) if run.others else ""
+
+
+def _of_times(times: Times) -> Iterator[str]:
+    for span in times.spans:
+        yield "frames %d to %d: base %d, frame 0 at %s" % (
+            span.first, span.last, span.base, times.calendar.name(span.base))
+    for number, text in times.texts.items():
+        if number not in times.sound:
+            yield "frame %d: %s, %s; %s" % (number, text, _own(times, number), _votes(times, number))
+
+
+def _own(times: Times, number: int) -> str:
+    own = times.own.get(number)
+    return "not read" if own is None else "reads base %d" % own
+
+
+def _votes(times: Times, number: int) -> str:
+    """How its elements vote on each base that a span has."""
+    bases = sorted({span.base for span in times.spans})
+    votes = [(base, times.against(number, base)) for base in bases]
+    said = ["base %d has %d votes, and %d against it" % (base, wrong - right, wrong) for base, (wrong, right) in votes]
+    return ", ".join(said) or "no base"
+
+
+def _of_places(part: Part) -> Iterator[str]:
+    """What is wanted at each faulty place; those without a pulse one after the other are one line."""
+    faults, lost = part.faults, ""
+    for place, name in sorted(faults.wanted.items()):
+        lost += name
+        if faults.track.pulses_at(place):
+            lost = ""
+            yield "place %d, at %d: %s; %s is wanted%s" % (
+                place, faults.track.rise_at(place), faults.seen(place), NAMES[name],
+                ", a guess" if place in faults.guesses else "")
+        elif place + 1 not in faults.wanted or faults.track.pulses_at(place + 1):
+            first = place + 1 - len(lost)
+            yield "places %d to %d, from %d on: no pulse; wanted are %s" % (first, place, faults.track.rise_at(first), lost)
+            lost = ""

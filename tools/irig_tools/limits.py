@@ -1,0 +1,134 @@
+"""All costs and limits of finding and mending, each with its unit and its reason.
+
+`Standard`: IRIG 200-04 says it, or irig_ed, which reads a frame only if each rise is within a tenth of an interval.
+`Chance`: it is a probability, or follows from one.
+`Measured`: it was changed, and the recordings were looked at again; what changed is said.
+`Bound`: it keeps the search short; a larger number takes longer.
+An interval is the time from element to element; docs/METHOD.md has the other words.
+"""
+
+# the clock (interval)
+
+IN_STEP = 0.1  # intervals: neighbours whose distance is so near the nominal one follow each other
+MOST_SAMPLED = 50000  # distances that are looked at for the interval
+SAME_CLOCK = 0.0001  # a clock that is less off, as a share, is nominal
+LEAST_MARGIN, MOST_MARGIN = 0.04, 0.09  # intervals: how far a distance within a run may be off
+LEAST_STRAY, MOST_STRAY = 0.04, 0.07  # intervals: how far one rise between runs may be off
+MARGIN_BY_NOISE, STRAY_BY_NOISE = 6, 4  # how many times the half spread of the distances
+NEAR = 15  # pulses at the end of a run whose median says where it should rise
+FAR = 300  # pulses at the end of a run that say the interval there
+LOCAL = 100  # pulses: a longer run has an interval of its own
+STRETCHES = 4  # stretches of FAR that show how much the interval changes
+UNKNOWN_DOUBT = 0.0003  # of the interval: how much it may change if no stretch shows it
+EIGHT_OF_TEN = 1.9  # of what is spread as by chance, eight of ten are within that many times what half are within
+NINE_OF_TEN = 2.44  # and nine of ten within that many times
+MOST_SLACK = 0.4  # intervals: how far runs on one clock may be off at most
+NEAR_RUNS = 300  # elements: runs that are no farther apart can be on one clock
+SPREADS = 5  # a step is seen if it is that many times as large as the spread of the distances
+LEAST_STEP = 2  # microseconds: times are whole numbers, so less is no step
+BY_GRID = 1.5  # samples of a recorder: a smaller step is one of its own
+OFF_BY_SAMPLE = 3  # distances that are off by one sample show its size
+SIDE = 5  # pulses on each side of a step
+LONG_RUN = 40  # pulses of a run that can have two phases, or whose position identifiers say its phase
+
+# phases
+
+NO_WHOLE_FRAME = 4  # faults: what a phase costs with which no frame is whole, if another phase has one
+MOSTLY = 0.9  # the share of frames that have a class if it is usual there
+LONGEST_TURN = 3000  # elements: in a longer text no turn is looked for
+FEWER_FAULTS = 8  # faults that a turn has to explain if neither side's phase is known
+FEWER_AFTER_ONE = 3  # the same if one side's phase is known
+FEWER_AT_MARKER = 2  # the same if also a marker says it, and nothing speaks against it
+
+# the first shortest path: runs (slots)
+
+SURE_RUN = 5  # pulses: a run of that many is no accident
+UNLIKELY = 12  # faults: a way that costs that much more than the cheapest is not followed, so that the search stays short
+MOST_LATE = 12  # elements: a rest can be that late; one that is later is moved only if both sides are unmistakable
+EARLY = 5  # faults: what a rest costs that is early
+BARELY = 2  # faults: what a rest costs that is late by less than a pulse may stray
+HOLE = 0.3  # faults: what a hole costs after which all is on time
+LATE = 3  # faults: what a rest costs that is late
+LATE_HOLE = 1  # faults: what it costs more after a hole
+JUMP = 1  # faults: what a run costs that follows at once with another element
+JUMP_TO_SAME = 6  # faults: the same if only whole frames are missing
+LEAST_LEAD = 2  # faults: a run whose phase leads by less is left alone
+LEAD = 3  # faults: a run whose phase leads by less is looked at again, with what most frames have
+UNUSUAL = 0.5  # faults: what an element costs that is not as in most frames
+LONGEST_HOLE = 200000  # elements: what is farther apart is mended part by part
+TELLING = 12  # pulses of a run that has phases of its own
+MOST_PHASES = 40  # phases of a run that are looked at besides those that follow
+WITHIN = 2  # faults: phases that have that many more than the best are looked at
+NO_TIME = 1.5  # intervals: a rest that is so early has lost elements for which there is no time
+FAULTS_A_PULSE = 1 / 18  # a way that costs more by pulse is that of another format
+FAULTS_AT_LEAST = 5  # faults: what any way may cost
+
+# places between runs (zones, track)
+
+BEFORE_ITS_RISE = 0.2  # intervals: a pulse belongs to a place from that much before its rise on
+EXACT = 0.005  # intervals: on an exact clock a pulse that is no more off keeps its time
+EITHER_SIDE = 300  # pulses on each side of a glued run that may be of the other side
+REACH = 2.5  # intervals: a pulse that is farther from the last one is of no frame
+OVERLAP = 0.02  # intervals: a pulse that reaches so far beyond the next rise covers it
+
+# the whole recording (analysis, threshold)
+
+UPSIDE_DOWN, MORE_THAN_UPRIGHT = 0.8, 0.1  # the share of falls in step, and by how much more than rises
+FIT = 0.5  # the share of rises in step without which it is no such recording
+THRESHOLD_SHIFTS = range(-17, 28)  # hundredths of an interval by which all pulses can be longer
+WIDEST_PEAK = 98  # hundredths of an interval: no pulse gets as long as the interval
+PEAK = 6  # hundredths of an interval: what is nearer to a peak counts for it
+LEAST_SHIFT = 6  # hundredths of an interval: a smaller shift changes no class
+AT_PEAK = 7  # hundredths of an interval: a width that is no farther from a peak has its class
+SOME_BAD, MOST_BAD = 0.01, 0.3  # the share of bad pulses from which a threshold is looked for, and after it
+MOST_EDITS = 10000  # edits in one group
+
+# times of frames, and the second shortest path (frames, spans, pieces)
+
+LONGEST_CUT = 3000  # elements: after more than that the places are not counted on
+STRAY_ONES, STRAY_SHARE = 2, 0.1  # frames with ones that are not used, and their share, from which the expression is doubtful
+CHANGE = 3  # elements: what it costs that the time goes on elsewhere
+MOST_BASES = 12  # bases that are looked at in one gap
+MOST_AGAINST, FEWEST_FOR = 1, 19  # elements of a frame that bears a base out
+WITNESSES = 2  # frames that have to say a field
+
+# what is steady (steadiness)
+
+CHANCE = 0.001  # that an element differs from its neighbours, if it is said to be steady
+CHANCES = 24  # times that an element could have changed: if it never did, it differs by a smaller chance
+
+# stretches that are there twice (copies, steps)
+
+UNLIKE_IN_COPY = 25  # a copy has at most one element in that many that differs
+UNLIKE_WITHIN = 50  # the same if the times of the frames alone say that there is one
+ALIKE_IN_COPY = 2  # and at least one in that many that is the same
+LEAST_COPY = 10  # elements; fewer are alike by chance
+
+# what is wrong (faults, edits, wholes, repairs)
+
+LIKE = 0.08  # intervals: a level that differs from a class for less than that is this class
+LIKE_IN_BURST = 0.03  # intervals: the same in a burst of damage, which can look like a class by chance
+NOMINAL = 0.03  # intervals: a width that is no more off is the one of its class
+BURST = 2  # of the two places before and the two after one, at least that many are damaged in a burst
+MOST_CONTRARY = 3  # elements: a frame of which more say another time than its neighbours is no damage
+INTERVAL_SEEN = 0.95  # intervals of a place whose level is looked at
+UNLIKE = 0.02  # intervals: a width that is more off is changed if the pulse is edited anyway
+FEWEST_LOST = 8  # lost elements of a frame that is generated again
+MOST_AGAIN = 2000  # places that are written again one by one
+
+# what is said (damage), and how often it is looked at (damage, mend)
+
+DRIFT = 0.001  # intervals: a clock that is less off is sound
+TREMBLE = 0.005  # intervals: rises that stray less are sound
+SILENCE = 1.5  # intervals: less is no silence
+TOGETHER = 3  # that many faulty places one after the other are one line
+ROUNDS = 5  # after that many the script is as it is
+MOST_CHECKS = 5  # after that many no repair is left
+
+# frames before and after the script (check)
+
+MOVED = 0.2  # intervals: a marker that is moved by less is the same
+ON_CLOCK = 0.5  # intervals: by how much less than a whole number of frames apart are the frames of one clock
+CLOCK_DRIFT = 0.002  # intervals: the same for each interval between them
+AT_STEP = 30  # intervals: the same if there is a step between them
+OUTVOTED = 3  # frames of the result that outvote one that was fine

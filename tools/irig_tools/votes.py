@@ -1,0 +1,51 @@
+"""What the frames of a track say: the time of each that can be read, and what single elements say for or against a time."""
+from __future__ import annotations
+
+from collections import Counter
+from typing import Dict, List, Sequence, Tuple
+
+from .layout import Fields
+from .leap import with_leap
+from .moments import Calendar
+from .track import Track
+
+
+class Votes:
+    """The frames with their letters. A base is the time of frame 0 if the clock had run all along."""
+
+    def __init__(self, track: Track) -> None:
+        self.track, self.layout = track, track.layout
+        self.texts = {number: track.frame(number) for number in track.frames()}
+        decoded = [(number, self.layout.decode(text)) for number, text in self.texts.items()]
+        self.read: List[Tuple[int, Fields]] = [(number, told) for number, told in decoded if told]
+        self.calendar = with_leap(self._with_year_length(), self.read)
+        self.own = {number: self.calendar.base(number, told) for number, told in self.read}
+
+    def _with_year_length(self) -> Calendar:
+        """Without a year the frames themselves show the day after 365."""
+        short, long = Calendar(self.layout), Calendar(self.layout, 366)
+        if self.layout.with_year or not self.read:
+            return short
+        agree = [max(Counter(each.base(*frame) for frame in self.read).values()) for each in (short, long)]
+        return long if agree[1] > agree[0] or any(told["days"] == 366 for _, told in self.read) else short
+
+    def votes(self, number: int, base: int) -> Dict[int, int]:
+        """For each element of a frame that can be read, 1 if it speaks for a base, and -1 if against it."""
+        text, fields = self.texts[number], self.calendar.fields(base + number * self.layout.period)
+        wanted = self.layout.encode(fields)
+        read = [element for element in self.layout.carried if text[element] in "01"]
+        return {element: 1 if text[element] == wanted[element] else -1 for element in read}
+
+    def against(self, number: int, base: int) -> Tuple[int, int]:
+        """How many elements of a frame speak against a base, and, negative, how many for it."""
+        votes = self.votes(number, base).values()
+        wrong = sum(each < 0 for each in votes)
+        return wrong, wrong - len(votes)
+
+    def is_borne(self, numbers: Sequence[int], base: int) -> bool:
+        """Whether at least one element of these frames speaks for a base, and each that speaks against it is
+        outvoted."""
+        votes: Counter[int] = Counter()
+        for number in numbers:
+            votes.update(self.votes(number, base))
+        return min(votes.values(), default=0) > 0
