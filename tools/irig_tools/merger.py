@@ -175,9 +175,11 @@ class Merger:
                 self._write(micro, self.own)
             return
         for own in self.changes:
-            if self._reads(own.letter) == self.is_high:
+            joins = self._reads(own.letter) == self.is_high
+            if not joins or (own.letter == self.written and self.words.is_alone):
+                self._change(own, self.words.without)
+            if joins:
                 break
-            self._change(own, self.words.without)
 
     def _leave(self, micro: int, is_last: bool) -> None:
         """What comes at the end of the track, or after it."""

@@ -21,6 +21,8 @@ class Own(NamedTuple):
 class Scalars:
     """The changes of a wire of one bit."""
 
+    is_alone = True
+
     def __init__(self, code: bytes) -> None:
         self.code = code
 
@@ -44,6 +46,8 @@ class Scalars:
 
 class Vectors(Scalars):
     """The changes of a vector, of which the wire is one bit; those of its other bits stay."""
+
+    is_alone = False
 
     def __init__(self, code: bytes, size: int, place: int) -> None:
         super().__init__(code)
