@@ -55,7 +55,7 @@ def complaints(top):
         filled(folder)
         with open(os.path.join(folder, "junk"), "w", encoding="ascii") as file:
             file.write("hello world")
-        text = "irig_ed: %s: V9 BadToken at 0"
+        text = "%s: is no dump: no declaration is found"
         for tool in ("irig_damage", "irig_mend"):
             for words, name in (("junk", "junk"), ("- < junk", "standard input"), ("/dev/stdin < junk", "/dev/stdin"),
                                 ("/dev/fd/5 5< junk", "/dev/fd/5")):

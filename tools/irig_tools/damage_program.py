@@ -4,12 +4,15 @@ from __future__ import annotations
 import gc
 import os
 import sys
+from typing import Sequence
 
 from .command import kept, run
-from .damage import look
+from .damage import Damage, look
 from .editor import Editor, progress_to
-from .ending import FOUND, SOUND
-from .options import EDITOR, Command, Given, Option, a_file
+from .ending import FOUND, SOUND, complain
+from .facts import damages
+from .opening import Opened, opened
+from .options import DUMP, EDITOR, JSON, QUIET, TIMESCALE, WIRE, Command, Given, Option, a_file
 from .output import check_apart, write
 from .overview import sheet_of
 from .page import page
@@ -19,15 +22,17 @@ from .sheet import Sheet
 PAGE = Option("--page", "FILE", "also writes a page (HTML) to look at: the whole recording, and each place as a "
               "waveform", a_file)
 PICTURE = Option("--picture", "FILE", "also writes a picture (SVG) of the recording", a_file)
+COUNT = Option("--count", about="prints only how many places are damaged")
 COMMAND = Command("irig_damage", ("TRACK",), """\
 Lists where a recording of IRIG 200-04 time code is damaged, in the order of
 time, one line each: the time in microseconds, the frame, the element and the
 pulses, and what is seen there. The track is not changed; - is standard input.
-The interval is that of the recording: a clock that drifts and rises that tremble
+Any dump that irig_wire reads is read; the wire, the format and the expression are
+found if they are not given. The interval is that of the recording: a clock that drifts and rises that tremble
 are said once. A leap second is no damage, and neither is a frame that is cut at
 either end. Silence before the first pulse and after the last one is a remark, and
 no damage.
-""", (*EDITOR, PAGE, PICTURE), """\
+""", (*EDITOR, TIMESCALE, DUMP, PAGE, PICTURE, JSON, COUNT, QUIET), """\
 The editor is the program that IRIG_ED names, or irig_ed on the path.
 The status is 0 if nothing is wrong, 1 if something is, 2 if the track was not
 read, and 70 if memory ran out or the tool has a defect.
@@ -37,12 +42,29 @@ read, and 70 if memory ran out or the tool has a defect.
 def work(given: Given) -> int:
     name = given.names[0]
     check_apart(name, [(option.name, given.text(option)) for option in (PAGE, PICTURE)])
-    with kept(name) as track:
-        seen = look(Editor([*given.of_editor(), track]), progress_to(sys.stderr))
+    with kept(name) as path, opened(path, name, given, given.text(WIRE)) as track:
+        if not given.has(QUIET):
+            say(track, COMMAND.name)
+        seen = look(Editor(track.words), progress_to(sys.stderr))
+        found = sum(not damage.is_remark for damage in seen.damages)
+        text = "%d\n" % found if given.has(COUNT) else text_of(seen.damages, track, given.has(JSON))
     if given.has(PAGE) or given.has(PICTURE):
         draw(given, sheet_of(os.path.basename(name), seen))
-    sys.stdout.write("".join(damage.line() + "\n" for damage in seen.damages))
-    return FOUND if any(not damage.is_remark for damage in seen.damages) else SOUND
+    if not given.has(QUIET):
+        sys.stdout.write(text)
+    return FOUND if found else SOUND
+
+
+def say(track: Opened, program: str) -> None:
+    """Says on standard error what was chosen, and what was subtracted from the times."""
+    for note in track.notes:
+        complain(note, program)
+    if track.offset is not None and track.offset.count:
+        complain("the times count from %s of the file that this was cut out of" % track.offset.text(), program)
+
+
+def text_of(found: Sequence[Damage], track: Opened, as_json: bool) -> str:
+    return damages(found, track.offset) if as_json else "".join(damage.line() + "\n" for damage in found)
 
 
 def draw(given: Given, sheet: Sheet) -> None:

@@ -5,6 +5,7 @@ import re
 from dataclasses import dataclass, field
 from typing import List, NamedTuple, Optional, Tuple
 
+from .dump_offset import Offset, read_offset
 from .dump_source import Source
 from .editor import Problem
 
@@ -44,6 +45,7 @@ class Header:
     unit: Optional[str] = None
     wires: List[Wire] = field(default_factory=list)
     notes: List[str] = field(default_factory=list)
+    offset: Optional[Offset] = None  # what was subtracted when it was cut out
 
 
 class Reader:
@@ -113,6 +115,8 @@ class Reader:
             self.scopes.pop()
         elif section == b"$var":
             self._wire(words)
+        elif section == b"$comment":
+            self.header.offset = self.header.offset or read_offset(words)
 
     def _wire(self, words: List[bytes]) -> None:
         if len(words) < 4 or not words[1].isdigit() or len(words[1]) > 9:

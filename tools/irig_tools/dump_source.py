@@ -75,17 +75,21 @@ class Source:
 
     def _all_words(self) -> Iterator[bytes]:
         rest = b""
-        try:
-            for block in self._blocks():
-                words = (rest + block).split()
-                rest = b"" if block[-1:].isspace() or not words else words.pop()
-                if len(rest) > LONGEST:
-                    raise Problem("%s: is no dump: a word has more than %d bytes" % (self.path, LONGEST))
-                yield from words
-        except (EOFError, zlib.error, lzma.LZMAError, gzip.BadGzipFile) as error:
-            raise Problem("%s: cannot be unpacked: %s" % (self.path, error)) from error
+        for block in self.unpacked():
+            words = (rest + block).split()
+            rest = b"" if block[-1:].isspace() or not words else words.pop()
+            if len(rest) > LONGEST:
+                raise Problem("%s: is no dump: a word has more than %d bytes" % (self.path, LONGEST))
+            yield from words
         if rest:
             yield rest
+
+    def unpacked(self) -> Iterator[bytes]:
+        """The bytes of the dump, block by block."""
+        try:
+            yield from self._blocks()
+        except (EOFError, zlib.error, lzma.LZMAError, gzip.BadGzipFile) as error:
+            raise Problem("%s: cannot be unpacked: %s" % (self.path, error)) from error
 
     def _blocks(self) -> Iterator[bytes]:
         opened = cast(IO[bytes], sys.stdin.buffer) if self.path == "-" else open(self.path, "rb")

@@ -4,18 +4,24 @@ from __future__ import annotations
 import gc
 import os
 import sys
+from typing import List, Optional
 
 from .analysis import examine
 from .command import kept, run
+from .apply import Summary, Target, as_object, run_script, sound_frames, summary, temporary
 from .damage import look
-from .editor import Editor, progress_to
-from .ending import FOUND, SOUND
+from .damage_program import say
+from .editor import Editor, Progress, progress_to
+from .ending import FOUND, SOUND, Usage, complain
 from .explain import explained
+from .facts import is_undecided, lines, repairs
 from .mend import called_for, propose, text
-from .options import EDITOR, Command, Given, Option, a_file
+from .opening import Opened, is_of_one_wire, opened
+from .options import DUMP, EDITOR, JSON, TIMESCALE, WIRE, Command, Given, Option, a_file
 from .output import check_apart, output, write
 from .overview import sheet_of
 from .page import page
+from .script import Repair
 
 PAGE = Option("--page", "FILE", "also writes a page (HTML) to look at: the whole recording, each place before and "
               "after its repair, and the script", a_file)
@@ -25,35 +31,49 @@ MOVE = Option("--move", about="moves the rest if it comes late, and takes out wh
 OUT = Option("--out", "FILE", "the file to write, whole or not at all, instead of standard output", a_file)
 EXPLAIN = Option("--explain", about="prints instead how the script follows: the clock, the runs and their costs, the "
                  "frames and their votes, and the places")
+APPLY = Option("--apply", "FILE", "runs the script, writes the repaired recording as this file, whole or not at all, and "
+               "prints what became of it", a_file)
+SAVE = Option("--save", about="with --apply: the file keeps the steps, so that each can be undone")
+INTO = Option("--into", "ORIGINAL", "with --apply: writes this file with the repaired track instead of its wire", a_file)
 COMMAND = Command("irig_mend", ("TRACK",), """\
-Proposes a script that repairs a recording of IRIG 200-04 time code. Before each
-repair a comment says what was seen and why this repair follows. What nothing
-decides is a comment with the choices. Times are kept: no pulse in step is moved.
-The track itself is not changed; - is standard input:
+Proposes a script that repairs a recording of IRIG 200-04 time code, or runs it.
+Before each repair a comment says what was seen and why this repair follows. What
+nothing decides is a comment with the choices. Times are kept: no pulse in step is
+moved. The track itself is not changed; - is standard input. Any dump that
+irig_wire reads is read; the wire, the format and the expression are found if they
+are not given:
 
+  irig_mend --apply new.vcd track.vcd                 one command
+  irig_mend --apply new.vcd --into all.vcd all.vcd    with all other wires
   irig_mend --expression 4 track.vcd > repair.ed      read it, change it
   (cat repair.ed; echo write) | irig_ed --expression 4 --out new.vcd track.vcd
-""", (*EDITOR, PAGE, STEADY, MOVE, EXPLAIN, OUT), """\
+""", (*EDITOR, TIMESCALE, DUMP, PAGE, STEADY, MOVE, EXPLAIN, OUT, APPLY, SAVE, INTO, JSON), """\
 The editor is the program that IRIG_ED names, or irig_ed on the path.
 The status is 0 if there is nothing to repair, 1 if there is something, 2 if the
-track was not read, and 70 if memory ran out or the tool has a defect.
+track was not read, and 70 if memory ran out or the tool has a defect. With
+--apply it is 0 if no damage is left, and 1 if some is.
 """)
 
 
 def work(given: Given) -> int:
-    name, path = given.names[0], given.text(PAGE)
-    check_apart(name, [(option.name, given.text(option)) for option in (PAGE, OUT)])
-    with kept(name) as track:
-        editor, progress = Editor([*given.of_editor(), track]), progress_to(sys.stderr)
+    name = given.names[0]
+    check(given)
+    progress = progress_to(sys.stderr)
+    with kept(name) as path, opened(path, name, given, wire_of(given)) as track:
+        say(track, COMMAND.name)
+        editor = Editor(track.words)
         if given.has(EXPLAIN):
             return explain(editor, given)
         script = propose(editor, progress, given.has(STEADY), given.has(MOVE))
-        if path is not None:
-            after = editor.ask([repair.lines() for repair in script])
-            seen = look(editor, progress, given.has(STEADY))
-            write(path, page(sheet_of(os.path.basename(name), seen, script, after)))
-    with output(given.text(OUT)) as out:
-        out.write(text(script).encode("utf-8"))
+        draw(given, editor, script, progress)
+        if given.has(APPLY):
+            done = apply(given, track, script, progress)
+    if given.has(OUT) or not given.has(APPLY):
+        with output(given.text(OUT)) as out:
+            out.write((repairs(script, track.offset) if given.has(JSON) else text(script)).encode("utf-8"))
+    if given.has(APPLY):
+        report(given, script, done)
+        return SOUND if done.is_whole else FOUND
     return FOUND if script else SOUND
 
 
@@ -64,6 +84,65 @@ def explain(editor: Editor, given: Given) -> int:
     with output(given.text(OUT)) as out:
         out.write("".join(line + "\n" for line in explained(listing, findings)).encode("utf-8"))
     return FOUND if called_for(findings) else SOUND
+
+
+def check(given: Given) -> None:
+    """Refuses options that exclude each other, and outputs that are an input."""
+    for option in (SAVE, INTO):
+        if given.has(option) and not given.has(APPLY):
+            raise Usage("%s is only for --apply" % option.name)
+    if given.has(SAVE) and given.has(INTO):
+        raise Usage("--save and --into exclude each other: the steps are those of a track alone")
+    if given.text(APPLY) == "-" and given.text(OUT) == "-":
+        raise Usage("--apply and --out cannot both be standard output")
+    if given.text(INTO) == "-":
+        raise Usage("--into needs a file, and not standard input")
+    outputs = [(option.name, given.text(option)) for option in (PAGE, OUT, APPLY)]
+    for source in filter(None, (given.names[0], given.text(INTO))):
+        check_apart(source, outputs)
+
+
+def wire_of(given: Given) -> Optional[str]:
+    """The wire of the track; with --into another file has several, and the track can be of one."""
+    into = given.text(INTO)
+    alone = into is not None and given.names[0] != "-" and is_of_one_wire(given.names[0])
+    return None if alone else given.text(WIRE)
+
+
+def draw(given: Given, editor: Editor, script: List[Repair], progress: Progress) -> None:
+    """Writes the page, if it is asked for."""
+    path = given.text(PAGE)
+    if path is not None:
+        after = editor.ask([repair.lines() for repair in script])
+        seen = look(editor, progress, given.has(STEADY))
+        write(path, page(sheet_of(os.path.basename(given.names[0]), seen, script, after)))
+
+
+def apply(given: Given, track: Opened, script: List[Repair], progress: Progress) -> Summary:
+    """Runs the script, writes what it gives, and counts what it did."""
+    target = Target(given.text(APPLY) or "", given.text(INTO), given.text(WIRE) or track.wire, given.text(TIMESCALE),
+                    given.number(DUMP))
+    with temporary() as folder:
+        repaired, end = os.path.join(folder, "repaired.vcd"), "save" if given.has(SAVE) else "write"
+        refused = run_script(track, [line for repair in script for line in repair.lines()], end, repaired)
+        before = look(Editor(track.words), progress, given.has(STEADY))
+        after = look(Editor([*track.code, repaired]), progress, given.has(STEADY))
+        frames = sound_frames(track.options, track.path), sound_frames(track.code, repaired)
+        for note in target.write(repaired, track):
+            complain(note, COMMAND.name)
+    return summary(before.damages, after.damages, script, frames, refused)
+
+
+def report(given: Given, script: List[Repair], done: Summary) -> None:
+    """Prints what became of the recording, and what nothing decides."""
+    stream = sys.stderr if given.text(APPLY) == "-" else sys.stdout
+    if given.has(JSON):
+        stream.write(lines([as_object(done)]))
+        return
+    stream.write("%s: %s\n" % (given.names[0], done.text()))
+    for repair in script:
+        if is_undecided(repair):
+            stream.write("".join("# %s\n" % comment for comment in repair.comments))
 
 
 def main() -> int:

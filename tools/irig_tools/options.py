@@ -51,10 +51,14 @@ def a_file(word: str) -> str:
 HELP = Option("--help", about="prints this text")
 VERSION = Option("--version", about="prints the version")
 WIRE = Option("--wire", "NAME", "the wire of the dump, as irig_ed has it")
-FORMAT = Option("--format", "A|B|E|G", "the format; B if it is not given", choices=("A", "B", "E", "G"))
-EXPRESSION = Option("--expression", "0..7", "the coded expression; 2 if it is not given", choices=tuple("01234567"))
+FORMAT = Option("--format", "A|B|E|G", "the format; B if only the expression is given; if neither is, both are found",
+                choices=("A", "B", "E", "G"))
+EXPRESSION = Option("--expression", "0..7", "the coded expression; 2 if only the format is given",
+                    choices=tuple("01234567"))
 EDITOR = (WIRE, FORMAT, EXPRESSION)  # those of irig_ed
 TIMESCALE = Option("--timescale", "UNIT", "the unit of time, as 1ns, instead of the one in the dump")
+JSON = Option("--json", about="prints an object in JSON for each, one a line")
+QUIET = Option("--quiet", about="prints nothing; the status says it")
 DUMP = Option("--dump", "N", "of several dumps in the file, the one with this number", whole(1))
 
 

@@ -5,7 +5,7 @@ import subprocess
 import tempfile
 from contextlib import contextmanager
 from dataclasses import dataclass, field
-from typing import IO, Iterator, List, Optional, Sequence, Set
+from typing import IO, Dict, Iterator, List, Optional, Sequence, Set
 
 from .editor import Problem, find_editor, info_of
 
@@ -44,6 +44,11 @@ class Reading:
     def text(self) -> str:
         told = "expression %d: %d of %d frames fine" % (self.expression, self.fine, self.frames)
         return told + (", %s to %s" % (self.first, self.last) if self.fine else "")
+
+    def as_object(self) -> Dict[str, object]:
+        """The same for a program."""
+        return {"expression": self.expression, "frames": self.frames, "fine": self.fine, "first": self.first or None,
+                "last": self.last or None}
 
 
 @dataclass
@@ -88,14 +93,23 @@ def given(script: str) -> Iterator[IO[bytes]]:
 
 def is_read(track: str, wire: Optional[str], pulses: int) -> bool:
     """Whether the editor reads the wire of this dump as it is."""
-    options = [] if wire is None else ["--wire=" + wire]
+    said = _info(track, [] if wire is None else ["--wire=" + wire])
+    return said is not None and info_of(said.split()).pulses == pulses
+
+
+def is_opened(track: str, options: Sequence[str]) -> bool:
+    """Whether the editor opens the track."""
+    return _info(track, options) is not None
+
+
+def _info(track: str, options: Sequence[str]) -> Optional[bytes]:
     command = [find_editor(), *options, "--out", "/dev/null", track]
     try:
         with given("info\n") as lines:
             run = subprocess.run(command, stdin=lines, capture_output=True, check=False)
     except OSError as error:
         raise Problem("irig_ed cannot be run: %s" % error.strerror) from error
-    return run.returncode == 0 and info_of(run.stdout.split()).pulses == pulses
+    return None if run.returncode else run.stdout
 
 
 def best(rows: Sequence[Reading]) -> Reading:

@@ -3,12 +3,13 @@ from __future__ import annotations
 
 import tempfile
 from dataclasses import dataclass, field
-from typing import List, Optional
+from typing import Dict, List, Optional
 
-from .dump_choice import Signal, choose, singles
-from .dump_header import Header, shown
-from .editor import Editor, Problem
+from .dump_choice import Signal
+from .dump_header import shown
+from .editor import Editor
 from .mend import propose
+from .opening import needed_name, wire_name
 from .proposal import Proposal, no_option
 from .readings import Reading, Readings, best, is_read, read
 from .script import Repair
@@ -50,6 +51,17 @@ class Carrier:
             seconds = self.readings.length / 1000000
             lines.append("  %d pulses in %.6f seconds" % (self.readings.pulses, seconds))
         return lines + ["  " + text for text in self._rows() + self.doubtful]
+
+    def as_object(self) -> Dict[str, object]:
+        """The same for a program."""
+        return {
+            "wire": self.signal.path, "code": shown(self.signal.code), "inverted": self.inverted, "format": self.kind,
+            "pulses": self.readings.pulses, "length": self.readings.length, "expression": self.expression,
+            "frames": self.best.frames if self.best else 0, "fine": self.fine,
+            "readings": [row.as_object() for row in self.readings.rows],
+            "repairs": sum(1 for repair in self.script if repair.edits),
+            "remarks": sum(1 for repair in self.script if not repair.edits),
+            "refused": self.readings.refused or None, "notes": self.doubtful}
 
     def _rows(self) -> List[str]:
         """The expressions under which a frame is fine, the best first, and the others in one line."""
@@ -131,24 +143,10 @@ class What:
         return words + ([] if name is None else [name])
 
     def _wire_option(self) -> Optional[str]:
-        header, signal = self.found.header, self.carriers[0].signal
-        alone = singles(header)
-        return None if len(alone) == 1 and alone[0] == signal else wire_name(header, signal)
+        return needed_name(self.found.header, self.carriers[0].signal)
 
 
 def _script(track: str, kind: str, expression: int) -> List[Repair]:
     """What irig_mend proposes for a track of one wire."""
     options = ["--format", kind, "--expression", str(expression), track]
     return propose(Editor(options), lambda text: None)
-
-
-def wire_name(header: Header, signal: Signal) -> str:
-    """The shortest name that means just this signal."""
-    for name in (signal.name, signal.path, shown(signal.code)):
-        try:
-            chosen = choose(header, name)
-        except Problem:
-            continue
-        if (chosen.code, chosen.place) == (signal.code, signal.place):
-            return name
-    raise Problem("no name means the wire %s alone" % signal.text())

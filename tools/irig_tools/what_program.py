@@ -5,7 +5,8 @@ import sys
 
 from .command import kept, run
 from .ending import FOUND, SOUND
-from .options import DUMP, TIMESCALE, Command, Given
+from .facts import lines as objects
+from .options import DUMP, JSON, TIMESCALE, Command, Given
 from .output import check_apart
 from .what import What
 
@@ -15,7 +16,7 @@ upside down, in which format, and for each coded expression how many frames are
 fine, with the time of the first and of the last. The last line is the command to
 go on with: irig_mend for a damaged recording, else irig_ed. It writes over no
 file that is there. DUMP is any dump that irig_wire reads; - is standard input.
-""", (TIMESCALE, DUMP), """\
+""", (TIMESCALE, DUMP, JSON), """\
 The editor is the program that IRIG_ED names, or irig_ed on the path.
 The status is 0 if just one wire carries time code, 1 if none does or several,
 if no frame is fine, or if the file has several dumps, 2 if the dump was not
@@ -28,13 +29,25 @@ def work(given: Given) -> int:
     check_apart(name)
     with kept(name) as path:
         what = What(path, name, given.text(TIMESCALE) or "", given.number(DUMP) or 1)
-        lines = what.lines()
-        if what.carriers:
-            lines += what.proposal().lines()
-        else:
-            lines.append("no wire of %d carries time code of format A, B, E or G" % what.found.looked_at)
-        sys.stdout.write("".join(line + "\n" for line in lines))
+        sys.stdout.write(as_json(what) if given.has(JSON) else as_text(what))
     return SOUND if what.carriers and what.sure() else FOUND
+
+
+def as_text(what: What) -> str:
+    lines = what.lines()
+    if what.carriers:
+        lines += what.proposal().lines()
+    else:
+        lines.append("no wire of %d carries time code of format A, B, E or G" % what.found.looked_at)
+    return "".join(line + "\n" for line in lines)
+
+
+def as_json(what: What) -> str:
+    """An object for each wire; that of the first also has the command to continue with."""
+    found = [carrier.as_object() for carrier in what.carriers]
+    for first in found[:1]:
+        first["command"] = what.proposal().lines()[-1]
+    return objects(found)
 
 
 def main() -> int:

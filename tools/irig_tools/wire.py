@@ -8,6 +8,7 @@ from .dump_body import Body, Change, Wanted
 from .dump_choice import Signal, choose
 from .dump_header import Header
 from .dump_parts import each_dump
+from .dump_offset import Offset, offset_of
 from .dump_source import Source
 from .dump_units import MICROSECOND, Unit, unit_of
 from .editor import Problem
@@ -42,18 +43,31 @@ class Report:
     size: int = 0
 
 
+def first_of(body: Body, unit: Unit) -> int:
+    """What is subtracted from all times if nobody says it: the first time, if it is too late for the editor."""
+    limit = LONGEST * MICROSECOND // (unit.femtoseconds * unit.factor)
+    return body.begun if body.begun > limit else 0
+
+
+def unit_in(header: Header, named: Optional[str], path: str) -> Unit:
+    """The unit that is named, or else the one of the dump."""
+    named = named or header.unit
+    if not named:
+        raise Problem("%s: names no unit of time; give one, as --timescale 1ns" % path)
+    return unit_of(named)
+
+
 class Writer:
     """Writes the changes of one wire; what comes before the start is one level at 0."""
 
-    def __init__(self, out: IO[bytes], signal: Signal, unit: Unit, wish: Wish) -> None:
-        self.out, self.unit, self.wish = out, unit, wish
+    def __init__(self, out: IO[bytes], signal: Signal, unit: Unit, wish: Wish, before: Optional[Offset] = None) -> None:
+        """`before` is what was subtracted from the times of the dump that is read."""
+        self.out, self.unit, self.wish, self.before = out, unit, wish, before
+        self.name = signal.name
         self.offset: Optional[int] = wish.start
         self.letter, self.at = "", 0
         self.size = self.edges = 0
         self.lines: List[str] = []
-        declared = "$var wire 1 ! %s $end" % signal.name
-        self._lines("$timescale %s $end" % unit.text, "$scope module irig $end", declared, "$upscope $end",
-                    "$enddefinitions $end", "#0", "$dumpvars")
         self.begun = False
 
     def _lines(self, *lines: str) -> None:
@@ -72,8 +86,7 @@ class Writer:
         if self.offset is None:
             if not time:
                 return 0
-            limit = LONGEST * MICROSECOND // (self.unit.femtoseconds * self.unit.factor)
-            self.offset = body.begun if body.begun > limit else 0
+            self.offset = first_of(body, self.unit)
         return max(0, time - self.offset) * self.unit.factor
 
     def all(self, changes: Iterator[Change], body: Body) -> None:
@@ -91,7 +104,15 @@ class Writer:
     def _begin(self) -> None:
         if not self.begun:
             self.begun = True
-            self._lines(self._shown(), "$end")
+            self._lines("$timescale %s $end" % self.unit.text, *self._comments(), "$scope module irig $end",
+                        "$var wire 1 ! %s $end" % self.name, "$upscope $end", "$enddefinitions $end", "#0",
+                        "$dumpvars", self._shown(), "$end")
+
+    def _comments(self) -> List[str]:
+        """What was subtracted, if it is a part of a dump or if the times begin late."""
+        if not self.offset and self.before is None and self.wish.end is None:
+            return []
+        return [offset_of(self.offset or 0, self.unit).after(self.before).comment()]
 
     def _change(self, at: int, letter: str) -> None:
         if at:
@@ -128,21 +149,18 @@ class Extract:
         return self.report
 
     def _write(self, header: Header) -> Body:
-        named = self.wish.unit or header.unit
-        if not named:
-            raise Problem("%s: names no unit of time; give one, as --timescale 1ns" % self.source.path)
-        unit, signal = unit_of(named), choose(header, self.wish.name)
+        unit, signal = unit_in(header, self.wish.unit, self.source.path), choose(header, self.wish.name)
         wanted = Wanted()
         wanted.add(0, signal.code, signal.place)
-        body, writer = Body(self.source, wanted), Writer(self.out, signal, unit, self.wish)
+        body, writer = Body(self.source, wanted), Writer(self.out, signal, unit, self.wish, header.offset)
         writer.all(body.changes(), body)
-        self._say_header(header, signal, unit, named)
+        self._say_header(header, signal, unit)
         self._say_body(body, writer)
         self._say_limits(writer)
         return body
 
-    def _say_header(self, header: Header, signal: Signal, unit: Unit, named: str) -> None:
-        say = self.report.done.append
+    def _say_header(self, header: Header, signal: Signal, unit: Unit) -> None:
+        say, named = self.report.done.append, self.wish.unit or header.unit or ""
         self.report.done += self.source.notes + header.notes
         say("the wire is %s" % signal.text())
         others = len({wire.code for wire in header.wires} - {signal.code})

@@ -5,19 +5,25 @@ from .command import run
 from .ending import FOUND, SOUND, Usage, complain
 from .options import DUMP, TIMESCALE, Command, Given, Option, a_file, whole
 from .output import check_apart, output
+from .put_back import PutBack, Track
 from .wire import Extract, Wish
 
 FROM = Option("--from", "TIME", "this time, in the dump's unit, is the new 0", whole(0))
 TO = Option("--to", "TIME", "the end, in the dump's unit", whole(0))
 INVERT = Option("--invert", about="high and low are swapped")
+INTO = Option("--into", "ORIGINAL", "DUMP is a track that was made of this file and repaired: writes this file with the "
+              "track instead of the wire, all else byte for byte", a_file)
+WIRE = Option("--wire", "NAME", "with --into: the wire of ORIGINAL, named as WIRE is")
 OUT = Option("--out", "FILE", "the file to write, whole or not at all, instead of standard output", a_file)
 COMMAND = Command("irig_wire", ("DUMP", "[WIRE]"), """\
 Makes of any value change dump the dump of one wire, which irig_ed reads. It says
 on standard error what it changed. DUMP is a file of any size, plain or packed by
 gzip, bzip2 or xz; - is standard input. WIRE is a name, a path of scopes
 (tb.g.irig), a code, or a bit of a vector (bus[3]); it can be left out if there is
-only one wire of one bit.
-""", (TIMESCALE, DUMP, FROM, TO, INVERT, OUT), """\
+only one wire of one bit. A repaired track is put back by --into:
+
+  irig_wire --into recording.vcd --wire tb.g.irig mended.vcd > merged.vcd
+""", (TIMESCALE, DUMP, FROM, TO, INVERT, INTO, WIRE, OUT), """\
 The status is 0 if all is right, 1 if there is something to look at (several
 dumps and no --dump, words that mean nothing, more than irig_ed reads), 2 if the
 dump was not read, and 70 if memory ran out or the tool has a defect.
@@ -25,14 +31,21 @@ dump was not read, and 70 if memory ran out or the tool has a defect.
 
 
 def work(given: Given) -> int:
-    name = given.names[1] if len(given.names) > 1 else None
+    name, into = given.names[1] if len(given.names) > 1 else None, given.text(INTO)
     start, end = given.number(FROM), given.number(TO)
     if start is not None and end is not None and end < start:
         raise Usage("--to %d is before --from %d" % (end, start))
-    check_apart(given.names[0], [(OUT.name, given.text(OUT))])
-    wish = Wish(name, given.text(TIMESCALE), given.number(DUMP), start, end, given.has(INVERT))
+    if into is None and given.has(WIRE):
+        raise Usage("--wire is only for --into; the wire of %s comes after it" % given.names[0])
+    if into == given.names[0] == "-":
+        raise Usage("both files are standard input")
+    for source in filter(None, (given.names[0], into)):
+        check_apart(source, [(OUT.name, given.text(OUT))])
+    chosen = name if into is None else given.text(WIRE)
+    wish = Wish(chosen, given.text(TIMESCALE), given.number(DUMP), start, end, given.has(INVERT))
+    track = None if into is None else Track(given.names[0], name)
     with output(given.text(OUT)) as out:
-        report = Extract(given.names[0], wish, out).run()
+        report = PutBack(into, wish, track, out).run() if into and track else Extract(given.names[0], wish, out).run()
     for text in report.done + report.doubtful:
         complain(text, COMMAND.name)
     return FOUND if report.doubtful else SOUND

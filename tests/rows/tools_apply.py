@@ -1,0 +1,222 @@
+"""Rows for `irig_mend --apply`, for tracks that are found in any dump, and for what is printed for programs."""
+import json
+import os
+import tempfile
+
+from cases import case
+from irig_tools import damage_program, facts, mend_program
+from random_input import damages
+from rows import in_process, tools
+from rows.in_process import run
+
+in_process.MAINS.update(irig_damage=damage_program.main, irig_mend=mend_program.main)
+END = 8000000
+
+
+def glitch(pulses):
+    tools.glitch(pulses)
+
+
+def late(pulses):
+    tools.moved(pulses, 450, 3300)
+
+
+def both(pulses):
+    late(pulses)
+    glitch(pulses)
+
+
+def recorded(change=lambda pulses: None):
+    pulses = tools.recording()
+    change(pulses)
+    return pulses
+
+
+def nanoseconds(pulses, begin=0, two=False):
+    """A dump of several wires at 1 ns: rises come 137 ns after their microsecond; if `two`, another wire has the code, too."""
+    lines = ["$timescale 1 ns $end $scope module top $end $scope module rx $end $var wire 1 ! irig $end $upscope $end",
+             '$var wire 1 " clk $end $var reg 8 # bus [7:0] $end $var wire 1 % irig $end $upscope $end $enddefinitions $end',
+             '#%d $dumpvars 0! 0" b0 # x%% $end' % begin]
+    for number, (rise, fall) in enumerate(pulses):
+        own = "1! 1%", "0! 0%"
+        lines.append("#%d %s" % (begin + 1000 * rise + 137, own[0] if two else "1!"))
+        lines.append('#%d %d" b%s #' % (begin + 1000 * rise + 900, number % 2, format(number % 256, "b")))
+        lines.append("#%d %s" % (begin + 1000 * fall, own[1] if two else "0!"))
+    return "\n".join([*lines, "#%d\n" % (begin + 1000 * END)])
+
+
+def others(text):
+    """The words of a dump without the changes of the wire `!`, and without times."""
+    return [word for word in text.split() if word not in ("0!", "1!", "x!") and word[0] != "#" or word == "#"]
+
+
+def in_folder(holds, **files):
+    """Whether something holds in a folder with these files."""
+    with tempfile.TemporaryDirectory() as folder:
+        for name, text in files.items():
+            with open(os.path.join(folder, name + ".vcd"), "w", encoding="ascii") as file:
+                file.write(text)
+        before = os.getcwd()
+        os.chdir(folder)
+        try:
+            return holds()
+        finally:
+            os.chdir(before)
+
+
+def text_of(name):
+    with open(name, encoding="ascii") as file:
+        return file.read()
+
+
+def same(name, got, wanted):
+    if got != wanted:
+        print("FAILED %s\n wanted %s\n got    %s" % (name, wanted, got))
+    return got == wanted
+
+
+# what is done to the recording, options, status, what became of it, and what is written
+APPLIED = (
+    ("nothing is damaged", lambda pulses: None, "", 0,
+     "0 places found, 0 repaired, 0 undecided, 0 left, 0 steps that stay; 7 frames sound before, 7 after", recorded),
+    ("a glitch", glitch, "", 0,
+     "1 place found, 1 repaired, 0 undecided, 0 left, 0 steps that stay; 6 frames sound before, 7 after", recorded),
+    ("a glitch, and a step that stays", both, "", 1,
+     "2 places found, 1 repaired, 0 undecided, 0 left, 1 step that stays; 5 frames sound before, 6 after", lambda: recorded(late)),
+    ("the same, with --move", both, "--move", 0,
+     "2 places found, 2 repaired, 0 undecided, 0 left, 0 steps that stay; 5 frames sound before, 7 after", recorded),
+)
+
+
+def applied(name, change, words, status, text, wanted):
+    """One command: what it prints, its status, and the recording that it writes."""
+    def holds():
+        got, printed, said = run("irig_mend", ["--expression=4", *words.split(), "--apply", "new.vcd", "rec.vcd"])
+        lines = printed.decode().splitlines()
+        found = text_of("new.vcd").partition("$dumpvars")[2]
+        edges = [int(word[1:]) for word in found.split() if word[0] == "#"]
+        pulses = [edge for pulse in wanted() for edge in pulse]
+        good = same(name, (got, lines[:1], said), (status, ["rec.vcd: " + text], ""))
+        return good and same(name + ", edges", [edge for edge in edges if edge < END], [e for e in pulses if 0 < e < END])
+
+    return in_folder(holds, rec=damages.dump(recorded(change), END + (3300 if "step" in name or "move" in name else 0)))
+
+
+def into():
+    """A recording of several wires: the wire is found, repaired and put back; all else is as it was."""
+    def holds():
+        text = text_of("rec.vcd")
+        status, printed, said = run("irig_mend", ["--apply", "new.vcd", "--into", "rec.vcd", "rec.vcd"])
+        new = text_of("new.vcd")
+        yield same("--into", (status, "1 place found, 1 repaired" in printed.decode()), (0, True))
+        yield same("what is said", "wire top.rx.irig (code !), format B, expression" in said, True)
+        yield same("the other wires", others(new), others(text))
+        yield same("the damage that is left", run("irig_damage", ["--expression=4", "--wire=rx.irig", "new.vcd"])[0], 0)
+        yield same("the wire", new.replace("\n", " ").count(" 1!"), 800)
+        yield same("the input", text_of("rec.vcd"), text)
+        run("irig_wire", ["rec.vcd", "rx.irig", "--out", "one.vcd"])
+        status = run("irig_mend", ["--apply", "two.vcd", "--into", "rec.vcd", "--wire=rx.irig", "--expression=4", "one.vcd"])[0]
+        yield same("a track of one wire", (status, text_of("two.vcd") == new), (0, True))
+
+    return in_folder(lambda: list(holds()), rec=nanoseconds(recorded(glitch)))
+
+
+def late_times():
+    """Times from 1970: what is subtracted stays in the file, and the track goes back to its place."""
+    def holds():
+        status, _, said = run("irig_mend", ["--apply", "new.vcd", "rec.vcd"])
+        comment = "$comment irig_wire: offset %d ns $end" % (begin + 137)
+        yield same("an offset", (status, text_of("new.vcd").splitlines()[1]), (0, comment))
+        yield same("what is said", "the times count from %d ns" % (begin + 137) in said, True)
+        yield same("put back", run("irig_wire", ["--into", "rec.vcd", "--wire=rx.irig", "new.vcd", "--out", "all.vcd"])[0], 0)
+        run("irig_mend", ["--apply", "more.vcd", "--into", "rec.vcd", "rec.vcd"])
+        yield same("the same at once", text_of("all.vcd") == text_of("more.vcd"), True)
+        found = run("irig_damage", ["--json", "rec.vcd"])[1].decode().splitlines()
+        each = json.loads(found[0])
+        yield same("the time in the file", (each["time"], each["original"]), (3010000, "1700000003010000.137"))
+
+    begin = 1700000000 * 10**9
+    pulses = recorded(glitch)
+    text = nanoseconds(pulses, begin).replace('#%d $dumpvars' % begin, '#0 $dumpvars', 1)
+    return in_folder(lambda: list(holds()), rec=text)
+
+
+def saved():
+    """With --save each step can be undone: the history is in the file."""
+    def holds():
+        status = run("irig_mend", ["--expression=4", "--apply", "new.vcd", "--save", "rec.vcd"])[0]
+        text = text_of("new.vcd")
+        return same("--save", (status, "irig-journal-1" in text, "past 1" in text), (0, True, True))
+
+    return in_folder(holds, rec=damages.dump(recorded(glitch), END))
+
+
+REFUSED = (
+    ("--apply rec.vcd rec.vcd", "--apply rec.vcd would write over the file that is read"),
+    ("--apply two.vcd --into two.vcd rec.vcd", "--apply two.vcd would write over the file that is read"),
+    ("--save rec.vcd", "--save is only for --apply"),
+    ("--into two.vcd rec.vcd", "--into is only for --apply"),
+    ("--apply new.vcd --save --into two.vcd rec.vcd", "--save and --into exclude each other"),
+    ("--apply - --out - rec.vcd", "cannot both be standard output"),
+    ("--apply new.vcd --into - rec.vcd", "--into needs a file"),
+    ("--apply none/new.vcd rec.vcd", "No such file or directory"),
+    ("--apply new.vcd --into two.vcd rec.vcd", "several wires are named 'irig'"),
+    ("--apply new.vcd two.vcd", "several wires carry time code, and --wire names one: top.rx.irig (code !), top.irig (code %)"),
+    ("--apply new.vcd junk.vcd", "no frame can be read in any format and expression; 'irig_what junk.vcd' says more"),
+    ("--apply new.vcd --wire top.clk two.vcd", "no frame can be read"),
+    ("--apply new.vcd --into short.vcd --wire irig rec.vcd", "8000000 microseconds long, and the dump is shorter"),
+)
+
+
+def refused():
+    """Nothing is written, and one line says why."""
+    def holds():
+        before = sorted(os.listdir("."))
+        for words, text in REFUSED:
+            status, printed, said = run("irig_mend", words.split())
+            yield same("irig_mend " + words, (status, printed, text in said, sorted(os.listdir("."))), (2, b"", True, before))
+
+    named = damages.dump(recorded(), END).replace(" code ", " irig ")
+    short = "$timescale 1 us $end $var wire 1 ! irig $end $enddefinitions $end #0 0! #9"
+    return in_folder(lambda: list(holds()), rec=named, two=nanoseconds(recorded(), two=True), short=short,
+                     junk=damages.dump([[5 * place, 5 * place + 2] for place in range(400)], 2000))
+
+
+def objects():
+    """What is printed for programs has the members of the manual pages."""
+    def holds():
+        found = [json.loads(line) for line in run("irig_damage", ["--expression=4", "--json", "rec.vcd"])[1].splitlines()]
+        wanted = [("split", [302, 303], ["2024-061T12:00:03"] * 2, [1, 1], 3010000, None),
+                  ("step", None, ["2024-061T12:00:04"] * 2, [50, 50], 4503300, 3300)]
+        got = [tuple(each[name] for name in ("kind", "pulses", "frames", "elements", "time", "step")) for each in found]
+        yield same("irig_damage --json", got, wanted)
+        found = [json.loads(line) for line in run("irig_mend", ["--expression=4", "--json", "rec.vcd"])[1].splitlines()]
+        got = [tuple(each[name] for name in ("kind", "repair", "undecided", "step")) for each in found]
+        yield same("irig_mend --json", got, [("step", False, True, 3300), ("split", True, False, None)])
+        lines = run("irig_mend", ["--expression=4", "rec.vcd"])[1].decode().splitlines()
+        yield same("its script", found[1]["script"], [line for line in lines if line[0] != "#"])
+        done = json.loads(run("irig_mend", ["--expression=4", "--json", "--apply", "new.vcd", "rec.vcd"])[1])
+        yield same("the summary", done["summary"], {
+            "found": 2, "repaired": 1, "undecided": 0, "left": 0, "steps": 1, "guessed": 0, "refused": 0, "sound_before": 5,
+            "sound_after": 6})
+        each = json.loads(run("irig_what", ["--json", "rec.vcd"])[1])
+        got = each["wire"], each["format"], each["fine"], each["inverted"], each["pulses"], each["command"].split()[0]
+        yield same("irig_what --json", got, ("code", "B", 5, False, 801, "irig_mend"))
+        yield same("--count", run("irig_damage", ["--expression=4", "--count", "rec.vcd"]), (1, b"2\n", ""))
+        yield same("--quiet", run("irig_damage", ["--quiet", "rec.vcd"]), (1, b"", ""))
+
+    return in_folder(lambda: list(holds()), rec=damages.dump(recorded(both), END + 3300))
+
+
+def kinds():
+    """Each text of a worked row of damage has a kind."""
+    for _, change, length, wanted in tools.ROWS:
+        for line in wanted:
+            kind = facts.kind_of(line.partition(": ")[2] or line.partition(" ")[2])
+            yield same("the kind of " + line, kind != "other", True)
+
+
+def cases(top):
+    """Each part by its name."""
+    return [*(case("apply: " + row[0], applied, *row) for row in APPLIED),
+            *(case("apply: " + part.__name__, part) for part in (into, late_times, saved, refused, objects, kinds))]

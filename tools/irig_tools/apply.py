@@ -1,0 +1,136 @@
+"""Runs a proposed script and writes the repaired recording, as a track or put back into its file."""
+from __future__ import annotations
+
+import os
+import shutil
+import subprocess
+import tempfile
+from dataclasses import dataclass
+from typing import Dict, List, Optional, Sequence
+
+from .damage import Damage
+from .dump_header import Reader
+from .dump_choice import choose, singles
+from .dump_source import Source
+from .editor import Problem, find_editor
+from .facts import STEPS, is_undecided, kind_of
+from .opening import Opened
+from .output import output
+from .put_back import PutBack, Track
+from .readings import given
+from .script import Repair
+from .wire import Wish
+
+HEAD = b"$timescale 1 us $end\n"  # how a dump of the editor begins
+
+
+@dataclass(frozen=True)
+class Summary:
+    """What became of the places of damage, and how many frames are sound."""
+
+    found: int
+    repaired: int
+    undecided: int
+    left: int
+    steps: int  # of the recorder's clock; they stay
+    guessed: int  # of those that are repaired
+    refused: int  # lines that were refused
+    sound_before: int
+    sound_after: int
+
+    def text(self) -> str:
+        guessed = " (%d by a guess)" % self.guessed if self.guessed else ""
+        refused = ", %d line%s refused" % (self.refused, "s" * (self.refused > 1)) if self.refused else ""
+        return "%d place%s found, %d repaired%s, %d undecided, %d left, %d step%s that stay%s%s; %d frame%s sound before, %d after" % (
+            self.found, "s" * (self.found != 1), self.repaired, guessed, self.undecided, self.left, self.steps,
+            "s" * (self.steps != 1), "s" * (self.steps == 1), refused, self.sound_before, "s" * (self.sound_before != 1),
+            self.sound_after)
+
+    @property
+    def is_whole(self) -> bool:
+        return not (self.undecided or self.left or self.steps or self.refused)
+
+
+def summary(before: Sequence[Damage], after: Sequence[Damage], script: Sequence[Repair], frames: Sequence[int],
+            refused: int) -> Summary:
+    """Counts; `before` and `after` are what irig_damage finds, and `frames` how many are sound."""
+    found, there = (sum(not each.is_remark for each in seen) for seen in (before, after))
+    doubts = [each for each in script if is_undecided(each)]
+    steps = sum(kind_of(each.seen) in STEPS for each in after)
+    undecided = sum(not each.edits and kind_of(each.comments[0]) not in STEPS for each in doubts)
+    undecided = min(undecided, there - steps)
+    return Summary(found, max(0, found - there), undecided, there - steps - undecided, steps,
+                   sum(bool(each.edits) for each in doubts), refused, frames[0], frames[1])
+
+
+def run_script(track: Opened, lines: Sequence[str], end: str, out: str) -> int:
+    """Runs a script on the track and writes a file by its last word, `write` or `save`; how many lines were refused.
+    Which program runs it is decided here alone."""
+    command = [find_editor(), *track.options, "--out", out, track.path]
+    try:
+        with given("".join(line + "\n" for line in [*lines, end])) as script:
+            done = subprocess.run(command, stdin=script, capture_output=True, check=False)
+    except OSError as error:
+        raise Problem("%s cannot be run: %s" % (command[0], error.strerror)) from error
+    said = done.stderr.decode(errors="replace").strip()
+    if done.returncode > 1 or not os.path.exists(out):
+        raise Problem(said or "%s ended with status %d" % (command[0], done.returncode))
+    return sum(line.startswith(b"? ") for line in done.stdout.splitlines())
+
+
+def sound_frames(options: Sequence[str], path: str) -> int:
+    """How many frames of a track are fine."""
+    with given("frames\n") as script:
+        done = subprocess.run([find_editor(), *options, path], stdin=script, stdout=subprocess.PIPE,
+                              stderr=subprocess.DEVNULL, check=False)
+    return sum(line.endswith(b" fine") for line in done.stdout.splitlines())
+
+
+@dataclass
+class Target:
+    """Where the repaired recording goes."""
+
+    out: str
+    into: Optional[str] = None  # the file whose wire is replaced
+    wire: Optional[str] = None  # its name there
+    unit: Optional[str] = None
+    dump: Optional[int] = None
+
+    def write(self, repaired: str, track: Opened) -> List[str]:
+        """Writes the repaired track, whole or not at all; what is said of it."""
+        with output(self.out) as out:
+            if self.into is None:
+                with open(repaired, "rb") as source:
+                    out.write(_with_offset(source.read(len(HEAD)), track))
+                    shutil.copyfileobj(source, out)
+                return []
+            level = Track(repaired, None)
+            level.offset = track.offset
+            wish = Wish(self._wire(track), self.unit, self.dump)
+            report = PutBack(self.into, wish, level, out).run()
+        return report.done + report.doubtful
+
+    def _wire(self, track: Opened) -> Optional[str]:
+        """The wire of the file: the one that is named, or the only one, or the one with the name of the track's."""
+        assert self.into is not None
+        header = Reader(Source(self.into)).read()
+        if self.wire is not None or len(singles(header)) == 1:
+            return self.wire
+        own = Reader(Source(track.path)).read()
+        return choose(own, track.wire).name
+
+
+def _with_offset(head: bytes, track: Opened) -> bytes:
+    """The beginning of the repaired track, with what was subtracted from its times."""
+    if track.offset is None or head != HEAD:
+        return head
+    return head + track.offset.comment().encode("ascii") + b"\n"
+
+
+def temporary() -> "tempfile.TemporaryDirectory[str]":
+    """A folder for the repaired track until it is written."""
+    return tempfile.TemporaryDirectory(prefix="irig_mend")
+
+
+def as_object(found: Summary) -> Dict[str, object]:
+    return {"summary": dict(vars(found))}

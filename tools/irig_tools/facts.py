@@ -1,0 +1,108 @@
+"""What is found and proposed, for programs: an object for each place, as JSON."""
+from __future__ import annotations
+
+import json
+import re
+from typing import Dict, List, Optional, Sequence, Tuple
+
+from .damage import Damage
+from .dump_offset import Offset
+from .script import Repair
+
+Object = Dict[str, object]
+# what is seen, and what kind of damage it is
+KINDS: Tuple[Tuple[str, str], ...] = (
+    ("pulses where one has to be", "split"),
+    ("pulses have run together", "joined"),
+    ("on all comes [0-9]+ (late|early)", "step"),
+    ("and the rest follows at once", "cut"),
+    ("are there twice", "twice"),
+    ("from this frame on the times are", "times"),
+    ("^no pulse (before|from there)", "silence"),
+    ("^no pulse|elements without a pulse", "missing"),
+    ("damaged elements|elements .* are lost or damaged|pulses are missing", "stretch"),
+    ("wide, which is no class", "width"),
+    ("wide, an? .*, and [0-9]+ (late|early)", "late"),
+    ("wide, an? ", "class"),
+    ("upside down", "inverted"),
+    ("every pulse is|pulses that are (longer|shorter)", "threshold"),
+    ("the clock is", "clock"),
+    ("rises tremble", "jitter"),
+    ("control functions that no other", "control"),
+    ("belong to no frame", "outside"),
+    ("is it another", "format"),
+)
+STEPS = frozenset(("step", "cut", "twice", "times"))  # of the recorder's clock
+FRAME = re.compile(r"frame ([0-9:T-]+), element ([0-9]+)(?: to (?:frame ([0-9:T-]+), element )?([0-9]+))?")
+PULSES = re.compile(r"pulses? ([0-9]+)(?: to ([0-9]+))?")
+MOVED = re.compile(r"on all comes ([0-9]+) (late|early)")
+
+
+def kind_of(seen: str) -> str:
+    """The kind of damage that a text names."""
+    return next((kind for pattern, kind in KINDS if re.search(pattern, seen)), "other")
+
+
+def place_of(text: str) -> Object:
+    """The frames, elements and pulses that a text names."""
+    frame, pulses = FRAME.search(text), PULSES.search(text)
+    ends = [frame[1], frame[3] or frame[1]] if frame else None
+    elements = [int(frame[2]), int(frame[4] or frame[2])] if frame else None
+    numbers = [int(pulses[1]), int(pulses[2] or pulses[1])] if pulses else None
+    return {"frames": ends, "elements": elements, "pulses": numbers}
+
+
+def step_of(text: str) -> Optional[int]:
+    """By how many microseconds a rest comes late, negative if it comes early."""
+    found = MOVED.search(text)
+    return None if not found else int(found[1]) * (1 if found[2] == "late" else -1)
+
+
+def of_damage(damage: Damage, offset: Optional[Offset]) -> Object:
+    """A place of damage, or a remark."""
+    place = place_of(damage.name)
+    first, last = damage.pulses
+    if first <= last:
+        place["pulses"] = [first + 1, last + 1]
+    kind = kind_of(damage.seen)
+    return {"time": damage.at, "until": max(damage.at, damage.until), **_original(damage.at, offset), "kind": kind,
+            "damage": not damage.is_remark, **place, "seen": damage.seen, "step": step_of(damage.seen)}
+
+
+def of_repair(repair: Repair, offset: Optional[Offset]) -> Object:
+    """A repair that is proposed, or what is left to the user."""
+    why = repair.comments[0] if repair.comments else ""
+    return {"time": repair.at, "until": max(repair.at, repair.until), **_original(repair.at, offset),
+            "kind": kind_of(why), "repair": bool(repair.edits), "undecided": is_undecided(repair), **place_of(why),
+            "why": list(repair.comments), "script": list(repair.edits), "step": step_of(why)}
+
+
+def is_undecided(repair: Repair) -> bool:
+    return any("undecided" in comment for comment in repair.comments)
+
+
+def _original(at: int, offset: Optional[Offset]) -> Object:
+    """The time in what the track was cut out of, in microseconds, with all digits."""
+    if offset is None:
+        return {}
+    whole, rest = divmod(offset.femtoseconds, 10 ** 9)
+    digits = ("%09d" % rest).rstrip("0")
+    return {"original": "%d%s" % (at + whole, "." + digits if digits else "")}
+
+
+def lines(objects: Sequence[Object]) -> str:
+    """An object a line."""
+    return "".join(json.dumps(each, ensure_ascii=True) + "\n" for each in objects)
+
+
+def damages(found: Sequence[Damage], offset: Optional[Offset]) -> str:
+    return lines([of_damage(each, offset) for each in found])
+
+
+def repairs(script: Sequence[Repair], offset: Optional[Offset]) -> str:
+    return lines([of_repair(each, offset) for each in script])
+
+
+def steps(found: Sequence[Damage]) -> List[Damage]:
+    """The damage that is a step of the recorder's clock."""
+    return [each for each in found if kind_of(each.seen) in STEPS]

@@ -1,0 +1,175 @@
+"""The track that irig_damage and irig_mend look at: a wire of any dump, with its format and its expression."""
+from __future__ import annotations
+
+import tempfile
+from contextlib import contextmanager
+from dataclasses import dataclass, field
+from typing import Iterator, List, Optional
+
+from .dump_choice import Signal, choose, singles
+from .dump_header import Header, Reader, shown
+from .dump_offset import Offset
+from .dump_source import Source
+from .editor import Problem, find_editor
+from .options import DUMP, EXPRESSION, FORMAT, TIMESCALE, WIRE, Given
+from .readings import best, is_opened, is_read, read
+from .search import Found, Probe, search_any
+from .wire import Extract, Wish
+
+OFTEN = 8  # wires that are read
+
+
+@dataclass
+class Opened:
+    """What the editor is given, and what is said of it."""
+
+    path: str
+    code: List[str]  # the options of its format and expression
+    wire: Optional[str] = None  # its name in the file, if there are several
+    offset: Optional[Offset] = None  # what was subtracted from its times
+    notes: List[str] = field(default_factory=list)
+
+    is_as_it_is: bool = False  # the file of the user, and not a dump of its wire
+
+    @property
+    def options(self) -> List[str]:
+        """The options for the editor."""
+        return _wire(self.wire) + self.code if self.is_as_it_is else self.code
+
+    @property
+    def words(self) -> List[str]:
+        """The words for the editor."""
+        return [*self.options, self.path]
+
+
+@dataclass
+class Taken:
+    """A wire with time code, as it is read best."""
+
+    found: Found
+    probe: Probe
+    expression: int = 2
+    frames: int = 0
+    fine: int = 0
+    pulses: int = 0
+    refused: str = ""
+
+    @property
+    def wire(self) -> Optional[str]:
+        return needed_name(self.found.header, self.probe.signal)
+
+    @property
+    def code(self) -> List[str]:
+        return ["%s=%s" % (FORMAT.name, self.probe.kind[0]), "%s=%d" % (EXPRESSION.name, self.expression)]
+
+    def text(self) -> str:
+        return "wire %s, format %s, expression %d: %d of %d frames fine" % (
+            self.probe.signal.text(), self.probe.kind[0], self.expression, self.fine, self.frames)
+
+
+@contextmanager
+def opened(path: str, name: str, given: Given, wire: Optional[str]) -> Iterator[Opened]:
+    """The track, as it is or as a dump of its wire; `name` is what the user calls the file."""
+    find_editor()
+    named = given.has(FORMAT) or given.has(EXPRESSION)
+    as_is = not given.has(TIMESCALE) and not given.has(DUMP)
+    if named and as_is and is_opened(path, _wire(wire)):
+        yield Opened(path, _code(given), wire, _offset(path), [], True)
+        return
+    taken = None if named and (wire is not None or is_of_one_wire(path)) else _take(path, name, given, wire)
+    wire = taken.wire if taken and wire is None else wire
+    code = _code(given) if named or not taken else taken.code
+    notes = [taken.text()] if taken else []
+    if taken and as_is and not taken.probe.kind[1] and is_read(path, wire, taken.pulses):
+        yield Opened(path, code, wire, _offset(path), notes, True)
+        return
+    with tempfile.NamedTemporaryFile(suffix=".vcd") as track:
+        wish = Wish(wire, taken.found.unit if taken else given.text(TIMESCALE), given.number(DUMP))
+        notes += Extract(path, wish, track).run().doubtful
+        track.flush()
+        yield Opened(track.name, code, wire, _offset(track.name), notes)
+
+
+def _wire(name: Optional[str]) -> List[str]:
+    return [] if name is None else ["%s=%s" % (WIRE.name, name)]
+
+
+def _code(given: Given) -> List[str]:
+    return ["%s=%s" % (option.name, given.text(option)) for option in (FORMAT, EXPRESSION) if given.has(option)]
+
+
+def _header(path: str) -> Optional[Header]:
+    try:
+        return Reader(Source(path)).read()
+    except Problem:
+        return None
+
+
+def _offset(path: str) -> Optional[Offset]:
+    header = _header(path)
+    return header.offset if header else None
+
+
+def is_of_one_wire(path: str) -> bool:
+    """Whether a dump has just one wire of one bit."""
+    header = _header(path)
+    return header is not None and len(singles(header)) == 1
+
+
+def _take(path: str, name: str, given: Given, wire: Optional[str]) -> Taken:
+    """The one wire whose frames can be read; a problem if there is none, or several."""
+    unit, dump = given.text(TIMESCALE) or "", given.number(DUMP) or 1
+    found = search_any(path, unit, dump)
+    probes = found.probes
+    if wire is not None:
+        signal = choose(found.header, wire)
+        probes = [probe for probe in probes if (probe.signal.code, probe.signal.place) == (signal.code, signal.place)]
+    if given.has(FORMAT):
+        probes = [probe for probe in probes if probe.kind[0] == given.text(FORMAT)]
+    read_ones = [_read(path, found, probe, dump) for probe in probes[:OFTEN]]
+    fine = [taken for taken in read_ones if taken.fine]
+    if len(fine) == 1:
+        return fine[0]
+    raise _of_none([taken.refused for taken in read_ones if taken.refused], fine, name)
+
+
+def _of_none(refused: List[str], fine: List[Taken], name: str) -> Problem:
+    """Why no wire is taken."""
+    if refused and not fine:
+        return Problem(refused[0])
+    what = "no frame can be read in any format and expression"
+    if fine:
+        what = "several wires carry time code, and --wire names one: " + ", ".join(
+            taken.probe.signal.text() for taken in fine)
+    return Problem("%s: %s; 'irig_what %s' says more" % (name, what, name))
+
+
+def _read(path: str, found: Found, probe: Probe, dump: int) -> Taken:
+    kind, inverted = probe.kind
+    wish = Wish(wire_name(found.header, probe.signal), found.unit, dump, invert=inverted)
+    with tempfile.NamedTemporaryFile(suffix=".vcd") as track:
+        Extract(path, wish, track).run()
+        track.flush()
+        readings = read(track.name, kind)
+    if not readings.rows:
+        return Taken(found, probe, refused=readings.refused)
+    row = best(readings.rows)
+    return Taken(found, probe, row.expression, row.frames, row.fine, readings.pulses)
+
+
+def needed_name(header: Header, signal: Signal) -> Optional[str]:
+    """What names a signal, if it is not the only wire of one bit."""
+    alone = singles(header)
+    return None if len(alone) == 1 and alone[0] == signal else wire_name(header, signal)
+
+
+def wire_name(header: Header, signal: Signal) -> str:
+    """The shortest name that means just this signal."""
+    for name in (signal.name, signal.path, shown(signal.code)):
+        try:
+            chosen = choose(header, name)
+        except Problem:
+            continue
+        if (chosen.code, chosen.place) == (signal.code, signal.place):
+            return name
+    raise Problem("no name means the wire %s alone" % signal.text())

@@ -1,0 +1,144 @@
+"""A track is put back into the dump that it was made of, as a stream.
+
+The wire changes only in the stretches in which its level and that of the track differ, by the microsecond. There its
+own changes are taken out, and the edges of the track are written. All other words are copied, byte for byte.
+"""
+from __future__ import annotations
+
+from array import array
+from typing import IO, Iterator, List, Optional, Tuple
+
+from .dump_body import Body, Change, Wanted
+from .dump_choice import choose
+from .dump_copied import Copied
+from .dump_header import Header
+from .dump_offset import Offset
+from .dump_parts import each_dump
+from .dump_source import Source
+from .dump_units import MICROSECOND
+from .editor import Problem
+from .merger import UNLIKE, Level, Merger, Place
+from .wire import Report, Wish, first_of, unit_in
+from .wire_words import words_of
+
+
+class Track:
+    """One wire of a dump by the microsecond, as the editor reads it, and what was subtracted from its times."""
+
+    def __init__(self, path: str, name: Optional[str]) -> None:
+        self.level, self.offset = Level((), 0), None  # type: Level, Optional[Offset]
+        self.source, self.name = Source(path), name
+        each_dump(self.source, 1, self._read)
+
+    def _read(self, header: Header) -> Body:
+        unit, signal, wanted = unit_in(header, None, self.source.path), choose(header, self.name), Wanted()
+        wanted.add(0, signal.code, signal.place)
+        body, scale = Body(self.source, wanted), unit.femtoseconds * unit.factor
+        edges: "array[int]" = array("q")
+        for time, _, letter in body.changes():
+            if (letter == "1") != bool(len(edges) % 2):
+                at = time * scale // MICROSECOND
+                if edges and edges[-1] == at:
+                    edges.pop()
+                else:
+                    edges.append(at)
+        self.level, self.offset = Level(edges, body.now * scale // MICROSECOND), header.offset
+        return body
+
+
+class _Body(Body):
+    """The changes of the wire; the merger hears of each time before what follows it."""
+
+    def __init__(self, source: Copied, wanted: Wanted, put: PutBack) -> None:
+        super().__init__(source, wanted)
+        self.put = put
+        self.value = ""  # the word of a vector, if the change is one
+
+    def _time(self, word: bytes) -> None:
+        before = self.now
+        super()._time(word)
+        if self.now != before:
+            self.put.time(self)
+
+    def _vector(self, word: str, signals: List[Tuple[int, int]]) -> Iterator[Change]:
+        for change in super()._vector(word, signals):
+            self.value = word
+            yield change
+            self.value = ""
+
+    def _port(self, word: bytes) -> Iterator[Change]:
+        for _ in super()._port(word):
+            raise Problem("the wire is a port of an extended dump; no track can be put back into that")
+        yield from ()
+
+
+class PutBack:
+    """One wire of a file of dumps, as it is in a track."""
+
+    def __init__(self, path: str, wish: Wish, track: Track, out: IO[bytes]) -> None:
+        self.source, self.wish, self.track = Copied(path, out), wish, track
+        self.report = Report()
+
+    def run(self) -> Report:
+        """Reads the whole file, and writes it with the track."""
+        dumps = each_dump(self.source, self.wish.dump or 1, self._put)
+        self.source.copy(len(self.source.taken))
+        self.report.done += self.source.notes
+        if dumps > 1 and not self.wish.dump:
+            text = "the file has %d dumps, one after the other; the track was put back into number 1 (--dump N)"
+            self.report.doubtful.append(text % dumps)
+        return self.report
+
+    def _put(self, header: Header) -> Body:
+        self.header, self.unit = header, unit_in(header, self.wish.unit, self.source.path)
+        signal, wanted = choose(header, self.wish.name), Wanted()
+        wanted.add(0, signal.code, signal.place)
+        words = words_of(header, signal)
+        self.merger = Merger(self.source, words, self.track.level, self.unit, self.wish.invert)
+        start = self._start()
+        if start is not None:
+            self.merger.place = Place(start, True)
+        body = _Body(self.source, wanted, self)
+        self.source.copy(len(self.source.taken))
+        self.source.free = False
+        for time, _, letter in body.changes():
+            self.merger.change(2 if body.value else 1, time, letter, words.bits(body.value))
+        self.merger.flush(len(self.source.taken), True)
+        self.source.free = True
+        self._check_end(body)
+        self.report.done.append("the wire is %s" % signal.text())
+        self._say()
+        return body
+
+    def time(self, body: Body) -> None:
+        """A time was read; with the first that is not 0 it is known where the track begins."""
+        if self.merger.place is None:
+            self.merger.place = Place(first_of(body, self.unit), self.wish.end is not None)
+        self.merger.time(body.now)
+
+    def _start(self) -> Optional[int]:
+        """Where the track begins, in the dump's unit, if the track or an option says it."""
+        if self.track.offset is None:
+            return self.wish.start
+        before = self.header.offset.femtoseconds if self.header.offset else 0
+        start, rest = divmod(self.track.offset.femtoseconds - before, self.unit.femtoseconds * self.unit.factor)
+        if start < 0 or rest or self.wish.start not in (None, start):
+            raise Problem("the track was cut out at %s, and not of this dump or not at --from" % self.track.offset.text())
+        return start
+
+    def _check_end(self, body: Body) -> None:
+        """Whether the track is as long as the part that is named."""
+        start = self.merger.place.start if self.merger.place else 0
+        if self.wish.end is not None:
+            has = (min(self.wish.end, body.now) - start) * self.merger.scale // MICROSECOND
+            if has != self.track.level.length:
+                raise Problem(UNLIKE % (self.track.level.length, "%d in that part" % has))
+
+    def _say(self) -> None:
+        merger, length = self.merger, self.track.level.length
+        say = "the track differs in %d stretch%s, %d microseconds in all, and the wire has it there now"
+        self.report.done.append(say % (merger.stretches, "es" * (merger.stretches != 1), merger.differ))
+        if merger.place and merger.place.start:
+            self.report.done.append("the track begins at %d of the dump's unit" % merger.place.start)
+        if 2 * merger.differ > length:
+            self.report.doubtful.append("that is more than half of the track: is it a track of this wire?")
