@@ -69,14 +69,14 @@ def reader_of(given: Given) -> Union[Levels, Carrier]:
         raise Usage("--format is A, B or E; G is read as a level")
     known = given.has(SWAP) or given.has(NO_SWAP)
     hertz = given.number(CARRIER) or CARRIERS[name][0]
-    return Carrier(samples_of(given, False), hertz, given.has(SWAP) if known else None)
+    return Carrier(samples_of(given, False), hertz, name, given.has(SWAP) if known else None)
 
 
-def say_gaps(reader: Levels) -> None:
+def say_gaps(reader: Union[Levels, Carrier]) -> None:
     """Names the stretches without a signal."""
+    what, rate = "carrier" if isinstance(reader, Carrier) else "signal", reader.samples.rate
     for start, end in reader.gaps[:MOST_GAPS]:
-        rate = reader.samples.rate
-        say("no signal from %.3f to %.3f seconds: no pulse is there" % (start / rate, end / rate))
+        say("no %s from %.3f to %.3f seconds: no pulse is there" % (what, start / rate, end / rate))
     if len(reader.gaps) > MOST_GAPS:
         say("and %d such stretches more" % (len(reader.gaps) - MOST_GAPS))
 
@@ -97,7 +97,7 @@ def say_few(name: str, pulses: int, seconds: float) -> None:
     wanted = round(seconds * 1000000 / INTERVAL[name])
     if pulses < ENOUGH * wanted:
         text = "format %s has %d pulses in that time, so %d are missing: silence, noise, or a carrier that is off by more "
-        say((text + "than 0.05 %% (--carrier HERTZ sets another)") % (name, wanted, wanted - pulses))
+        say((text + "than 8 %% (--carrier HERTZ sets another)") % (name, wanted, wanted - pulses))
 
 
 def say(text: str) -> None:
@@ -122,8 +122,7 @@ def work(given: Given) -> int:
         pulses = write_dump(reader, out)
     if pulses:
         remark(reader)
-    if isinstance(reader, Levels):
-        say_gaps(reader)
+    say_gaps(reader)
     for note in reader.samples.notes:
         say(note)
     seconds = reader.length / reader.samples.rate
