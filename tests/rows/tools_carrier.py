@@ -488,6 +488,7 @@ def cases(_):
     """Each part by its name."""
     return [case("carrier: " + name, holds) for name, holds in (
         ("random signals", rates), ("plus and minus", polarity), ("thresholds", steps), ("the beginning", beginning),
-        ("ratios", ratios), ("silence of a carrier", no_carrier), ("shares", shares), ("a clock that is off", slope), ("few pulses", few), ("a level that dips", hysteresis),
+        ("ratios", ratios), ("silence of a carrier", no_carrier), ("shares", shares),
+        ("a clock that is off", slope), ("few pulses", few), ("a level that dips", hysteresis),
         ("forms of samples", forms), ("silence of a level", silences), ("stretches of a level", stretches),
         ("sound files", sound_files), ("no sound files", no_sound), ("what is refused", refused))]
