@@ -15,6 +15,7 @@ from typing import IO, Callable, Iterator, List, Tuple, cast
 
 from . import sigrok
 from .editor import Problem
+from .progress import counted
 
 BLOCK = 1 << 20  # bytes that are read at once
 ZIP = b"PK\x03\x04"  # how a file of sigrok begins
@@ -93,7 +94,8 @@ class Source:
 
     def _blocks(self) -> Iterator[bytes]:
         opened = cast(IO[bytes], sys.stdin.buffer) if self.path == "-" else open(self.path, "rb")
-        with opened as stream:
+        with opened as plain:
+            stream = counted(plain, self.path)
             head = stream.read(HEAD)
             joined = cast(IO[bytes], io.BufferedReader(_Joined(head, stream), BLOCK))
             for magic, what in OTHERS:
