@@ -17,7 +17,7 @@ from . import sigrok
 from .editor import Problem
 from .progress import counted
 
-BLOCK = 1 << 20  # bytes that are read at once
+BLOCK = 1 << 17  # bytes that are read at once
 ZIP = b"PK\x03\x04"  # how a file of sigrok begins
 LONGEST = 1 << 24  # bytes of a word
 HEAD = 9  # bytes that say what a file is
