@@ -56,12 +56,18 @@ def rises_of(dump):
     return found
 
 
-def fine(dump, kind):
-    """How many frames the editor reads as fine."""
+def fine_lines(dump, kind):
+    """The words of each frame that the editor reads as fine."""
     path = os.path.join("/proc/self/fd", str(memory(dump)))
     done = subprocess.run([os.environ["IRIG_ED"], "--format", kind, "--out", "/dev/null", path], input=b"frames\n",
                           stdout=subprocess.PIPE, check=False, close_fds=False)
-    return done.stdout.decode().count(" fine\n")
+    os.close(int(path.rpartition("/")[2]))
+    return [line.split() for line in done.stdout.decode().splitlines() if line.endswith(" fine")]
+
+
+def fine(dump, kind):
+    """How many frames the editor reads as fine."""
+    return len(fine_lines(dump, kind))
 
 
 def memory(data):
@@ -161,23 +167,31 @@ def cycles_of(heights, start=0):
 
 
 def steps():
-    """Where pulses begin and end by the heights of the cycles; low is 6,000, high 18,000, in twenty pulses."""
+    """Where pulses begin and end by the heights of the cycles; low is 6,000, high 18,000, in twenty pulses. The place of
+    most rises is where a pulse begins, and 2, 5 and 8 tenths of an element later it ends."""
     results = []
-    # name, the heights of a pulse, and its first cycle and its length in cycles
-    for name, pulse, first, length in (
-            ("more than 0.6 of the way up", [13400, 18000, 18000], 0, 3),
-            ("less than that", [13000, 18000, 18000], 1, 2),
-            ("not less than 0.4 of the way down", [18000, 18000, 11000], 0, 3),
-            ("less than that, down", [18000, 18000, 10500], 0, 2),
-            ("a dip in a pulse", [18000, 11000, 18000], 0, 3)):
-        heights = ([6000] * 5 + pulse + [6000] * 2) * 20
+    usual = [18000, 18000, 6000]
+    # name, the cycle before a pulse and the pulse, in each or in one of them; its first cycle and its length in cycles
+    for name, before, pulse, each, first, length in (
+            ("above the middle", 6000, [12600, 18000, 18000, 18000, 18000], True, 0, 5),
+            ("below the middle", 6000, [11400, 18000, 18000, 6000, 6000], True, 1, 2),
+            ("an end at its place, above the middle", 6000, [18000, 12600, 6000], True, 0, 2),
+            ("an end a cycle late, above five eighths", 6000, [18000, 18000, 13800], True, 0, 3),
+            ("an end a cycle late, below that", 6000, [18000, 18000, 13200], True, 0, 2),
+            ("a rise a cycle early, above three quarters", 15600, usual, False, -1, 3),
+            ("a rise a cycle early, below that", 14400, usual, False, 0, 2),
+            ("a rise a cycle late, below a quarter", 6000, [8400, 18000, 6000], False, 1, 1),
+            ("a rise a cycle late, above that", 6000, [9600, 18000, 6000], False, 0, 2),
+            ("a dip in a pulse", 6000, [18000, 11000, 18000, 18000, 18000], True, 0, 5)):
+        heights = []
+        for number in range(20):
+            here = (before, pulse) if each or number == 10 else (6000, usual)
+            heights += [6000] * 4 + [here[0], *here[1]] + [6000] * (5 - len(here[1]))
         status, dump, said = run("irig_demodulate", ["--no-swap", "-"], wav(cycles_of(heights), 8000))
-        wanted = [1000 * (5 + 10 * number + first) for number in range(20)]
+        begun, wide = 105000 + 1000 * first, 1000 * length
         found = edges_of(dump)
-        good = status == 0 and len(found) == 40 and all(
-            abs(found[2 * number][0] - at) < 60 and abs(found[2 * number + 1][0] - at - 1000 * length) < 60
-            for number, at in enumerate(wanted))
-        good or print("FAILED irig_demodulate, %s: %s, not %s: %s" % (name, found[:4], wanted[:2], said))
+        good = status == 0 and len(found) == 40 and abs(found[20][0] - begun) < 60 and abs(found[21][0] - begun - wide) < 60
+        good or print("FAILED irig_demodulate, %s: %s, not %s: %s" % (name, found[20:22], (begun, begun + wide), said))
         results.append(good)
     return results
 
@@ -217,7 +231,7 @@ def ratios():
 
 
 def shares():
-    """Three quarters of the steps have to be sharp, and there have to be 20; a stretch is 500 cycles."""
+    """Three quarters of the steps have to be sharp, and there have to be 20."""
     results = []
     for steps_seen, sharp, known in ((60, 45, True), (60, 44, False), (60, 36, False), (20, 15, True), (19, 19, False)):
         reader = carrier.Carrier(_Raw(8000), 1000)
@@ -226,9 +240,6 @@ def shares():
         list(reader._choose(0, 0))
         results.append(reader.chosen == known and reader.ways[0].swapped == known)
         results[-1] or print("FAILED irig_demodulate, %d of %d steps are sharp" % (sharp, steps_seen))
-    for rate, hertz, size in ((8000, 1000, 4000), (48000, 10000, 2400), (44100, 1000, 22050)):
-        results.append(carrier.Carrier(_Raw(rate), hertz).size == size)
-        results[-1] or print("FAILED irig_demodulate, stretches at %d samples" % rate)
     return results
 
 
@@ -250,11 +261,34 @@ def slope():
     return good
 
 
+def no_carrier():
+    """Noise, hum and silence have no pulse, and a line for each gap; a tone without code has no pulse."""
+    rng, (code, rises) = random.Random(8), signal("B", random.Random(6), 8000, 1000, 3.3, 0.05, 0.03, 0, 2)
+    made = {"noise": [rng.gauss(0, 3000) for _ in range(16000)], "nothing": [0] * 16000,
+            "hum": [4000 * math.sin(place / 25) + rng.gauss(0, 30) for place in range(16000)],
+            "tone": [4000 * math.sin(0.8 * place) + rng.gauss(0, 400) for place in range(16000)]}
+    results, wide = [], len(code) / 8000
+    for parts, gaps, pulses in (
+            (["noise"], [(0, 2)], 0), (["nothing"], [(0, 2)], 0), (["hum"], [(0, 2)], 0), (["tone"], [], 0),
+            ([code, "noise"], [(wide, wide + 2)], 1), (["noise", code], [(0, 2)], 1), (["hum", code], [(0, 2)], 1),
+            ([code, "nothing", code], [(wide, wide + 2)], 2)):
+        values = array("h", [round(value) for part in parts for value in (made[part] if isinstance(part, str) else part)])
+        status, dump, said = run("irig_demodulate", ["--no-swap", "-"], wav(values, 8000))
+        told = [tuple(map(float, pair)) for pair in re.findall(r"no carrier from ([0-9.]+) to ([0-9.]+) seconds", said)]
+        near = len(told) == len(gaps) and all(abs(a - b) < 0.05 for one, two in zip(told, gaps) for a, b in zip(one, two))
+        found = len(rises_of(dump))
+        good = near and status == (0 if pulses else 1) and abs(found - pulses * len(rises)) <= pulses
+        good or print("FAILED irig_demodulate, %s: %d pulses, %s" % (parts if not pulses else "code", found, said))
+        results.append(good)
+    return results
+
+
 def few():
     """Far fewer pulses than the format has are reported: a carrier that is off, or silence; a sound one has no such line."""
     results = []
-    for name, drift, words, silence, missing in (("sound", 1e-4, [], 0, False), ("off", 3e-3, [], 0, True),
-                                                 ("off, and named", 3e-3, ["--carrier=1003"], 0, False),
+    for name, drift, words, silence, missing in (("sound", 1e-4, [], 0, False), ("off", 5e-2, [], 0, False),
+                                                 ("far off", 0.11, [], 0, True),
+                                                 ("far off, and named", 0.11, ["--carrier=1110"], 0, False),
                                                  ("silence", 0, [], 9000, True)):
         values, _ = signal("B", random.Random(5), 8000, 1000, 3.3, 0.01, drift, 0, 3)
         said = run("irig_demodulate", [*words, "-"], wav(values + array("h", [0] * silence), 8000))[2]
@@ -454,6 +488,7 @@ def cases(_):
     """Each part by its name."""
     return [case("carrier: " + name, holds) for name, holds in (
         ("random signals", rates), ("plus and minus", polarity), ("thresholds", steps), ("the beginning", beginning),
-        ("ratios", ratios), ("shares", shares), ("a clock that is off", slope), ("few pulses", few), ("a level that dips", hysteresis),
+        ("ratios", ratios), ("silence of a carrier", no_carrier), ("shares", shares),
+        ("a clock that is off", slope), ("few pulses", few), ("a level that dips", hysteresis),
         ("forms of samples", forms), ("silence of a level", silences), ("stretches of a level", stretches),
         ("sound files", sound_files), ("no sound files", no_sound), ("what is refused", refused))]

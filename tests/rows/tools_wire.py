@@ -190,7 +190,7 @@ def packed():
         good = status == 0 and edges_of(printed) == EDGES
         good or print("FAILED irig_wire, %s: %d %s" % (name, status, said))
         results.append(good)
-    heads = {b"\0" * 7 + b"\1I": "fst2vcd", b"\x13\x80": "lxt2vcd", b"PK\3\4": "sigrok-cli", b"RIFF": "WAV", b"fLaC": "flac -dc",
+    heads = {b"\0" * 7 + b"\1I": "fst2vcd", b"\x13\x80": "lxt2vcd", b"PK\3\4": "cannot be read", b"RIFF": "WAV", b"fLaC": "flac -dc",
              b"\x25\xeb": "IRIG 106 Chapter 10"}
     for head, text in heads.items():
         status, _, said = run("irig_wire", ["-"], head + plain)

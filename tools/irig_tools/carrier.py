@@ -1,8 +1,8 @@
-"""Time code on a carrier: its phase by quadrature gives the time, the amplitude of each cycle the level.
+"""Time code on a carrier: its phase gives the time, the amplitude of each cycle the level.
 
-The pulses begin and end where the carrier crosses zero upward. Its phase is measured over hundreds of
-cycles, so it says where each cycle begins far better than one crossing does. The amplitude is then
-measured over each such cycle.
+The pulses begin and end where the carrier crosses zero upward. Its phase is followed through all changes of the speed, over
+many cycles at a time, so it says where each cycle begins far better than one crossing does. The amplitude is then measured
+over each such cycle.
 
 If plus and minus are swapped, the pulses begin and end where the carrier crosses zero downward. At first
 the cycles are read in both ways. In the right way the amplitude steps between two cycles; in the other way
@@ -11,79 +11,100 @@ it does so in the middle of one.
 from __future__ import annotations
 
 import math
-from itertools import accumulate
-from operator import mul
-from typing import Iterator, List, Optional, Sequence
+from typing import Iterator, List, Optional, Sequence, Tuple
 
-from .cycles import Cycles, Edge, Stretch
+from .cycles import Cycles, Edge
 from .editor import Problem
+from .layout import INTERVAL
+from .quadrature import Table, Window
 from .samples import Samples
+from .tracking import NEAR, Piece, Tracker
 
 CARRIERS = {"A": (10000,), "B": (1000,), "E": (100, 1000)}
-CYCLES = 500  # over which a phase is measured
+CYCLES = 500  # in a stretch that is read at once
+HALF = 10  # cycles of a carrier of 1,000 Hz in half a window; of another one the root of that
+BACK = 4  # windows: what comes so long before a stretch is looked at again, with what is judged together
 FEWEST = 4  # samples in a cycle
 MOST = 1 << 20  # samples in a stretch: some hundreds of megabytes
 SOON, LATE = 50, 1000  # steps of the amplitude: the way can be chosen, and has to be
 FEW = 20  # steps; fewer in a whole recording do not show the way
 SHARP = 0.75  # of the steps, in the right way
+GAP = 10  # elements without a carrier that are named
 
 
 class Carrier:
-    """Turns samples into edges, a stretch at a time.
+    """Turns samples into edges, a stretch at a time. `gaps` are the stretches without a carrier, in samples.
 
     If `swapped` is None, the signal shows whether plus and minus are."""
 
-    def __init__(self, samples: Samples, hertz: int, swapped: Optional[bool] = None) -> None:
+    def __init__(self, samples: Samples, hertz: int, kind: str = "B", swapped: Optional[bool] = None) -> None:
         self.samples, self.hertz = samples, hertz
         self.cycle = samples.rate / hertz  # in samples
         if self.cycle < FEWEST:
             raise Problem("%d samples a second are too few for a carrier of %d Hz" % (samples.rate, hertz))
-        period = samples.rate // math.gcd(samples.rate, hertz)
-        self.size = max(1, round(CYCLES * self.cycle / period)) * period
+        self.size = round(CYCLES * self.cycle)
         if self.size > MOST:
             text = "%d samples a second are too many for a carrier of %d Hz; resample them, as sox does"
             raise Problem(text % (samples.rate, hertz))
-        turns = [2 * math.pi * place / self.cycle for place in range(period)]
-        self.turns = [complex(math.cos(turn), math.sin(turn)) for turn in turns] * (self.size // period)
-        self.turned = list(accumulate(self.turns, initial=0j))
+        half = max(3, round(HALF * math.sqrt(hertz / 1000)))
+        self.tracker = Tracker(samples.rate, hertz, half)
+        self.back = BACK * 2 * half + 2 * NEAR
+        self.table = Table(samples.rate, hertz, self.size + math.ceil((self.back + 2) * self.cycle))
         self.length = 0
-        self.ways = [Cycles(self.cycle, way) for way in (False, True) if swapped in (None, way)]
+        self.element = min((10, 100), key=lambda cycles: abs(math.log(hertz * INTERVAL[kind] / 1e6 / cycles)))
+        self.ways = [Cycles(half, self.element, way) for way in (False, True) if swapped in (None, way)]
         self.found: List[List[Edge]] = [[] for _ in self.ways]  # until one way is chosen
         self.asked = swapped is None
         self.chosen = False  # by the signal
+        self.gaps: List[Tuple[int, int]] = []
+        self.heard = 0.0  # up to where there was a carrier
 
     def edges(self) -> Iterator[Edge]:
-        before: Optional[Stretch] = None
-        now: Optional[Stretch] = None
-        for values in self.samples.chunks(self.size):
-            after = self._stretch(values, now)
-            if now:
-                yield from self._read(before, now, after)
-            before, now = now, after
-        if now:
-            yield from self._read(before, now, None)
+        done = 0  # nominal cycles
+        for window, final in self._windows():
+            end = self.length * self.hertz // self.samples.rate
+            for piece in self.tracker.feed(window.blocks(done, end), final):
+                self._note(piece)
+                yield from self._read(piece, window)
+            done = end
+        self._add_gap(self.length)
         yield from self._choose(0, 0)
-        if self.ways[0].level:
-            yield float(self.length), 0
 
-    def _stretch(self, values: Sequence[float], before: Optional[Stretch]) -> Stretch:
-        mean = sum(values) / len(values)
-        sums = list(accumulate(map(mul, values, self.turns), initial=0j))
-        whole = sums[-1] - mean * self.turned[len(values)]
-        phase = math.atan2(whole.real, whole.imag) / (2 * math.pi)
-        if before:
-            phase += round(before.phase - phase)
-        begin, self.length = self.length, self.length + len(values)
-        return Stretch(begin, len(values), sums, self.turned, mean, phase)
+    def _windows(self) -> Iterator[Tuple[Window, bool]]:
+        """The stretches, each with the end of the one before, and whether it is the last."""
+        kept: Sequence[float] = []
+        waiting: Optional[Sequence[float]] = None
+        for values in self.samples.chunks(self.size):
+            if waiting is not None:
+                yield self._window(kept, waiting), False
+                kept = [*kept, *waiting][-round(self.back * self.cycle):]
+            waiting = values
+        if waiting is not None:
+            yield self._window(kept, waiting), True
 
-    def _read(self, before: Optional[Stretch], now: Stretch, after: Optional[Stretch]) -> Iterator[Edge]:
-        """The edges in a stretch; none until one way is chosen, and then those of all stretches so far."""
+    def _window(self, kept: Sequence[float], values: Sequence[float]) -> Window:
+        self.length += len(values)
+        whole = [*kept, *values]
+        return Window(self.length - len(whole), whole, self.table)
+
+    def _note(self, piece: Piece) -> None:
+        """Notes where there is a carrier."""
+        if piece.opens:
+            self._add_gap(piece.knots[0].time)
+        self.heard = piece.knots[-1].time
+
+    def _add_gap(self, end: float) -> None:
+        if end - self.heard >= GAP * self.element * self.cycle:
+            self.gaps.append((max(0, round(self.heard)), round(end)))
+
+    def _read(self, piece: Piece, window: Window) -> Iterator[Edge]:
+        """The edges in a piece; none until one way is chosen, and then those of all pieces so far."""
         if len(self.ways) == 1:
-            yield from self.ways[0].edges(before, now, after)
+            yield from self.ways[0].edges(piece, window, self.length)
             return
         for way, found in zip(self.ways, self.found):
-            new = list(way.edges(before, now, after))
-            way.count(new, now, after)
+            new = list(way.edges(piece, window, self.length))
+            way.count(new, window, self.cycle)
             found += new
         yield from self._choose(SOON, LATE)
 

@@ -2,34 +2,23 @@
 from __future__ import annotations
 
 import math
-from dataclasses import dataclass
-from itertools import chain
+from bisect import bisect
+from itertools import accumulate
 from typing import Iterator, List, Optional, Sequence, Tuple
 
+from .grid import Grid
+from .quadrature import Window
 from .samples import ranks
+from .tracking import Knot, Piece
 
 LEAST_RATIO = 1.6  # of the amplitudes; below there is no code
-CUT = 0.05  # of the first cycle can be missing
+CUT = 0.05  # of a cycle at the ends of a recording can be missing
 NEAR = 0.2  # of the way from low to high: the half cycles before and after a sharp step are that near
+LATER = 15  # cycles that are decided with those after them
+FEWEST = 10  # cycles that have a low and a high amplitude
+ELEMENTS = 4  # elements that always have them; fewer are read by those of before
 
 Edge = Tuple[float, int]  # in samples, and the level after it
-
-
-@dataclass
-class Stretch:
-    """Some hundreds of cycles: running sums of the samples times cosine and sine, those of cosine and sine
-    alone, the mean of the samples, and the phase in cycles."""
-
-    begin: int
-    length: int
-    sums: List[complex]
-    turned: List[complex]
-    mean: float
-    phase: float
-
-    @property
-    def middle(self) -> float:
-        return self.begin + self.length / 2
 
 
 class Cycles:
@@ -39,75 +28,134 @@ class Cycles:
     `steps` counts the steps of the amplitude. `sharp` counts those of them that have the old amplitude up to
     the end of one cycle, and the new one from the beginning of the next."""
 
-    def __init__(self, cycle: float, swapped: bool) -> None:
-        self.cycle, self.swapped = cycle, swapped
-        self.shift = 0.5 if swapped else 0.0
-        self.level, self.number = 0, 0
-        self.low, self.high = 0.0, 0.0
-        self.steps, self.sharp = 0, 0
+    def __init__(self, half: int, element: int, swapped: bool) -> None:
+        self.half, self.element, self.swapped = half, element, swapped
+        self.shift, self.sign = (0.5, -1) if swapped else (0.0, 1)
+        self.level: Optional[int] = 0
+        self.cut = False  # whether a pulse goes on whose rise was not heard
+        self.steps = self.sharp = 0
+        self.low = self.high = self.noise = 0.0
+        self._open()
 
-    def _starts(self, one: Stretch, other: Optional[Stretch], end: float) -> Iterator[float]:
-        """Where the next cycles begin, up to a place; the phase is a straight line between the stretches."""
-        slope = (other.phase - one.phase) / (other.middle - one.middle) if other else 0.0
-        start = one.phase + self.shift - slope * one.middle
-        rate = 1 / self.cycle + slope
-        place = (self.number - start) / rate
-        while place < end:
-            yield place
-            self.number += 1
-            place = (self.number - start) / rate
+    def _open(self) -> None:
+        """A carrier begins."""
+        self.knot: Optional[Knot] = None
+        self.starts: List[float] = []  # of cycles; the last is the end of the last cycle
+        self.values: List[complex] = []  # of these, as `Window.along` has them
+        self.first = self.known = 0  # the number of the first of these, and how many are decided already
+        self.grid = Grid(self.element)
 
-    def edges(self, before: Optional[Stretch], now: Stretch, after: Optional[Stretch]) -> Iterator[Edge]:
-        """The edges in a stretch."""
-        end = now.begin + now.length
-        if self.number == 0:
-            self.number = math.ceil(now.phase + self.shift + now.begin / self.cycle - CUT)
-        first = self._starts(now, before or after, now.middle)
-        starts = list(chain(first, self._starts(now, after or before, end)))
-        heights = self._heights(starts, self.cycle, now, after)
-        if len(heights) < 10:
+    def edges(self, piece: Piece, window: Window, length: int) -> Iterator[Edge]:
+        """The edges that some knots of a carrier show, in a recording of that length so far."""
+        if piece.opens:
+            self._open()
+            if piece.knots[0].time > self.half * piece.knots[0].cycle and self.level == 0:
+                self.level = None
+        fresh = self._starts(piece.knots, window, length)
+        if not self.starts and fresh:
+            self.starts = fresh[:1]
+            fresh = fresh[1:]
+        if fresh:
+            self.values += [value * self.sign for value in window.along([self.starts[-1], *fresh])]
+            self.starts += fresh
+        yield from self._decide(piece.closes)
+        if piece.closes and not piece.jumps:
+            yield from self._end(len(self.starts) - 1)
+
+    def _end(self, place: int) -> Iterator[Edge]:
+        """The end of a pulse that is not seen any more."""
+        if self.level and not self.cut and self.starts:
+            yield self.starts[place], 0
+        self.level, self.cut = 0, False
+
+    def _starts(self, knots: Sequence[Knot], window: Window, length: int) -> List[float]:
+        """Where cycles begin between these knots, and from the last one on."""
+        found: List[float] = []
+        for knot in knots:
+            if self.knot:
+                numbers = range(math.ceil(self.knot.phase - self.shift), math.ceil(knot.phase - self.shift))
+                if numbers and not self.starts and not found:
+                    self.first = numbers[0]
+                found += between(self.knot, knot, [number + self.shift for number in numbers])
+            self.knot = knot
+        least, most = -CUT * knots[0].cycle, length + CUT * knots[0].cycle
+        early = 0 if self.starts else sum(1 for place in found if place < least)
+        self.first += early
+        return [place for place in found[early:] if place <= most]
+
+    def _decide(self, closes: bool) -> Iterator[Edge]:
+        """The edges of the cycles; the last cycles wait for the next."""
+        heights = [value.real for value in self.values]
+        end = len(heights) - (0 if closes else LATER)
+        if end <= self.known or len(heights) < (FEWEST if closes else ELEMENTS * self.element):
             return
-        low, high = ranks(heights)
+        few = len(heights) - self.known < ELEMENTS * self.element and self.high > 0
+        low, high, noise = (self.low, self.high, self.noise) if few else levels_of(heights)
         if high < LEAST_RATIO * max(low, 0) or high <= 0:
-            if self.level:
-                self.level = 0
-                yield starts[0], 0
-            return
-        self.low, self.high = low, high
-        up, down = low + 0.6 * (high - low), low + 0.4 * (high - low)
-        for place, height in zip(starts, heights):
-            if height > up and not self.level or height < down and self.level:
-                self.level = 1 - self.level
-                yield max(place, 0.0), self.level
+            yield from self._end(self.known)
+        else:
+            self.low, self.high, self.noise = low, high, noise
+            yield from self._found(heights[self.known:], end - self.known)
+        over = max(0, end - self.half)
+        del self.starts[:over], self.values[:over]
+        self.first, self.known = self.first + over, end - over
 
-    def count(self, found: Sequence[Edge], now: Stretch, after: Optional[Stretch]) -> None:
-        """Counts the steps at the edges of a stretch, and those that are sharp."""
-        half = self.cycle / 2
+    def _found(self, heights: Sequence[float], end: int) -> Iterator[Edge]:
+        """The edges of so many of the cycles that are not decided."""
+        middle, scale = (self.low + self.high) / 2, 2 / (self.high - self.low)
+        worth = [(height - middle) * scale for height in heights]
+        number = self.first + self.known
+        self.grid.costs(self.noise)
+        levels = self.grid.levels(worth, number, self.level)
+        if self.grid.vote(levels[:end], number):
+            self.grid.costs(self.noise)
+            levels = self.grid.levels(worth, number, self.level)
+        if self.level is None:
+            self.level, self.cut = levels[0], levels[0] == 1
+        sums = list(accumulate((value * value.real for value in self.values), initial=0j))
+        for place, level in enumerate(levels[:end], self.known):
+            if level != self.level:
+                if not self.cut:
+                    yield max(self._refined(place, sums), 0.0), level
+                self.level, self.cut = level, False
+
+    def _refined(self, place: int, sums: Sequence[complex]) -> float:
+        """Where a cycle begins, by what the phase of those around it is ahead."""
+        around = sums[min(len(sums) - 1, place + self.half)] - sums[max(0, place - self.half)]
+        ahead = around.imag / around.real / (2 * math.pi) if around.real > 0 else 0.0
+        return self.starts[place] - ahead * (self.starts[place + 1] - self.starts[place])
+
+    def count(self, found: Sequence[Edge], window: Window, cycle: float) -> None:
+        """Counts the steps at these edges, and those that are sharp."""
         for place, level in found:
-            if now.begin < place - half:
-                ends = self._heights([place - half, place], half, now, after)
+            if window.begin < place - cycle / 2 and self.high > self.low:
+                ends = [self.sign * window.part(start, start + cycle / 2, place, cycle) for start in (place - cycle / 2, place)]
                 share = [(height - self.low) / (self.high - self.low) for height in ends]
                 before, later = share if level else share[::-1]
                 self.steps += 1
                 self.sharp += before < NEAR and later > 1 - NEAR
 
-    def _heights(
-        self, starts: Sequence[float], length: float, now: Stretch, after: Optional[Stretch]
-    ) -> List[float]:
-        """The amplitude of each cycle, or half of one, along the phase of the carrier."""
-        angle = 2 * math.pi * now.phase
-        across, along = math.sin(angle), math.cos(angle)
-        places = [max(0, math.ceil(start) - now.begin) for start in starts]
-        if starts:
-            places.append(max(places[-1], math.ceil(starts[-1] + length) - now.begin))
-        found = [_sum(place, now, after) for place in places]
-        sums = [whole.real * across + whole.imag * along for whole in found]
-        return [(last - first) / length for first, last in zip(sums, sums[1:])]
+
+def between(one: Knot, other: Knot, phases: Sequence[float]) -> List[float]:
+    """The times of phases between two knots: on a curve of the third degree with the lengths of a cycle at both."""
+    wide, long = other.phase - one.phase, other.time - one.time
+    slope = wide * one.cycle
+    bend = 3 * long - 2 * slope - wide * other.cycle
+    twist = slope + wide * other.cycle - 2 * long
+    first, time = one.phase, one.time
+    steps = [(phase - first) / wide for phase in phases]
+    return [time + step * (slope + step * (bend + step * twist)) for step in steps]
 
 
-def _sum(place: int, now: Stretch, after: Optional[Stretch]) -> complex:
-    """The running sum without the mean, up to a place, which may be in the next stretch."""
-    over = place - now.length
-    place = min(place, now.length)
-    whole = now.sums[place] - now.mean * now.turned[place]
-    return whole + _sum(over, after, None) if after and over > 0 else whole
+def levels_of(heights: Sequence[float]) -> Tuple[float, float, float]:
+    """The low and the high amplitude: the middle ones of those below and above the middle between the ranks. And the
+    noise, as a share of the way from low to high: how far the sixth part of the low ones that is lowest is below."""
+    low, high = ranks(heights)
+    ranked = sorted(heights)
+    part = 0
+    for _ in range(2):
+        part = bisect(ranked, (low + high) / 2)
+        if not 0 < part < len(ranked):
+            return low, high, 0.0
+        low, high = ranked[part // 2], ranked[(part + len(ranked)) // 2]
+    return low, high, (low - ranked[part // 6]) / (high - low) if high > low else 0.0

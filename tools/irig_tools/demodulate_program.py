@@ -3,7 +3,7 @@ from __future__ import annotations
 
 import argparse
 import math
-from typing import IO, Union
+from typing import IO, Callable, Union
 
 from .carrier import CARRIERS, Carrier
 from .command import run
@@ -13,6 +13,7 @@ from .levels import Levels, Negative
 from .options import Command, Given, Option, a_file, whole
 from .output import check_apart, output
 from .samples import RAW, Samples
+from .table import Steps, Table
 
 
 def a_distance(word: str) -> float:
@@ -38,18 +39,24 @@ SWAP = Option("--swap", about="the recorder swapped plus and minus; code on a ca
 NO_SWAP = Option("--no-swap", about="the recorder did not swap plus and minus")
 KIND = Option("--raw", "KIND", "u8, s8, s16, s24, s32: integers; f32, f64: floats; with be at the end, as s16be, the "
               "highest byte is first; text: a number a line", choices=(*RAW, "text"))
-RATE = Option("--rate", "HERTZ", "the samples in a second, with --raw", whole(1))
+RATE = Option("--rate", "HERTZ", "the samples in a second, with --raw or --table", whole(1))
+TABLE = Option("--table", about="SAMPLES is a table of an oscilloscope or a logic analyser, as CSV")
+TIME_COLUMN = Option("--time-column", "NAME", "the column of the times, by its head or its number, from 1")
+COLUMN = Option("--column", "NAME", "the column of the levels or volts")
 OUT = Option("--out", "FILE", "the file to write, whole or not at all, instead of standard output", a_file)
 COMMAND = Command("irig_demodulate", ("SAMPLES",), """\
 Makes a dump of recorded samples of IRIG 200-04 time code. SAMPLES is a WAV file
 (also WAVE_FORMAT_EXTENSIBLE, RF64 and W64) of integers or floats, or with --raw
-numbers without a head, or one a line; - is standard input.
-""", (FORMAT, CARRIER, LEVEL, THRESHOLD, CHANNEL, SWAP, NO_SWAP, KIND, RATE, OUT), """\
+numbers without a head, or one a line, or with --table rows of numbers; - is
+standard input.
+""", (FORMAT, CARRIER, LEVEL, THRESHOLD, CHANNEL, SWAP, NO_SWAP, KIND, RATE, TABLE, TIME_COLUMN,
+      COLUMN, OUT), """\
 The status is 0 if pulses were found, 1 if there are none, 2 if the samples were
 not read, and 70 if memory ran out or the tool has a defect.
 """)
 HEAD = "$timescale 1 us $end\n$scope module irig $end\n$var wire 1 ! irig $end\n$upscope $end\n"
 MOST_GAPS = 20  # that are named
+Reader = Union[Levels, Carrier, Steps]
 ENOUGH = 0.9  # of the pulses that a format has in that time
 
 
@@ -58,30 +65,46 @@ def samples_of(given: Given, swapped: bool) -> Samples:
     return kind(given.names[0], given.number(CHANNEL) or 1, given.text(KIND) or "", given.number(RATE) or 0)
 
 
-def reader_of(given: Given) -> Union[Levels, Carrier]:
-    name = given.text(FORMAT) or "B"
+def table_of(given: Given) -> Table:
+    if given.has(KIND) or given.has(CHANNEL):
+        raise Usage("--table has no --raw and no --channel; --column names a column")
+    swapped = given.has(SWAP) and given.has(LEVEL)
+    return Table(given.names[0], given.text(TIME_COLUMN), given.text(COLUMN), given.number(RATE) or 0, swapped)
+
+
+def reader_of(given: Given) -> Reader:
     if given.has(SWAP) and given.has(NO_SWAP):
         raise Usage("--swap and --no-swap exclude each other")
+    if not given.has(TABLE):
+        if given.has(TIME_COLUMN) or given.has(COLUMN):
+            raise Usage("--time-column and --column need --table")
+        return reader_of_samples(given, lambda swapped: samples_of(given, swapped))
+    table = table_of(given)
+    return Steps(table, given.has(SWAP)) if table.is_levels else reader_of_samples(given, lambda _: table)
+
+
+def reader_of_samples(given: Given, samples: Callable[[bool], Samples]) -> Reader:
+    name = given.text(FORMAT) or "B"
     if given.has(LEVEL):
         threshold = given.values.get(THRESHOLD.name)
-        return Levels(samples_of(given, given.has(SWAP)), threshold)
+        return Levels(samples(given.has(SWAP)), threshold)
     if name not in CARRIERS:
         raise Usage("--format is A, B or E; G is read as a level")
     known = given.has(SWAP) or given.has(NO_SWAP)
     hertz = given.number(CARRIER) or CARRIERS[name][0]
-    return Carrier(samples_of(given, False), hertz, given.has(SWAP) if known else None)
+    return Carrier(samples(False), hertz, name, given.has(SWAP) if known else None)
 
 
-def say_gaps(reader: Levels) -> None:
+def say_gaps(reader: Reader) -> None:
     """Names the stretches without a signal."""
+    what, rate = "carrier" if isinstance(reader, Carrier) else "signal", reader.samples.rate
     for start, end in reader.gaps[:MOST_GAPS]:
-        rate = reader.samples.rate
-        say("no signal from %.3f to %.3f seconds: no pulse is there" % (start / rate, end / rate))
+        say("no %s from %.3f to %.3f seconds: no pulse is there" % (what, start / rate, end / rate))
     if len(reader.gaps) > MOST_GAPS:
         say("and %d such stretches more" % (len(reader.gaps) - MOST_GAPS))
 
 
-def remark(reader: Union[Levels, Carrier]) -> None:
+def remark(reader: Reader) -> None:
     """Says what was found out about plus and minus."""
     if isinstance(reader, Carrier) and reader.asked:
         way = reader.ways[0]
@@ -97,14 +120,14 @@ def say_few(name: str, pulses: int, seconds: float) -> None:
     wanted = round(seconds * 1000000 / INTERVAL[name])
     if pulses < ENOUGH * wanted:
         text = "format %s has %d pulses in that time, so %d are missing: silence, noise, or a carrier that is off by more "
-        say((text + "than 0.05 %% (--carrier HERTZ sets another)") % (name, wanted, wanted - pulses))
+        say((text + "than 8 %% (--carrier HERTZ sets another)") % (name, wanted, wanted - pulses))
 
 
 def say(text: str) -> None:
     complain(text, COMMAND.name)
 
 
-def write_dump(reader: Union[Levels, Carrier], out: IO[bytes]) -> int:
+def write_dump(reader: Reader, out: IO[bytes]) -> int:
     """Writes the edges as a dump: the number of pulses."""
     out.write((HEAD + "$enddefinitions $end\n#0\n$dumpvars\n0!\n$end\n").encode())
     pulses = 0
@@ -122,14 +145,15 @@ def work(given: Given) -> int:
         pulses = write_dump(reader, out)
     if pulses:
         remark(reader)
-    if isinstance(reader, Levels):
-        say_gaps(reader)
+    say_gaps(reader)
     for note in reader.samples.notes:
         say(note)
     seconds = reader.length / reader.samples.rate
     say("%d pulses in %.3f seconds" % (pulses, seconds))
     if isinstance(reader, Carrier):
         say_few(given.text(FORMAT) or "B", pulses, seconds)
+    if isinstance(reader, Carrier) and not pulses:
+        say("if the code is not on a carrier but a level, use --level")
     return SOUND if pulses else FOUND
 
 

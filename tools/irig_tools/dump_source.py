@@ -6,26 +6,31 @@ import codecs
 import gzip
 import io
 import lzma
+import shutil
 import sys
+import tempfile
 import zlib
 from itertools import chain
 from typing import IO, Callable, Iterator, List, Tuple, cast
 
+from . import sigrok
 from .editor import Problem
+from .progress import counted
 
-BLOCK = 1 << 20  # bytes that are read at once
+BLOCK = 1 << 17  # bytes that are read at once
+ZIP = b"PK\x03\x04"  # how a file of sigrok begins
 LONGEST = 1 << 24  # bytes of a word
 HEAD = 9  # bytes that say what a file is
 OTHERS = (
     (b"\x00\x00\x00\x00\x00\x00\x00\x01\x49", "an FST file; 'fst2vcd FILE' makes a dump of it"),
     (b"\x13\x80", "an LXT2 file; 'lxt2vcd FILE' makes a dump of it"),
     (b"VZ", "a VZT file; 'vzt2vcd FILE' makes a dump of it"),
-    (b"PK\x03\x04", "a packed folder; if sigrok wrote it, 'sigrok-cli -i FILE -O vcd' makes a dump of it"),
     (b"\x28\xb5\x2f\xfd", "packed by zstd; 'zstd -dc FILE' unpacks it"),
     (b"RIFF", "a WAV file; 'irig_demodulate FILE' makes a dump of it"),
     (b"RF64", "a WAV file; 'irig_demodulate FILE' makes a dump of it"),
     (b"fLaC", "a FLAC file; 'flac -dc FILE | irig_demodulate -' makes a dump of it"),
-    (b"\x25\xeb", "a recording of IRIG 106 Chapter 10, whose time packets can be enough; export its time code channel"),
+    (b"\x25\xeb", "a recording of IRIG 106 Chapter 10, whose time packets can be enough; export its time code channel as WAV, for "
+     "irig_demodulate"),
 )
 PACKED: Tuple[Tuple[bytes, str, Callable[[IO[bytes]], object]], ...] = (
     (b"\x1f\x8b", "gzip", lambda stream: gzip.GzipFile(fileobj=stream)),
@@ -93,7 +98,8 @@ class Source:
 
     def _blocks(self) -> Iterator[bytes]:
         opened = cast(IO[bytes], sys.stdin.buffer) if self.path == "-" else open(self.path, "rb")
-        with opened as stream:
+        with opened as plain:
+            stream = counted(plain, self.path)
             head = stream.read(HEAD)
             joined = cast(IO[bytes], io.BufferedReader(_Joined(head, stream), BLOCK))
             for magic, what in OTHERS:
@@ -103,7 +109,14 @@ class Source:
                 if head.startswith(magic):
                     self.notes.append("the file is packed by %s and was unpacked" % name)
                     joined = cast(IO[bytes], unpack(joined))
-            yield from self._plain(joined)
+            yield from self._of_sigrok(joined) if head.startswith(ZIP) else self._plain(joined)
+
+    def _of_sigrok(self, stream: IO[bytes]) -> Iterator[bytes]:
+        """A file of sigrok, of which a copy is made: its list of files is at its end."""
+        self.notes.append("the channels of a file of sigrok were made wires")
+        with tempfile.TemporaryFile() as copy:
+            shutil.copyfileobj(stream, copy)
+            yield from sigrok.blocks(copy, self.path)
 
     def _plain(self, stream: IO[bytes]) -> Iterator[bytes]:
         block = stream.read(BLOCK)

@@ -7,6 +7,7 @@ import sys
 import traceback
 from typing import Callable
 
+from . import progress
 from .editor import Problem
 
 SOUND, FOUND, NOT_READ = 0, 1, 2  # statuses
@@ -21,6 +22,7 @@ class Usage(Exception):
 def complain(text: str, program: str) -> None:
     """Says something on standard error, if that is open."""
     if sys.stderr is not None:
+        progress.clear()
         print("%s: %s" % (program, text), file=sys.stderr)
 
 

@@ -8,6 +8,7 @@ from typing import IO, Iterator, List, Optional, Sequence, Tuple, cast
 
 from .editor import Problem
 from .ending import Usage
+from .progress import counted
 from .sound import Reader
 
 LONGEST = 1000  # bytes of a line with a number
@@ -35,7 +36,7 @@ def numbers_of(data: bytes, kind: str) -> Sequence[float]:
 
 
 def opened(path: str) -> IO[bytes]:
-    return cast(IO[bytes], sys.stdin.buffer) if path == "-" else open(path, "rb")
+    return counted(cast(IO[bytes], sys.stdin.buffer) if path == "-" else open(path, "rb"), path)
 
 
 class Samples:

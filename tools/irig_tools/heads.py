@@ -1,0 +1,108 @@
+"""What the heads of a table say: which line has the names, what parts its fields, and the units."""
+from __future__ import annotations
+
+import re
+from typing import List, NamedTuple, Optional, Sequence
+
+from .editor import Problem
+
+SECONDS = {"s": 1.0, "sec": 1.0, "second": 1.0, "seconds": 1.0, "ms": 1e-3, "us": 1e-6, "\u00b5s": 1e-6, "\u03bcs": 1e-6,
+           "ns": 1e-9, "ps": 1e-12}
+OTHERS = ("v", "mv", "volt", "volts", "sequence")
+TIME = re.compile(r"(?i)\W*(time|t|timestamp|zeit|temps|x|x-axis|seconds?|sec)(\W.*)?")
+RATE = re.compile(r"(?i)\W*(?:meta )?samplerate\W*([0-9.]+) *([kmg]?)(?:hz)?")
+MANY = {"": 1, "k": 1000, "m": 1000000, "g": 1000000000}
+NUMBER = re.compile(r"[+-]?(\d+\.?\d*|\.\d+)([eE][+-]?\d+)?")
+
+
+class Form(NamedTuple):
+    """What parts the fields, which of them have the time and the value, from 0, and how many seconds a unit of time is."""
+
+    parted: str
+    time: Optional[int]
+    value: int
+    unit: float = 1.0
+
+
+def fields_of(line: str, parted: str) -> List[str]:
+    """The fields of a line, with a point in a number instead of a comma."""
+    fields = [field.strip().strip('"').strip() for field in line.split(parted)]
+    return fields if parted == "," else [field.replace(",", ".") for field in fields]
+
+
+def parted_by(line: str) -> str:
+    """What parts the fields of a line."""
+    return ";" if ";" in line.lstrip("; ") else "\t" if "\t" in line else ","
+
+
+def is_row(line: str, places: Sequence[int]) -> bool:
+    """Whether a line has numbers: in all fields, or in those with these places."""
+    fields = fields_of(line, parted_by(line))
+    if places:
+        return all(place < len(fields) and NUMBER.fullmatch(fields[place]) for place in places)
+    full = fields[:-1] if len(fields) > 1 and not fields[-1] else fields
+    return bool(full) and all(NUMBER.fullmatch(field) for field in full if field) and any(full)
+
+
+def rate_of(heads: Sequence[str]) -> int:
+    """The samples in a second that the heads of sigrok name; 0 if they do not."""
+    for head in heads:
+        found = RATE.match(head)
+        if found:
+            return round(float(found[1]) * MANY[found[2].lower()])
+    return 0
+
+
+class Heads:
+    """The names of the columns, and the unit of each."""
+
+    def __init__(self, heads: Sequence[str], first: str, path: str) -> None:
+        self.path, self.parted = path, parted_by(first)
+        self.count = len(fields_of(first, self.parted))
+        lines = [fields_of(head, self.parted) for head in heads if head and not head.startswith(";")]
+        lines = [fields for fields in lines if len(fields) >= self.count - 1]
+        last = lines[-1] if lines else []
+        units = [field.strip("()[] ").lower() for field in last]
+        has_units = len(lines) > 1 and all(not unit or unit in SECONDS or unit in OTHERS or NUMBER.fullmatch(unit) for unit in units)
+        self.names = lines[-2] if has_units else last
+        self.units = units if has_units else [_in_name(name) for name in self.names]
+
+    def form(self, time: Optional[str], value: Optional[str], counted: bool) -> Form:
+        """The columns that are meant; without times if the rows are counted."""
+        place = self._place(time) if time else None if counted else self._time()
+        unit = self.units[place] if place is not None and place < len(self.units) else ""
+        return Form(self.parted, place, self._place(value) if value else self._value(place), SECONDS.get(unit, 1.0))
+
+    def _time(self) -> Optional[int]:
+        for place, name in enumerate(self.names):
+            if TIME.fullmatch(name):
+                return place
+        return 0 if not self.names and self.count > 1 else None
+
+    def _value(self, time: Optional[int]) -> int:
+        named = any(self.names)
+        places = [place for place in range(self.count) if place != time and not TIME.fullmatch(self._name(place))]
+        places = [place for place in places if self._name(place) or not named] or places
+        if len(places) == 1:
+            return places[0]
+        listed = ", ".join(self._name(place) or "number %d" % (place + 1) for place in places)
+        raise Problem("%s: has several columns; name one or its number, as --column '%s': %s" % (
+            self.path, self._name(places[0]) or places[0] + 1, listed) if places else "%s: has no column of values" % self.path)
+
+    def _name(self, place: int) -> str:
+        return self.names[place] if place < len(self.names) else ""
+
+    def _place(self, name: str) -> int:
+        """The column with a name, or else with a number, from 1."""
+        if name in self.names:
+            return self.names.index(name)
+        if name.isdigit() and 1 <= int(name) <= self.count:
+            return int(name) - 1
+        listed = ", ".join(filter(None, self.names)) or "the numbers 1 to %d" % self.count
+        raise Problem("%s: has no column '%s'; there are: %s" % (self.path, name, listed))
+
+
+def _in_name(name: str) -> str:
+    """The unit that a name has in brackets."""
+    found = re.search(r"[(\[]\s*([^)\]]*?)\s*[)\]]\s*$", name)
+    return found[1].lower() if found else ""

@@ -1,0 +1,101 @@
+"""sigrok's files (.sr): a packed folder with samples of logic channels, and what they are. They are made a dump."""
+from __future__ import annotations
+
+import configparser
+import re
+import zipfile
+import zlib
+from typing import IO, Dict, Iterator, List, NamedTuple
+
+from .editor import Problem
+
+BLOCK = 1 << 20  # bytes that are read at once
+LONGEST = 1 << 16  # bytes of what describes the samples
+RATE = re.compile(r"([0-9.]+)\s*([kMG]?)(?:Hz)?")
+MANY = {"": 1, "k": 1000, "M": 1000000, "G": 1000000000}
+UNITS = (("1 us", 10 ** 6), ("1 ns", 10 ** 9), ("1 ps", 10 ** 12))
+WIDEST = 8  # bytes of a sample
+
+
+class Capture(NamedTuple):
+    """The files of samples, the bytes of each, the samples in a second, and the names of the bits."""
+
+    files: List[str]
+    size: int
+    rate: int
+    names: Dict[int, str]
+
+
+def blocks(stream: IO[bytes], path: str) -> Iterator[bytes]:
+    """The text of a dump of a file that can be read at any place."""
+    try:
+        with zipfile.ZipFile(stream) as folder:
+            capture = _capture(folder, path)
+            unit, many = next((unit for unit in UNITS if unit[1] % capture.rate == 0), UNITS[-1])
+            yield _head(capture, unit)
+            yield from _changes(folder, capture, many)
+    except (zipfile.BadZipFile, zlib.error, EOFError, NotImplementedError, RuntimeError, UnicodeError, configparser.Error) as error:
+        raise Problem("%s: is a packed folder that cannot be read: %s" % (path, error)) from error
+
+
+def _capture(folder: zipfile.ZipFile, path: str) -> Capture:
+    names = folder.namelist()
+    if "metadata" not in names:
+        raise Problem("%s: is a packed folder that sigrok did not write" % path)
+    with folder.open("metadata") as file:
+        told = configparser.ConfigParser(interpolation=None)
+        told.read_string(file.read(LONGEST).decode())
+    devices = [told[name] for name in told.sections() if name.startswith("device") and "capturefile" in told[name]]
+    if not devices:
+        raise Problem("%s: has no logic channels; sigrok-cli writes analog ones as CSV, for irig_demodulate --table" % path)
+    device = devices[0]
+    rate, size = RATE.fullmatch(device.get("samplerate", "").strip()), device.get("unitsize", "1")
+    bits = {int(key[5:]) - 1: value for key, value in device.items() if re.fullmatch("probe[1-9][0-9]?", key)}
+    files = [name for name in names if re.fullmatch(re.escape(device["capturefile"]) + r"(-\d+)?", name)]
+    if not rate or not float(rate[1]) or not size.isdigit() or not 1 <= int(size) <= WIDEST or not bits or not files:
+        raise Problem("%s: sigrok's description of the samples lacks a rate, a size or channels" % path)
+    files.sort(key=lambda name: int("0" + name[len(device["capturefile"]) + 1:]))
+    bits = {bit: name for bit, name in bits.items() if bit < 8 * int(size)}
+    return Capture(files, int(size), round(float(rate[1]) * MANY[rate[2]]), bits)
+
+
+def _head(capture: Capture, unit: str) -> bytes:
+    lines = ["$timescale %s $end" % unit, "$scope module sigrok $end"]
+    lines += ["$var wire 1 %s %s $end" % (_code(bit), re.sub(r"[\s$]", "_", name) or "D%d" % bit)
+              for bit, name in sorted(capture.names.items())]
+    return "\n".join([*lines, "$upscope $end", "$enddefinitions $end", ""]).encode()
+
+
+def _code(bit: int) -> str:
+    return chr(ord("!") + bit)
+
+
+def _changes(folder: zipfile.ZipFile, capture: Capture, many: int) -> Iterator[bytes]:
+    """The changes; each run of equal samples begins with one."""
+    runs, last, number = re.compile(rb"(.{%d})\1*" % capture.size, re.S), -1, 0
+    bits = sorted(capture.names)
+    for data in _samples(folder, capture):
+        lines = []
+        for run in runs.finditer(data):
+            value = int.from_bytes(run[1], "little")
+            if value != last:
+                changed = ~0 if last < 0 else value ^ last
+                lines.append("#%d " % ((number + run.start() // capture.size) * many // capture.rate) + " ".join(
+                    "%d%s" % (value >> bit & 1, _code(bit)) for bit in bits if changed >> bit & 1))
+                last = value
+        number += len(data) // capture.size
+        yield "\n".join([*lines, ""]).encode() or b"\n"
+    yield b"#%d\n" % (number * many // capture.rate)
+
+
+def _samples(folder: zipfile.ZipFile, capture: Capture) -> Iterator[bytes]:
+    """The samples in whole ones."""
+    rest = b""
+    for name in capture.files:
+        with folder.open(name) as file:
+            for data in iter(lambda: file.read(BLOCK), b""):
+                data = rest + data
+                over = len(data) % capture.size
+                rest = data[len(data) - over:]
+                if over < len(data):
+                    yield data[:len(data) - over]

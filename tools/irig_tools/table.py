@@ -1,0 +1,120 @@
+"""Tables of logic analysers and oscilloscopes: rows of numbers with times, or at a rate, of levels or volts."""
+from __future__ import annotations
+
+import math
+from itertools import chain, islice
+from typing import IO, Iterator, List, Optional, Sequence, Tuple
+
+from .cycles import Edge
+from .editor import Problem
+from .heads import NUMBER, Heads, fields_of, is_row, rate_of
+from .samples import LARGEST, Samples, opened
+
+LONGEST = 10000  # bytes of a line
+MOST_HEADS = 1000  # lines before the first row
+LOOKED_AT = 10000  # rows that show the rate, and whether the values are levels
+EVEN = 0.5  # of the distance of two samples: it is off by less
+ROUND = 1e-4  # a rate that is as near to one of three digits is that one
+MICROSECONDS = 1000000
+
+Row = Tuple[float, float]  # a time in seconds, and a value
+
+
+class Table(Samples):
+    """One column of a table as samples. `is_levels` if its first values are zeros and ones."""
+
+    def __init__(self, path: str, time: Optional[str], value: Optional[str], rate: int, negative: bool = False) -> None:
+        self.path, self.kind, self.notes, self.number, self.negative = path, "text", [], 0, negative
+        self.lines = self._lines(opened(path))
+        heads, first = self._heads([int(name) - 1 for name in (time, value) if name and name.isdigit() and int(name)])
+        self.rate = rate or rate_of(heads)
+        self.form = Heads(heads, first, path).form(time, value, bool(rate))
+        if self.form.time is None and not self.rate:
+            raise Problem("%s: has no column of times; name it by --time-column, or give --rate" % path)
+        rows = self._rows(first)
+        looked = list(islice(rows, LOOKED_AT))
+        self.rows = chain(looked, rows)
+        self.is_levels = {level for _, level in looked} <= {0.0, 1.0}
+        if self.form.time is not None:
+            self.rate = MICROSECONDS if self.is_levels else self._rate(looked)
+
+    def _lines(self, stream: IO[bytes]) -> Iterator[str]:
+        for line in iter(lambda: stream.readline(LONGEST), b""):
+            self.number += 1
+            if len(line) == LONGEST:
+                raise Problem("%s: line %d is too long for a table" % (self.path, self.number))
+            yield line.decode("utf-8-sig" if self.number == 1 else "utf-8", "replace").strip("\r\n\0 ")
+
+    def _heads(self, places: Sequence[int]) -> Tuple[List[str], str]:
+        """The lines before the first row, and that one."""
+        heads: List[str] = []
+        for line in self.lines:
+            if is_row(line, places):
+                return heads, line
+            heads.append(line)
+            if len(heads) > MOST_HEADS:
+                break
+        raise Problem("%s: is no table: no row of numbers is found" % self.path)
+
+    def _rows(self, first: str) -> Iterator[Row]:
+        """The rows; the first is at time 0."""
+        begun, last, form = 0.0, 0.0, self.form
+        numbered = enumerate(line for line in chain([first], self.lines) if line and not line.startswith(";"))
+        for number, line in numbered:
+            fields = fields_of(line, form.parted)
+            value = self._value(fields, form.value)
+            if form.time is None:
+                yield number / self.rate, value
+                continue
+            time = self._value(fields, form.time) * form.unit
+            begun = begun if number else time
+            if time - begun < last:
+                raise Problem("%s: line %d has a time before that of the last row" % (self.path, self.number))
+            last = time - begun
+            yield last, value
+
+    def _value(self, fields: Sequence[str], place: int) -> float:
+        word = fields[place] if place < len(fields) else ""
+        value = float(word) if NUMBER.fullmatch(word) else math.nan
+        if not -LARGEST <= value <= LARGEST:
+            raise Problem("%s: line %d has no number in column %d" % (self.path, self.number, place + 1))
+        return value
+
+    def _rate(self, looked: Sequence[Row]) -> int:
+        """The samples in a second, by the first times."""
+        wide = looked[-1][0] / (len(looked) - 1) if len(looked) > 1 else 0.0
+        if not wide:
+            raise Problem("%s: its times show no rate; give --rate" % self.path)
+        for number, (one, other) in enumerate(zip(looked, looked[1:])):
+            if abs(other[0] - one[0] - wide) > EVEN * wide:
+                text = "%s: the times of its volts are not even, first in row %d; --rate takes them as even"
+                raise Problem(text % (self.path, number + 2))
+        rate = float("%.3g" % (1 / wide))
+        return max(1, round(rate if abs(rate * wide - 1) < ROUND else 1 / wide))
+
+    def chunks(self, length: int) -> Iterator[Sequence[float]]:
+        while True:
+            values = [value for _, value in islice(self.rows, length)]
+            if not values:
+                return
+            yield [-value for value in values] if self.negative else values
+
+
+class Steps:
+    """The edges of a table of zeros and ones: of samples, or of changes."""
+
+    def __init__(self, table: Table, swapped: bool) -> None:
+        self.samples, self.swapped = table, swapped
+        self.length = 0.0
+        self.gaps: List[Tuple[int, int]] = []
+
+    def edges(self) -> Iterator[Edge]:
+        level = 0
+        for time, value in self.samples.rows:
+            if value not in (0.0, 1.0):
+                raise Problem("%s: line %d has no level of 0 or 1" % (self.samples.path, self.samples.number))
+            self.length = time * self.samples.rate
+            if int(value) ^ self.swapped != level:
+                level = 1 - level
+                yield self.length, level
+        self.length += self.samples.form.time is None  # the last sample, too, has its time
