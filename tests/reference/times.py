@@ -154,6 +154,16 @@ def number(options, line):
     return Fraction(found[1].decode()) * UNITS[options.unit] if found else None
 
 
+def table(options, pulses):
+    """The rows of the frames that have a time: the microsecond of the marker, the time, and whether the next frame follows."""
+    track = Track(options, pulses)
+    rows = []
+    for frame in track.frames:
+        cells = (str(pulses[frame.marker][0]), word(options, track, frame.time), "yes" if track.is_followed(frame) else "no")
+        rows.append((options.comma or b"\t").decode().join(cells) + "\n")
+    return "".join(rows)
+
+
 def aligned(options, pulses, text):
     """What is printed for the lines, and the status."""
     track = Track(options, pulses)

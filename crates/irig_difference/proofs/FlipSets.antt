@@ -75,6 +75,16 @@ length-flipped_least t (x ∷ xs) = elim (three t x) [
   ]
 ]
 
+pub length-flipped_most : (t : ℕ) (xs : List ℕ) → length (flipped t xs) ≤ length xs + 1
+length-flipped_most t [] = omega arith
+length-flipped_most t (x ∷ xs) = elim (three t x) [
+  | inl lt ↦ omega (arith, ap length (flip_low t x xs lt))
+  | inr r ↦ elim r [
+    | inl e ↦ omega (arith, ap length (flip_same t x xs e))
+    | inr gt ↦ omega (arith, ap length (flip_high t x xs gt), length-flipped_most t xs)
+  ]
+]
+
 -- a number that is flipped brings two lists closer by one at most
 pub length-flips_least : (t : ℕ) (ts xs : List ℕ) → RisesFrom 0 ts → RisesFrom 0 xs → length (flips ts xs) ≤ length (flips ts (flipped t xs)) + 1
 length-flips_least t ts xs h i = omega (arith, ap length (flips-flipped t ts xs h i), length-flipped_least t (flips ts xs))

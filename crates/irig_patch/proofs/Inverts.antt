@@ -1,18 +1,21 @@
 -- One invert after the other.
-use Rattle.std.proofs.Common.{◌≡◌, ◌+◌, ◌<◌, ◌≤◌, ◌∙◌, ℕ, Bool, true, false, not, List, [], ◌∷◌, length, Some, None, Ok, Err, sym, ap, refl, arith, inl, inr, subst, if◌then◌else◌}
-use Rattle.std.proofs.lemmas.Bool.{and_from, lt-ltb, le-leb}
+use Rattle.std.proofs.Common.{◌≡◌, ◌+◌, ◌<◌, ◌≤◌, ◌∙◌, ℕ, Bool, true, false, not, List, [], ◌∷◌, length, Some, None, Ok, Err, sym, ap, refl, arith, inl, inr, subst, if◌then◌else◌, ◌&&◌, ◌||◌, ◌^◌}
+use Rattle.std.proofs.lemmas.Bool.{and_from, lt-leb, lt-ltb, le-leb}
+use Rattle.std.proofs.lemmas.Option.{none-some}
 use Rattle.irig_recording.specs.Recording.{RecordingView, IsRecording, RisesFrom, UpTo}
 use Rattle.irig_recording.specs.declared.pulse.Pulse.{Pulse}
-use Rattle.irig_track.specs.Edges.{edges_of}
-use Rattle.irig_track.specs.Toggles.{toggled}
+use Rattle.irig_recording.proofs.PulseEdges.{length-edges_of}
+use Rattle.irig_track.specs.Edges.{edges_of, is_edge}
+use Rattle.irig_track.specs.Toggles.{flipped, toggled}
 use Rattle.irig_track.proofs.Laws.{has-toggled}
 use Rattle.irig_track.proofs.RisingLists.{RisesFrom-flipped, rises_more}
 use Rattle.irig_track.proofs.Sets.{only_list}
 use Rattle.irig_difference.specs.Flips.{patched}
 use Rattle.irig_difference.specs.Stretches.{stretches_between}
 use Rattle.irig_difference.proofs.FlipLists.{RisesFrom-flips, UpTo-flips}
+use Rattle.irig_difference.proofs.FlipSets.{length-flipped_most}
 use Rattle.irig_difference.proofs.Patches.{edges_of-stretches}
-use Rattle.irig_edit.specs.Edits.Conditions.{is_range, is_overfull}
+use Rattle.irig_edit.specs.Edits.Conditions.{is_full, is_range, is_overfull}
 use Rattle.irig_edit.specs.Edits.Edits.{IsAfter}
 use Rattle.irig_edit.specs.Edits.Refusals.{first_holding, tests_of}
 use Rattle.irig_edit.specs.Session.Calls.Call.{Make}
@@ -31,18 +34,31 @@ inverted_edges a b old new lt h after =
     (RisesFrom-flipped 0 b _ (omega arith) (RisesFrom-flipped 0 a _ (omega arith) h))
     (λ t. after.edges t ∙ sym (has-toggled t a b (edges_of old.pulses) lt h))
 
+-- an invert makes one pulse more at most
+one_more : (a b : ℕ) (ps qs : List Pulse) → edges_of qs ≡ toggled a b (edges_of ps) → length qs ≤ length ps + 1
+one_more a b ps qs e =
+    omega (
+      arith,
+      ap length e,
+      length-edges_of ps,
+      length-edges_of qs,
+      length-flipped_most a (edges_of ps),
+      length-flipped_most b (flipped a (edges_of ps)),
+    )
+
 -- some of the stretches are made, and others are left
 pub record Goes (all left : List Pulse) (old new : SessionView) : Type 0 where
   pub edges : patched left (edges_of new.state.pulses) ≡ patched all (edges_of old.state.pulses)
   pub micros : new.state.micros ≡ old.state.micros
   pub format : new.state.format ≡ old.state.format
   pub marks : new.state.marks ≡ old.state.marks
+  pub count : length new.state.pulses + length left ≤ length old.state.pulses + length all
   pub steps : length new.past + length left ≡ length old.past + length all
   pub track : RisesFrom 0 (edges_of new.state.pulses)
   pub rest : AreStretches new.state.micros left
 
 pub none_made : (all : List Pulse) (s : SessionView) → RisesFrom 0 (edges_of s.state.pulses) → AreStretches s.state.micros all → Goes all all s s
-none_made all s h rest = record { edges = refl; micros = refl; format = refl; marks = refl; steps = refl; track = h; rest = rest }
+none_made all s h rest = record { edges = refl; micros = refl; format = refl; marks = refl; count = omega arith; steps = refl; track = h; rest = rest }
 
 -- one stretch more is made
 pub one_made : (p : Pulse) (all left : List Pulse) (old mid new : SessionView) (done : Unit {0}) → Goes all (p ∷ left) old mid
@@ -57,6 +73,7 @@ one_made p all left old mid new done g step =
       micros = h.after.length ∙ g.micros;
       format = h.after.format ∙ g.format;
       marks = h.after.marks ∙ g.marks;
+      count = omega (arith, g.count, one_more p.rise p.fall mid.state.pulses new.state.pulses edges);
       steps = omega (arith, g.steps, ap (λ w. length w.past) h.steps);
       track = h.after.track.rises;
       rest = (
@@ -91,6 +108,25 @@ pub next_refused : (p : Pulse) (e : Refusal) (all left : List Pulse) (old mid ne
     → Steps (Make (Invert p.rise p.fall)) mid (Err e) new → StopsPatch e
 next_refused p e all left old mid new g step =
     refused_by p.rise p.fall e mid new (omega (arith, g.rest.0.1.0)) g.rest.1.1.0 step
+
+-- there are not too many pulses, if those before and the stretches are few
+never_full : (a b : ℕ) (s : State) → a < b → b ≤ s.micros → length s.pulses < 2 ^ 22 → first_holding (tests_of (Invert a b) s) ≡ None
+never_full a b s lt le few =
+    let range : is_range a b s ≡ true = and_from _ _ (lt-ltb a b lt) (le-leb b s.micros le) in
+    let room : is_full s ≡ false = lt-leb (2 ^ 22) (length s.pulses) few in
+    ap (λ v. if not v then Some OutOfRange else (if is_overfull a b s then Some TooMany else None)) range
+    ∙ ap (λ v. if v && not (is_edge a s.pulses || is_edge b s.pulses) then Some TooMany else None) room
+
+short_refused : (a b : ℕ) (e : Refusal) (old new : SessionView) → a < b → b ≤ old.state.micros → length old.state.pulses < 2 ^ 22
+    → Steps (Make (Invert a b)) old (Err e) new → e ≡ OutOfMemory
+short_refused a b OutOfMemory old new lt le few h = refl
+short_refused a b e old new lt le few h = absurd (none-some e (sym (never_full a b old.state lt le few) ∙ h.0))
+
+-- then the next stretch is refused only for memory
+pub next_short : (p : Pulse) (e : Refusal) (all left : List Pulse) (old mid new : SessionView) → length old.state.pulses + length all ≤ 2 ^ 22
+    → Goes all (p ∷ left) old mid → Steps (Make (Invert p.rise p.fall)) mid (Err e) new → e ≡ OutOfMemory
+next_short p e all left old mid new few g step =
+    short_refused p.rise p.fall e mid new (omega (arith, g.rest.0.1.0)) g.rest.1.1.0 (omega (arith, few, g.count)) step
 
 -- the stretches between two recordings lie within a length that no edge is above
 pub stretches_fit : (before after : RecordingView) → IsRecording before.micros before.edges → IsRecording after.micros after.edges → UpTo before.micros after.edges

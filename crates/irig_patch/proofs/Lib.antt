@@ -2,3 +2,4 @@ pub mod Inverts
 pub mod InvertLines
 pub mod ScriptLines
 pub mod ScriptRuns
+pub mod JoinedRuns

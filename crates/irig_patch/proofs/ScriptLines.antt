@@ -117,7 +117,7 @@ after_note P is_silent m n rest old new answers texts h k = by_test (m == n) ans
         }
 
 -- the line that writes
-write_means : Means command.Write (codes "write")
+pub write_means : Means command.Write (codes "write")
 write_means = (
   [],
   codes "write",

@@ -98,7 +98,7 @@ are_stretches run =
 short : {script : RecordingView → RecordingView → List ℕ} (run : RunOf script) → run.old.state.micros ≤ 2 ^ 40
 short run = omega (arith, length_is run, run.is_before.short)
 
-small : {script : RecordingView → RecordingView → List ℕ} (run : RunOf script) → UpTo (2 ^ 40) (edges_of (stretches_between run.before run.after))
+pub small : {script : RecordingView → RecordingView → List ℕ} (run : RunOf script) → UpTo (2 ^ 40) (edges_of (stretches_between run.before run.after))
 small run = UpTo-more run.old.state.micros (2 ^ 40) (edges_of (stretches_between run.before run.after)) (short run) (are_stretches run).1
 
 start_made : {script : RecordingView → RecordingView → List ℕ} (run : RunOf script)
@@ -147,17 +147,29 @@ run_stops run =
     let stop = runs_stop (stretches_between run.before run.after) 0 run.old run.new its.answers run.texts (short run) (are_stretches run).0 (are_stretches run).1 its.runs in
     (its.back stop.0, stop.1)
 
-pub run_writes : (run : RunOf patch_and_write) → AreGranted run.answers → run.texts ≡ file_text (made_of run.before run.after) ∷ []
-run_writes run granted =
+-- the run of the lines after the comment, with the line that writes
+pub write_its : (P : Reply → Type 0) → P Silent → (run : RunOf patch_and_write)
+    → AfterNote P run.old (invert_lines (stretches_between run.before run.after) ++ (codes "write" ∷ [])) run.answers run.texts run.new
+write_its P is_silent run =
     let all = stretches_between run.before run.after in
     let m = run.before.micros in let n = run.after.micros in
     let lines = ap script_lines (append_assoc (length_note m n) (script_of all) (codes "write\n"))
     ∙ script_lines-note m n (script_of all ++ codes "write\n") run.is_before.short run.is_after.short
     ∙ ap (λ (ls : List (List ℕ)). note_lines m n ++ ls) (script_lines-more all (codes "write\n") (small run)) in
-    let its = after_note IsGranted tt m n (invert_lines all ++ (codes "write" ∷ [])) run.old run.new run.answers run.texts run.is_before.short run.is_after.short
-    (subst (λ (ls : List (List ℕ)). Runs run.old ls run.answers run.texts run.new) lines run.runs) in
-    let g = runs_go all all (codes "write" ∷ []) run.old run.old run.new its.answers run.texts (small run) its.runs (its.on granted) (start_made run) in
+    after_note P is_silent m n (invert_lines all ++ (codes "write" ∷ [])) run.old run.new run.answers run.texts run.is_before.short run.is_after.short
+    (subst (λ (ls : List (List ℕ)). Runs run.old ls run.answers run.texts run.new) lines run.runs)
+
+-- if its lines are granted
+pub run_writes_by : (run : RunOf patch_and_write) (answers : List Answer)
+    → Runs run.old (invert_lines (stretches_between run.before run.after) ++ (codes "write" ∷ [])) answers run.texts run.new → AreGranted answers
+    → run.texts ≡ file_text (made_of run.before run.after) ∷ []
+run_writes_by run answers runs granted =
+    let all = stretches_between run.before run.after in
+    let g = runs_go all all (codes "write" ∷ []) run.old run.old run.new answers run.texts (small run) runs granted (start_made run) in
     write_runs g.mid run.new g.answers run.texts g.runs g.granted ∙ ap (λ r. file_text r ∷ []) (all_after run g.mid (all_made all run.old g.mid g.made))
+
+pub run_writes : (run : RunOf patch_and_write) → AreGranted run.answers → run.texts ≡ file_text (made_of run.before run.after) ∷ []
+run_writes run granted = (let its = write_its IsGranted tt run in run_writes_by run its.answers its.runs (its.on granted))
 
 pub as_long : (before after : RecordingView) → IsRecording after.micros after.edges → before.micros ≡ after.micros
     → (made_of before after ≡ after) × UpTo before.micros after.edges

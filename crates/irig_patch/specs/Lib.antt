@@ -1,2 +1,3 @@
 pub mod Patched
 pub mod Scripts
+pub mod Joined

@@ -1,10 +1,11 @@
 //! A patch between two recordings, made on a session.
 
-ghost use Rattle.std.specs.Prelude.{◌≡◌, ◌+◌, IfErr, OnOk, length};
+ghost use Rattle.std.specs.Prelude.{◌≡◌, ◌+◌, ◌≤◌, ◌^◌, IfErr, OnOk, length};
 ghost use Rattle.irig_recording.specs.Recording.{RisesFrom, UpTo};
 ghost use Rattle.irig_track.specs.Edges.{edges_of};
 ghost use Rattle.irig_difference.specs.Stretches.{stretches_between};
 ghost use Rattle.irig_edit.specs.State.State.{recording_of};
+ghost use Rattle.irig_edit.specs.declared.session.refusal.Refusal.TheVariants.{OutOfMemory};
 ghost use Rattle.irig_patch.specs.Patched.{AreStretches, Patches, StopsPatch, made_of};
 
 use irig_difference::{Differences, Recording};
@@ -22,6 +23,10 @@ pub fn patch(session: &mut Session, before: &Recording, after: &Recording) -> Re
     ensures patches { OnOk result
         (Patches (stretches_between before.now after.now) session.old session.new) }
     ensures refused { IfErr result StopsPatch }
+    // E5 cannot come if there is room for one more pulse for each stretch.
+    ensures few { length session.old.state.pulses
+        + length (stretches_between before.now after.now) ≤ 2 ^ 22
+        → IfErr result (λ e. e ≡ OutOfMemory) }
 {
     // Read for their laws alone.
     let _lengths = (before.length(), after.length());
@@ -34,6 +39,8 @@ fn invert_all(session: &mut Session, left: &mut Differences<'_>) -> Result<(), R
     requires left { AreStretches session.old.state.micros left.old }
     ensures patches { OnOk result (Patches left.old session.old session.new) }
     ensures refused { IfErr result StopsPatch }
+    ensures few { length session.old.state.pulses + length left.old ≤ 2 ^ 22
+        → IfErr result (λ e. e ≡ OutOfMemory) }
 {
     while let Some(stretch) = left.next() {
         session.invert(stretch.rise, stretch.fall)?;

@@ -21,7 +21,7 @@ date-later y n m days lt =
     ap (λ (b : Bool). if b then Some (m, days) else date_after y n (m + 1) (days - days_in_month (pos y) m)) (lt-leb days (days_in_month (pos y) m) lt)
 
 -- the records from a place on begin with that at the place
-from-place : (rs : List Record) (k : ℕ) (r : Record) → slice_get rs k ≡ Some r → drop k rs ≡ r ∷ drop (suc k) rs
+pub from-place : (rs : List Record) (k : ℕ) (r : Record) → slice_get rs k ≡ Some r → drop k rs ≡ r ∷ drop (suc k) rs
 from-place rs k r is = drop-cons rs k r (slice_get_within rs k r is) ∙ ap (λ (x : Record). x ∷ drop (suc k) rs) (get_or_from_slice_get rs k r r is)
 
 pub first-is : (f : FormatView) (rs : List Record) (k : ℕ) (r : Record) (g : Fields) → slice_get rs k ≡ Some r → timed f r.verdict ≡ Some g

@@ -9,3 +9,8 @@ pub mod TakenBytes
 pub mod Added
 pub mod Known
 pub mod RunSteps
+-- rows of a table
+pub mod TableRows
+-- digits of times
+pub mod DigitParts
+pub mod PrintedDigits

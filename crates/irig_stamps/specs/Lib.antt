@@ -7,3 +7,5 @@ pub mod Runs
 pub mod Steps
 pub mod Aligned
 pub mod Front
+pub mod Printed
+pub mod Tables

@@ -1,7 +1,8 @@
 -- What a command line asks for, and which value it cannot have. This project's own.
-use Rattle.std.specs.Prelude.{◌≡◌, ◌⊎◌, ◌&&◌, ◌+◌, ◌/◌, ◌^◌, ◌<◌, ◌≤◌, ℕ, Bool, true, false}
+use Rattle.std.specs.Prelude.{◌≡◌, ◌⊎◌, ◌&&◌, ◌||◌, ◌+◌, ◌/◌, ◌^◌, ◌<◌, ◌≤◌, ℕ, Bool, true, false}
 use Rattle.std.specs.Prelude.{nat_lt, not}
 use Rattle.std.specs.Prelude.{Option, Some, None, IfSome, codes, is_some}
+use Rattle.std.specs.Str.{bytes_eq}
 use Rattle.irig_codes.specs.Format.{FormatView, is_permitted}
 use Rattle.irig_codes.specs.Words.{kind_named}
 use Rattle.irig_codes.specs.declared.format.Kind.{Kind}
@@ -64,6 +65,14 @@ is_calendar Seconds = false
 abbrev pub lacks_year : FormatView → Settings → Bool
 lacks_year f s = is_calendar s.form && (not (is_some s.year) && nat_lt f.expression 4)
 
+-- whether the table is asked for
+abbrev pub wants_table : Asked → Bool
+wants_table a = bytes_eq (text_or a.table (codes "false")) (codes "true")
+
+-- whether an option is given that says how lines are read
+abbrev pub tells_of_lines : Asked → Bool
+tells_of_lines a = is_some a.unit || (is_some a.offset || (is_some a.column || is_some a.header))
+
 -- the values ask for this
 pub record IsChosen (a : Asked) (c : Chosen) : Type 0 where
   pub track : c.track ≡ a.track
@@ -71,6 +80,8 @@ pub record IsChosen (a : Asked) (c : Chosen) : Type 0 where
   pub format : IsFormat a c.format
   pub settings : HasSettings a c.settings
   pub year : lacks_year c.format c.settings ≡ false
+  pub table : c.table ≡ wants_table a
+  pub alone : (wants_table a && tells_of_lines a) ≡ false
 
 -- this option has a value that it cannot have
 abbrev pub HasFault : Asked → OptionFault → Type 0
@@ -89,3 +100,4 @@ HasFault a fault.Year = whole_between 1 9998 (text_or a.year (codes "")) ≡ Non
 HasFault a fault.Form = form_named (text_or a.form (codes "ordinal")) ≡ None
 HasFault a fault.NoYear = (f : FormatView) × (s : Settings) × IsFormat a f × HasSettings a s
     × (lacks_year f s ≡ true)
+HasFault a fault.Table = (wants_table a && tells_of_lines a) ≡ true

@@ -1,9 +1,10 @@
 -- What the program does for the words of its command line: from a dump and lines to the lines with
--- their times. This project's own.
-use Rattle.std.specs.Prelude.{◌≡◌, ℕ, List, Option, Ok, Err}
+-- their times, or from a dump to its table. This project's own.
+use Rattle.std.specs.Prelude.{◌≡◌, ℕ, Bool, true, false, List, Option, Ok, Err}
 use Rattle.clap.specs.Words.{Text}
 use Rattle.irig_recording.specs.Recording.{RecordingView}
 use Rattle.irig_stamps.specs.Aligned.{Aligns}
+use Rattle.irig_stamps.specs.Tables.{ListsRecording}
 use Rattle.irig_time.specs.Settings.{Reads}
 use Rattle.irig_time.specs.Tracks.{HasFault, Says, name_in}
 use Rattle.irig_time.specs.declared.chosen.Chosen.{Chosen}
@@ -11,7 +12,7 @@ use Rattle.irig_time.specs.declared.command_line.UsageFault.TheVariants.{Words}
 use Rattle.irig_time.specs.declared.command_line.UsageFault.TheVariants.{Value as of_value}
 use Rattle.irig_time.specs.declared.ending.Ending.{Ending}
 use Rattle.irig_time.specs.declared.ending.Ending.TheVariants.{Usage, Value, Unread, Aligned}
-use Rattle.irig_time.specs.declared.ending.Ending.TheVariants.{Broken}
+use Rattle.irig_time.specs.declared.ending.Ending.TheVariants.{Listed, Broken}
 
 -- what the files hold, by their paths
 abbrev pub Held : Type 0
@@ -26,14 +27,30 @@ AlignsAs chosen edges lines left from to (Broken fault) =
     Aligns chosen.format edges chosen.settings lines left from to (Err fault)
 AlignsAs chosen edges lines left from to _ = ⊥
 
+-- the table of the pulses that have these edges was printed, or the run was broken off
+abbrev pub ListsAs : Chosen → List ℕ → Option (List ℕ) → Option (List ℕ) → Ending → Type 0
+ListsAs chosen edges from to Listed =
+    ListsRecording chosen.format edges chosen.settings from to (Ok tt)
+ListsAs chosen edges from to (Broken fault) =
+    ListsRecording chosen.format edges chosen.settings from to (Err fault)
+ListsAs chosen edges from to _ = ⊥
+
+-- the table was printed and no line read, if it is asked for; else the lines were aligned
+abbrev pub RunsAs : Bool → Chosen → List ℕ → Option (List ℕ) → Option (List ℕ) → Option (List ℕ)
+    → Option (List ℕ) → Ending → Type 0
+RunsAs true chosen edges lines left from to ending =
+    (left ≡ lines) × ListsAs chosen edges from to ending
+RunsAs false chosen edges lines left from to ending =
+    AlignsAs chosen edges lines left from to ending
+
 -- the same with the edges of the wire that the file says
-pub record AlignsFile (held : Held) (chosen : Chosen) (lines left from to : Option (List ℕ))
+pub record RunsFile (held : Held) (chosen : Chosen) (lines left from to : Option (List ℕ))
     (ending : Ending) : Type 0 where
   pub recording : RecordingView
   pub of_track : Says (held chosen.track.now) (name_in chosen.wire) recording
-  pub aligned : AlignsAs chosen recording.edges lines left from to ending
+  pub ran : RunsAs chosen.table chosen recording.edges lines left from to ending
 
--- the lines were aligned with the track; or it was not read, and nothing was read or printed
+-- what is asked for was done with the track; or it was not read, and nothing was read or printed
 abbrev pub Obeys : Held → Chosen → Option (List ℕ) → Option (List ℕ) → Option (List ℕ)
     → Option (List ℕ) → Ending → Type 0
 Obeys held chosen lines left from to (Unread path fault) =
@@ -42,9 +59,11 @@ Obeys held chosen lines left from to (Unread path fault) =
 Obeys held chosen lines left from to (Usage error) = ⊥
 Obeys held chosen lines left from to (Value fault) = ⊥
 Obeys held chosen lines left from to (Aligned all) =
-    AlignsFile held chosen lines left from to (Aligned all)
+    RunsFile held chosen lines left from to (Aligned all)
+Obeys held chosen lines left from to Listed =
+    RunsFile held chosen lines left from to Listed
 Obeys held chosen lines left from to (Broken fault) =
-    AlignsFile held chosen lines left from to (Broken fault)
+    RunsFile held chosen lines left from to (Broken fault)
 
 -- what the words ask for was done; or they ask for nothing, and nothing was read or printed
 abbrev pub EndsBy : List Text → Held → Option (List ℕ) → Option (List ℕ) → Option (List ℕ)

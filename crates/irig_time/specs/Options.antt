@@ -1,12 +1,16 @@
--- The command line: ten options and the track. This project's own.
+-- The command line: eleven options and the track. This project's own.
 use Rattle.std.specs.Prelude.{◌≡◌, true, List, codes, Some}
 use Rattle.clap.specs.Words.{App, Rule, Text, new_app, new_rule, with_rule, HasMatchesOf}
-use Rattle.clap.specs.declared.builder.ArgAction.TheVariants.{Set}
+use Rattle.clap.specs.declared.builder.ArgAction.TheVariants.{Set, SetTrue}
 use Rattle.clap.specs.declared.parser.matches.ArgMatches.{ArgMatches}
 
 -- an option with a value
 abbrev pub option : Text → Rule
 option name = record (new_rule name) { long = Some name; action = Some Set; value_names = 1 }
+
+-- the option that asks for the table, which has no value
+abbrev pub table : Rule
+table = record (new_rule (codes "table")) { long = Some (codes "table"); action = Some SetTrue }
 
 -- the track, which has to be there
 abbrev pub track : Rule
@@ -27,8 +31,8 @@ placing =
 -- and how a time is written
 abbrev pub writing : App
 writing =
-    with_rule (with_rule (with_rule placing (option (codes "header"))) (option (codes "year")))
-    (option (codes "form"))
+    with_rule (with_rule (with_rule (with_rule placing (option (codes "header")))
+    (option (codes "year"))) (option (codes "form"))) table
 
 -- the command
 abbrev pub the_command : App

@@ -8,7 +8,7 @@ use Rattle.irig_time.specs.Ending.{EndsBy, Held}
 use Rattle.irig_time.specs.Errors.{IsHelp, IsMistake}
 use Rattle.irig_time.specs.declared.ending.Ending.{Ending}
 use Rattle.irig_time.specs.declared.ending.Ending.TheVariants.{Usage, Value, Unread, Aligned}
-use Rattle.irig_time.specs.declared.ending.Ending.TheVariants.{Broken}
+use Rattle.irig_time.specs.declared.ending.Ending.TheVariants.{Listed, Broken}
 
 -- what the program says of a file that it did not read
 abbrev pub unread_text : DumpFileFault → List ℕ
@@ -16,12 +16,14 @@ unread_text CannotBeRead = codes "cannot be read"
 unread_text TooLong = codes "too long"
 unread_text OutOfMemory = codes "V14 OutOfMemory"
 
--- the status for how the program ended: 0 if each line has a number, 1 if some have none, 2 for
+-- the status for how the program ended: 0 if each line has a number or the table was printed, 1 if
+-- some lines have none, 2 for
 -- another command line, 3 if the track was not read, 4 if the run was broken off. Help ends with 0,
 -- or with 4 if it could not be printed
 abbrev pub HasStatus : Ending → ℕ → Type 0
 HasStatus (Aligned true) status = status ≡ 0
 HasStatus (Aligned false) status = status ≡ 1
+HasStatus Listed status = status ≡ 0
 HasStatus (Usage error) status =
     (IsMistake error → status ≡ 2) × (IsHelp error → (status ≡ 0) ⊎ (status ≡ 4))
 HasStatus (Value fault) status = status ≡ 2

@@ -15,6 +15,8 @@ pub struct Chosen<'a> {
     pub format: Format,
     /// How lines are read and stamped.
     pub settings: Settings,
+    /// Whether the table of the frames is asked for, and no lines are read.
+    pub table: bool,
 }
 
 /// An option with a value that it cannot have.
@@ -50,4 +52,7 @@ pub enum OptionFault {
     /// A date is asked for, and neither the frames nor the options have the year.
     #[error("--form calendar: frames of this expression have no year, so give --year")]
     NoYear,
+    /// The table is asked for, and an option for lines that are not read.
+    #[error("--table: reads no lines, so without --unit, --offset, --column and --header")]
+    Table,
 }

@@ -5,7 +5,7 @@ ghost use Rattle.clap.specs.Words.{app_of, found_of, rule_of};
 ghost use Rattle.irig_time.specs.Chosen.{IsSound};
 ghost use Rattle.irig_time.specs.Errors.{IsMistake, MayRefuse, WantsMemory};
 ghost use Rattle.irig_time.specs.Options.{IsCommand, IsParsed, IsPlacing, IsReading, IsWriting};
-ghost use Rattle.irig_time.specs.Options.{option, track};
+ghost use Rattle.irig_time.specs.Options.{option, table, track};
 ghost use Rattle.irig_time.specs.Settings.{AreValues, Reads, Values};
 
 use crate::asked::Asked;
@@ -100,6 +100,7 @@ fn values_of<'a>(matches: &ArgMatches<'a>) -> Result<Asked<'a>, Error>
         header: matches.get_str("header"),
         year: matches.get_str("year"),
         form: matches.get_str("form"),
+        table: matches.get_str("table"),
     })
 }
 
@@ -128,7 +129,11 @@ fn writing<'a>(alloc: Global) -> Result<Command<'a>, AllocError>
     let header = option_arg(alloc, "header", "NUMBER", "lines handed through: 0");
     let year = option_arg(alloc, "year", "YEAR", "the year of the first fine frame");
     let form = option_arg(alloc, "form", "FORM", "ordinal, calendar or seconds");
-    placing(alloc)?.arg(header)?.arg(year)?.arg(form)
+    placing(alloc)?
+        .arg(header)?
+        .arg(year)?
+        .arg(form)?
+        .arg(table_arg(alloc))
 }
 
 /// Its options: also where the recorder's time is in a line.
@@ -184,6 +189,17 @@ fn option_arg<'a>(alloc: Global, name: &'a str, value: &'a str, help: &'a str) -
         .value_name(value)
         .help(help)
         .action(ArgAction::Set)
+}
+
+/// The option that asks for the table.
+fn table_arg<'a>(alloc: Global) -> Arg<'a>
+    ensures rule { rule_of result ≡ table }
+    ensures local { result.global ≡ false }
+{
+    Arg::new(alloc, "table")
+        .long("table")
+        .help("print a table of the frames; no lines are read")
+        .action(ArgAction::SetTrue)
 }
 
 /// The track, which has to be there.

@@ -25,6 +25,8 @@ pub enum Ending<'a> {
     Unread(&'a str, TrackFault),
     /// All lines were printed. The column of each has a number, or not.
     Aligned(bool),
+    /// The table was printed.
+    Listed,
     /// The run was broken off.
     Broken(RunFault),
 }

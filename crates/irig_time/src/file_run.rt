@@ -3,7 +3,7 @@
 ghost use Rattle.std.specs.Prelude.{◌≡◌, map, option_map, string_bytes};
 ghost use Rattle.irig_vcd.specs.Answer.{name_of};
 ghost use Rattle.irig_time.specs.Chosen.{IsSound};
-ghost use Rattle.irig_time.specs.Ending.{AlignsAs, EndsBy, Obeys};
+ghost use Rattle.irig_time.specs.Ending.{AlignsAs, EndsBy, ListsAs, Obeys, RunsAs};
 ghost use Rattle.irig_time.specs.Tracks.{IsTrackOf, name_in};
 
 use crate::chosen::Chosen;
@@ -11,7 +11,7 @@ use crate::command_line::{UsageFault, chosen};
 use crate::ending::{Ending, TrackFault};
 use irig_files::Disk;
 use irig_recording::Recording;
-use irig_stamps::align;
+use irig_stamps::{align, list};
 use std::alloc::Global;
 use std::io::{Read, Write};
 
@@ -27,14 +27,14 @@ pub fn align_words<'a, D: Disk, R: Read, W: Write>(
         (R.remaining lines.new) (W.contents out.old) (W.contents out.new) result }
 {
     match chosen(alloc, words) {
-        Ok(chosen) => align_file(alloc, &chosen, disk, lines, out),
+        Ok(chosen) => run_file(alloc, &chosen, disk, lines, out),
         Err(UsageFault::Words(error)) => Ending::Usage(error),
         Err(UsageFault::Value(fault)) => Ending::Value(fault),
     }
 }
 
-/// Aligns lines with the track that is chosen.
-fn align_file<'a, D: Disk, R: Read, W: Write>(
+/// Aligns lines with the track that is chosen, or prints its table.
+fn run_file<'a, D: Disk, R: Read, W: Write>(
     alloc: Global,
     chosen: &Chosen<'a>,
     disk: &D,
@@ -46,8 +46,43 @@ fn align_file<'a, D: Disk, R: Read, W: Write>(
         (W.contents out.old) (W.contents out.new) result }
 {
     match read_track(alloc, disk, chosen.track, chosen.wire) {
-        Ok(recording) => align_track(alloc, chosen, recording, lines, out),
+        Ok(recording) => run_track(alloc, chosen, recording, lines, out),
         Err(fault) => Ending::Unread(chosen.track, fault),
+    }
+}
+
+/// Aligns lines with a recording, or prints its table, as is asked for.
+fn run_track<'a, R: Read, W: Write>(
+    alloc: Global,
+    chosen: &Chosen<'a>,
+    recording: Recording,
+    lines: &mut R,
+    out: &mut W,
+) -> Ending<'a>
+    requires sound { IsSound chosen.now.settings }
+    ensures { RunsAs chosen.now.table chosen.now recording.edges (R.remaining lines.old)
+        (R.remaining lines.new) (W.contents out.old) (W.contents out.new) result }
+{
+    if chosen.table {
+        list_track(alloc, chosen, recording, out)
+    } else {
+        align_track(alloc, chosen, recording, lines, out)
+    }
+}
+
+/// Prints the table of a recording.
+fn list_track<'a, W: Write>(
+    alloc: Global,
+    chosen: &Chosen<'a>,
+    recording: Recording,
+    out: &mut W,
+) -> Ending<'a>
+    requires sound { IsSound chosen.now.settings }
+    ensures { ListsAs chosen.now recording.edges (W.contents out.old) (W.contents out.new) result }
+{
+    match list(alloc, recording, out, chosen.format, &chosen.settings) {
+        Ok(()) => Ending::Listed,
+        Err(fault) => Ending::Broken(fault),
     }
 }
 

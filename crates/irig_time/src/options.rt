@@ -3,7 +3,8 @@
 ghost use Rattle.std.specs.Prelude.{◌≡◌, ◌≤◌, ◌<◌, ◌^◌, IfErr, IfOk, IfSome, Some};
 ghost use Rattle.std.specs.Str.{bytes_eq};
 ghost use Rattle.irig_time.specs.Chosen.{HasColumns, HasDates, HasFault, HasSettings, IsChosen};
-ghost use Rattle.irig_time.specs.Chosen.{IsComma, IsFormat, IsSound, lacks_year};
+ghost use Rattle.irig_time.specs.Chosen.{IsComma, IsFormat, IsSound, lacks_year, tells_of_lines};
+ghost use Rattle.irig_time.specs.Chosen.{wants_table};
 ghost use Rattle.irig_time.specs.Values.{comma_named, digit_named, form_named, is_parting};
 ghost use Rattle.irig_time.specs.Values.{offset_named, places_named, prefix_places, text_or};
 ghost use Rattle.irig_time.specs.Values.{whole_between, within};
@@ -40,12 +41,34 @@ pub fn chosen_of<'a>(asked: &Asked<'a>) -> Result<Chosen<'a>, OptionFault>
     if lacks_year(format, &settings) {
         return Err(OptionFault::NoYear);
     }
+    let table = wants_table(asked);
+    if table && tells_of_lines(asked) {
+        return Err(OptionFault::Table);
+    }
     Ok(Chosen {
         track: asked.track,
         wire: asked.wire,
         format,
         settings,
+        table,
     })
+}
+
+/// Whether the table is asked for.
+fn wants_table(asked: &Asked<'_>) -> bool
+    ensures { result ≡ wants_table asked.now }
+{
+    is_text(text_or(asked.table, "false"), b"true")
+}
+
+/// Whether an option is given that says how lines are read.
+fn tells_of_lines(asked: &Asked<'_>) -> bool
+    ensures { result ≡ tells_of_lines asked.now }
+{
+    asked.unit.is_some()
+        || asked.offset.is_some()
+        || asked.column.is_some()
+        || asked.header.is_some()
 }
 
 /// The format that is asked for.

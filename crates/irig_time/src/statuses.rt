@@ -19,7 +19,7 @@ pub fn report<R: Print + Eprint>(rt: &R, ending: &Ending<'_>) -> ExitCode
         Ending::Value(fault) => tell(rt, 2, fault),
         Ending::Unread(path, TrackFault::File(fault)) => tell_of(rt, path, &unread_text(*fault)),
         Ending::Unread(path, TrackFault::Dump(fault)) => tell_of(rt, path, fault),
-        Ending::Aligned(true) => ExitCode::SUCCESS,
+        Ending::Aligned(true) | Ending::Listed => ExitCode::SUCCESS,
         Ending::Aligned(false) => ExitCode::from(1),
         Ending::Broken(fault) => tell(rt, 4, fault),
     }

@@ -9,6 +9,8 @@ pub mod Found
 pub mod Decisions
 pub mod Shares
 pub mod TimeLaws
+pub mod Chains
+pub mod Calendar
 -- looks
 pub mod FrameLookLemmas
 pub mod PulseLooks

@@ -140,3 +140,13 @@ module _ (f : FormatView) (rs : List Record) (are : AreFrames f rs) where
       let within = slice_get_within rs is.at is.one is.there in
       let up = parted.before is.at is.one is.there (omega arith) in
       omega (arith, up, is.place)
+
+-- up to the end of a frame with a time there are its marker and those before it
+pub parted-end : (f : FormatView) (ps : List Pulse) (k : ℕ) (r : Record) (g : Fields) → slice_get (frames f ps) k ≡ Some r → timed f r.verdict ≡ Some g
+    → PartedAt (frames f ps) (r.marker + 99) (k + 1)
+parted-end f ps k r g here tells = record {
+  before = λ j s there lt. omega (arith, up_to_here (frames f ps) r.marker k r (frames-rise f ps) here (omega arith) j s there lt);
+  after = λ j s there le.
+      let rise = frames-rise f ps k j r s here there (omega (arith, le)) in
+      frames-apart f ps k j r s g here there tells rise;
+}

@@ -55,7 +55,7 @@ module _ (f : FormatView) (w : List Pulse) where
     ]
   ]
 
-  judged-read : (o : Option (ℕ × Cause)) (g : Fields) (note : Note) → judged f w o ≡ Read g note → o ≡ None
+  pub judged-read : (o : Option (ℕ × Cause)) (g : Fields) (note : Note) → judged f w o ≡ Read g note → o ≡ None
   judged-read None g note e = refl
   judged-read (Some p) g note e = cc
 

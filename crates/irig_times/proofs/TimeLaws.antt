@@ -117,7 +117,7 @@ module _ (f : FormatView) (century micros : ℕ) (ps : List Pulse) (track : IsTr
     share-of = share-below (interval_of f.kind) (n - d * a.point.rise) (d * (a.to - a.point.rise)) (interval-some f.kind)
         (part-of d n x a)
 
-    micros-of : x.micros ≡ minute_micros a.fields
+    pub micros-of : x.micros ≡ minute_micros a.fields
         + (a.element * interval_of f.kind + share (interval_of f.kind) (n - d * a.point.rise) (d * (a.to - a.point.rise)))
     micros-of = ap (λ (z : Time). z.micros) a.is
 

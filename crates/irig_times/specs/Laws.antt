@@ -1,6 +1,7 @@
 -- What holds of the times of every track, in the words of the subject. This project's own.
-use Rattle.std.specs.Prelude.{◌≡◌, ◌↔◌, ℕ, ◌+◌, ◌*◌, ◌/◌, ◌<◌, ◌≤◌, List, slice_get, Some}
-use Rattle.irig_codes.specs.Format.{FormatView, interval_of}
+use Rattle.std.specs.Prelude.{◌≡◌, ◌↔◌, ℕ, ◌+◌, ◌*◌, ◌/◌, ◌<◌, ◌≤◌, List, slice_get, Some, IfSome}
+use Rattle.std.specs.Prelude.{is_some}
+use Rattle.irig_codes.specs.Format.{FormatView, has_year, interval_of}
 use Rattle.irig_codes.specs.declared.fields.Fields.{Fields}
 use Rattle.irig_recording.specs.declared.pulse.Pulse.{Pulse}
 use Rattle.irig_track.specs.Track.{IsTrack}
@@ -55,3 +56,16 @@ abbrev pub PicosecondsSuffice : Type 0
 PicosecondsSuffice = (f : FormatView) (century micros : ℕ) (ps : List Pulse) → IsTrack micros ps
     → (d : ℕ) → 0 < d → (n : ℕ) (x : Time)
     → HasTime f century ps d n x ↔ HasTime f century ps 1000000 (n * 1000000 / d) x
+
+-- a time is a minute of an hour of a day of a year; the year, if it is known, has two digits
+pub record IsOfCalendar (x : Time) : Type 0 where
+  pub year : IfSome x.year (λ y. y ≤ 99)
+  pub first : 1 ≤ x.days
+  pub days : x.days ≤ 366
+  pub hours : x.hours ≤ 23
+  pub minutes : x.minutes ≤ 59
+
+-- all times of a track are so, and their years are known if frames carry them
+abbrev pub TimesAreOfCalendar : Type 0
+TimesAreOfCalendar = (f : FormatView) (century : ℕ) (ps : List Pulse) (d n : ℕ) (x : Time)
+    → HasTime f century ps d n x → IsOfCalendar x × (is_some x.year ≡ has_year f.expression)

@@ -1,5 +1,6 @@
+use Rattle.irig_patch.proofs.JoinedRuns.{patches_join}
 use Rattle.irig_patch.proofs.ScriptRuns.{as_long, run_made, run_stops, run_writes}
 use Rattle.irig_patch.proofs.law.patches_are_scripts.Goals as goal
 
 pub returns : goal.returns
-returns c = record { make = run_made; stop = run_stops; write = run_writes; as_long = as_long }
+returns c = record { make = run_made; stop = run_stops; write = run_writes; joined = patches_join; as_long = as_long }

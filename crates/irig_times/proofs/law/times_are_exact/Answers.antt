@@ -1,3 +1,5 @@
+use Rattle.irig_times.proofs.Calendar.{times_are_of_calendar}
+use Rattle.irig_times.proofs.Chains.{chains_never_fall}
 use Rattle.irig_times.proofs.OneTime.{one_time}
 use Rattle.irig_times.proofs.TimeLaws.{before_the_next, exact_at_points, in_its_minute, never_falls, picoseconds_suffice}
 use Rattle.irig_times.proofs.law.times_are_exact.Goals as goal
@@ -19,3 +21,9 @@ returns-clause-minute c = in_its_minute
 
 pub returns-clause-picos : goal.returns-clause-picos
 returns-clause-picos c = picoseconds_suffice
+
+pub returns-clause-chains : goal.returns-clause-chains
+returns-clause-chains c = chains_never_fall
+
+pub returns-clause-calendar : goal.returns-clause-calendar
+returns-clause-calendar c = times_are_of_calendar

@@ -1,0 +1,137 @@
+-- A patch that was printed, and run with `write` after it.
+use Rattle.std.proofs.Common.{◌≡◌, ◌+◌, ◌<◌, ◌≤◌, ◌^◌, ◌++◌, ◌∷◌, ◌∙◌, ℕ, Bool, true, false, List, [], Option, Some, None, Ok, Err, codes, refl, sym, ap, subst, arith, inl, inr, append_assoc, Result, if◌then◌else◌}
+use Rattle.std.specs.List.{AllByRecursion}
+use Rattle.std.proofs.lemmas.Option.{none-some}
+use Rattle.irig_text.specs.Shelved.{Puts}
+use Rattle.irig_codes.specs.Format.{FormatView}
+use Rattle.irig_recording.specs.FileText.{file_text}
+use Rattle.irig_recording.specs.Recording.{RecordingView, UpTo}
+use Rattle.irig_recording.specs.declared.pulse.Pulse.{Pulse}
+use Rattle.irig_track.specs.Edges.{edges_of}
+use Rattle.irig_vcd.specs.Parts.{dump_parts}
+use Rattle.irig_vcd.specs.declared.fault.VcdFault.{VcdFault}
+use Rattle.irig_edit.specs.Opened.Openings.{IsOpened}
+use Rattle.irig_edit.specs.Session.Calls.Edit.{Invert}
+use Rattle.irig_edit.specs.State.State.{recording_of}
+use Rattle.irig_lines.specs.Lines.{script_lines}
+use Rattle.irig_lines.specs.declared.command.Command.{Command}
+use Rattle.irig_lines.specs.declared.command.Command.TheVariants as command
+use Rattle.irig_lines.proofs.LineOrders.{means_one}
+use Rattle.irig_script.specs.Obey.Answer.{Answered}
+use Rattle.irig_script.specs.Obey.Desk.{failures_in, failures_of, is_refusal, status_after}
+use Rattle.irig_script.specs.Obey.Machine.{Machine}
+use Rattle.irig_script.specs.Obey.Obeying.{Obeys}
+use Rattle.irig_script.specs.Obey.Replies.{Makes, Writes, dump_text}
+use Rattle.irig_script.specs.Obey.Run.{Runs}
+use Rattle.irig_script.specs.Print.Printed.{Answer}
+use Rattle.irig_script.specs.declared.obey.status.Status.{Status}
+use Rattle.irig_script.specs.declared.obey.status.Status.TheVariants.{AllAccepted, SomeRefused}
+use Rattle.irig_script.specs.declared.print.reply.Reply.{Reply}
+use Rattle.irig_script.specs.declared.print.reply.Reply.TheVariants.{Silent, Refused, Written, WriteFailed}
+use Rattle.irig_difference.specs.Stretches.{stretches_between}
+use Rattle.irig_patch.specs.Joined.{JoinedRun, PatchesJoin}
+use Rattle.irig_patch.specs.Patched.{made_of}
+use Rattle.irig_patch.specs.Scripts.{AreGranted, IsGranted, RunOf, patch_and_write}
+use Rattle.irig_patch.proofs.ScriptLines.{answered, invert_lines, write_means}
+use Rattle.irig_patch.proofs.ScriptRuns.{run_writes_by, small, write_its}
+
+-- no answer is a refusal
+abbrev AreAccepted : List Answer → Type 0
+AreAccepted answers = AllByRecursion (λ a. is_refusal a.reply ≡ false) answers
+
+refused_stays : (answers : List Answer) → status_after SomeRefused answers ≡ SomeRefused
+refused_stays [] = refl
+refused_stays (a ∷ answers) = elim (is_refusal a.reply) as (λ v. status_after (if v then SomeRefused else SomeRefused) answers ≡ SomeRefused) [
+  | true ↦ refused_stays answers
+  | false ↦ refused_stays answers
+]
+
+apart : AllAccepted ≡ SomeRefused → ⊥
+apart h = cc
+
+first_accepted : (v : Bool) (answers : List Answer) → status_after (if v then SomeRefused else AllAccepted) answers ≡ AllAccepted
+    → (v ≡ false) × (status_after AllAccepted answers ≡ AllAccepted)
+first_accepted false answers e = (refl, e)
+first_accepted true answers e = absurd (apart (sym e ∙ refused_stays answers))
+
+all_accepted : (answers : List Answer) → status_after AllAccepted answers ≡ AllAccepted → AreAccepted answers
+all_accepted [] e = tt
+all_accepted (a ∷ answers) e = (let it = first_accepted (is_refusal a.reply) answers e in (it.0, all_accepted answers it.1))
+
+none_failed : (reply : Reply) → is_refusal reply ≡ false → failures_of reply ≡ 0
+none_failed WriteFailed e = absurd (cc e)
+none_failed _ e = refl
+
+no_failures : (answers : List Answer) → AreAccepted answers → failures_in answers ≡ 0
+no_failures [] h = refl
+no_failures (a ∷ answers) h = omega (arith, none_failed a.reply h.0, no_failures answers h.1)
+
+-- an edit that is not refused is silent
+edit_granted : (a b : ℕ) (reply : Reply) (old new : Machine) → is_refusal reply ≡ false → Makes (Invert a b) old reply new → IsGranted reply
+edit_granted a b Silent old new e h = tt
+edit_granted a b (Refused why) old new e h = absurd (cc e)
+edit_granted a b _ old new e h = absurd h
+
+write_reply : (text : List ℕ) (reply : Reply) → is_refusal reply ≡ false → Writes text reply → IsGranted reply
+write_reply text (Written count) e h = tt
+write_reply text WriteFailed e h = absurd (cc e)
+write_reply text _ e h = absurd h
+
+-- the line that writes is granted, if it is not refused
+write_granted : (old new : Machine) (answer : Answer) (put : List (List ℕ)) → is_refusal answer.reply ≡ false → Answered old (codes "write") answer put new
+    → IsGranted answer.reply
+write_granted old new answer put e is = elim is.0 [
+  | inl long ↦ absurd (omega (arith, long.0))
+  | inr rest ↦ elim rest [
+    | inl bad ↦ absurd (bad.1 command.Write write_means)
+    | inr obeyed ↦ (
+        let same : obeyed.1.0 ≡ command.Write = means_one (codes "write") obeyed.1.0 command.Write obeyed.1.1 write_means in
+        let wrote = subst (λ (c : Command). Obeys c old answer.reply new) same obeyed.1.2 in
+        write_reply (dump_text old) answer.reply e wrote.0)
+  ]
+]
+
+all_granted : (ps : List Pulse) (old new : Machine) (answers : List Answer) (texts : List (List ℕ)) → UpTo (2 ^ 40) (edges_of ps)
+    → Runs old (invert_lines ps ++ (codes "write" ∷ [])) answers texts new → AreAccepted answers → AreGranted answers
+all_granted [] old new [] texts u r s = absurd r
+all_granted [] old new (a ∷ []) texts u r s = (write_granted old r.0 a r.1 s.0 r.2, tt)
+all_granted [] old new (a ∷ b ∷ answers) texts u r s = absurd r.3.2
+all_granted (p ∷ ps) old new [] texts u r s = absurd r
+all_granted (p ∷ ps) old new (a ∷ answers) texts u r s =
+    let step = answered p.rise p.fall old r.0 a r.1 u.0 u.1.0 r.2 in
+    (edit_granted p.rise p.fall a.reply old r.0 s.0 step.0, all_granted ps r.0 new answers r.3.0 u.1.1 r.3.2 s.1)
+
+-- the session of a dump without a journal is one of its recording
+abbrev parts_or : Result (RecordingView × Option (List ℕ)) VcdFault → RecordingView × Option (List ℕ) → RecordingView × Option (List ℕ)
+parts_or (Ok parts) other = parts
+parts_or (Err fault) other = other
+
+opened_before : (wire : Option (List ℕ)) (dump : List ℕ) (format : FormatView) (before : RecordingView) (m : Machine) → dump_parts wire dump ≡ Ok (before, None)
+    → IsOpened wire dump format m → recording_of m.state ≡ before
+opened_before wire dump format before m is (inl h) = h.2.recording ∙ ap (λ x. (parts_or x (before, None)).0) (sym h.1 ∙ is)
+opened_before wire dump format before m is (inr h) = absurd (none-some h.1.0 (sym (ap (λ x. (parts_or x (before, None)).1) (sym h.1.1.1 ∙ is))))
+
+pub patches_join : PatchesJoin
+patches_join run =
+    let ran = run.ran.ran in
+    let text = ap (λ t. t ++ codes "write\n") run.printing in
+    let accepted = all_accepted ran.answers (sym ran.status) in
+    let its_of : RunOf patch_and_write = record {
+      before = run.before;
+      after = run.after;
+      is_before = run.is_before;
+      is_after = run.is_after;
+      covers = run.covers;
+      old = run.ran.first;
+      new = run.ran.last;
+      opened = opened_before run.wire run.dump run.format run.before run.ran.first run.of_dump run.ran.opened;
+      answers = ran.answers;
+      texts = ran.texts;
+      runs = subst (λ t. Runs run.ran.first (script_lines t) ran.answers ran.texts run.ran.last) text ran.runs;
+    } in
+    let its = write_its (λ reply. is_refusal reply ≡ false) refl its_of in
+    let all = stretches_between run.before run.after in
+    let granted = all_granted all run.ran.first run.ran.last its.answers ran.texts (small its_of) its.runs (its.on accepted) in
+    let texts = run_writes_by its_of its.answers its.runs granted in
+    let put = ran.told.put in
+    subst (λ ts. Puts run.from.shelf run.to.shelf ts 0) texts (subst (λ n. Puts run.from.shelf run.to.shelf ran.texts n) (no_failures ran.answers accepted) put)

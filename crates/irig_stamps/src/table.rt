@@ -1,0 +1,158 @@
+//! A table of the frames of a track that have a time.
+
+ghost use Rattle.std.specs.Prelude.{◌≡◌, ◌≤◌, ◌<◌, ◌++◌, ℕ, List, Some, slice_get, length};
+ghost use Rattle.std.specs.Prelude.{IfOk, IfSome, OnOk, Option};
+ghost use Rattle.irig_index.specs.Frames.{frames};
+ghost use Rattle.irig_index.specs.declared.record.Record.{Record};
+ghost use Rattle.irig_times.specs.Starts.{IsStartOf};
+ghost use Rattle.irig_times.specs.declared.start.FrameStart.{FrameStart};
+ghost use Rattle.irig_stamps.specs.Aligned.{with_first_day};
+ghost use Rattle.irig_stamps.specs.Tables.{IsTable, Lists, ListsRecording, answer_of, row_of};
+ghost use Rattle.irig_stamps.specs.Tables.{row_text};
+
+use crate::fault::RunFault;
+use crate::first_day::first_day;
+use crate::printing::put_all;
+use crate::settings::Settings;
+use crate::text::{put_number, put_word};
+use irig_codes::Format;
+use irig_index::Index;
+use irig_recording::Recording;
+use irig_times::{FrameLens, FrameStart, start_of};
+use irig_track::{Lens, Track};
+use std::alloc::{AllocError, Global};
+use std::io::Write;
+
+/// Prints the table of a recording: a row for each frame that has a time. It is made before it is
+/// printed, so nothing is printed if memory runs out.
+pub fn list<W: Write>(
+    alloc: Global,
+    recording: Recording,
+    out: &mut W,
+    format: Format,
+    settings: &Settings,
+) -> Result<(), RunFault>
+    requires century { settings.now.century ≤ 99 }
+    requires year { IfSome settings.now.year (λ y. y ≤ 9998) }
+    ensures { ListsRecording format recording.edges settings.now (W.contents out.old)
+        (W.contents out.new) result }
+{
+    let Ok(track) = Track::new(recording) else {
+        return Err(RunFault::OutOfMemory);
+    };
+    list_track(alloc, &track, out, format, settings)
+}
+
+/// The same of a track.
+fn list_track<W: Write>(
+    alloc: Global,
+    track: &Track,
+    out: &mut W,
+    format: Format,
+    settings: &Settings,
+) -> Result<(), RunFault>
+    requires century { settings.now.century ≤ 99 }
+    requires year { IfSome settings.now.year (λ y. y ≤ 9998) }
+    ensures { Lists format track.now.pulses (with_first_day format track.now.pulses settings.now)
+        (W.contents out.old) (W.contents out.new) result }
+{
+    let mut lens = track.lens();
+    let Ok(index) = Index::build(alloc, &mut lens, format) else {
+        return Err(RunFault::OutOfMemory);
+    };
+    let mut records = FrameLens::new(&index);
+    let settings = Settings {
+        first_day: first_day(&mut records, format),
+        ..*settings
+    };
+    let Ok(text) = table(alloc, &mut lens, &mut records, format, &settings) else {
+        return Err(RunFault::OutOfMemory);
+    };
+    match put_all(out, &text) {
+        Ok(()) => Ok(()),
+        Err(_) => Err(RunFault::PrintFailed),
+    }
+}
+
+/// The table of the frames of some records.
+fn table(
+    alloc: Global,
+    pulses: &mut Lens<'_>,
+    records: &mut FrameLens<'_>,
+    format: Format,
+    settings: &Settings,
+) -> Result<Vec<u8>, AllocError>
+    requires frames { records.old.records ≡ frames format pulses.old.track.pulses }
+    requires century { settings.now.century ≤ 99 }
+    requires year { IfSome settings.now.year (λ y. y ≤ 9998) }
+    ensures { IfOk result (λ text. IsTable format pulses.old.track.pulses settings.now
+        records.old.records text.items) }
+{
+    let mut text = Vec::new(alloc);
+    for place in 0..records.len() {
+        put_frame(&mut text, pulses, records, format, settings, place)?;
+    }
+    Ok(text)
+}
+
+/// Adds the row of the record at a place, if its frame has a time.
+fn put_frame(
+    text: &mut Vec<u8>,
+    pulses: &mut Lens<'_>,
+    records: &mut FrameLens<'_>,
+    format: Format,
+    settings: &Settings,
+    place: usize,
+) -> Result<(), AllocError>
+    requires frames { records.old.records ≡ frames format pulses.old.track.pulses }
+    requires century { settings.now.century ≤ 99 }
+    requires year { IfSome settings.now.year (λ y. y ≤ 9998) }
+    requires place { place < length records.old.records }
+    ensures row { OnOk result ((r : Record) → slice_get records.old.records place ≡ Some r
+        → (start : Option FrameStart)
+        × IsStartOf format settings.now.century pulses.old.track.pulses r start
+        × (text.new.items ≡ text.old.items ++ row_of settings.now start)) }
+    ensures pulses { pulses.new.track ≡ pulses.old.track }
+    ensures same { records.new.records ≡ records.old.records }
+{
+    let start = start_of(pulses, records, format, settings.century, place);
+    put_start(text, settings, start)
+}
+
+/// Adds the row of a frame, if there is one.
+fn put_start(
+    text: &mut Vec<u8>,
+    settings: &Settings,
+    start: Option<FrameStart>,
+) -> Result<(), AllocError>
+    requires century { settings.now.century ≤ 99 }
+    requires year { IfSome settings.now.year (λ y. y ≤ 9998) }
+    ensures { OnOk result (text.new.items ≡ text.old.items ++ row_of settings.now start) }
+{
+    match start {
+        Some(start) => put_row(text, settings, &start),
+        None => Ok(()),
+    }
+}
+
+/// Adds the row of a frame.
+fn put_row(text: &mut Vec<u8>, settings: &Settings, start: &FrameStart) -> Result<(), AllocError>
+    requires century { settings.now.century ≤ 99 }
+    requires year { IfSome settings.now.year (λ y. y ≤ 9998) }
+    ensures { OnOk result (text.new.items ≡ text.old.items ++ row_text settings.now start.now) }
+{
+    let comma = settings.comma.unwrap_or(b'\t');
+    put_number(text, start.rise)?;
+    text.extend_from_slice(&[comma])?;
+    put_word(text, settings, Some(start.time))?;
+    text.extend_from_slice(&[comma])?;
+    text.extend_from_slice(answer(start.is_followed))?;
+    text.extend_from_slice(b"\n")
+}
+
+/// The answer to a question.
+fn answer<'a>(is_so: bool) -> &'a [u8]
+    ensures { result.now ≡ answer_of is_so }
+{
+    if is_so { b"yes" } else { b"no" }
+}

@@ -1,0 +1,97 @@
+//! Where frames start.
+
+ghost use Rattle.std.specs.Prelude.{◌≡◌, ◌↔◌, ◌<◌, ◌≤◌, ◌+◌, IsTrue, length, slice_get, Some};
+ghost use Rattle.irig_codes.specs.Format.{FormatView};
+ghost use Rattle.irig_index.specs.Frames.{frames};
+ghost use Rattle.irig_index.specs.declared.record.Record.{Record};
+ghost use Rattle.irig_recording.specs.declared.pulse.Pulse.{Pulse};
+ghost use Rattle.irig_times.specs.Elements.{IsFollowed};
+ghost use Rattle.irig_times.specs.FrameLooks.{PartedAt};
+ghost use Rattle.irig_times.specs.Starts.{IsStartOf};
+ghost use Rattle.irig_times.specs.Times.{time_in};
+
+use crate::frame_lens::FrameLens;
+use crate::point::{Point, is_followed};
+use crate::time::{Time, time_in, timed};
+use irig_codes::{Fields, Format};
+use irig_track::Lens;
+
+/// Where a frame starts that has a time.
+#[derive(Clone, Copy)]
+pub struct FrameStart {
+    /// When its marker rises, in microseconds.
+    pub rise: u64,
+    /// Its time.
+    pub time: Time,
+    /// Whether the frame after it follows it.
+    pub is_followed: bool,
+}
+
+/// Where the frame of the record at a place starts, if it has a time.
+pub fn start_of(
+    pulses: &mut Lens<'_>,
+    records: &mut FrameLens<'_>,
+    format: Format,
+    century: u32,
+    place: usize,
+) -> Option<FrameStart>
+    requires frames { records.old.records ≡ frames format pulses.old.track.pulses }
+    requires century { century ≤ 99 }
+    requires place { place < length records.old.records }
+    ensures exact { (r : Record) → slice_get records.old.records place ≡ Some r
+        → IsStartOf format century pulses.old.track.pulses r result }
+    ensures pulses { pulses.new.track ≡ pulses.old.track }
+    ensures same { records.new.records ≡ records.old.records }
+{
+    // Read for its bound alone.
+    let _count = records.len();
+    let record = records.record(place);
+    match timed(format, record.verdict) {
+        Some(fields) => Some(started(
+            pulses,
+            records,
+            format,
+            century,
+            record.marker,
+            fields,
+            place + 1,
+        )),
+        None => None,
+    }
+}
+
+/// Where the frame of a marker starts, up to which there are `next` records.
+fn started(
+    pulses: &mut Lens<'_>,
+    records: &mut FrameLens<'_>,
+    format: Format,
+    century: u32,
+    marker: usize,
+    fields: Fields,
+    next: usize,
+) -> FrameStart
+    requires frames { records.old.records ≡ frames format pulses.old.track.pulses }
+    requires century { century ≤ 99 }
+    requires stands { marker < length pulses.old.track.pulses }
+    requires parted { PartedAt records.old.records (marker + 99) next }
+    ensures rise { (p : Pulse) → slice_get pulses.old.track.pulses marker ≡ Some p
+        → result.rise ≡ p.rise }
+    ensures time { result.time ≡ time_in fields 0 }
+    ensures follows { IsTrue result.is_followed
+        ↔ IsFollowed format century records.old.records (marker + 99) fields }
+    ensures pulses { pulses.new.track ≡ pulses.old.track }
+    ensures same { records.new.records ≡ records.old.records }
+{
+    // Read for its bound alone.
+    let _count = pulses.len();
+    let point = Point {
+        fields,
+        element: 99,
+        next,
+    };
+    FrameStart {
+        rise: pulses.pulse(marker).rise,
+        time: time_in(&fields, 0),
+        is_followed: is_followed(records, format, century, marker + 99, &point),
+    }
+}
