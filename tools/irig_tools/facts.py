@@ -3,7 +3,7 @@ from __future__ import annotations
 
 import json
 import re
-from typing import Dict, List, Optional, Sequence, Tuple
+from typing import Dict, Optional, Sequence, Tuple
 
 from .damage import Damage
 from .dump_offset import Offset
@@ -33,6 +33,7 @@ KINDS: Tuple[Tuple[str, str], ...] = (
     ("is it another", "format"),
 )
 STEPS = frozenset(("step", "cut", "twice", "times"))  # of the recorder's clock
+UNDECIDED = "undecided"  # the word in a comment, if nothing decides
 FRAME = re.compile(r"frame ([0-9:T-]+), element ([0-9]+)(?: to (?:frame ([0-9:T-]+), element )?([0-9]+))?")
 PULSES = re.compile(r"pulses? ([0-9]+)(?: to ([0-9]+))?")
 MOVED = re.compile(r"on all comes ([0-9]+) (late|early)")
@@ -78,7 +79,7 @@ def of_repair(repair: Repair, offset: Optional[Offset]) -> Object:
 
 
 def is_undecided(repair: Repair) -> bool:
-    return any("undecided" in comment for comment in repair.comments)
+    return any(UNDECIDED in comment for comment in repair.comments)
 
 
 def _original(at: int, offset: Optional[Offset]) -> Object:
@@ -101,8 +102,3 @@ def damages(found: Sequence[Damage], offset: Optional[Offset]) -> str:
 
 def repairs(script: Sequence[Repair], offset: Optional[Offset]) -> str:
     return lines([of_repair(each, offset) for each in script])
-
-
-def steps(found: Sequence[Damage]) -> List[Damage]:
-    """The damage that is a step of the recorder's clock."""
-    return [each for each in found if kind_of(each.seen) in STEPS]

@@ -14,7 +14,7 @@ from .damage_program import say
 from .editor import Editor, Progress, progress_to
 from .ending import FOUND, SOUND, Usage, complain
 from .explain import explained
-from .facts import is_undecided, lines, repairs
+from .facts import UNDECIDED, lines, repairs
 from .mend import called_for, propose, text
 from .opening import Opened, is_of_one_wire, opened
 from .options import DUMP, EDITOR, JSON, TIMESCALE, WIRE, Command, Given, Option, a_file
@@ -140,9 +140,9 @@ def report(given: Given, script: List[Repair], done: Summary) -> None:
         stream.write(lines([as_object(done)]))
         return
     stream.write("%s: %s\n" % (given.names[0], done.text()))
-    for repair in script:
-        if is_undecided(repair):
-            stream.write("".join("# %s\n" % comment for comment in repair.comments))
+    for comment in (comment for repair in script for comment in repair.comments):
+        if UNDECIDED in comment:
+            stream.write("# %s\n" % comment)
 
 
 def main() -> int:
