@@ -12,6 +12,8 @@ use Rattle.irig_script.specs.declared.obey.dump_run.DumpRunFault.{DumpRunFault}
 use Rattle.irig_script.specs.declared.obey.dump_run.DumpRunFault.TheVariants.{Dump}
 use Rattle.irig_files.proofs.Intakes.{tells_heading}
 use Rattle.irig_ed.specs.Ending.{Ends, Files, RunsBy, ends}
+use Rattle.irig_ed.specs.Shortage.{IsShortOnly}
+use Rattle.irig_ed.proofs.Sound.{never_parts}
 use Rattle.irig_files.specs.Puts.{texts_at}
 use Rattle.irig_files.specs.Writes.{Write}
 use Rattle.irig_settings.specs.declared.chosen.Settings.{Settings}
@@ -25,10 +27,11 @@ pub runs_by : (given : Files) (chosen : Settings) (source : List ℕ) (out out_n
     (label label_new : List ℕ) (writes new : Option (List Write)) (failures failures_new : ℕ) (result : Result Status DumpRunFault)
     → label_new ≡ label → texts ≡ texts_at (given.paths chosen.out.now) writes → texts_new ≡ texts_at (given.paths chosen.out.now) new → failures ≡ 0
     → given.kept chosen.out.now
+    → IsShortOnly chosen source result
     → RunsOnDump (wire_in chosen) chosen.format source script left (desk out (shelved texts failures label))
     (desk out_new (shelved texts_new failures_new label_new)) result
     → RunsBy given chosen source (ends out writes script) (ends out_new new left) result
-runs_by given chosen source out out_new script left texts texts_new label label_new writes new failures failures_new result e p q z kept h = record {
+runs_by given chosen source out out_new script left texts texts_new label label_new writes new failures failures_new result e p q z kept short h = record {
   label = label;
   failures = failures_new;
   ran = subst (λ (d : Desk). RunsOnDump (wire_in chosen) chosen.format source script left d
@@ -36,6 +39,7 @@ runs_by given chosen source out out_new script left texts texts_new label label_
       (λ j. desk out (shelved (p j) (z j) label))
       (subst (λ (d : Desk). RunsOnDump (wire_in chosen) chosen.format source script left (desk out (shelved texts failures label)) d result)
       (λ j. desk out_new (shelved (q j) failures_new (e j))) h);
+  short = short;
   kept = kept;
 }
 
@@ -46,5 +50,6 @@ fails_by given chosen source at fault kept is = record {
   label = [];
   failures = 0;
   ran = (inl (fails_now fault (dump_parts (wire_in chosen) source) is), (λ e h. tells_heading (wire_in chosen) source fault e is h), refl, refl);
+  short = λ memory. absurd (never_parts (wire_in chosen) source fault is (cc memory));
   kept = kept;
 }

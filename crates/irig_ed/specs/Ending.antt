@@ -11,6 +11,7 @@ use Rattle.irig_script.specs.declared.obey.dump_run.DumpRunFault.{DumpRunFault}
 use Rattle.irig_settings.specs.Settings.{Reads}
 use Rattle.irig_files.specs.Puts.{texts_at}
 use Rattle.irig_files.specs.Writes.{Write}
+use Rattle.irig_ed.specs.Shortage.{IsShortOnly}
 use Rattle.irig_ed.specs.Statuses.{HasStatus}
 use Rattle.irig_settings.specs.declared.chosen.Settings.{Settings}
 use Rattle.irig_ed.specs.declared.ending.Ending.{Ending}
@@ -28,8 +29,7 @@ pub record Ends : Type 0 where
 abbrev pub ends : Option (List ℕ) → Option (List Write) → Option (List ℕ) → Ends
 ends out writes script = record { out = out; writes = writes; script = script }
 
--- what the program was given besides: what files hold, where paths lead, and what a crash leaves of
--- what is written to one
+-- what else was given: what files hold, where paths lead, what a crash leaves of what is written
 pub record Files : Type 1 where
   pub held : List ℕ → Option (List ℕ)
   pub paths : List ℕ → Option (List ℕ)
@@ -40,8 +40,8 @@ abbrev pub files : (List ℕ → Option (List ℕ)) → (List ℕ → Option (Li
     → Files
 files held paths kept = record { held = held; paths = paths; kept = kept }
 
--- The script ran on the bytes, by the wire and the format of the settings; what was written was
--- written where their path to write leads, and is kept through a crash at any moment.
+-- The script ran on the bytes, by the wire and the format of the settings, if its session was not
+-- out of memory; what was written is where their path to write leads, kept through each crash.
 pub record RunsBy (given : Files) (chosen : Settings) (source : List ℕ) (old new : Ends)
     (result : Result Status DumpRunFault) : Type 0 where
   pub label : List ℕ
@@ -51,6 +51,7 @@ pub record RunsBy (given : Files) (chosen : Settings) (source : List ℕ) (old n
       (desk old.out (shelved (texts_at (given.paths chosen.out.now) old.writes) 0 label))
       (desk new.out (shelved (texts_at (given.paths chosen.out.now) new.writes) failures label))
       result
+  pub short : IsShortOnly chosen source result
   pub kept : given.kept chosen.out.now
 
 -- the script ran on the dump of the settings; or that was not read, and nothing else was done

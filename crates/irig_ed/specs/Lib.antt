@@ -1,2 +1,3 @@
 pub mod Ending
 pub mod Statuses
+pub mod Shortage

@@ -10,7 +10,7 @@ use Rattle.irig_script.specs.Obey.DumpRun.{RanOnDump, RunsOnDump, TellsHeading}
 use Rattle.irig_script.specs.declared.obey.status.Status.{Status}
 use Rattle.irig_script.specs.declared.obey.status.RunFault.{RunFault}
 use Rattle.irig_script.specs.declared.obey.dump_run.DumpRunFault.{DumpRunFault}
-use Rattle.irig_script.specs.declared.obey.dump_run.DumpRunFault.TheVariants.{Run}
+use Rattle.irig_script.specs.declared.obey.dump_run.DumpRunFault.TheVariants.{Dump, Run}
 
 -- a script that ran on a dump that was opened
 pub ran_on_dump : (wire : Option (List ℕ)) (chosen : FormatView) (source : List ℕ) (script left : Option (List ℕ)) (from to : Desk)
@@ -26,3 +26,9 @@ ran_on_dump wire chosen source script left from to (Err fault) result e h =
 pub read_heading : (wire : Option (List ℕ)) (bytes : List ℕ) (x : RecordingView × Option (List ℕ)) (fault : VcdFault)
     → dump_parts wire bytes ≡ Ok x → TellsHeading wire bytes fault
 read_heading wire bytes x fault read e h = let bad : Ok x ≡ Err e = sym read ∙ no_parts wire bytes e h in cc
+
+-- a run of a script is no dump that was not opened
+pub never_dump : (ended : Result Status RunFault) (result : Result Status DumpRunFault)
+    → MatchResult ended (λ status. result ≡ Ok status) (λ fault. result ≡ Err (Run fault)) → (fault : VcdFault) → result ≡ Err (Dump fault) → ⊥
+never_dump (Ok status) result e fault is = let bad = sym e ∙ is in cc
+never_dump (Err other) result e fault is = let bad = sym e ∙ is in cc

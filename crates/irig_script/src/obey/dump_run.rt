@@ -1,15 +1,19 @@
 //! A script run on a dump.
 
-ghost use Rattle.std.specs.Prelude.{◌≡◌, ◌≤◌, ◌^◌, ℕ, List, Option, length, Ok, Err, IfSome};
-ghost use Rattle.std.specs.Prelude.{MatchResult};
+ghost use Rattle.std.specs.Prelude.{◌≡◌, ◌≢◌, ◌⊎◌, ◌≤◌, ◌^◌, ℕ, List, Option, length, Ok, Err};
+ghost use Rattle.std.specs.Prelude.{IfSome, MatchResult};
 ghost use Rattle.irig_codes.specs.Format.{FormatView};
-ghost use Rattle.irig_edit.specs.Opened.Openings.{IsOpened};
+ghost use Rattle.irig_edit.specs.Opened.Openings.{IsOpened, MayBeShort};
 ghost use Rattle.irig_vcd.specs.Answer.{bytes_of, name_of};
+ghost use Rattle.irig_vcd.specs.Dump.{changes_before};
+ghost use Rattle.irig_vcd.specs.Level.{HasEdge};
 ghost use Rattle.irig_vcd.specs.Parts.{dump_parts};
+ghost use Rattle.irig_vcd.specs.declared.fault.VcdFault.{VcdFault};
+ghost use Rattle.irig_vcd.specs.declared.fault.VcdFault.TheVariants.{OutOfMemory};
 ghost use Rattle.irig_script.specs.Obey.Desk.{desk};
 ghost use Rattle.irig_script.specs.Obey.DumpRun.{RunsOnDump};
 ghost use Rattle.irig_script.specs.Obey.Reading.{ReadsTo};
-ghost use Rattle.irig_script.specs.declared.obey.dump_run.DumpRunFault.TheVariants.{Run};
+ghost use Rattle.irig_script.specs.declared.obey.dump_run.DumpRunFault.TheVariants.{Dump, Run};
 
 use crate::obey::engine;
 use crate::obey::status::{RunFault, Status};
@@ -48,6 +52,9 @@ pub fn run_on_dump<R: Read, W: Write, S: Shelf>(
         (R.remaining script.old) (R.remaining script.new)
         (desk (W.contents out.old) (S.known shelf.old))
         (desk (W.contents out.new) (S.known shelf.new)) result }
+    ensures memory { result ≡ Err (Dump OutOfMemory)
+        → HasEdge (changes_before (name_of wire.entry) source.items)
+        ⊎ MayBeShort (dump_parts (name_of wire.entry) source.items) }
     ensures reads { ReadsTo (R.remaining script.old) (R.remaining script.new) }
     ensures label { (S.known shelf.new).label ≡ (S.known shelf.old).label }
     ensures since { S.since shelf.old shelf.new }
@@ -76,6 +83,8 @@ pub fn run_on_parts<R: Read, W: Write, S: Shelf>(
         → RunsOnDump wire format bytes (R.remaining script.old) (R.remaining script.new)
         (desk (W.contents out.old) (S.known shelf.old))
         (desk (W.contents out.new) (S.known shelf.new)) result }
+    ensures memory { result ≡ Err (Dump OutOfMemory)
+        → MayBeShort (Ok (recording, bytes_of journal)) }
     ensures reads { ReadsTo (R.remaining script.old) (R.remaining script.new) }
     ensures label { (S.known shelf.new).label ≡ (S.known shelf.old).label }
     ensures since { S.since shelf.old shelf.new }
@@ -98,6 +107,7 @@ fn run_opened<R: Read, W: Write, S: Shelf>(
         → RunsOnDump wire format bytes (R.remaining script.old) (R.remaining script.new)
         (desk (W.contents out.old) (S.known shelf.old))
         (desk (W.contents out.new) (S.known shelf.new)) result }
+    ensures opened { (fault : VcdFault) → result ≢ Err (Dump fault) }
     ensures reads { ReadsTo (R.remaining script.old) (R.remaining script.new) }
     ensures label { (S.known shelf.new).label ≡ (S.known shelf.old).label }
     ensures since { S.since shelf.old shelf.new }

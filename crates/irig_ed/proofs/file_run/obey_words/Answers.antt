@@ -1,4 +1,4 @@
-use Rattle.std.specs.Prelude.{ℕ, List, Option, Ok}
+use Rattle.std.specs.Prelude.{List, Ok}
 use Rattle.clap.specs.Words.{Text}
 use Rattle.irig_settings.specs.Settings.{Reads}
 use Rattle.irig_ed.specs.Ending.{Ends, Files, EndsBy, Obeys}

@@ -1,9 +1,9 @@
-use Rattle.std.proofs.Common.{rules, ◌≡◌, ◌∷◌, ◌∙◌, ap, drop, List, ℕ, Option, subst, sym}
-use Rattle.irig_disk.specs.Disk.{Disk}
+use Rattle.std.proofs.Common.{rules, ◌∷◌, ◌∙◌, ap, drop, List, ℕ, subst, sym}
 use Rattle.irig_files.proofs.PutsAt.{texts_where}
 use Rattle.irig_files.specs.Going.{goes_nowhere}
 use Rattle.irig_files.specs.Puts.{texts_at, writes_on}
 use Rattle.irig_files.specs.Writes.{GoesTo}
+use Rattle.irig_edit.specs.Opened.Openings.{MayBeShort}
 use Rattle.irig_ed.specs.Ending.{files}
 use Rattle.irig_ed.proofs.RunsBy.{fails_by, runs_by}
 use Rattle.irig_ed.proofs.file_run.run_on_read.Goals as goal
@@ -32,5 +32,6 @@ returns g c = λ source is.
     (λ j. texts_at ((disk (c.new-shelf.ensures.disk j)).paths (c.new-shelf.ensures.path j)) (writes_on told (disk (c.new-shelf.ensures.disk j))))
     (texts_where told (disk c.args.disk.now) (disk new.disk.now) chosen.out.now new.path.now same_path (λ is_told. (kept is_told).paths))
     c.new-shelf.ensures.none_failed kept
+    (λ memory. subst MayBeShort (sym (rw c.in-Ok.is at is)) (c.run_on_parts.ensures.memory memory))
     (c.run_on_parts.ensures.ends _ source (rw c.in-Ok.is at is)) in
     search (rules, done)
