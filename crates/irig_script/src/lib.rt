@@ -12,4 +12,6 @@ pub use law::{lines_ask_for_one_command, saved_sessions_run_on, scripts_have_one
 pub use memory_shelf::MemoryShelf;
 pub use obey::dump_run::{DumpRunFault, run_on_dump, run_on_parts};
 pub use obey::engine::run;
+pub use obey::obeying::obey as obey_command;
 pub use obey::status::{RunFault, Status};
+pub use print::reply::Reply;

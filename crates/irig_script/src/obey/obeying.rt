@@ -52,7 +52,7 @@ fn write_or_obey<S: Shelf>(command: Command, session: &mut Session, shelf: &mut 
 }
 
 /// Obeys a command that neither writes a text nor ends the script.
-fn obey(command: Command, session: &mut Session) -> Reply
+pub fn obey(command: Command, session: &mut Session) -> Reply
     requires goes_on { command ≢ Command.Quit }
     requires writes_none { command ≢ Command.Write }
     requires saves_none { command ≢ Command.Save }

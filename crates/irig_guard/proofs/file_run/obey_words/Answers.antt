@@ -1,0 +1,26 @@
+use Rattle.std.specs.Prelude.{List, Ok}
+use Rattle.clap.specs.Words.{Text}
+use Rattle.irig_guard.specs.Settings.{Reads}
+use Rattle.irig_guard.specs.Ending.{Ends, Files, EndsBy, Obeys}
+use Rattle.irig_guard.specs.declared.chosen.Settings.{Settings}
+use Rattle.irig_guard.specs.declared.ending.Ending.{Ending}
+use Rattle.irig_guard.specs.declared.ending.Ending.TheVariants.{Usage, Value, Unread, Ran}
+use Rattle.std.proofs.Common.{refl, rules}
+use Rattle.irig_files.specs.Going.{goes_nowhere}
+use Rattle.irig_guard.proofs.file_run.obey_words.Goals as goal
+
+ends_by : (words : List Text) (given : Files) (old new : Ends) (chosen : Settings) (ending : Ending) → Reads words (Ok chosen)
+    → Obeys given old new chosen ending → EndsBy words given old new ending
+ends_by words given old new chosen (Usage fault) r o = absurd o
+ends_by words given old new chosen (Value fault) r o = absurd o
+ends_by words given old new chosen (Unread path fault) r o = (chosen, r, o)
+ends_by words given old new chosen (Ran path result) r o = (chosen, r, o)
+
+pub returns-in-Ok : goal.returns-in-Ok
+returns-in-Ok g c = ends_by _ _ _ _ c.in-Ok.chosen c.run_on_track.result c.in-Ok.ensures c.run_on_track.ensures
+
+pub returns-in-Err-Words : goal.returns-in-Err-Words
+returns-in-Err-Words g c = (search rules, refl, (λ to told. goes_nowhere _ _ (g.met.D.Disk.only_now _)))
+
+pub returns-in-Err-Value : goal.returns-in-Err-Value
+returns-in-Err-Value g c = (search rules, refl, (λ to told. goes_nowhere _ _ (g.met.D.Disk.only_now _)))

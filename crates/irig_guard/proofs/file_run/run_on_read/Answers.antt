@@ -1,0 +1,37 @@
+use Rattle.std.proofs.Common.{rules, ◌≡◌, ◌∷◌, ◌∙◌, ap, drop, List, ℕ}
+use Rattle.irig_files.proofs.PutsAt.{texts_where}
+use Rattle.irig_files.specs.Going.{goes_nowhere}
+use Rattle.irig_files.specs.Puts.{texts_at, writes_on}
+use Rattle.irig_files.specs.Writes.{GoesTo}
+use Rattle.irig_guard.specs.Ending.{files, place_of}
+use Rattle.irig_guard.proofs.RunsBy.{fails_by, runs_by}
+use Rattle.irig_guard.proofs.file_run.run_on_read.Goals as goal
+
+pub returns-in-Err : goal.returns-in-Err
+returns-in-Err g c = λ source is. fails_by _ c.args.chosen.now source _ c.in-Err.fault (λ told. goes_nowhere _ _ (g.met.D.Disk.only_now _)) (rw c.in-Err.is at is)
+
+pub returns : goal.returns
+returns g c = λ source is.
+    let old = c.new-shelf.result in
+    let new = c.guard_on_parts.new.shelf in
+    let disk = g.D.Disk.disk in
+    let told = g.D.Disk.is_told in
+    let chosen = c.args.chosen.now in
+    let path : old.path.now ≡ place_of chosen = c.new-shelf.ensures.path ∙ c.place_of.ensures in
+    let same_path = ap (λ (l : List ℕ). drop 1 l) c.guard_on_parts.ensures.label ∙ (c.new-shelf.ensures.path ∙ c.place_of.ensures) in
+    let kept : GoesTo told (disk c.args.disk.now) (disk new.disk.now) (place_of chosen) =
+    rw (c.new-shelf.ensures.disk, path) at c.guard_on_parts.ensures.since.1 in
+    let ends = c.guard_on_parts.ensures.ends _ source (rw c.in-Ok.is at is) in
+    let done = runs_by (files (g.D.Disk.held c.args.disk.now) (disk c.args.disk.now).paths (GoesTo told (disk c.args.disk.now) (disk new.disk.now)))
+    chosen source (g.W.Write.contents c.args.out.now) (g.W.Write.contents c.guard_on_parts.new.out)
+    (g.R.Read.remaining c.args.script.now) (g.R.Read.remaining c.guard_on_parts.new.script)
+    (texts_at ((disk old.disk.now).paths old.path.now) (writes_on told (disk old.disk.now)))
+    (texts_at ((disk new.disk.now).paths new.path.now) (writes_on told (disk new.disk.now)))
+    (old.disk.ghost_name ∷ old.path.now) (new.disk.ghost_name ∷ new.path.now)
+    (writes_on told (disk c.args.disk.now)) (writes_on told (disk new.disk.now)) old.failures new.failures
+    c.guard_on_parts.result c.guard_on_parts.ensures.label
+    (λ j. texts_at ((disk (c.new-shelf.ensures.disk j)).paths (path j)) (writes_on told (disk (c.new-shelf.ensures.disk j))))
+    (texts_where told (disk c.args.disk.now) (disk new.disk.now) (place_of chosen) new.path.now same_path (λ is_told. (kept is_told).paths))
+    c.new-shelf.ensures.none_failed kept
+    (rw c.product_of.ensures at ends) in
+    search (rules, done)

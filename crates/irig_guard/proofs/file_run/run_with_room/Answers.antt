@@ -1,0 +1,16 @@
+use Rattle.std.proofs.Common.{refl}
+use Rattle.std.proofs.Common.{rules, ◌≡◌, ◌<◌, ◌^◌, length}
+use Rattle.std.specs.Prelude.{IfSome}
+use Rattle.irig_files.specs.Going.{goes_nowhere}
+use Rattle.irig_files.specs.declared.dump_file.DumpFileFault.TheVariants.{TooLong}
+use Rattle.irig_guard.proofs.file_run.run_with_room.Goals as goal
+
+pub returns-in-Ok : goal.returns-in-Ok
+returns-in-Ok g c =
+    let read = c.in-Ok.ensures.read in
+    (refl, (read.source, read.whole, c.run_on_read-result.ensures read.source (rw c.wire_of.ensures at read.parts)))
+
+pub returns-in-Err : goal.returns-in-Err
+returns-in-Err g c =
+    let long : c.in-Err.fault ≡ TooLong → IfSome (g.D.Disk.held c.args.disk.now c.args.chosen.now.track.now) (λ all. 2 ^ 28 < length all) = search rules in
+    (refl, refl, (λ to told. goes_nowhere _ _ (g.met.D.Disk.only_now _)), long)

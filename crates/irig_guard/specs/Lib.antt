@@ -1,0 +1,5 @@
+pub mod Chosen
+pub mod Ending
+pub mod Options
+pub mod Settings
+pub mod Statuses

@@ -1,0 +1,37 @@
+-- What the words of a command line ask for. This project's own.
+use Rattle.std.specs.Prelude.{◌≡◌, List, true, false, codes, None, Some, Result, Ok, Err}
+use Rattle.std.specs.Prelude.{option_map}
+use Rattle.clap.specs.Words.{Text, first_value, found_of, one_text}
+use Rattle.clap.specs.declared.parser.matches.Found.{Found}
+use Rattle.clap.specs.declared.parser.matches.ArgMatches.{ArgMatches}
+use Rattle.irig_guard.specs.Chosen.{HasFault, IsChosen}
+use Rattle.irig_guard.specs.Options.{IsParsed, the_command}
+use Rattle.irig_guard.specs.declared.asked.Asked.{Asked}
+use Rattle.irig_guard.specs.declared.chosen.Settings.{Settings}
+use Rattle.irig_guard.specs.declared.command_line.UsageFault.{UsageFault}
+use Rattle.irig_guard.specs.declared.command_line.UsageFault.TheVariants.{Words, Value}
+use Rattle.irig_words.specs.Errors.{MayRefuse}
+
+-- the values are those of the matches
+pub record AreValues (f : Found) (a : Asked) : Type 0 where
+  pub track : first_value f (codes "TRACK") ≡ Some a.track.now
+  pub wire : first_value f (codes "wire") ≡ option_map (λ w. w.now) a.wire
+  pub format : first_value f (codes "format") ≡ option_map (λ w. w.now) a.format
+  pub expression : first_value f (codes "expression") ≡ option_map (λ w. w.now) a.expression
+  pub out : first_value f (codes "out") ≡ option_map (λ w. w.now) a.out
+  pub saved : one_text f (codes "save") ≡ Some (codes "true") → a.save ≡ true
+  pub not_saved : one_text f (codes "save") ≡ Some (codes "false") → a.save ≡ false
+  pub not_asked : one_text f (codes "save") ≡ None → a.save ≡ false
+
+-- there are matches that a parse of the words may give, and these are their values
+pub record Values (words : List Text) (asked : Asked) : Type 0 where
+  pub matches : ArgMatches
+  pub parsed : IsParsed words matches
+  pub values : AreValues (found_of matches) asked
+
+-- what the words ask for; or the error is one that the parse may give, or an option has a value
+-- that it cannot have
+abbrev pub Reads : List Text → Result Settings UsageFault → Type 0
+Reads words (Ok s) = (asked : Asked) × Values words asked × IsChosen asked s
+Reads words (Err (Words error)) = MayRefuse the_command words error
+Reads words (Err (Value fault)) = (asked : Asked) × Values words asked × HasFault asked fault

@@ -1,0 +1,35 @@
+-- The statuses of the program as a process. This project's own.
+use Rattle.std.specs.Prelude.{◌≡◌, ◌⊎◌, ℕ, List, Result, Ok, Err, codes}
+use Rattle.irig_words.specs.Errors.{IsHelp, IsMistake}
+use Rattle.irig_files.specs.declared.dump_file.DumpFileFault.{DumpFileFault}
+use Rattle.irig_files.specs.declared.dump_file.DumpFileFault.TheVariants.{CannotBeRead, TooLong}
+use Rattle.irig_files.specs.declared.dump_file.DumpFileFault.TheVariants.{OutOfMemory}
+use Rattle.irig_guard.specs.declared.ending.Ending.{Ending}
+use Rattle.irig_guard.specs.declared.ending.Ending.TheVariants.{Usage, Value, Unread, Ran}
+use Rattle.irig_script.specs.declared.obey.status.Status.{Status}
+use Rattle.irig_script.specs.declared.obey.status.Status.TheVariants.{AllAccepted, SomeRefused}
+use Rattle.irig_guarding.specs.declared.product.GuardFault.{GuardFault}
+use Rattle.irig_guarding.specs.declared.product.GuardFault.TheVariants.{Dump}
+
+-- the status of the program for how a run ended: 0 if each line was kept, 1 if some were not, 3 if
+-- the track was not read, 4 if the run was broken off
+abbrev pub status_number : Result Status GuardFault → ℕ
+status_number (Ok AllAccepted) = 0
+status_number (Ok SomeRefused) = 1
+status_number (Err (Dump fault)) = 3
+status_number (Err _) = 4
+
+-- what the program says of a track that it did not read
+abbrev pub unread_text : DumpFileFault → List ℕ
+unread_text CannotBeRead = codes "cannot be read"
+unread_text TooLong = codes "too long"
+unread_text OutOfMemory = codes "V14 OutOfMemory"
+
+-- the status of the process for how the program ended: help ends with 0, or with 4 if it could not
+-- be printed
+abbrev pub HasStatus : Ending → ℕ → Type 0
+HasStatus (Usage error) status =
+    (IsMistake error → status ≡ 2) × (IsHelp error → (status ≡ 0) ⊎ (status ≡ 4))
+HasStatus (Value fault) status = status ≡ 2
+HasStatus (Unread path fault) status = status ≡ 3
+HasStatus (Ran path result) status = status ≡ status_number result

@@ -1,0 +1,15 @@
+//! The values of a command line.
+
+/// The values of a command line, as they are written.
+#[derive(Clone, Copy)]
+pub struct Asked<'a> {
+    /// The path of the dump.
+    pub track: &'a str,
+    /// The values of the options that are given.
+    pub wire: Option<&'a str>,
+    pub format: Option<&'a str>,
+    pub expression: Option<&'a str>,
+    pub out: Option<&'a str>,
+    /// Whether `--save` is given.
+    pub save: bool,
+}

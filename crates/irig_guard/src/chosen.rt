@@ -1,0 +1,36 @@
+//! What a command line asks for.
+
+use irig_codes::Format;
+use thiserror::Error;
+
+/// What a command line asks for.
+#[derive(Drop)]
+pub struct Settings<'a> {
+    /// The path of the dump.
+    pub track: &'a str,
+    /// The name of the wire in the dump, if one is given.
+    pub wire: Option<&'a str>,
+    /// The path at which the track is written that the kept repairs leave, if one is given.
+    pub out: Option<&'a str>,
+    /// Whether the journal is written with it.
+    pub save: bool,
+    /// The format in which frames are read: B with expression 2, if none is given.
+    pub format: Format,
+}
+
+/// An option with a value that it cannot have.
+#[derive(Clone, Copy, Debug, Error)]
+pub enum OptionFault {
+    /// The letter of no format.
+    #[error("--format: not A, B, E or G")]
+    Format,
+    /// No expression, or one that the format does not permit.
+    #[error("--expression: not one of the format")]
+    Expression,
+    /// The track is to be written over.
+    #[error("--out: is TRACK, which is not written over")]
+    Out,
+    /// Nothing is to be written.
+    #[error("--save: nothing is written without --out")]
+    Save,
+}

@@ -1,0 +1,115 @@
+//! The command line, read by `clap`.
+
+ghost use Rattle.std.specs.Prelude.{◌≡◌, IfErr, IfOk, None, false, map, string_bytes};
+ghost use Rattle.clap.specs.Words.{app_of, found_of, rule_of};
+ghost use Rattle.irig_guard.specs.Options.{IsCommand, IsParsed, IsReading, flag, the_command};
+ghost use Rattle.irig_guard.specs.Settings.{AreValues, Reads, Values};
+ghost use Rattle.irig_words.specs.Arguments.{option};
+ghost use Rattle.irig_words.specs.Errors.{IsMistake, MayRefuse, WantsMemory};
+
+use crate::asked::Asked;
+use crate::chosen::{OptionFault, Settings};
+use crate::options::settings_of;
+use clap::{Arg, ArgAction, ArgMatches, Command, Error};
+use irig_words::{matches_of, needed_arg, option_arg};
+use std::alloc::{AllocError, Global};
+
+/// Why a command line asks for nothing.
+#[derive(Drop)]
+pub enum UsageFault {
+    /// The words are not those of the command line, or ask for help.
+    Words(Error),
+    /// An option has a value that it cannot have.
+    Value(OptionFault),
+}
+
+/// What the words of a command line ask for, the program's name being the first.
+pub fn settings<'a>(alloc: Global, words: &'a [String]) -> Result<Settings<'a>, UsageFault>
+    ensures { Reads (map string_bytes words.entry.now) result }
+{
+    let asked = match asked(alloc, words) {
+        Ok(asked) => asked,
+        Err(error) => return Err(UsageFault::Words(error)),
+    };
+    match settings_of(&asked) {
+        Ok(chosen) => Ok(chosen),
+        Err(fault) => Err(UsageFault::Value(fault)),
+    }
+}
+
+/// The values of a command line.
+fn asked<'a>(alloc: Global, words: &'a [String]) -> Result<Asked<'a>, Error>
+    ensures values { IfOk result (Values (map string_bytes words.entry.now)) }
+    ensures refused { IfErr result (MayRefuse the_command (map string_bytes words.entry.now)) }
+{
+    match parse_words(alloc, words) {
+        Ok(matches) => values_of(&matches),
+        Err(error) => Err(error),
+    }
+}
+
+/// What `clap` says of an argument that is not UTF-8.
+pub fn not_text(alloc: Global) -> Error
+    ensures { IsMistake result }
+{
+    irig_words::not_text(command(alloc))
+}
+
+/// The values of the matches.
+fn values_of<'a>(matches: &ArgMatches<'a>) -> Result<Asked<'a>, Error>
+    ensures values { IfOk result (AreValues (found_of matches.now)) }
+    ensures memory { IfErr result WantsMemory }
+{
+    let Some(track) = matches.get_str("TRACK") else {
+        return Err(AllocError.into());
+    };
+    Ok(Asked {
+        track,
+        wire: matches.get_str("wire"),
+        format: matches.get_str("format"),
+        expression: matches.get_str("expression"),
+        out: matches.get_str("out"),
+        save: matches.get_flag("save"),
+    })
+}
+
+/// The matches of a command line that is accepted.
+fn parse_words<'a>(alloc: Global, words: &'a [String]) -> Result<ArgMatches<'a>, Error>
+    ensures parsed { IfOk result (IsParsed (map string_bytes words.entry.now)) }
+    ensures refused { IfErr result (MayRefuse the_command (map string_bytes words.entry.now)) }
+{
+    matches_of(command(alloc)?, words)
+}
+
+/// The command line of the program.
+fn command<'a>(alloc: Global) -> Result<Command<'a>, AllocError>
+    ensures { IfOk result (λ c. IsCommand (app_of c)) }
+{
+    let out = option_arg(alloc, "out", "PATH", "where the mended track is written");
+    let track = needed_arg(alloc, "TRACK", "the dump; repairs come on standard input");
+    reading(alloc)?.arg(out)?.arg(save_arg(alloc))?.arg(track)
+}
+
+/// Its options that say how the track is read.
+fn reading<'a>(alloc: Global) -> Result<Command<'a>, AllocError>
+    ensures { IfOk result (λ c. IsReading (app_of c)) }
+{
+    let wire = option_arg(alloc, "wire", "NAME", "the wire of the dump");
+    let format = option_arg(alloc, "format", "FORMAT", "A, B, E or G: B");
+    let expression = option_arg(alloc, "expression", "NUMBER", "of the format: 2");
+    Command::new(alloc, "irig_guard")
+        .arg(wire)?
+        .arg(format)?
+        .arg(expression)
+}
+
+/// Whether the journal is written too.
+fn save_arg<'a>(alloc: Global) -> Arg<'a>
+    ensures rule { rule_of result ≡ flag }
+    ensures local { result.global ≡ false }
+{
+    Arg::new(alloc, "save")
+        .long("save")
+        .help("write the journal with the track")
+        .action(ArgAction::SetTrue)
+}

@@ -1,0 +1,19 @@
+//! How the program ends.
+
+use crate::chosen::OptionFault;
+use irig_files::DumpFileFault;
+use irig_guarding::GuardFault;
+use irig_script::Status;
+
+/// How the program ends, before it is reported.
+#[derive(Drop)]
+pub enum Ending<'a> {
+    /// The command line asks for nothing.
+    Usage(clap::Error),
+    /// An option has a value that it cannot have.
+    Value(OptionFault),
+    /// The file at this path is no dump that can be read.
+    Unread(&'a str, DumpFileFault),
+    /// The script ran under guard on the dump at this path, and so the run ended.
+    Ran(&'a str, Result<Status, GuardFault>),
+}

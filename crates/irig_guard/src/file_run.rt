@@ -1,0 +1,153 @@
+//! A script run under guard on the file of a dump, as the words of a command line ask.
+
+ghost use Rattle.std.specs.Prelude.{◌≡◌, ℕ, List, map, option_map, string_bytes};
+ghost use Rattle.irig_vcd.specs.Answer.{Gives, name_of};
+ghost use Rattle.irig_vcd.specs.Parts.{dump_parts};
+ghost use Rattle.irig_guard.specs.Ending.{EndsBy, Obeys, RunsBy, ends, files, place_of, product_of};
+ghost use Rattle.irig_files.specs.Puts.{writes_on};
+ghost use Rattle.irig_files.specs.Reads.{HasFewBytes, parts_of};
+ghost use Rattle.irig_files.specs.Writes.{GoesTo};
+
+use crate::chosen::Settings;
+use crate::command_line::{UsageFault, settings};
+use crate::ending::Ending;
+use irig_files::{Disk, DumpFileFault, FileShelf, Parts, Room};
+use irig_guarding::{GuardFault, Product, guard_on_parts};
+use irig_script::Status;
+use irig_vcd::VcdFault;
+use std::alloc::Global;
+use std::io::{Read, Write};
+
+/// Runs a script under guard on the dump that the words of a command line name, the program's name being the
+/// first.
+pub fn obey_words<'a, D: Disk, R: Read, W: Write>(
+    alloc: Global,
+    words: &'a [String],
+    disk: &mut D,
+    script: &mut R,
+    out: &mut W,
+) -> Ending<'a>
+    ensures { EndsBy (map string_bytes words.entry.now)
+        (files (D.held disk.old) (D.disk disk.old).paths
+        (GoesTo D.is_told (D.disk disk.old) (D.disk disk.new)))
+        (ends (W.contents out.old) (writes_on D.is_told (D.disk disk.old)) (R.remaining script.old))
+        (ends (W.contents out.new) (writes_on D.is_told (D.disk disk.new)) (R.remaining script.new)) result }
+{
+    match settings(alloc, words) {
+        Ok(chosen) => run_on_track(alloc, &chosen, disk, script, out),
+        Err(UsageFault::Words(error)) => Ending::Usage(error),
+        Err(UsageFault::Value(fault)) => Ending::Value(fault),
+    }
+}
+
+/// Runs a script under guard on the dump of the settings. The memory of its writes is taken before the dump is
+/// read.
+fn run_on_track<'a, D: Disk, R: Read, W: Write>(
+    alloc: Global,
+    chosen: &Settings<'a>,
+    disk: &mut D,
+    script: &mut R,
+    out: &mut W,
+) -> Ending<'a>
+    ensures { Obeys (files (D.held disk.old) (D.disk disk.old).paths
+        (GoesTo D.is_told (D.disk disk.old) (D.disk disk.new)))
+        (ends (W.contents out.old) (writes_on D.is_told (D.disk disk.old)) (R.remaining script.old))
+        (ends (W.contents out.new) (writes_on D.is_told (D.disk disk.new)) (R.remaining script.new))
+        chosen.now result }
+{
+    let Ok(mut room) = Room::new(alloc) else {
+        return Ending::Unread(chosen.track, DumpFileFault::OutOfMemory);
+    };
+    run_with_room(alloc, chosen, &mut room, disk, script, out)
+}
+
+/// Runs a script under guard on the dump of the settings. Each write uses the room.
+fn run_with_room<'a, D: Disk, R: Read, W: Write>(
+    alloc: Global,
+    chosen: &Settings<'a>,
+    room: &mut Room,
+    disk: &mut D,
+    script: &mut R,
+    out: &mut W,
+) -> Ending<'a>
+    ensures { Obeys (files (D.held disk.old) (D.disk disk.old).paths
+        (GoesTo D.is_told (D.disk disk.old) (D.disk disk.new)))
+        (ends (W.contents out.old) (writes_on D.is_told (D.disk disk.old)) (R.remaining script.old))
+        (ends (W.contents out.new) (writes_on D.is_told (D.disk disk.new)) (R.remaining script.new))
+        chosen.now result }
+{
+    match disk.read(alloc, chosen.track, wire_of(chosen)) {
+        Ok(read) => {
+            let result = run_on_read(alloc, chosen, read, room, disk, script, out);
+            Ending::Ran(chosen.track, result)
+        }
+        Err(fault) => Ending::Unread(chosen.track, fault),
+    }
+}
+
+/// Runs a script under guard on what was read of a dump, by the format and the path of the settings. Each write
+/// uses the room.
+fn run_on_read<D: Disk, R: Read, W: Write>(
+    alloc: Global,
+    chosen: &Settings<'_>,
+    read: Result<Parts, VcdFault>,
+    room: &mut Room,
+    disk: &mut D,
+    script: &mut R,
+    out: &mut W,
+) -> Result<Status, GuardFault>
+    requires { HasFewBytes read }
+    ensures { (source : List ℕ)
+        → Gives parts_of read (dump_parts (option_map (λ w. w.now) chosen.now.wire) source)
+        → RunsBy (files (D.held disk.old) (D.disk disk.old).paths
+        (GoesTo D.is_told (D.disk disk.old) (D.disk disk.new)))
+        chosen.now source
+        (ends (W.contents out.old) (writes_on D.is_told (D.disk disk.old)) (R.remaining script.old))
+        (ends (W.contents out.new) (writes_on D.is_told (D.disk disk.new)) (R.remaining script.new)) result }
+{
+    let (recording, journal) = match read {
+        Ok(parts) => parts,
+        Err(fault) => return Err(GuardFault::Dump(fault)),
+    };
+    let mut shelf = FileShelf::new(disk, place_of(chosen), room);
+    guard_on_parts(
+        alloc,
+        recording,
+        journal,
+        chosen.format,
+        product_of(chosen),
+        script,
+        out,
+        &mut shelf,
+    )
+}
+
+/// The path of what is written: that of the dump, if nothing is.
+fn place_of<'a>(chosen: &Settings<'a>) -> &'a str
+    ensures { result.now ≡ place_of chosen.now }
+{
+    chosen.out.unwrap_or(chosen.track)
+}
+
+/// What is written.
+fn product_of(chosen: &Settings<'_>) -> Product
+    ensures { result ≡ product_of chosen.now }
+{
+    if chosen.out.is_none() {
+        Product::Nothing
+    } else if chosen.save {
+        Product::Session
+    } else {
+        Product::Track
+    }
+}
+
+/// The bytes of the wire's name, if one is given.
+fn wire_of<'a>(chosen: &Settings<'a>) -> Option<&'a [u8]>
+    ensures { name_of result ≡ option_map (λ w. w.now) chosen.now.wire }
+{
+    match chosen.wire {
+        Some(wire) => Some(wire.as_bytes()),
+        None => None,
+    }
+}

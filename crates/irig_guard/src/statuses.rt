@@ -1,0 +1,80 @@
+//! The statuses of the program as a process, and what it says of faults.
+
+ghost use Rattle.std.specs.Prelude.{◌≡◌, ◌⊎◌};
+ghost use Rattle.std.specs.Process.{exit_status};
+ghost use Rattle.irig_guard.specs.Statuses.{HasStatus, status_number, unread_text};
+ghost use Rattle.irig_words.specs.Errors.{IsHelp, IsMistake};
+
+use crate::ending::Ending;
+use irig_files::DumpFileFault;
+use irig_guarding::GuardFault;
+use irig_script::Status;
+use std::fmt::Display;
+use std::process::ExitCode;
+
+/// The status of the process for how the program ended, which is reported if it is a fault.
+pub fn report<R: Print + Eprint>(rt: &R, ending: &Ending<'_>) -> ExitCode
+    ensures { HasStatus ending.now (exit_status result) }
+{
+    match ending {
+        Ending::Usage(error) => explain(rt, error),
+        Ending::Value(fault) => tell(rt, 2, fault),
+        Ending::Unread(path, fault) => tell_unread(rt, path, *fault),
+        Ending::Ran(path, outcome) => tell_ended(rt, path, *outcome),
+    }
+}
+
+/// Says why the program ends with a status.
+pub fn tell<R: Eprint, T: Display>(rt: &R, status: u8, why: &T) -> ExitCode
+    ensures { exit_status result ≡ status }
+{
+    let _ = eprintln!(rt; "irig_guard: {why}");
+    ExitCode::from(status)
+}
+
+/// Prints what `clap` says: help on the standard output, a mistake on the standard error.
+pub fn explain<R: Print + Eprint>(rt: &R, error: &clap::Error) -> ExitCode
+    ensures mistake { IsMistake error.now → exit_status result ≡ 2 }
+    ensures help { IsHelp error.now → (exit_status result ≡ 0) ⊎ (exit_status result ≡ 4) }
+{
+    match error.print(rt) {
+        _ if error.use_stderr() => ExitCode::from(2),
+        Ok(()) => ExitCode::SUCCESS,
+        Err(_) => tell(rt, 4, &GuardFault::PrintFailed),
+    }
+}
+
+/// Says why a track was not read.
+fn tell_unread<R: Eprint>(rt: &R, name: &str, fault: DumpFileFault) -> ExitCode
+    ensures { exit_status result ≡ 3 }
+{
+    let why = unread_text(fault);
+    let _ = eprintln!(rt; "irig_guard: {name}: {why}");
+    ExitCode::from(3)
+}
+
+/// What the program says of a track that it did not read.
+fn unread_text<'a>(fault: DumpFileFault) -> &'a str
+    ensures { result.now ≡ unread_text fault }
+{
+    match fault {
+        DumpFileFault::CannotBeRead => "cannot be read",
+        DumpFileFault::TooLong => "too long",
+        DumpFileFault::OutOfMemory => "V14 OutOfMemory",
+    }
+}
+
+/// The exit status for how a run ended; a fault is printed on the standard error.
+fn tell_ended<R: Eprint>(rt: &R, name: &str, outcome: Result<Status, GuardFault>) -> ExitCode
+    ensures { exit_status result ≡ status_number outcome }
+{
+    match outcome {
+        Ok(Status::AllAccepted) => ExitCode::SUCCESS,
+        Ok(Status::SomeRefused) => ExitCode::from(1),
+        Err(GuardFault::Dump(fault)) => {
+            let _ = eprintln!(rt; "irig_guard: {name}: {fault}");
+            ExitCode::from(3)
+        }
+        Err(fault) => tell(rt, 4, &fault),
+    }
+}

@@ -1,0 +1,202 @@
+-- A line does the same in a session with another future and other looks.
+use Rattle.std.proofs.Common.{◌≡◌, ℕ, List, [], ◌∷◌, Option, Some, None, length, option_map, refl, ap, sym, ◌∙◌, subst}
+use Rattle.irig_journal.specs.Groups.{Floor, Grouped, floored, joined_over, over}
+use Rattle.irig_journal.specs.History.{Step, states_along}
+use Rattle.irig_journal.specs.Machine.{Kept, Machine as Track}
+use Rattle.irig_journal.specs.declared.opening.Opening.{Opening}
+use Rattle.irig_saved.specs.declared.change.Change.{Change}
+use Rattle.irig_edit.specs.Changes.Delta.{turned}
+use Rattle.irig_edit.specs.Session.Calls.{Edit}
+use Rattle.irig_edit.specs.Session.Calls.Call.{Begin, End}
+use Rattle.irig_edit.specs.Session.Machine.{Accepts}
+use Rattle.irig_edit.specs.Session.Session.{work_in}
+use Rattle.irig_edit.specs.Session.Work.{Work, grouped_in, joined_since}
+use Rattle.irig_edit.specs.State.State.{State}
+use Rattle.irig_lines.specs.declared.command.Command.{Command}
+use Rattle.irig_lines.specs.declared.command.Command.TheVariants as command
+use Rattle.irig_lines.specs.declared.address.Address.{Address}
+use Rattle.irig_lines.specs.declared.address.Base.{Base}
+use Rattle.irig_lines.specs.declared.address.Base.TheVariants.{Number, Current, Last, Mark}
+use Rattle.irig_lines.specs.declared.range.Range.{Range}
+use Rattle.irig_lines.specs.declared.range.Range.TheVariants.{One, Two}
+use Rattle.irig_lines.specs.declared.time.Time.{Time}
+use Rattle.irig_lines.specs.declared.time.Time.TheVariants as time
+use Rattle.irig_script.specs.Obey.Machine.{Machine}
+use Rattle.irig_script.specs.Obey.PulseNumbers.{base_of, counted, first_of, join_last_of, last_of, pulse_at, time_of}
+use Rattle.irig_script.specs.Obey.Obeying.{Obeys}
+use Rattle.irig_script.specs.Obey.Replies.{Makes}
+use Rattle.irig_script.specs.declared.print.reply.Reply.TheVariants.{Silent}
+use Rattle.irig_guarding.specs.Repair.{Agrees, Asks, IsPrinted, IsRepair, Obeyed, ObeyedAll}
+use Rattle.irig_guarding.proofs.RepairLemmas.{edit_of, made_by, makes, some_same}
+
+-- a session with another future and other looks
+abbrev beside : List (Step Change) → ℕ → ℕ → Machine → Machine
+beside future looks last s = record {
+  state = s.state;
+  cursor = s.cursor;
+  past = s.past;
+  future = future;
+  floor = s.floor;
+  looks = looks;
+  last_looks = last;
+}
+
+is_beside : (m s : Machine) → Agrees m s → m ≡ beside m.future m.looks m.last_looks s
+is_beside m s h = λ i. record {
+  state = h.state i;
+  cursor = h.cursor i;
+  past = h.past i;
+  future = m.future;
+  floor = h.floor i;
+  looks = m.looks;
+  last_looks = m.last_looks;
+}
+
+agrees_self : (future : List (Step Change)) (looks last : ℕ) (s : Machine) → Agrees (beside future looks last s) s
+agrees_self future looks last s = record { state = refl; cursor = refl; past = refl; floor = refl }
+
+-- a machine with another future
+abbrev refuture : List (Kept State) → Grouped (Kept State) → Grouped (Kept State)
+refuture future g = over g.floor (record { past = g.machine.past; present = g.machine.present; future = future })
+
+begun_beside : (floor : Option (Floor (Kept State))) (m : Track (Kept State)) (future : List (Kept State))
+    → floored floor (record { past = m.past; present = m.present; future = future }) ≡ option_map (refuture future) (floored floor m)
+begun_beside None m future = refl
+begun_beside (Some floor) m future = refl
+
+ended_beside : (floor : Option (Floor (Kept State))) (m : Track (Kept State)) (future : List (Kept State))
+    → joined_over floor (record { past = m.past; present = m.present; future = future }) ≡ option_map (refuture future) (joined_over floor m)
+ended_beside None m future = refl
+ended_beside (Some floor) m future = refl
+
+-- the same work with another future
+abbrev rework : List (Step Change) → Work → Work
+rework future w = record { state = w.state; cursor = w.cursor; past = w.past; future = future; floor = w.floor }
+
+joined_beside : (floor : Option Opening) (w : Work) (future : List (Step Change))
+    → joined_since floor (rework future w) ≡ option_map (rework future) (joined_since floor w)
+joined_beside None w future = refl
+joined_beside (Some o) w future = refl
+
+-- the whole states of work with another future
+abbrev whole_of : List (Step Change) → State → Grouped (Kept State) → Grouped (Kept State)
+whole_of future s g = refuture (states_along turned s future) g
+
+begins_beside : (future : List (Step Change)) (a b : Work) → Accepts Begin a b → Accepts Begin (rework future a) (rework future b)
+begins_beside future a b h =
+    let is = some_same _ _ _ h.steps refl in
+    let state : a.state ≡ b.state = ap (λ (w : Work). w.state) is in
+    record {
+      states = begun_beside (grouped_in a).floor (grouped_in a).machine (states_along turned a.state future)
+          ∙ (ap (option_map (refuture (states_along turned a.state future))) h.states ∙ ap (λ s. Some (whole_of future s (grouped_in b))) state);
+      steps = ap (λ (w : Work). Some (rework future w)) is;
+    }
+
+ends_beside : (future : List (Step Change)) (a b : Work) → Accepts End a b → Accepts End (rework future a) (rework future b)
+ends_beside future a b h =
+    let state = ended_state a b h.steps in
+    record {
+      states = ended_beside (grouped_in a).floor (grouped_in a).machine (states_along turned a.state future)
+          ∙ (ap (option_map (refuture (states_along turned a.state future))) h.states ∙ ap (λ s. Some (whole_of future s (grouped_in b))) state);
+      steps = joined_beside a.floor a future ∙ ap (option_map (rework future)) h.steps;
+    }
+  where
+    ended_state : (a b : Work) → joined_since a.floor a ≡ Some b → a.state ≡ b.state
+    ended_state a b e = go a.floor e
+      where
+        go : (floor : Option Opening) → joined_since floor a ≡ Some b → a.state ≡ b.state
+        go None e = absurd (cc)
+        go (Some o) e = ap (λ (w : Work). w.state) (some_same _ _ _ e refl)
+
+-- so addresses and times mean the same
+module _ (future : List (Step Change)) (looks last : ℕ) (s : Machine) where
+  abbrev other : Machine
+  other = beside future looks last s
+
+  base_beside : (b : Base) → base_of b other ≡ base_of b s
+  base_beside (Number n) = refl
+  base_beside Current = refl
+  base_beside Last = refl
+  base_beside (Mark letter) = refl
+
+  pulse_beside : (by : ℕ) (a : Address) → pulse_at by a other ≡ pulse_at by a s
+  pulse_beside by a = ap (λ b. counted b by a.offset (length s.state.pulses)) (base_beside a.base)
+
+  first_beside : (r : Range) → first_of r other ≡ first_of r s
+  first_beside (One a) = pulse_beside 0 a
+  first_beside (Two a b) = pulse_beside 0 a
+
+  last_beside : (r : Range) → last_of r other ≡ last_of r s
+  last_beside (One a) = pulse_beside 0 a
+  last_beside (Two a b) = pulse_beside 0 b
+
+  join_beside : (r : Range) → join_last_of r other ≡ join_last_of r s
+  join_beside (One a) = pulse_beside 1 a
+  join_beside (Two a b) = pulse_beside 0 b
+
+  time_beside : (t : Time) → time_of t other ≡ time_of t s
+  time_beside (time.At t) = refl
+  time_beside (time.Mark letter) = refl
+
+  same_edit : (c : Command) → IsRepair c → edit_of c other ≡ edit_of c s
+  same_edit (command.Delete r) is = λ i. Edit.Delete (first_beside r i) (last_beside r i)
+  same_edit (command.Shift r d) is = λ i. Edit.Shift (first_beside r i) (last_beside r i) d
+  same_edit (command.Join r) is = λ i. Edit.Join (first_beside r i) (join_beside r i)
+  same_edit (command.Split a t u) is = λ i. Edit.Split (pulse_beside 0 a i) (time_beside t i) (time_beside u i)
+  same_edit (command.Force a e) is = λ i. Edit.Force (pulse_beside 0 a i) e
+  same_edit (command.Insert t u) is = λ i. Edit.Insert (time_beside t i) (time_beside u i)
+  same_edit (command.Invert t u) is = λ i. Edit.Invert (time_beside t i) (time_beside u i)
+  same_edit (command.Regen t frames moment control) is = λ i. Edit.Regen (time_beside t i) frames moment control
+  same_edit (command.Mark letter t) is = λ i. Edit.SetMark letter (Some (time_beside t i))
+  same_edit (command.Unmark letter) is = refl
+  same_edit _ is = absurd is
+
+makes_beside : (edit : Edit) (future : List (Step Change)) (looks last : ℕ) (a b : Machine) → Makes edit a Silent b → Makes edit (beside future looks last a) Silent b
+makes_beside edit future looks last a b h =
+    (h.0, record { after = h.1.after; cursor = h.1.cursor; fits = h.1.fits; states = h.1.states; steps = h.1.steps })
+
+-- what a line does does not depend on the future and the looks
+abbrev Again : Machine → List ℕ → Machine → Type 0
+Again m line b = (left : Machine) × Obeyed m line left × Agrees left b
+
+repaired_again : (c : Command) (line : List ℕ) (future : List (Step Change)) (looks last : ℕ) (a b : Machine) → IsRepair c → IsPrinted c → Asks c line
+    → Obeys c a Silent b → Again (beside future looks last a) line b
+repaired_again c line future looks last a b is printed asks h = (
+  b,
+  (
+    c,
+    asks,
+    printed,
+    made_by c (beside future looks last a) b Silent is
+        (subst (λ (e : Edit). Makes e (beside future looks last a) Silent b) (sym (same_edit future looks last a c is))
+        (makes_beside (edit_of c a) future looks last a b (makes c a b Silent is h))),
+  ),
+  record { state = refl; cursor = refl; past = refl; floor = refl },
+)
+
+again : (c : Command) (line : List ℕ) (future : List (Step Change)) (looks last : ℕ) (a b : Machine) → IsPrinted c → Asks c line → Obeys c a Silent b
+    → Again (beside future looks last a) line b
+again command.Nothing line future looks last a b is asks h = (
+  beside future looks last a,
+  (command.Nothing, asks, tt, (refl, refl)),
+  subst (λ (m : Machine). Agrees (beside future looks last a) m) (sym h.1) (agrees_self future looks last a),
+)
+again command.Begin line future looks last a b is asks h = (
+  beside future looks last b,
+  (command.Begin, asks, tt, (h.0, begins_beside future (work_in a) (work_in b) h.1)),
+  agrees_self future looks last b,
+)
+again command.End line future looks last a b is asks h = (
+  beside future looks last b,
+  (command.End, asks, tt, (h.0, ends_beside future (work_in a) (work_in b) h.1)),
+  agrees_self future looks last b,
+)
+again c line future looks last a b is asks h = repaired_again c line future looks last a b is is asks h
+
+pub obeyed_again : (m a b : Machine) (lines : List (List ℕ)) → Agrees m a → ObeyedAll a lines b → (left : Machine) × ObeyedAll m lines left × Agrees left b
+obeyed_again m a b [] same h = (m, refl, subst (λ (x : Machine). Agrees m x) (sym h) same)
+obeyed_again m a b (line ∷ lines) same h =
+    let one = again h.1.0 line m.future m.looks m.last_looks a h.0 h.1.2 h.1.1 h.1.3 in
+    let rest = obeyed_again one.0 h.0 b lines one.2 h.2 in
+    let here : Obeyed m line one.0 = subst (λ (x : Machine). Obeyed x line one.0) (sym (is_beside m a same)) one.1 in
+    (rest.0, (one.0, here, rest.1), rest.2)

@@ -1,0 +1,182 @@
+-- What is printed of a guarded script, and what it leads to.
+use Rattle.std.proofs.Common.{◌≡◌, ◌≢◌, ◌+◌, ◌-◌, ◌≤◌, ◌++◌, ◌==◌, ◌&&◌, ℕ, zero, suc, Bool, true, false, List, [], ◌∷◌, Option, Some, None, Result, Ok, Err, length, drop, take, get_or, map, refl, ap, sym, ◌∙◌, subst, inl, inr, arith}
+use Rattle.std.proofs.Common.{append_assoc}
+use Rattle.std.specs.Prelude.{IfSome, OnOk, not}
+use Rattle.std.specs.List.{AllByRecursion, list_all}
+use Rattle.std.proofs.lemmas.List.{append-nil, map-append, take_all, take_more}
+use Rattle.std.proofs.lemmas.Grind.{flat_map-append}
+use Rattle.irig_codes.specs.Format.{FormatView}
+use Rattle.irig_edit.specs.State.State.{State}
+use Rattle.irig_lines.specs.Lines.{script_lines}
+use Rattle.irig_lines.specs.declared.command.Command.{Command}
+use Rattle.irig_lines.specs.declared.command.Command.TheVariants as command
+use Rattle.irig_script.specs.Obey.Machine.{Machine}
+use Rattle.irig_script.specs.Obey.Run.{IsObeyed, IsPlain, Runs, unlines}
+use Rattle.irig_script.proofs.ObeyLemmas.Lines.{lines_and}
+use Rattle.irig_script.proofs.ObeyLemmas.Quits.{other_goes_on}
+use Rattle.irig_guarding.specs.Guarded.{IsGuarded, IsRemark, IsSafeAfter, Stands, silence}
+use Rattle.irig_guarding.specs.Reading.{fine_frames}
+use Rattle.irig_guarding.specs.Repair.{Agrees, Asks, IsGroup, IsPrinted, ObeyedAll, texts}
+use Rattle.irig_safety.specs.Safety.{IsSafe, IsSafeFrom}
+use Rattle.irig_guarding.specs.declared.line.Line.{Line}
+use Rattle.irig_safety.specs.declared.shown.Shown.{Shown}
+use Rattle.irig_guarding.proofs.AgainLemmas.{obeyed_again}
+use Rattle.irig_guarding.proofs.RepairLemmas.{obeyed_then}
+
+pub on_ok : {V E : Type 0} {P Q : Type 0} (r : Result V E) → OnOk r P → (P → Q) → OnOk r Q
+on_ok (Ok v) p f = f p
+on_ok (Err e) p f = p
+
+-- each line has no newline
+pub all_plain : (lines : List Line) → AllByRecursion IsPlain (texts lines)
+all_plain [] = tt
+all_plain (line ∷ lines) = (line.plain, all_plain lines)
+
+plain_both : (x y : Bool) → x && y ≡ true → (x ≡ true) × (y ≡ true)
+plain_both true true e = (refl, refl)
+plain_both true false e = absurd (cc)
+plain_both false y e = absurd (cc)
+
+pub plain_take : (n : ℕ) (text : List ℕ) → IsPlain text → IsPlain (take n text)
+plain_take zero text h = refl
+plain_take (suc n) [] h = refl
+plain_take (suc n) (b ∷ text) h =
+    let both = plain_both (not (b == 10)) (list_all (λ b. not (b == 10)) text) h in
+    rw both.0 (plain_take n text both.1)
+
+-- a front behind a number sign is a remark
+pub front_remark : (text : List ℕ) → IsPlain text → length text ≤ 900 → IsRemark (35 ∷ 32 ∷ text)
+front_remark text h few = record { plain = h; asks = (omega arith, ([], 35 ∷ 32 ∷ text, refl, refl, inl (refl, refl))) }
+
+pub all-append : {X : Type 0} (P : X → Type 0) (xs ys : List X) → AllByRecursion P xs → AllByRecursion P ys → AllByRecursion P (xs ++ ys)
+all-append P [] ys h k = k
+all-append P (x ∷ xs) ys h k = (h.0, all-append P xs ys h.1 k)
+
+pub unlines-append : (xs ys : List (List ℕ)) → unlines (xs ++ ys) ≡ unlines xs ++ unlines ys
+unlines-append xs ys = flat_map-append (λ line. line ++ 10 ∷ []) xs ys
+
+pub unlines_one : (line : List ℕ) → unlines (line ∷ []) ≡ line ++ 10 ∷ []
+unlines_one line = append-nil (line ++ 10 ∷ [])
+
+-- one more remark
+pub remarks_more : (old mid new : List ℕ) → ((rs : List (List ℕ)) × AllByRecursion IsRemark rs × (mid ≡ old ++ unlines rs))
+    → ((r : List ℕ) × IsRemark r × (new ≡ mid ++ (r ++ 10 ∷ []))) → (rs : List (List ℕ)) × AllByRecursion IsRemark rs × (new ≡ old ++ unlines rs)
+remarks_more old mid new h k = (
+  h.0 ++ k.0 ∷ [],
+  all-append IsRemark h.0 (k.0 ∷ []) h.1 (k.1, tt),
+  k.2 ∙ (ap (λ l. l ++ (k.0 ++ 10 ∷ [])) h.2 ∙ (append_assoc old (unlines h.0) (k.0 ++ 10 ∷ [])
+      ∙ ap (λ l. old ++ l) (ap (λ l. unlines h.0 ++ l) (sym (unlines_one k.0)) ∙ sym (unlines-append h.0 (k.0 ∷ []))))),
+)
+
+-- the first, those between and the last of a list
+pub ends_of : {X : Type 0} (xs : List X) (a b : X) → 2 ≤ length xs → a ≡ get_or xs 0 a → b ≡ get_or xs (length xs - 1) b
+    → xs ≡ a ∷ (take (length xs - 1 - 1) (drop 1 xs) ++ b ∷ [])
+ends_of [] a b two first last = absurd (omega arith)
+ends_of (x ∷ ys) a b two first last =
+    let n : ℕ = length ys - 1 in
+    let whole : ys ≡ take n ys ++ get_or ys n b ∷ [] = sym (take_all (n + 1) ys (omega arith)) ∙ take_more ys n b (omega arith) in
+    let at : length (x ∷ ys) - 1 ≡ suc n = omega arith in
+    let less : length (x ∷ ys) - 1 - 1 ≡ n = omega arith in
+    let there : b ≡ get_or ys n b = last ∙ ap (λ k. get_or (x ∷ ys) k b) at in
+    ap (λ h. h ∷ ys) (sym first) ∙ ap (λ l. a ∷ l) (whole ∙ (ap (λ y. take n ys ++ y ∷ []) (sym there) ∙ ap (λ k. take k ys ++ b ∷ []) (sym less)))
+
+pub texts_of_ends : (xs inner : List Line) (a b : Line) → xs ≡ a ∷ (inner ++ b ∷ []) → texts xs ≡ a.bytes.items ∷ (texts inner ++ b.bytes.items ∷ [])
+texts_of_ends xs inner a b e = ap texts e ∙ ap (λ l. a.bytes.items ∷ l) (map-append (λ line. line.bytes.items) inner (b ∷ []))
+
+-- a group is its begin, its lines and its end
+pub group_obeyed : (a b : Machine) (first last : List ℕ) (lines : List (List ℕ)) → Asks command.Begin first → Asks command.End last → IsGroup a lines b
+    → ObeyedAll a (first ∷ (lines ++ last ∷ [])) b
+group_obeyed a b first last lines begins ends g = (
+  g.first,
+  (command.Begin, begins, tt, g.begun),
+  obeyed_then g.first g.last b lines (last ∷ []) g.obeyed (b, (command.End, ends, tt, g.ended), refl),
+)
+
+-- lines that are kept
+pub stands_more : (first a b : Machine) (old new : List ℕ) (lines : List (List ℕ)) → AllByRecursion IsPlain lines → ObeyedAll a lines b
+    → new ≡ old ++ unlines lines → Stands first old a → Stands first new b
+stands_more first a b old new lines plain h text s =
+    let on = obeyed_again s.left a b lines s.same h in
+    record {
+      lines = s.lines ++ lines;
+      plain = all-append IsPlain s.lines lines s.plain plain;
+      cut = text ∙ (ap (λ l. l ++ unlines lines) s.cut ∙ sym (unlines-append s.lines lines));
+      left = on.0;
+      obeyed = obeyed_then first s.left on.0 s.lines lines s.obeyed on.1;
+      same = on.2;
+    }
+
+remarks_plain : (remarks : List (List ℕ)) → AllByRecursion IsRemark remarks → AllByRecursion IsPlain remarks
+remarks_plain [] h = tt
+remarks_plain (r ∷ rs) h = (h.0.plain, remarks_plain rs h.1)
+
+remarks_obeyed : (m : Machine) (remarks : List (List ℕ)) → AllByRecursion IsRemark remarks → ObeyedAll m remarks m
+remarks_obeyed m [] h = refl
+remarks_obeyed m (r ∷ rs) h = (m, (command.Nothing, h.0.asks, tt, (refl, refl)), remarks_obeyed m rs h.1)
+
+agrees_agrees : (a b c : Machine) → Agrees a b → Agrees c b → Agrees a c
+agrees_agrees a b c h k =
+    record { state = h.state ∙ sym k.state; cursor = h.cursor ∙ sym k.cursor; past = h.past ∙ sym k.past; floor = h.floor ∙ sym k.floor }
+
+-- and lines that are not
+pub stands_remarks : (first a b : Machine) (old new : List ℕ) → ((rs : List (List ℕ)) × AllByRecursion IsRemark rs × (new ≡ old ++ unlines rs))
+    → Agrees b a → Stands first old a → Stands first new b
+stands_remarks first a b old new remarks same s =
+    let on = stands_more first a a old new remarks.0 (remarks_plain remarks.0 remarks.1) (remarks_obeyed a remarks.0 remarks.1) remarks.2 s in
+    record {
+      lines = on.lines;
+      plain = on.plain;
+      cut = on.cut;
+      left = on.left;
+      obeyed = on.obeyed;
+      same = agrees_agrees on.left a b on.same same;
+    }
+
+-- what reads well is safe by itself
+safe_self : (f : FormatView) (a2 a : Option Shown) (xs : List Shown) → IsSafeFrom f a2 a xs xs
+safe_self f a2 a [] = tt
+safe_self f a2 a (x ∷ xs) = inl (refl, inl refl, safe_self f a (Some x) xs)
+
+safe_whole : (f : FormatView) (xs : List Shown) → IsSafe f xs xs
+safe_whole f [] = inl refl
+safe_whole f (x ∷ xs) = safe_self f None None (x ∷ xs)
+
+pub safe_first : (s : State) → IsSafeAfter s s
+safe_first s = record { format = refl; frames = safe_whole s.format (fine_frames s) }
+
+-- the run of the script that is printed
+not_quit : (c : Command) → IsPrinted c → c ≢ command.Quit
+not_quit command.Quit is e = is
+not_quit c is e = let q : IsPrinted command.Quit = subst (λ (d : Command). IsPrinted d) e is in q
+
+obeyed_goes : (a b : Machine) (lines : List (List ℕ)) → AllByRecursion IsPlain lines → ObeyedAll a lines b → AllByRecursion IsObeyed lines
+obeyed_goes a b [] plain h = tt
+obeyed_goes a b (line ∷ lines) plain h =
+    ((plain.0, other_goes_on h.1.0 line h.1.1.1 (not_quit h.1.0 h.1.2)), obeyed_goes h.0 b lines plain.1 h.2)
+
+runs_of : (a b : Machine) (lines : List (List ℕ)) → ObeyedAll a lines b → Runs a lines (map silence lines) [] b
+runs_of a b [] h = (refl, h)
+runs_of a b (line ∷ lines) h =
+    (h.0, [], (inr (inr (h.1.1.0, (h.1.0, h.1.1.1, h.1.3, refl))), refl), ([], refl, runs_of h.0 b lines h.2))
+
+pub stands_guarded : (first now : Machine) (script : List ℕ) → Stands first script now → IsSafeAfter first.state now.state
+    → IsGuarded first script now
+stands_guarded first now script s safe =
+    let each = obeyed_goes first s.left s.lines s.plain s.obeyed in
+    let lines : script_lines script ≡ s.lines = ap script_lines (s.cut ∙ sym (append-nil (unlines s.lines))) ∙ (lines_and s.lines [] each ∙ append-nil s.lines) in
+    record {
+      left = s.left;
+      runs = subst (λ (l : List (List ℕ)). Runs first l (map silence l) [] s.left) (sym lines) (runs_of first s.left s.lines s.obeyed);
+      same = s.same;
+      safe = safe;
+    }
+
+-- comments are obeyed, and do nothing
+pub remarks_asked : (m : Machine) (lines : List (List ℕ)) → AllByRecursion (Asks command.Nothing) lines → ObeyedAll m lines m
+remarks_asked m [] h = refl
+remarks_asked m (line ∷ lines) h = (m, (command.Nothing, h.0, tt, (refl, refl)), remarks_asked m lines h.1)
+
+-- all bytes of a script, if they are known
+pub read_whole : (known : Option (List ℕ)) (old new : List ℕ) → old ≡ [] → IfSome known (λ xs. new ≡ old ++ xs) → IfSome known (λ all. new ≡ all)
+read_whole None old new e h = tt
+read_whole (Some xs) old new e h = h ∙ ap (λ l. l ++ xs) e

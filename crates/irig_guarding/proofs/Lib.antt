@@ -1,0 +1,5 @@
+pub mod RepairLemmas
+pub mod AgainLemmas
+pub mod GuardLemmas
+pub mod RisingFrames
+pub mod PrintedLemmas

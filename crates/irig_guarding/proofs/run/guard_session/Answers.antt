@@ -1,0 +1,42 @@
+use Rattle.std.proofs.Common.{rules, refl}
+use Rattle.irig_guarding.proofs.GuardLemmas.{read_whole}
+use Rattle.irig_guarding.proofs.run.guard_session.Goals as goal
+
+pub returns-in_default-put_all-clause-ends : goal.returns-in_default-put_all-clause-ends
+returns-in_default-put_all-clause-ends g c = (
+  record {
+    proposal = c.read_to_end.new.buf.items;
+    whole = read_whole (g.R.Read.remaining c.args.script.now) c.new-bytes.result.items c.read_to_end.new.buf.items c.new-bytes.ensures.items c.in-Ok.ensures.bytes;
+    printed = c.in-Ok-guard.printed.items;
+    last = c.guard.new.session;
+    guarded = c.in-Ok-guard.ensures;
+  },
+  search rules,
+  refl,
+)
+
+pub returns-in-Ok-write_product-clause-ends : goal.returns-in-Ok-write_product-clause-ends
+returns-in-Ok-write_product-clause-ends g c = (
+  record {
+    proposal = c.read_to_end.new.buf.items;
+    whole = read_whole (g.R.Read.remaining c.args.script.now) c.new-bytes.result.items c.read_to_end.new.buf.items c.new-bytes.ensures.items c.in-Ok.ensures.bytes;
+    printed = c.in-Ok-guard.printed.items;
+    last = c.guard.new.session;
+    guarded = c.in-Ok-guard.ensures;
+  },
+  search rules,
+  search rules,
+)
+
+pub returns-clause-ends : goal.returns-clause-ends
+returns-clause-ends g c = (
+  record {
+    proposal = c.read_to_end.new.buf.items;
+    whole = read_whole (g.R.Read.remaining c.args.script.now) c.new-bytes.result.items c.read_to_end.new.buf.items c.new-bytes.ensures.items c.in-Ok.ensures.bytes;
+    printed = c.in-Ok-guard.printed.items;
+    last = c.guard.new.session;
+    guarded = c.in-Ok-guard.ensures;
+  },
+  search rules,
+  search rules,
+)

@@ -1,0 +1,61 @@
+-- What a guarded run prints and leaves. This project's own.
+use Rattle.std.specs.Prelude.{◌≡◌, ℕ, false, List, [], map}
+use Rattle.std.specs.List.{AllByRecursion}
+use Rattle.irig_script.specs.Obey.Machine.{Machine}
+use Rattle.irig_script.specs.Obey.OneRun.{RunOf, tells_failed_put, wants_memory}
+use Rattle.irig_script.specs.Obey.Run.{IsPlain, Runs, unlines}
+use Rattle.irig_script.specs.Print.Printed.{Answer}
+use Rattle.irig_script.specs.declared.print.reply.Reply.TheVariants.{Silent}
+use Rattle.irig_lines.specs.Lines.{script_lines}
+use Rattle.irig_lines.specs.declared.command.Command.TheVariants as command
+use Rattle.irig_edit.specs.Session.Session.{work_in}
+use Rattle.irig_edit.specs.State.State.{State}
+use Rattle.irig_guarding.specs.Reading.{fine_frames}
+use Rattle.irig_guarding.specs.Repair.{Agrees, Asks, ObeyedAll}
+use Rattle.irig_safety.specs.Safety.{IsSafe}
+
+-- the line is accepted, and prints nothing
+abbrev pub silence : List ℕ → Answer
+silence line = record { reply = Silent; text = [] }
+
+-- the second state is safe by the first: the same format, and in it the frames that read well
+pub record IsSafeAfter (old new : State) : Type 0 where
+  pub format : new.format ≡ old.format
+  pub frames : IsSafe old.format (fine_frames old) (fine_frames new)
+
+-- a script was printed. From the session as it was opened each of its lines is accepted in silence,
+-- and what they lead to is what the session is now; and that is safe by what it was
+pub record IsGuarded (opened : Machine) (script : List ℕ) (now : Machine) : Type 0 where
+  pub left : Machine
+  pub runs : Runs opened (script_lines script) (map silence (script_lines script)) [] left
+  pub same : Agrees left now
+  pub safe : IsSafeAfter opened.state now.state
+
+-- a comment, or a blank line
+pub record IsRemark (line : List ℕ) : Type 0 where
+  pub plain : IsPlain line
+  pub asks : Asks command.Nothing line
+
+-- lines were printed that lead from the session as it was opened to what it is now
+pub record Stands (opened : Machine) (script : List ℕ) (now : Machine) : Type 0 where
+  pub lines : List (List ℕ)
+  pub plain : AllByRecursion IsPlain lines
+  pub cut : script ≡ unlines lines
+  pub left : Machine
+  pub obeyed : ObeyedAll opened lines left
+  pub same : Agrees left now
+
+-- in this run memory did not run out, and no write failed
+abbrev pub MeetsNothing : List Answer → Type 0
+MeetsNothing answers = AllByRecursion
+    (λ a. (wants_memory a.reply ≡ false) × (tells_failed_put a.reply ≡ false)) answers
+
+-- each run of the script that was printed, from the session as it was opened, accepts every line in
+-- silence and leads to the same state, cursor and past, unless memory runs out
+abbrev pub PrintedIsObeyed : Type 0
+PrintedIsObeyed = (opened : Machine) (script : List ℕ) (now : Machine)
+    → IsGuarded opened script now
+    → (run : RunOf script) → work_in run.old ≡ work_in opened
+    → MeetsNothing run.ran.answers
+    → (run.ran.answers ≡ map silence (script_lines script))
+    × Agrees run.new now

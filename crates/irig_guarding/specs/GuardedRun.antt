@@ -1,0 +1,61 @@
+-- A run under guard, from the bytes of a dump and of a proposed script on. This project's own.
+use Rattle.std.specs.Prelude.{◌≡◌, ℕ, List, [], ◌∷◌, Option, Result, Ok, Err, IfSome}
+use Rattle.std.specs.Io.KnownBytes.{Appends}
+use Rattle.irig_codes.specs.Format.{FormatView}
+use Rattle.irig_edit.specs.Opened.Openings.{IsOpened, IsUnopened}
+use Rattle.irig_edit.specs.Saved.SavedSession.{saved_text}
+use Rattle.irig_edit.specs.Session.Session.{work_in}
+use Rattle.irig_script.specs.Obey.Desk.{Desk}
+use Rattle.irig_script.specs.Obey.Machine.{Machine}
+use Rattle.irig_script.specs.Obey.Replies.{dump_text}
+use Rattle.irig_script.specs.Print.Front.{AppendsFront}
+use Rattle.irig_script.specs.declared.obey.status.Status.{Status}
+use Rattle.irig_text.specs.Shelved.{Puts}
+use Rattle.irig_guarding.specs.Guarded.{IsGuarded}
+use Rattle.irig_guarding.specs.declared.product.GuardFault.{GuardFault}
+use Rattle.irig_guarding.specs.declared.product.GuardFault.TheVariants.{Dump, ReadFailed}
+use Rattle.irig_guarding.specs.declared.product.GuardFault.TheVariants.{OutOfMemory, PrintFailed}
+use Rattle.irig_guarding.specs.declared.product.GuardFault.TheVariants.{WriteFailed}
+use Rattle.irig_guarding.specs.declared.product.Product.{Product}
+use Rattle.irig_guarding.specs.declared.product.Product.TheVariants as product
+
+-- the texts that are written of what a run leaves
+abbrev pub product_texts : Product → Machine → List (List ℕ)
+product_texts product.Nothing m = []
+product_texts product.Track m = dump_text m ∷ []
+product_texts product.Session m = saved_text (work_in m) ∷ []
+
+-- the proposed script was run under guard: what it printed, and what it left
+pub record Guards (first : Machine) (script : Option (List ℕ)) : Type 0 where
+  pub proposal : List ℕ
+  pub whole : IfSome script (λ all. proposal ≡ all)
+  pub printed : List ℕ
+  pub last : Machine
+  pub guarded : IsGuarded first printed last
+
+-- it was run, its result was printed, and what is asked for was written; or memory ran out, or a
+-- read failed, and nothing was printed or written; or the printing failed, and nothing was written;
+-- or the writing failed
+abbrev pub RunsUnderGuard : Product → Machine → Option (List ℕ) → Desk → Desk
+    → Result Status GuardFault → Type 0
+RunsUnderGuard asked first script from to (Ok status) =
+    (run : Guards first script) × Appends from.out to.out run.printed
+    × Puts from.shelf to.shelf (product_texts asked run.last) 0
+RunsUnderGuard asked first script from to (Err PrintFailed) =
+    (run : Guards first script) × AppendsFront from.out to.out run.printed
+    × (to.shelf ≡ from.shelf)
+RunsUnderGuard asked first script from to (Err WriteFailed) =
+    (run : Guards first script) × Appends from.out to.out run.printed
+    × Puts from.shelf to.shelf [] 1
+RunsUnderGuard asked first script from to (Err ReadFailed) = to ≡ from
+RunsUnderGuard asked first script from to (Err OutOfMemory) = to ≡ from
+RunsUnderGuard asked first script from to (Err (Dump fault)) = ⊥
+
+-- the same on the session that is opened from a dump; or that was not opened, and nothing was done
+abbrev pub GuardsOnDump : Option (List ℕ) → FormatView → List ℕ → Product → Option (List ℕ)
+    → Option (List ℕ) → Desk → Desk → Result Status GuardFault → Type 0
+GuardsOnDump wire chosen source asked script left from to (Err (Dump fault)) =
+    IsUnopened wire source fault × (to ≡ from) × (left ≡ script)
+GuardsOnDump wire chosen source asked script left from to result =
+    (first : Machine) × IsOpened wire source chosen first
+    × RunsUnderGuard asked first script from to result

@@ -1,0 +1,5 @@
+pub mod Guarded
+pub mod GuardedRun
+pub mod Meaning
+pub mod Reading
+pub mod Repair

@@ -1,0 +1,79 @@
+-- What the lines of a repair do to a session. This project's own.
+use Rattle.std.specs.Prelude.{◌≡◌, ◌≤◌, ◌++◌, ℕ, List, [], ◌∷◌, length, map}
+use Rattle.irig_edit.specs.Session.Calls.{Call}
+use Rattle.irig_journal.specs.History.{Step}
+use Rattle.irig_saved.specs.declared.change.Change.{Change}
+use Rattle.irig_edit.specs.Session.Session.{work_in}
+use Rattle.irig_edit.specs.Session.Work.{grouped_in}
+use Rattle.irig_lines.specs.Grammar.{Means}
+use Rattle.irig_lines.specs.declared.command.Command.{Command}
+use Rattle.irig_lines.specs.declared.command.Command.TheVariants as command
+use Rattle.irig_script.specs.Obey.Machine.{Machine}
+use Rattle.irig_script.specs.Obey.Obeying.{Obeys}
+use Rattle.irig_script.specs.Obey.Replies.{Calls}
+use Rattle.irig_guarding.specs.declared.line.Line.{Line}
+use Rattle.irig_script.specs.declared.print.reply.Reply.TheVariants.{Silent}
+
+-- state, cursor, past and floor are the same; what can be redone may differ
+pub record Agrees (one other : Machine) : Type 0 where
+  pub state : one.state ≡ other.state
+  pub cursor : one.cursor ≡ other.cursor
+  pub past : one.past ≡ other.past
+  pub floor : one.floor ≡ other.floor
+
+-- a command that a repair may consist of: an edit of pulses or marks
+abbrev pub IsRepair : Command → Type 0
+IsRepair (command.Delete r) = Unit {0}
+IsRepair (command.Shift r d) = Unit {0}
+IsRepair (command.Join r) = Unit {0}
+IsRepair (command.Split a s t) = Unit {0}
+IsRepair (command.Force a e) = Unit {0}
+IsRepair (command.Insert s t) = Unit {0}
+IsRepair (command.Invert s t) = Unit {0}
+IsRepair (command.Regen s frames moment control) = Unit {0}
+IsRepair (command.Mark letter t) = Unit {0}
+IsRepair (command.Unmark letter) = Unit {0}
+IsRepair _ = ⊥
+
+-- a line that is not too long asks for the command
+abbrev pub Asks : Command → List ℕ → Type 0
+Asks command line = (length line ≤ 1000) × Means command line
+
+-- the command may be printed: it is an edit, nothing, a begin or an end
+abbrev pub IsPrinted : Command → Type 0
+IsPrinted command.Nothing = Unit {0}
+IsPrinted command.Begin = Unit {0}
+IsPrinted command.End = Unit {0}
+IsPrinted c = IsRepair c
+
+-- the line is obeyed in silence
+abbrev pub Obeyed : Machine → List ℕ → Machine → Type 0
+Obeyed old line new =
+    (asked : Command) × Asks asked line × IsPrinted asked × Obeys asked old Silent new
+
+-- the lines are, one after the other
+abbrev pub ObeyedAll : Machine → List (List ℕ) → Machine → Type 0
+ObeyedAll old [] new = new ≡ old
+ObeyedAll old (line ∷ lines) new =
+    (mid : Machine) × Obeyed old line mid × ObeyedAll mid lines new
+
+-- the second session is in the group that is open in the first, or both are in none: the past of
+-- the first is still there
+pub record IsBeyond (old new : Machine) : Type 0 where
+  pub floor : new.floor ≡ old.floor
+  pub begin : (grouped_in (work_in new)).floor ≡ (grouped_in (work_in old)).floor
+  pub more : List (Step Change)
+  pub past : new.past ≡ more ++ old.past
+  pub format : new.state.format ≡ old.state.format
+
+-- a group was begun, the lines were obeyed in it, and it was ended
+pub record IsGroup (old : Machine) (lines : List (List ℕ)) (new : Machine) : Type 0 where
+  pub first : Machine
+  pub last : Machine
+  pub begun : Calls Call.Begin old Silent first
+  pub obeyed : ObeyedAll first lines last
+  pub ended : Calls Call.End last Silent new
+
+-- the bytes of lines
+abbrev pub texts : List Line → List (List ℕ)
+texts lines = map (λ line. line.bytes.items) lines

@@ -1,0 +1,18 @@
+//! A guard for proposed repairs: a repair is kept only if it is safe.
+#![tactic(auto)]
+
+mod commands;
+mod guarding;
+mod law;
+mod line;
+mod lines;
+mod mending;
+mod output;
+mod printing;
+mod product;
+mod reading;
+mod run;
+
+pub use law::{printed_scripts_are_obeyed, safe_states_are_kept_or_borne_out};
+pub use product::{GuardFault, Product};
+pub use run::guard_on_parts;

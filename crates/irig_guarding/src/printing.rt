@@ -1,0 +1,69 @@
+//! The script that is printed: what is kept, and the rest as comments.
+
+ghost use Rattle.std.specs.Prelude.{◌≡◌, ◌++◌, ◌∷◌, [], ℕ, List, OnOk};
+ghost use Rattle.std.specs.List.{AllByRecursion};
+ghost use Rattle.irig_guarding.specs.Guarded.{IsRemark};
+ghost use Rattle.irig_guarding.specs.Repair.{texts};
+ghost use Rattle.irig_script.specs.Obey.Run.{IsPlain, unlines};
+
+use crate::commands::is_comment;
+use crate::line::Line;
+use std::alloc::AllocError;
+
+/// How many bytes of a line a comment keeps.
+const KEPT: usize = 900;
+
+/// Prints a line.
+fn put_line(out: &mut Vec<u8>, line: &[u8]) -> Result<(), AllocError>
+    ensures { OnOk result (out.new.items ≡ out.old.items ++ (line.now ++ 10 ∷ [])) }
+{
+    out.extend_from_slice(line)?;
+    out.push(b'\n')?;
+    Ok(())
+}
+
+/// Prints lines.
+pub fn put_lines(out: &mut Vec<u8>, lines: &[Line]) -> Result<(), AllocError>
+    ensures text { OnOk result (out.new.items ≡ out.old.items ++ unlines (texts lines.now)) }
+    ensures plain { AllByRecursion IsPlain (texts lines.now) }
+{
+    for line in lines {
+        put_line(out, line.bytes.as_slice())?;
+    }
+    Ok(())
+}
+
+/// Prints a line as a comment: a comment as it is, of any other line the front behind a number
+/// sign.
+fn put_remark(out: &mut Vec<u8>, line: &Line) -> Result<(), AllocError>
+    ensures { OnOk result ((remark : List ℕ) × IsRemark remark
+        × (out.new.items ≡ out.old.items ++ (remark ++ 10 ∷ []))) }
+{
+    let bytes = line.bytes.as_slice();
+    if is_comment(bytes) {
+        put_line(out, bytes)
+    } else {
+        put_front(out, line)
+    }
+}
+
+/// Prints the front of a line behind a number sign.
+fn put_front(out: &mut Vec<u8>, line: &Line) -> Result<(), AllocError>
+    ensures { OnOk result ((remark : List ℕ) × IsRemark remark
+        × (out.new.items ≡ out.old.items ++ (remark ++ 10 ∷ []))) }
+{
+    let bytes = line.bytes.as_slice();
+    out.extend_from_slice(b"# ")?;
+    put_line(out, &bytes[..bytes.len().min(KEPT)])
+}
+
+/// Prints lines as comments.
+pub fn put_remarks(out: &mut Vec<u8>, lines: &[Line]) -> Result<(), AllocError>
+    ensures { OnOk result ((remarks : List (List ℕ)) × AllByRecursion IsRemark remarks
+        × (out.new.items ≡ out.old.items ++ unlines remarks)) }
+{
+    for line in lines {
+        put_remark(out, line)?;
+    }
+    Ok(())
+}

@@ -1,0 +1,35 @@
+//! What a run under guard writes, and why it is broken off.
+
+use irig_vcd::VcdFault;
+use thiserror::Error;
+
+/// What is written of the session that the kept repairs leave.
+#[derive(Clone, Copy, PartialEq, Eq)]
+pub enum Product {
+    /// Nothing.
+    Nothing,
+    /// The track.
+    Track,
+    /// The track with its journal.
+    Session,
+}
+
+/// Why a run under guard did not come to its end.
+#[derive(Clone, Copy, Debug, Error)]
+pub enum GuardFault {
+    /// The dump was not opened: no line of the script was read.
+    #[error("{0}")]
+    Dump(VcdFault),
+    /// A read of the script failed, or memory ran out for it.
+    #[error("S4 ReadFailed")]
+    ReadFailed,
+    /// Memory ran out for the frames, or for what is printed.
+    #[error("E11 OutOfMemory")]
+    OutOfMemory,
+    /// A write of the output failed, or took no byte.
+    #[error("S6 PrintFailed")]
+    PrintFailed,
+    /// The track could not be written.
+    #[error("S3 WriteFailed")]
+    WriteFailed,
+}

@@ -1,0 +1,47 @@
+//! The frames of a session that read well.
+
+ghost use Rattle.std.specs.Prelude.{◌≡◌, ◌≤◌, ◌-◌, ◌++◌, length, slice_get, Some, IfOk, OnOk};
+ghost use Rattle.irig_index.specs.declared.record.Record.{Record};
+ghost use Rattle.irig_edit.specs.State.State.{frames_of};
+ghost use Rattle.irig_guarding.specs.Reading.{fine_frames, shown_at, shown_by};
+
+use irig_codes::Note;
+use irig_edit::{Session, Verdict};
+use irig_safety::Shown;
+use std::alloc::{AllocError, Global};
+
+/// The frames of a session that read well, in rising order.
+pub fn fine_frames(alloc: Global, session: &Session) -> Result<Vec<Shown>, AllocError>
+    ensures { IfOk result (λ shown. shown.items ≡ fine_frames session.now.state) }
+{
+    let mut shown = Vec::new(alloc);
+    for index in 0..session.frames() {
+        put_frame(&mut shown, session, index + 1)?;
+    }
+    Ok(shown)
+}
+
+/// Puts what a frame shows, from 1, behind others if it reads well.
+fn put_frame(shown: &mut Vec<Shown>, session: &Session, number: usize) -> Result<(), AllocError>
+    requires { (1 ≤ number) × (number ≤ length (frames_of session.now.state)) }
+    ensures { (r : Record) → slice_get (frames_of session.now.state) (number - 1) ≡ Some r
+        → OnOk result (shown.new.items
+        ≡ shown.old.items ++ shown_by session.now.state.pulses r) }
+{
+    let frame = session.frame(number);
+    let rise = session.pulse(frame.marker).rise;
+    put_verdict(shown, rise, frame.verdict)
+}
+
+/// Puts what a frame shows that begins at a time behind others if it reads well.
+fn put_verdict(shown: &mut Vec<Shown>, rise: u64, verdict: Verdict) -> Result<(), AllocError>
+    ensures { OnOk result (shown.new.items ≡ shown.old.items ++ shown_at rise verdict) }
+{
+    match verdict {
+        Verdict::Read(fields, Note::Fine) => {
+            shown.push(Shown { rise, fields })?;
+            Ok(())
+        }
+        _ => Ok(()),
+    }
+}

@@ -1,0 +1,139 @@
+//! A run under guard on a dump, from the bytes that come in to those that go out.
+
+ghost use Rattle.std.specs.Prelude.{◌≡◌, ◌≤◌, ◌^◌, ℕ, List, None, Option, length, Ok, IfErr, IfOk};
+ghost use Rattle.std.specs.Prelude.{IfSome, OnErr, OnOk, [], ◌∷◌};
+ghost use Rattle.irig_edit.specs.Opened.Openings.{IsOpened, IsUnopened};
+ghost use Rattle.irig_vcd.specs.Answer.{bytes_of};
+ghost use Rattle.irig_vcd.specs.Parts.{dump_parts};
+ghost use Rattle.irig_guarding.specs.GuardedRun.{GuardsOnDump, RunsUnderGuard, product_texts};
+ghost use Rattle.irig_script.specs.Obey.Desk.{desk};
+ghost use Rattle.irig_text.specs.Shelved.{Puts};
+
+use crate::guarding::guard;
+use crate::output::put_all;
+use crate::product::{GuardFault, Product};
+use irig_codes::Format;
+use irig_edit::Session;
+use irig_recording::Recording;
+use irig_script::Status;
+use irig_text::{Shelf, ShelfFault, Text};
+use irig_vcd::VcdFault;
+use std::alloc::Global;
+use std::io::{Read, Write};
+
+/// Opens a dump by what was read of it, runs a proposed script on it under guard, prints the script
+/// that is accepted and writes what it leaves.
+pub fn guard_on_parts<R: Read, W: Write, S: Shelf>(
+    alloc: Global,
+    recording: Recording,
+    journal: Option<Vec<u8>>,
+    format: Format,
+    product: Product,
+    script: &mut R,
+    out: &mut W,
+    shelf: &mut S,
+) -> Result<Status, GuardFault>
+    requires { IfSome journal (λ text. length text.items ≤ 2 ^ 28) }
+    ensures ends { (wire : Option (List ℕ)) (bytes : List ℕ)
+        → dump_parts wire bytes ≡ Ok (recording, bytes_of journal)
+        → GuardsOnDump wire format bytes product (R.remaining script.old)
+        (R.remaining script.new) (desk (W.contents out.old) (S.known shelf.old))
+        (desk (W.contents out.new) (S.known shelf.new)) result }
+    ensures label { (S.known shelf.new).label ≡ (S.known shelf.old).label }
+    ensures since { S.since shelf.old shelf.new }
+{
+    match open_closed(alloc, recording, journal, format) {
+        Ok(mut session) => guard_session(alloc, &mut session, product, script, out, shelf),
+        Err(fault) => Err(GuardFault::Dump(fault)),
+    }
+}
+
+/// Opens a dump by what was read of it. No group is open.
+fn open_closed(
+    alloc: Global,
+    recording: Recording,
+    journal: Option<Vec<u8>>,
+    format: Format,
+) -> Result<Session, VcdFault>
+    requires { IfSome journal (λ text. length text.items ≤ 2 ^ 28) }
+    ensures closed { IfOk result (λ s. s.floor ≡ None) }
+    ensures opened { IfOk result (λ s. (wire : Option (List ℕ)) (bytes : List ℕ)
+        → dump_parts wire bytes ≡ Ok (recording, bytes_of journal)
+        → IsOpened wire bytes format s) }
+    ensures fault { IfErr result (λ e. (wire : Option (List ℕ)) (bytes : List ℕ)
+        → dump_parts wire bytes ≡ Ok (recording, bytes_of journal)
+        → IsUnopened wire bytes e) }
+{
+    match Session::open_parts(alloc, recording, journal, format) {
+        Ok(mut session) => {
+            // Refused: a dump opens with no group.
+            let _ = session.end();
+            Ok(session)
+        }
+        Err(fault) => Err(fault),
+    }
+}
+
+/// Runs a proposed script on a session under guard, prints the script that is accepted and writes
+/// what it leaves.
+pub fn guard_session<R: Read, W: Write, S: Shelf>(
+    alloc: Global,
+    session: &mut Session,
+    product: Product,
+    script: &mut R,
+    out: &mut W,
+    shelf: &mut S,
+) -> Result<Status, GuardFault>
+    requires { session.old.floor ≡ None }
+    ensures ends { RunsUnderGuard product session.old (R.remaining script.old)
+        (desk (W.contents out.old) (S.known shelf.old))
+        (desk (W.contents out.new) (S.known shelf.new)) result }
+    ensures label { (S.known shelf.new).label ≡ (S.known shelf.old).label }
+    ensures since { S.since shelf.old shelf.new }
+{
+    let mut bytes = Vec::new(alloc);
+    let Ok(_) = script.read_to_end(&mut bytes) else {
+        return Err(GuardFault::ReadFailed);
+    };
+    let Ok((printed, status)) = guard(alloc, session, bytes.as_slice()) else {
+        return Err(GuardFault::OutOfMemory);
+    };
+    let Ok(()) = put_all(out, printed.as_slice()) else {
+        return Err(GuardFault::PrintFailed);
+    };
+    match write_product(session, product, shelf) {
+        Ok(()) => Ok(status),
+        Err(_) => Err(GuardFault::WriteFailed),
+    }
+}
+
+/// Writes what is asked for of a session.
+fn write_product<S: Shelf>(
+    session: &Session,
+    product: Product,
+    shelf: &mut S,
+) -> Result<(), ShelfFault>
+    ensures ok { OnOk result (Puts (S.known shelf.old) (S.known shelf.new)
+        (product_texts product session.now) 0) }
+    ensures err { OnErr result (Puts (S.known shelf.old) (S.known shelf.new) [] 1) }
+    ensures since { S.since shelf.old shelf.new }
+{
+    match product {
+        Product::Nothing => Ok(()),
+        Product::Track => write(&mut session.text_parts(), shelf),
+        Product::Session => write(&mut session.saved_parts(), shelf),
+    }
+}
+
+/// Writes a text.
+fn write<T: Text, S: Shelf>(text: &mut T, shelf: &mut S) -> Result<(), ShelfFault>
+    ensures ok { OnOk result (Puts (S.known shelf.old) (S.known shelf.new)
+        (T.rest text.old ∷ []) 0) }
+    ensures err { OnErr result (Puts (S.known shelf.old) (S.known shelf.new) [] 1) }
+    ensures since { S.since shelf.old shelf.new }
+{
+    match shelf.put(text) {
+        Ok(_) => Ok(()),
+        Err(fault) => Err(fault),
+    }
+}

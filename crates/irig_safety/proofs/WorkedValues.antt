@@ -1,0 +1,126 @@
+-- Worked values of what bears out a frame, in format B with expression 4 (a period of 1 s, an interval of 10 ms).
+use Rattle.std.proofs.Common.{◌≡◌, ℕ, true, false, None, Some, refl}
+use Rattle.irig_codes.specs.Format.{FormatView}
+use Rattle.irig_codes.specs.declared.fields.Fields.{Fields}
+use Rattle.irig_codes.specs.declared.format.Kind.TheVariants.{B}
+use Rattle.irig_safety.specs.Bearing.{clock_of, is_far, is_later, leads, periods, shows_clock, slack, stray}
+use Rattle.irig_safety.specs.Witnesses.{is_borne}
+use Rattle.irig_safety.specs.declared.shown.Shown.{Shown}
+
+abbrev b4 : FormatView
+b4 = record { kind = B; expression = 4 }
+
+abbrev time : ℕ → ℕ → ℕ → ℕ → ℕ → Fields
+time year day hour minute second = record {
+  hundredths = None;
+  seconds = second;
+  minutes = minute;
+  hours = hour;
+  days = day;
+  year = Some year;
+  sbs = None;
+  control = None;
+}
+
+abbrev at : ℕ → Fields → Shown
+at rise fields = record { rise = rise; fields = fields }
+
+-- 12:34:55 at 5 s, and 12:34:58 at 7.9994 s: a hole, and the rest 0.6 ms early
+abbrev before : Shown
+before = at 5000000 (time 24 138 12 34 55)
+
+abbrev after : Shown
+after = at 7999400 (time 24 138 12 34 58)
+
+first_of_year : clock_of (time 24 1 0 0 0) ≡ 8640000
+first_of_year = refl
+
+three : periods b4 before after ≡ 3
+three = refl
+
+-- half an interval and a thousandth of the distance, in two-thousandths: 5 ms + 2.9994 ms
+slack_there : slack b4 before after ≡ 15998800
+slack_there = refl
+
+stray_there : stray b4 before after ≡ 600
+stray_there = refl
+
+-- 12:34:56 at 6 s is borne out by both
+right_time : is_borne b4 None (Some before) (Some after) None (at 6000000 (time 24 138 12 34 56)) ≡ true
+right_time = refl
+
+-- 12:34:57 at 6 s by none, nor 12:34:58 at 7 s
+wrong_time : is_borne b4 None (Some before) (Some after) None (at 6000000 (time 24 138 12 34 57)) ≡ false
+wrong_time = refl
+
+early_rest : is_borne b4 None (Some before) (Some after) None (at 7000000 (time 24 138 12 34 58)) ≡ false
+early_rest = refl
+
+-- a frame may begin as late as the slack of one of them lets it: here 6 ms after 6 s, but 6.001 ms
+late : is_borne b4 None (Some before) None None (at 6006005 (time 24 138 12 34 56)) ≡ true
+late = refl
+
+too_late : is_borne b4 None (Some before) None None (at 6006007 (time 24 138 12 34 56)) ≡ false
+too_late = refl
+
+-- with no frame on either side nothing bears a frame out
+alone : is_borne b4 None None None None (at 6000000 (time 24 138 12 34 56)) ≡ false
+alone = refl
+
+-- 494 periods away a frame can lead, 495 away it is too far; it allows then
+reach : is_far b4 before (at 499000000 (time 24 138 12 43 9)) ≡ false
+reach = refl
+
+beyond_reach : is_far b4 before (at 500000000 (time 24 138 12 43 10)) ≡ true
+beyond_reach = refl
+
+-- an inserted second is a frame period as any other, after which the next day begins
+inserted : leads b4 (at 5000000 (time 16 366 23 59 59)) (at 6000000 (time 16 366 23 59 60)) ≡ true
+inserted = refl
+
+after_inserted : leads b4 (at 6000000 (time 16 366 23 59 60)) (at 7000000 (time 17 1 0 0 0)) ≡ true
+after_inserted = refl
+
+-- it is borne out from both sides alone
+inserted_alone : is_borne b4 None (Some (at 5000000 (time 16 366 23 59 59))) None None (at 6000000 (time 16 366 23 59 60)) ≡ false
+inserted_alone = refl
+
+inserted_between : is_borne b4 None (Some (at 5000000 (time 16 366 23 59 59))) (Some (at 7000000 (time 17 1 0 0 0))) None
+    (at 6000000 (time 16 366 23 59 60)) ≡ true
+inserted_between = refl
+
+-- a clock that is 2 % off: 20 frames take 20.4 s, and the 10th of them begins at 10.2 s
+abbrev first : Shown
+first = at 5000000 (time 24 138 12 34 0)
+
+abbrev last : Shown
+last = at 25400000 (time 24 138 12 34 20)
+
+slow_clock : shows_clock b4 first last ≡ true
+slow_clock = refl
+
+by_slow_clock : is_borne b4 None (Some first) (Some last) None (at 15200000 (time 24 138 12 34 10)) ≡ true
+by_slow_clock = refl
+
+by_no_clock : is_borne b4 None (Some first) (Some last) None (at 15100000 (time 24 138 12 34 10)) ≡ false
+by_no_clock = refl
+
+-- a clock that is more than a fortieth off is none
+wild_clock : shows_clock b4 first (at 15300000 (time 24 138 12 34 10)) ≡ false
+wild_clock = refl
+
+midnight : leads b4 (at 5000000 (time 24 138 23 59 59)) (at 6000000 (time 24 139 0 0 0)) ≡ true
+midnight = refl
+
+-- 2024 has 366 days, 2023 has 365, and 1999 goes into 2000
+leap_year : leads b4 (at 5000000 (time 24 366 23 59 59)) (at 6000000 (time 25 1 0 0 0)) ≡ true
+leap_year = refl
+
+plain_year : leads b4 (at 5000000 (time 23 365 23 59 59)) (at 6000000 (time 24 1 0 0 0)) ≡ true
+plain_year = refl
+
+century : leads b4 (at 5000000 (time 99 365 23 59 59)) (at 6000000 (time 0 1 0 0 0)) ≡ true
+century = refl
+
+no_last_day : is_later b4 (at 5000000 (time 23 365 23 59 59)) (at 6000000 (time 25 1 0 0 0)) ≡ false
+no_last_day = refl

@@ -1,0 +1,4 @@
+pub mod Bearing
+pub mod Meaning
+pub mod Safety
+pub mod Witnesses

@@ -1,0 +1,67 @@
+-- When what frames show after an edit is safe, by what they showed when the recording was opened.
+-- This project's own.
+use Rattle.std.specs.Prelude.{◌≡◌, ◌≤◌, ◌<◌, ◌⊎◌, ◌&&◌, ◌-◌, ℕ, zero, suc, Bool, true, false, not, List}
+use Rattle.std.specs.Prelude.{[], ◌∷◌, Option, Some, None, drop, length, slice_get}
+use Rattle.irig_codes.specs.Format.{FormatView}
+use Rattle.irig_safety.specs.Bearing.{allows, leads}
+use Rattle.irig_safety.specs.Witnesses.{is_borne}
+use Rattle.irig_safety.specs.declared.shown.Shown.{Shown}
+
+-- the frame before a place, if there is one
+abbrev pub behind : ℕ → List Shown → Option Shown
+behind zero frames = None
+behind (suc n) frames = slice_get frames n
+
+-- The frame between two others was wrong: both contradict it, and they bear out what it is now.
+abbrev pub is_mended : FormatView → Option Shown → Option Shown → Shown → Option Shown
+    → Option Shown → Shown → Bool
+is_mended f a2 (Some a) o (Some b) b2 n =
+    not (allows f a o) && not (allows f o b) && is_borne f a2 (Some a) (Some b) b2 n
+is_mended f a2 a o b b2 n = false
+
+-- a frame that was there is as it was, or was wrong and is mended
+abbrev pub Stays : FormatView → Option Shown → Option Shown → Shown → List Shown → Shown → Type 0
+Stays f a2 a o old n =
+    (o ≡ n) ⊎ (is_mended f a2 a o (slice_get old 0) (slice_get old 1) n ≡ true)
+
+-- a frame that was not there is borne out by those before it and after it
+abbrev pub Comes : FormatView → Option Shown → Option Shown → List Shown → Shown → Type 0
+Comes f a2 a old n = is_borne f a2 a (slice_get old 0) (slice_get old 1) n ≡ true
+
+-- The frames that read well are those that did before, each where it was, and others between them.
+-- The two frames that were before the first of the former are known.
+abbrev pub IsSafeFrom : FormatView → Option Shown → Option Shown → List Shown → List Shown → Type 0
+IsSafeFrom f a2 a [] [] = Unit {0}
+IsSafeFrom f a2 a (o ∷ old) [] = ⊥
+IsSafeFrom f a2 a [] (n ∷ new) = Comes f a2 a [] n × IsSafeFrom f a2 a [] new
+IsSafeFrom f a2 a (o ∷ old) (n ∷ new) =
+    ((o.rise ≡ n.rise) × Stays f a2 a o old n × IsSafeFrom f a (Some o) old new)
+    ⊎ ((n.rise < o.rise) × Comes f a2 a (o ∷ old) n × IsSafeFrom f a2 a (o ∷ old) new)
+
+-- so from a place of the former on
+abbrev pub IsSafeAt : FormatView → List Shown → ℕ → List Shown → Type 0
+IsSafeAt f old k new = IsSafeFrom f (behind (k - 1) old) (behind k old) (drop k old) new
+
+-- each frame leads to the next
+abbrev pub LeadOn : FormatView → List Shown → Type 0
+LeadOn f [] = Unit {0}
+LeadOn f (x ∷ []) = Unit {0}
+LeadOn f (x ∷ y ∷ frames) = (leads f x y ≡ true) × LeadOn f (y ∷ frames)
+
+-- of a recording in which no frame reads well: none does now, or at least three do, each of which
+-- leads to the next
+abbrev pub AreOfThemselves : FormatView → List Shown → Type 0
+AreOfThemselves f new = (length new ≡ 0) ⊎ ((3 ≤ length new) × LeadOn f new)
+
+-- frames are safe by those of the recording
+abbrev pub IsSafe : FormatView → List Shown → List Shown → Type 0
+IsSafe f [] new = AreOfThemselves f new
+IsSafe f (o ∷ old) new = IsSafeFrom f None None (o ∷ old) new
+
+-- each frame that read well still does, at its time
+abbrev pub NoneIsSpoiled : List Shown → List Shown → Type 0
+NoneIsSpoiled [] new = Unit {0}
+NoneIsSpoiled (x ∷ last) [] = ⊥
+NoneIsSpoiled (x ∷ last) (n ∷ new) =
+    ((x.rise ≡ n.rise) × NoneIsSpoiled last new)
+    ⊎ ((n.rise < x.rise) × NoneIsSpoiled (x ∷ last) new)

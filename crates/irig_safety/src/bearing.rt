@@ -1,0 +1,223 @@
+//! How the times and the rises of two frames go together.
+
+ghost use Rattle.std.specs.Prelude.{◌≡◌, ◌+◌, ◌*◌, ◌%◌, ◌==◌, ◌^◌, ◌<◌};
+ghost use Rattle.irig_safety.specs.Bearing.{allows, apart, clock_after, clock_of, distance};
+ghost use Rattle.irig_safety.specs.Bearing.{inserted_of, is_by_clock, is_far, is_in_time};
+ghost use Rattle.irig_safety.specs.Bearing.{is_later, is_near_year, is_shown, leads, periods};
+ghost use Rattle.irig_safety.specs.Bearing.{shows_clock, slack, stray, turn_of, year_of};
+ghost use Rattle.irig_moment.specs.Generated.{period_of};
+
+use crate::shown::Shown;
+use irig_codes::{Fields, Format};
+
+/// The hundredths of a second from the beginning of the year.
+fn clock(fields: &Fields) -> u128
+    ensures value { result ≡ clock_of fields.now }
+    ensures small { result < 2 ^ 60 }
+{
+    let days = u128::from(fields.days);
+    let hours = u128::from(fields.hours);
+    let minutes = u128::from(fields.minutes);
+    let seconds = u128::from(fields.seconds);
+    let hundredths = u128::from(fields.hundredths.unwrap_or(0));
+    8_640_000 * days + 360_000 * hours + 6_000 * minutes + 100 * seconds + hundredths
+}
+
+/// The frame period in hundredths of a second.
+fn period(format: Format) -> u128
+    ensures value { result ≡ period_of format }
+    ensures some { 0 < result }
+{
+    u128::from(format.frame_period()) / 10_000
+}
+
+/// Whether a year of a century is the one after another.
+fn is_next(one: u32, other: u32) -> bool
+    ensures { result ≡ ((one + 1) % 100 == other) }
+{
+    (u64::from(one) + 1) % 100 == u64::from(other)
+}
+
+/// Whether a year is another one or the one after it, or neither is known.
+fn is_near_year(one: Option<u32>, other: Option<u32>) -> bool
+    ensures { result ≡ is_near_year one other }
+{
+    match (one, other) {
+        (Some(one), Some(other)) => one == other || is_next(one, other),
+        (None, None) => true,
+        _ => false,
+    }
+}
+
+/// The hundredths of a second of a year.
+fn year(is_long: bool) -> u128
+    ensures value { result ≡ year_of is_long }
+    ensures small { result < 2 ^ 32 }
+{
+    if is_long {
+        3_162_240_000
+    } else {
+        3_153_600_000
+    }
+}
+
+/// By how many hundredths of a second the year of other fields begins after that of these.
+fn turn(one: &Fields, other: &Fields) -> u128
+    ensures value { result ≡ turn_of one.now.year other.now.year one.now other.now }
+    ensures small { result < 2 ^ 32 }
+{
+    match (one.year, other.year) {
+        (Some(from), Some(to)) => {
+            if is_next(from, to) {
+                year(from % 4 == 0)
+            } else {
+                0
+            }
+        }
+        (None, None) => {
+            if clock(other) < clock(one) {
+                year(one.days == 366)
+            } else {
+                0
+            }
+        }
+        _ => 0,
+    }
+}
+
+/// The hundredths of a second that an inserted second 60 adds before another frame.
+fn inserted(one: &Fields, other: &Fields) -> u128
+    ensures value { result ≡ inserted_of one.now other.now }
+    ensures small { result < 2 ^ 8 }
+{
+    if one.seconds == 60 && other.seconds != 60 {
+        100
+    } else {
+        0
+    }
+}
+
+/// The time of a frame on the clock of the year of another.
+fn clock_after(one: &Shown, other: &Shown) -> u128
+    ensures value { result ≡ clock_after one.now other.now }
+    ensures small { result < 2 ^ 61 }
+{
+    clock(&other.fields) + turn(&one.fields, &other.fields) + inserted(&one.fields, &other.fields)
+}
+
+/// How many frame periods lie between the times of two frames.
+fn periods(format: Format, one: &Shown, other: &Shown) -> u128
+    ensures value { result ≡ periods format one.now other.now }
+    ensures small { result < 2 ^ 61 }
+{
+    let period = period(format);
+    clock_after(one, other).saturating_sub(clock(&one.fields)) / period
+}
+
+/// Whether a frame says a time that is whole frame periods after that of another, no later than in
+/// the next year.
+fn is_later(format: Format, one: &Shown, other: &Shown) -> bool
+    ensures { result ≡ is_later format one.now other.now }
+{
+    let (from, to) = (clock(&one.fields), clock_after(one, other));
+    from < to
+        && is_near_year(one.fields.year, other.fields.year)
+        && from + periods(format, one, other) * period(format) == to
+}
+
+/// How many microseconds after a frame another begins.
+fn distance(one: &Shown, other: &Shown) -> u128
+    ensures value { result ≡ distance one.now other.now }
+    ensures small { result < 2 ^ 64 }
+{
+    u128::from(other.rise.saturating_sub(one.rise))
+}
+
+/// How far two numbers are apart.
+fn apart(one: u128, other: u128) -> u128
+    ensures value { result ≡ apart one other }
+    ensures within { (one < 2 ^ 125) → (other < 2 ^ 125) → result < 2 ^ 125 }
+{
+    if one < other {
+        other - one
+    } else {
+        one - other
+    }
+}
+
+/// By how many microseconds the distance of two frames differs from that of their times.
+fn stray(format: Format, one: &Shown, other: &Shown) -> u128
+    ensures value { result ≡ stray format one.now other.now }
+    ensures small { result < 2 ^ 90 }
+{
+    let expected = periods(format, one, other) * u128::from(format.frame_period());
+    apart(distance(one, other), expected)
+}
+
+/// By how many two-thousandths of a microsecond it may differ: half an interval, and a thousandth of
+/// the distance.
+fn slack(format: Format, one: &Shown, other: &Shown) -> u128
+    ensures value { result ≡ slack format one.now other.now }
+{
+    1_000 * u128::from(format.interval()) + 2 * distance(one, other)
+}
+
+/// Whether two frames are so far from each other that their distance does not say how many frame
+/// periods it is.
+fn is_far(format: Format, one: &Shown, other: &Shown) -> bool
+    ensures { result ≡ is_far format one.now other.now }
+{
+    1_000 * u128::from(format.frame_period()) <= slack(format, one, other)
+}
+
+/// Whether the distance of two frames shows as many frame periods as their times.
+fn is_shown(format: Format, one: &Shown, other: &Shown) -> bool
+    ensures { result ≡ is_shown format one.now other.now }
+{
+    is_later(format, one, other)
+        && 2 * stray(format, one, other) < u128::from(format.frame_period())
+}
+
+/// Whether the time of a frame leads to that of another, at the time when it begins.
+pub fn leads(format: Format, one: &Shown, other: &Shown) -> bool
+    ensures { result ≡ leads format one.now other.now }
+{
+    is_later(format, one, other)
+        && !is_far(format, one, other)
+        && 2_000 * stray(format, one, other) <= slack(format, one, other)
+}
+
+/// Whether the times of two frames do not contradict each other: either they are far from each
+/// other, or the times differ by as many periods as the distance shows.
+pub fn allows(format: Format, one: &Shown, other: &Shown) -> bool
+    ensures { result ≡ allows format one.now other.now }
+{
+    is_far(format, one, other) || is_shown(format, one, other)
+}
+
+/// Whether two frames agree, and so show by how much the clock is off: by a fortieth at most.
+fn shows_clock(format: Format, one: &Shown, other: &Shown) -> bool
+    ensures { result ≡ shows_clock format one.now other.now }
+{
+    is_shown(format, one, other)
+        && 40 * stray(format, one, other)
+            <= periods(format, one, other) * u128::from(format.frame_period())
+}
+
+/// Whether by the clock of two frames another one begins when it should after some frame.
+fn is_in_time(format: Format, one: &Shown, other: &Shown, from: &Shown, frame: &Shown) -> bool
+    ensures { result ≡ is_in_time format one.now other.now from.now frame.now }
+{
+    let whole = periods(format, one, other);
+    let here = distance(from, frame) * whole;
+    let wanted = periods(format, from, frame) * distance(one, other);
+    is_later(format, from, frame)
+        && 2 * apart(here, wanted) <= whole * u128::from(format.interval())
+}
+
+/// The same, if the two frames show their clock.
+pub fn is_by_clock(format: Format, one: &Shown, other: &Shown, from: &Shown, frame: &Shown) -> bool
+    ensures { result ≡ is_by_clock format one.now other.now from.now frame.now }
+{
+    shows_clock(format, one, other) && is_in_time(format, one, other, from, frame)
+}

@@ -1,0 +1,19 @@
+//! What a frame that reads well shows.
+
+ghost use Rattle.std.specs.Prelude.{◌≡◌, ◌↔◌, IsTrue};
+
+use irig_codes::Fields;
+
+/// A frame that reads well: when its marker rises, in microseconds, and what it says.
+#[derive(Clone, Copy, PartialEq, Eq)]
+pub struct Shown {
+    pub rise: u64,
+    pub fields: Fields,
+}
+
+/// Whether two frames show the same at the same time.
+pub fn is_same(one: &Shown, other: &Shown) -> bool
+    ensures { IsTrue result ↔ (one.now ≡ other.now) }
+{
+    one == other
+}
