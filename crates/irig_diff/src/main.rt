@@ -14,13 +14,11 @@ ghost use Rattle.irig_diff.specs.Statuses.{Serves};
 
 use command_line::not_text;
 use comparing::compare_words;
-use irig_disk::{SystemDir, SystemFolder};
-use irig_files::{FileSystem, Files};
+use irig_files::{FileSystem, Files, system_files};
 use statuses::{explain, report, tell};
-use std::alloc::AllocError;
 use std::io::Write;
 use std::process::ExitCode;
-use std::rt::{Files as FileRuntime, Runtime};
+use std::rt::Runtime;
 use std::{env, io};
 
 fn main(rt: HostRuntime) -> ExitCode {
@@ -31,15 +29,6 @@ fn main(rt: HostRuntime) -> ExitCode {
         Ok(words) => start(&rt, words.as_slice(), &files, &mut io::writer(&rt)),
         Err(error) => tell_no_words(&rt, &error),
     }
-}
-
-/// The files of the system. The memory of their paths is taken here.
-fn system_files<R: FileRuntime + Print + AllocGlobal>(
-    rt: &R,
-) -> Result<Files<SystemFolder<'_, R>>, AllocError> {
-    let system = SystemFolder::new(rt.alloc(), rt)?;
-    let dir = SystemDir::new(rt.alloc())?;
-    Ok(Files::new(system, dir))
 }
 
 /// Says why there are no words.
