@@ -6,18 +6,18 @@ from dataclasses import dataclass
 from typing import Dict, List, Sequence, Tuple
 
 from .dump_body import Body, Wanted
-from .dump_choice import Signal, bit_of, singles
+from .dump_choice import Signal
 from .dump_header import Header
 from .dump_parts import each_dump
 from .dump_source import Source
 from .dump_units import MICROSECOND, unit_of
 from .editor import Problem
+from .every import Every
 from .layout import INTERVAL
 
 WINDOW = 1024  # edges that are judged together
 FEWEST = 16  # edges that are judged
 HOPELESS = 16  # windows without time code, after which a wire is no longer looked at
-WIDEST = 64  # bits of a vector that is looked at
 TRIED = ("1 us", "1 ns", "1 ps", "1 ms", "1 fs", "1 s")  # if the dump names no unit
 
 Kind = Tuple[str, bool]  # a format, and whether the wire is upside down
@@ -90,28 +90,16 @@ class Found:
     dumps: int = 1
 
 
-def signals(header: Header) -> List[Signal]:
-    """Every wire of one bit, and every bit of a vector."""
-    found = {(signal.code, signal.place): signal for signal in singles(header)}
-    for wire in header.wires:
-        if wire.bits and 1 < wire.size <= WIDEST and abs(wire.first - wire.last) < WIDEST:
-            for number in range(min(wire.first, wire.last), max(wire.first, wire.last) + 1):
-                signal = bit_of(wire, number)
-                if signal:
-                    found.setdefault((signal.code, signal.place), signal)
-    return list(found.values())
-
-
 def search(path: str, unit: str, number: int) -> Found:
     """Looks through one dump of a file; `unit` is used if the dump names none, after '=' in any case."""
     source, results = Source(path), []
 
     def use(header: Header) -> Body:
         named = unit[1:] if unit.startswith("=") else header.unit or unit
-        looked_at = signals(header)
-        found = Found(header, named, [], len(looked_at))
+        every = Every(header)
+        found = Found(header, named, [], every.count())
         results.append(found)
-        return _look(source, looked_at, steps_of(named), found)
+        return _look(source, every, steps_of(named), found)
 
     dumps = each_dump(source, number, use)
     found = results[0]
@@ -128,19 +116,17 @@ def steps_of(named: str) -> Dict[str, float]:
     return {kind: step * MICROSECOND / (unit.femtoseconds * unit.factor) for kind, step in INTERVAL.items()}
 
 
-def _look(source: Source, looked_at: List[Signal], steps: Dict[str, float], found: Found) -> Body:
+def _look(source: Source, every: Every, steps: Dict[str, float], found: Found) -> Body:
     """Reads one dump; only a wire that is high at some time has a probe, in the order of the wires."""
-    wanted = Wanted()
+    wanted = Wanted(every)
     probes: Dict[int, Probe] = {}
-    for number, signal in enumerate(looked_at):
-        wanted.add(number, signal.code, signal.place)
     body = Body(source, wanted)
     for time, number, letter in body.changes():
         probe = probes.get(number)
         if probe is None:
             if letter != "1":
                 continue
-            probe = probes[number] = Probe(looked_at[number], steps)
+            probe = probes[number] = Probe(every.signal(number), steps)
         if probe.change(time, letter == "1"):
             wanted.drop(number, probe.signal.code)
     found.probes = [probes[number] for number in sorted(probes)]
