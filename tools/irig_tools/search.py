@@ -48,11 +48,12 @@ def _has_classes(starts: Sequence[int], ends: Sequence[int], step: float) -> boo
 class Probe:
     """The edges of one wire, judged a window at a time."""
 
-    def __init__(self, signal: Signal, steps: Dict[str, float]) -> None:
-        self.signal, self.steps = signal, steps
+    def __init__(self, signal: Signal, units: Dict[str, Dict[str, float]]) -> None:
+        self.signal, self.units = signal, units  # the intervals in each unit that the dump can have
         self.high, self.rise_first = False, True
         self.edges: List[int] = []
-        self.votes: Counter[Kind] = Counter()
+        self.votes: Counter[Kind] = Counter()  # in the unit that is chosen
+        self.in_units: Dict[str, Counter[Kind]] = {}
         self.windows = 0
 
     def change(self, time: int, high: bool) -> bool:
@@ -64,13 +65,15 @@ class Probe:
             self.edges.append(time)
             if len(self.edges) == WINDOW:
                 self.judge()
-        return self.windows >= HOPELESS and not self.votes
+        return self.windows >= HOPELESS and not self.in_units
 
     def judge(self) -> None:
         if len(self.edges) >= FEWEST:
-            found = kinds_of(self.edges, self.rise_first, self.steps)
-            if found:
-                self.votes[max(found, key=lambda kind: found[kind])] += 1
+            for unit, steps in self.units.items():
+                found = kinds_of(self.edges, self.rise_first, steps)
+                if found:
+                    votes = self.in_units.setdefault(unit, Counter())
+                    votes[max(found, key=found.__getitem__)] += 1
             self.windows += 1
         self.edges = []
 
@@ -91,22 +94,29 @@ class Found:
 
 
 def search(path: str, unit: str, number: int) -> Found:
-    """Looks through one dump of a file; `unit` is used if the dump names none, after '=' in any case."""
+    """Looks through one dump of a file. It has the unit that is given, or its own, or else the first of several in which
+    there is time code."""
     source, results = Source(path), []
 
     def use(header: Header) -> Body:
-        named = unit[1:] if unit.startswith("=") else header.unit or unit
+        named = unit or header.unit
         every = Every(header)
-        found = Found(header, named, [], every.count())
+        found = Found(header, named or TRIED[0], [], every.count())
         results.append(found)
-        return _look(source, every, steps_of(named), found)
+        return _look(source, every, {one: steps_of(one) for one in ([named] if named else TRIED)}, found)
 
     dumps = each_dump(source, number, use)
     found = results[0]
     found.dumps = dumps
     for probe in found.probes:
         probe.judge()
+    if not (unit or found.header.unit):
+        found.unit = next((one for one in TRIED if any(one in probe.in_units for probe in found.probes)), TRIED[0])
+    for probe in found.probes:
+        probe.votes = probe.in_units.get(found.unit, probe.votes)
     found.probes = [probe for probe in found.probes if probe.votes]
+    if not found.looked_at:
+        raise Problem("%s: has no wire of bits" % path)
     return found
 
 
@@ -116,7 +126,7 @@ def steps_of(named: str) -> Dict[str, float]:
     return {kind: step * MICROSECOND / (unit.femtoseconds * unit.factor) for kind, step in INTERVAL.items()}
 
 
-def _look(source: Source, every: Every, steps: Dict[str, float], found: Found) -> Body:
+def _look(source: Source, every: Every, units: Dict[str, Dict[str, float]], found: Found) -> Body:
     """Reads one dump; only a wire that is high at some time has a probe, in the order of the wires."""
     wanted = Wanted(every)
     probes: Dict[int, Probe] = {}
@@ -126,22 +136,8 @@ def _look(source: Source, every: Every, steps: Dict[str, float], found: Found) -
         if probe is None:
             if letter != "1":
                 continue
-            probe = probes[number] = Probe(every.signal(number), steps)
+            probe = probes[number] = Probe(every.signal(number), units)
         if probe.change(time, letter == "1"):
             wanted.drop(number, probe.signal.code)
     found.probes = [probes[number] for number in sorted(probes)]
     return body
-
-
-def search_any(path: str, unit: str, number: int) -> Found:
-    """Looks through a dump; one that names no unit is tried with several."""
-    if unit:
-        return search(path, "=" + unit, number)
-    found = search(path, TRIED[0], number)
-    for other in TRIED[1:]:
-        if found.header.unit or found.probes:
-            break
-        found = search(path, other, number)
-    if not found.looked_at:
-        raise Problem("%s: has no wire of bits" % path)
-    return found

@@ -2,7 +2,7 @@
 from __future__ import annotations
 
 from dataclasses import dataclass, field
-from typing import IO, Iterator, List, Optional
+from typing import IO, Iterator, List, Optional, Sequence
 
 from .dump_body import Body, Change, Wanted
 from .dump_choice import Signal, choose
@@ -46,7 +46,7 @@ class Writer:
     """Writes the changes of one wire; what comes before the start is one level at 0."""
 
     def __init__(self, out: IO[bytes], signal: Signal, unit: Unit, wish: Wish) -> None:
-        self.out, self.unit, self.wish = out, unit, wish
+        self.out, self.signal, self.unit, self.wish = out, signal, unit, wish
         self.offset: Optional[int] = wish.start
         self.letter, self.at = "", 0
         self.size = self.edges = 0
@@ -80,6 +80,15 @@ class Writer:
         for time, _, letter in changes:
             if letter != self.letter and (self.wish.end is None or time <= self.wish.end):
                 self._change(self.place(time, body), letter)
+        self.finish(body)
+
+    def take(self, time: int, letter: str, body: Body) -> None:
+        """One change, as `all` takes them."""
+        if letter != self.letter and (self.wish.end is None or time <= self.wish.end):
+            self._change(self.place(time, body), letter)
+
+    def finish(self, body: Body) -> None:
+        """What comes after the last change."""
         last = body.now if self.wish.end is None else min(body.now, self.wish.end)
         at = self.place(last, body)
         self._begin()
@@ -116,6 +125,7 @@ class Extract:
     def __init__(self, path: str, wish: Wish, out: IO[bytes]) -> None:
         self.source, self.wish, self.out = Source(path), wish, out
         self.report = Report()
+        self.named = ""
 
     def run(self) -> Report:
         """Reads the whole file, and writes the dump that is asked for."""
@@ -128,18 +138,26 @@ class Extract:
         return self.report
 
     def _write(self, header: Header) -> Body:
-        named = self.wish.unit or header.unit
-        if not named:
-            raise Problem("%s: names no unit of time; give one, as --timescale 1ns" % self.source.path)
-        unit, signal = unit_of(named), choose(header, self.wish.name)
         wanted = Wanted()
-        wanted.add(0, signal.code, signal.place)
-        body, writer = Body(self.source, wanted), Writer(self.out, signal, unit, self.wish)
+        writer, body = self.begin(header, wanted, 0), Body(self.source, wanted)
         writer.all(body.changes(), body)
-        self._say_header(header, signal, unit, named)
+        self.end(header, body, writer)
+        return body
+
+    def begin(self, header: Header, wanted: Wanted, number: int) -> Writer:
+        """The writer of the wire, whose changes have a number."""
+        self.named = self.wish.unit or header.unit or ""
+        if not self.named:
+            raise Problem("%s: names no unit of time; give one, as --timescale 1ns" % self.source.path)
+        signal = choose(header, self.wish.name)
+        wanted.add(number, signal.code, signal.place)
+        return Writer(self.out, signal, unit_of(self.named), self.wish)
+
+    def end(self, header: Header, body: Body, writer: Writer) -> None:
+        """Says what was done."""
+        self._say_header(header, writer.signal, writer.unit, self.named)
         self._say_body(body, writer)
         self._say_limits(writer)
-        return body
 
     def _say_header(self, header: Header, signal: Signal, unit: Unit, named: str) -> None:
         say = self.report.done.append
@@ -182,3 +200,21 @@ class Extract:
             if has > limit:
                 text = "it has %d %s, and irig_ed reads at most %d: take a part by --from and --to"
                 report.doubtful.append(text % (has, what, limit))
+
+
+def extract_all(path: str, number: int, extracts: Sequence[Extract]) -> None:
+    """Writes several wires of one dump in one pass."""
+    source = Source(path)
+
+    def use(header: Header) -> Body:
+        wanted = Wanted()
+        writers = [extract.begin(header, wanted, place) for place, extract in enumerate(extracts)]
+        body = Body(source, wanted)
+        for time, place, letter in body.changes():
+            writers[place].take(time, letter, body)
+        for extract, writer in zip(extracts, writers):
+            writer.finish(body)
+            extract.end(header, body, writer)
+        return body
+
+    each_dump(source, number, use)
