@@ -3,8 +3,11 @@ import os
 import random
 import shlex
 import subprocess
+import sys
 import tempfile
+from unittest import mock
 
+from built import TOP
 from cases import case
 from reference import timecode
 from rows.in_process import run
@@ -117,9 +120,47 @@ def piped(top):
     return done.stdout == b"wire irig (code !), upright, format B\n" and not done.stderr
 
 
+def passes():
+    """A dump is read twice, with several wires that carry time code, and if it names no unit."""
+    wires = "".join("$var wire 1 %s wire_%s $end " % (code, code) for code in "abcdefgh")
+    text = dump(*B, unit="", scale=1000, declared=wires + "$var wire 1 ! irig $end")
+    text = "".join(line.replace("0!", "0! " + " ".join("0" + code for code in "abcdefgh")).replace(
+        "1!", "1! " + " ".join("1" + code for code in "abcdefgh")) + "\n" for line in text.split("\n"))
+    with tempfile.TemporaryDirectory() as folder:
+        path = os.path.join(folder, "one.vcd")
+        with open(path, "w", encoding="ascii") as file:
+            file.write(text)
+        opened = mock.Mock(side_effect=open)
+        with mock.patch("irig_tools.dump_source.open", opened, create=True):
+            _, printed, said = run("irig_what", [path])
+    shown = printed.decode()
+    good = opened.call_count == 2 and shown.count("expression 2: 4 of 4") == 8 and "1 ns makes time code of it" in shown
+    good or print("FAILED irig_what, passes: %d\n%s%s" % (opened.call_count, shown, said))
+    return good
+
+
+def silent():
+    """100,000 wires that are silent take less than 60 million bytes."""
+    codes = ["".join(chr(33 + number // 94 ** place % 94) for place in range(3)) for number in range(100000)]
+    text = "".join("$var wire 1 %s wire_%d $end\n" % (code, number) for number, code in enumerate(codes))
+    text += "$enddefinitions $end\n#0\n" + "".join("0%s\n" % code for code in codes) + "#9\n"
+    watch = "import sys; sys.path.insert(0, sys.argv.pop(1)); from irig_tools import what_program; what_program.main(); " \
+        "print(*[line.split()[1] for line in open('/proc/self/status') if line.startswith('VmHWM')])"
+    with tempfile.NamedTemporaryFile("w", suffix=".vcd") as file:
+        file.write(text)
+        file.flush()
+        done = subprocess.run([sys.executable, "-c", watch, os.path.join(TOP, "tools"), file.name], stdin=subprocess.DEVNULL,
+                              stdout=subprocess.PIPE, text=True, check=False)
+    lines = done.stdout.split("\n")
+    good = lines[0].startswith("no wire of 100000") and int(lines[1]) * 1024 < 60e6
+    good or print("FAILED irig_what, silent wires: %s" % lines)
+    return good
+
+
 def cases(top):
     """Each row by its name."""
     parts = ["wire TOP.bench.irig (code $), upright, format A", "expression 2: 1 of 1", "109 12:34:56.70"]
     simulated = "a simulator's dump", verilator(top), [], 0, parts, 1
     return [*(case("what: " + row[0], row_holds, top, *row) for row in (*ROWS, simulated)),
-            case("what: in a pipe", piped, top), case("what: help", lambda: run("irig_what", ["--help"])[0] == 0)]
+            case("what: in a pipe", piped, top), case("what: two passes", passes), case("what: silent wires", silent),
+            case("what: help", lambda: run("irig_what", ["--help"])[0] == 0)]

@@ -6,18 +6,18 @@ from dataclasses import dataclass
 from typing import Dict, List, Sequence, Tuple
 
 from .dump_body import Body, Wanted
-from .dump_choice import Signal, bit_of, singles
+from .dump_choice import Signal
 from .dump_header import Header
 from .dump_parts import each_dump
 from .dump_source import Source
 from .dump_units import MICROSECOND, unit_of
 from .editor import Problem
+from .every import Every
 from .layout import INTERVAL
 
 WINDOW = 1024  # edges that are judged together
 FEWEST = 16  # edges that are judged
 HOPELESS = 16  # windows without time code, after which a wire is no longer looked at
-WIDEST = 64  # bits of a vector that is looked at
 TRIED = ("1 us", "1 ns", "1 ps", "1 ms", "1 fs", "1 s")  # if the dump names no unit
 
 Kind = Tuple[str, bool]  # a format, and whether the wire is upside down
@@ -48,11 +48,12 @@ def _has_classes(starts: Sequence[int], ends: Sequence[int], step: float) -> boo
 class Probe:
     """The edges of one wire, judged a window at a time."""
 
-    def __init__(self, signal: Signal, steps: Dict[str, float]) -> None:
-        self.signal, self.steps = signal, steps
+    def __init__(self, signal: Signal, units: Dict[str, Dict[str, float]]) -> None:
+        self.signal, self.units = signal, units  # the intervals in each unit that the dump can have
         self.high, self.rise_first = False, True
         self.edges: List[int] = []
-        self.votes: Counter[Kind] = Counter()
+        self.votes: Counter[Kind] = Counter()  # in the unit that is chosen
+        self.in_units: Dict[str, Counter[Kind]] = {}
         self.windows = 0
 
     def change(self, time: int, high: bool) -> bool:
@@ -64,13 +65,15 @@ class Probe:
             self.edges.append(time)
             if len(self.edges) == WINDOW:
                 self.judge()
-        return self.windows >= HOPELESS and not self.votes
+        return self.windows >= HOPELESS and not self.in_units
 
     def judge(self) -> None:
         if len(self.edges) >= FEWEST:
-            found = kinds_of(self.edges, self.rise_first, self.steps)
-            if found:
-                self.votes[max(found, key=lambda kind: found[kind])] += 1
+            for unit, steps in self.units.items():
+                found = kinds_of(self.edges, self.rise_first, steps)
+                if found:
+                    votes = self.in_units.setdefault(unit, Counter())
+                    votes[max(found, key=found.__getitem__)] += 1
             self.windows += 1
         self.edges = []
 
@@ -90,35 +93,30 @@ class Found:
     dumps: int = 1
 
 
-def signals(header: Header) -> List[Signal]:
-    """Every wire of one bit, and every bit of a vector."""
-    found = {(signal.code, signal.place): signal for signal in singles(header)}
-    for wire in header.wires:
-        if wire.bits and 1 < wire.size <= WIDEST and abs(wire.first - wire.last) < WIDEST:
-            for number in range(min(wire.first, wire.last), max(wire.first, wire.last) + 1):
-                signal = bit_of(wire, number)
-                if signal:
-                    found.setdefault((signal.code, signal.place), signal)
-    return list(found.values())
-
-
 def search(path: str, unit: str, number: int) -> Found:
-    """Looks through one dump of a file; `unit` is used if the dump names none, after '=' in any case."""
+    """Looks through one dump of a file. It has the unit that is given, or its own, or else the first of several in which
+    there is time code."""
     source, results = Source(path), []
 
     def use(header: Header) -> Body:
-        named = unit[1:] if unit.startswith("=") else header.unit or unit
-        looked_at = signals(header)
-        found = Found(header, named, [], len(looked_at))
+        named = unit or header.unit
+        every = Every(header)
+        found = Found(header, named or TRIED[0], [], every.count())
         results.append(found)
-        return _look(source, looked_at, steps_of(named), found)
+        return _look(source, every, {one: steps_of(one) for one in ([named] if named else TRIED)}, found)
 
     dumps = each_dump(source, number, use)
     found = results[0]
     found.dumps = dumps
     for probe in found.probes:
         probe.judge()
+    if not (unit or found.header.unit):
+        found.unit = next((one for one in TRIED if any(one in probe.in_units for probe in found.probes)), TRIED[0])
+    for probe in found.probes:
+        probe.votes = probe.in_units.get(found.unit, probe.votes)
     found.probes = [probe for probe in found.probes if probe.votes]
+    if not found.looked_at:
+        raise Problem("%s: has no wire of bits" % path)
     return found
 
 
@@ -128,34 +126,18 @@ def steps_of(named: str) -> Dict[str, float]:
     return {kind: step * MICROSECOND / (unit.femtoseconds * unit.factor) for kind, step in INTERVAL.items()}
 
 
-def _look(source: Source, looked_at: List[Signal], steps: Dict[str, float], found: Found) -> Body:
+def _look(source: Source, every: Every, units: Dict[str, Dict[str, float]], found: Found) -> Body:
     """Reads one dump; only a wire that is high at some time has a probe, in the order of the wires."""
-    wanted = Wanted()
+    wanted = Wanted(every)
     probes: Dict[int, Probe] = {}
-    for number, signal in enumerate(looked_at):
-        wanted.add(number, signal.code, signal.place)
     body = Body(source, wanted)
     for time, number, letter in body.changes():
         probe = probes.get(number)
         if probe is None:
             if letter != "1":
                 continue
-            probe = probes[number] = Probe(looked_at[number], steps)
+            probe = probes[number] = Probe(every.signal(number), units)
         if probe.change(time, letter == "1"):
             wanted.drop(number, probe.signal.code)
     found.probes = [probes[number] for number in sorted(probes)]
     return body
-
-
-def search_any(path: str, unit: str, number: int) -> Found:
-    """Looks through a dump; one that names no unit is tried with several."""
-    if unit:
-        return search(path, "=" + unit, number)
-    found = search(path, TRIED[0], number)
-    for other in TRIED[1:]:
-        if found.header.unit or found.probes:
-            break
-        found = search(path, other, number)
-    if not found.looked_at:
-        raise Problem("%s: has no wire of bits" % path)
-    return found

@@ -2,8 +2,9 @@
 from __future__ import annotations
 
 import tempfile
+from contextlib import ExitStack
 from dataclasses import dataclass, field
-from typing import Dict, List, Optional
+from typing import IO, Dict, List, Optional, cast
 
 from .dump_choice import Signal
 from .dump_header import shown
@@ -13,8 +14,8 @@ from .opening import needed_name, wire_name
 from .proposal import Proposal, no_option
 from .readings import Reading, Readings, best, is_read, read
 from .script import Repair
-from .search import Found, Probe, search_any
-from .wire import Extract, Wish
+from .search import Found, Probe, search
+from .wire import Extract, Wish, extract_all
 
 OFTEN = 8  # wires that are read; the others are only named
 
@@ -86,20 +87,31 @@ class What:
 
     def __init__(self, path: str, shown_path: str, unit: str, dump: int) -> None:
         self.path, self.shown_path, self.unit, self.dump = path, shown_path, unit, dump
-        self.found: Found = search_any(path, unit, dump)
-        self.carriers = [self._read(probe) for probe in self.found.probes[:OFTEN]]
+        self.found: Found = search(path, unit, dump)
+        self.carriers = self._read_all(self.found.probes[:OFTEN])
         self.carriers = sorted(self.carriers, key=lambda carrier: -carrier.fine)
 
-    def _read(self, probe: Probe) -> Carrier:
+    def _read_all(self, probes: List[Probe]) -> List[Carrier]:
+        """What is on these wires, after one more pass through the dump."""
+        with ExitStack() as stack:
+            tracks = [stack.enter_context(tempfile.NamedTemporaryFile(suffix=".vcd")) for _ in probes]
+            extracts = [Extract(self.path, self._wish(probe), cast(IO[bytes], track)) for probe, track in zip(probes, tracks)]
+            if probes:
+                extract_all(self.path, self.dump, extracts)
+            for track in tracks:
+                track.flush()
+            found = [self._read(probe, track.name, extract) for probe, track, extract in zip(probes, tracks, extracts)]
+        return found
+
+    def _wish(self, probe: Probe) -> Wish:
+        return Wish(wire_name(self.found.header, probe.signal), self.found.unit, self.dump, invert=probe.kind[1])
+
+    @staticmethod
+    def _read(probe: Probe, track: str, extract: Extract) -> Carrier:
         kind, inverted = probe.kind
-        name = wire_name(self.found.header, probe.signal)
-        wish = Wish(name, self.found.unit, self.dump, invert=inverted)
-        with tempfile.NamedTemporaryFile(suffix=".vcd") as track:
-            report = Extract(self.path, wish, track).run()
-            track.flush()
-            carrier = Carrier(probe.signal, inverted, kind, read(track.name, kind), report.doubtful)
-            if carrier.fine:
-                carrier.script = _script(track.name, kind, carrier.expression)
+        carrier = Carrier(probe.signal, inverted, kind, read(track, kind), extract.report.doubtful)
+        if carrier.fine:
+            carrier.script = _script(track, kind, carrier.expression)
         return carrier
 
     def lines(self) -> List[str]:

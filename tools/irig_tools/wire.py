@@ -2,7 +2,7 @@
 from __future__ import annotations
 
 from dataclasses import dataclass, field
-from typing import IO, Iterator, List, Optional
+from typing import IO, Iterator, List, Optional, Sequence
 
 from .dump_body import Body, Change, Wanted
 from .dump_choice import Signal, choose
@@ -62,8 +62,7 @@ class Writer:
 
     def __init__(self, out: IO[bytes], signal: Signal, unit: Unit, wish: Wish, before: Optional[Offset] = None) -> None:
         """`before` is what was subtracted from the times of the dump that is read."""
-        self.out, self.unit, self.wish, self.before = out, unit, wish, before
-        self.name = signal.name
+        self.out, self.signal, self.unit, self.wish, self.before = out, signal, unit, wish, before
         self.offset: Optional[int] = wish.start
         self.letter, self.at = "", 0
         self.size = self.edges = 0
@@ -93,6 +92,15 @@ class Writer:
         for time, _, letter in changes:
             if letter != self.letter and (self.wish.end is None or time <= self.wish.end):
                 self._change(self.place(time, body), letter)
+        self.finish(body)
+
+    def take(self, time: int, letter: str, body: Body) -> None:
+        """One change, as `all` takes them."""
+        if letter != self.letter and (self.wish.end is None or time <= self.wish.end):
+            self._change(self.place(time, body), letter)
+
+    def finish(self, body: Body) -> None:
+        """What comes after the last change."""
         last = body.now if self.wish.end is None else min(body.now, self.wish.end)
         at = self.place(last, body)
         self._begin()
@@ -105,7 +113,7 @@ class Writer:
         if not self.begun:
             self.begun = True
             self._lines("$timescale %s $end" % self.unit.text, *self._comments(), "$scope module irig $end",
-                        "$var wire 1 ! %s $end" % self.name, "$upscope $end", "$enddefinitions $end", "#0",
+                        "$var wire 1 ! %s $end" % self.signal.name, "$upscope $end", "$enddefinitions $end", "#0",
                         "$dumpvars", self._shown(), "$end")
 
     def _comments(self) -> List[str]:
@@ -149,15 +157,23 @@ class Extract:
         return self.report
 
     def _write(self, header: Header) -> Body:
-        unit, signal = unit_in(header, self.wish.unit, self.source.path), choose(header, self.wish.name)
         wanted = Wanted()
-        wanted.add(0, signal.code, signal.place)
-        body, writer = Body(self.source, wanted), Writer(self.out, signal, unit, self.wish, header.offset)
+        writer, body = self.begin(header, wanted, 0), Body(self.source, wanted)
         writer.all(body.changes(), body)
-        self._say_header(header, signal, unit)
+        self.end(header, body, writer)
+        return body
+
+    def begin(self, header: Header, wanted: Wanted, number: int) -> Writer:
+        """The writer of the wire, whose changes have a number."""
+        unit, signal = unit_in(header, self.wish.unit, self.source.path), choose(header, self.wish.name)
+        wanted.add(number, signal.code, signal.place)
+        return Writer(self.out, signal, unit, self.wish, header.offset)
+
+    def end(self, header: Header, body: Body, writer: Writer) -> None:
+        """Says what was done."""
+        self._say_header(header, writer.signal, writer.unit)
         self._say_body(body, writer)
         self._say_limits(writer)
-        return body
 
     def _say_header(self, header: Header, signal: Signal, unit: Unit) -> None:
         say, named = self.report.done.append, self.wish.unit or header.unit or ""
@@ -200,3 +216,21 @@ class Extract:
             if has > limit:
                 text = "it has %d %s, and irig_ed reads at most %d: take a part by --from and --to"
                 report.doubtful.append(text % (has, what, limit))
+
+
+def extract_all(path: str, number: int, extracts: Sequence[Extract]) -> None:
+    """Writes several wires of one dump in one pass."""
+    source = Source(path)
+
+    def use(header: Header) -> Body:
+        wanted = Wanted()
+        writers = [extract.begin(header, wanted, place) for place, extract in enumerate(extracts)]
+        body = Body(source, wanted)
+        for time, place, letter in body.changes():
+            writers[place].take(time, letter, body)
+        for extract, writer in zip(extracts, writers):
+            writer.finish(body)
+            extract.end(header, body, writer)
+        return body
+
+    each_dump(source, number, use)
