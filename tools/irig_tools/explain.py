@@ -61,8 +61,8 @@ def _own(times: Times, number: FrameNumber) -> str:
 def _votes(times: Times, number: FrameNumber) -> str:
     """How its elements vote on each base that a span has."""
     bases = sorted({span.base for span in times.spans})
-    votes = [(base, times.against(number, base)) for base in bases]
-    said = ["base %d has %d votes, and %d against it" % (base, wrong - right, wrong) for base, (wrong, right) in votes]
+    votes = [(base, times.votes(number, base).values()) for base in bases]
+    said = ["of %d votes on base %d %d against it" % (len(each), base, list(each).count(-1)) for base, each in votes]
     return ", ".join(said) or "no base"
 
 
