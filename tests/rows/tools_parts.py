@@ -365,6 +365,17 @@ def of_copies():
     yield same("no copy", take_out(track, Times(track)), [])
 
 
+def of_cuts():
+    """Two stretches were cut out: the times on both sides say how long each was."""
+    cut = tools.recording(24)
+    for first, many in ((1730, 45), (430, 330)):
+        del cut[first:first + many]
+        tools.moved(cut, first, -10000 * many)
+    found = mend.called_for(analysis.examine(listing_of(cut), move=True))
+    said = [int(repair.comments[0].split()[3]) for repair in found if "elements are missing by the times" in repair.comments[0]]
+    yield same("how many are missing", sorted(said), [45, 330])
+
+
 def script_of(pulses, **more):
     """What the first look calls for, without comments."""
     found = mend.called_for(analysis.examine(listing_of(pulses, 8100000), **more))
@@ -424,5 +435,5 @@ def cases():
     return [case("mend: part: " + name, holds) for name, holds in (
         ("phases", of_phases), ("clock", of_clock), ("slots", of_slots), ("sure runs", of_parts), ("places", of_places),
         ("votes", of_votes), ("spans", of_spans), ("pieces", of_pieces), ("leap seconds", of_leap), ("moments", of_moments),
-        ("times", of_times), ("steadiness", of_steadiness), ("copies", of_copies), ("edits", of_edits),
+        ("times", of_times), ("steadiness", of_steadiness), ("copies", of_copies), ("cuts", of_cuts), ("edits", of_edits),
         ("threshold", of_threshold), ("limits", of_limits))]

@@ -7,6 +7,7 @@ from .edit import of_pulse
 from .edits import Item
 from .faults import Faults
 from .layout import READABLE
+from .units import frame_of
 from .zones import Zone
 
 
@@ -42,7 +43,7 @@ def _place(zone: Zone, pulse: int) -> int:
 
 def _other(faults: Faults, zone: Zone, marker: int) -> Optional[int]:
     """The first pulse, in a frame that shows a time, that is not of the time that its neighbours lead to."""
-    text, number = faults.track.classes[marker:marker + 100], _place(zone, marker) // 100
+    text, number = faults.track.classes[marker:marker + 100], frame_of(_place(zone, marker))
     moment = faults.times.moment(number)
     if faults.layout.decode(text) is None or moment is None:
         return None

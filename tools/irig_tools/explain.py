@@ -9,6 +9,7 @@ from .editor import Listing
 from .frames import Times
 from .interval import Clock, Run
 from .layout import NAMES
+from .units import FrameNumber
 
 
 def explained(listing: Listing, findings: Findings) -> List[str]:
@@ -52,16 +53,16 @@ def _of_times(times: Times) -> Iterator[str]:
             yield "frame %d: %s, %s; %s" % (number, text, _own(times, number), _votes(times, number))
 
 
-def _own(times: Times, number: int) -> str:
+def _own(times: Times, number: FrameNumber) -> str:
     own = times.own.get(number)
     return "not read" if own is None else "reads base %d" % own
 
 
-def _votes(times: Times, number: int) -> str:
+def _votes(times: Times, number: FrameNumber) -> str:
     """How its elements vote on each base that a span has."""
     bases = sorted({span.base for span in times.spans})
-    votes = [(base, times.against(number, base)) for base in bases]
-    said = ["base %d has %d votes, and %d against it" % (base, wrong - right, wrong) for base, (wrong, right) in votes]
+    votes = [(base, times.votes(number, base).values()) for base in bases]
+    said = ["of %d votes on base %d %d against it" % (len(each), base, list(each).count(-1)) for base, each in votes]
     return ", ".join(said) or "no base"
 
 

@@ -10,6 +10,7 @@ from .frames import Times
 from .layout import NAMES, POSITIONS, READABLE, SHARE
 from .texts import counted
 from .track import Track
+from .units import FrameNumber, frame_of
 
 
 @dataclass
@@ -50,9 +51,9 @@ class Faults:
 
     def in_left_frames(self) -> List[int]:
         """The faulty places of frames that are to stay as they are."""
-        return [place for place in self.wanted if place // 100 in self.left]
+        return [place for place in self.wanted if frame_of(place) in self.left]
 
-    def _look_at(self, number: int, text: str, expected: str) -> None:
+    def _look_at(self, number: FrameNumber, text: str, expected: str) -> None:
         """Compares a frame with what follows for it."""
         if number not in self.times.spliced and self._contradicts(number, text, expected):
             return
@@ -80,7 +81,7 @@ class Faults:
             )
             self.remarks.append(Remark(at, seen, "force or insert what is right"))
 
-    def _contradicts(self, number: int, text: str, expected: str) -> bool:
+    def _contradicts(self, number: FrameNumber, text: str, expected: str) -> bool:
         """Whether a frame shows another time than its neighbours lead to, too clearly to be damage."""
         against = [
             element
@@ -103,7 +104,7 @@ class Faults:
     def _decide(self, place: int, control: bool) -> Optional[str]:
         """Zero or one if nothing follows for a place: by its shape, else by its neighbours, else a guess that
         is named as one."""
-        pulses, (number, element) = self.track.pulses_at(place), divmod(place, 100)
+        pulses, number, element = self.track.pulses_at(place), frame_of(place), place % 100
         if element in self.usual:
             return self.usual[element]
         near = self.times.neighbours(number, element) if control else None
@@ -119,7 +120,7 @@ class Faults:
         self.guesses[place] = self.times.likely(number, element) or (best if pulses else "0")
         return self.guesses[place]
 
-    def _compare_control(self, number: int, text: str) -> None:
+    def _compare_control(self, number: FrameNumber, text: str) -> None:
         """If control functions never change, one that most frames do not have is damage."""
         for element, usual in self.usual.items():
             if text[element] in "01" and text[element] != usual:
@@ -140,7 +141,7 @@ class Faults:
     def _is_nominal(self, pulse: int, name: str) -> bool:
         return abs(self.falls[pulse] - self.rises[pulse] - self.width(name)) <= limits.NOMINAL * self.layout.interval
 
-    def _doubt_control(self, number: int, text: str) -> None:
+    def _doubt_control(self, number: FrameNumber, text: str) -> None:
         """A control function next to damage that has no nominal width is damage, too, if its neighbours say
         otherwise."""
         for element in self.times.kept:
@@ -176,7 +177,7 @@ class Faults:
     # in words
 
     def name(self, place: int) -> str:
-        return "%s, element %d" % (self.times.name(place // 100), place % 100)
+        return "%s, element %d" % (self.times.name(frame_of(place)), place % 100)
 
     def where(self, place: int) -> str:
         """The frame, the element, and the pulses with their numbers, or else when one should rise."""
@@ -199,7 +200,7 @@ class Faults:
             return "a %s by its shape or the frames next to it" % target
         if element in POSITIONS or element in self.layout.unused:
             return "a %s has to be there" % target
-        if place // 100 in self.times.spliced:
+        if frame_of(place) in self.times.spliced:
             return "a %s follows from the frames before; this one begins with their time, and ends with another" % target
         return "a %s follows from the frames around it" % target
 

@@ -14,6 +14,7 @@ from .spans import Span, fit
 from .splices import spliced
 from .steadiness import Steadiness
 from .track import Track
+from .units import Base, FrameNumber, Hundredths
 from .votes import Votes
 
 
@@ -22,7 +23,7 @@ class Times(Votes):
 
     def __init__(self, track: Track) -> None:
         super().__init__(track)
-        self._having: Dict[int, List[int]] = {}  # element -> frames in which it is sound
+        self._having: Dict[int, List[FrameNumber]] = {}  # element -> frames in which it is sound
         bases = self._find_bases()
         self.spans = self._find_spans(bases)
         self.spliced = spliced(self, self.spans)
@@ -44,13 +45,13 @@ class Times(Votes):
             and READABLE.fullmatch(self.texts[number])
         }
 
-    def _find_bases(self) -> Dict[int, Optional[int]]:
+    def _find_bases(self) -> Dict[FrameNumber, Optional[Base]]:
         """The base of each frame: if two neighbours agree, theirs; between such frames the one that fits
         best."""
         read = sorted(self.own)
-        before: List[Optional[int]] = [None, *read]
-        after: List[Optional[int]] = [*read[1:], None]
-        bases: Dict[int, Optional[int]] = {}
+        before: List[Optional[FrameNumber]] = [None, *read]
+        after: List[Optional[FrameNumber]] = [*read[1:], None]
+        bases: Dict[FrameNumber, Optional[Base]] = {}
         for left, number, right in zip(before, read, after):
             if self.own[number] in (
                 left is not None and self.own[left],
@@ -59,7 +60,7 @@ class Times(Votes):
                 bases[number] = self.own[number]
         return self._filled(bases)
 
-    def _filled(self, known: Dict[int, Optional[int]]) -> Dict[int, Optional[int]]:
+    def _filled(self, known: Dict[FrameNumber, Optional[Base]]) -> Dict[FrameNumber, Optional[Base]]:
         """The base of every frame; those of some are known."""
         bases = dict(known)
         apart = {
@@ -67,8 +68,8 @@ class Times(Votes):
             for zone in self.track.zones
             if zone.glued and zone.right and not 0 < (zone.right.gone or 0) <= limits.LONGEST_CUT
         }
-        gap: List[int] = []
-        left: Optional[int] = None
+        gap: List[FrameNumber] = []
+        left: Optional[Base] = None
         for number in self.texts:
             if number in apart:  # no time continues over that
                 bases.update(fit(self, gap, left, None))
@@ -81,7 +82,7 @@ class Times(Votes):
         bases.update(fit(self, gap, left, None))
         return bases
 
-    def _find_spans(self, bases: Dict[int, Optional[int]]) -> List[Span]:
+    def _find_spans(self, bases: Dict[FrameNumber, Optional[Base]]) -> List[Span]:
         spans: List[Span] = []
         for number in self.texts:
             base = bases[number]
@@ -91,17 +92,17 @@ class Times(Votes):
                 spans.append(Span(number, number, base))
         return spans
 
-    def turns_at(self, number: int) -> bool:
+    def turns_at(self, number: FrameNumber) -> bool:
         """Whether the frames on both sides of this one lead to different times."""
-        before, after = self.bases.get(number - 1), self.bases.get(number + 1)
+        before, after = (self.bases.get(FrameNumber(each)) for each in (number - 1, number + 1))
         return None not in (before, after) and before != after
 
-    def _agreed(self, numbers: Sequence[int]) -> Optional[int]:
+    def _agreed(self, numbers: Sequence[FrameNumber]) -> Optional[Base]:
         """The base that most of three frames show, or the only one there is."""
         often = Counter(self.own[number] for number in numbers).most_common(1)
         return often[0][0] if often and (often[0][1] > 1 or len(numbers) == 1) else None
 
-    def _read_within(self, runs: Sequence[Run]) -> List[int]:
+    def _read_within(self, runs: Sequence[Run]) -> List[FrameNumber]:
         """The frames that could be read from the first to the last of these runs."""
         numbers = [number for number, _ in self.read]
         first, last = -(-runs[0].place // 100), (runs[-1].last_place + 1) // 100
@@ -117,12 +118,12 @@ class Times(Votes):
         apart = after - before if self.calendar.with_year else (after - before + year // 2) % year - year // 2
         return apart // self.layout.period
 
-    def moment(self, number: int) -> Optional[int]:
+    def moment(self, number: FrameNumber) -> Optional[Hundredths]:
         """The moment of a frame, or None if the frames near it do not agree."""
         base = self.bases.get(number)
-        return None if base is None else base + number * self.layout.period
+        return None if base is None else self.calendar.moment(number, base)
 
-    def expected(self, number: int) -> str:
+    def expected(self, number: FrameNumber) -> str:
         """The 100 classes that follow for a frame; `.` if nothing follows."""
         moment = self.moment(number)
         if moment is None:
@@ -135,18 +136,18 @@ class Times(Votes):
             text[element] = "."
         return "".join(text)
 
-    def _nearest(self, number: int, element: int) -> Tuple[List[int], List[int]]:
+    def _nearest(self, number: FrameNumber, element: int) -> Tuple[List[FrameNumber], List[FrameNumber]]:
         """Two frames before this one, and two after it, whose element is sound."""
         having = self._frames_having(element)
         at = bisect_left(having, number)
         return having[max(0, at - 2):at], having[at + (having[at:at + 1] == [number]):][:2]
 
-    def _frames_having(self, element: int) -> List[int]:
+    def _frames_having(self, element: int) -> List[FrameNumber]:
         if element not in self._having:
             self._having[element] = [each for each, text in self.texts.items() if text[element] in "01"]
         return self._having[element]
 
-    def neighbours(self, number: int, element: int) -> Optional[str]:
+    def neighbours(self, number: FrameNumber, element: int) -> Optional[str]:
         """What an element has that no field decides: what the two nearest frames on both sides have, if all
         four agree and the element is steady; else None."""
         before, after = self._nearest(number, element)
@@ -156,7 +157,7 @@ class Times(Votes):
         steady = self._steadiness.holds(element, number - before[-1], after[0] - number)
         return near.pop() if steady else None
 
-    def likely(self, number: int, element: int) -> Optional[str]:
+    def likely(self, number: FrameNumber, element: int) -> Optional[str]:
         """What most of the nearest frames have there; None if as many differ."""
         near = Counter(self.texts[each][element] for part in self._nearest(number, element) for each in part)
         often = near.most_common(2)
@@ -172,6 +173,6 @@ class Times(Votes):
                     found[element] = told
         return found
 
-    def name(self, number: int) -> str:
+    def name(self, number: FrameNumber) -> str:
         moment = self.moment(number)
         return "a frame of unknown time" if moment is None else "frame " + self.calendar.name(moment)

@@ -8,18 +8,19 @@ from typing import List, Sequence, Set, Tuple
 
 from .layout import Fields
 from .moments import DAY, SECOND, Calendar
+from .units import FrameNumber, Hundredths
 
 LEAP_DAYS = {181, 182, 365, 366}  # 30 June and 31 December
 
 
-def _shown(calendar: Calendar, read: Sequence[Tuple[int, Fields]]) -> Set[int]:
+def _shown(calendar: Calendar, read: Sequence[Tuple[FrameNumber, Fields]]) -> Set[Hundredths]:
     """The moments at which a frame shows that second 60 begins."""
-    return {calendar.number(told) - told.get("hundredths", 0) for _, told in read if told["seconds"] == 60}
+    return {Hundredths(calendar.number(told) - told.get("hundredths", 0)) for _, told in read if told["seconds"] == 60}
 
 
-def _possible(calendar: Calendar, read: Sequence[Tuple[int, Fields]]) -> Set[int]:
+def _possible(calendar: Calendar, read: Sequence[Tuple[FrameNumber, Fields]]) -> Set[Hundredths]:
     """The midnights before which there is time for one second more than the frames show."""
-    found: Set[int] = set()
+    found: Set[Hundredths] = set()
     if not any(told["days"] in LEAP_DAYS for _, told in read):
         return found
     bases = [calendar.base(*each) for each in read]
@@ -27,16 +28,16 @@ def _possible(calendar: Calendar, read: Sequence[Tuple[int, Fields]]) -> Set[int
         if later - earlier == -SECOND and before["days"] in LEAP_DAYS:
             midnight = calendar.number(before) // DAY * DAY + DAY
             if calendar.number(after) % DAY <= (right - left) * calendar.layout.period:
-                found.add(midnight)
+                found.add(Hundredths(midnight))
     return found
 
 
-def with_leap(calendar: Calendar, read: Sequence[Tuple[int, Fields]]) -> Calendar:
+def with_leap(calendar: Calendar, read: Sequence[Tuple[FrameNumber, Fields]]) -> Calendar:
     """The calendar with the moment at which second 60 begins, if there is one: with it at least as many frames agree as
     without it."""
     if calendar.layout.period > SECOND:
         return calendar
-    candidates: List[int] = sorted(_shown(calendar, read) | _possible(calendar, read))
+    candidates: List[Hundredths] = sorted(_shown(calendar, read) | _possible(calendar, read))
     plain = Counter(calendar.base(*each) for each in read if candidates)
     for moment in candidates:
         leaping = replace(calendar, leap=moment)

@@ -1,40 +1,41 @@
-"""All costs and limits of finding and mending, each with its unit and its reason.
+"""All costs and limits of finding and mending, each with its unit and what it says; docs/METHOD.md has the words.
 
-`Standard`: IRIG 200-04 says it, or irig_ed, which reads a frame only if each rise is within a tenth of an interval.
-`Chance`: it is a probability, or follows from one.
-`Measured`: it was changed, and the recordings were looked at again; what changed is said.
-`Bound`: it keeps the search short; a larger number takes longer.
-An interval is the time from element to element; docs/METHOD.md has the other words.
+An interval is the time from element to element; a fault is the unit of the first shortest path. Where a number is from:
+the tolerance of irig_ed, which reads a frame only if each rise is within a tenth of an interval (IN_STEP, and what is below
+it); a probability (EIGHT_OF_TEN, NINE_OF_TEN, CHANCE, CHANCES); the reasons in the tables of docs/METHOD.md (the costs); or
+the end of a search (what says `most`, `longest` or `search`). `[28, 26]`: halved and doubled (of a small whole number one
+less and one more), that many first looks at 332 recordings at random are others. The numbers of the clock, of phases, of runs
+and of places without it changed none there: tests/rows/tools_parts.py has rows for the rarer faults that they are for.
 """
 
 # the clock (interval)
 
-IN_STEP = 0.1  # intervals: neighbours whose distance is so near the nominal one follow each other
+IN_STEP = 0.1  # intervals: neighbours whose distance is so near the nominal one follow each other [12, 3]
 MOST_SAMPLED = 50000  # distances that are looked at for the interval
-SAME_CLOCK = 0.0001  # a clock that is less off, as a share, is nominal
+SAME_CLOCK = 0.0001  # a clock that is less off, as a share, is nominal [0, 1]
 LEAST_MARGIN, MOST_MARGIN = 0.04, 0.09  # intervals: how far a distance within a run may be off
 LEAST_STRAY, MOST_STRAY = 0.04, 0.07  # intervals: how far one rise between runs may be off
 MARGIN_BY_NOISE, STRAY_BY_NOISE = 6, 4  # how many times the half spread of the distances
-NEAR = 15  # pulses at the end of a run whose median says where it should rise
-FAR = 300  # pulses at the end of a run that say the interval there
+NEAR = 15  # pulses at the end of a run whose median says where it should rise [28, 26]
+FAR = 300  # pulses at the end of a run that say the interval there [1, 1]
 LOCAL = 100  # pulses: a longer run has an interval of its own
 STRETCHES = 4  # stretches of FAR that show how much the interval changes
 UNKNOWN_DOUBT = 0.0003  # of the interval: how much it may change if no stretch shows it
 EIGHT_OF_TEN = 1.9  # of what is spread as by chance, eight of ten are within that many times what half are within
-NINE_OF_TEN = 2.44  # and nine of ten within that many times
+NINE_OF_TEN = 2.44  # and nine of ten within that many times [36, 2]
 MOST_SLACK = 0.4  # intervals: how far runs on one clock may be off at most
 NEAR_RUNS = 300  # elements: runs that are no farther apart can be on one clock
-SPREADS = 5  # a step is seen if it is that many times as large as the spread of the distances
+SPREADS = 5  # a step is seen if it is that many times as large as the spread of the distances [36, 36]
 LEAST_STEP = 2  # microseconds: times are whole numbers, so less is no step
 BY_GRID = 1.5  # samples of a recorder: a smaller step is one of its own
 OFF_BY_SAMPLE = 3  # distances that are off by one sample show its size
-SIDE = 5  # pulses on each side of a step
+SIDE = 5  # pulses on each side of a step [0, 1]
 LONG_RUN = 40  # pulses of a run that can have two phases, or whose position identifiers say its phase
 
 # phases
 
 NO_WHOLE_FRAME = 4  # faults: what a phase costs with which no frame is whole, if another phase has one
-MOSTLY = 0.9  # the share of frames that have a class if it is usual there
+MOSTLY = 0.9  # the share of frames that have a class if it is usual there [0, 9]
 LONGEST_TURN = 3000  # elements: in a longer text no turn is looked for
 FEWER_FAULTS = 8  # faults that a turn has to explain if neither side's phase is known
 FEWER_AFTER_ONE = 3  # the same if one side's phase is known
@@ -42,30 +43,30 @@ FEWER_AT_MARKER = 2  # the same if also a marker says it, and nothing speaks aga
 
 # the first shortest path: runs (slots)
 
-SURE_RUN = 5  # pulses: a run of that many is no accident
+SURE_RUN = 5  # pulses: a run of that many is no accident [13, 11]
 UNLIKELY = 12  # faults: a way that costs that much more than the cheapest is not followed, so that the search stays short
 MOST_LATE = 12  # elements: a rest can be that late; one that is later is moved only if both sides are unmistakable
-EARLY = 5  # faults: what a rest costs that is early
+EARLY = 5  # faults: what a rest costs that is early [21, 1]
 BARELY = 2  # faults: what a rest costs that is late by less than a pulse may stray
 HOLE = 0.3  # faults: what a hole costs after which all is on time
-LATE = 3  # faults: what a rest costs that is late
-LATE_HOLE = 1  # faults: what it costs more after a hole
+LATE = 3  # faults: what a rest costs that is late [0, 3]
+LATE_HOLE = 1  # faults: what it costs more after a hole [0, 3]
 JUMP = 1  # faults: what a run costs that follows at once with another element
 JUMP_TO_SAME = 6  # faults: the same if only whole frames are missing
-LEAST_LEAD = 2  # faults: a run whose phase leads by less is left alone
+LEAST_LEAD = 2  # faults: a run whose phase leads by less is left alone [1, 2]
 LEAD = 3  # faults: a run whose phase leads by less is looked at again, with what most frames have
 UNUSUAL = 0.5  # faults: what an element costs that is not as in most frames
 LONGEST_HOLE = 200000  # elements: what is farther apart is mended part by part
 TELLING = 12  # pulses of a run that has phases of its own
 MOST_PHASES = 40  # phases of a run that are looked at besides those that follow
-WITHIN = 2  # faults: phases that have that many more than the best are looked at
-NO_TIME = 1.5  # intervals: a rest that is so early has lost elements for which there is no time
+WITHIN = 2  # faults: phases that have that many more than the best are looked at [1, 0]
+NO_TIME = 1.5  # intervals: a rest that is so early has lost elements for which there is no time [3, 4]
 FAULTS_A_PULSE = 1 / 18  # a way that costs more by pulse is that of another format
 FAULTS_AT_LEAST = 5  # faults: what any way may cost
 
 # places between runs (zones, track)
 
-BEFORE_ITS_RISE = 0.2  # intervals: a pulse belongs to a place from that much before its rise on
+BEFORE_ITS_RISE = 0.2  # intervals: a pulse belongs to a place from that much before its rise on [11, 18 of 111]
 EXACT = 0.005  # intervals: on an exact clock a pulse that is no more off keeps its time
 EITHER_SIDE = 300  # pulses on each side of a glued run that may be of the other side
 REACH = 2.5  # intervals: a pulse that is farther from the last one is of no frame

@@ -6,6 +6,7 @@ from dataclasses import dataclass
 from typing import Optional
 
 from .layout import Fields, Layout
+from .units import Base, FrameNumber, Hundredths
 
 DAY = 8640000  # hundredths of a second
 SECOND = 100
@@ -21,27 +22,31 @@ class Calendar:
 
     layout: Layout
     days: int = 365  # of the year that ends within the recording, if the format has no year
-    leap: Optional[int] = None  # the moment at which second 60 begins
+    leap: Optional[Hundredths] = None  # the moment at which second 60 begins
 
     @property
     def with_year(self) -> bool:
         return self.layout.with_year
 
-    def base(self, number: int, told: Fields) -> int:
+    def base(self, number: FrameNumber, told: Fields) -> Base:
         """The time of frame 0, if frame `number` shows this one and the clock had run all along."""
         base = self.number(told) - number * self.layout.period
-        return base if self.with_year else (base - DAY) % (self.days * DAY) + DAY
+        return Base(Hundredths(base if self.with_year else (base - DAY) % (self.days * DAY) + DAY))
 
-    def number(self, told: Fields) -> int:
+    def moment(self, number: FrameNumber, base: Base) -> Hundredths:
+        """That of a frame, by a base."""
+        return Hundredths(base + number * self.layout.period)
+
+    def number(self, told: Fields) -> Hundredths:
         within = 100 * (3600 * told["hours"] + 60 * told["minutes"] + told["seconds"]) + told.get(
             "hundredths", 0
         )
         first = FIRST_DAYS[told.get("year", 0)] if self.with_year else 1
         plain = (first + told["days"] - 1) * DAY + within
         if self.leap is None:
-            return plain
+            return Hundredths(plain)
         plain = self._near_leap(plain)
-        return plain + SECOND * (plain >= self.leap and told["seconds"] != 60)
+        return Hundredths(plain + SECOND * (plain >= self.leap and told["seconds"] != 60))
 
     def _near_leap(self, number: int) -> int:
         """Without a year the first day follows the last one."""
@@ -50,14 +55,14 @@ class Calendar:
         year = self.days * DAY
         return (number - self.leap + year // 2) % year - year // 2 + self.leap
 
-    def within_leap(self, number: int) -> bool:
+    def within_leap(self, number: Hundredths) -> bool:
         """Whether this moment is in a second 60."""
         return self.leap is not None and 0 <= self._near_leap(number) - self.leap < SECOND
 
-    def after_leap(self, number: int) -> bool:
+    def after_leap(self, number: Hundredths) -> bool:
         return self.leap is not None and self._near_leap(number) >= self.leap + SECOND
 
-    def fields(self, number: int) -> Fields:
+    def fields(self, number: Hundredths) -> Fields:
         if self.within_leap(number):
             told = self._plain_fields(number - SECOND)
             told["seconds"], told["binary"] = 60, 86400
@@ -81,7 +86,7 @@ class Calendar:
             told["days"] = (day - 1) % self.days + 1
         return told
 
-    def text(self, number: int) -> str:
+    def text(self, number: Hundredths) -> str:
         """The moment as the editor's `regen` takes it."""
         told = self.fields(number)
         long = self.days == 366 or told["days"] == 366
@@ -95,6 +100,6 @@ class Calendar:
         )
         return text + (".%02d" % told["hundredths"] if "hundredths" in self.layout.fields else "")
 
-    def name(self, number: int) -> str:
+    def name(self, number: Hundredths) -> str:
         """The moment for people; without the year if the format has none."""
         return self.text(number)[0 if self.with_year else 5:]

@@ -13,7 +13,7 @@ from .dump_source import Source
 from .editor import Problem, find_editor
 from .options import DUMP, EXPRESSION, FORMAT, TIMESCALE, WIRE, Given
 from .readings import best, is_opened, is_read, read
-from .search import Found, Probe, search_any
+from .search import Found, Probe, search
 from .wire import Extract, Wish
 
 OFTEN = 8  # wires that are read
@@ -119,7 +119,7 @@ def is_of_one_wire(path: str) -> bool:
 def _take(path: str, name: str, given: Given, wire: Optional[str]) -> Taken:
     """The one wire whose frames can be read; a problem if there is none, or several."""
     unit, dump = given.text(TIMESCALE) or "", given.number(DUMP) or 1
-    found = search_any(path, unit, dump)
+    found = search(path, unit, dump)
     probes = found.probes
     if wire is not None:
         signal = choose(found.header, wire)

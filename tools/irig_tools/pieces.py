@@ -6,6 +6,7 @@ from typing import Callable, Dict, Optional, Sequence
 
 from . import limits
 from .moments import DAY
+from .units import Base, FrameNumber, Hundredths
 from .votes import Votes
 
 # each field with how many hundredths of a second one of it is, and after how many it begins again
@@ -20,12 +21,13 @@ LEVELS = (
 class _Pieces:
     """The fields that can be read in some frames, one by one."""
 
-    def __init__(self, votes: Votes, numbers: Sequence[int]) -> None:
+    def __init__(self, votes: Votes, numbers: Sequence[FrameNumber]) -> None:
         self.votes, self.layout, self.numbers = votes, votes.layout, numbers
 
-    def _read(self, name: str) -> Dict[int, int]:
+    def _read(self, name: str) -> Dict[FrameNumber, int]:
         """What the frames say of a field."""
-        rows, said = self.layout.fields[name], {}
+        rows = self.layout.fields[name]
+        said: Dict[FrameNumber, int] = {}
         for number in self.numbers:
             text = self.votes.texts[number]
             if all(text[element] in "01" for element, _ in rows):
@@ -58,7 +60,7 @@ class _Pieces:
 
         return self._vote(name, means)
 
-    def base(self) -> Optional[int]:
+    def base(self) -> Optional[Base]:
         within = self.within_day()
         year = self._vote("year", lambda number, value: value) if self.layout.with_year else 0
         if within is None or year is None:
@@ -70,10 +72,11 @@ class _Pieces:
             later = number * self.layout.period
             return self.votes.calendar.number({**midnight, "days": value}) + (start + later) % DAY - later
 
-        return self._vote("days", means)
+        base = self._vote("days", means)
+        return None if base is None else Base(Hundredths(base))
 
 
-def pieced(votes: Votes, numbers: Sequence[int]) -> Optional[int]:
+def pieced(votes: Votes, numbers: Sequence[FrameNumber]) -> Optional[Base]:
     """The base that these frames lead to together: two of them say each field, and no element is outvoted.
     """
     base = _Pieces(votes, numbers).base() if len(numbers) > 1 else None

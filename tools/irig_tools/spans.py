@@ -6,18 +6,19 @@ from typing import Dict, List, NamedTuple, Optional, Sequence, Tuple
 
 from . import limits
 from .pieces import pieced
+from .units import Base, FrameNumber
 from .votes import Votes
 
 
 class Span(NamedTuple):
     """Frames `first` to `last` with one base."""
 
-    first: int
-    last: int
-    base: int
+    first: FrameNumber
+    last: FrameNumber
+    base: Base
 
 
-def _sums(choices: Sequence[int], rows: Sequence[List[int]], start: Optional[int]) -> List[List[int]]:
+def _sums(choices: Sequence[Base], rows: Sequence[List[int]], start: Optional[Base]) -> List[List[int]]:
     """For each frame and each choice the least cost of a way from the start to it."""
     cost = [0 if start in (None, base) else limits.CHANGE for base in choices]
     table = []
@@ -28,15 +29,15 @@ def _sums(choices: Sequence[int], rows: Sequence[List[int]], start: Optional[int
     return table
 
 
-def _borne(votes: Votes, base: int, gap: Sequence[int]) -> bool:
+def _borne(votes: Votes, base: Base, gap: Sequence[FrameNumber]) -> bool:
     """Whether at least two frames bear a base out, and each element that speaks against it is outvoted."""
     most = limits.MOST_AGAINST, -limits.FEWEST_FOR
     return sum(votes.against(number, base) < most for number in gap) > 1 and votes.is_borne(gap, base)
 
 
 def fit(
-    votes: Votes, gap: Sequence[int], left: Optional[int], right: Optional[int]
-) -> Dict[int, Optional[int]]:
+    votes: Votes, gap: Sequence[FrameNumber], left: Optional[Base], right: Optional[Base]
+) -> Dict[FrameNumber, Optional[Base]]:
     """The base of each frame of a gap, or None if two are as good, between the bases `left` and `right`."""
     if not gap:
         return {}
@@ -48,9 +49,9 @@ def fit(
     faults = [[votes.against(number, base)[0] for base in choices] for number in gap]
     ahead = _sums(choices, faults, left)
     back = _sums(choices, faults[::-1], right)
-    found: Dict[int, Optional[int]] = {}
+    found: Dict[FrameNumber, Optional[Base]] = {}
     for number, row, before, after in zip(gap, faults, ahead, reversed(back)):
-        whole: List[Tuple[int, int]] = sorted(
+        whole: List[Tuple[int, Base]] = sorted(
             (a + b - fault, base) for a, b, fault, base in zip(before, after, row, choices)
         )
         found[number] = None

@@ -5,10 +5,11 @@ from typing import Dict, Iterator, Sequence
 
 from .layout import READABLE
 from .spans import Span
+from .units import Base, FrameNumber
 from .votes import Votes
 
 
-def spliced(votes: Votes, spans: Sequence[Span]) -> Dict[int, int]:
+def spliced(votes: Votes, spans: Sequence[Span]) -> Dict[FrameNumber, Base]:
     """The base that the marker of each such frame has: the one that the frames before it lead to."""
     return {
         number: before.base
@@ -19,12 +20,12 @@ def spliced(votes: Votes, spans: Sequence[Span]) -> Dict[int, int]:
     }
 
 
-def _between(before: Span, after: Span) -> Iterator[int]:
+def _between(before: Span, after: Span) -> Iterator[FrameNumber]:
     """The frames that have one of `before` before them, and one of `after` after them."""
-    return iter(range(max(before.last, before.first + 1), min(after.first, after.last - 1) + 1))
+    return map(FrameNumber, range(max(before.last, before.first + 1), min(after.first, after.last - 1) + 1))
 
 
-def _is_spliced(votes: Votes, number: int, left: int, right: int) -> bool:
+def _is_spliced(votes: Votes, number: FrameNumber, left: Base, right: Base) -> bool:
     """Whether a frame that can be read shows one time up to an element, another from there on, and neither
     of them as a whole."""
     if not READABLE.fullmatch(votes.texts[number]):

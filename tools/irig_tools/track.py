@@ -9,6 +9,7 @@ from . import limits
 from .editor import Listing
 from .interval import Clock, Run
 from .layout import Layout
+from .units import FrameNumber
 from .zones import Zone
 
 
@@ -80,16 +81,16 @@ class Track:
             many += 1
         return many
 
-    def frame(self, number: int) -> str:
+    def frame(self, number: FrameNumber) -> str:
         """The 100 letters of a frame; `~` before the recording begins and after it ends."""
         begin = 100 * number - self.first
         text = self.sure[max(0, begin):max(0, begin + 100)]
         return "~" * min(100, max(0, -begin)) + text + "~" * max(0, begin + 100 - max(len(self.sure), begin))
 
-    def frames(self) -> range:
-        return range(self.first // 100, self.last // 100 + 1)
+    def frames(self) -> List[FrameNumber]:
+        return [FrameNumber(number) for number in range(self.first // 100, self.last // 100 + 1)]
 
-    def is_glued(self, last: int, first: int) -> bool:
+    def is_glued(self, last: FrameNumber, first: FrameNumber) -> bool:
         """Whether a glued run begins between frame `last` and frame `first`."""
         return any(
             zone.glued and last <= zone.last // 100 and zone.first // 100 <= first for zone in self.zones

@@ -8,6 +8,7 @@ from .layout import Fields
 from .leap import with_leap
 from .moments import Calendar
 from .track import Track
+from .units import Base, FrameNumber
 
 
 class Votes:
@@ -17,7 +18,7 @@ class Votes:
         self.track, self.layout = track, track.layout
         self.texts = {number: track.frame(number) for number in track.frames()}
         decoded = [(number, self.layout.decode(text)) for number, text in self.texts.items()]
-        self.read: List[Tuple[int, Fields]] = [(number, told) for number, told in decoded if told]
+        self.read: List[Tuple[FrameNumber, Fields]] = [(number, told) for number, told in decoded if told]
         self.calendar = with_leap(self._with_year_length(), self.read)
         self.own = {number: self.calendar.base(number, told) for number, told in self.read}
 
@@ -29,20 +30,20 @@ class Votes:
         agree = [max(Counter(each.base(*frame) for frame in self.read).values()) for each in (short, long)]
         return long if agree[1] > agree[0] or any(told["days"] == 366 for _, told in self.read) else short
 
-    def votes(self, number: int, base: int) -> Dict[int, int]:
+    def votes(self, number: FrameNumber, base: Base) -> Dict[int, int]:
         """For each element of a frame that can be read, 1 if it speaks for a base, and -1 if against it."""
-        text, fields = self.texts[number], self.calendar.fields(base + number * self.layout.period)
+        text, fields = self.texts[number], self.calendar.fields(self.calendar.moment(number, base))
         wanted = self.layout.encode(fields)
         read = [element for element in self.layout.carried if text[element] in "01"]
         return {element: 1 if text[element] == wanted[element] else -1 for element in read}
 
-    def against(self, number: int, base: int) -> Tuple[int, int]:
+    def against(self, number: FrameNumber, base: Base) -> Tuple[int, int]:
         """How many elements of a frame speak against a base, and, negative, how many for it."""
         votes = self.votes(number, base).values()
         wrong = sum(each < 0 for each in votes)
         return wrong, wrong - len(votes)
 
-    def is_borne(self, numbers: Sequence[int], base: int) -> bool:
+    def is_borne(self, numbers: Sequence[FrameNumber], base: Base) -> bool:
         """Whether at least one element of these frames speaks for a base, and each that speaks against it is
         outvoted."""
         votes: Counter[int] = Counter()

@@ -9,6 +9,7 @@ from . import limits
 from .edit import Edit, moved_from, moved_rest
 from .edits import Item
 from .faults import Faults, Remark
+from .units import Base, FrameNumber, frame_of
 from .zones import Zone
 
 
@@ -52,7 +53,7 @@ def _why_not(faults: Faults, zone: Zone) -> str:
     return ""
 
 
-def _control_of(faults: Faults, number: int) -> int:
+def _control_of(faults: Faults, number: FrameNumber) -> int:
     """The control functions that a frame has after its repairs."""
     text = faults.times.texts[number]
     return sum(
@@ -61,7 +62,7 @@ def _control_of(faults: Faults, number: int) -> int:
     )
 
 
-def _can_generate(faults: Faults, number: int) -> bool:
+def _can_generate(faults: Faults, number: FrameNumber) -> bool:
     """Whether `regen` of a frame takes away nothing but its damage."""
     track, places = faults.track, range(100 * number, 100 * number + 100)
     if places[0] < track.first or places[-1] > track.last or faults.clock.interval != faults.layout.interval:
@@ -100,7 +101,7 @@ def _as_generated(faults: Faults, place: int, begin: int) -> bool:
             and track.rise_at(place) == due
             and not (must_be_zero and faults.wanted[place] != "0")
         )
-    told = faults.times.texts[place // 100][element]
+    told = faults.times.texts[frame_of(place)][element]
     return (
         told in "01P"
         and faults.rises[pulses[0]] == due
@@ -113,17 +114,17 @@ def _as_generated(faults: Faults, place: int, begin: int) -> bool:
 class _Frames:
     """Frames that one `regen` writes."""
 
-    number: int
+    number: FrameNumber
     many: int
     control: int
-    base: Optional[int]
+    base: Optional[Base]
     rise: int
     leapt: bool
 
 
 def _lost_frames(faults: Faults) -> List[_Frames]:
     spans: List[_Frames] = []
-    for number in sorted({place // 100 for place in faults.wanted}):
+    for number in sorted({frame_of(place) for place in faults.wanted}):
         if not _can_generate(faults, number):
             continue
         moment = faults.times.moment(number)
@@ -133,7 +134,7 @@ def _lost_frames(faults: Faults) -> List[_Frames]:
             _control_of(faults, number),
             faults.times.bases[number],
             faults.track.rise_at(100 * number),
-            faults.times.calendar.after_leap(moment or 0),
+            moment is not None and faults.times.calendar.after_leap(moment),
         )
         last = spans[-1] if spans else None
         if (
