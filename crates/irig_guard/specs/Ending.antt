@@ -54,8 +54,8 @@ product_of chosen =
     if not (is_some chosen.out) then product.Nothing
     else (if chosen.save then product.Session else product.Track)
 
--- The script ran under guard on the bytes, by the wire and the format of the settings; what was written was
--- written where their path to write leads, and is kept through a crash at any moment.
+-- The script ran under guard on the bytes, by the wire and the format of the settings; what was
+-- written was written where their path to write leads, and is kept through a crash at any moment.
 pub record RunsBy (given : Files) (chosen : Settings) (source : List ℕ) (old new : Ends)
     (result : Result Status GuardFault) : Type 0 where
   pub label : List ℕ

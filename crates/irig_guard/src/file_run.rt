@@ -18,8 +18,8 @@ use irig_vcd::VcdFault;
 use std::alloc::Global;
 use std::io::{Read, Write};
 
-/// Runs a script under guard on the dump that the words of a command line name, the program's name being the
-/// first.
+/// Runs a script under guard on the dump that the words of a command line name, the program's name
+/// being the first.
 pub fn obey_words<'a, D: Disk, R: Read, W: Write>(
     alloc: Global,
     words: &'a [String],
@@ -40,8 +40,8 @@ pub fn obey_words<'a, D: Disk, R: Read, W: Write>(
     }
 }
 
-/// Runs a script under guard on the dump of the settings. The memory of its writes is taken before the dump is
-/// read.
+/// Runs a script under guard on the dump of the settings. The memory of its writes is taken before
+/// the dump is read.
 fn run_on_track<'a, D: Disk, R: Read, W: Write>(
     alloc: Global,
     chosen: &Settings<'a>,
@@ -85,8 +85,8 @@ fn run_with_room<'a, D: Disk, R: Read, W: Write>(
     }
 }
 
-/// Runs a script under guard on what was read of a dump, by the format and the path of the settings. Each write
-/// uses the room.
+/// Runs a script under guard on what was read of a dump, by the format and the path of the
+/// settings. Each write uses the room.
 fn run_on_read<D: Disk, R: Read, W: Write>(
     alloc: Global,
     chosen: &Settings<'_>,

@@ -57,8 +57,8 @@ fn arguments<R: Runtime + AllocGlobal>(rt: &R) -> io::Result<Vec<String>> {
     Ok(words)
 }
 
-/// Runs a proposed script under guard on the track that the words name, by the files of this system,
-/// this script and this output, and reports how that ended.
+/// Runs a proposed script under guard on the track that the words name, by the files of this
+/// system, this script and this output, and reports how that ended.
 fn start<P: Print + Eprint + AllocGlobal, C: FileSystem, R: Read, W: Write>(
     rt: &P,
     words: &[String],

@@ -5,8 +5,8 @@ ghost use Rattle.irig_guarding.specs.Meaning.{SafeStatesMean};
 
 use irig_edit::calls_give_back;
 
-/// Does nothing. Its contract is what it means that a state is safe by another: its frames that read
-/// well are all kept, and the others are borne out by those next to them.
+/// Does nothing. Its contract is what it means that a state is safe by another: the frames of that
+/// one which read well are kept or mended, and the others are borne out by those next to them.
 pub fn safe_states_are_kept_or_borne_out()
     ensures { SafeStatesMean }
 {}
