@@ -405,11 +405,12 @@ def riff(data, tag=1, size=2, channels=1, said=None, head=b"RIFF", extensible=Fa
     return head + struct.pack(order + "I", min(4 + len(chunks) + size, 2**32 - 1)) + b"WAVE" + chunks + data
 
 
-def w64(data):
-    """A file of Sony's form with sizes of 64 bits."""
+def w64(data, said=None):
+    """A file of Sony's form with sizes of 64 bits; `said` is the size that its head has."""
     form = struct.pack("<HHIIHH", 1, 1, 8000, 16000, 2, 16)
     fact = b"fact" + W64 + struct.pack("<Q", 27) + b"abc" + b"\0" * 5
-    chunks = fact + b"fmt " + W64 + struct.pack("<Q", 24 + 16) + form + b"data" + W64 + struct.pack("<Q", 24 + len(data))
+    chunks = fact + b"fmt " + W64 + struct.pack("<Q", 24 + 16) + form + b"data" + W64 + struct.pack(
+        "<Q", 24 + len(data) if said is None else said)
     return (b"riff\x2e\x91\xcf\x11\xa5\xd6\x28\xdb\x04\xc1\0\0" + struct.pack("<Q", 40 + len(chunks) + len(data))
             + b"wave" + W64 + chunks + data)
 
@@ -425,7 +426,7 @@ def sound_files():
     double = array("d", [value / 32768 for value in values]).tobytes()
     long = array("i", [value << 16 for value in values]).tobytes()
     two = array("h", [part for value in values for part in (0, value)]).tobytes()
-    ds64 = b"ds64" + struct.pack("<IQQQI", 28, 0, len(whole), 0, 0)
+    ds64, ds_0, ds_large = (b"ds64" + struct.pack("<IQQQI", 28, 0, size, 0, 0) for size in (len(whole), 0, 10**12))
     notes = b"LIST" + struct.pack("<I", 3) + b"abc\0"
     after = b"LIST" + struct.pack("<I", 4000) + b"\x7f" * 4000
     files = (
@@ -435,6 +436,12 @@ def sound_files():
             swapped.tobytes(), head=b"RIFX")),
         ("two channels, extensible", ["--channel=2"], riff(two, channels=2, extensible=True)),
         ("RF64", [], riff(whole, said=2**32 - 1, head=b"RF64", before=ds64) + after), ("W64", [], w64(whole)),
+        ("W64, a size of 0", [], w64(whole, 0)), ("W64, too large", [], w64(whole, 10**12)),
+        ("W64, not known", [], w64(whole, 2**64 - 1)), ("W64, an odd end", [], w64(whole + b"a", 0)),
+        ("RF64, a size of 0", [], riff(whole, said=2**32 - 1, head=b"RF64", before=ds_0)),
+        ("RF64, too large", [], riff(whole, said=2**32 - 1, head=b"RF64", before=ds_large)),
+        ("raw f64be", [*raw, "f64be"], struct.pack(">%dd" % len(values), *(value / 32768 for value in values))),
+        ("raw s32be", [*raw, "s32be"], struct.pack(">%di" % len(values), *(value << 16 for value in values))),
         ("a size of 0", [], riff(whole, said=0)), ("a size that is not known", [], riff(whole, said=2**32 - 1)),
         ("a size that is too large", [], riff(whole, said=len(whole) + 999)), ("chunks before", [], riff(whole, before=notes)),
         ("a chunk after", [], riff(whole) + after), ("an odd end", [], riff(whole + b"a", said=0)),

@@ -90,12 +90,11 @@ class Writer:
 
     def all(self, changes: Iterator[Change], body: Body) -> None:
         for time, _, letter in changes:
-            if letter != self.letter and (self.wish.end is None or time <= self.wish.end):
-                self._change(self.place(time, body), letter)
+            self.take(time, letter, body)
         self.finish(body)
 
     def take(self, time: int, letter: str, body: Body) -> None:
-        """One change, as `all` takes them."""
+        """One change, if it is one up to the end."""
         if letter != self.letter and (self.wish.end is None or time <= self.wish.end):
             self._change(self.place(time, body), letter)
 
