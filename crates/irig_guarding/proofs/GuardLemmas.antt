@@ -44,7 +44,7 @@ plain_take (suc n) (b ∷ text) h =
     let both = plain_both (not (b == 10)) (list_all (λ b. not (b == 10)) text) h in
     rw both.0 (plain_take n text both.1)
 
--- a front behind a number sign is a remark
+-- a front after a number sign is a remark
 pub front_remark : (text : List ℕ) → IsPlain text → length text ≤ 900 → IsRemark (35 ∷ 32 ∷ text)
 front_remark text h few = record { plain = h; asks = (omega arith, ([], 35 ∷ 32 ∷ text, refl, refl, inl (refl, refl))) }
 

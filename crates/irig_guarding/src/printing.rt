@@ -33,7 +33,7 @@ pub fn put_lines(out: &mut Vec<u8>, lines: &[Line]) -> Result<(), AllocError>
     Ok(())
 }
 
-/// Prints a line as a comment: a comment as it is, of any other line the front behind a number
+/// Prints a line as a comment: a comment as it is, of any other line the front after a number
 /// sign.
 fn put_remark(out: &mut Vec<u8>, line: &Line) -> Result<(), AllocError>
     ensures { OnOk result ((remark : List ℕ) × IsRemark remark
@@ -47,7 +47,7 @@ fn put_remark(out: &mut Vec<u8>, line: &Line) -> Result<(), AllocError>
     }
 }
 
-/// Prints the front of a line behind a number sign.
+/// Prints the front of a line after a number sign.
 fn put_front(out: &mut Vec<u8>, line: &Line) -> Result<(), AllocError>
     ensures { OnOk result ((remark : List ℕ) × IsRemark remark
         × (out.new.items ≡ out.old.items ++ (remark ++ 10 ∷ []))) }

@@ -30,7 +30,7 @@ past_end (suc k) (x ∷ xs) e = let h = past_end k xs e in omega arith
 next_behind : (k : ℕ) (xs : List Shown) → behind (k + 1) xs ≡ slice_get xs k
 next_behind k xs = ap (λ m. behind m xs) (add-one k)
 
--- what is behind a place
+-- what is after a place
 pub get-drop : (k j : ℕ) (xs : List Shown) → slice_get (drop k xs) j ≡ slice_get xs (k + j)
 get-drop zero j xs = let e : j ≡ 0 + j = omega arith in ap (slice_get xs) e
 get-drop (suc k) j [] = refl

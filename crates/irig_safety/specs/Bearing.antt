@@ -19,7 +19,7 @@ is_near_year None (Some b) = false
 is_near_year (Some a) None = false
 is_near_year (Some a) (Some b) = (a == b) || ((a + 1) % 100 == b)
 
--- how many hundredths of a second a year of so many days has
+-- how many hundredths of a second a year of that many days has
 abbrev pub year_of : Bool → ℕ
 year_of is_long = if is_long then 3162240000 else 3153600000
 
