@@ -101,7 +101,7 @@ class Cycles:
         self.first, self.known = self.first + over, end - over
 
     def _found(self, heights: Sequence[float], end: int) -> Iterator[Edge]:
-        """The edges of so many of the cycles that are not decided."""
+        """The edges of the first of the cycles that are not decided, up to an end."""
         middle, scale = (self.low + self.high) / 2, 2 / (self.high - self.low)
         worth = [(height - middle) * scale for height in heights]
         number = self.first + self.known

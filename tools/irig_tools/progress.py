@@ -22,7 +22,7 @@ class Reading:
         self.done, self.whole = 0, _size(0 if path == "-" else path) if self.asked else 0
 
     def add(self, count: int) -> None:
-        """So many bytes more; none at the end."""
+        """That many bytes more; none at the end."""
         if not self.asked:
             return
         self.done += count
