@@ -52,7 +52,8 @@ def distances(times: Sequence[int]) -> List[int]:
 
 def share_in_step(times: Sequence[int], interval: int) -> float:
     """How many of the neighbours are one interval apart: 0 to 1."""
-    return len(_in_step(distances(times), interval)) / max(1, len(_sampled(distances(times))))
+    apart = distances(times)
+    return len(_in_step(apart, interval)) / max(1, len(_sampled(apart)))
 
 
 def _sampled(apart: Sequence[int]) -> Sequence[int]:
