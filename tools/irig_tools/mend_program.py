@@ -91,6 +91,8 @@ def check(given: Given) -> None:
     for option in (SAVE, INTO):
         if given.has(option) and not given.has(APPLY):
             raise Usage("%s is only for --apply" % option.name)
+    if given.has(EXPLAIN) and given.has(APPLY):
+        raise Usage("--explain and --apply exclude each other")
     if given.has(SAVE) and given.has(INTO):
         raise Usage("--save and --into exclude each other: the steps are those of a track alone")
     if given.text(APPLY) == "-" and given.text(OUT) == "-":
