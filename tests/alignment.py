@@ -163,8 +163,13 @@ def silence_is_sound(rng):
 # what a repair did
 
 
-def judged(case, move=False):
-    """What the script that irig_mend proposes does to the data."""
+def as_it_is(options, path, script):
+    """A script that is not changed."""
+    return script
+
+
+def judged(case, move=False, through=as_it_is):
+    """What the script that irig_mend proposes does to the data, or what `through` makes of that script."""
     options = case.recording.options()
     with tempfile.TemporaryDirectory() as folder:
         true_path, path = os.path.join(folder, "true.vcd"), os.path.join(folder, "damaged.vcd")
@@ -176,7 +181,7 @@ def judged(case, move=False):
                 file.write(damages.dump(pulses, length))
         opened = editor.Editor([*options, path])
         repairs = mend.propose(opened, lambda text: None, **({"move": True} if move else {}))
-        script = mend.text(repairs)
+        script = through(options, path, mend.text(repairs))
         _, true_frames, _ = mending.listed(options, true_path, "")
         _, before, _ = mending.listed(options, path, "")
         refused, after, edges = mending.listed(options, path, script)

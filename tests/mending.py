@@ -128,8 +128,8 @@ def says_cut(case, script):
     ) or any(abs(float(seconds) * 1000000 - case.gone * case.interval) < case.interval for seconds in clock)
 
 
-def mended(case):
-    """Damages are in the case: the verdict, and the script."""
+def mended(case, through=None):
+    """Damages are in the case: the verdict, and the script; `through` makes another one of what irig_mend proposes."""
     options = case.recording.options()
     with tempfile.TemporaryDirectory() as folder:
         true_path, damaged_path = os.path.join(folder, "true.vcd"), os.path.join(folder, "damaged.vcd")
@@ -141,4 +141,5 @@ def mended(case):
                 file.write(damages.dump(pulses, length))
         opened = editor.Editor([*options, damaged_path])
         script = mend.text(mend.propose(opened, lambda text: None, case.steady, case.move))
+        script = through(options, damaged_path, script) if through else script
         return judge(case, options, true_path, damaged_path, script), script

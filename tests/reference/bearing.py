@@ -1,0 +1,140 @@
+"""Whether the fine frames next to a frame bear out its time, as docs/MENDING.md has it.
+
+Whole numbers only: microseconds, and hundredths of a second on the clock of a frame. A frame that is not there is None.
+"""
+from typing import Dict, NamedTuple, Optional, Tuple
+
+from reference import timecode
+
+
+class Shown(NamedTuple):
+    """A frame that is fine: the rise of its marker, and what it shows."""
+
+    rise: int
+    values: Dict[str, int]
+
+
+class Near(NamedTuple):
+    """The fine frames of the recording next to a place: the last two before it and the first two after it."""
+
+    before_last: Optional[Shown]
+    before: Optional[Shown]
+    after: Optional[Shown]
+    after_next: Optional[Shown]
+
+    def two(self) -> Optional[Tuple[Shown, Shown]]:
+        """The two nearest: one on each side, or if a side has none the two of the other."""
+        if self.before and self.after:
+            return self.before, self.after
+        if self.before and self.before_last:
+            return self.before_last, self.before
+        if self.after and self.after_next:
+            return self.after, self.after_next
+        return None
+
+
+class Bearing:
+    """The rules, for one format."""
+
+    def __init__(self, kind: str) -> None:
+        self.interval = timecode.INTERVAL[kind]
+        self.frame = 100 * self.interval
+        self.period = self.interval // 100  # hundredths of a second in which a frame passes
+
+    # counting
+
+    def count(self, one: Shown, other: Shown) -> int:
+        """How many frame periods the time of the second is after that of the first; 0 if it is not a whole number."""
+        later = clock_after(one.values, other.values)
+        if later is None or later <= clock(one.values) or (later - clock(one.values)) % self.period:
+            return 0
+        return (later - clock(one.values)) // self.period
+
+    def stray(self, one: Shown, other: Shown) -> int:
+        """By how many microseconds the distance differs from that of the times."""
+        return abs(other.rise - one.rise - self.count(one, other) * self.frame)
+
+    # two frames
+
+    def is_far(self, one: Shown, other: Shown) -> bool:
+        """Whether the distance does not say how many frames it is, if a clock is off by a thousandth."""
+        return 1000 * self.frame <= 1000 * self.interval + 2 * (other.rise - one.rise)
+
+    def leads(self, one: Shown, other: Shown) -> bool:
+        """Whether one is where the time of the other leads, to half an interval and a thousandth of the distance."""
+        slack = 1000 * self.interval + 2 * (other.rise - one.rise)
+        return self.count(one, other) > 0 and not self.is_far(one, other) and 2000 * self.stray(one, other) <= slack
+
+    def allows(self, one: Shown, other: Shown) -> bool:
+        """Whether they do not contradict each other."""
+        return self.is_far(one, other) or (self.count(one, other) > 0 and 2 * self.stray(one, other) < self.frame)
+
+    # the clock of two frames
+
+    def shows_clock(self, one: Shown, other: Shown) -> bool:
+        """Whether two frames agree, so that they show how fast the clock of the recording goes."""
+        many, stray = self.count(one, other), self.stray(one, other)
+        return many > 0 and 2 * stray < self.frame and 40 * stray <= many * self.frame
+
+    def in_time(self, clock_of: Tuple[Shown, Shown], one: Shown, other: Shown) -> bool:
+        """Whether two frames are as far apart as that clock says, to half an interval."""
+        first, last = clock_of
+        many, whole = self.count(one, other), self.count(first, last)
+        due, found = many * (last.rise - first.rise), whole * (other.rise - one.rise)
+        return many > 0 and 2 * abs(found - due) <= whole * self.interval
+
+    def by_clock(self, near: Near, frame: Shown) -> bool:
+        """Whether a frame is where the clock of the two nearest has it."""
+        two = near.two()
+        if two is None or not self.shows_clock(*two):
+            return False
+        return self.in_time(two, near.before, frame) if near.before else self.in_time(two, frame, two[0])
+
+    # what is borne out
+
+    def is_borne(self, near: Near, frame: Shown) -> bool:
+        """Whether the time of a frame is borne out: something supports it, and neither neighbour contradicts it."""
+        before, after = near.before, near.after
+        supported = (
+            (before is not None and self.leads(before, frame))
+            or (after is not None and self.leads(frame, after))
+            or self.by_clock(near, frame)
+        )
+        contradicted = (before is not None and not self.allows(before, frame)) or (
+            after is not None and not self.allows(frame, after)
+        )
+        alone = before is None or after is None
+        return supported and not contradicted and not (frame.values["seconds"] == 60 and alone)
+
+    def is_contradicted(self, near: Near, frame: Shown) -> bool:
+        """Whether the frames on both sides contradict its time."""
+        if near.before is None or near.after is None:
+            return False
+        return not self.allows(near.before, frame) and not self.allows(frame, near.after)
+
+
+def clock(values: Dict[str, int]) -> int:
+    """The hundredths of a second from the beginning of the year."""
+    seconds = 86400 * values["days"] + 3600 * values["hours"] + 60 * values["minutes"] + values["seconds"]
+    return 100 * seconds + values.get("hundredths", 0)
+
+
+def clock_after(one: Dict[str, int], other: Dict[str, int]) -> Optional[int]:
+    """The time of the second on the clock of the first; None if it is more than a year later."""
+    turn = turn_of(one, other)
+    inserted = 100 if one["seconds"] == 60 and other["seconds"] != 60 else 0
+    return None if turn is None else clock(other) + turn + inserted
+
+
+def turn_of(one: Dict[str, int], other: Dict[str, int]) -> Optional[int]:
+    """By how much the year of the second begins later; None if it is another one than that of the first or the next."""
+    if "year" not in one:
+        return year_of(one["days"] == 366) if clock(other) < clock(one) else 0
+    if (one["year"] + 1) % 100 == other["year"]:
+        return year_of(one["year"] % 4 == 0)
+    return 0 if one["year"] == other["year"] else None
+
+
+def year_of(is_long: bool) -> int:
+    """The hundredths of a second of a year."""
+    return 100 * 86400 * (366 if is_long else 365)

@@ -1,0 +1,148 @@
+"""A guard for proposed repairs, as docs/MENDING.md has it: each is tried, and kept only if the result is safe."""
+from bisect import bisect_left
+from typing import Iterator, List, Optional, Sequence
+
+from reference import language, machine, timecode
+from reference.bearing import Bearing, Near, Shown
+
+LONGEST_LINE, LONGEST_COMMENT = 1000, 900
+EDITS = {
+    "insert": machine.insert, "delete": machine.delete, "split": machine.split, "join": machine.join,
+    "shift": machine.shift, "invert": machine.invert, "force": machine.force, "regen": machine.regen,
+    "mark": machine.mark, "unmark": machine.unmark,
+}
+
+
+def fine_frames(state: machine.State) -> List[Shown]:
+    """The frames of a state that are fine."""
+    interval, pulses = state.interval(), state.pulses()
+    found = []
+    for marker in timecode.markers(interval, pulses):
+        if timecode.fault_of(interval, pulses, marker) is None:
+            values, note = timecode.decode(state.kind, state.expression, timecode.ones_of(interval, pulses, marker))
+            if note == "fine":
+                found.append(Shown(pulses[marker][0], values))
+    return found
+
+
+class Safety:
+    """What is safe for a recording."""
+
+    def __init__(self, opened: machine.State) -> None:
+        self.bearing = Bearing(opened.kind)
+        self.old = fine_frames(opened)
+        self.rises = [frame.rise for frame in self.old]
+
+    def near(self, place: int, after: int) -> Near:
+        """The frames next to a place: those before `place`, and those from `after` on."""
+        def at(k: int) -> Optional[Shown]:
+            return self.old[k] if 0 <= k < len(self.old) else None
+
+        return Near(at(place - 2), at(place - 1), at(after), at(after + 1))
+
+    def is_safe(self, last: Sequence[Shown], new: Sequence[Shown]) -> bool:
+        """Whether what is fine now is safe; `last` was fine after the last repair that was kept."""
+        rises = {frame.rise for frame in new}
+        if any(frame.rise not in rises for frame in [*self.old, *last]):
+            return False
+        return all(map(self._may_be, new)) if self.old else self._support_each_other(new)
+
+    def _may_be(self, frame: Shown) -> bool:
+        """Whether a frame was fine as it is, or was wrong and is mended, or was not fine and is borne out."""
+        place = bisect_left(self.rises, frame.rise)
+        if place == len(self.old) or self.old[place].rise != frame.rise:
+            return self.bearing.is_borne(self.near(place, place), frame)
+        near = self.near(place, place + 1)
+        was_wrong = self.bearing.is_contradicted(near, self.old[place])
+        return frame == self.old[place] or (was_wrong and self.bearing.is_borne(near, frame))
+
+    def _support_each_other(self, new: Sequence[Shown]) -> bool:
+        """If nothing was fine: whether there are none, or at least three, each of which leads to the next."""
+        return not new or (len(new) >= 3 and all(self.bearing.leads(*pair) for pair in zip(new, new[1:])))
+
+
+class Guard:
+    """A run over a proposed script. `printed` has its lines, `refused` is whether some were not kept."""
+
+    def __init__(self, opened: machine.Machine) -> None:
+        self.machine = opened
+        self.safety = Safety(opened.present)
+        self.last = self.safety.old
+        self.printed: List[bytes] = []
+        self.refused = False
+
+    def script(self, text: bytes) -> None:
+        lines = text.split(b"\n")
+        for repair in repairs(lines if lines[-1] else lines[:-1]):
+            if self._keeps(repair):
+                self.printed += repair
+            else:
+                self.refused = True
+                self.printed += map(commented, repair)
+
+    def _keeps(self, repair: List[bytes]) -> bool:
+        """Tries a repair, and undoes it if it is not kept."""
+        if len(repair) == 1 and word_of(repair[0]) == REMARK:
+            return True
+        before = self.machine.present, list(self.machine.past), list(self.machine.made)
+        if self._is_obeyed(repair):
+            new = fine_frames(self.machine.present)
+            if self.safety.is_safe(self.last, new):
+                self.last = new
+                return True
+        self.machine.present, self.machine.past, self.machine.made = before
+        self.machine.floor = None
+        return False
+
+    def _is_obeyed(self, repair: List[bytes]) -> bool:
+        """Obeys the lines of a repair up to the first that cannot be."""
+        is_group = word_of(repair[0]) == "begin"
+        if is_group and (len(repair) == 1 or word_of(repair[-1]) != "end"):
+            return False
+        if is_group:
+            self.machine.begin()
+        for line in repair[1:-1] if is_group else repair:
+            word = word_of(line)
+            if word == REMARK:
+                continue
+            if word not in EDITS:
+                return False
+            try:
+                self.machine.edit(EDITS[word], *language.parse(self.machine.present, line)[1])
+            except machine.Refused:
+                return False
+        if is_group:
+            self.machine.end()
+        return True
+
+
+def commented(line: bytes) -> bytes:
+    """A line that is not kept, as a comment; a comment stays as it is."""
+    return line if word_of(line) == REMARK else b"# " + line[:LONGEST_COMMENT]
+
+
+def repairs(lines: List[bytes]) -> Iterator[List[bytes]]:
+    """The lines, those from a `begin` to the next `end` or `abort` together."""
+    at = 0
+    while at < len(lines):
+        behind = at + 1
+        if word_of(lines[at]) == "begin":
+            closing = [k for k in range(at + 1, len(lines)) if word_of(lines[k]) in ("end", "abort")]
+            behind = closing[0] + 1 if closing else len(lines)
+        yield lines[at:behind]
+        at = behind
+
+
+NOWHERE = machine.State(0, frozenset(), "B", 2, {}, 0)
+BAD_LINE, REMARK = "bad line", "remark"
+
+
+def word_of(line: bytes) -> str:
+    """The word of a line, `go` for an address; a remark, or a bad line. The words do not depend on the track."""
+    if len(line) > LONGEST_LINE:
+        return BAD_LINE
+    try:
+        word, _ = language.parse(NOWHERE, line)
+    except machine.Refused:
+        return BAD_LINE
+    return word or REMARK

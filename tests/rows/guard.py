@@ -1,0 +1,194 @@
+"""Worked rows of irig_guard: recordings, proposed scripts, and what is printed.
+
+A recording has a frame each second from TIMES on; that at 0 is none, since no position identifier is before it. The
+marker of frame k is pulse 100 k + 1.
+"""
+import datetime
+from typing import Callable, Dict, List, NamedTuple, Sequence, Tuple
+
+from reference import timecode
+
+Pulses = List[List[int]]
+SECOND = 1000000
+OPTIONS = {"B4": ["--expression", "4"], "B2": [], "B5": ["--expression", "5"], "B6": ["--expression", "6"]}
+NOON = datetime.datetime(2024, 5, 17, 12, 34, 50)  # day 138
+
+
+class Row(NamedTuple):
+    """`wanted` are the lines that are printed. The status is 1 if some are not those of the script."""
+
+    name: str
+    form: str
+    pulses: Pulses
+    script: Sequence[str]
+    wanted: Sequence[str]
+
+
+def values_of(form: str, when: datetime.datetime, control: int = 0, second: int = -1) -> Dict[str, int]:
+    """What a frame shows; second 60 is given, since no date has it."""
+    seconds = when.second if second < 0 else second
+    return {
+        "year": when.year % 100, "days": when.timetuple().tm_yday, "hours": when.hour, "minutes": when.minute,
+        "seconds": seconds, "sbs": 3600 * when.hour + 60 * when.minute + seconds, "control": control,
+    }
+
+
+def frames(form: str, shown: Sequence[Dict[str, int]]) -> Pulses:
+    """Frames that show this, one after the other."""
+    pulses: Pulses = []
+    for values in shown:
+        for name in timecode.encode(form[0], int(form[1]), values):
+            rise = 10000 * len(pulses)
+            pulses.append([rise, rise + timecode.nominal(10000, name)])
+    return pulses
+
+
+def steady(form: str = "B4", many: int = 7, begin: datetime.datetime = NOON, control: int = 0) -> Pulses:
+    times = [begin + datetime.timedelta(seconds=k) for k in range(many)]
+    return frames(form, [values_of(form, when, control) for when in times])
+
+
+def leap(form: str = "B4") -> Pulses:
+    """The end of 2016: 23:59:56 to 23:59:60, then 00:00:00 to 00:00:02."""
+    last, first = datetime.datetime(2016, 12, 31, 23, 59), datetime.datetime(2017, 1, 1)
+    shown = [values_of(form, last, 0, second) for second in range(56, 61)]
+    return frames(form, shown + [values_of(form, first, 0, second) for second in range(3)])
+
+
+def without(pulses: Pulses, *numbers: int) -> Pulses:
+    """Without the pulses of these numbers, from 1."""
+    return [pulse for number, pulse in enumerate(pulses, 1) if number not in numbers]
+
+
+def hole(pulses: Pulses, frame: int, many: int = 1) -> Pulses:
+    """Without the pulses of whole frames, but for the last of them, which begins the next."""
+    return without(pulses, *range(100 * frame + 1, 100 * (frame + many)))
+
+
+def changed(pulses: Pulses, number: int, name: str) -> Pulses:
+    """A pulse of another class."""
+    found = [list(pulse) for pulse in pulses]
+    found[number - 1][1] = found[number - 1][0] + timecode.nominal(10000, name)
+    return found
+
+
+def moved(pulses: Pulses, change: Callable[[int], int]) -> Pulses:
+    return [[change(rise), change(fall)] for rise, fall in pulses]
+
+
+def joined(one: Pulses, other: Pulses, frame: int) -> Pulses:
+    """The first recording up to a frame, the second from there on."""
+    return one[:100 * frame] + other[100 * frame:]
+
+
+def remarks(*lines: str) -> Tuple[str, ...]:
+    """The lines as comments."""
+    return tuple("# " + line for line in lines)
+
+
+def length_of(pulses: Pulses) -> int:
+    """A recording is a whole number of seconds long."""
+    return -(-pulses[-1][1] // SECOND) * SECOND
+
+
+SOUND = steady()
+SET = joined(SOUND, steady(begin=NOON + datetime.timedelta(seconds=1)), 4)  # from frame 4 on a second later
+AGO = NOON - datetime.timedelta(hours=1)
+WITHOUT_ZERO = without(SOUND, 243)  # element 42 of frame 2
+MEND = "insert 2420000 2422000"
+REGEN = "regen 3000000 1 2024-138T12:34:53"
+THIRD, FOURTH = "2024-138T12:34:53", "2024-138T12:34:54"
+NEW_YEAR = datetime.datetime(2023, 12, 31, 23, 59, 57)
+LONG_YEAR = datetime.datetime(2024, 12, 31, 23, 59, 57)
+LONG = "9" * 1001
+SLOW = moved(SOUND, lambda at: at * 51 // 50)
+TURNED = [[one[1], other[0]] for one, other in zip(SOUND, SOUND[1:])]
+
+ROWS = (
+    # what is kept
+    Row("an empty script", "B4", SOUND, [], []),
+    Row("comments and blank lines", "B4", SOUND, ["# one", "", " \t", "  # two"], ["# one", "", " \t", "  # two"]),
+    Row("marks", "B4", SOUND, ["mark a 7", "unmark a"], ["mark a 7", "unmark a"]),
+    Row("a lost pulse", "B4", WITHOUT_ZERO, [MEND], [MEND]),
+    Row("a group", "B4", WITHOUT_ZERO, ["begin", "# why", MEND, "end"], ["begin", "# why", MEND, "end"]),
+    Row("an empty group", "B4", SOUND, ["begin", "end"], ["begin", "end"]),
+    Row("a lost frame", "B4", hole(SOUND, 3), [REGEN], [REGEN]),
+    Row("its first repair alone makes nothing fine", "B4", without(SOUND, 243, 250),
+        ["insert 2490000 2498000", MEND], ["insert 2490000 2498000", MEND]),
+    Row("a new year in a hole", "B4", hole(steady(begin=NEW_YEAR), 3),
+        ["regen 3000000 1 2024-001T00:00:00"], ["regen 3000000 1 2024-001T00:00:00"]),
+    Row("a new year after 366 days", "B4", hole(steady(begin=LONG_YEAR), 3),
+        ["regen 3000000 1 2025-001T00:00:00"], ["regen 3000000 1 2025-001T00:00:00"]),
+    Row("a new year without the year", "B2", hole(steady("B2", begin=LONG_YEAR), 3),
+        ["regen 3000000 1 2024-001T00:00:00"], ["regen 3000000 1 2024-001T00:00:00"]),
+    Row("the frame before a new year", "B2", hole(steady("B2", begin=NEW_YEAR), 2),
+        ["regen 2000000 1 2023-365T23:59:59"], ["regen 2000000 1 2023-365T23:59:59"]),
+    Row("the last frame, by the two before it", "B4", hole(SOUND, 6),
+        ["regen 6000000 1 2024-138T12:34:56"], ["regen 6000000 1 2024-138T12:34:56"]),
+    Row("a clock that is 2 % slow", "B4", without(SLOW, 243),
+        ["insert 2468400 2470440"], ["insert 2468400 2470440"]),
+    Row("the last frame, by a clock that is 2 % slow", "B4", without(SLOW, 643),
+        ["insert 6548400 6550440"], ["insert 6548400 6550440"]),
+    Row("second 60 between others", "B4", without(leap(), 443), ["insert 4420000 4422000"], ["insert 4420000 4422000"]),
+    Row("the first second after second 60", "B4", without(leap(), 543),
+        ["insert 5420000 5422000"], ["insert 5420000 5422000"]),
+    Row("a frame that reads another time", "B6", changed(steady("B6"), 312, "one"), ["312 force zero"], ["312 force zero"]),
+    Row("a control function of a frame that was not fine", "B4", without(SOUND, 363),
+        ["insert 3620000 3625000"], ["insert 3620000 3625000"]),
+    Row("a recording that is upside down", "B4", TURNED,
+        ["invert 0 7000000"], ["invert 0 7000000"]),
+    # frames that were fine
+    Row("a pulse of a frame that is fine", "B4", SOUND, ["343 delete"], ["# 343 delete"]),
+    Row("a rest that is moved", "B4", SOUND, ["601,$ shift 600"],
+        ["# 601,$ shift 600"]),
+    Row("another time", "B6", steady("B6"), ["302 force zero", "312 force one"],
+        ["# 302 force zero", "# 312 force one"]),
+    Row("another time at the end, where one neighbour is", "B6", changed(steady("B6"), 612, "one"), ["612 force zero"],
+        ["# 612 force zero"]),
+    Row("a frame that an earlier repair mended", "B4", WITHOUT_ZERO, [MEND, "243 delete"],
+        [MEND, "# 243 delete"]),
+    Row("a control function of a frame that was fine", "B4", SOUND, ["363 force one"], ["# 363 force one"]),
+    # times
+    Row("a time that is a second off", "B4", hole(SOUND, 3), ["regen 3000000 1 " + FOURTH],
+        ["# regen 3000000 1 " + FOURTH]),
+    Row("a time that only a broken frame leads to", "B4",
+        joined(joined(hole(SOUND, 3, 2), without(steady(begin=AGO), 343), 3), hole(SOUND, 3, 2), 4)[:-100],
+        ["regen 4000000 1 2024-138T11:34:54"],
+        ["# regen 4000000 1 2024-138T11:34:54"]),
+    Row("a time that the frame after it contradicts", "B4", hole(SET, 3), [REGEN],
+        ["# " + REGEN]),
+    Row("a time that the frame before it contradicts", "B4", hole(SET, 3), ["regen 3000000 1 " + FOURTH],
+        ["# regen 3000000 1 " + FOURTH]),
+    Row("second 60 at the end", "B4", without(leap()[:500], 443), ["insert 4420000 4422000"],
+        ["# insert 4420000 4422000"]),
+    Row("half an interval and a thousandth beside its place", "B4", hole(SOUND, 3, 3),
+        ["regen 3007008 2 " + THIRD, "regen 3007007 2 " + THIRD],
+        ["# regen 3007008 2 " + THIRD, "regen 3007007 2 " + THIRD]),
+    # no fine frame
+    Row("two frames alone", "B4", TURNED[:299], ["invert 0 3000000"], ["# invert 0 3000000"]),
+    # lines that are no repair
+    Row("junk", "B4", SOUND, ["hello", "\x00\x01", "+++", LONG, "#" * 1001],
+        ["# hello", "# \x00\x01", "# +++", "# " + LONG[:900],
+         "# " + "#" * 900]),
+    Row("lines that a repair may not have", "B4", SOUND, ["write", "save", "undo", "redo", ",list", "7", "frames"],
+        remarks("write", "save", "undo", "redo", ",list", "7", "frames")),
+    Row("more of them", "B4", SOUND, ["marks", "info", "quit", "format B 2", "end", "abort"],
+        remarks("marks", "info", "quit", "format B 2", "end", "abort")),
+    Row("a line after `quit`", "B4", WITHOUT_ZERO, ["quit", MEND], ["# quit", MEND]),
+    Row("a refused line", "B4", SOUND, ["9999 delete"], ["# 9999 delete"]),
+    Row("a group with a refused line", "B4", WITHOUT_ZERO, ["begin", MEND, "9999 delete", "end"],
+        [*remarks("begin", MEND, "9999 delete", "end")]),
+    Row("a group that is not safe", "B4", WITHOUT_ZERO, ["begin", MEND, "443 delete", "end"],
+        [*remarks("begin", MEND, "443 delete", "end")]),
+    Row("a group that is safe as a whole", "B4", SOUND, ["begin", "343 delete", "insert 3420000 3422000", "end"],
+        ["begin", "343 delete", "insert 3420000 3422000", "end"]),
+    Row("a group without an end", "B4", WITHOUT_ZERO, ["begin", MEND], [*remarks("begin", MEND)]),
+    Row("a group that is aborted", "B4", WITHOUT_ZERO, ["begin", MEND, "abort"],
+        [*remarks("begin", MEND, "abort")]),
+    Row("a group in a group", "B4", WITHOUT_ZERO, ["begin", "begin", MEND, "end", "end"],
+        [*remarks("begin", "begin", MEND, "end"), "# end"]),
+    Row("a group with a `write`", "B4", WITHOUT_ZERO, ["begin", MEND, "write", "end"],
+        [*remarks("begin", MEND, "write", "end")]),
+    Row("what is dropped leaves nothing behind", "B4", WITHOUT_ZERO, ["343 delete", "mark a 2420000", "insert 'a 2422000"],
+        ["# 343 delete", "mark a 2420000", "insert 'a 2422000"]),
+)
