@@ -2,6 +2,7 @@
 import json
 import os
 import tempfile
+from unittest import mock
 
 from cases import case
 from irig_tools import damage_program, facts, mend_program
@@ -151,6 +152,22 @@ def saved():
     return in_folder(holds, rec=damages.dump(recorded(glitch), END))
 
 
+def guarded():
+    """A guard next to the editor runs the script; what it refuses is counted. With --move the editor runs it."""
+    def holds():
+        os.symlink(os.path.abspath(os.environ["IRIG_ED"]), "irig_ed")
+        with open("irig_guard", "w", encoding="ascii") as file:
+            file.write('#!/bin/sh\nwhile [ "$1" != --out ]; do shift; done; cp "$3" "$2"; sed "/^#/!s/^/# /"; exit 1\n')
+        os.chmod("irig_guard", 0o755)
+        with mock.patch.dict(os.environ, IRIG_ED=os.path.abspath("irig_ed")):
+            for words, status, text in (("", 1, "1 place found, 0 repaired, 0 undecided, 1 left, 0 steps that stay, 1 line refused"),
+                                        ("--move", 0, "1 place found, 1 repaired, 0 undecided, 0 left, 0 steps that stay;")):
+                got, said, _ = run("irig_mend", ["--expression=4", *words.split(), "--apply", "new.vcd", "rec.vcd"])
+                yield same("a guard " + words, (got, text in said.decode()), (status, True))
+
+    return in_folder(lambda: list(holds()), rec=damages.dump(recorded(glitch), END))
+
+
 REFUSED = (
     ("--apply rec.vcd rec.vcd", "--apply rec.vcd would write over the file that is read"),
     ("--apply two.vcd --into two.vcd rec.vcd", "--apply two.vcd would write over the file that is read"),
@@ -219,4 +236,4 @@ def kinds():
 def cases(top):
     """Each part by its name."""
     return [*(case("apply: " + row[0], applied, *row) for row in APPLIED),
-            *(case("apply: " + part.__name__, part) for part in (into, late_times, saved, refused, objects, kinds))]
+            *(case("apply: " + part.__name__, part) for part in (into, late_times, saved, guarded, refused, objects, kinds))]

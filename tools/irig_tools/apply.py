@@ -63,19 +63,40 @@ def summary(before: Sequence[Damage], after: Sequence[Damage], script: Sequence[
                    sum(bool(each.edits) for each in doubts), refused, frames[0], frames[1])
 
 
-def run_script(track: Opened, lines: Sequence[str], end: str, out: str) -> int:
-    """Runs a script on the track and writes a file by its last word, `write` or `save`; how many lines were refused.
-    Which program runs it is decided here alone."""
-    command = [find_editor(), *track.options, "--out", out, track.path]
+def find_guard() -> Optional[str]:
+    """The path of irig_guard: the one next to the editor, else the one of the repository, if it is built."""
+    tools = os.path.dirname(os.path.dirname(os.path.realpath(__file__)))
+    beside = os.path.join(os.path.dirname(shutil.which(find_editor()) or ""), "irig_guard")
+    return shutil.which(beside) or shutil.which(os.path.join(tools, "../crates/irig_guard/out/irig_guard"))
+
+
+def run_script(track: Opened, lines: Sequence[str], save: bool, out: str, is_guarded: bool) -> int:
+    """Runs a script on the track and writes a file, with its history if `save`; how many lines were refused. Which
+    program runs it is decided here alone: irig_guard, if it is there and the script moves nothing, else the editor."""
+    guard = find_guard() if is_guarded else None
+    if guard:
+        return _refused_by_guard(lines, _run([guard, *track.options, *["--save"] * save], track, lines, out))
+    said = _run([find_editor(), *track.options], track, [*lines, "save" if save else "write"], out)
+    return sum(line.startswith("? ") for line in said)
+
+
+def _run(command: List[str], track: Opened, lines: Sequence[str], out: str) -> List[str]:
+    """The lines that a program prints that runs a script on the track and writes a file."""
     try:
-        with given("".join(line + "\n" for line in [*lines, end])) as script:
-            done = subprocess.run(command, stdin=script, capture_output=True, check=False)
+        with given("".join(line + "\n" for line in lines)) as script:
+            done = subprocess.run([*command, "--out", out, track.path], stdin=script, capture_output=True, check=False)
     except OSError as error:
         raise Problem("%s cannot be run: %s" % (command[0], error.strerror)) from error
     said = done.stderr.decode(errors="replace").strip()
     if done.returncode > 1 or not os.path.exists(out):
         raise Problem(said or "%s ended with status %d" % (command[0], done.returncode))
-    return sum(line.startswith(b"? ") for line in done.stdout.splitlines())
+    return done.stdout.decode(errors="replace").splitlines()
+
+
+def _refused_by_guard(lines: Sequence[str], kept: Sequence[str]) -> int:
+    """How many lines of the script it printed as comments."""
+    return sum(not line.startswith("#") and line not in ("begin", "end") and after == "# " + line
+               for line, after in zip(lines, kept))
 
 
 def sound_frames(options: Sequence[str], path: str) -> int:

@@ -125,8 +125,8 @@ def apply(given: Given, track: Opened, script: List[Repair], progress: Progress)
     target = Target(given.text(APPLY) or "", given.text(INTO), given.text(WIRE) or track.wire, given.text(TIMESCALE),
                     given.number(DUMP))
     with temporary() as folder:
-        repaired, end = os.path.join(folder, "repaired.vcd"), "save" if given.has(SAVE) else "write"
-        refused = run_script(track, [line for repair in script for line in repair.lines()], end, repaired)
+        repaired, proposed = os.path.join(folder, "repaired.vcd"), [line for each in script for line in each.lines()]
+        refused = run_script(track, proposed, given.has(SAVE), repaired, not given.has(MOVE))
         before = look(Editor(track.words), progress, given.has(STEADY))
         after = look(Editor([*track.code, repaired]), progress, given.has(STEADY))
         frames = sound_frames(track.options, track.path), sound_frames(track.code, repaired)
