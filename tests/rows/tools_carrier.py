@@ -428,7 +428,7 @@ def sound_files():
     two = array("h", [part for value in values for part in (0, value)]).tobytes()
     ds64, ds_0, ds_large = (b"ds64" + struct.pack("<IQQQI", 28, 0, size, 0, 0) for size in (len(whole), 0, 10**12))
     notes = b"LIST" + struct.pack("<I", 3) + b"abc\0"
-    after = b"LIST" + struct.pack("<I", 4000) + b"\x7f" * 4000
+    after = b"LIST" + struct.pack("<I", 4000) + whole[:4000]  # more of the signal
     files = (
         ("32 bits", [], riff(long, size=4)), ("float 32", [], riff(floats, 3, 4)), ("float 64", [], riff(double, 3, 8)),
         ("extensible 16", [], riff(whole, extensible=True)), ("extensible 24", [], riff(wide, size=3, extensible=True)),
