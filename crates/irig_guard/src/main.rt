@@ -1,4 +1,4 @@
-//! A guard for repairs of a recorded time track: keeps those that make no frame wrong.
+//! A guard for repairs of a recorded time track: keeps those that give no frame a wrong time.
 #![tactic(auto)]
 
 mod asked;
