@@ -140,7 +140,7 @@ def passes():
 
 
 def silent():
-    """100,000 wires that are silent take less than 60 million bytes."""
+    """100,000 wires that are silent take less than 50 million bytes."""
     codes = ["".join(chr(33 + number // 94 ** place % 94) for place in range(3)) for number in range(100000)]
     text = "".join("$var wire 1 %s wire_%d $end\n" % (code, number) for number, code in enumerate(codes))
     text += "$enddefinitions $end\n#0\n" + "".join("0%s\n" % code for code in codes) + "#9\n"
@@ -152,7 +152,7 @@ def silent():
         done = subprocess.run([sys.executable, "-c", watch, os.path.join(TOP, "tools"), file.name], stdin=subprocess.DEVNULL,
                               stdout=subprocess.PIPE, text=True, check=False)
     lines = done.stdout.split("\n")
-    good = lines[0].startswith("no wire of 100000") and int(lines[1]) * 1024 < 60e6
+    good = lines[0].startswith("no wire of 100000") and int(lines[1]) * 1024 < 50e6
     good or print("FAILED irig_what, silent wires: %s" % lines)
     return good
 

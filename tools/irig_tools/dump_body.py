@@ -15,7 +15,7 @@ PORTS = {"D": "0", "d": "0", "L": "0", "l": "0", "0": "0", "U": "1", "u": "1", "
          "T": "z", "F": "z", "Z": "z"}
 LETTERS = {**PLAIN, **STRONG}
 SCALAR = frozenset(map(ord, LETTERS))
-MOST_KEPT = 1 << 14  # words whose meaning is kept
+MOST_KEPT = 1 << 13  # words whose meaning is kept
 PAIRS = frozenset(b"bBrRsS")
 SKIPPED = BODY | {b"$end"}
 

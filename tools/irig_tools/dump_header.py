@@ -3,7 +3,7 @@ from __future__ import annotations
 
 import re
 from dataclasses import dataclass, field
-from typing import List, NamedTuple, Optional, Tuple
+from typing import Dict, Iterator, List, NamedTuple, Optional, Tuple
 
 from .dump_offset import Offset, read_offset
 from .dump_source import Source
@@ -23,6 +23,9 @@ def shown(word: bytes) -> str:
     return "".join(letter if letter.isprintable() else "\ufffd" for letter in text)
 
 
+Shape = Tuple[int, int, int, bool]  # of a wire: its size, its first and its last bit, whether it is made of bits
+
+
 class Wire(NamedTuple):
     """A variable of a dump, of one bit or more."""
 
@@ -38,12 +41,37 @@ class Wire(NamedTuple):
         return self.size == 1 and self.bits
 
 
+class Wires:
+    """The wires of a dump in their order, in columns: so one takes a third less memory, and wires of one shape share it."""
+
+    def __init__(self) -> None:
+        self.codes: List[bytes] = []
+        self.paths: List[str] = []
+        self.shapes: List[Shape] = []
+        self.known: Dict[Shape, Shape] = {}
+
+    def append(self, wire: Wire) -> None:
+        shape = wire[2:]
+        self.codes.append(wire.code)
+        self.paths.append(wire.path)
+        self.shapes.append(self.known.setdefault(shape, shape))
+
+    def __len__(self) -> int:
+        return len(self.codes)
+
+    def __getitem__(self, place: int) -> Wire:
+        return Wire(self.codes[place], self.paths[place], *self.shapes[place])
+
+    def __iter__(self) -> Iterator[Wire]:
+        return map(self.__getitem__, range(len(self)))
+
+
 @dataclass
 class Header:
     """What is declared."""
 
     unit: Optional[str] = None
-    wires: List[Wire] = field(default_factory=list)
+    wires: Wires = field(default_factory=Wires)
     notes: List[str] = field(default_factory=list)
     offset: Optional[Offset] = None  # what was subtracted when it was cut out
 
