@@ -1,11 +1,9 @@
 -- All numbers but the control functions have at most 17 bits.
 use Rattle.std.proofs.Common.{ℕ, zero, suc, ◌<◌, ◌≤◌, Bool, true, false, List, [], ◌∷◌, get_or, arith}
-use Rattle.irig_codes.specs.Format.{FormatView, has_year, carries_sbs}
 use Rattle.irig_codes.specs.declared.note.Name.TheVariants.{Hundredths, Seconds, Year}
-use Rattle.irig_codes.specs.Layout.{runs}
 use Rattle.irig_codes.specs.OnesDigits.{digit_in, sbs_in, digits_in}
-use Rattle.irig_codes.specs.declared.format.Kind.{Kind}
 use Rattle.irig_codes.specs.declared.format.Kind.TheVariants.{A, B, E, G}
+use Rattle.irig_codes.specs.{Format.FormatView, Format.has_year, Format.carries_sbs, Layout.runs, declared.format.Kind.Kind}
 
 -- all but the control functions have at most 17 bits
 abbrev Small : ℕ → List ℕ → Type 0

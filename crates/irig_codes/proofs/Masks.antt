@@ -1,15 +1,9 @@
 -- The masks of used elements, by kind and expression.
 use Rattle.std.proofs.Common.{◌≡◌, ℕ, ◌<◌, List, get_or, true, ap, subst, sym, ◌∙◌, arith}
-use Rattle.std.proofs.lemmas.Bool.Decides.{nat_tests}
-use Rattle.std.proofs.lemmas.List.FromFn.{get_or-map-range_with_len}
-use Rattle.std.specs.Bool.{IsTrue}
-use Rattle.irig_codes.specs.Format.{FormatView, is_permitted}
-use Rattle.irig_codes.specs.Slots.{slots_at}
-use Rattle.irig_codes.specs.Used.{masks_of, used_in, used_of}
-use Rattle.std.proofs.lemmas.Slice.Eq.{bytes_eq-Decides}
-use Rattle.std.specs.Str.{bytes_eq}
-use Rattle.irig_codes.specs.declared.format.Kind.{Kind}
+use Rattle.std.proofs.lemmas.{Bool.Decides.nat_tests, List.FromFn.get_or-map-range_with_len, Slice.Eq.bytes_eq-Decides}
+use Rattle.std.specs.{Bool.IsTrue, Str.bytes_eq}
 use Rattle.irig_codes.specs.declared.format.Kind.TheVariants.{A, B, E, G}
+use Rattle.irig_codes.specs.{Format.FormatView, Format.is_permitted, Slots.slots_at, Used.masks_of, Used.used_in, Used.used_of, declared.format.Kind.Kind}
 
 -- a permitted expression is one of eight
 pub permitted-below : (k : Kind) (n : ℕ) → IsTrue (is_permitted k n) → n < 8

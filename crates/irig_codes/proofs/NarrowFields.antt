@@ -1,15 +1,10 @@
 -- The numbers of a frame that was read are no larger than the weights of their rows together.
 use Rattle.std.proofs.Common.{ℕ, ◌+◌, ◌≤◌, ◌-◌, ◌^◌, Bool, true, false, cond, List, [], ◌∷◌, unwrap_or, arith}
-use Rattle.irig_codes.specs.Fields.{part}
 use Rattle.irig_codes.specs.Format.{FormatView, has_hundredths, has_control, has_sbs, has_year, carries_sbs}
-use Rattle.irig_codes.specs.Layout.{decimal, sbs, control, rows_of, table}
-use Rattle.irig_codes.specs.Runs.{Row}
-use Rattle.irig_codes.specs.Narrow.{AreNarrow}
-use Rattle.irig_codes.specs.Reading.{fields_read, is_one, sum_of, value_of}
-use Rattle.irig_codes.specs.declared.format.Kind.{Kind}
 use Rattle.irig_codes.specs.declared.format.Kind.TheVariants.{A, B, E, G}
 use Rattle.irig_codes.specs.declared.note.Name.TheVariants.{Hundredths, Seconds, Minutes, Hours, Days, Year}
-use Rattle.irig_codes.specs.declared.width.Element.{Element}
+use Rattle.irig_codes.specs.{Fields.part, Layout.decimal, Layout.sbs, Layout.control, Layout.rows_of, Layout.table, Runs.Row, Narrow.AreNarrow}
+use Rattle.irig_codes.specs.{Reading.fields_read, Reading.is_one, Reading.sum_of, Reading.value_of, declared.format.Kind.Kind, declared.width.Element.Element}
 
 -- the weights of rows together
 abbrev total : List Row → ℕ

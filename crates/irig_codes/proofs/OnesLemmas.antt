@@ -1,26 +1,18 @@
 -- The elements that are One as the bits of a number.
-use Rattle.std.proofs.Common.{◌≡◌, ℕ, zero, suc, ◌+◌, ◌*◌, ◌/◌, ◌%◌, ◌^◌, ◌<◌, Bool, true, false, cond, List, [], ◌∷◌, get_or, length, refl, sym, ap, ap₂}
-use Rattle.std.proofs.Common.{◌∙◌, arith, lit<}
+use Rattle.std.proofs.Common.{◌≡◌, ℕ, zero, suc, ◌+◌, ◌*◌, ◌/◌, ◌%◌, ◌^◌, ◌<◌, Bool, true, false, cond, List, [], ◌∷◌, get_or, length, refl, sym, ap, ap₂, ◌∙◌}
+use Rattle.std.proofs.Common.{arith, lit<}
 use Rattle.std.specs.Int.{bit_at}
-use Rattle.std.proofs.Math.Arith.{mod-mul}
-use Rattle.std.proofs.Math.Nat.{mod-one, mul-zero, one-mul, div-div-eq-div-mul, pow-suc}
-use Rattle.std.proofs.lemmas.Nat.{pow-add, pow_pos}
-use Rattle.std.proofs.lemmas.Nat.Bits.{bit_at-suc, bit_at-zero}
+use Rattle.std.proofs.{Math.Arith.mod-mul, Math.Nat.mod-one, Math.Nat.mul-zero, Math.Nat.one-mul, Math.Nat.div-div-eq-div-mul, Math.Nat.pow-suc}
+use Rattle.std.proofs.lemmas.{Nat.pow-add, Nat.pow_pos, Nat.Bits.bit_at-suc, Nat.Bits.bit_at-zero}
 use Rattle.irig_codes.specs.Format.{FormatView, has_control, has_sbs, has_year, carries_sbs}
 use Rattle.irig_codes.specs.Layout.{decimal, sbs, control, table, runs, sbs_runs, control_rows, control_starts}
-use Rattle.irig_codes.specs.Runs.{Row, Run, doubling, rows}
-use Rattle.irig_codes.specs.Ones.{ones_of, bits_in}
 use Rattle.irig_codes.specs.OnesDigits.{digit_in, whole_in, sbs_in, control_number, control_in, digits_in}
-use Rattle.irig_codes.specs.Reading.{counts, is_one, sum_of}
-use Rattle.irig_codes.specs.Slots.{slots_at}
-use Rattle.irig_codes.specs.Digits.{digits_read, value_at}
-use Rattle.irig_codes.proofs.SlotRoundTrip.{same15}
-use Rattle.irig_codes.proofs.Tables.{scaled, number_rows, of_unit}
-use Rattle.irig_codes.proofs.RowSums.{sum-append, sum-digit, digits-are, value-sbs, value-control}
-use Rattle.irig_codes.specs.declared.format.Kind.{Kind}
 use Rattle.irig_codes.specs.declared.format.Kind.TheVariants.{A, B, E, G}
 use Rattle.irig_codes.specs.declared.note.Name.TheVariants.{Hundredths, Seconds, Year}
-use Rattle.irig_codes.specs.declared.width.Element.{Element}
+use Rattle.irig_codes.specs.{Runs.Row, Runs.Run, Runs.doubling, Runs.rows, Ones.ones_of, Ones.bits_in, Reading.counts, Reading.is_one, Reading.sum_of}
+use Rattle.irig_codes.specs.{Slots.slots_at, Digits.digits_read, Digits.value_at, declared.format.Kind.Kind, declared.width.Element.Element}
+use Rattle.irig_codes.proofs.RowSums.{sum-append, sum-digit, digits-are, value-sbs, value-control}
+use Rattle.irig_codes.proofs.{SlotRoundTrip.same15, Tables.scaled, Tables.number_rows, Tables.of_unit}
 
 -- bit k is element k
 pub bit-ones : (es : List Element) (k : ℕ) → bit_at (ones_of es) k ≡ cond (is_one es k) 1 0

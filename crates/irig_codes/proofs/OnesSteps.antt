@@ -3,12 +3,8 @@ use Rattle.std.proofs.Common.{◌≡◌, ℕ, suc, ◌+◌, ◌-◌, ◌*◌, �
 use Rattle.std.proofs.Common.{arith}
 use mir.Val.{bool_byte}
 use Rattle.std.proofs.Math.Nat.{pow-suc}
-use Rattle.std.proofs.lemmas.Nat.{pow-add}
-use Rattle.std.proofs.lemmas.List.{drop_more, length-append}
-use Rattle.irig_codes.specs.Ones.{ones_of, raised}
-use Rattle.irig_codes.specs.Reading.{counts}
-use Rattle.irig_codes.specs.declared.width.Element.{Element}
-use Rattle.irig_codes.specs.declared.width.Element.TheVariants.{Zero}
+use Rattle.std.proofs.lemmas.{Nat.pow-add, List.drop_more, List.length-append}
+use Rattle.irig_codes.specs.{Ones.ones_of, Ones.raised, Reading.counts, declared.width.Element.Element, declared.width.Element.TheVariants.Zero}
 
 -- a number grows from its last element on
 pub ones-drop : (es : List Element) (i : ℕ) → i < length es → ones_of (drop i es) ≡ cond (counts (get_or es i Zero)) 1 0 + 2 * ones_of (drop (i + 1) es)

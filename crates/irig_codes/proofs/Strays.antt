@@ -6,17 +6,11 @@ use Rattle.std.specs.Prelude.{min}
 use Rattle.std.proofs.lemmas.Nat.{and_le_r}
 use Rattle.std.proofs.lemmas.Nat.Bits.{bit_at-suc, bit_at-zero, bit_at-lt, bit_at_and, bit_at_not, bit_at-trailing_zeros}
 use Rattle.irig_codes.specs.Format.{FormatView, has_control, has_sbs, has_year}
-use Rattle.irig_codes.specs.Ones.{ones_of, IsLowestOutside}
-use Rattle.irig_codes.specs.Used.{used_of}
-use Rattle.irig_codes.specs.Reading.{counts, is_one}
-use Rattle.irig_codes.specs.Slots.{slots_at}
-use Rattle.irig_codes.specs.Wrong.{is_stray_at, stray_from}
-use Rattle.irig_codes.proofs.Slots.{length-slots}
-use Rattle.irig_codes.specs.declared.layout.Slot.{Slot}
 use Rattle.irig_codes.specs.declared.layout.Slot.TheVariants.{Identifier, Unused, Bit}
-use Rattle.irig_codes.specs.declared.width.Element.{Element}
 use Rattle.irig_codes.specs.declared.width.Element.TheVariants.{Zero, One, Position}
-use Rattle.irig_codes.proofs.OnesLemmas.{bit-ones}
+use Rattle.irig_codes.specs.{Ones.ones_of, Ones.IsLowestOutside, Used.used_of, Reading.counts, Reading.is_one, Slots.slots_at, Wrong.is_stray_at}
+use Rattle.irig_codes.specs.{Wrong.stray_from, declared.layout.Slot.Slot, declared.width.Element.Element}
+use Rattle.irig_codes.proofs.{Slots.length-slots, OnesLemmas.bit-ones}
 
 -- whether a slot carries a bit
 abbrev is_bit : Slot → Bool

@@ -2,12 +2,10 @@
 use Rattle.std.proofs.Common.{◌≡◌, ◌≤◌, ◌<◌, ◌*◌, ◌/◌, true, nat_le, [], ◌∷◌, Some, refl, arith}
 use Rattle.std.specs.Prelude.{find}
 use Rattle.std.specs.Int.{abs_diff}
-use Rattle.irig_codes.specs.Format.{FormatView, interval_of, frame_period_of}
 use Rattle.irig_codes.specs.Width.{band_of, class_of, is_in_band, is_in_step, nominal_of, tenths_of}
-use Rattle.irig_codes.specs.declared.format.Kind.{Kind}
 use Rattle.irig_codes.specs.declared.format.Kind.TheVariants.{A, B, E, G}
-use Rattle.irig_codes.specs.declared.width.Element.{Element}
 use Rattle.irig_codes.specs.declared.width.Element.TheVariants.{Zero, One, Position}
+use Rattle.irig_codes.specs.{Format.FormatView, Format.interval_of, Format.frame_period_of, declared.format.Kind.Kind, declared.width.Element.Element}
 
 -- a frame takes ten seconds at most, in hundredths
 pub frame_period_of-le : (k : Kind) → frame_period_of k / 10000 ≤ 1000

@@ -2,8 +2,7 @@
 use Rattle.std.specs.Prelude.{◌≡◌, ℕ, ◌+◌, ◌-◌, ◌*◌, ◌/◌, ◌%◌, ◌^◌, ◌<◌, if◌then◌else◌, List, []}
 use Rattle.std.specs.Prelude.{◌∷◌, length, Option, Some, None}
 use Rattle.std.specs.Int.{bit_at}
-use Rattle.irig_codes.specs.declared.width.Element.{Element}
-use Rattle.irig_codes.specs.Reading.{counts}
+use Rattle.irig_codes.specs.{declared.width.Element.Element, Reading.counts}
 
 -- the elements that are One: element k is bit k
 abbrev pub ones_of : List Element → ℕ

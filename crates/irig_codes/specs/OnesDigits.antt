@@ -1,13 +1,11 @@
 -- The fifteen numbers that a frame carries, from its elements that are One as the bits of a
 -- number: element k is bit k. This project's own.
 use Rattle.std.specs.Prelude.{ℕ, ◌+◌, ◌*◌, ◌==◌, Bool, true, false, if◌then◌else◌, List, [], ◌∷◌}
-use Rattle.irig_codes.specs.declared.format.Kind.{Kind}
 use Rattle.irig_codes.specs.declared.note.Name.TheVariants.{Hundredths, Seconds, Minutes, Hours}
 use Rattle.irig_codes.specs.declared.note.Name.TheVariants.{Days, Year}
 use Rattle.irig_codes.specs.Format.{FormatView, has_control, has_year, carries_sbs}
 use Rattle.irig_codes.specs.Layout.{runs, sbs_runs, control_starts}
-use Rattle.irig_codes.specs.Runs.{Run}
-use Rattle.irig_codes.specs.Ones.{bits_in}
+use Rattle.irig_codes.specs.{declared.format.Kind.Kind, Runs.Run, Ones.bits_in}
 
 -- the number in the run whose first weight is w; 0 without one
 abbrev pub digit_in : ℕ → ℕ → List Run → ℕ

@@ -2,11 +2,9 @@
 -- This project's own.
 use Rattle.std.specs.Prelude.{ℕ, ◌+◌, ◌*◌, List, [], ◌∷◌, map}
 use Rattle.std.specs.List.{range_with_len}
-use Rattle.irig_codes.specs.declared.format.Kind.{Kind}
-use Rattle.irig_codes.specs.declared.layout.Slot.{Slot}
 use Rattle.irig_codes.specs.declared.layout.Slot.TheVariants.{Identifier, Unused, Bit}
 use Rattle.irig_codes.specs.Format.{has_control, has_sbs, has_year}
-use Rattle.irig_codes.specs.Slots.{slots_of}
+use Rattle.irig_codes.specs.{declared.format.Kind.Kind, declared.layout.Slot.Slot, Slots.slots_of}
 
 -- the slots that carry a bit
 abbrev pub used_of : List Slot → ℕ

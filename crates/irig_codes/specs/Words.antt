@@ -2,10 +2,9 @@
 -- 200-04; the words are this project's own.
 use Rattle.std.specs.Prelude.{ℕ, List, [], ◌∷◌, codes, find, Option, Some, None}
 use Rattle.std.specs.Str.{bytes_eq}
-use Rattle.irig_codes.specs.declared.format.Kind.{Kind}
 use Rattle.irig_codes.specs.declared.format.Kind.TheVariants.{A, B, E, G}
-use Rattle.irig_codes.specs.declared.width.Element.{Element}
 use Rattle.irig_codes.specs.declared.width.Element.TheVariants.{Zero, One, Position}
+use Rattle.irig_codes.specs.{declared.format.Kind.Kind, declared.width.Element.Element}
 
 -- the letter of a kind of time code
 abbrev pub kind_word : Kind → List ℕ

@@ -3,12 +3,9 @@
 ghost use Rattle.std.specs.Prelude.{◌≡◌, List, length, ◌||◌, ◌==◌, nat_lt};
 ghost use Rattle.irig_codes.specs.declared.layout.Digit.TheVariants.{DaysUnits, DaysTens};
 ghost use Rattle.irig_codes.specs.declared.layout.Digit.TheVariants.{DaysHundreds};
-ghost use Rattle.irig_codes.specs.Decoding.{decoded};
-ghost use Rattle.irig_codes.specs.Notes.{note_of, sbs_disagrees};
-ghost use Rattle.irig_codes.specs.declared.width.Element.{Element};
-ghost use Rattle.irig_codes.specs.Ones.{ones_of};
-ghost use Rattle.irig_codes.specs.Slots.{slots_at};
 ghost use Rattle.irig_codes.specs.Wrong.{first_wrong_field, over, stray_from};
+ghost use Rattle.irig_codes.specs.{Decoding.decoded, Notes.note_of, Notes.sbs_disagrees};
+ghost use Rattle.irig_codes.specs.{declared.width.Element.Element, Ones.ones_of, Slots.slots_at};
 
 use crate::digits::{digit, fields_from};
 use crate::fields::Fields;

@@ -2,8 +2,7 @@
 
 ghost use Rattle.std.specs.Prelude.{◌≡◌, ◌<◌, ◌++◌, ◌∷◌, [], List, length};
 ghost use Rattle.irig_codes.specs.declared.width.Element.{Element};
-ghost use Rattle.irig_codes.specs.Ones.{ones_of, raised};
-ghost use Rattle.irig_codes.specs.Reading.{counts};
+ghost use Rattle.irig_codes.specs.{Ones.ones_of, Ones.raised, Reading.counts};
 
 use crate::ones::Ones;
 use std::marker::Model;

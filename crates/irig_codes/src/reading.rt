@@ -1,11 +1,10 @@
 //! The fifteen numbers that a frame carries, by its elements that are One.
 
 ghost use Rattle.std.specs.Prelude.{◌≡◌, ◌<◌, ◌+◌, ◌*◌, ◌^◌, [], ◌∷◌, false};
-ghost use Rattle.irig_codes.specs.Ones.{bits_in};
 ghost use Rattle.irig_codes.specs.OnesDigits.{control_number, digit_in, sbs_in, control_in};
 ghost use Rattle.irig_codes.specs.OnesDigits.{digits_in};
-ghost use Rattle.irig_codes.specs.Layout.{runs};
 ghost use Rattle.irig_codes.specs.declared.note.Name.TheVariants.{Hundredths, Seconds, Year};
+ghost use Rattle.irig_codes.specs.{Ones.bits_in, Layout.runs};
 
 use crate::format::{Format, Kind};
 use crate::ones::Ones;

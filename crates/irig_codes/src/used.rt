@@ -1,8 +1,7 @@
 //! The elements of a format that carry a bit, as masks: by kind and expression.
 
 ghost use Rattle.std.specs.Prelude.{◌≡◌};
-ghost use Rattle.irig_codes.specs.Slots.{slots_at};
-ghost use Rattle.irig_codes.specs.Used.{masks_of, used_of};
+ghost use Rattle.irig_codes.specs.{Slots.slots_at, Used.masks_of, Used.used_of};
 
 use crate::format::{Format, Kind};
 use crate::table;

@@ -4,8 +4,7 @@ ghost use Rattle.std.specs.Prelude.{◌≡◌, ◌≤◌, MatchOption, Some, len
 ghost use Rattle.std.specs.Str.{bytes_eq};
 ghost use Rattle.irig_codes.specs.Words.{class_word, element_named, element_word, kind_named};
 ghost use Rattle.irig_codes.specs.Words.{kind_word};
-ghost use Rattle.irig_codes.specs.declared.format.Kind.{Kind};
-ghost use Rattle.irig_codes.specs.declared.width.Element.{Element};
+ghost use Rattle.irig_codes.specs.{declared.format.Kind.Kind, declared.width.Element.Element};
 
 use crate::format::Kind;
 use crate::width::Element;

@@ -1,8 +1,7 @@
 //! The text of a session with its journal.
 
 ghost use Rattle.std.specs.Prelude.{◌≡◌, IfOk};
-ghost use Rattle.irig_edit.specs.Saved.SavedSession.{saved_text};
-ghost use Rattle.irig_edit.specs.Session.Session.{work_in};
+ghost use Rattle.irig_edit.specs.{Saved.SavedSession.saved_text, Session.Session.work_in};
 
 mod change_lines;
 mod stage;

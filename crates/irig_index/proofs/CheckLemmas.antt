@@ -1,14 +1,11 @@
 -- No two pulses next to each other within a frame are both position identifiers: the next marker ends a check.
-use Rattle.std.proofs.Common.{◌≡◌, ℕ, ◌+◌, ◌-◌, ◌%◌, ◌==◌, ◌<◌, ◌≤◌, true, false, cond, List, [], Option, Some, None, slice_get, refl, sym, ap}
-use Rattle.std.proofs.Common.{subst, ◌∙◌, ◌⊎◌, inl, inr, arith}
+use Rattle.std.proofs.Common.{◌≡◌, ℕ, ◌+◌, ◌-◌, ◌%◌, ◌==◌, ◌<◌, ◌≤◌, true, false, cond, List, [], Option, Some, None, slice_get, refl, sym, ap, subst, ◌∙◌, ◌⊎◌}
+use Rattle.std.proofs.Common.{inl, inr, arith}
 use Rattle.std.proofs.lemmas.Bool.{cases_Bool, cases_lt, eqb-false, eqb-true, ne_eqb}
-use Rattle.irig_codes.specs.declared.width.Element.{Element}
 use Rattle.irig_codes.specs.declared.width.Element.TheVariants.{Zero, One, Position}
-use Rattle.irig_codes.specs.Format.{FormatView}
+use Rattle.irig_codes.specs.{declared.width.Element.Element, Format.FormatView}
 use Rattle.irig_recording.specs.declared.pulse.Pulse.{Pulse}
-use Rattle.irig_index.specs.Frames.{record_after}
-use Rattle.irig_index.specs.Marker.{class_at, is_digit, is_position}
-use Rattle.irig_index.specs.Verdict.{suits}
+use Rattle.irig_index.specs.{Frames.record_after, Marker.class_at, Marker.is_digit, Marker.is_position, Verdict.suits}
 use Rattle.irig_index.proofs.FrameLemmas.{record_after-beside, record_after-other}
 
 -- a digit is no position identifier

@@ -1,9 +1,8 @@
 -- Records that are cut out from between others.
 use Rattle.std.proofs.Common.{◌≡◌, ℕ, ◌≤◌, List, [], ◌∷◌, ◌++◌, sym, ap, ◌∙◌, arith}
 use Rattle.irig_gap.specs.Items.{GapView}
-use Rattle.irig_index.specs.declared.record.Record.{Record}
-use Rattle.irig_index.specs.Cuts.{Cut, Parts}
 use Rattle.irig_index.specs.Sides.{left_of, right_of, shown, EndsUpTo, BeginsAfter, AllUpTo, AllAfter, Dropped}
+use Rattle.irig_index.specs.{declared.record.Record.Record, Cuts.Cut, Cuts.Parts}
 use Rattle.irig_index.proofs.MarkerBounds.{AllAfter-append, AllAfter-less, AllUpTo-ends, parted_same}
 
 -- if records up to a number go from records after it, nothing goes

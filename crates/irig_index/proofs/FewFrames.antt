@@ -2,22 +2,14 @@
 use Rattle.std.proofs.Common.{◌≡◌, ℕ, ℤ, ◌+◌, ◌-◌, ◌≤◌, ◌&&◌, Bool, true, false, cond, List, [], ◌∷◌, ◌++◌, length, map, take, drop, refl, ap, sym, ◌∙◌, arith}
 use Rattle.std.proofs.Common.{length-append, slice_get, Some}
 use Rattle.std.proofs.lemmas.List.{length-map}
-use Rattle.irig_codes.specs.Format.{FormatView}
-use Rattle.irig_codes.specs.Width.{class_of, is_in_step}
+use Rattle.irig_codes.specs.{Format.FormatView, Width.class_of, Width.is_in_step}
 use Rattle.irig_recording.specs.declared.pulse.Pulse.{Pulse}
-use Rattle.irig_track.specs.Edges.{edges_of}
-use Rattle.irig_track.specs.Shifts.{StaysFromZero, ahead, back, moved as moved_pulses, moved_pulse}
-use Rattle.irig_track.proofs.Carried.{length-piece}
-use Rattle.irig_track.proofs.Laws.{parts}
-use Rattle.irig_index.specs.declared.record.Record.{Record}
+use Rattle.irig_track.specs.{Edges.edges_of, Shifts.StaysFromZero, Shifts.ahead, Shifts.back, Shifts.moved as moved_pulses, Shifts.moved_pulse}
+use Rattle.irig_track.proofs.{Carried.length-piece, Laws.parts}
 use Rattle.irig_index.specs.Frames.{frame_at, frames, record_after, records_in}
-use Rattle.irig_index.specs.Index.{WereFrames}
-use Rattle.irig_index.specs.Laws.{moved}
-use Rattle.irig_index.specs.Marker.{is_marker, is_position}
-use Rattle.irig_index.specs.Verdict.{verdict_of}
+use Rattle.irig_index.specs.{declared.record.Record.Record, Index.WereFrames, Laws.moved, Marker.is_marker, Marker.is_position, Verdict.verdict_of}
 use Rattle.irig_index.proofs.FrameLemmas.{frames-next, record_after-pulses, records_in-next, records_in-none}
-use Rattle.irig_index.proofs.MarkerBounds.{length-records_in}
-use Rattle.irig_index.proofs.Window.{frames_parted}
+use Rattle.irig_index.proofs.{MarkerBounds.length-records_in, Window.frames_parted}
 
 -- how many pulses are markers, by the pulse before each
 abbrev markers : FormatView → List Pulse → ℕ

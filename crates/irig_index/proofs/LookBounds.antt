@@ -4,10 +4,7 @@ use Rattle.std.proofs.lemmas.Bool.{cases_lt}
 use Rattle.irig_codes.specs.Format.{FormatView}
 use Rattle.irig_recording.specs.declared.pulse.Pulse.{Pulse}
 use Rattle.irig_track.specs.Looks.{LensView}
-use Rattle.irig_index.specs.Checked.{Checked}
-use Rattle.irig_index.specs.Frames.{record_after}
-use Rattle.irig_index.specs.Looked.{Looked}
-use Rattle.irig_index.specs.Passed.{Passed}
+use Rattle.irig_index.specs.{Checked.Checked, Frames.record_after, Looked.Looked, Passed.Passed}
 use Rattle.irig_index.proofs.LookLemmas.{looked_more, looked_none, looked_up}
 
 -- the looks from the place `first` up to another: two a place to find the markers, and those of the

@@ -3,12 +3,8 @@ use Rattle.std.proofs.Common.{◌≡◌, ℕ, suc, zero, ◌+◌, ◌<◌, ◌�
 use Rattle.std.proofs.Common.{length-append}
 use Rattle.irig_codes.specs.Format.{FormatView}
 use Rattle.irig_recording.specs.declared.pulse.Pulse.{Pulse}
-use Rattle.irig_index.specs.declared.record.Record.{Record}
-use Rattle.irig_index.specs.Frames.{record_after, record_of, records_in}
-use Rattle.irig_index.specs.Laws.{moved}
-use Rattle.irig_index.specs.Marker.{is_marker}
-use Rattle.irig_index.specs.Sides.{EndsUpTo, BeginsAfter, AllUpTo, AllAfter}
-use Rattle.irig_index.specs.Verdict.{verdict_of}
+use Rattle.irig_index.specs.{declared.record.Record.Record, Frames.record_after, Frames.record_of, Frames.records_in, Laws.moved, Marker.is_marker}
+use Rattle.irig_index.specs.{Sides.EndsUpTo, Sides.BeginsAfter, Sides.AllUpTo, Sides.AllAfter, Verdict.verdict_of}
 
 -- bounds on the markers of a list
 pub AllUpTo-append : (last : ℕ) (rs ss : List Record) → AllUpTo last rs → AllUpTo last ss → AllUpTo last (rs ++ ss)

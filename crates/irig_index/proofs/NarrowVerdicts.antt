@@ -3,9 +3,7 @@ use Rattle.std.proofs.Common.{ℕ, List, Option, Some, None}
 use Rattle.irig_codes.specs.Format.{FormatView}
 use Rattle.irig_codes.proofs.NarrowFields.{narrow-fields_read}
 use Rattle.irig_recording.specs.declared.pulse.Pulse.{Pulse}
-use Rattle.irig_index.specs.declared.record.Cause.{Cause}
-use Rattle.irig_index.specs.Kept.{IsNarrow}
-use Rattle.irig_index.specs.Verdict.{elements_of, first_fault, judged, verdict_of}
+use Rattle.irig_index.specs.{declared.record.Cause.Cause, Kept.IsNarrow, Verdict.elements_of, Verdict.first_fault, Verdict.judged, Verdict.verdict_of}
 
 narrow-judged : (f : FormatView) (ps : List Pulse) (fault : Option (ℕ × Cause)) → IsNarrow (judged f ps fault)
 narrow-judged f ps (Some fault) = tt

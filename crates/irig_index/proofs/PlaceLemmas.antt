@@ -4,13 +4,8 @@ use Rattle.std.proofs.lemmas.Bool.{cases_lt}
 use Rattle.irig_codes.specs.Format.{FormatView}
 use Rattle.irig_recording.specs.declared.pulse.Pulse.{Pulse}
 use Rattle.irig_track.specs.Looks.{LensView}
-use Rattle.irig_index.specs.declared.record.Record.{Record}
-use Rattle.irig_index.specs.Checked.{Checked}
-use Rattle.irig_index.specs.Frames.{frame_at, record_after, records_in}
-use Rattle.irig_index.specs.Looked.{Looked}
-use Rattle.irig_index.specs.Marker.{class_at, is_position}
-use Rattle.irig_index.specs.Passed.{Passed, StandsAfter}
-use Rattle.irig_index.specs.Verdict.{verdict_of}
+use Rattle.irig_index.specs.{declared.record.Record.Record, Checked.Checked, Frames.frame_at, Frames.record_after, Frames.records_in, Looked.Looked}
+use Rattle.irig_index.specs.{Marker.class_at, Marker.is_position, Passed.Passed, Passed.StandsAfter, Verdict.verdict_of}
 use Rattle.irig_index.proofs.FrameLemmas.{record_after-beside, record_after-other, window_next, window_same}
 
 -- places passed so far, and more

@@ -1,29 +1,19 @@
 -- A repaired index has the frames of the track as it is.
-use Rattle.std.proofs.Common.{◌≡◌, ℕ, ◌+◌, ◌-◌, ◌%◌, ◌^◌, ◌<◌, ◌≤◌, List, [], ◌∷◌, ◌++◌, length, take, drop}
-use Rattle.std.proofs.Common.{map, min, refl, sym, ap, subst, ◌∙◌, inl, inr, arith, append_assoc}
-use Rattle.std.proofs.Common.{length-append, length-drop}
-use Rattle.std.proofs.lemmas.Bool.{cases_lt}
-use Rattle.std.proofs.lemmas.List.{take-append-drop, length-take-le}
+use Rattle.std.proofs.Common.{◌≡◌, ℕ, ◌+◌, ◌-◌, ◌%◌, ◌^◌, ◌<◌, ◌≤◌, List, [], ◌∷◌, ◌++◌, length, take, drop, map, min, refl, sym, ap, subst, ◌∙◌, inl, inr}
+use Rattle.std.proofs.Common.{arith, append_assoc, length-append, length-drop}
+use Rattle.std.proofs.lemmas.{Bool.cases_lt, List.take-append-drop, List.length-take-le}
 use Rattle.irig_codes.specs.Format.{FormatView}
 use Rattle.std.proofs.Math.Seq.{take-append_seam, drop-append_seam}
 use Rattle.irig_gap.specs.Items.{GapView, gap_view}
 use Rattle.irig_recording.specs.declared.pulse.Pulse.{Pulse}
-use Rattle.irig_track.proofs.Carried.{length-piece}
-use Rattle.irig_track.proofs.Laws.{parts}
-use Rattle.irig_index.specs.declared.record.Record.{Record}
-use Rattle.irig_index.specs.Frames.{frames, record_after, records_in}
-use Rattle.irig_index.specs.Index.{IndexView, WereFrames, index_view}
-use Rattle.irig_index.specs.Laws.{moved}
-use Rattle.irig_index.specs.Cuts.{Parts}
+use Rattle.irig_track.proofs.{Carried.length-piece, Laws.parts}
 use Rattle.irig_index.specs.Sides.{from_other_end, turned, left_of, kept_right, right_of, shown, EndsUpTo, BeginsAfter, AllUpTo, AllAfter}
-use Rattle.irig_index.specs.Stale.{LastMayBeStale, last_retold}
+use Rattle.irig_index.specs.{declared.record.Record.Record, Frames.frames, Frames.record_after, Frames.records_in, Index.IndexView, Index.WereFrames}
+use Rattle.irig_index.specs.{Index.index_view, Laws.moved, Cuts.Parts, Stale.LastMayBeStale, Stale.last_retold}
 use Rattle.irig_index.proofs.FrameLemmas.{record_after-last, records_in-none, window_same}
-use Rattle.irig_index.proofs.PlaceLemmas.{window_none}
-use Rattle.irig_index.proofs.MarkerBounds.{AllAfter-append, AllAfter-less, AllAfter-moved}
-use Rattle.irig_index.proofs.MarkerBounds.{AllUpTo-more, parted_same, records_in-after, records_in-up_to}
+use Rattle.irig_index.proofs.MarkerBounds.{AllAfter-append, AllAfter-less, AllAfter-moved, AllUpTo-more, parted_same, records_in-after, records_in-up_to}
 use Rattle.irig_index.proofs.SideLemmas.{from_other_end-moved, length-shown, length-sides}
-use Rattle.irig_index.proofs.StaleLemmas.{start_retold}
-use Rattle.irig_index.proofs.Window.{frames_parted, records_in-append}
+use Rattle.irig_index.proofs.{PlaceLemmas.window_none, StaleLemmas.start_retold, Window.frames_parted, Window.records_in-append}
 
 -- a window from its first marker on
 pub window_skipped : (f : FormatView) (ps : List Pulse) (from place to : ℕ) → from ≤ place → place ≤ to

@@ -1,19 +1,15 @@
 -- The verdict on a frame rests on the pulses up to the next marker alone: a marker or the pulse before it fails within the frame before.
-use Rattle.std.proofs.Common.{◌≡◌, ℕ, suc, zero, ◌+◌, ◌-◌, ◌%◌, ◌==◌, ◌<◌, ◌≤◌, true, false, cond, List, [], ◌∷◌, ◌++◌, length, get_or}
-use Rattle.std.proofs.Common.{Option, Some, None, slice_get, refl, sym, ap, ap₂, ◌∙◌, ◌⊎◌, inl, inr, arith}
-use Rattle.std.proofs.lemmas.Bool.{cases_Bool, cases_lt, eqb-true, ne_eqb}
-use Rattle.std.proofs.lemmas.Option.{none-some, slice_get-get_or, slice_get_within}
+use Rattle.std.proofs.Common.{◌≡◌, ℕ, suc, zero, ◌+◌, ◌-◌, ◌%◌, ◌==◌, ◌<◌, ◌≤◌, true, false, cond, List, [], ◌∷◌, ◌++◌, length, get_or, Option, Some, None}
+use Rattle.std.proofs.Common.{slice_get, refl, sym, ap, ap₂, ◌∙◌, ◌⊎◌, inl, inr, arith}
+use Rattle.std.proofs.lemmas.{Bool.cases_Bool, Bool.cases_lt, Bool.eqb-true, Bool.ne_eqb, Option.none-some, Option.slice_get-get_or, Option.slice_get_within}
 use Rattle.irig_codes.specs.Format.{FormatView}
 use Rattle.irig_recording.specs.declared.pulse.Pulse.{Pulse}
-use Rattle.irig_index.specs.declared.record.Cause.{Cause}
 use Rattle.irig_index.specs.declared.record.Cause.TheVariants.{Step, Class}
-use Rattle.irig_index.specs.Frames.{frame_at}
-use Rattle.irig_index.specs.Marker.{class_at, follows, is_digit, is_position}
 use Rattle.irig_index.specs.Verdict.{fault_at, fault_of, first_fault, judged, suits, verdict_of}
-use Rattle.irig_index.proofs.FrameLemmas.{position_class}
-use Rattle.irig_track.proofs.Items.{slice_get-part}
+use Rattle.irig_index.specs.{declared.record.Cause.Cause, Frames.frame_at, Marker.class_at, Marker.follows, Marker.is_digit, Marker.is_position}
 use Rattle.irig_index.proofs.VerdictLemmas.{fault-class, fault-step, first_fault-here, first_fault-next}
-use Rattle.irig_index.proofs.Window.{take-drop-append}
+use Rattle.irig_index.proofs.{FrameLemmas.position_class, Window.take-drop-append}
+use Rattle.irig_track.proofs.Items.{slice_get-part}
 
 some_or_none : (o : Option Cause) → ((cause : Cause) × (o ≡ Some cause)) ⊎ (o ≡ None)
 some_or_none (Some cause) = inl (cause, refl)

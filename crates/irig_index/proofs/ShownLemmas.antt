@@ -1,9 +1,8 @@
 -- Records by their place among all, whichever side of the gap they are on.
-use Rattle.std.proofs.Common.{◌≡◌, ℕ, suc, zero, ◌+◌, ◌<◌, ◌≤◌, List, [], ◌∷◌, ◌++◌, map, take, drop}
-use Rattle.std.proofs.Common.{slice_get, slice_set, Some, refl, sym, ap, subst, ◌∙◌, arith, add-one, append_assoc}
+use Rattle.std.proofs.Common.{◌≡◌, ℕ, suc, zero, ◌+◌, ◌<◌, ◌≤◌, List, [], ◌∷◌, ◌++◌, map, take, drop, slice_get, slice_set, Some, refl, sym, ap, subst, ◌∙◌}
+use Rattle.std.proofs.Common.{arith, add-one, append_assoc}
 use Rattle.irig_gap.specs.Items.{GapView, gap_view}
-use Rattle.irig_index.specs.declared.record.Record.{Record}
-use Rattle.irig_index.specs.Sides.{turned, shown, BeginsAfter}
+use Rattle.irig_index.specs.{declared.record.Record.Record, Sides.turned, Sides.shown, Sides.BeginsAfter}
 use Rattle.irig_track.proofs.Items.{drop-item, take-item}
 use Rattle.irig_index.proofs.SideLemmas.{seen}
 

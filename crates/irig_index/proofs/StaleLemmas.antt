@@ -1,18 +1,13 @@
 -- An edit leaves the markers before it, and the verdicts on their frames but the last.
-use Rattle.std.proofs.Common.{◌≡◌, ℕ, suc, zero, ◌+◌, ◌-◌, ◌<◌, ◌≤◌, ◌&&◌, true, cond, List, [], ◌∷◌, ◌++◌, length, get_or}
-use Rattle.std.proofs.Common.{Some, slice_get, refl, sym, ap, subst, ◌∙◌, inl, inr, arith}
-use Rattle.std.proofs.lemmas.Bool.{and_parts, cases_Bool}
-use Rattle.std.proofs.lemmas.List.{append-nil}
-use Rattle.std.proofs.lemmas.Option.{slice_get-get_or}
+use Rattle.std.proofs.Common.{◌≡◌, ℕ, suc, zero, ◌+◌, ◌-◌, ◌<◌, ◌≤◌, ◌&&◌, true, cond, List, [], ◌∷◌, ◌++◌, length, get_or, Some, slice_get, refl, sym, ap}
+use Rattle.std.proofs.Common.{subst, ◌∙◌, inl, inr, arith}
+use Rattle.std.proofs.lemmas.{Bool.and_parts, Bool.cases_Bool, List.append-nil, Option.slice_get-get_or}
 use Rattle.irig_codes.specs.Format.{FormatView}
 use Rattle.irig_recording.specs.declared.pulse.Pulse.{Pulse}
-use Rattle.irig_index.specs.declared.record.Record.{Record}
-use Rattle.irig_index.specs.Frames.{record_after, records_in}
-use Rattle.irig_index.specs.Marker.{class_at, follows, is_marker, is_position}
-use Rattle.irig_index.specs.Stale.{MayBeStale, LastMayBeStale, retold, last_retold}
+use Rattle.irig_index.specs.{declared.record.Record.Record, Frames.record_after, Frames.records_in, Marker.class_at, Marker.follows, Marker.is_marker}
+use Rattle.irig_index.specs.{Marker.is_position, Stale.MayBeStale, Stale.LastMayBeStale, Stale.retold, Stale.last_retold}
 use Rattle.irig_index.proofs.FrameLemmas.{frames-suc, position_class, record_after-pulses, records_in-none}
-use Rattle.irig_index.proofs.PlaceLemmas.{found_record}
-use Rattle.irig_index.proofs.SettledVerdicts.{slice_get-front, verdict-before, verdict-within}
+use Rattle.irig_index.proofs.{PlaceLemmas.found_record, SettledVerdicts.slice_get-front, SettledVerdicts.verdict-before, SettledVerdicts.verdict-within}
 
 -- the last record
 module _ (f : FormatView) (ps : List Pulse) where

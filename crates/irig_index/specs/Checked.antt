@@ -5,10 +5,8 @@ use Rattle.irig_codes.specs.Format.{FormatView}
 use Rattle.irig_recording.specs.declared.pulse.Pulse.{Pulse}
 use Rattle.irig_track.specs.Looks.{LensView}
 use Rattle.irig_index.specs.declared.record.Cause.TheVariants.{Ended, Step, Class}
-use Rattle.irig_index.specs.declared.record.Verdict.{Verdict}
 use Rattle.irig_index.specs.declared.record.Verdict.TheVariants.{Broken, Read}
-use Rattle.irig_index.specs.Frames.{record_after}
-use Rattle.irig_index.specs.Looked.{Looked}
+use Rattle.irig_index.specs.{declared.record.Verdict.Verdict, Frames.record_after, Looked.Looked}
 
 -- the frame of a marker was looked at up to the pulse `reach`, each pulse once, and no marker is
 -- between the two

@@ -1,7 +1,6 @@
 -- What a repair removes on its way to the place of the edit. This project's own.
 use Rattle.std.specs.Prelude.{◌≡◌, ℕ, ◌+◌, ◌<◌, ◌≤◌, List, ◌++◌, slice_get, Some}
-use Rattle.irig_index.specs.declared.record.Record.{Record}
-use Rattle.irig_index.specs.Sides.{AllUpTo, AllAfter}
+use Rattle.irig_index.specs.{declared.record.Record.Record, Sides.AllUpTo, Sides.AllAfter}
 
 -- the record before a place is of a marker after `first`, up to `last`
 pub record EndsWithin (first last : ℕ) (items : List Record) (place : ℕ) : Type 0 where

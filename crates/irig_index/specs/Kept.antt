@@ -5,10 +5,9 @@ use Rattle.std.specs.Prelude.{unwrap_or}
 use Rattle.std.proofs.Common.{inl, inr, ap, sym, refl, ◌∙◌}
 use Rattle.std.proofs.lemmas.Bool.Decides.{eqb_tells}
 use Rattle.irig_codes.specs.Narrow.{AreNarrow}
-use Rattle.irig_index.specs.declared.record.Verdict.{Verdict}
 use Rattle.irig_index.specs.declared.record.Verdict.TheVariants.{Broken, Read}
-use Rattle.irig_index.specs.declared.stored.Kept.{Kept}
 use Rattle.irig_index.specs.declared.stored.Kept.TheVariants.{Broken as Fails, Read as Carries}
+use Rattle.irig_index.specs.{declared.record.Verdict.Verdict, declared.stored.Kept.Kept}
 
 -- the part that a number means, if it is not the one that means none
 abbrev pub part_of : ℕ → ℕ → Option ℕ

@@ -1,13 +1,10 @@
 -- How markers are sought, place by place. This project's own.
 use Rattle.std.specs.Prelude.{◌≡◌, ℕ, ◌+◌, ◌-◌, ◌*◌, ◌<◌, ◌≤◌, List, [], ◌∷◌, slice_get, Some}
-use Rattle.irig_codes.specs.declared.width.Element.TheVariants.{Position}
-use Rattle.irig_codes.specs.Format.{FormatView}
+use Rattle.irig_codes.specs.{declared.width.Element.TheVariants.Position, Format.FormatView}
 use Rattle.irig_recording.specs.declared.pulse.Pulse.{Pulse}
 use Rattle.irig_track.specs.Looks.{LensView}
 use Rattle.irig_index.specs.Frames.{frame_at, record_after}
-use Rattle.irig_index.specs.Looked.{Looked}
-use Rattle.irig_index.specs.Marker.{class_at}
-use Rattle.irig_index.specs.Verdict.{verdict_of}
+use Rattle.irig_index.specs.{Looked.Looked, Marker.class_at, Verdict.verdict_of}
 
 -- no marker is after the places from `first` to `next`, that one not included, and it took two
 -- looks a place at most to find out, and this many more

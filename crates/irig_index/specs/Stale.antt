@@ -2,14 +2,10 @@
 -- check of a frame ends at the next marker at the latest. This project's own.
 use Rattle.std.specs.Prelude.{◌≡◌, ℕ, ◌≤◌, Bool, false, List, [], ◌∷◌, ◌++◌, take, drop, slice_get}
 use Rattle.std.specs.Prelude.{Some}
-use Rattle.irig_codes.specs.declared.width.Element.TheVariants.{Position}
-use Rattle.irig_codes.specs.Format.{FormatView}
+use Rattle.irig_codes.specs.{declared.width.Element.TheVariants.Position, Format.FormatView}
 use Rattle.irig_recording.specs.declared.pulse.Pulse.{Pulse}
-use Rattle.irig_index.specs.declared.record.Record.{Record}
-use Rattle.irig_index.specs.Frames.{frame_at}
-use Rattle.irig_index.specs.Marker.{class_at}
-use Rattle.irig_index.specs.Sides.{EndsUpTo, BeginsAfter}
-use Rattle.irig_index.specs.Verdict.{verdict_of}
+use Rattle.irig_index.specs.{declared.record.Record.Record, Frames.frame_at, Marker.class_at}
+use Rattle.irig_index.specs.{Sides.EndsUpTo, Sides.BeginsAfter, Verdict.verdict_of}
 
 -- the record is of a pulse of the track that a frame may begin with, and has the verdict on that
 -- frame unless its marker is after `settled`

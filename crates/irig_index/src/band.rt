@@ -3,8 +3,7 @@
 
 ghost use Rattle.std.specs.Prelude.{◌≡◌, true, unwrap_or};
 ghost use Rattle.irig_codes.specs.declared.width.Element.TheVariants.{Zero};
-ghost use Rattle.irig_codes.specs.Reading.{counts};
-ghost use Rattle.irig_codes.specs.Width.{HasTwentieths, class_in};
+ghost use Rattle.irig_codes.specs.{Reading.counts, Width.HasTwentieths, Width.class_in};
 ghost use Rattle.irig_index.specs.Marker.{is_digit, is_position};
 
 /// Whether a width is that of a position identifier.

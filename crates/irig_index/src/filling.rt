@@ -1,13 +1,11 @@
 //! What is made of the markers of a part of a track: their records, or their number.
 
-ghost use Rattle.std.specs.Prelude.{◌≡◌, ℕ, ◌+◌, ◌-◌, ◌*◌, ◌^◌, ◌<◌, ◌≤◌, ◌++◌, length};
-ghost use Rattle.std.specs.Prelude.{take, drop, max, min, OnOk, IsOk};
-ghost use Rattle.irig_index.specs.Checked.{looks_of};
+ghost use Rattle.std.specs.Prelude.{◌≡◌, ℕ, ◌+◌, ◌-◌, ◌*◌, ◌^◌, ◌<◌, ◌≤◌, ◌++◌, length, take, drop};
+ghost use Rattle.std.specs.Prelude.{max, min, OnOk, IsOk};
 ghost use Rattle.irig_index.specs.Frames.{frames, records_in};
-ghost use Rattle.irig_index.specs.Looked.{Looked};
-ghost use Rattle.irig_index.specs.Passed.{Passed};
 ghost use Rattle.irig_index.specs.Sides.{left_of, kept_right, shown, EndsUpTo, BeginsAfter};
 ghost use Rattle.irig_index.specs.Stale.{LastMayBeStale, Retold, last_retold};
+ghost use Rattle.irig_index.specs.{Checked.looks_of, Looked.Looked, Passed.Passed};
 
 use crate::frame::{ELEMENTS, looks_of, verdict};
 use crate::look::add_looks;

@@ -1,21 +1,16 @@
 //! The verdict on a frame.
 
 ghost use Rattle.std.specs.Prelude.{◌≡◌, ℕ, ◌+◌, ◌-◌, ◌==◌, ◌<◌, ◌≤◌, [], true, false};
-ghost use Rattle.std.specs.Prelude.{if◌then◌else◌, slice_get, unwrap_or, Some, MatchOption};
-ghost use Rattle.std.specs.Prelude.{List, length};
-ghost use Rattle.irig_codes.specs.declared.width.Element.{Element};
+ghost use Rattle.std.specs.Prelude.{if◌then◌else◌, slice_get, unwrap_or, Some, MatchOption, List};
+ghost use Rattle.std.specs.Prelude.{length};
 ghost use Rattle.irig_codes.specs.declared.width.Element.TheVariants.{Position, Zero};
-ghost use Rattle.irig_codes.specs.Decoding.{decoded};
-ghost use Rattle.irig_codes.specs.Ones.{raised};
-ghost use Rattle.irig_codes.specs.Reading.{counts};
-ghost use Rattle.irig_codes.specs.Width.{HasTwentieths, class_in};
-ghost use Rattle.irig_track.specs.Looks.{after_looks, lens_view};
-ghost use Rattle.irig_track.specs.Track.{IsTrack};
+ghost use Rattle.irig_codes.specs.{declared.width.Element.Element, Decoding.decoded, Ones.raised};
+ghost use Rattle.irig_codes.specs.{Reading.counts, Width.HasTwentieths, Width.class_in};
+ghost use Rattle.irig_track.specs.{Looks.after_looks, Looks.lens_view, Track.IsTrack};
 ghost use Rattle.irig_index.specs.declared.record.Verdict.TheVariants.{Read};
-ghost use Rattle.irig_index.specs.Checked.{Checked, looks_of};
 ghost use Rattle.irig_index.specs.Frames.{frame_at, record_after};
 ghost use Rattle.irig_index.specs.Marker.{class_at, is_digit, is_position};
-ghost use Rattle.irig_index.specs.Verdict.{verdict_of};
+ghost use Rattle.irig_index.specs.{Checked.Checked, Checked.looks_of, Verdict.verdict_of};
 
 use crate::band::{is_digit, is_one, is_position};
 use crate::look::add_looks;

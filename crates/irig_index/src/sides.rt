@@ -1,12 +1,11 @@
 //! The records on both sides of a gap.
 
 ghost use Rattle.std.specs.Prelude.{◌≡◌, ℕ, ◌+◌, ◌*◌, ◌^◌, ◌<◌, ◌≤◌, ◌∷◌, ◌++◌, [], true, false};
-ghost use Rattle.std.specs.Prelude.{List, length, max};
-ghost use Rattle.std.specs.Prelude.{slice_get, Some, IsOk, OnOk};
+ghost use Rattle.std.specs.Prelude.{List, length, max, slice_get, Some, IsOk, OnOk};
 ghost use Rattle.irig_index.specs.declared.record.Record.{Record};
 ghost use Rattle.irig_index.specs.Cuts.{Cut, EndsWithin, Parts};
-ghost use Rattle.irig_index.specs.Sides.{turned, left_of, kept_right, right_of, shown};
-ghost use Rattle.irig_index.specs.Sides.{EndsUpTo, BeginsAfter, BeginsUpTo, Dropped};
+ghost use Rattle.irig_index.specs.Sides.{turned, left_of, kept_right, right_of, shown, EndsUpTo};
+ghost use Rattle.irig_index.specs.Sides.{BeginsAfter, BeginsUpTo, Dropped};
 
 use crate::stored::Stored;
 use irig_gap::Gap;

@@ -1,21 +1,16 @@
 -- Several entries made one: the steps that they are before, and the one step after.
-use Rattle.std.proofs.Common.{◌≡◌, ◌∷◌, ◌+◌, ◌<◌, ◌≤◌, ◌++◌, [], ℕ, suc, List, length, map, take, drop, get_or, reverse, refl, ap, ap₂, sym}
-use Rattle.std.proofs.Common.{subst, ◌∙◌, arith}
+use Rattle.std.proofs.Common.{◌≡◌, ◌∷◌, ◌+◌, ◌<◌, ◌≤◌, ◌++◌, [], ℕ, suc, List, length, map, take, drop, get_or, reverse, refl, ap, ap₂, sym, subst, ◌∙◌, arith}
 use Rattle.std.proofs.Math.Seq.{drop-cons}
 use Rattle.std.proofs.lemmas.List.{length-map, length-reverse, length-take-le, map-append, reverse-append, take-append-drop}
 use Rattle.std.proofs.lemmas.List.Folds.{flat_map-map}
-use Rattle.irig_journal.specs.declared.entry.Entry.{Entry}
-use Rattle.irig_journal.specs.declared.size.Size.TheVariants as size
 use Rattle.irig_journal.specs.Held.{Group, HaveAll, Held, Parts, flat, held, held_by, held_in, parts_in}
-use Rattle.irig_journal.specs.History.{FitInTurn, Step, step}
 use Rattle.irig_journal.specs.Joining.{beyond, changes_of, cursor_of_farthest, farthest, joined, joined_beyond}
-use Rattle.irig_journal.specs.Journal.{told}
 use Rattle.irig_journal.specs.Sizes.{count_of, counts_of, ended_beyond, entry, joined_as}
-use Rattle.irig_journal.specs.Turns.{left_by}
+use Rattle.irig_journal.specs.{declared.entry.Entry.Entry, History.FitInTurn, History.Step, History.step, Journal.told, Turns.left_by}
+use Rattle.irig_journal.specs.declared.size.Size.TheVariants as size
 use Rattle.irig_journal.proofs.HeldLemmas.{counts-append, counts-cons, counts-reverse, flat-held, held_by-append, held_by-cons, length-held, reverse-push}
 use Rattle.irig_journal.proofs.JoinLemmas.{at_most_cases, beyond_at, farthest_at, fit_joined}
-use Rattle.irig_journal.proofs.MoveLemmas.{Gathers}
-use Rattle.irig_journal.proofs.SideLemmas.{length-told}
+use Rattle.irig_journal.proofs.{MoveLemmas.Gathers, SideLemmas.length-told}
 
 module _ {C : Type 0} where
   -- the steps before and after: the first became one group of their changes

@@ -1,20 +1,13 @@
 -- What the calls of a journal make of the machine with a floor.
-use Rattle.std.proofs.Common.{◌≡◌, ◌∷◌, ◌+◌, ◌-◌, ◌<◌, ◌≤◌, ◌++◌, [], ℕ, suc, false, List, Option, Some, None, length, drop, refl, ap, ap₂}
-use Rattle.std.proofs.Common.{sym, ◌∙◌, arith}
+use Rattle.std.proofs.Common.{◌≡◌, ◌∷◌, ◌+◌, ◌-◌, ◌<◌, ◌≤◌, ◌++◌, [], ℕ, suc, false, List, Option, Some, None, length, drop, refl, ap, ap₂, sym, ◌∙◌, arith}
 use Rattle.std.specs.Prelude.{option_map}
-use Rattle.std.proofs.lemmas.Bool.{lt-leb}
-use Rattle.std.proofs.lemmas.List.{drop_at, length-take-le}
-use Rattle.std.proofs.lemmas.Option.{none-some}
-use Rattle.irig_journal.specs.declared.opening.Opening.{Opening}
+use Rattle.std.proofs.lemmas.{Bool.lt-leb, List.drop_at, List.length-take-le, Option.none-some}
 use Rattle.irig_journal.specs.Groups.{Floor, Grouped, aborted, begun, ended, over, is_at_floor, undone_over, redone_over}
 use Rattle.irig_journal.specs.History.{History, Step, machine, states_along, step, stepped_back}
 use Rattle.irig_journal.specs.Joining.{beyond, changes_of, cursor_of_farthest, farthest, joined, joined_beyond}
-use Rattle.irig_journal.specs.Journal.{Steps}
-use Rattle.irig_journal.specs.Openings.{AtFloor, StandsOnFloor, floor_at}
 use Rattle.irig_journal.specs.Machine.{Kept, Machine, kept, undone, redone}
-use Rattle.irig_journal.specs.Turns.{left_by}
-use Rattle.irig_journal.proofs.StepLemmas.{history}
-use Rattle.irig_journal.proofs.JoinLemmas.{at_most_cases, beyond-farthest, beyond_more, beyond_none}
+use Rattle.irig_journal.specs.{declared.opening.Opening.Opening, Journal.Steps, Openings.AtFloor, Openings.StandsOnFloor, Openings.floor_at, Turns.left_by}
+use Rattle.irig_journal.proofs.{StepLemmas.history, JoinLemmas.at_most_cases, JoinLemmas.beyond-farthest, JoinLemmas.beyond_more, JoinLemmas.beyond_none}
 
 module _ {S : Type 0} where
   abbrev pub machine_of_states : List (Kept S) → Kept S → List (Kept S) → Machine (Kept S)

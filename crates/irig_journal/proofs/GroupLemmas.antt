@@ -2,9 +2,7 @@
 use Rattle.std.proofs.Common.{◌≡◌, ◌∷◌, ◌-◌, ◌++◌, [], ℕ, List, Option, Some, None, length, drop, refl, ap, ap₂, sym, subst, inl, inr, ◌∙◌, arith}
 use Rattle.std.proofs.Common.{length-append}
 use Rattle.std.specs.Option.{option_and_then}
-use Rattle.std.proofs.lemmas.Bool.{le-leb, lt-leb}
-use Rattle.std.proofs.lemmas.List.{drop_at}
-use Rattle.std.proofs.lemmas.Option.{none-some}
+use Rattle.std.proofs.lemmas.{Bool.le-leb, Bool.lt-leb, List.drop_at, Option.none-some}
 use Rattle.irig_journal.specs.Groups.{Floor, Grouped, aborted, begun, ended, over, redone_over, undone_over}
 use Rattle.irig_journal.specs.GroupRuns.{Deed, Make, Back, Again, Go, Nothing, after_deed, after_deeds, AbortGivesBack, EndLeavesOneStep, IsAtMostOneMore}
 use Rattle.irig_journal.specs.Machine.{Kept, Machine}

@@ -2,15 +2,12 @@
 use Rattle.std.proofs.Common.{◌≡◌, ◌∷◌, ◌+◌, ◌≤◌, ◌++◌, [], ℕ, suc, Bool, true, false, List, length, take, drop, reverse, refl, ap, ap₂, sym, ◌∙◌, arith}
 use Rattle.std.proofs.Common.{length-append}
 use Rattle.std.proofs.lemmas.List.{append-nil, drop-append-le, drop_at, length-drop, length-reverse, reverse-append, take-append-drop, take-append-le, take_at}
-use Rattle.std.proofs.lemmas.List.Concat.{flat_map-cons}
-use Rattle.std.proofs.lemmas.List.Sorted.{IsPermutation-reverse, sum_by-IsPermutation}
 use Rattle.std.proofs.lemmas.List.Sums.{sum_by-append, sum_by-cons, sum_by_push}
-use Rattle.irig_journal.specs.declared.entry.Entry.{Entry}
-use Rattle.irig_journal.specs.declared.size.Size.{Size}
+use Rattle.std.proofs.lemmas.{List.Concat.flat_map-cons, List.Sorted.IsPermutation-reverse, List.Sorted.sum_by-IsPermutation}
+use Rattle.irig_journal.specs.Held.{Alone, HaveAll, Held, held_of, shown_in, flat, held, held_by, held_in, parts_in, parts_of, with_end}
+use Rattle.irig_journal.specs.{declared.entry.Entry.Entry, declared.size.Size.Size, Sizes.count_of, Sizes.counts_of, Sizes.is_group}
 use Rattle.irig_journal.specs.declared.step.Step as shown
 use Rattle.irig_journal.specs.declared.size.Size.TheVariants as size
-use Rattle.irig_journal.specs.Held.{Alone, HaveAll, Held, held_of, shown_in, flat, held, held_by, held_in, parts_in, parts_of, with_end}
-use Rattle.irig_journal.specs.Sizes.{count_of, counts_of, is_group}
 
 -- an item more, the last, is the first of the reversed list
 pub reverse-push : {A : Type 0} (xs ys : List A) (y : A) → xs ≡ ys ++ y ∷ [] → reverse xs ≡ y ∷ reverse ys

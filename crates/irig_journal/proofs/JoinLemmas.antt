@@ -1,12 +1,10 @@
 -- What several steps do in turn, and what the one step does that they are joined to.
-use Rattle.std.proofs.Common.{◌≡◌, ◌∷◌, ◌-◌, ◌<◌, ◌≤◌, ◌++◌, [], ℕ, suc, Bool, true, false, List, length, take, drop, map, refl, ap}
-use Rattle.std.proofs.Common.{sym, subst, ◌∙◌, arith, length-append}
+use Rattle.std.proofs.Common.{◌≡◌, ◌∷◌, ◌-◌, ◌<◌, ◌≤◌, ◌++◌, [], ℕ, suc, Bool, true, false, List, length, take, drop, map, refl, ap, sym, subst, ◌∙◌, arith}
+use Rattle.std.proofs.Common.{length-append}
 use Rattle.std.specs.Prelude.{nat_le, if◌then◌else◌}
-use Rattle.std.proofs.lemmas.Bool.{leb-true, leb-false}
-use Rattle.std.proofs.lemmas.List.{drop_at, map-append, take-append-drop, take_at}
-use Rattle.irig_journal.specs.History.{FitInTurn, Step}
+use Rattle.std.proofs.lemmas.{Bool.leb-true, Bool.leb-false, List.drop_at, List.map-append, List.take-append-drop, List.take_at}
 use Rattle.irig_journal.specs.Joining.{beyond, changes_of, farthest, joined}
-use Rattle.irig_journal.specs.Turns.{FitAll, left_by}
+use Rattle.irig_journal.specs.{History.FitInTurn, History.Step, Turns.FitAll, Turns.left_by}
 
 -- what holds of what each answer of a test of two numbers gives holds of what the test gives
 given_by_test : {A : Type 0} (P : A → Type 0) (m n : ℕ) (few many : A) (b : Bool) → b ≡ nat_le m n

@@ -2,14 +2,9 @@
 use Rattle.std.proofs.Common.{◌≡◌, ◌∷◌, ◌+◌, ◌++◌, [], ℕ, Bool, true, false, List, length, map, reverse, refl, ap, ap₂, sym, subst, ◌∙◌, arith, append_assoc}
 use Rattle.std.proofs.Common.{length-append}
 use Rattle.std.specs.Prelude.{flat_map}
-use Rattle.std.proofs.lemmas.List.{map-append, map-id, reverse-append}
-use Rattle.std.proofs.lemmas.List.Concat.{flat_map_single}
-use Rattle.std.proofs.lemmas.List.Folds.{flat_map-map}
-use Rattle.irig_journal.specs.Held.{Alone, Group, Parts, parts_in, parts_of}
-use Rattle.irig_journal.specs.Journal.{one_of}
-use Rattle.irig_journal.specs.Moves.{Moved}
-use Rattle.irig_journal.specs.Turns.{CountsAll, backs, left_by, ways_back}
-use Rattle.irig_journal.specs.Laws.Turns.{backs-append, left_by-append}
+use Rattle.std.proofs.lemmas.{List.map-append, List.map-id, List.reverse-append, List.Concat.flat_map_single, List.Folds.flat_map-map}
+use Rattle.irig_journal.specs.{Held.Alone, Held.Group, Held.Parts, Held.parts_in, Held.parts_of, Journal.one_of, Moves.Moved, Turns.CountsAll, Turns.backs}
+use Rattle.irig_journal.specs.{Turns.left_by, Turns.ways_back, Laws.Turns.backs-append, Laws.Turns.left_by-append}
 
 module _ {S D T : Type 0} where
   -- first the one changes count, then the others

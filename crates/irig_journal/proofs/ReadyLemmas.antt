@@ -1,9 +1,7 @@
 -- What is ready stays ready: with more places, and after a turn of the nearest change.
 use Rattle.std.proofs.Common.{◌≡◌, ◌∷◌, [], List, map, ap, sym, subst, ◌∙◌}
-use Rattle.irig_journal.specs.Held.{Held, Parts, flat}
-use Rattle.irig_journal.specs.History.{FitInTurn}
 use Rattle.irig_journal.specs.Journal.{AreReady, ReadyInTurn, Steps, one_of, told}
-use Rattle.irig_journal.specs.Turns.{RoomForAll}
+use Rattle.irig_journal.specs.{Held.Held, Held.Parts, Held.flat, History.FitInTurn, Turns.RoomForAll}
 
 module _ {S C : Type 0} where
   -- places that are wider have room for each change that the narrow ones have room for

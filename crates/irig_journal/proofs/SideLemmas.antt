@@ -2,11 +2,8 @@
 use Rattle.std.proofs.Common.{◌≡◌, ◌≤◌, ◌+◌, List, length, map, vec_capacity, vec_len, ap, ap₂, ◌∙◌, arith, inl, inr}
 use Rattle.std.specs.Prelude.{◌⊎◌}
 use Rattle.std.proofs.lemmas.List.{length-map, length-reverse}
-use Rattle.irig_journal.specs.declared.entry.Entry.{Entry}
-use Rattle.irig_journal.specs.declared.side.Side.{Side}
-use Rattle.irig_journal.specs.Held.{Parts, held_in}
-use Rattle.irig_journal.specs.Journal.{LacksPlace, steps_in, told}
-use Rattle.irig_journal.specs.Sides.{AreSides, IsSameSide, spare_of, steps_on}
+use Rattle.irig_journal.specs.{declared.entry.Entry.Entry, declared.side.Side.Side, Held.Parts, Held.held_in, Journal.LacksPlace, Journal.steps_in}
+use Rattle.irig_journal.specs.{Journal.told, Sides.AreSides, Sides.IsSameSide, Sides.spare_of, Sides.steps_on}
 use Rattle.irig_journal.proofs.HeldLemmas.{flat-held_in, length-held_in}
 
 module _ {C D : Type 0} where

@@ -1,8 +1,6 @@
 -- What one turn more does of the turns of the steps after the farthest.
 use Rattle.std.proofs.Common.{◌≡◌, ◌∷◌, ◌≤◌, ℕ, List, length, ap, refl, sym, subst, ◌∙◌}
-use Rattle.irig_journal.specs.History.{Step}
-use Rattle.irig_journal.specs.Joining.{CountsAlong, beyond, changes_of, farthest}
-use Rattle.irig_journal.specs.Turns.{left_by}
+use Rattle.irig_journal.specs.{History.Step, Joining.CountsAlong, Joining.beyond, Joining.changes_of, Joining.farthest, Turns.left_by}
 use Rattle.irig_journal.proofs.JoinLemmas.{beyond_more, beyond_none, farthest_all, farthest_more}
 
 module _ {S D T : Type 0} where

@@ -1,12 +1,10 @@
 -- How much the changes of steps hold.
 use Rattle.std.proofs.Common.{◌≡◌, ◌∷◌, ◌+◌, ◌-◌, ◌^◌, ◌≤◌, [], ℕ, Bool, true, false, List, length, map, min, take, drop, reverse, refl, ap, sym, ◌∙◌, arith}
 use Rattle.std.specs.List.{sum_by}
-use Rattle.std.proofs.lemmas.List.{length-reverse}
 use Rattle.std.proofs.lemmas.List.Sorted.{IsPermutation-reverse, sum_by-IsPermutation}
-use Rattle.std.proofs.lemmas.List.Sums.{sum_by-cons, sum_by-take-drop}
+use Rattle.std.proofs.lemmas.{List.length-reverse, List.Sums.sum_by-cons, List.Sums.sum_by-take-drop}
 use Rattle.std.proofs.Math.ListN.{drop_of_length-le}
-use Rattle.irig_journal.specs.Held.{Group, Held, Parts, parts_of}
-use Rattle.irig_journal.specs.Journal.{one_of, told, weight_of}
+use Rattle.irig_journal.specs.{Held.Group, Held.Held, Held.Parts, Held.parts_of, Journal.one_of, Journal.told, Journal.weight_of}
 use Rattle.irig_journal.proofs.MoveLemmas.{Gathers, gathers_alone}
 
 module _ {X : Type 0} where

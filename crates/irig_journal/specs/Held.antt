@@ -2,8 +2,8 @@
 use Rattle.std.specs.Prelude.{ℕ, ◌≡◌, ◌++◌, Bool, true, false, List, [], ◌∷◌, drop, flat_map}
 use Rattle.std.specs.Prelude.{length, reverse, take}
 use Rattle.irig_journal.specs.declared.entry.Entry.{Entry}
-use Rattle.irig_journal.specs.declared.step.Step as shown
 use Rattle.irig_journal.specs.Sizes.{count_of, counts_of, is_group}
+use Rattle.irig_journal.specs.declared.step.Step as shown
 
 -- a list that has these items at one end, the front or the back
 abbrev pub with_end : {A : Type 0} → Bool → List A → List A → List A

@@ -1,8 +1,7 @@
 -- Several steps made one. This project's own.
-use Rattle.std.specs.Prelude.{ℕ, ◌+◌, ◌-◌, List, [], ◌∷◌, drop, if◌then◌else◌, length, map}
-use Rattle.std.specs.Prelude.{nat_le, take}
-use Rattle.irig_journal.specs.History.{Step, step}
-use Rattle.irig_journal.specs.Turns.{CountsAll}
+use Rattle.std.specs.Prelude.{ℕ, ◌+◌, ◌-◌, List, [], ◌∷◌, drop, if◌then◌else◌, length, map, nat_le}
+use Rattle.std.specs.Prelude.{take}
+use Rattle.irig_journal.specs.{History.Step, History.step, Turns.CountsAll}
 
 module _ {D : Type 0} where
   -- the changes of steps

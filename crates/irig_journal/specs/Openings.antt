@@ -1,11 +1,8 @@
 -- The begin of the open group of a journal. This project's own.
 use Rattle.std.specs.Prelude.{ℕ, ◌≤◌, List, Option, Some, None}
-use Rattle.irig_journal.specs.declared.opening.Opening.{Opening}
-use Rattle.irig_journal.specs.Groups.{Floor}
-use Rattle.irig_journal.specs.History.{Step}
 use Rattle.irig_journal.specs.Joining.{beyond, changes_of}
-use Rattle.irig_journal.specs.Machine.{Kept, kept}
-use Rattle.irig_journal.specs.Turns.{left_by}
+use Rattle.irig_journal.specs.{declared.opening.Opening.Opening, Groups.Floor, History.Step}
+use Rattle.irig_journal.specs.{Machine.Kept, Machine.kept, Turns.left_by}
 
 -- the past is no longer than it was at the begin of the open group
 abbrev pub AtFloor : Option Opening → ℕ → Type 0

@@ -1,7 +1,6 @@
 -- The two sides of the present, and their places. This project's own.
 use Rattle.std.specs.Prelude.{◌≡◌, ◌+◌, ◌-◌, ◌<◌, ◌≤◌, ℕ, List, vec_capacity, vec_len}
-use Rattle.irig_journal.specs.declared.side.Side.{Side}
-use Rattle.irig_journal.specs.Held.{HaveAll, Held, held_in}
+use Rattle.irig_journal.specs.{declared.side.Side.Side, Held.HaveAll, Held.Held, Held.held_in}
 
 -- for how many steps more a side has places, and for how many changes more
 pub record Spare : Type 0 where

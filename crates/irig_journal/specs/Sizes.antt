@@ -2,9 +2,8 @@
 use Rattle.std.specs.Prelude.{◌+◌, ◌++◌, ◌∷◌, [], ℕ, Bool, true, false, List, drop, get_or}
 use Rattle.std.specs.Prelude.{if◌then◌else◌, length, nat_le, take}
 use Rattle.std.specs.List.{sum_by}
-use Rattle.irig_journal.specs.declared.entry.Entry.{Entry}
-use Rattle.irig_journal.specs.declared.size.Size.{Size}
 use Rattle.irig_journal.specs.declared.size.Size.TheVariants.{Alone, Group}
+use Rattle.irig_journal.specs.{declared.entry.Entry.Entry, declared.size.Size.Size}
 
 -- how many changes a size says
 abbrev pub count_of : Size → ℕ

@@ -4,13 +4,11 @@ ghost use Rattle.std.specs.Prelude.{◌≡◌, ◌↔◌, ◌<◌, ◌≤◌, �
 ghost use Rattle.std.specs.Prelude.{IsNone, IsSome, IfSome, OnErr, OnOk, None, Some, drop, length};
 ghost use Rattle.std.specs.Prelude.{take, vec_capacity, vec_len};
 ghost use Rattle.irig_journal.specs.Groups.{aborted, begun, ended};
-ghost use Rattle.irig_journal.specs.History.{step};
 ghost use Rattle.irig_journal.specs.Joining.{CountsAlong, beyond, changes_of, farthest};
 ghost use Rattle.irig_journal.specs.Joining.{joined_beyond};
 ghost use Rattle.irig_journal.specs.Journal.{AreReady, future_of, grouped_of, past_of, steps_in};
-ghost use Rattle.irig_journal.specs.Sides.{AreSides};
 ghost use Rattle.irig_journal.specs.Sizes.{counts_of, ended_beyond};
-ghost use Rattle.irig_journal.specs.Turns.{left_by};
+ghost use Rattle.irig_journal.specs.{History.step, Sides.AreSides, Turns.left_by};
 
 use crate::entry::{Entry, join_beyond};
 use crate::journal::Journal;

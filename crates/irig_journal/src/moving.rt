@@ -1,14 +1,11 @@
 //! Steps turned, and moved from one side of the present to the other. Nothing here takes memory.
 
 ghost use Rattle.std.specs.Prelude.{◌≡◌, ◌+◌, ◌<◌, ◌≤◌, ◌∷◌, [], reverse, vec_capacity, vec_len};
-ghost use Rattle.irig_journal.specs.Held.{Alone};
 ghost use Rattle.irig_journal.specs.History.{step, stepped_back};
 ghost use Rattle.irig_journal.specs.Journal.{AreReady, ReadyInTurn, history_of, one_of, past_of};
 ghost use Rattle.irig_journal.specs.Journal.{steps_in};
-ghost use Rattle.irig_journal.specs.Machine.{undone};
-ghost use Rattle.irig_journal.specs.Moves.{Moved};
-ghost use Rattle.irig_journal.specs.OneTurn.{LedByOneTurn};
 ghost use Rattle.irig_journal.specs.Sides.{AreSides, HavePlacesForStep, steps_on};
+ghost use Rattle.irig_journal.specs.{Held.Alone, Machine.undone, Moves.Moved, OneTurn.LedByOneTurn};
 
 use crate::Reversible;
 use crate::side::Side;

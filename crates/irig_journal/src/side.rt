@@ -1,8 +1,7 @@
 //! The steps on one side of the present.
 
 ghost use Rattle.std.specs.Prelude.{◌≡◌, ◌+◌, ◌<◌, ◌≤◌, ◌∷◌, [], vec_capacity, vec_len};
-ghost use Rattle.irig_journal.specs.Held.{Alone, held};
-ghost use Rattle.irig_journal.specs.Sides.{IsWhole, steps_on};
+ghost use Rattle.irig_journal.specs.{Held.Alone, Held.held, Sides.IsWhole, Sides.steps_on};
 
 use crate::entry::Entry;
 use crate::size::Size;

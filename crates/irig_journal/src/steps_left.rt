@@ -2,8 +2,7 @@
 
 ghost use Rattle.std.specs.Prelude.{◌≡◌, ◌≤◌, ◌∷◌, [], IfSome, MatchOption, false, length};
 ghost use Rattle.std.specs.List.{sum_by};
-ghost use Rattle.irig_journal.specs.Held.{held_of, with_end};
-ghost use Rattle.irig_journal.specs.Sizes.{is_group};
+ghost use Rattle.irig_journal.specs.{Held.held_of, Held.with_end, Sizes.is_group};
 
 use crate::Reversible;
 use crate::entry::Entry;

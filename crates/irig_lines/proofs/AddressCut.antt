@@ -1,20 +1,13 @@
 -- Addresses and ranges, cut at the sign and at the comma that they are put together round.
 use Rattle.std.proofs.Common.{◌≡◌, ◌==◌, ◌+◌, ◌<◌, ◌≤◌, ℕ, ℤ, ◌++◌, Bool, true, false, not, ◌||◌, List, [], ◌∷◌, length, drop, refl, sym, ap, ap₂, ◌∙◌, subst}
 use Rattle.std.proofs.Common.{arith}
-use Rattle.std.proofs.lemmas.Bool.Decides.{nat_tests}
-use Rattle.std.proofs.lemmas.List.{append-nil}
-use Rattle.std.proofs.lemmas.Bool.{and_from, and_parts}
-use Rattle.std.proofs.lemmas.List.Folds.{list_all-append}
+use Rattle.std.proofs.lemmas.{Bool.Decides.nat_tests, List.append-nil, Bool.and_from, Bool.and_parts, List.Folds.list_all-append}
 use Rattle.std.specs.List.{list_all}
 use Rattle.irig_lines.specs.Addresses.{IsAddress, IsBase, IsOffset, IsPair, IsAddressOrCursor, IsRange}
-use Rattle.irig_lines.specs.Numbers.{is_digit, is_sign}
-use Rattle.irig_lines.specs.Words.{before, is_letter, onward}
-use Rattle.irig_lines.specs.declared.address.Address.{Address}
-use Rattle.irig_lines.specs.declared.address.Base.{Base}
 use Rattle.irig_lines.specs.declared.address.Base.TheVariants.{Number, Current, Last, Mark}
 use Rattle.irig_lines.specs.declared.cutting.Until.TheVariants.{Comma, Sign}
-use Rattle.irig_lines.specs.declared.range.Range.{Range}
-use Rattle.irig_lines.specs.declared.range.Range.TheVariants.{One, Two}
+use Rattle.irig_lines.specs.{Numbers.is_digit, Numbers.is_sign, Words.before, Words.is_letter, Words.onward, declared.address.Address.Address}
+use Rattle.irig_lines.specs.{declared.address.Base.Base, declared.range.Range.Range, declared.range.Range.TheVariants.One, declared.range.Range.TheVariants.Two}
 use Rattle.irig_lines.proofs.WordLemmas.{BeginsAt, Lacks, before_front, cut_begins, cut_whole, onward_back}
 
 -- the bytes of a base

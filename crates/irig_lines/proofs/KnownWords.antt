@@ -1,16 +1,9 @@
 -- Words that are there, one after another, and words that ask for nothing.
 use Rattle.std.proofs.Common.{◌≡◌, ◌≤◌, ◌∷◌, [], ℕ, List, Some, length, sym, ap, ◌∙◌, subst, arith}
-use Rattle.irig_moment.specs.Moment.{MomentView}
-use Rattle.irig_moment.specs.Written.{moment_of}
+use Rattle.irig_moment.specs.{Moment.MomentView, Written.moment_of}
 use Rattle.std.specs.Prelude.{Result, Ok, Err, IfOk, IsErrAnd, OnErr}
-use Rattle.irig_lines.specs.Addresses.{IsTime}
-use Rattle.irig_lines.specs.Commands.{Asks}
-use Rattle.irig_lines.specs.Findings.{Finds}
-use Rattle.irig_lines.specs.Words.{word_and}
-use Rattle.irig_lines.specs.declared.command.Command.{Command}
-use Rattle.irig_lines.specs.declared.keyword.Keyword.{Keyword}
-use Rattle.irig_lines.specs.declared.time.Time.{Time}
-use Rattle.irig_lines.specs.declared.time.Time.TheVariants.{At, Mark}
+use Rattle.irig_lines.specs.{Addresses.IsTime, Commands.Asks, Findings.Finds, Words.word_and, declared.command.Command.Command}
+use Rattle.irig_lines.specs.{declared.keyword.Keyword.Keyword, declared.time.Time.Time, declared.time.Time.TheVariants.At, declared.time.Time.TheVariants.Mark}
 
 first_word : (x y : List ℕ) (xs ys : List (List ℕ)) → x ∷ xs ≡ y ∷ ys → x ≡ y
 first_word x y xs ys e = cc

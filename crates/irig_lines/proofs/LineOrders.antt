@@ -1,20 +1,14 @@
 -- A line asks for one command at most: it is put together in one way.
 use Rattle.std.proofs.Common.{◌≡◌, ◌==◌, ℕ, ◌++◌, true, false, not, List, [], ◌∷◌, take, drop, refl, sym, ap, ◌∙◌, subst, arith, inl, inr}
-use Rattle.std.proofs.lemmas.Bool.Decides.{nat_tests}
-use Rattle.std.proofs.lemmas.Bool.{and_parts}
+use Rattle.std.proofs.lemmas.{Bool.Decides.nat_tests, Bool.and_parts}
 use Rattle.std.specs.List.{list_all}
 use Rattle.irig_lines.specs.Grammar.{AsksIn, Does, IsOrder, IsWord, Means, Orders, follows_range, is_nothing}
-use Rattle.irig_lines.specs.Keywords.{keyword_of}
 use Rattle.irig_lines.specs.Words.{before, is_letter, is_space, onward, words_of}
-use Rattle.irig_lines.specs.declared.command.Command.{Command}
-use Rattle.irig_lines.specs.declared.cutting.Until.TheVariants.{Text}
+use Rattle.irig_lines.specs.{Keywords.keyword_of, declared.command.Command.Command, declared.cutting.Until.TheVariants.Text}
 use Rattle.irig_lines.specs.declared.keyword.Keyword.TheVariants as word
-use Rattle.irig_lines.proofs.AddressCut.{is_range_byte, range_first}
-use Rattle.irig_lines.proofs.RangeCut.{range_found, range_length}
-use Rattle.irig_lines.proofs.SameCommand.{asks_one}
-use Rattle.irig_lines.proofs.Spacing.{blank_before, onward_blank}
-use Rattle.irig_lines.proofs.WordLemmas.{cut_whole, onward_at}
 use Rattle.irig_lines.proofs.OrderParts.{follows, found_words, known_letters, ranged_in}
+use Rattle.irig_lines.proofs.{AddressCut.is_range_byte, AddressCut.range_first, RangeCut.range_found, RangeCut.range_length, SameCommand.asks_one}
+use Rattle.irig_lines.proofs.{Spacing.blank_before, Spacing.onward_blank, WordLemmas.cut_whole, WordLemmas.onward_at}
 
 -- two orders of one text are of one range and of the same words
 asks_in_one : (range : List ℕ) (words : List (List ℕ)) (c d : Command) → AsksIn range words c → AsksIn range words d → c ≡ d

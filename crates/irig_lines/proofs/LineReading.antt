@@ -1,23 +1,15 @@
 -- What the parser reads of a line is how the line is put together.
 use Rattle.std.proofs.Common.{◌≡◌, ℕ, ◌++◌, true, false, List, [], ◌∷◌, refl, sym, ap, ◌∙◌, subst, inl, inr}
-use Rattle.std.proofs.lemmas.Bool.{not-true}
-use Rattle.std.proofs.lemmas.List.{append-nil}
-use Rattle.irig_lines.specs.Addresses.{IsRange}
-use Rattle.irig_lines.specs.Commands.{Asks}
+use Rattle.std.proofs.lemmas.{Bool.not-true, List.append-nil}
 use Rattle.irig_lines.specs.Grammar.{AreWords, AsksIn, Does, IsBlank, IsOrder, Means, Orders, follows_range, is_nothing}
-use Rattle.irig_lines.specs.Keywords.{keyword_of}
-use Rattle.irig_lines.specs.Words.{before, is_space, onward, word_and, words_of}
-use Rattle.irig_lines.specs.declared.command.Command.{Command}
-use Rattle.irig_lines.specs.declared.command.Command.TheVariants as command
 use Rattle.irig_lines.specs.declared.cutting.Until.TheVariants.{Blank, Text}
-use Rattle.irig_lines.specs.declared.keyword.Keyword.{Keyword}
+use Rattle.irig_lines.specs.{Addresses.IsRange, Commands.Asks, Keywords.keyword_of, Words.before, Words.is_space, Words.onward, Words.word_and, Words.words_of}
+use Rattle.irig_lines.specs.{declared.command.Command.Command, declared.keyword.Keyword.Keyword, declared.range.Range.Range}
+use Rattle.irig_lines.specs.declared.command.Command.TheVariants as command
 use Rattle.irig_lines.specs.declared.keyword.Keyword.TheVariants as word
-use Rattle.irig_lines.specs.declared.range.Range.{Range}
-use Rattle.irig_lines.proofs.KnownWords.{next_word}
-use Rattle.irig_lines.proofs.Spacing.{arguments_behind, blank_before, word_before}
 use Rattle.irig_lines.proofs.WordLemmas.{BeginsAt, before_on, cut_begins, cut_whole, onward_on}
-use Rattle.irig_lines.proofs.OrderParts.{follows, found_words, ranged_in}
-use Rattle.irig_lines.proofs.LineOrders.{means_onward, onward_means}
+use Rattle.irig_lines.proofs.{KnownWords.next_word, Spacing.arguments_behind, Spacing.blank_before, Spacing.word_before, OrderParts.follows}
+use Rattle.irig_lines.proofs.{OrderParts.found_words, OrderParts.ranged_in, LineOrders.means_onward, LineOrders.onward_means}
 
 -- the parts that the parser cuts are an order
 pub order_of : (text front rest : List ℕ) (c : Command) → text ≡ front ++ rest

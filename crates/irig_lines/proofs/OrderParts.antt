@@ -1,21 +1,12 @@
 -- The range and the words of an order, and what is between them.
 use Rattle.std.proofs.Common.{◌≡◌, ℕ, ◌++◌, Bool, true, false, List, [], ◌∷◌, Option, Some, None, refl, sym, ◌∙◌, subst, unwrap_or, if◌then◌else◌}
-use Rattle.std.proofs.lemmas.Slice.Eq.{bytes_eq-Decides}
-use Rattle.std.proofs.lemmas.Bool.{and_parts, or_right}
-use Rattle.std.specs.List.{list_all}
-use Rattle.std.specs.Str.{bytes_eq}
-use Rattle.irig_lines.specs.Addresses.{IsAddress, IsAddressOrCursor, IsRange, at}
-use Rattle.irig_lines.specs.Commands.{Asks}
-use Rattle.irig_lines.specs.Grammar.{AreWords, AsksIn, IsBlank, IsOrder, IsWord, follows_range}
-use Rattle.irig_lines.specs.Keywords.{keyword_of, keywords}
-use Rattle.irig_lines.specs.Tables.{found}
-use Rattle.irig_lines.specs.Words.{is_letter, is_space, words_of}
-use Rattle.irig_lines.specs.declared.address.Base.TheVariants.{Current}
-use Rattle.irig_lines.specs.declared.command.Command.{Command}
-use Rattle.irig_lines.specs.declared.keyword.Keyword.{Keyword}
+use Rattle.std.proofs.lemmas.{Slice.Eq.bytes_eq-Decides, Bool.and_parts, Bool.or_right}
+use Rattle.std.specs.{List.list_all, Str.bytes_eq}
+use Rattle.irig_lines.specs.{Addresses.IsAddress, Addresses.IsAddressOrCursor, Addresses.IsRange, Addresses.at, Commands.Asks, Grammar.AreWords, Grammar.AsksIn}
+use Rattle.irig_lines.specs.{Grammar.IsBlank, Grammar.IsOrder, Grammar.IsWord, Grammar.follows_range, Keywords.keyword_of, Keywords.keywords, Tables.found}
+use Rattle.irig_lines.specs.{Words.is_letter, Words.is_space, Words.words_of, declared.address.Base.TheVariants.Current, declared.command.Command.Command}
+use Rattle.irig_lines.specs.{declared.keyword.Keyword.Keyword, declared.range.Range.Range, declared.range.Range.TheVariants.One}
 use Rattle.irig_lines.specs.declared.keyword.Keyword.TheVariants as word
-use Rattle.irig_lines.specs.declared.range.Range.{Range}
-use Rattle.irig_lines.specs.declared.range.Range.TheVariants.{One}
 use Rattle.irig_lines.proofs.Spacing.{words_behind, words_found}
 
 -- the words of the language are letters

@@ -1,19 +1,13 @@
 -- Where the range at the front of a text ends: the loop that looks for it, and the ranges that it finds.
 use Rattle.std.proofs.Common.{◌≡◌, ◌==◌, ℕ, ℤ, suc, ◌+◌, ◌<◌, ◌≤◌, ◌++◌, Bool, true, false, not, ◌&&◌, ◌||◌, List, [], ◌∷◌, length, take, drop, get_or, refl}
 use Rattle.std.proofs.Common.{sym, ap, ap₂, ◌∙◌, subst, arith, append_assoc, length-append, if◌then◌else◌, drop-cons}
-use Rattle.std.proofs.Math.ListN.{drop_of_length-le}
-use Rattle.std.proofs.Math.Seq.{take-append_seam, drop-append_seam}
+use Rattle.std.proofs.{Math.ListN.drop_of_length-le, Math.Seq.take-append_seam, Math.Seq.drop-append_seam}
 use Rattle.std.proofs.lemmas.Bool.Decides.{nat_tests}
 use Rattle.std.specs.List.{list_all}
 use Rattle.irig_lines.specs.Addresses.{IsAddress, IsBase, IsMark, IsOffset, IsPair, IsAddressOrCursor, IsRange, is_cursor}
-use Rattle.irig_lines.specs.Grammar.{follows_range}
-use Rattle.irig_lines.specs.Numbers.{is_digit, is_sign}
-use Rattle.irig_lines.specs.Words.{is_letter, is_space}
-use Rattle.irig_lines.specs.declared.address.Address.{Address}
-use Rattle.irig_lines.specs.declared.address.Base.{Base}
 use Rattle.irig_lines.specs.declared.address.Base.TheVariants.{Number, Current, Last, Mark}
-use Rattle.irig_lines.specs.declared.range.Range.{Range}
-use Rattle.irig_lines.specs.declared.range.Range.TheVariants.{One, Two}
+use Rattle.irig_lines.specs.{Grammar.follows_range, Numbers.is_digit, Numbers.is_sign, Words.is_letter, Words.is_space, declared.address.Address.Address}
+use Rattle.irig_lines.specs.{declared.address.Base.Base, declared.range.Range.Range, declared.range.Range.TheVariants.One, declared.range.Range.TheVariants.Two}
 
 -- white space ends the range of a line, and so does the first letter of a word, which is one that
 -- is after no apostrophe

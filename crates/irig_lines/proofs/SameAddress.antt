@@ -5,12 +5,9 @@ use Rattle.std.specs.List.{list_all}
 use Rattle.irig_track.specs.Shifts.{ahead, back}
 use Rattle.irig_saved.specs.Letters.{letter_word}
 use Rattle.irig_lines.specs.Addresses.{IsMark, IsBase, IsOffset, IsAddress, IsPair, IsAddressOrCursor, IsRange, is_cursor}
-use Rattle.irig_lines.specs.Numbers.{IsControl, IsNumber, IsSigned, is_digit, size}
-use Rattle.irig_lines.specs.declared.address.Address.{Address}
-use Rattle.irig_lines.specs.declared.address.Base.{Base}
 use Rattle.irig_lines.specs.declared.address.Base.TheVariants.{Number, Current, Last, Mark}
-use Rattle.irig_lines.specs.declared.range.Range.{Range}
-use Rattle.irig_lines.specs.declared.range.Range.TheVariants.{One, Two}
+use Rattle.irig_lines.specs.{Numbers.IsControl, Numbers.IsNumber, Numbers.IsSigned, Numbers.is_digit, Numbers.size, declared.address.Address.Address}
+use Rattle.irig_lines.specs.{declared.address.Base.Base, declared.range.Range.Range, declared.range.Range.TheVariants.One, declared.range.Range.TheVariants.Two}
 use Rattle.irig_lines.proofs.AddressCut.{address_cut, pair_cut, place_uncut}
 
 -- numbers

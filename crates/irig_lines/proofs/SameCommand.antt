@@ -1,24 +1,18 @@
 -- A range, a word and arguments ask for one command at most.
 use Rattle.std.proofs.Common.{◌≡◌, ◌+◌, ℕ, ℤ, List, [], ◌∷◌, Option, Some, refl, sym, ap, ap₂, ◌∙◌, subst, arith}
-use Rattle.irig_codes.specs.declared.width.Element.{Element}
+use Rattle.irig_codes.specs.{declared.width.Element.Element, Words.element_word, Words.kind_word}
 use Rattle.irig_codes.specs.declared.width.Element.TheVariants as element
-use Rattle.irig_moment.specs.Moment.{MomentView}
-use Rattle.irig_moment.specs.Written.{moment_of}
-use Rattle.irig_codes.specs.Words.{element_word, kind_word}
+use Rattle.irig_moment.specs.{Moment.MomentView, Written.moment_of}
 use Rattle.irig_saved.specs.Letters.{letter_word}
 use Rattle.irig_saved.proofs.SameWords.{same_kind}
-use Rattle.irig_lines.specs.Addresses.{IsTime}
 use Rattle.irig_lines.specs.Arguments.{AreControls, AreFrames, AreTimes, IsExpression}
-use Rattle.irig_lines.specs.Commands.{Asks}
 use Rattle.irig_lines.specs.Numbers.{IsDistance, IsNumber, sign_of, size, unsigned}
-use Rattle.irig_lines.specs.declared.command.Command.{Command}
+use Rattle.irig_lines.specs.{Addresses.IsTime, Commands.Asks, declared.command.Command.Command, declared.keyword.Keyword.Keyword, declared.time.Time.Time}
 use Rattle.irig_lines.specs.declared.command.Command.TheVariants as command
-use Rattle.irig_lines.specs.declared.keyword.Keyword.{Keyword}
 use Rattle.irig_lines.specs.declared.keyword.Keyword.TheVariants as word
-use Rattle.irig_lines.specs.declared.time.Time.{Time}
 use Rattle.irig_lines.specs.declared.time.Time.TheVariants as time
-use Rattle.irig_lines.proofs.SameAddress.{address_one, control_one, letter_one, mark_one, number_not_mark, number_one}
-use Rattle.irig_lines.proofs.SameAddress.{address_or_cursor_one, range_one, signed_one}
+use Rattle.irig_lines.proofs.SameAddress.{address_one, control_one, letter_one, mark_one, number_not_mark, number_one, address_or_cursor_one, range_one}
+use Rattle.irig_lines.proofs.SameAddress.{signed_one}
 
 -- times, distances and the other arguments
 time_one : (text : List ℕ) (s t : Time) → IsTime text s → IsTime text t → s ≡ t

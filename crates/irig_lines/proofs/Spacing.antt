@@ -1,15 +1,11 @@
 -- White space, words, and the words that a text is put together of.
 use Rattle.std.proofs.Common.{◌≡◌, ◌≢◌, ℕ, ◌++◌, Bool, true, false, not, List, [], ◌∷◌, refl, sym, ap, ap₂, ◌∙◌, subst, append_assoc}
-use Rattle.std.proofs.lemmas.List.{append-nil}
-use Rattle.std.proofs.lemmas.Bool.{and_from, and_parts}
-use Rattle.std.proofs.lemmas.List.Folds.{list_all-append}
+use Rattle.std.proofs.lemmas.{List.append-nil, Bool.and_from, Bool.and_parts, List.Folds.list_all-append}
 use Rattle.std.specs.List.{list_all}
-use Rattle.irig_lines.specs.Grammar.{AreArguments, AreWords, IsBlank, IsWord}
-use Rattle.irig_lines.specs.Words.{before, is_space, onward, words_of}
-use Rattle.irig_lines.specs.declared.cutting.Until.TheVariants.{Blank, Text}
-use Rattle.irig_lines.proofs.WordLemmas.{BeginsAt, Lacks, before_at, before_front, before_on, cut_whole}
-use Rattle.irig_lines.proofs.WordLemmas.{lacks_first, onward_at, onward_back}
-use Rattle.irig_lines.proofs.WordLemmas.{onward_on, words_begun, words_blank}
+use Rattle.irig_lines.specs.{Grammar.AreArguments, Grammar.AreWords, Grammar.IsBlank, Grammar.IsWord, Words.before, Words.is_space, Words.onward}
+use Rattle.irig_lines.specs.{Words.words_of, declared.cutting.Until.TheVariants.Blank, declared.cutting.Until.TheVariants.Text}
+use Rattle.irig_lines.proofs.WordLemmas.{BeginsAt, Lacks, before_at, before_front, before_on, cut_whole, lacks_first, onward_at, onward_back, onward_on}
+use Rattle.irig_lines.proofs.WordLemmas.{words_begun, words_blank}
 
 -- one more byte of white space
 blank_first : (b : ℕ) (s : List ℕ) → IsBlank (b ∷ s) → (is_space b ≡ true) × IsBlank s

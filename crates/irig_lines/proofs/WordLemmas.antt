@@ -1,12 +1,10 @@
 -- A text cut at a byte, and the words of a line.
-use Rattle.std.proofs.Common.{◌≡◌, ℕ, ◌-◌, ◌++◌, Bool, true, false, not, ◌&&◌, List, [], ◌∷◌, length, take, drop, refl, sym}
-use Rattle.std.proofs.Common.{ap, ap₂, ◌∙◌, subst}
+use Rattle.std.proofs.Common.{◌≡◌, ℕ, ◌-◌, ◌++◌, Bool, true, false, not, ◌&&◌, List, [], ◌∷◌, length, take, drop, refl, sym, ap, ap₂, ◌∙◌, subst}
 use Rattle.std.proofs.Math.Seq.{take-length}
 use Rattle.std.proofs.lemmas.List.{length-drop}
 use Rattle.std.specs.List.{list_all, onto_first}
 use Rattle.irig_lines.specs.Words.{is_space, is_at, before, onward, begins_word, words_of, word_and}
-use Rattle.irig_lines.specs.declared.cutting.Until.{Until}
-use Rattle.irig_lines.specs.declared.cutting.Until.TheVariants.{Blank, Text}
+use Rattle.irig_lines.specs.{declared.cutting.Until.Until, declared.cutting.Until.TheVariants.Blank, declared.cutting.Until.TheVariants.Text}
 
 -- what is left of a text is all that is after a place
 pub rest_whole : (l : List ℕ) (done : ℕ) → take (length l - done) (drop done l) ≡ drop done l

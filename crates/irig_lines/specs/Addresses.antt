@@ -10,12 +10,10 @@ use Rattle.std.specs.Prelude.{◌≡◌, ◌≢◌, ◌==◌, ◌<◌, ℕ, ℤ,
 use Rattle.std.specs.Prelude.{◌++◌}
 use Rattle.irig_saved.specs.Letters.{letter_word}
 use Rattle.irig_lines.specs.Numbers.{IsNumber, IsSigned, is_sign, size}
-use Rattle.irig_lines.specs.declared.address.Base.{Base}
 use Rattle.irig_lines.specs.declared.address.Base.TheVariants.{Number, Current, Last, Mark}
-use Rattle.irig_lines.specs.declared.address.Address.{Address}
-use Rattle.irig_lines.specs.declared.range.Range.{Range}
 use Rattle.irig_lines.specs.declared.range.Range.TheVariants.{One, Two}
-use Rattle.irig_lines.specs.declared.time.Time.{Time}
+use Rattle.irig_lines.specs.{declared.address.Base.Base, declared.address.Address.Address}
+use Rattle.irig_lines.specs.{declared.range.Range.Range, declared.time.Time.Time}
 use Rattle.irig_lines.specs.declared.time.Time.TheVariants as time
 
 -- an apostrophe and the letter of a mark

@@ -1,10 +1,8 @@
 -- The arguments of a line: times, frames, expressions and control functions. This project's own.
 use Rattle.std.specs.Prelude.{◌≡◌, ◌+◌, ◌≤◌, ℕ, List, [], ◌∷◌, Some}
-use Rattle.irig_moment.specs.Written.{moment_of}
-use Rattle.irig_moment.specs.Moment.{MomentView}
-use Rattle.irig_lines.specs.Addresses.{IsTime}
+use Rattle.irig_moment.specs.{Written.moment_of, Moment.MomentView}
 use Rattle.irig_lines.specs.Numbers.{IsNumber, IsControl}
-use Rattle.irig_lines.specs.declared.time.Time.{Time}
+use Rattle.irig_lines.specs.{Addresses.IsTime, declared.time.Time.Time}
 
 -- the word is one digit from 0 to 7
 abbrev pub IsExpression : List ℕ → ℕ → Type 0

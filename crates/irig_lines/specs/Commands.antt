@@ -1,20 +1,16 @@
 -- What each word of the language asks for. This project's own, after the commands of ed.
 use Rattle.std.specs.Prelude.{◌≡◌, ◌<◌, ℕ, ℤ, List, [], ◌∷◌}
-use Rattle.irig_codes.specs.declared.format.Kind.{Kind}
-use Rattle.irig_codes.specs.declared.width.Element.{Element}
+use Rattle.irig_codes.specs.Words.{element_word, kind_word}
+use Rattle.irig_codes.specs.{declared.format.Kind.Kind, declared.width.Element.Element}
 use Rattle.irig_moment.specs.Moment.{MomentView}
 use Rattle.irig_saved.specs.Letters.{letter_word}
 use Rattle.irig_lines.specs.Addresses.{IsAddress, IsAddressOrCursor, IsRange, IsTime}
-use Rattle.irig_codes.specs.Words.{element_word, kind_word}
 use Rattle.irig_lines.specs.Arguments.{AreFrames, AreTimes, IsExpression}
-use Rattle.irig_lines.specs.Numbers.{IsDistance}
-use Rattle.irig_lines.specs.declared.address.Address.{Address}
-use Rattle.irig_lines.specs.declared.command.Command.{Command}
+use Rattle.irig_lines.specs.{Numbers.IsDistance, declared.address.Address.Address}
+use Rattle.irig_lines.specs.{declared.command.Command.Command, declared.keyword.Keyword.Keyword}
+use Rattle.irig_lines.specs.{declared.range.Range.Range, declared.time.Time.Time}
 use Rattle.irig_lines.specs.declared.command.Command.TheVariants as command
-use Rattle.irig_lines.specs.declared.keyword.Keyword.{Keyword}
 use Rattle.irig_lines.specs.declared.keyword.Keyword.TheVariants as word
-use Rattle.irig_lines.specs.declared.range.Range.{Range}
-use Rattle.irig_lines.specs.declared.time.Time.{Time}
 
 -- a word that takes neither a range nor an argument
 abbrev pub IsAlone : Keyword → Type 0

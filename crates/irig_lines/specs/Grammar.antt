@@ -6,12 +6,10 @@
 -- order := [range] blank [word (space argument)*] blank
 use Rattle.std.specs.Prelude.{◌≡◌, ◌≢◌, ◌⊎◌, ◌==◌, ℕ, Bool, true, not, ◌||◌, List, [], ◌∷◌, ◌++◌}
 use Rattle.std.specs.List.{list_all}
-use Rattle.irig_lines.specs.Commands.{Asks}
-use Rattle.irig_lines.specs.Keywords.{keyword_of}
-use Rattle.irig_lines.specs.Words.{is_letter, is_space}
 use Rattle.irig_lines.specs.declared.command.Command.{Command}
-use Rattle.irig_lines.specs.declared.command.Command.TheVariants as command
 use Rattle.irig_lines.specs.declared.keyword.Keyword.TheVariants.{Missing}
+use Rattle.irig_lines.specs.{Commands.Asks, Keywords.keyword_of, Words.is_letter, Words.is_space}
+use Rattle.irig_lines.specs.declared.command.Command.TheVariants as command
 
 -- white space, or nothing
 abbrev pub IsBlank : List ℕ → Type 0

@@ -1,7 +1,6 @@
 -- The words that lines begin with. This project's own.
 use Rattle.std.specs.Prelude.{List, [], ◌∷◌, ℕ, codes, unwrap_or}
-use Rattle.irig_lines.specs.Tables.{found}
-use Rattle.irig_lines.specs.declared.keyword.Keyword.{Keyword}
+use Rattle.irig_lines.specs.{Tables.found, declared.keyword.Keyword.Keyword}
 use Rattle.irig_lines.specs.declared.keyword.Keyword.TheVariants as word
 
 -- the words of the language, each with what it means; nothing is the word that is missing

@@ -2,10 +2,8 @@
 use Rattle.std.specs.Prelude.{◌==◌, ℕ, Bool, true, false, not, ◌&&◌, List, [], ◌∷◌, length, nat_lt}
 use Rattle.std.specs.Prelude.{if◌then◌else◌}
 use Rattle.std.specs.List.{onto_first}
-use Rattle.irig_lines.specs.Words.{words_of}
-use Rattle.irig_lines.specs.Keywords.{keyword_of}
-use Rattle.irig_lines.specs.declared.keyword.Keyword.{Keyword}
 use Rattle.irig_lines.specs.declared.keyword.Keyword.TheVariants.{Quit}
+use Rattle.irig_lines.specs.{Words.words_of, Keywords.keyword_of, declared.keyword.Keyword.Keyword}
 
 -- the lines of a text: a newline ends each, and a last one without it counts
 abbrev pub lines_of : List ℕ → List (List ℕ)

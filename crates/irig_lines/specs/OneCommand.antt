@@ -1,7 +1,6 @@
 -- That a line asks for one command at most. This project's own.
 use Rattle.std.specs.Prelude.{◌≡◌, ℕ, List}
-use Rattle.irig_lines.specs.Grammar.{Means}
-use Rattle.irig_lines.specs.declared.command.Command.{Command}
+use Rattle.irig_lines.specs.{Grammar.Means, declared.command.Command.Command}
 
 -- two commands that a line asks for are the same
 abbrev pub OneCommand : Type 0

@@ -2,9 +2,8 @@
 use Rattle.std.specs.Prelude.{◌==◌, ℕ, Bool, false, not, ◌&&◌, ◌||◌, nat_le, List, [], ◌∷◌}
 use Rattle.std.specs.Prelude.{if◌then◌else◌}
 use Rattle.std.specs.List.{onto_first}
-use Rattle.irig_lines.specs.Numbers.{is_sign}
-use Rattle.irig_lines.specs.declared.cutting.Until.{Until}
 use Rattle.irig_lines.specs.declared.cutting.Until.TheVariants.{Blank, Text, Sign, Comma}
+use Rattle.irig_lines.specs.{Numbers.is_sign, declared.cutting.Until.Until}
 
 -- the white space of a line: space, tab and carriage return
 abbrev pub is_space : ℕ → Bool

@@ -3,9 +3,8 @@
 ghost use Rattle.std.specs.Prelude.{◌≡◌, Some};
 ghost use Rattle.irig_moment.specs.Written.{moment_of};
 ghost use Rattle.irig_codes.specs.Words.{element_word, kind_word};
-ghost use Rattle.irig_lines.specs.Findings.{Finds};
 ghost use Rattle.irig_lines.specs.Arguments.{AreControls, AreTimes, IsExpression};
-ghost use Rattle.irig_lines.specs.Words.{words_of};
+ghost use Rattle.irig_lines.specs.{Findings.Finds, Words.words_of};
 
 use crate::addresses::time;
 use crate::command::BadLine;

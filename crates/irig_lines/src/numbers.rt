@@ -2,8 +2,8 @@
 
 ghost use Rattle.std.specs.Prelude.{◌≡◌, ◌<◌, ◌^◌, IfOk};
 ghost use Rattle.irig_lines.specs.Findings.{Finds};
-ghost use Rattle.irig_lines.specs.Numbers.{IsNumber, IsDistance, IsControl, IsSigned};
-ghost use Rattle.irig_lines.specs.Numbers.{is_digit, size, hex_digit};
+ghost use Rattle.irig_lines.specs.Numbers.{IsNumber, IsDistance, IsControl, IsSigned, is_digit};
+ghost use Rattle.irig_lines.specs.Numbers.{size, hex_digit};
 
 use crate::command::BadLine;
 use crate::cutting::is_sign;

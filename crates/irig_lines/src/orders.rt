@@ -1,11 +1,8 @@
 //! What a word asks for with a range and arguments.
 
 ghost use Rattle.std.specs.Prelude.{◌≡◌, [], OnOk, OnErr};
-ghost use Rattle.irig_lines.specs.Findings.{Finds};
-ghost use Rattle.irig_lines.specs.Addresses.{IsRange};
-ghost use Rattle.irig_lines.specs.Commands.{Asks};
-ghost use Rattle.irig_lines.specs.Words.{words_of};
-ghost use Rattle.irig_lines.specs.declared.keyword.Keyword.{Keyword};
+ghost use Rattle.irig_lines.specs.{Findings.Finds, Addresses.IsRange, Commands.Asks};
+ghost use Rattle.irig_lines.specs.{Words.words_of, declared.keyword.Keyword.Keyword};
 
 use crate::addresses::{address, address_or_cursor, letter, range, time};
 use crate::arguments::{controls, element, expression, kind, moment, times};

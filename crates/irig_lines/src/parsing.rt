@@ -1,13 +1,11 @@
 //! Lines of a script as commands.
 
 ghost use Rattle.std.specs.Prelude.{◌≡◌, ◌++◌, ◌&&◌, ◌||◌, not, ℕ, List, [], true, IfOk, OnErr};
-ghost use Rattle.irig_lines.specs.Findings.{Finds};
-ghost use Rattle.irig_lines.specs.Addresses.{IsRange};
 ghost use Rattle.irig_lines.specs.Commands.{Asks, IsAlone};
 ghost use Rattle.irig_lines.specs.Words.{is_letter, is_space, words_of};
-ghost use Rattle.irig_lines.specs.declared.range.Range.{Range};
 ghost use Rattle.irig_lines.specs.Grammar.{Means, Orders, follows_range, is_nothing};
 ghost use Rattle.irig_lines.specs.declared.command.Command.{Command};
+ghost use Rattle.irig_lines.specs.{Findings.Finds, Addresses.IsRange, declared.range.Range.Range};
 
 use crate::command::{BadLine, Command};
 use crate::cutting::{Until, cut, is_space};

@@ -1,18 +1,14 @@
 -- Years and days by their numbers.
 use Rattle.std.proofs.Common.{◌≡◌, ℕ, zero, suc, ◌+◌, ◌-◌, ◌<◌, ◌≤◌, ◌⊎◌, inl, inr, nat_le, Bool, true, false, cond, pos, ◌+ℤ◌, ◌≤ℤ◌, neg_ℤ, unsigned_abs, Some}
 use Rattle.std.proofs.Common.{refl, sym, ap, subst, ◌∙◌, arith}
-use Rattle.std.proofs.lemmas.Bool.{le-leb, leb-false, leb-true, lt-leb}
+use Rattle.std.proofs.lemmas.{Bool.le-leb, Bool.leb-false, Bool.leb-true, Bool.lt-leb, Int.by_lt_z}
 use Rattle.std.proofs.Math.Nat.{eq-or-lt_of_le}
-use Rattle.std.proofs.lemmas.Int.{by_lt_z}
 use Rattle.std.specs.Prelude.{ℤ, negsuc}
-use Rattle.jiff_core.specs.Date.{ordinal}
-use Rattle.jiff_core.specs.declared.civil.date.Date.{Date}
-use Rattle.jiff_core.specs.Date.{epoch_day}
-use Rattle.jiff_core.proofs.DateLemmas.{civil}
 use Rattle.jiff_core.specs.Calendar.{day_count, days_in_year, days_in_month, day_of_year, IsCivilDate}
-use Rattle.jiff_core.proofs.SignedLemmas.{signed_arith}
+use Rattle.jiff_core.specs.{Date.ordinal, Date.epoch_day, declared.civil.date.Date.Date}
 use Rattle.jiff_core.proofs.CalendarLemmas.{days_in_year_bounds, day_count-next_year, day_count-later_year, day_count-year_bounds, day_count-day_of_year}
 use Rattle.jiff_core.proofs.CalendarLemmas.{day_of_year_bound, day_count_bounds, days_from_civil-day_count}
+use Rattle.jiff_core.proofs.{DateLemmas.civil, SignedLemmas.signed_arith}
 use Rattle.irig_moment.specs.Calendar.{day_number, new_year_of, last_year, year_of, place_of, civil_day_of, IsDay}
 
 -- 1 January of the years that are spoken of

@@ -2,12 +2,10 @@
 use Rattle.std.proofs.Common.{◌≡◌, ℕ, ◌+◌, ◌*◌, ◌/◌, ◌%◌, ◌^◌, ◌<◌, ◌≤◌, nat_le, nat_lt, true, Option, refl, mul-le-mul, arith}
 use Rattle.std.proofs.lemmas.Bool.{and_from, eq-eqb, le-leb, lt-ltb}
 use Rattle.irig_codes.specs.Format.{FormatView, frame_period_of, has_hundredths, has_control, has_year, carries_sbs, control_count_of}
-use Rattle.irig_codes.specs.Fields.{fits_in, fits_part, is_in_range, part}
-use Rattle.irig_codes.proofs.FieldLemmas.{fits_part-part}
-use Rattle.irig_codes.specs.declared.format.Kind.{Kind}
 use Rattle.irig_codes.specs.declared.format.Kind.TheVariants.{A, B, E, G}
 use Rattle.irig_codes.specs.declared.note.Name.TheVariants.{Hundredths, Seconds}
-use Rattle.irig_codes.specs.declared.fields.Fields.{Fields}
+use Rattle.irig_codes.specs.{Fields.fits_in, Fields.fits_part, Fields.is_in_range, Fields.part, declared.format.Kind.Kind, declared.fields.Fields.Fields}
+use Rattle.irig_codes.proofs.FieldLemmas.{fits_part-part}
 use Rattle.irig_moment.specs.Generated.{period_of}
 
 hundredths-fit : (k : Kind) (t : ℕ) → t % 6000 % (frame_period_of k / 10000) ≡ 0

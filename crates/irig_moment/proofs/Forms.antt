@@ -1,8 +1,6 @@
 -- Texts of a form, and the numbers in them.
-use Rattle.std.proofs.Common.{◌≡◌, ℕ, suc, ◌+◌, ◌-◌, ◌*◌, ◌<◌, ◌≤◌, ◌&&◌, ◌^◌, false, List, [], ◌∷◌, length, take, drop, get_or, refl, ap, ◌∙◌}
-use Rattle.std.proofs.Common.{arith}
-use Rattle.std.proofs.Math.Bool.{and-false}
-use Rattle.std.proofs.Math.Nat.{pow-suc}
+use Rattle.std.proofs.Common.{◌≡◌, ℕ, suc, ◌+◌, ◌-◌, ◌*◌, ◌<◌, ◌≤◌, ◌&&◌, ◌^◌, false, List, [], ◌∷◌, length, take, drop, get_or, refl, ap, ◌∙◌, arith}
+use Rattle.std.proofs.{Math.Bool.and-false, Math.Nat.pow-suc}
 use Rattle.std.proofs.lemmas.List.{drop_more}
 use Rattle.irig_moment.specs.Written.{has_form_of, fits_form_of, digits_after}
 

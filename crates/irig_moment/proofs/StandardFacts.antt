@@ -2,9 +2,7 @@
 use Rattle.std.proofs.Common.{◌≡◌, ℕ, ◌+◌, Bool, true, false, [], ◌∷◌, map, Some, None, refl, pos}
 use Rattle.std.specs.Prelude.{codes}
 use Rattle.jiff_core.specs.Calendar.{days_in_year}
-use Rattle.irig_moment.specs.Calendar.{new_year_of, day_number}
-use Rattle.irig_moment.specs.Written.{moment_of}
-use Rattle.irig_moment.specs.Generated.{starts_in}
+use Rattle.irig_moment.specs.{Calendar.new_year_of, Calendar.day_number, Written.moment_of, Generated.starts_in}
 use Rattle.irig_codes.specs.declared.format.Kind.{Kind}
 use Rattle.irig_codes.specs.declared.format.Kind.TheVariants.{A, B, E, G}
 

@@ -2,13 +2,9 @@
 use Rattle.std.proofs.Common.{◌≡◌, ℕ, ◌+◌, ◌/◌, ◌%◌, ◌<◌, ◌≤◌, Some, None, pos, ap, ◌∙◌, arith}
 use Rattle.jiff_core.specs.Calendar.{days_in_year}
 use Rattle.irig_codes.specs.Format.{FormatView, has_hundredths, has_control, has_year, carries_sbs}
-use Rattle.irig_codes.specs.Fields.{part}
-use Rattle.irig_codes.specs.declared.format.Kind.{Kind}
 use Rattle.irig_codes.specs.declared.format.Kind.TheVariants.{A, B, E, G}
-use Rattle.irig_codes.specs.declared.fields.Fields.{Fields}
-use Rattle.irig_moment.specs.Calendar.{new_year_of, place_of}
-use Rattle.irig_moment.specs.Moment.{MomentView}
-use Rattle.irig_moment.specs.Generated.{fields_at, frame_fields}
+use Rattle.irig_codes.specs.{Fields.part, declared.format.Kind.Kind, declared.fields.Fields.Fields}
+use Rattle.irig_moment.specs.{Calendar.new_year_of, Calendar.place_of, Moment.MomentView, Generated.fields_at, Generated.frame_fields}
 use Rattle.irig_moment.proofs.Days.{in-year, next-year}
 
 -- the format of a kind and an expression

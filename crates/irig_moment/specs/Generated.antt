@@ -3,10 +3,8 @@
 use Rattle.std.specs.Prelude.{ℕ, ◌+◌, ◌*◌, ◌/◌, ◌%◌, ◌==◌, Bool}
 use Rattle.irig_codes.specs.Format.{FormatView, frame_period_of, has_hundredths, has_control}
 use Rattle.irig_codes.specs.Format.{has_year, carries_sbs}
-use Rattle.irig_codes.specs.Fields.{part}
-use Rattle.irig_codes.specs.declared.fields.Fields.{Fields}
-use Rattle.irig_moment.specs.Calendar.{year_of, place_of}
-use Rattle.irig_moment.specs.Moment.{MomentView}
+use Rattle.irig_codes.specs.{Fields.part, declared.fields.Fields.Fields}
+use Rattle.irig_moment.specs.{Calendar.year_of, Calendar.place_of, Moment.MomentView}
 
 -- the frame period in hundredths of a second
 abbrev pub period_of : FormatView → ℕ

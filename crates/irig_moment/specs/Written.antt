@@ -1,8 +1,7 @@
 -- How a moment is written: this project's own choice, after ISO 8601.
 use Rattle.std.specs.Prelude.{ℕ, ◌+◌, ◌-◌, ◌*◌, ◌==◌, ◌&&◌, nat_le, Bool, true, false}
 use Rattle.std.specs.Prelude.{if◌then◌else◌, List, [], ◌∷◌, take, drop, Option, Some, None, codes}
-use Rattle.irig_moment.specs.Calendar.{ordinal_day_of, civil_day_of}
-use Rattle.irig_moment.specs.Moment.{MomentView}
+use Rattle.irig_moment.specs.{Calendar.ordinal_day_of, Calendar.civil_day_of, Moment.MomentView}
 
 -- whether a byte fits a character of a form: a digit for 0, and else the same character
 abbrev pub fits_form_of : ℕ → ℕ → Bool

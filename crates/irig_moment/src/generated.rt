@@ -1,10 +1,8 @@
 //! The fields of frames that are generated.
 
 ghost use Rattle.std.specs.Prelude.{◌≡◌, ◌+◌, ◌%◌, ◌^◌, ◌≤◌, ◌<◌, IsTrue};
-ghost use Rattle.irig_codes.specs.Format.{control_count_of};
-ghost use Rattle.irig_codes.specs.Fields.{fits_in};
-ghost use Rattle.irig_moment.specs.Calendar.{new_year_of};
-ghost use Rattle.irig_moment.specs.Generated.{period_of, fields_at};
+ghost use Rattle.irig_codes.specs.{Format.control_count_of, Fields.fits_in};
+ghost use Rattle.irig_moment.specs.{Calendar.new_year_of, Generated.period_of, Generated.fields_at};
 
 use crate::calendar::year_and_place;
 use irig_codes::{Fields, Format};

@@ -1,11 +1,9 @@
 //! Moments: a day and a time of day, to hundredths of a second.
 
 ghost use Rattle.std.specs.Prelude.{◌≡◌, ◌<◌, ◌^◌, IsTrue, IfSome};
-ghost use Rattle.irig_codes.specs.Format.{control_count_of};
-ghost use Rattle.irig_codes.specs.Fields.{fits_in};
-ghost use Rattle.irig_moment.specs.Calendar.{IsDay};
-ghost use Rattle.irig_moment.specs.Written.{moment_of, both};
+ghost use Rattle.irig_codes.specs.{Format.control_count_of, Fields.fits_in};
 ghost use Rattle.irig_moment.specs.Generated.{starts_in, frame_fields};
+ghost use Rattle.irig_moment.specs.{Calendar.IsDay, Written.moment_of, Written.both};
 
 use crate::generated::{fields_at, period};
 use crate::written::{civil_date, fine_time, has_form, ordinal_date, time};

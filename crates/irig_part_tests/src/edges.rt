@@ -1,13 +1,15 @@
 //! Edges, and the pulses and the tracks that have them.
 
+use irig_gap::Gap;
 use irig_recording::{Pulse, Recording};
 use irig_track::Track;
 use std::alloc::{AllocError, Global};
 
 /// Whether pulses have these edges, in order.
-pub(crate) fn have_edges(pulses: &[Pulse], edges: &[u64]) -> bool {
+pub(crate) fn have_edges(pulses: &Gap<Pulse>, edges: &[u64]) -> bool {
     let mut left = edges;
-    for pulse in pulses {
+    for index in 0..pulses.len() {
+        let pulse = pulses.get(index);
         match left {
             [rise, fall, rest @ ..] if *rise == pulse.rise && *fall == pulse.fall => left = rest,
             _ => return false,

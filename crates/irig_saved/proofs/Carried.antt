@@ -2,10 +2,8 @@
 use Rattle.std.proofs.Common.{◌≡◌, ◌≤◌, ◌+◌, ◌++◌, ◌∷◌, ℕ, suc, List, length, take, refl, sym, ap, ◌∙◌, append_assoc, arith, inl, inr, ◌⊎◌, subst, Result, Ok}
 use Rattle.std.proofs.Common.{Err}
 use Rattle.std.specs.Borrow.{Bor}
-use Rattle.irig_saved.specs.Lines.{text_of}
 use Rattle.irig_saved.specs.Reading.{Reads, Stops, Lacks, IsStop, Parses}
-use Rattle.irig_saved.specs.declared.stop.Stop.{Stop}
-use Rattle.irig_saved.specs.declared.stop.Stop.TheVariants.{At, Memory}
+use Rattle.irig_saved.specs.{Lines.text_of, declared.stop.Stop.Stop, declared.stop.Stop.TheVariants.At, declared.stop.Stop.TheVariants.Memory}
 use Rattle.irig_saved.proofs.Bytes.{cut_at, not_lacking}
 
 -- a text begins otherwise than with the first of these lines

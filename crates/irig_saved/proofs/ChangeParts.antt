@@ -1,25 +1,14 @@
 -- The lines of a change and of steps, whose first line has a number.
 use Rattle.std.proofs.Common.{◌≡◌, ◌++◌, ◌∷◌, [], ℕ, List, length, decimal, codes, refl, sym, ap, subst, ◌∙◌, append_assoc, lit<, inl, inr, ◌⊎◌, arith}
-use Rattle.irig_saved.specs.Lines.{line, numbered, text_of}
-use Rattle.irig_saved.specs.ChangeWords.{head_of, words_of, single_line}
 use Rattle.irig_saved.specs.SavedText.{put_of, pulse_lines, single_lines, singles_lines, change_lines, step_lines, steps_lines, counted_lines}
 use Rattle.irig_saved.specs.Ranges.{IsNumber, IsSingle, IsChange, IsStep, AreSingles, ManySteps, AreSteps}
-use Rattle.irig_saved.specs.Reading.{Reads, Stops, Lacks}
-use Rattle.irig_saved.specs.declared.single.Single.{Single}
-use Rattle.irig_saved.specs.declared.change.Change.{Change}
 use Rattle.irig_saved.specs.declared.change.Change.TheVariants.{One, Group}
-use Rattle.irig_saved.specs.declared.step.Step.{Step}
-use Rattle.irig_saved.proofs.Cuts.{IsWord}
-use Rattle.irig_saved.proofs.Decimals.{number_is_word, same_number}
-use Rattle.irig_saved.proofs.SameWords.{head_is_word, word_at, words_are_words}
-use Rattle.irig_saved.proofs.Unique.{lined, no_group, same_step}
-use Rattle.irig_saved.proofs.Bytes.{dark_lacks}
-use Rattle.irig_saved.proofs.Clean.{newline, counted_lacks, first_lacks, step_clean}
-use Rattle.irig_saved.proofs.Carried.{Differs, carried, first_line_stops, other_line, lineless}
-use Rattle.irig_saved.proofs.Rows.{step_row}
-use Rattle.irig_saved.proofs.Repeats.{Family}
-use Rattle.irig_saved.proofs.Sequences.{Both, both, line_behind_stops}
-use Rattle.irig_saved.proofs.SingleParts.{no_change, no_change_lawful}
+use Rattle.irig_saved.specs.{Lines.line, Lines.numbered, Lines.text_of, ChangeWords.head_of, ChangeWords.words_of, ChangeWords.single_line, Reading.Reads}
+use Rattle.irig_saved.specs.{Reading.Stops, Reading.Lacks, declared.single.Single.Single, declared.change.Change.Change, declared.step.Step.Step}
+use Rattle.irig_saved.proofs.{Cuts.IsWord, Decimals.number_is_word, Decimals.same_number, SameWords.head_is_word, SameWords.word_at, SameWords.words_are_words}
+use Rattle.irig_saved.proofs.{Unique.lined, Unique.no_group, Unique.same_step, Bytes.dark_lacks, Clean.newline, Clean.counted_lacks, Clean.first_lacks}
+use Rattle.irig_saved.proofs.{Clean.step_clean, Carried.Differs, Carried.carried, Carried.first_line_stops, Carried.other_line, Carried.lineless, Rows.step_row}
+use Rattle.irig_saved.proofs.{Repeats.Family, Sequences.Both, Sequences.both, Sequences.line_behind_stops, SingleParts.no_change, SingleParts.no_change_lawful}
 
 -- a word and a number
 abbrev number_line : List ℕ → ℕ → List ℕ

@@ -1,26 +1,17 @@
 -- Neither a newline nor a dollar is within a line of a saved journal.
 use Rattle.std.proofs.Common.{◌≡◌, ◌==◌, ◌<◌, ◌≤◌, ◌+◌, ◌++◌, ◌∷◌, [], ℕ, true, not, List, Option, Some, None, length, decimal, codes, nat_lt, refl, ◌∙◌, arith}
 use Rattle.std.specs.List.{AllByRecursion, list_all}
-use Rattle.std.proofs.lemmas.Bool.{and_from, and_parts, not_from_false, ne_eqb, ltb-true}
-use Rattle.std.proofs.lemmas.List.Folds.{list_all-append}
-use Rattle.irig_saved.specs.Lines.{behind, line, numbered}
-use Rattle.irig_saved.specs.ChangeWords.{head_of, words_of, single_line}
+use Rattle.std.proofs.lemmas.{Bool.and_from, Bool.and_parts, Bool.not_from_false, Bool.ne_eqb, Bool.ltb-true, List.Folds.list_all-append}
 use Rattle.irig_saved.specs.SavedText.{put_of, pulse_line, pulse_lines, single_lines, singles_lines, change_lines, step_lines, steps_lines, mark_lines}
 use Rattle.irig_saved.specs.SavedText.{counted_lines, saved_lines}
-use Rattle.irig_codes.specs.Words.{kind_word}
 use Rattle.irig_saved.specs.Ranges.{IsNumber, IsTime, IsPulse, IsSingle, IsChange, IsStep, AreSteps, IsSaved}
-use Rattle.irig_saved.specs.Reading.{Lacks}
+use Rattle.irig_saved.specs.{ChangeWords.head_of, ChangeWords.words_of, ChangeWords.single_line, declared.change.Change.TheVariants.One}
+use Rattle.irig_saved.specs.{declared.change.Change.TheVariants.Group, Lines.behind, Lines.line, Lines.numbered, Reading.Lacks, declared.single.Single.Single}
+use Rattle.irig_saved.specs.{declared.single.Single.TheVariants.Splice, declared.change.Change.Change, declared.step.Step.Step, declared.saved.Saved.Saved}
+use Rattle.irig_codes.specs.{Words.kind_word, declared.format.Kind.Kind}
 use Rattle.irig_recording.specs.declared.pulse.Pulse.{Pulse}
-use Rattle.irig_codes.specs.declared.format.Kind.{Kind}
-use Rattle.irig_saved.specs.declared.single.Single.{Single}
-use Rattle.irig_saved.specs.declared.single.Single.TheVariants.{Splice}
-use Rattle.irig_saved.specs.declared.change.Change.{Change}
-use Rattle.irig_saved.specs.declared.change.Change.TheVariants.{One, Group}
-use Rattle.irig_saved.specs.declared.step.Step.{Step}
-use Rattle.irig_saved.specs.declared.saved.Saved.{Saved}
-use Rattle.irig_saved.proofs.PlainWords.{IsPlain, ArePlain}
-use Rattle.irig_saved.proofs.Decimals.{number_is_plain}
 use Rattle.irig_saved.proofs.SameWords.{byte_is_plain, small_is_number, kind_is_plain, head_is_plain, words_are_plain}
+use Rattle.irig_saved.proofs.{PlainWords.IsPlain, PlainWords.ArePlain, Decimals.number_is_plain}
 
 -- a byte that is in no line: up to the dollar, and not the space
 pub record IsAside (b : ℕ) : Type 0 where

@@ -2,17 +2,11 @@
 use Rattle.std.proofs.Common.{◌≡◌, ◌<◌, ◌≤◌, ◌^◌, ◌++◌, ◌∷◌, [], ℕ, List, length, codes, arith, length-append}
 use Rattle.std.specs.List.{AllByRecursion}
 use Rattle.irig_saved.specs.SavedText.{single_lines, singles_lines, change_lines, step_lines, steps_lines, mark_lines, counted_lines, saved_lines, journal_text}
-use Rattle.irig_saved.specs.Numbers.{NumbersOfChange, NumbersOfSingle, NumbersOfStep}
 use Rattle.irig_saved.specs.Ranges.{IsNumber, IsTime, IsSingle, IsChange, IsStep, AreSteps, IsSaved}
-use Rattle.irig_saved.specs.declared.single.Single.{Single}
-use Rattle.irig_saved.specs.declared.single.Single.TheVariants.{Splice}
-use Rattle.irig_saved.specs.declared.change.Change.{Change}
 use Rattle.irig_saved.specs.declared.change.Change.TheVariants.{One, Group}
-use Rattle.irig_saved.specs.declared.step.Step.{Step}
-use Rattle.irig_saved.specs.declared.saved.Saved.{Saved}
-use Rattle.irig_saved.proofs.Rows.{Row, length_next, single_row, step_row}
-use Rattle.irig_saved.proofs.Texts.{length-pulse_lines}
-use Rattle.irig_saved.proofs.FaultLines.{lines_fit}
+use Rattle.irig_saved.specs.{Numbers.NumbersOfChange, Numbers.NumbersOfSingle, Numbers.NumbersOfStep, declared.single.Single.Single}
+use Rattle.irig_saved.specs.{declared.single.Single.TheVariants.Splice, declared.change.Change.Change, declared.step.Step.Step, declared.saved.Saved.Saved}
+use Rattle.irig_saved.proofs.{Rows.Row, Rows.length_next, Rows.single_row, Rows.step_row, Texts.length-pulse_lines, FaultLines.lines_fit}
 
 -- parts in a row
 module _ {X : Type 0} (lines : X → List (List ℕ)) (all : List X → List (List ℕ)) (row : Row lines all) where

@@ -1,14 +1,11 @@
 -- Numbers are plain words, and words determine their numbers.
-use Rattle.std.proofs.Common.{◌≡◌, ◌<◌, ◌+◌, ◌%◌, ◌^◌, ◌∷◌, [], ℕ, suc, ℤ, pos, negsuc, true, List, length, drop, decimal, nat_lt, refl, sym, ap, ◌∙◌}
-use Rattle.std.proofs.Common.{arith, length-append, lit<}
-use Rattle.std.specs.List.{list_all}
-use Rattle.std.specs.Fmt.{signed_decimal}
-use Rattle.std.proofs.lemmas.Fmt.{decimal_by_steps, decimal_injective}
-use Rattle.std.proofs.lemmas.List.Folds.{list_all-append}
+use Rattle.std.proofs.Common.{◌≡◌, ◌<◌, ◌+◌, ◌%◌, ◌^◌, ◌∷◌, [], ℕ, suc, ℤ, pos, negsuc, true, List, length, drop, decimal, nat_lt, refl, sym, ap, ◌∙◌, arith}
+use Rattle.std.proofs.Common.{length-append, lit<}
+use Rattle.std.specs.{List.list_all, Fmt.signed_decimal}
 use Rattle.std.proofs.lemmas.Bool.{and_from, and_parts, lt-ltb, ltb-true}
+use Rattle.std.proofs.lemmas.{Fmt.decimal_by_steps, Fmt.decimal_injective, List.Folds.list_all-append}
 use Rattle.irig_saved.specs.Ranges.{IsDistance, IsNumber}
-use Rattle.irig_saved.proofs.Cuts.{IsWord}
-use Rattle.irig_saved.proofs.PlainWords.{IsPlain, lower, plain_is_word}
+use Rattle.irig_saved.proofs.{Cuts.IsWord, PlainWords.IsPlain, PlainWords.lower, PlainWords.plain_is_word}
 
 -- each byte is above the minus
 abbrev IsHigh : List ℕ → Type 0

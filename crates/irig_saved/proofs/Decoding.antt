@@ -1,10 +1,8 @@
 -- A word that is read in a text.
 use Rattle.std.proofs.Common.{◌≡◌, ◌++◌, ◌∷◌, [], ℕ, List, Option, Some, None, drop, decimal, subst, sym, ap, ◌∙◌}
 use Rattle.std.proofs.lemmas.List.{append-nil, append_cancel_left}
-use Rattle.irig_saved.proofs.Bytes.{cut_at, not_lacking, wordy_lacks}
-use Rattle.irig_saved.proofs.Decimals.{number_is_word}
-use Rattle.irig_saved.specs.Ranges.{IsNumber}
-use Rattle.irig_saved.specs.Reading.{Decodes, Lacks}
+use Rattle.irig_saved.proofs.{Bytes.cut_at, Bytes.not_lacking, Bytes.wordy_lacks, Decimals.number_is_word}
+use Rattle.irig_saved.specs.{Ranges.IsNumber, Reading.Decodes, Reading.Lacks}
 
 -- what a word decodes to, the text round it does
 pub over : {X : Type 0} (Is : X → Type 0) (write write' : X → List ℕ) (f : List ℕ → List ℕ)

@@ -1,13 +1,7 @@
 -- Texts whose first wrong line is plain, or that have none.
 use Rattle.std.proofs.Common.{◌≡◌, ◌++◌, ◌∷◌, [], ℕ, List, codes, refl, subst}
-use Rattle.irig_saved.specs.Reading.{Lacks}
-use Rattle.irig_saved.specs.Faults.{IsFault}
-use Rattle.irig_saved.specs.Ranges.{IsSaved}
-use Rattle.irig_saved.specs.SavedText.{journal_text}
-use Rattle.irig_saved.specs.declared.saved.Saved.{Saved}
-use Rattle.irig_saved.proofs.Bytes.{not_lacking}
-use Rattle.irig_saved.proofs.SavedParts.{name_stops}
-use Rattle.irig_saved.proofs.FaultLines.{line_of_stop}
+use Rattle.irig_saved.specs.{Reading.Lacks, Faults.IsFault, Ranges.IsSaved, SavedText.journal_text, declared.saved.Saved.Saved}
+use Rattle.irig_saved.proofs.{Bytes.not_lacking, SavedParts.name_stops, FaultLines.line_of_stop}
 
 -- a journal's own text goes wrong nowhere
 pub journal_not_at_fault : (s : Saved) → IsSaved s → (n : ℕ) → IsFault n (journal_text s) → ⊥

@@ -2,19 +2,12 @@
 use Rattle.std.proofs.Common.{◌≡◌, ◌==◌, ◌<◌, ◌≤◌, ◌+◌, ◌-◌, ◌++◌, ◌∷◌, [], ℕ, suc, Bool, true, false, not, List, length, take, cond, refl, sym, ap, ap₂, subst}
 use Rattle.std.proofs.Common.{◌∙◌, arith, length-append}
 use Rattle.std.specs.List.{list_all, count_by}
-use Rattle.std.proofs.lemmas.Bool.{and_parts, false≢true}
-use Rattle.std.proofs.lemmas.List.Sums.{sum_by-append}
-use Rattle.std.proofs.Math.Seq.{take-append_seam}
 use Rattle.std.proofs.lemmas.List.{append-nil, take_all, length-take-le, nil_from_length}
-use Rattle.irig_saved.specs.Lines.{text_of}
-use Rattle.irig_saved.specs.SavedText.{saved_lines, journal_text}
-use Rattle.irig_saved.specs.Ranges.{IsSaved}
-use Rattle.irig_saved.specs.Reading.{Reads, Stops, Lacks}
-use Rattle.irig_saved.specs.Faults.{Begins, IsFault}
-use Rattle.irig_saved.specs.declared.saved.Saved.{Saved}
-use Rattle.irig_saved.proofs.Unique.{same_saved}
-use Rattle.irig_saved.proofs.Clean.{newline, AreLines, saved_clean}
-use Rattle.irig_saved.proofs.Sequences.{lines_take, determined}
+use Rattle.std.proofs.lemmas.{Bool.and_parts, Bool.false≢true, List.Sums.sum_by-append}
+use Rattle.std.proofs.Math.Seq.{take-append_seam}
+use Rattle.irig_saved.specs.{Lines.text_of, SavedText.saved_lines, SavedText.journal_text, Ranges.IsSaved, Reading.Reads, Reading.Stops, Reading.Lacks}
+use Rattle.irig_saved.specs.{Faults.Begins, Faults.IsFault, declared.saved.Saved.Saved}
+use Rattle.irig_saved.proofs.{Unique.same_saved, Clean.newline, Clean.AreLines, Clean.saved_clean, Sequences.lines_take, Sequences.determined}
 
 -- newlines
 

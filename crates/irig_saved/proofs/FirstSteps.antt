@@ -4,22 +4,13 @@ use Rattle.std.proofs.Common.{arith, length-append}
 use Rattle.std.specs.List.{AllByRecursion}
 use Rattle.std.proofs.lemmas.List.{take-append-le, take-append-drop}
 use Rattle.irig_codes.specs.declared.format.Kind.{Kind}
-use Rattle.irig_saved.specs.Lines.{numbered, text_of}
 use Rattle.irig_saved.specs.SavedText.{change_lines, counted_lines, mark_lines, saved_lines, step_lines, steps_lines}
-use Rattle.irig_saved.specs.Ranges.{IsNumber, IsSaved, IsStep, AreSteps, ManySteps}
-use Rattle.irig_saved.specs.Values.{IsFormat}
-use Rattle.irig_saved.specs.Reading.{Reads}
-use Rattle.irig_saved.specs.Leading.{BeginsSome, BeginsStep, BeginsSteps, Leads, head_text}
-use Rattle.irig_saved.specs.Faults.{Begins, ReachesSteps}
-use Rattle.irig_saved.specs.declared.change.Change.TheVariants.{One}
-use Rattle.irig_saved.specs.declared.saved.Saved.{Saved}
-use Rattle.irig_saved.specs.declared.step.Step.{Step}
-use Rattle.irig_saved.proofs.Unique.{regroup}
-use Rattle.irig_saved.proofs.Repeats.{so_many}
-use Rattle.irig_saved.proofs.SingleParts.{no_change, no_change_lawful}
+use Rattle.irig_saved.specs.{Lines.numbered, Lines.text_of, Ranges.IsNumber, Ranges.IsSaved, Ranges.IsStep, Ranges.AreSteps, Ranges.ManySteps, Values.IsFormat}
+use Rattle.irig_saved.specs.{Reading.Reads, Leading.BeginsSome, Leading.BeginsStep, Leading.BeginsSteps, Leading.Leads, Leading.head_text, Faults.Begins}
+use Rattle.irig_saved.specs.{Faults.ReachesSteps, declared.change.Change.TheVariants.One, declared.saved.Saved.Saved, declared.step.Step.Step}
 use Rattle.irig_saved.proofs.ChangeParts.{no_steps_lawful, onward, step_family}
-use Rattle.irig_saved.proofs.MarkParts.{lead_same, lead_times}
 use Rattle.irig_saved.proofs.SavedParts.{cursor_line, format_line, head_same}
+use Rattle.irig_saved.proofs.{Unique.regroup, Repeats.so_many, SingleParts.no_change, SingleParts.no_change_lawful, MarkParts.lead_same, MarkParts.lead_times}
 
 -- the first line of a step
 

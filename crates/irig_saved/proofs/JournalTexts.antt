@@ -2,11 +2,8 @@
 use Rattle.std.proofs.Common.{◌≡◌, ◌==◌, ◌++◌, ◌∷◌, [], ℕ, true, not, List, drop, codes, refl, sym, ap, ◌∙◌, append_assoc}
 use Rattle.std.proofs.lemmas.Bool.{and_from}
 use Rattle.irig_recording.specs.Comments.{IsJournalText, comment_text}
-use Rattle.irig_saved.specs.Lines.{text_of}
 use Rattle.irig_saved.specs.SavedText.{saved_lines, journal_text, journal_section}
-use Rattle.irig_saved.specs.Ranges.{IsSaved}
-use Rattle.irig_saved.specs.Reading.{Lacks}
-use Rattle.irig_saved.specs.declared.saved.Saved.{Saved}
+use Rattle.irig_saved.specs.{Lines.text_of, Ranges.IsSaved, Reading.Lacks, declared.saved.Saved.Saved}
 use Rattle.irig_saved.proofs.Clean.{AllLack, dollar, lacks_append, saved_clean}
 
 text_lacks : (b : ℕ) (ls : List (List ℕ)) → not (10 == b) ≡ true → AllLack b ls → Lacks b (text_of ls)

@@ -1,9 +1,7 @@
 -- The lines of a change, given one after another: what was given, with what is left.
-use Rattle.std.proofs.Common.{◌≡◌, ◌≤◌, ◌++◌, ◌+◌, ℕ, List, [], ◌∷◌, Some, ap, drop, length, refl, slice_get}
-use Rattle.std.proofs.Common.{append_assoc}
+use Rattle.std.proofs.Common.{◌≡◌, ◌≤◌, ◌++◌, ◌+◌, ℕ, List, [], ◌∷◌, Some, ap, drop, length, refl, slice_get, append_assoc}
 use Rattle.std.proofs.lemmas.List.{at_drop_all}
-use Rattle.irig_saved.specs.Lines.{text_of}
-use Rattle.irig_saved.specs.SavedText.{pulse_line, pulse_lines}
+use Rattle.irig_saved.specs.{Lines.text_of, SavedText.pulse_line, SavedText.pulse_lines}
 use Rattle.irig_track.proofs.Items.{drop-item}
 use Rattle.irig_recording.specs.declared.pulse.Pulse.{Pulse}
 

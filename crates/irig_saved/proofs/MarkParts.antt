@@ -1,18 +1,11 @@
 -- The lines of marks.
-use Rattle.std.proofs.Common.{◌≡◌, ◌<◌, ◌+◌, ◌++◌, ◌∷◌, [], ℕ, suc, zero, List, Option, Some, None, length, take, decimal, codes, refl, sym, ap, ap₂}
-use Rattle.std.proofs.Common.{subst, ◌∙◌, append_assoc, arith}
+use Rattle.std.proofs.Common.{◌≡◌, ◌<◌, ◌+◌, ◌++◌, ◌∷◌, [], ℕ, suc, zero, List, Option, Some, None, length, take, decimal, codes, refl, sym, ap, ap₂, subst}
+use Rattle.std.proofs.Common.{◌∙◌, append_assoc, arith}
 use Rattle.std.specs.List.{AllByRecursion}
-use Rattle.irig_saved.specs.Lines.{text_of}
-use Rattle.irig_saved.specs.SavedText.{mark_lines, counted_lines}
-use Rattle.irig_saved.specs.Ranges.{IsNumber, IsTime}
-use Rattle.irig_saved.specs.Reading.{Lacks}
-use Rattle.irig_saved.specs.Leading.{mark_line, LacksMark, Leads}
-use Rattle.irig_saved.specs.declared.step.Step.{Step}
-use Rattle.irig_saved.proofs.Decimals.{same_number}
-use Rattle.irig_saved.proofs.SameWords.{byte_at, byte_is_word, word_at}
-use Rattle.irig_saved.proofs.Unique.{lined, mark_words}
-use Rattle.irig_saved.proofs.Clean.{newline, mark_lacks}
-use Rattle.irig_saved.proofs.Bytes.{cut_at, not_lacking, dark_lacks}
+use Rattle.irig_saved.specs.{Lines.text_of, SavedText.mark_lines, SavedText.counted_lines, Ranges.IsNumber, Ranges.IsTime, Reading.Lacks, Leading.mark_line}
+use Rattle.irig_saved.specs.{Leading.LacksMark, Leading.Leads, declared.step.Step.Step}
+use Rattle.irig_saved.proofs.{Decimals.same_number, SameWords.byte_at, SameWords.byte_is_word, SameWords.word_at, Unique.lined, Unique.mark_words}
+use Rattle.irig_saved.proofs.{Clean.newline, Clean.mark_lacks, Bytes.cut_at, Bytes.not_lacking, Bytes.dark_lacks}
 
 -- what they are
 

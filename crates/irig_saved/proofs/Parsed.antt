@@ -1,12 +1,7 @@
 -- What std reads of a word that is a number.
-use Rattle.std.proofs.Common.{◌≡◌, ℕ, ℤ, pos, negsuc, List, decimal, Ok, Err, Result, ap, sym, ◌∙◌}
-use Rattle.std.specs.Fmt.{signed_decimal}
-use Rattle.std.specs.Str.{IsUtf8}
-use Rattle.std.specs.Str.Parse.{ParsesUnsigned, ParsesSigned}
-use Rattle.std.proofs.lemmas.Fmt.{IsAscii-decimal, IsAscii-signed, parse-decimal, parse-signed_decimal}
-use Rattle.std.proofs.lemmas.Str.{IsUtf8-from_ascii}
-use Rattle.std.proofs.Common.{w64, rules}
-use Rattle.std.specs.Int.RustNames.{FitsSigned as SFits}
+use Rattle.std.proofs.Common.{◌≡◌, ℕ, ℤ, pos, negsuc, List, decimal, Ok, Err, Result, ap, sym, ◌∙◌, w64, rules}
+use Rattle.std.specs.{Fmt.signed_decimal, Str.IsUtf8, Str.Parse.ParsesUnsigned, Str.Parse.ParsesSigned, Int.RustNames.FitsSigned as SFits}
+use Rattle.std.proofs.lemmas.{Fmt.IsAscii-decimal, Fmt.IsAscii-signed, Fmt.parse-decimal, Fmt.parse-signed_decimal, Str.IsUtf8-from_ascii}
 use Rattle.irig_saved.specs.Ranges.{IsNumber, IsDistance}
 
 pub ok_same : {X E : Type 0} (x y : X) (r : Result X E) → r ≡ Ok x → r ≡ Ok y → x ≡ y

@@ -1,14 +1,9 @@
 -- Lines of pulses.
 use Rattle.std.proofs.Common.{◌≡◌, ◌++◌, ◌∷◌, ℕ, List, lit<}
-use Rattle.irig_saved.specs.SavedText.{pulse_line, pulse_lines}
-use Rattle.irig_saved.specs.Ranges.{IsPulse}
-use Rattle.irig_saved.specs.Reading.{Stops, Lacks}
+use Rattle.irig_saved.specs.{SavedText.pulse_line, SavedText.pulse_lines, Ranges.IsPulse, Reading.Stops, Reading.Lacks}
 use Rattle.irig_recording.specs.declared.pulse.Pulse.{Pulse}
-use Rattle.irig_saved.proofs.Clean.{newline, pulse_lacks}
-use Rattle.irig_saved.proofs.Rows.{one_line, pulse_row}
-use Rattle.irig_saved.proofs.Unique.{same_pulse}
-use Rattle.irig_saved.proofs.Repeats.{Family}
 use Rattle.irig_saved.proofs.Sequences.{line_stops, no_line_stops}
+use Rattle.irig_saved.proofs.{Clean.newline, Clean.pulse_lacks, Rows.one_line, Rows.pulse_row, Unique.same_pulse, Repeats.Family}
 
 pub no_pulse : Pulse
 no_pulse = record { rise = 0; fall = 0 }

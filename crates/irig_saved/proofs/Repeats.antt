@@ -2,13 +2,9 @@
 use Rattle.std.proofs.Common.{◌≡◌, ◌<◌, ◌+◌, ◌++◌, ◌∷◌, [], ℕ, suc, zero, List, length, refl, sym, ap, ◌∙◌, append_assoc, arith, inl, subst, length-append}
 use Rattle.std.specs.List.{AllByRecursion}
 use Rattle.std.proofs.lemmas.List.{append-nil}
-use Rattle.irig_saved.specs.Lines.{text_of}
-use Rattle.irig_saved.specs.Reading.{Reads, Stops}
-use Rattle.irig_saved.proofs.Clean.{AreLines}
-use Rattle.irig_saved.proofs.Rows.{Row}
-use Rattle.irig_saved.proofs.Unique.{Same, regroup}
+use Rattle.irig_saved.specs.{Lines.text_of, Reading.Reads, Reading.Stops}
 use Rattle.irig_saved.proofs.Sequences.{Both, both, first_stops, second_stops, determined}
-use Rattle.irig_saved.proofs.Carried.{carried}
+use Rattle.irig_saved.proofs.{Clean.AreLines, Rows.Row, Unique.Same, Unique.regroup, Carried.carried}
 
 -- what is known of one part, and of the lines of a list of them
 pub record Family {X : Type 0} (Is : X → Type 0) (lines : X → List (List ℕ)) (all : List X → List (List ℕ)) : Type 0 where

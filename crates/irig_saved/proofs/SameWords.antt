@@ -4,16 +4,13 @@ use Rattle.std.proofs.Common.{ap₂, ◌∙◌, arith}
 use Rattle.std.specs.Str.{bytes_eq}
 use Rattle.std.proofs.lemmas.Bool.{and_from, lt-ltb}
 use Rattle.irig_saved.specs.ChangeWords.{letters_from, letters_or_dash, moved_word, time_word, head_of, words_of}
-use Rattle.irig_saved.specs.Ranges.{IsNumber, IsTime, IsSingle}
-use Rattle.irig_codes.specs.Words.{kind_word}
-use Rattle.irig_codes.specs.declared.format.Kind.{Kind}
-use Rattle.irig_codes.specs.declared.format.Kind.TheVariants.{A, B, E, G}
-use Rattle.irig_recording.specs.declared.pulse.Pulse.{Pulse}
-use Rattle.irig_saved.specs.declared.single.Single.{Single}
 use Rattle.irig_saved.specs.declared.single.Single.TheVariants.{Splice, Toggle, Shift, SetFormat, SetMark}
-use Rattle.irig_saved.proofs.Cuts.{IsWord, AreWords}
-use Rattle.irig_saved.proofs.PlainWords.{IsPlain, ArePlain, plain_is_word, plain_are_words}
+use Rattle.irig_saved.specs.{Ranges.IsNumber, Ranges.IsTime, Ranges.IsSingle, declared.single.Single.Single}
+use Rattle.irig_codes.specs.declared.format.Kind.TheVariants.{A, B, E, G}
+use Rattle.irig_codes.specs.{Words.kind_word, declared.format.Kind.Kind}
+use Rattle.irig_recording.specs.declared.pulse.Pulse.{Pulse}
 use Rattle.irig_saved.proofs.Decimals.{number_is_plain, distance_is_plain, same_number, same_distance, no_dash}
+use Rattle.irig_saved.proofs.{Cuts.IsWord, Cuts.AreWords, PlainWords.IsPlain, PlainWords.ArePlain, PlainWords.plain_is_word, PlainWords.plain_are_words}
 
 pub small_is_number : (n : ℕ) → n ≤ 7 → IsNumber n
 small_is_number n h = omega (arith, h)

@@ -1,26 +1,15 @@
 -- The lines of a saved journal.
-use Rattle.std.proofs.Common.{◌≡◌, ◌≤◌, ◌++◌, ◌∷◌, [], ℕ, suc, zero, List, Option, None, length, codes, refl, sym, ap, ap₂, ◌∙◌, append_assoc, arith}
-use Rattle.std.proofs.Common.{lit<, inl}
+use Rattle.std.proofs.Common.{◌≡◌, ◌≤◌, ◌++◌, ◌∷◌, [], ℕ, suc, zero, List, Option, None, length, codes, refl, sym, ap, ap₂, ◌∙◌, append_assoc, arith, lit<, inl}
 use Rattle.std.specs.List.{AllByRecursion}
-use Rattle.irig_codes.specs.declared.format.Kind.{Kind}
-use Rattle.irig_codes.specs.declared.format.Kind.TheVariants.{A}
-use Rattle.irig_saved.specs.Lines.{line, numbered, text_of}
-use Rattle.irig_saved.specs.SavedText.{mark_lines, counted_lines, saved_lines}
-use Rattle.irig_saved.specs.Ranges.{IsNumber, IsTime, AreSteps, IsSaved}
-use Rattle.irig_saved.specs.Values.{IsFormat, words_of_format}
-use Rattle.irig_saved.specs.Reading.{Reads, Stops, Lacks}
-use Rattle.irig_saved.specs.Leading.{Leads, head_text}
-use Rattle.irig_saved.specs.declared.step.Step.{Step}
-use Rattle.irig_saved.specs.declared.saved.Saved.{Saved}
-use Rattle.irig_saved.proofs.Cuts.{AreWords}
-use Rattle.irig_saved.proofs.Decimals.{number_is_word, same_number}
-use Rattle.irig_saved.proofs.SameWords.{kind_is_word, same_kind, small_is_number, word_at}
-use Rattle.irig_saved.proofs.Unique.{lined, regroup, same_counted, saved}
-use Rattle.irig_saved.proofs.Clean.{newline, counted_lacks, format_lacks, counted_clean}
+use Rattle.irig_codes.specs.{declared.format.Kind.Kind, declared.format.Kind.TheVariants.A}
+use Rattle.irig_saved.specs.{Lines.line, Lines.numbered, Lines.text_of, SavedText.mark_lines, SavedText.counted_lines, SavedText.saved_lines, Ranges.IsNumber}
+use Rattle.irig_saved.specs.{Ranges.IsTime, Ranges.AreSteps, Ranges.IsSaved, Values.IsFormat, Values.words_of_format, Reading.Reads, Reading.Stops}
+use Rattle.irig_saved.specs.{Reading.Lacks, Leading.Leads, Leading.head_text, declared.step.Step.Step, declared.saved.Saved.Saved}
 use Rattle.irig_saved.proofs.Sequences.{Both, both, first_stops, second_stops, behind_stops, determined, line_behind_stops}
-use Rattle.irig_saved.proofs.Carried.{carried, first_line_stops}
-use Rattle.irig_saved.proofs.ChangeParts.{no_steps_lawful, onward, same_count}
-use Rattle.irig_saved.proofs.MarkParts.{lead_times, lead_same, lead_tells}
+use Rattle.irig_saved.proofs.{SameWords.kind_is_word, SameWords.same_kind, SameWords.small_is_number, SameWords.word_at, Clean.newline, Clean.counted_lacks}
+use Rattle.irig_saved.proofs.{Clean.format_lacks, Clean.counted_clean, ChangeParts.no_steps_lawful, ChangeParts.onward, ChangeParts.same_count, Cuts.AreWords}
+use Rattle.irig_saved.proofs.{Decimals.number_is_word, Decimals.same_number, Unique.lined, Unique.regroup, Unique.same_counted, Unique.saved, Carried.carried}
+use Rattle.irig_saved.proofs.{Carried.first_line_stops, MarkParts.lead_times, MarkParts.lead_same, MarkParts.lead_tells}
 
 -- the steps
 

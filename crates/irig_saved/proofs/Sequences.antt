@@ -2,13 +2,9 @@
 use Rattle.std.proofs.Common.{◌≡◌, ◌≤◌, ◌+◌, ◌-◌, ◌++◌, ◌∷◌, [], ℕ, zero, suc, List, length, take, drop, refl, sym, ap, ap₂, ◌∙◌, append_assoc, arith, inl, inr}
 use Rattle.std.proofs.Common.{◌⊎◌, length-append, subst}
 use Rattle.std.proofs.Math.Seq.{take-append-add}
-use Rattle.std.proofs.lemmas.Bool.{cases_lt}
-use Rattle.std.proofs.lemmas.List.{take-append-le, take_all, take-append-drop, length-take-le, append_cancel_left}
-use Rattle.irig_saved.specs.Lines.{text_of}
-use Rattle.irig_saved.specs.Reading.{Reads, Stops, Lacks}
-use Rattle.irig_saved.proofs.Clean.{AreLines}
-use Rattle.irig_saved.proofs.Unique.{Same, regroup}
-use Rattle.irig_saved.proofs.Bytes.{cut_at, not_lacking}
+use Rattle.std.proofs.lemmas.{Bool.cases_lt, List.take-append-le, List.take_all, List.take-append-drop, List.length-take-le, List.append_cancel_left}
+use Rattle.irig_saved.specs.{Lines.text_of, Reading.Reads, Reading.Stops, Reading.Lacks}
+use Rattle.irig_saved.proofs.{Clean.AreLines, Unique.Same, Unique.regroup, Bytes.cut_at, Bytes.not_lacking}
 
 at_most : (m n : ℕ) → (m ≤ n) ⊎ (n + 1 ≤ m)
 at_most m n = elim (cases_lt n m) as (λ _. (m ≤ n) ⊎ (n + 1 ≤ m)) [ inl h ↦ inr (omega (arith, h)) | inr h ↦ inl h ]

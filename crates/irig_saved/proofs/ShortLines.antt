@@ -1,13 +1,9 @@
 -- Changes of one line, by what is in it.
 use Rattle.std.proofs.Common.{◌≡◌, ℕ, ℤ, Bool, List, Option, codes}
 use Rattle.irig_codes.specs.declared.format.Kind.{Kind}
-use Rattle.irig_saved.specs.Lines.{line}
-use Rattle.irig_saved.specs.ChangeWords.{single_line}
-use Rattle.irig_saved.specs.Values.{IsFormat, words_of_format}
-use Rattle.irig_saved.specs.Reading.{IsShort}
-use Rattle.irig_saved.specs.Values.{AreTwo, words_of_two, IsShift, words_of_shift, IsMark, words_of_mark}
-use Rattle.irig_saved.specs.declared.single.Single.{Single}
+use Rattle.irig_saved.specs.Values.{IsFormat, words_of_format, AreTwo, words_of_two, IsShift, words_of_shift, IsMark, words_of_mark}
 use Rattle.irig_saved.specs.declared.single.Single.TheVariants.{Splice, Toggle, Shift, SetFormat, SetMark}
+use Rattle.irig_saved.specs.{Lines.line, ChangeWords.single_line, Reading.IsShort, declared.single.Single.Single}
 
 -- a line that is none of the four is no change of one line
 pub no_short : (text : List ℕ)

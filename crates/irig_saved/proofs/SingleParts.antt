@@ -1,23 +1,14 @@
 -- The lines of one change.
 use Rattle.std.proofs.Common.{◌≡◌, ◌++◌, ◌∷◌, [], ℕ, List, length, get_or, decimal, codes, refl, sym, ap, ap₂, subst, ◌∙◌, append_assoc, lit<, inl, inr, ◌⊎◌}
-use Rattle.irig_saved.specs.Lines.{line, text_of}
-use Rattle.irig_saved.specs.ChangeWords.{head_of, words_of, single_line}
 use Rattle.irig_saved.specs.SavedText.{put_of, pulse_lines, single_lines, singles_lines}
-use Rattle.irig_saved.specs.Ranges.{IsNumber, IsSingle, ArePulses}
-use Rattle.irig_saved.specs.Values.{AreThree, words_of_three}
-use Rattle.irig_saved.specs.Reading.{Reads, Stops, Lacks, IsShort}
+use Rattle.irig_saved.specs.{Lines.line, Lines.text_of, ChangeWords.head_of, ChangeWords.words_of, ChangeWords.single_line, Ranges.IsNumber, Ranges.IsSingle}
+use Rattle.irig_saved.specs.{Ranges.ArePulses, Values.AreThree, Values.words_of_three, Reading.Reads, Reading.Stops, Reading.Lacks, Reading.IsShort}
+use Rattle.irig_saved.specs.{declared.single.Single.Single, declared.single.Single.TheVariants.Splice, declared.single.Single.TheVariants.Toggle}
 use Rattle.irig_recording.specs.declared.pulse.Pulse.{Pulse}
-use Rattle.irig_saved.specs.declared.single.Single.{Single}
-use Rattle.irig_saved.specs.declared.single.Single.TheVariants.{Splice, Toggle}
-use Rattle.irig_saved.proofs.Cuts.{AreWords}
-use Rattle.irig_saved.proofs.Decimals.{number_is_word, same_number}
-use Rattle.irig_saved.proofs.SameWords.{unlike, head_is_word, words_are_words}
-use Rattle.irig_saved.proofs.Unique.{lined, same_single}
 use Rattle.irig_saved.proofs.Clean.{newline, number_lacks, line_lacks, first_lacks, single_clean}
 use Rattle.irig_saved.proofs.Carried.{Differs, carried, first_line_stops, other_line, lineless}
-use Rattle.irig_saved.proofs.Rows.{single_row}
-use Rattle.irig_saved.proofs.Repeats.{Family}
-use Rattle.irig_saved.proofs.Sequences.{Both, both, line_behind_stops}
+use Rattle.irig_saved.proofs.{Cuts.AreWords, Decimals.number_is_word, Decimals.same_number, SameWords.unlike, SameWords.head_is_word, SameWords.words_are_words}
+use Rattle.irig_saved.proofs.{Unique.lined, Unique.same_single, Rows.single_row, Repeats.Family, Sequences.Both, Sequences.both, Sequences.line_behind_stops}
 
 -- the first line of a splice
 abbrev pub splice_line : ℕ × ℕ × ℕ → List ℕ

@@ -2,12 +2,10 @@
 -- whose first was deleted; a mark that was set and undone.
 use Rattle.std.proofs.Common.{◌≡◌, ℕ, List, [], ◌∷◌, codes, Some, None, Option, true, false, length, refl, pos, negsuc}
 use Rattle.std.specs.Fmt.{digits}
-use Rattle.irig_saved.specs.Lines.{text_of}
 use Rattle.irig_saved.specs.SavedText.{journal_text, journal_section, single_lines, change_lines, mark_lines}
-use Rattle.irig_codes.specs.declared.format.Kind.TheVariants.{G, E}
 use Rattle.irig_saved.specs.declared.single.Single.TheVariants.{Splice, Toggle, Shift, SetFormat, SetMark}
-use Rattle.irig_saved.specs.declared.change.Change.TheVariants.{One, Group}
-use Rattle.irig_saved.specs.declared.saved.Saved.{Saved}
+use Rattle.irig_saved.specs.{Lines.text_of, declared.change.Change.TheVariants.One, declared.change.Change.TheVariants.Group, declared.saved.Saved.Saved}
+use Rattle.irig_codes.specs.declared.format.Kind.TheVariants.{G, E}
 
 abbrev unset : List (Option ℕ)
 unset = None ∷ None ∷ None ∷ None ∷ None ∷ None ∷ None ∷ None ∷ None ∷ None ∷ None ∷ None ∷ None ∷ None ∷ None ∷ None ∷ None ∷ None ∷ None ∷ None ∷ None ∷ None

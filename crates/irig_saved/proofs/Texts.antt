@@ -1,7 +1,6 @@
 -- Texts of lines.
 use Rattle.std.proofs.Common.{◌≡◌, ◌++◌, ◌∷◌, [], ℕ, suc, List, length, refl, sym, ap, ◌∙◌, append_assoc}
-use Rattle.irig_saved.specs.Lines.{text_of}
-use Rattle.irig_saved.specs.SavedText.{pulse_lines}
+use Rattle.irig_saved.specs.{Lines.text_of, SavedText.pulse_lines}
 use Rattle.irig_recording.specs.declared.pulse.Pulse.{Pulse}
 
 pub text_of_append : (ls ms : List (List ℕ)) → text_of (ls ++ ms) ≡ text_of ls ++ text_of ms

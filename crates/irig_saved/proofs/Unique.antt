@@ -2,26 +2,18 @@
 use Rattle.std.proofs.Common.{◌≡◌, ◌<◌, ◌+◌, ◌++◌, ◌∷◌, [], ℕ, Option, Some, None, List, length, get_or, decimal, codes, refl, sym, ap, ap₂, subst, ◌∙◌}
 use Rattle.std.proofs.Common.{append_assoc, arith}
 use Rattle.std.specs.List.{AllByRecursion}
-use Rattle.irig_saved.specs.Lines.{line, numbered, text_of}
-use Rattle.irig_saved.specs.ChangeWords.{head_of, words_of}
 use Rattle.irig_saved.specs.SavedText.{put_of, pulse_lines, single_lines, singles_lines, change_lines, step_lines, steps_lines, mark_lines, counted_lines}
 use Rattle.irig_saved.specs.SavedText.{saved_lines, journal_text}
 use Rattle.irig_saved.specs.Ranges.{IsNumber, IsTime, IsPulse, IsSingle, IsChange, IsStep, AreSteps, IsSaved}
-use Rattle.irig_codes.specs.Words.{kind_word}
-use Rattle.irig_codes.specs.declared.format.Kind.{Kind}
-use Rattle.irig_recording.specs.declared.pulse.Pulse.{Pulse}
-use Rattle.irig_saved.specs.declared.single.Single.{Single}
-use Rattle.irig_saved.specs.declared.single.Single.TheVariants.{Splice}
-use Rattle.irig_saved.specs.declared.change.Change.{Change}
 use Rattle.irig_saved.specs.declared.change.Change.TheVariants.{One, Group}
-use Rattle.irig_saved.specs.declared.step.Step.{Step}
-use Rattle.irig_saved.specs.declared.saved.Saved.{Saved}
-use Rattle.irig_saved.proofs.Cuts.{IsWord, AreWords, SameLine, same_line}
-use Rattle.irig_saved.proofs.Decimals.{number_is_word, same_number}
-use Rattle.irig_saved.proofs.Texts.{text_of_append}
+use Rattle.irig_saved.specs.{Lines.line, Lines.numbered, Lines.text_of, ChangeWords.head_of, ChangeWords.words_of, declared.single.Single.Single}
+use Rattle.irig_saved.specs.{declared.single.Single.TheVariants.Splice, declared.change.Change.Change, declared.step.Step.Step, declared.saved.Saved.Saved}
+use Rattle.irig_codes.specs.{Words.kind_word, declared.format.Kind.Kind}
+use Rattle.irig_recording.specs.declared.pulse.Pulse.{Pulse}
 use Rattle.irig_saved.proofs.Rows.{Row, one_line, pulse_row, single_row, step_row}
 use Rattle.irig_saved.proofs.SameWords.{unlike, small_is_number, word_at, byte_at, byte_is_word, kind_is_word, same_kind, head_is_word, words_are_words, Alike}
 use Rattle.irig_saved.proofs.SameWords.{alike}
+use Rattle.irig_saved.proofs.{Cuts.IsWord, Cuts.AreWords, Cuts.SameLine, Cuts.same_line, Decimals.number_is_word, Decimals.same_number, Texts.text_of_append}
 
 -- the same value, and the same text after it
 pub record Same {X : Type 0} (x y : X) (r s : List ℕ) : Type 0 where

@@ -4,11 +4,9 @@ use Rattle.std.specs.Prelude.{◌+◌, ℕ, Bool, true, false, List, [], ◌∷�
 use Rattle.std.specs.Prelude.{decimal, codes}
 use Rattle.std.specs.Fmt.{signed_decimal}
 use Rattle.irig_codes.specs.Words.{kind_word}
-use Rattle.irig_saved.specs.Letters.{letter_word}
-use Rattle.irig_saved.specs.Lines.{line}
-use Rattle.irig_saved.specs.declared.single.Single.{Single}
 use Rattle.irig_saved.specs.declared.single.Single.TheVariants.{Splice, Toggle, Shift, SetFormat}
 use Rattle.irig_saved.specs.declared.single.Single.TheVariants.{SetMark}
+use Rattle.irig_saved.specs.{Letters.letter_word, Lines.line, declared.single.Single.Single}
 
 -- the letters of the flags that are true, in order, from a letter on
 abbrev pub letters_from : ℕ → List Bool → List ℕ

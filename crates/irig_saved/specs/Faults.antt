@@ -1,11 +1,9 @@
 -- Where a text goes wrong: the first line with which it begins no text of the form.
 use Rattle.std.specs.Prelude.{◌≡◌, ◌+◌, ◌-◌, ◌<◌, ◌≤◌, ℕ, List, ◌++◌, take, length}
-use Rattle.irig_saved.specs.Lines.{text_of}
-use Rattle.irig_saved.specs.declared.saved.Saved.{Saved}
 use Rattle.irig_saved.specs.SavedText.{mark_lines, saved_lines, journal_text}
-use Rattle.irig_saved.specs.Ranges.{IsSaved}
 use Rattle.irig_saved.specs.declared.reader.Fault.{Fault}
 use Rattle.irig_saved.specs.declared.reader.Fault.TheVariants.{Line, Memory}
+use Rattle.irig_saved.specs.{Lines.text_of, declared.saved.Saved.Saved, Ranges.IsSaved}
 
 -- the bytes begin with the first n of some lines, each with its newline
 pub record Begins (n : ℕ) (lines : List (List ℕ)) (bytes : List ℕ) : Type 0 where

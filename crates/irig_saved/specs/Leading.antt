@@ -2,10 +2,9 @@
 use Rattle.std.specs.Prelude.{◌≡◌, ◌+◌, ◌<◌, ℕ, List, [], ◌∷◌, ◌++◌, Option, Some, None}
 use Rattle.std.specs.Prelude.{MatchOption, decimal, codes}
 use Rattle.std.specs.Borrow.{Bor}
-use Rattle.irig_saved.specs.Lines.{line, numbered}
-use Rattle.irig_codes.specs.declared.format.Kind.{Kind}
-use Rattle.irig_saved.specs.Ranges.{IsNumber}
 use Rattle.irig_saved.specs.Values.{AreThree, words_of_format, words_of_three}
+use Rattle.irig_saved.specs.{Lines.line, Lines.numbered, Ranges.IsNumber}
+use Rattle.irig_codes.specs.declared.format.Kind.{Kind}
 
 -- the first line is read, with what is after it; else the text begins with no such line
 abbrev pub FirstLine : {X : Type 0} → (X → Type 0) → (X → List ℕ) → List ℕ

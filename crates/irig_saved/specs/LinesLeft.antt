@@ -1,10 +1,8 @@
 -- What is left of the lines of a change while they are given in parts. This project's own.
 use Rattle.std.specs.Prelude.{ℕ, List, [], ◌∷◌, ◌++◌, Option, Some, None, drop}
 use Rattle.std.specs.Borrow.{Bor}
-use Rattle.irig_saved.specs.ChangeWords.{single_line}
-use Rattle.irig_saved.specs.Lines.{text_of}
-use Rattle.irig_saved.specs.SavedText.{pulse_lines}
 use Rattle.irig_saved.specs.declared.single.Single.{Single}
+use Rattle.irig_saved.specs.{ChangeWords.single_line, Lines.text_of, SavedText.pulse_lines}
 use Rattle.irig_recording.specs.declared.pulse.Pulse.{Pulse}
 
 -- the first line of a change; none if there is no change

@@ -2,11 +2,9 @@
 -- own.
 use Rattle.std.specs.List.{AllByRecursion}
 use Rattle.irig_saved.specs.Ranges.{IsNumber, IsPulse, IsSingle}
-use Rattle.irig_saved.specs.declared.change.Change.{Change}
 use Rattle.irig_saved.specs.declared.change.Change.TheVariants.{One, Group}
-use Rattle.irig_saved.specs.declared.single.Single.{Single}
-use Rattle.irig_saved.specs.declared.single.Single.TheVariants.{Splice}
-use Rattle.irig_saved.specs.declared.step.Step.{Step}
+use Rattle.irig_saved.specs.{declared.change.Change.Change, declared.single.Single.Single}
+use Rattle.irig_saved.specs.{declared.single.Single.TheVariants.Splice, declared.step.Step.Step}
 
 -- a change may be in a journal, but for how many pulses a splice inserts
 abbrev pub NumbersOfSingle : Single → Type 0

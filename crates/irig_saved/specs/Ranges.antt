@@ -3,13 +3,11 @@ use Rattle.std.specs.Prelude.{◌≡◌, ◌<◌, ◌≤◌, ◌^◌, ℕ, ℤ, 
 use Rattle.std.specs.Prelude.{pos}
 use Rattle.std.specs.List.{AllByRecursion}
 use Rattle.irig_recording.specs.declared.pulse.Pulse.{Pulse}
-use Rattle.irig_saved.specs.declared.single.Single.{Single}
 use Rattle.irig_saved.specs.declared.single.Single.TheVariants.{Splice, Toggle, Shift, SetFormat}
 use Rattle.irig_saved.specs.declared.single.Single.TheVariants.{SetMark}
-use Rattle.irig_saved.specs.declared.change.Change.{Change}
 use Rattle.irig_saved.specs.declared.change.Change.TheVariants.{One, Group}
-use Rattle.irig_saved.specs.declared.step.Step.{Step}
-use Rattle.irig_saved.specs.declared.saved.Saved.{Saved}
+use Rattle.irig_saved.specs.{declared.single.Single.Single, declared.change.Change.Change}
+use Rattle.irig_saved.specs.{declared.step.Step.Step, declared.saved.Saved.Saved}
 
 -- a number of 64 bits
 abbrev pub IsNumber : ℕ → Type 0

@@ -1,14 +1,10 @@
 -- What reading a word, a line or a part gives. This project's own.
 use Rattle.std.specs.Prelude.{◌≡◌, ◌+◌, ◌≤◌, ◌==◌, ℕ, Bool, true, not, List, ◌∷◌, ◌++◌, Option}
 use Rattle.std.specs.Prelude.{Result, MatchOption, MatchResult, take, length, nat_lt}
-use Rattle.std.specs.List.{list_all}
-use Rattle.std.specs.Borrow.{Bor}
-use Rattle.irig_saved.specs.Lines.{text_of}
-use Rattle.irig_saved.specs.Ranges.{IsSingle}
-use Rattle.irig_saved.specs.declared.single.Single.{Single}
-use Rattle.irig_saved.specs.declared.single.Single.TheVariants.{Splice}
-use Rattle.irig_saved.specs.declared.stop.Stop.{Stop}
+use Rattle.std.specs.{List.list_all, Borrow.Bor}
 use Rattle.irig_saved.specs.declared.stop.Stop.TheVariants.{At, Memory}
+use Rattle.irig_saved.specs.{Lines.text_of, Ranges.IsSingle, declared.single.Single.Single}
+use Rattle.irig_saved.specs.{declared.single.Single.TheVariants.Splice, declared.stop.Stop.Stop}
 
 -- a byte does not occur
 abbrev pub Lacks : ℕ → List ℕ → Type 0

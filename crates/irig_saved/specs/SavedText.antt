@@ -1,18 +1,13 @@
 -- The text of a saved journal: docs/FORMATS.md, "The saved journal". This project's own.
 use Rattle.std.specs.Prelude.{◌+◌, ℕ, Bool, true, false, List, [], ◌∷◌, ◌++◌, Option, Some, None}
-use Rattle.std.specs.Prelude.{length, map, decimal}
-use Rattle.std.specs.Prelude.{codes}
-use Rattle.irig_saved.specs.Lines.{line, numbered, text_of}
-use Rattle.irig_saved.specs.ChangeWords.{single_line}
-use Rattle.irig_codes.specs.Words.{kind_word}
-use Rattle.irig_codes.specs.declared.format.Kind.{Kind}
-use Rattle.irig_recording.specs.declared.pulse.Pulse.{Pulse}
-use Rattle.irig_saved.specs.declared.single.Single.{Single}
+use Rattle.std.specs.Prelude.{length, map, decimal, codes}
 use Rattle.irig_saved.specs.declared.single.Single.TheVariants.{Splice}
-use Rattle.irig_saved.specs.declared.change.Change.{Change}
 use Rattle.irig_saved.specs.declared.change.Change.TheVariants.{One, Group}
-use Rattle.irig_saved.specs.declared.step.Step.{Step}
-use Rattle.irig_saved.specs.declared.saved.Saved.{Saved}
+use Rattle.irig_saved.specs.{Lines.line, Lines.numbered, Lines.text_of, ChangeWords.single_line}
+use Rattle.irig_saved.specs.{declared.single.Single.Single, declared.change.Change.Change}
+use Rattle.irig_saved.specs.{declared.step.Step.Step, declared.saved.Saved.Saved}
+use Rattle.irig_codes.specs.{Words.kind_word, declared.format.Kind.Kind}
+use Rattle.irig_recording.specs.declared.pulse.Pulse.{Pulse}
 
 -- RISE FALL
 abbrev pub pulse_line : Pulse → List ℕ

@@ -1,12 +1,9 @@
 -- What is in lines, as tuples of values, and the words that they are. This project's own.
-use Rattle.std.specs.Prelude.{◌≡◌, ◌<◌, ◌≤◌, ℕ, ℤ, Bool, List, [], ◌∷◌, Option, length}
-use Rattle.std.specs.Prelude.{decimal}
+use Rattle.std.specs.Prelude.{◌≡◌, ◌<◌, ◌≤◌, ℕ, ℤ, Bool, List, [], ◌∷◌, Option, length, decimal}
 use Rattle.std.specs.Fmt.{signed_decimal}
-use Rattle.irig_codes.specs.Words.{kind_word}
-use Rattle.irig_codes.specs.declared.format.Kind.{Kind}
-use Rattle.irig_saved.specs.ChangeWords.{moved_word, time_word}
-use Rattle.irig_saved.specs.Letters.{letter_word}
+use Rattle.irig_codes.specs.{Words.kind_word, declared.format.Kind.Kind}
 use Rattle.irig_saved.specs.Ranges.{IsNumber, IsDistance, IsTime}
+use Rattle.irig_saved.specs.{ChangeWords.moved_word, ChangeWords.time_word, Letters.letter_word}
 
 -- two numbers, as of a pulse or a toggle
 abbrev pub AreTwo : ℕ × ℕ → Type 0

@@ -2,11 +2,10 @@
 
 ghost use Rattle.std.specs.Prelude.{◌≡◌, ◌++◌, ◌<◌, ◌∷◌, [], OnOk, codes, decimal};
 ghost use Rattle.std.specs.Fmt.{signed_decimal};
-ghost use Rattle.irig_saved.specs.Lines.{line, numbered};
 ghost use Rattle.irig_saved.specs.ChangeWords.{moved_word, single_line, time_word};
-ghost use Rattle.irig_saved.specs.SavedText.{pulse_line};
 ghost use Rattle.irig_saved.specs.declared.single.Single.TheVariants.{Toggle, Shift, SetFormat};
 ghost use Rattle.irig_saved.specs.declared.single.Single.TheVariants.{SetMark};
+ghost use Rattle.irig_saved.specs.{Lines.line, Lines.numbered, SavedText.pulse_line};
 
 use crate::letter::Letters;
 use crate::single::Single;

@@ -1,8 +1,7 @@
 //! The text of a journal determines the journal.
 
 ghost use Rattle.std.specs.Prelude.{◌≡◌};
-ghost use Rattle.irig_saved.specs.SavedText.{journal_text};
-ghost use Rattle.irig_saved.specs.Ranges.{IsSaved};
+ghost use Rattle.irig_saved.specs.{SavedText.journal_text, Ranges.IsSaved};
 
 use crate::saved::Saved;
 

@@ -3,14 +3,13 @@
 ghost use Rattle.std.specs.Prelude.{◌≡◌, ◌<◌, ◌+◌, ◌++◌, ◌∷◌, [], ℕ, List, MatchOption, decimal};
 ghost use Rattle.std.specs.Prelude.{codes};
 ghost use Rattle.std.specs.Fmt.{signed_decimal};
-ghost use Rattle.irig_saved.specs.Lines.{numbered, line};
 ghost use Rattle.irig_saved.specs.Ranges.{IsNumber, IsPulse};
 ghost use Rattle.irig_saved.specs.ChangeWords.{moved_word, single_line};
-ghost use Rattle.irig_saved.specs.SavedText.{pulse_line};
 ghost use Rattle.irig_saved.specs.Reading.{Decodes, IsWordy, IsShort};
 ghost use Rattle.irig_saved.specs.Values.{AreThree, AreTwo, IsFormat, IsMark, IsMove, IsShift};
 ghost use Rattle.irig_saved.specs.Values.{words_of_format, words_of_mark, words_of_shift};
 ghost use Rattle.irig_saved.specs.Values.{words_of_three, words_of_two};
+ghost use Rattle.irig_saved.specs.{Lines.numbered, Lines.line, SavedText.pulse_line};
 
 use crate::cut::word_of;
 use crate::letter::{Letter, Letters};

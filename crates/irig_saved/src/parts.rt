@@ -1,15 +1,14 @@
 //! Parts of a saved journal: each is read from the head of a text, and gives the rest.
 
 ghost use Rattle.std.specs.Prelude.{◌≡◌, ◌<◌, ◌+◌, ◌∷◌, [], codes, length};
-ghost use Rattle.irig_saved.specs.Lines.{numbered};
 ghost use Rattle.irig_saved.specs.Ranges.{IsNumber, IsSingle, IsChange, IsStep, AreSteps};
 ghost use Rattle.irig_saved.specs.Ranges.{ArePulses, AreSingles, ManySteps};
 ghost use Rattle.irig_saved.specs.SavedText.{pulse_lines, single_lines, singles_lines};
 ghost use Rattle.irig_saved.specs.SavedText.{change_lines, step_lines, steps_lines, counted_lines};
 ghost use Rattle.irig_saved.specs.SavedText.{mark_lines};
-ghost use Rattle.irig_saved.specs.Reading.{Any, Parses, IsWordy};
 ghost use Rattle.irig_saved.specs.Leading.{BeginsSome, BeginsSplice, BeginsStep, BeginsSteps};
 ghost use Rattle.irig_saved.specs.Leading.{Leads};
+ghost use Rattle.irig_saved.specs.{Lines.numbered, Reading.Any, Reading.Parses, Reading.IsWordy};
 
 use crate::change::Change;
 use crate::cut::line_of;

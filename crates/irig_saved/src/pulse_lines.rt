@@ -1,8 +1,7 @@
 //! The lines of a splice's pulses, in parts.
 
 ghost use Rattle.std.specs.Prelude.{◌≡◌, ◌≤◌, ◌<◌, ◌++◌, [], IfOk, OnOk, false, true, vec_len};
-ghost use Rattle.irig_saved.specs.Lines.{text_of};
-ghost use Rattle.irig_saved.specs.SavedText.{pulse_lines, put_of};
+ghost use Rattle.irig_saved.specs.{Lines.text_of, SavedText.pulse_lines, SavedText.put_of};
 
 use crate::change_writer::put_pulse;
 use crate::pulses::Pulses;

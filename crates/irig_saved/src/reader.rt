@@ -2,13 +2,11 @@
 
 ghost use Rattle.std.specs.Prelude.{◌≡◌, ◌==◌, ◌<◌, ◌≤◌, ◌+◌, ◌-◌, ◌^◌, ◌++◌, ◌∷◌, [], ℕ, List};
 ghost use Rattle.std.specs.Prelude.{length, take, codes, count_by, MatchOption, MatchResult, IfOk};
-ghost use Rattle.irig_saved.specs.Lines.{line, numbered};
 ghost use Rattle.irig_saved.specs.SavedText.{journal_text, saved_lines};
-ghost use Rattle.irig_saved.specs.Ranges.{IsNumber, IsSaved};
 ghost use Rattle.irig_saved.specs.Values.{IsFormat, words_of_format};
-ghost use Rattle.irig_saved.specs.Reading.{Parses, Stops};
-ghost use Rattle.irig_saved.specs.Leading.{FirstLine, head_text};
-ghost use Rattle.irig_saved.specs.Faults.{IsRefused, ReachesSteps};
+ghost use Rattle.irig_saved.specs.{Lines.line, Lines.numbered, Ranges.IsNumber, Ranges.IsSaved};
+ghost use Rattle.irig_saved.specs.{Reading.Parses, Reading.Stops, Leading.FirstLine};
+ghost use Rattle.irig_saved.specs.{Leading.head_text, Faults.IsRefused, Faults.ReachesSteps};
 
 use crate::cut::line_of;
 use crate::lines::{counted, format};

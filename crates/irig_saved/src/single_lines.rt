@@ -1,8 +1,7 @@
 //! The lines of a change, in parts.
 
 ghost use Rattle.std.specs.Prelude.{◌≡◌, ◌≤◌, ◌<◌, ◌++◌, [], IfOk, OnOk, false, true, vec_len};
-ghost use Rattle.irig_saved.specs.Lines.{text_of};
-ghost use Rattle.irig_saved.specs.SavedText.{single_lines};
+ghost use Rattle.irig_saved.specs.{Lines.text_of, SavedText.single_lines};
 
 use crate::change_writer::put_single;
 use crate::pulse_lines::PulseLines;

@@ -1,12 +1,8 @@
 -- What the command refuses.
 use Rattle.std.proofs.Common.{◌≡◌, ◌∙◌, List, Result, Ok, Err, true, inl, inr, ap, refl}
-use Rattle.std.specs.Prelude.{IfErr}
-use Rattle.clap.specs.Words.{App, Text, is_simple_and_free}
-use Rattle.clap.specs.declared.error.Error.{Error}
-use Rattle.clap.specs.declared.builder.value_parser.ValueParser.{ValueParser}
-use Rattle.std.specs.Prelude.{Some, codes}
-use Rattle.irig_settings.specs.Errors.{MayRefuse}
-use Rattle.irig_settings.specs.Options.{IsCommand, command_with}
+use Rattle.std.specs.Prelude.{IfErr, Some, codes}
+use Rattle.clap.specs.{Words.App, Words.Text, Words.is_simple_and_free, declared.error.Error.Error, declared.builder.value_parser.ValueParser.ValueParser}
+use Rattle.irig_settings.specs.{Errors.MayRefuse, Options.IsCommand, Options.command_with}
 use Rattle.irig_words.specs.Arguments.{option}
 use Rattle.irig_words.specs.Errors as words
 

@@ -1,7 +1,6 @@
 -- The errors of the command line. This project's own.
 use Rattle.std.specs.Prelude.{◌⊎◌, List}
-use Rattle.clap.specs.Words.{App, Text}
-use Rattle.clap.specs.declared.error.Error.{Error}
+use Rattle.clap.specs.{Words.App, Words.Text, declared.error.Error.Error}
 use Rattle.irig_settings.specs.Options.{IsCommand}
 use Rattle.irig_words.specs.Errors.{IsRefused, WantsMemory}
 

@@ -4,14 +4,11 @@ use Rattle.std.specs.Prelude.{unwrap_or, option_map, slice_index}
 use Rattle.clap.specs.Words.{Text, first_value, found_of}
 use Rattle.clap.specs.declared.parser.matches.Found.{Found}
 use Rattle.clap.specs.declared.parser.matches.ArgMatches.{ArgMatches}
-use Rattle.irig_codes.specs.Format.{is_permitted}
-use Rattle.irig_codes.specs.Words.{kind_named}
-use Rattle.irig_codes.specs.declared.format.Kind.{Kind}
+use Rattle.irig_codes.specs.{Format.is_permitted, Words.kind_named, declared.format.Kind.Kind}
 use Rattle.irig_codes.specs.declared.format.Kind.TheVariants as kind
-use Rattle.irig_settings.specs.Errors.{MayRefuse}
-use Rattle.irig_settings.specs.Options.{IsParsed}
 use Rattle.irig_settings.specs.declared.chosen.Settings.{Settings}
 use Rattle.irig_settings.specs.declared.chosen.UsageFault.{UsageFault}
+use Rattle.irig_settings.specs.{Errors.MayRefuse, Options.IsParsed}
 use Rattle.irig_settings.specs.declared.chosen.UsageFault.TheVariants as fault
 use Rattle.irig_words.specs.Errors.{WantsMemory}
 

@@ -3,13 +3,12 @@
 ghost use Rattle.std.specs.Prelude.{◌≡◌, IfErr, IfOk, None, false, codes, map, string_bytes};
 ghost use Rattle.std.specs.Prelude.{MatchOption, true};
 ghost use Rattle.clap.specs.Words.{Rule, app_of, found_of, new_app, rule_of, with_rule};
-ghost use Rattle.irig_settings.specs.Options.{IsCommand, IsReading, IsChoice, IsParsed};
-ghost use Rattle.irig_settings.specs.Options.{letters, track};
+ghost use Rattle.irig_settings.specs.Options.{IsCommand, IsReading, IsChoice, IsParsed, letters};
+ghost use Rattle.irig_settings.specs.Options.{track};
 ghost use Rattle.irig_settings.specs.Errors.{MayRefuse};
 ghost use Rattle.irig_settings.specs.Settings.{Chooses, Reads, digit_named, expression_of};
 ghost use Rattle.irig_settings.specs.Settings.{is_chosen_format, kind_of, kind_or_b};
-ghost use Rattle.irig_words.specs.Arguments.{option};
-ghost use Rattle.irig_words.specs.Errors.{IsMistake};
+ghost use Rattle.irig_words.specs.{Arguments.option, Errors.IsMistake};
 
 use crate::chosen::{Settings, UsageFault};
 use clap::{Arg, ArgMatches, Command, Error};

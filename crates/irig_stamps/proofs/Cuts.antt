@@ -1,7 +1,6 @@
 -- A text cut at a byte.
 use Rattle.std.proofs.Common.{◌≡◌, ℕ, ◌++◌, List, take, drop}
-use Rattle.irig_stamps.specs.Columns.{before, onward}
-use Rattle.irig_stamps.specs.declared.cutting.Until.{Until}
+use Rattle.irig_stamps.specs.{Columns.before, Columns.onward, declared.cutting.Until.Until}
 
 -- how far a text is cut
 abbrev pub IsCut : Until → List ℕ → ℕ → Type 0

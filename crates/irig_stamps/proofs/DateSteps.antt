@@ -1,13 +1,10 @@
 -- Days counted from month to month, and the first frame that has a time.
 use Rattle.std.proofs.Common.{◌≡◌, ◌≤◌, ◌<◌, ◌+◌, ◌-◌, ◌∷◌, ℕ, zero, suc, Bool, List, Option, Some, None, drop, slice_get, ap, refl, ◌∙◌}
 use Rattle.std.specs.Prelude.{pos, if◌then◌else◌}
-use Rattle.std.proofs.Math.Dec.{eqb-suc-zero}
-use Rattle.std.proofs.Math.Seq.{drop-cons}
-use Rattle.std.proofs.lemmas.Bool.{le-leb, lt-leb}
-use Rattle.std.proofs.lemmas.Option.{get_or_from_slice_get, slice_get_within}
+use Rattle.std.proofs.{Math.Dec.eqb-suc-zero, Math.Seq.drop-cons}
+use Rattle.std.proofs.lemmas.{Bool.le-leb, Bool.lt-leb, Option.get_or_from_slice_get, Option.slice_get_within}
 use Rattle.jiff_core.specs.Calendar.{days_in_month}
-use Rattle.irig_codes.specs.Format.{FormatView}
-use Rattle.irig_codes.specs.declared.fields.Fields.{Fields}
+use Rattle.irig_codes.specs.{Format.FormatView, declared.fields.Fields.Fields}
 use Rattle.irig_index.specs.declared.record.Record.{Record}
 use Rattle.irig_times.specs.Times.{timed}
 use Rattle.irig_stamps.specs.Dates.{date_after, date_from, day_or, first_day}

@@ -1,10 +1,8 @@
 -- Numbers that have the same digits.
 use Rattle.std.proofs.Common.{◌≡◌, ℕ, ◌+◌, ◌-◌, ◌*◌, ◌/◌, ◌%◌, ◌<◌, ◌≤◌, ◌^◌, ◌++◌, List, [], ◌∷◌, length, take, drop, get_or, refl, sym, ap, ◌∙◌, arith, Some}
 use Rattle.std.specs.Prelude.{decimal}
-use Rattle.std.proofs.Math.Nat.{div-div-eq-div-mul}
-use Rattle.std.proofs.Math.Seq.{drop-append_seam, take-append_seam}
-use Rattle.std.proofs.lemmas.Fmt.{decimal_injective}
-use Rattle.std.proofs.lemmas.List.{length-append}
+use Rattle.std.proofs.{Math.Nat.div-div-eq-div-mul, Math.Seq.drop-append_seam, Math.Seq.take-append_seam}
+use Rattle.std.proofs.lemmas.{Fmt.decimal_injective, List.length-append}
 use Rattle.irig_times.specs.declared.time.Time.{Time}
 use Rattle.irig_stamps.specs.Texts.{clock_text, date_text, day_seconds, day_text, digit_at, fraction_text, seconds_text, year_text}
 

@@ -1,8 +1,7 @@
 -- The newline that the last line of some bytes lacks.
 use Rattle.std.proofs.Common.{◌≡◌, ◌≢◌, ◌==◌, ℕ, Bool, true, false, not, ◌++◌, List, [], ◌∷◌, refl, ap, ◌∙◌}
-use Rattle.std.proofs.lemmas.Bool.{and_parts, false≢true}
+use Rattle.std.proofs.lemmas.{Bool.and_parts, Bool.false≢true, List.append-nil}
 use Rattle.std.specs.Prelude.{if◌then◌else◌}
-use Rattle.std.proofs.lemmas.List.{append-nil}
 use Rattle.irig_stamps.specs.Runs.{ending_of, is_plain, unlines}
 
 -- it is that of the bytes after a front

@@ -1,9 +1,7 @@
 -- Bytes that are known, over several calls.
-use Rattle.std.proofs.Common.{◌≡◌, [], ◌∷◌, refl, ◌≢◌, ℕ, List, Option, ap, sym, ◌∙◌, subst, length, take, drop, ◌-◌, ◌+◌, ◌<◌}
-use Rattle.std.proofs.Common.{arith}
-use Rattle.std.proofs.Math.Seq.{take-add, take-length}
+use Rattle.std.proofs.Common.{◌≡◌, [], ◌∷◌, refl, ◌≢◌, ℕ, List, Option, ap, sym, ◌∙◌, subst, length, take, drop, ◌-◌, ◌+◌, ◌<◌, arith}
+use Rattle.std.proofs.{Math.Seq.take-add, Math.Seq.take-length, KnownBytes.Appends-trans}
 use Rattle.std.proofs.lemmas.List.{length-drop}
-use Rattle.std.proofs.KnownBytes.{Appends-trans}
 use Rattle.std.specs.Io.KnownBytes.{Appends}
 
 -- a list of no item

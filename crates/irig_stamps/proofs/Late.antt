@@ -1,14 +1,11 @@
 -- No time is as late as 2^61 picoseconds.
 use Rattle.std.proofs.Common.{ℕ, ◌+◌, ◌^◌, ◌<◌, ◌≤◌, List, inl, inr, arith}
-use Rattle.irig_codes.specs.Format.{FormatView, interval_of}
-use Rattle.irig_codes.specs.declared.format.Kind.{Kind}
 use Rattle.irig_codes.specs.declared.format.Kind.TheVariants.{A, B, E, G}
-use Rattle.irig_codes.specs.declared.fields.Fields.{Fields}
+use Rattle.irig_codes.specs.{Format.FormatView, Format.interval_of, declared.format.Kind.Kind, declared.fields.Fields.Fields}
 use Rattle.irig_recording.specs.declared.pulse.Pulse.{Pulse}
 use Rattle.irig_track.specs.Track.{IsTrack}
 use Rattle.irig_track.proofs.Places.{rise_within}
-use Rattle.irig_times.specs.declared.time.Time.{Time}
-use Rattle.irig_times.specs.Elements.{HasTime, IntervalEnds, NextRises}
+use Rattle.irig_times.specs.{declared.time.Time.Time, Elements.HasTime, Elements.IntervalEnds, Elements.NextRises}
 
 interval-most : (k : Kind) → interval_of k ≤ 100000
 interval-most A = omega arith

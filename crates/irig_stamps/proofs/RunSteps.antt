@@ -2,21 +2,16 @@
 use Rattle.std.proofs.Common.{◌≡◌, ◌≢◌, ◌++◌, ◌∷◌, [], ℕ, Bool, Option, List, refl, sym, ap, ◌∙◌, inl, inr, subst, append_assoc, arith}
 use Rattle.std.proofs.KnownBytes.{Appends-nil, Appends-trans, Consumes-kept, Consumes-nil, Consumes-trans}
 use Rattle.std.specs.Io.KnownBytes.{Appends, Consumes, IsAtEnd, Keeps}
-use Rattle.std.proofs.lemmas.Bool.{false≢true, true≢false}
-use Rattle.std.proofs.lemmas.List.{append-nil}
+use Rattle.std.proofs.lemmas.{Bool.false≢true, Bool.true≢false, List.append-nil}
 use Rattle.std.specs.Prelude.{true, false, Result, Ok, Err, IfOk}
 use Rattle.irig_codes.specs.Format.{FormatView}
 use Rattle.irig_recording.specs.declared.pulse.Pulse.{Pulse}
 use Rattle.irig_track.specs.Looks.{counted}
-use Rattle.irig_stamps.specs.Front.{AppendsFront}
-use Rattle.irig_stamps.specs.Runs.{Broke, IsCause, Ran, Stamped, ending_of}
 use Rattle.irig_stamps.specs.Steps.{GoesOn, PrintsAll, Stops, Takes, TakesAs, TakesUpTo, Underway}
-use Rattle.irig_stamps.specs.declared.fault.RunFault.{RunFault}
 use Rattle.irig_stamps.specs.declared.fault.RunFault.TheVariants.{PrintFailed, ReadFailed, TooLong, OutOfMemory}
-use Rattle.irig_stamps.specs.declared.fault.TakeFault.{TakeFault}
+use Rattle.irig_stamps.specs.{Front.AppendsFront, Runs.Broke, Runs.IsCause, Runs.Ran, Runs.Stamped, Runs.ending_of, declared.fault.RunFault.RunFault}
+use Rattle.irig_stamps.specs.{declared.fault.TakeFault.TakeFault, declared.lines.Lines.Lines, declared.settings.Settings.Settings}
 use Rattle.irig_stamps.specs.declared.fault.TakeFault.TheVariants as take
-use Rattle.irig_stamps.specs.declared.lines.Lines.{Lines}
-use Rattle.irig_stamps.specs.declared.settings.Settings.{Settings}
 use Rattle.irig_stamps.proofs.Endings.{ending-none, ending-rest}
 
 module _ (f : FormatView) (ps : List Pulse) (s : Settings) where

@@ -3,15 +3,13 @@ use Rattle.std.proofs.Common.{◌≡◌, ◌==◌, ◌&&◌, ◌||◌, ◌+◌, 
 use Rattle.std.proofs.Common.{append_assoc, subst, arith, inl, inr}
 use Rattle.std.specs.Prelude.{is_some}
 use Rattle.std.proofs.Math.Bool.{and-true, and_assoc, true-and}
-use Rattle.std.proofs.lemmas.Bool.{and_from, and_parts, cases_lt, le-ltb}
-use Rattle.std.proofs.lemmas.List.{append-nil, length-append}
+use Rattle.std.proofs.lemmas.{Bool.and_from, Bool.and_parts, Bool.cases_lt, Bool.le-ltb, List.append-nil, List.length-append}
 use Rattle.std.specs.List.{flat_map}
 use Rattle.irig_codes.specs.Format.{FormatView}
 use Rattle.irig_recording.specs.declared.pulse.Pulse.{Pulse}
 use Rattle.irig_track.specs.Looks.{counted}
 use Rattle.irig_stamps.specs.Runs.{AreOut, Stamped, are_numbered, is_plain, unlines}
-use Rattle.irig_stamps.specs.Stamps.{IsOut, is_header, is_numbered, picos_in}
-use Rattle.irig_stamps.specs.declared.settings.Settings.{Settings}
+use Rattle.irig_stamps.specs.{Stamps.IsOut, Stamps.is_header, Stamps.is_numbered, Stamps.picos_in, declared.settings.Settings.Settings}
 
 pub plain-append : (xs ys : List ℕ) → is_plain xs ≡ true → is_plain ys ≡ true → is_plain (xs ++ ys) ≡ true
 plain-append [] ys h k = k

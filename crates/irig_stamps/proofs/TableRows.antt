@@ -3,10 +3,8 @@ use Rattle.std.proofs.Common.{◌≡◌, ◌++◌, ◌+◌, ◌∷◌, [], ℕ, 
 use Rattle.irig_codes.specs.Format.{FormatView}
 use Rattle.irig_index.specs.declared.record.Record.{Record}
 use Rattle.irig_recording.specs.declared.pulse.Pulse.{Pulse}
-use Rattle.irig_times.specs.Starts.{IsStartOf}
-use Rattle.irig_times.specs.declared.start.FrameStart.{FrameStart}
-use Rattle.irig_stamps.specs.Tables.{IsTable, row_of}
-use Rattle.irig_stamps.specs.declared.settings.Settings.{Settings}
+use Rattle.irig_times.specs.{Starts.IsStartOf, declared.start.FrameStart.FrameStart}
+use Rattle.irig_stamps.specs.{Tables.IsTable, Tables.row_of, declared.settings.Settings.Settings}
 use Rattle.irig_stamps.proofs.DateSteps.{from-place}
 
 module _ (f : FormatView) (ps : List Pulse) (s : Settings) (rs : List Record) where

@@ -1,20 +1,14 @@
 -- Bytes of lines that were taken.
-use Rattle.std.proofs.Common.{◌≡◌, ◌≢◌, ◌==◌, ◌≤◌, ◌<◌, ◌^◌, ◌&&◌, ◌++◌, ◌+◌, ◌∷◌, [], ℕ, suc, Bool, true, false, not, List}
-use Rattle.std.proofs.Common.{Result, Ok, Err, length, take, drop, get_or, refl, sym, ap, ◌∙◌}
-use Rattle.std.proofs.Common.{append_assoc, subst}
+use Rattle.std.proofs.Common.{◌≡◌, ◌≢◌, ◌==◌, ◌≤◌, ◌<◌, ◌^◌, ◌&&◌, ◌++◌, ◌+◌, ◌∷◌, [], ℕ, suc, Bool, true, false, not, List, Result, Ok, Err, length, take}
+use Rattle.std.proofs.Common.{drop, get_or, refl, sym, ap, ◌∙◌, append_assoc, subst}
 use Rattle.std.proofs.Math.Seq.{drop-cons, take-add}
-use Rattle.std.proofs.lemmas.Bool.{and_from, eqb-true}
-use Rattle.std.proofs.lemmas.List.{append-nil, take-append-drop}
+use Rattle.std.proofs.lemmas.{Bool.and_from, Bool.eqb-true, List.append-nil, List.take-append-drop}
 use Rattle.irig_codes.specs.Format.{FormatView}
 use Rattle.irig_recording.specs.declared.pulse.Pulse.{Pulse}
 use Rattle.irig_track.specs.Looks.{counted}
-use Rattle.irig_stamps.specs.Runs.{Stamped, is_plain}
-use Rattle.irig_stamps.specs.Stamps.{IsOut, is_header, is_numbered}
-use Rattle.irig_stamps.specs.Steps.{PushesAs, Takes, TakesAs}
-use Rattle.irig_stamps.specs.declared.fault.TakeFault.{TakeFault}
+use Rattle.irig_stamps.specs.{Runs.Stamped, Runs.is_plain, Stamps.IsOut, Stamps.is_header, Stamps.is_numbered, Steps.PushesAs, Steps.Takes, Steps.TakesAs}
+use Rattle.irig_stamps.specs.{declared.fault.TakeFault.TakeFault, declared.lines.Lines.Lines, declared.settings.Settings.Settings}
 use Rattle.irig_stamps.specs.declared.fault.TakeFault.TheVariants as take_fault
-use Rattle.irig_stamps.specs.declared.lines.Lines.{Lines}
-use Rattle.irig_stamps.specs.declared.settings.Settings.{Settings}
 use Rattle.irig_stamps.proofs.StampedLines.{stamped-line, stamped-part}
 
 not-true : (b : Bool) → (b ≡ true → ⊥) → not b ≡ true

@@ -5,11 +5,8 @@ use Rattle.std.specs.Prelude.{option_map}
 use Rattle.irig_codes.specs.Format.{FormatView}
 use Rattle.irig_recording.specs.declared.pulse.Pulse.{Pulse}
 use Rattle.irig_track.specs.Track.{IsTrack}
-use Rattle.irig_times.specs.declared.time.Time.{Time}
-use Rattle.irig_times.specs.Elements.{HasTime}
-use Rattle.irig_stamps.specs.Stamps.{IsTimeOf, IsWord}
-use Rattle.irig_stamps.specs.Texts.{word_of}
-use Rattle.irig_stamps.specs.declared.settings.Settings.{Settings}
+use Rattle.irig_times.specs.{declared.time.Time.Time, Elements.HasTime}
+use Rattle.irig_stamps.specs.{Stamps.IsTimeOf, Stamps.IsWord, Texts.word_of, declared.settings.Settings.Settings}
 use Rattle.irig_stamps.proofs.Late.{none-late}
 
 module _ (f : FormatView) (ps : List Pulse) (s : Settings) where

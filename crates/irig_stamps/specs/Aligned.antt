@@ -4,11 +4,9 @@ use Rattle.irig_codes.specs.Format.{FormatView}
 use Rattle.irig_index.specs.Frames.{frames}
 use Rattle.irig_recording.specs.declared.pulse.Pulse.{Pulse}
 use Rattle.irig_track.specs.Edges.{edges_of}
-use Rattle.irig_stamps.specs.Dates.{first_day}
-use Rattle.irig_stamps.specs.Runs.{Ends}
-use Rattle.irig_stamps.specs.declared.fault.RunFault.{RunFault}
 use Rattle.irig_stamps.specs.declared.fault.RunFault.TheVariants.{OutOfMemory}
 use Rattle.irig_stamps.specs.declared.settings.Settings.{Settings}
+use Rattle.irig_stamps.specs.{Dates.first_day, Runs.Ends, declared.fault.RunFault.RunFault}
 
 -- the settings with the day of the first frame of a track that has a time
 abbrev pub with_first_day : FormatView → List Pulse → Settings → Settings

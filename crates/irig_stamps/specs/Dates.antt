@@ -1,13 +1,11 @@
 -- Years and dates of times, by the proleptic Gregorian calendar of jiff. A track lasts at most 12.7
 -- days, so it has at most one end of a year. This project's own.
-use Rattle.std.specs.Prelude.{ℕ, zero, suc, ◌+◌, ◌-◌, ◌*◌, ◌%◌, ◌==◌, nat_le, nat_lt, pos}
-use Rattle.std.specs.Prelude.{List, [], ◌∷◌, Option, Some, None, if◌then◌else◌}
+use Rattle.std.specs.Prelude.{ℕ, zero, suc, ◌+◌, ◌-◌, ◌*◌, ◌%◌, ◌==◌, nat_le, nat_lt, pos, List, []}
+use Rattle.std.specs.Prelude.{◌∷◌, Option, Some, None, if◌then◌else◌}
 use Rattle.jiff_core.specs.Calendar.{days_in_month}
-use Rattle.irig_codes.specs.Format.{FormatView}
-use Rattle.irig_codes.specs.declared.fields.Fields.{Fields}
+use Rattle.irig_codes.specs.{Format.FormatView, declared.fields.Fields.Fields}
 use Rattle.irig_index.specs.declared.record.Record.{Record}
-use Rattle.irig_times.specs.declared.time.Time.{Time}
-use Rattle.irig_times.specs.Times.{timed}
+use Rattle.irig_times.specs.{declared.time.Time.Time, Times.timed}
 use Rattle.irig_stamps.specs.declared.settings.Settings.{Settings}
 
 -- the day of some fields, if there are any; else another

@@ -4,11 +4,9 @@ use Rattle.std.specs.Prelude.{◌≡◌, ◌≢◌, ℕ, ◌+◌, ◌*◌, ◌<�
 use Rattle.irig_codes.specs.Format.{FormatView}
 use Rattle.irig_recording.specs.declared.pulse.Pulse.{Pulse}
 use Rattle.irig_track.specs.Track.{IsTrack}
-use Rattle.irig_times.specs.declared.time.Time.{Time}
-use Rattle.irig_times.specs.Elements.{HasTime}
-use Rattle.irig_stamps.specs.Dates.{year_in}
+use Rattle.irig_times.specs.{declared.time.Time.Time, Elements.HasTime}
 use Rattle.irig_stamps.specs.Texts.{calendar_text, ordinal_text, seconds_text}
-use Rattle.irig_stamps.specs.declared.settings.Settings.{Settings}
+use Rattle.irig_stamps.specs.{Dates.year_in, declared.settings.Settings.Settings}
 
 -- two times of a track, n / d and m / d microseconds after its start, and settings within limits
 pub record AreTimes (f : FormatView) (s : Settings) (x y : Time) : Type 0 where

@@ -3,12 +3,9 @@ use Rattle.std.specs.Prelude.{◌≡◌, ℕ, ◌-◌, ◌≤◌, ◌++◌, List
 use Rattle.std.specs.Prelude.{Bool, true, false, ◌||◌, nat_lt, is_some}
 use Rattle.irig_codes.specs.Format.{FormatView}
 use Rattle.irig_recording.specs.declared.pulse.Pulse.{Pulse}
-use Rattle.irig_times.specs.declared.time.Time.{Time}
-use Rattle.irig_times.specs.Elements.{HasTime}
-use Rattle.irig_stamps.specs.Columns.{column_of}
-use Rattle.irig_stamps.specs.Numbers.{number_in}
-use Rattle.irig_stamps.specs.Texts.{word_of}
+use Rattle.irig_times.specs.{declared.time.Time.Time, Elements.HasTime}
 use Rattle.irig_stamps.specs.declared.settings.Settings.{Settings}
+use Rattle.irig_stamps.specs.{Columns.column_of, Numbers.number_in, Texts.word_of}
 
 -- the recorder's time in a line, in picoseconds, if it is a number; the offset is not yet taken off
 abbrev pub picos_in : Settings → List ℕ → Option ℕ

@@ -5,14 +5,11 @@ use Rattle.std.specs.Io.KnownBytes.{Appends, Consumes}
 use Rattle.irig_codes.specs.Format.{FormatView}
 use Rattle.irig_recording.specs.declared.pulse.Pulse.{Pulse}
 use Rattle.irig_track.specs.Looks.{counted}
-use Rattle.irig_stamps.specs.Front.{AppendsFront}
-use Rattle.irig_stamps.specs.Runs.{Broke, Ran, Stamped}
-use Rattle.irig_stamps.specs.declared.fault.RunFault.{RunFault}
 use Rattle.irig_stamps.specs.declared.fault.RunFault.TheVariants.{PrintFailed, TooLong, OutOfMemory}
-use Rattle.irig_stamps.specs.declared.fault.TakeFault.{TakeFault}
+use Rattle.irig_stamps.specs.{Front.AppendsFront, Runs.Broke, Runs.Ran, Runs.Stamped}
+use Rattle.irig_stamps.specs.{declared.fault.RunFault.RunFault, declared.fault.TakeFault.TakeFault}
+use Rattle.irig_stamps.specs.{declared.lines.Lines.Lines, declared.settings.Settings.Settings}
 use Rattle.irig_stamps.specs.declared.fault.TakeFault.TheVariants as take
-use Rattle.irig_stamps.specs.declared.lines.Lines.{Lines}
-use Rattle.irig_stamps.specs.declared.settings.Settings.{Settings}
 
 -- after these bytes more, what was stamped before is stamped with what comes out for them
 abbrev pub Takes : FormatView → List Pulse → Settings → List ℕ → List ℕ → List ℕ → Lines → Lines

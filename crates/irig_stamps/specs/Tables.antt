@@ -3,18 +3,13 @@ use Rattle.std.specs.Prelude.{◌≡◌, ◌⊎◌, ℕ, ◌++◌, Bool, true, f
 use Rattle.std.specs.Prelude.{None, Result, Ok, Err, codes, decimal, unwrap_or}
 use Rattle.std.specs.Io.KnownBytes.{Appends}
 use Rattle.irig_codes.specs.Format.{FormatView}
-use Rattle.irig_index.specs.Frames.{frames}
-use Rattle.irig_index.specs.declared.record.Record.{Record}
+use Rattle.irig_index.specs.{Frames.frames, declared.record.Record.Record}
 use Rattle.irig_recording.specs.declared.pulse.Pulse.{Pulse}
 use Rattle.irig_track.specs.Edges.{edges_of}
-use Rattle.irig_times.specs.Starts.{IsStartOf}
-use Rattle.irig_times.specs.declared.start.FrameStart.{FrameStart}
-use Rattle.irig_stamps.specs.Aligned.{with_first_day}
-use Rattle.irig_stamps.specs.Front.{AppendsFront}
-use Rattle.irig_stamps.specs.Texts.{word_of}
-use Rattle.irig_stamps.specs.declared.fault.RunFault.{RunFault}
+use Rattle.irig_times.specs.{Starts.IsStartOf, declared.start.FrameStart.FrameStart}
 use Rattle.irig_stamps.specs.declared.fault.RunFault.TheVariants.{PrintFailed, OutOfMemory}
-use Rattle.irig_stamps.specs.declared.settings.Settings.{Settings}
+use Rattle.irig_stamps.specs.{Aligned.with_first_day, Front.AppendsFront, Texts.word_of}
+use Rattle.irig_stamps.specs.{declared.fault.RunFault.RunFault, declared.settings.Settings.Settings}
 
 -- the answer to a question
 abbrev pub answer_of : Bool → List ℕ

@@ -2,10 +2,9 @@
 use Rattle.std.specs.Prelude.{ℕ, ◌+◌, ◌*◌, ◌/◌, ◌%◌, ◌++◌, List, [], ◌∷◌, Option, Some, None}
 use Rattle.std.specs.Prelude.{decimal}
 use Rattle.irig_times.specs.declared.time.Time.{Time}
-use Rattle.irig_stamps.specs.declared.settings.Form.{Form}
 use Rattle.irig_stamps.specs.declared.settings.Form.TheVariants.{Ordinal, Calendar, Seconds}
 use Rattle.irig_stamps.specs.declared.settings.Settings.{Settings}
-use Rattle.irig_stamps.specs.Dates.{date_in, year_in}
+use Rattle.irig_stamps.specs.{declared.settings.Form.Form, Dates.date_in, Dates.year_in}
 
 -- the decimal digit of a number that counts units
 abbrev pub digit_at : ℕ → ℕ → ℕ

@@ -3,8 +3,7 @@
 ghost use Rattle.std.specs.Prelude.{◌≡◌, ◌≤◌, ◌<◌, ◌^◌, IfSome};
 ghost use Rattle.irig_index.specs.Frames.{frames};
 ghost use Rattle.irig_stamps.specs.Aligned.{Aligns, with_first_day};
-ghost use Rattle.irig_stamps.specs.Dates.{first_day};
-ghost use Rattle.irig_stamps.specs.Runs.{Ends};
+ghost use Rattle.irig_stamps.specs.{Dates.first_day, Runs.Ends};
 
 use crate::fault::RunFault;
 use crate::first_day::first_day;

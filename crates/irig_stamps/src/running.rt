@@ -1,9 +1,8 @@
 //! The run over a text of lines.
 
-ghost use Rattle.std.specs.Prelude.{◌≡◌, ◌≤◌, ◌<◌, ◌^◌, [], ℕ, List, Option, true};
-ghost use Rattle.std.specs.Prelude.{OnOk, IfOk, IfSome};
-ghost use Rattle.std.specs.Io.{ReadsAtMost};
-ghost use Rattle.std.specs.Io.KnownBytes.{IsAtEnd, ReadConsumes};
+ghost use Rattle.std.specs.Prelude.{◌≡◌, ◌≤◌, ◌<◌, ◌^◌, [], ℕ, List, Option, true, OnOk, IfOk};
+ghost use Rattle.std.specs.Prelude.{IfSome};
+ghost use Rattle.std.specs.{Io.ReadsAtMost, Io.KnownBytes.IsAtEnd, Io.KnownBytes.ReadConsumes};
 ghost use Rattle.irig_index.specs.Frames.{frames};
 ghost use Rattle.irig_stamps.specs.Runs.{Ends};
 ghost use Rattle.irig_stamps.specs.Steps.{GoesOn, PrintsAll, Stops, Underway};

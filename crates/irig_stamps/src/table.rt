@@ -1,11 +1,9 @@
 //! A table of the frames of a track that have a time.
 
-ghost use Rattle.std.specs.Prelude.{◌≡◌, ◌≤◌, ◌<◌, ◌++◌, ℕ, List, Some, slice_get, length};
-ghost use Rattle.std.specs.Prelude.{IfOk, IfSome, OnOk, Option};
-ghost use Rattle.irig_index.specs.Frames.{frames};
-ghost use Rattle.irig_index.specs.declared.record.Record.{Record};
-ghost use Rattle.irig_times.specs.Starts.{IsStartOf};
-ghost use Rattle.irig_times.specs.declared.start.FrameStart.{FrameStart};
+ghost use Rattle.std.specs.Prelude.{◌≡◌, ◌≤◌, ◌<◌, ◌++◌, ℕ, List, Some, slice_get, length, IfOk};
+ghost use Rattle.std.specs.Prelude.{IfSome, OnOk, Option};
+ghost use Rattle.irig_index.specs.{Frames.frames, declared.record.Record.Record};
+ghost use Rattle.irig_times.specs.{Starts.IsStartOf, declared.start.FrameStart.FrameStart};
 ghost use Rattle.irig_stamps.specs.Aligned.{with_first_day};
 ghost use Rattle.irig_stamps.specs.Tables.{IsTable, Lists, ListsRecording, answer_of, row_of};
 ghost use Rattle.irig_stamps.specs.Tables.{row_text};

@@ -1,29 +1,18 @@
 -- A frame that is fine has its fields in their ranges.
-use Rattle.std.proofs.Common.{◌≡◌, ◌≢◌, ℕ, ◌<◌, ◌≤◌, ◌&&◌, ◌||◌, nat_le, Bool, true, false, not, cond, List, [], ◌∷◌, Option, Some, None, refl, sym, ap, ◌∙◌, subst, inl, inr}
+use Rattle.std.proofs.Common.{◌≡◌, ◌≢◌, ℕ, ◌<◌, ◌≤◌, ◌&&◌, ◌||◌, nat_le, Bool, true, false, not, cond, List, [], ◌∷◌, Option, Some, None, refl, sym, ap, ◌∙◌}
+use Rattle.std.proofs.Common.{subst, inl, inr}
 use Rattle.std.specs.Prelude.{IfSome, find, is_some}
-use Rattle.std.proofs.lemmas.Bool.{and_parts, cases_Bool, leb-true, or_parts}
-use Rattle.std.proofs.lemmas.Option.{none-some}
-use Rattle.irig_codes.specs.Fields.{is_in_range, part}
-use Rattle.irig_codes.specs.Format.{FormatView, has_year}
-use Rattle.irig_codes.specs.Layout.{decimal}
+use Rattle.std.proofs.lemmas.{Bool.and_parts, Bool.cases_Bool, Bool.leb-true, Bool.or_parts, Option.none-some}
 use Rattle.irig_codes.specs.Notes.{is_over, is_wrong, note_of, sbs_disagrees, stray_in, wrong_field}
-use Rattle.irig_codes.specs.Reading.{fields_read, value_of}
-use Rattle.irig_codes.specs.declared.fields.Fields.{Fields}
-use Rattle.irig_codes.specs.declared.note.Name.{Name}
 use Rattle.irig_codes.specs.declared.note.Name.TheVariants.{Hundredths, Seconds, Minutes, Hours, Days, Year}
-use Rattle.irig_codes.specs.declared.note.Note.{Note}
 use Rattle.irig_codes.specs.declared.note.Note.TheVariants.{Fine, Stray}
-use Rattle.irig_codes.specs.declared.width.Element.{Element}
+use Rattle.irig_codes.specs.{Fields.is_in_range, Fields.part, Format.FormatView, Format.has_year, Layout.decimal, Reading.fields_read, Reading.value_of}
+use Rattle.irig_codes.specs.{declared.fields.Fields.Fields, declared.note.Name.Name, declared.note.Note.Note, declared.width.Element.Element}
 use Rattle.irig_recording.specs.declared.pulse.Pulse.{Pulse}
-use Rattle.irig_index.specs.Frames.{frame_at, frames}
-use Rattle.irig_index.specs.Verdict.{elements_of, first_fault, judged, verdict_of}
-use Rattle.irig_index.specs.declared.record.Verdict.{Verdict}
-use Rattle.irig_index.specs.declared.record.Verdict.TheVariants.{Broken, Read}
-use Rattle.irig_times.specs.declared.time.Time.{Time}
-use Rattle.irig_times.specs.Elements.{HasTime, IsElement}
-use Rattle.irig_times.specs.Laws.{IsOfCalendar, TimesAreOfCalendar}
-use Rattle.irig_times.proofs.Records.{frame-reads}
-use Rattle.irig_times.proofs.SoundFrames.{judged-read}
+use Rattle.irig_index.specs.{Frames.frame_at, Frames.frames, Verdict.elements_of, Verdict.first_fault, Verdict.judged, Verdict.verdict_of}
+use Rattle.irig_index.specs.{declared.record.Verdict.Verdict, declared.record.Verdict.TheVariants.Broken, declared.record.Verdict.TheVariants.Read}
+use Rattle.irig_times.specs.{declared.time.Time.Time, Elements.HasTime, Elements.IsElement, Laws.IsOfCalendar, Laws.TimesAreOfCalendar}
+use Rattle.irig_times.proofs.{Records.frame-reads, SoundFrames.judged-read}
 
 -- none that is found
 find-none : {X : Type 0} (p : X → Bool) (x : X) (xs : List X) → find p (x ∷ xs) ≡ None → (p x ≡ false) × (find p xs ≡ None)

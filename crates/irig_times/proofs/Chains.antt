@@ -1,21 +1,15 @@
 -- Times in a chain of frames are in one order.
-use Rattle.std.proofs.Common.{◌≡◌, ℕ, suc, zero, ◌+◌, ◌-◌, ◌*◌, ◌<◌, ◌≤◌, ◌==◌, ◌&&◌, nat_lt, Bool, true, false, cond, List, Option, Some, None, slice_get, refl, sym, ap, ◌∙◌}
-use Rattle.std.proofs.Common.{inl, inr, subst, arith}
+use Rattle.std.proofs.Common.{◌≡◌, ℕ, suc, zero, ◌+◌, ◌-◌, ◌*◌, ◌<◌, ◌≤◌, ◌==◌, ◌&&◌, nat_lt, Bool, true, false, cond, List, Option, Some, None, slice_get}
+use Rattle.std.proofs.Common.{refl, sym, ap, ◌∙◌, inl, inr, subst, arith}
 use Rattle.std.proofs.lemmas.Bool.{and_parts, cases_Bool, eqb-true, or_cases}
-use Rattle.irig_codes.specs.Format.{FormatView, frame_period_of, interval_of}
-use Rattle.irig_codes.specs.declared.fields.Fields.{Fields}
+use Rattle.irig_codes.specs.{Format.FormatView, Format.frame_period_of, Format.interval_of, declared.fields.Fields.Fields}
 use Rattle.irig_recording.specs.declared.pulse.Pulse.{Pulse}
 use Rattle.irig_track.specs.Track.{IsTrack}
-use Rattle.irig_index.specs.Frames.{frames}
-use Rattle.irig_index.specs.declared.record.Record.{Record}
-use Rattle.irig_times.specs.declared.time.Time.{Time}
-use Rattle.irig_times.specs.Chains.{ChainsNeverFall, IsAfter, IsChained, MinutesAfter, minute_of}
-use Rattle.irig_times.specs.Elements.{HasTime, IsElement, IsFollowed, share}
+use Rattle.irig_index.specs.{Frames.frames, declared.record.Record.Record}
 use Rattle.irig_times.specs.Follows.{is_later, is_later_in, minute_follows, same_minute, same_year}
-use Rattle.irig_times.specs.Times.{minute_micros, time_in}
-use Rattle.irig_times.proofs.OneTime.{element-once}
-use Rattle.irig_times.proofs.Shares.{hundred-intervals}
-use Rattle.irig_times.proofs.TimeLaws.{micros-of, never_falls, share-of}
+use Rattle.irig_times.specs.{declared.time.Time.Time, Chains.ChainsNeverFall, Chains.IsAfter, Chains.IsChained, Chains.MinutesAfter, Chains.minute_of}
+use Rattle.irig_times.specs.{Elements.HasTime, Elements.IsElement, Elements.IsFollowed, Elements.share, Times.minute_micros, Times.time_in}
+use Rattle.irig_times.proofs.{OneTime.element-once, Shares.hundred-intervals, TimeLaws.micros-of, TimeLaws.never_falls, TimeLaws.share-of}
 use Rattle.std.proofs.Math.Nat.{mul-le-mul_right}
 
 year-same : (y z : Option ℕ) → same_year y z ≡ true → y ≡ z

@@ -1,18 +1,12 @@
 -- A frame is followed by another, or it is not.
-use Rattle.std.proofs.Common.{◌≡◌, ℕ, suc, zero, ◌+◌, ◌-◌, ◌<◌, ◌≤◌, Bool, true, false, List, [], ◌∷◌, slice_get, Option, Some, None, refl, sym, ap, ◌∙◌, ◌⊎◌, inl, inr, subst, arith}
-use Rattle.std.proofs.lemmas.Bool.{both_ways, cases_Bool, cases_eq, cases_order}
-use Rattle.std.proofs.lemmas.Option.{none-some, same_Some}
-use Rattle.irig_codes.specs.Format.{FormatView, frame_period_of}
-use Rattle.irig_codes.specs.declared.fields.Fields.{Fields}
+use Rattle.std.proofs.Common.{◌≡◌, ℕ, suc, zero, ◌+◌, ◌-◌, ◌<◌, ◌≤◌, Bool, true, false, List, [], ◌∷◌, slice_get, Option, Some, None, refl, sym, ap, ◌∙◌, ◌⊎◌}
+use Rattle.std.proofs.Common.{inl, inr, subst, arith}
+use Rattle.std.proofs.lemmas.{Bool.both_ways, Bool.cases_Bool, Bool.cases_eq, Bool.cases_order, Option.none-some, Option.same_Some}
+use Rattle.irig_codes.specs.{Format.FormatView, Format.frame_period_of, declared.fields.Fields.Fields}
 use Rattle.irig_recording.specs.declared.pulse.Pulse.{Pulse}
-use Rattle.irig_index.specs.Frames.{frames}
-use Rattle.irig_index.specs.declared.record.Record.{Record}
-use Rattle.irig_times.specs.Elements.{IsElement, IsFollowed}
-use Rattle.irig_times.specs.Follows.{is_later}
-use Rattle.irig_times.specs.FrameLooks.{MarkersRise}
-use Rattle.irig_times.specs.Times.{time_in, timed}
-use Rattle.irig_times.proofs.OneTime.{element-once}
-use Rattle.irig_times.proofs.Records.{frames-rise}
+use Rattle.irig_index.specs.{Frames.frames, declared.record.Record.Record}
+use Rattle.irig_times.specs.{Elements.IsElement, Elements.IsFollowed, Follows.is_later, FrameLooks.MarkersRise, Times.time_in, Times.timed}
+use Rattle.irig_times.proofs.{OneTime.element-once, Records.frames-rise}
 
 -- a record of a marker
 record Marked (rs : List Record) (m : ℕ) : Type 0 where

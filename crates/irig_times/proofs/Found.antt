@@ -1,18 +1,12 @@
 -- What a search for a microsecond shows of its time.
 use Rattle.std.proofs.Common.{◌≡◌, ℕ, ◌+◌, ◌-◌, ◌*◌, ◌/◌, ◌<◌, ◌≤◌, List, length, slice_get, Some, ap, sym, ◌∙◌, inl, inr, subst, arith}
-use Rattle.std.proofs.lemmas.Bool.{cases_lt}
-use Rattle.std.proofs.lemmas.Option.{slice_get-get_or}
-use Rattle.irig_codes.specs.Format.{FormatView, interval_of}
-use Rattle.irig_codes.specs.declared.fields.Fields.{Fields}
-use Rattle.irig_index.specs.Frames.{frames}
-use Rattle.irig_index.specs.declared.record.Record.{Record}
-use Rattle.irig_recording.specs.declared.pulse.Pulse.{Pulse}
-use Rattle.irig_recording.specs.Recording.{RisesFrom}
-use Rattle.irig_track.specs.Edges.{edges_of}
-use Rattle.irig_track.specs.Splices.{risen_by}
+use Rattle.std.proofs.lemmas.{Bool.cases_lt, Option.slice_get-get_or}
+use Rattle.irig_codes.specs.{Format.FormatView, Format.interval_of, declared.fields.Fields.Fields}
+use Rattle.irig_index.specs.{Frames.frames, declared.record.Record.Record}
+use Rattle.irig_recording.specs.{declared.pulse.Pulse.Pulse, Recording.RisesFrom}
+use Rattle.irig_track.specs.{Edges.edges_of, Splices.risen_by}
 use Rattle.irig_track.proofs.Searches.{risen_above, risen_below}
-use Rattle.irig_times.specs.Elements.{HasTime, IsElement}
-use Rattle.irig_times.specs.declared.time.Time.{Time}
+use Rattle.irig_times.specs.{Elements.HasTime, Elements.IsElement, declared.time.Time.Time}
 
 module _ (t : ℕ) (ps : List Pulse) (rises : RisesFrom 0 (edges_of ps)) where
   -- the last pulse that has risen by a time rises at or before it

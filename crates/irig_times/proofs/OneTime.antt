@@ -1,17 +1,12 @@
 -- A microsecond has one time at most.
 use Rattle.std.proofs.Common.{◌≡◌, ℕ, ◌+◌, ◌-◌, ◌*◌, ◌/◌, ◌<◌, ◌≤◌, List, slice_get, Some, refl, sym, ap, ◌∙◌, ◌⊎◌, inl, inr, subst, arith}
-use Rattle.std.proofs.lemmas.Bool.{cases_order}
-use Rattle.std.proofs.lemmas.Option.{same_Some}
-use Rattle.irig_codes.specs.Format.{FormatView, interval_of}
-use Rattle.irig_codes.specs.declared.fields.Fields.{Fields}
+use Rattle.std.proofs.lemmas.{Bool.cases_order, Option.same_Some}
+use Rattle.irig_codes.specs.{Format.FormatView, Format.interval_of, declared.fields.Fields.Fields}
 use Rattle.irig_recording.specs.declared.pulse.Pulse.{Pulse}
 use Rattle.irig_track.specs.Splices.{risen_by}
-use Rattle.irig_index.specs.Frames.{frames}
-use Rattle.irig_index.specs.declared.record.Record.{Record}
-use Rattle.irig_times.specs.declared.time.Time.{Time}
+use Rattle.irig_index.specs.{Frames.frames, declared.record.Record.Record}
 use Rattle.irig_times.specs.Elements.{HasTime, IntervalEnds, IsElement, IsFollowed, NextRises, share}
-use Rattle.irig_times.specs.Laws.{OneTime}
-use Rattle.irig_times.specs.Times.{time_in, timed}
+use Rattle.irig_times.specs.{declared.time.Time.Time, Laws.OneTime, Times.time_in, Times.timed}
 use Rattle.irig_times.proofs.Records.{frames-apart, frames-rise}
 
 module _ (f : FormatView) (ps : List Pulse) where

@@ -1,22 +1,14 @@
 -- The records of a track by their places, and which of them a pulse belongs to.
-use Rattle.std.proofs.Common.{◌≡◌, ℕ, suc, zero, ◌+◌, ◌-◌, ◌<◌, ◌≤◌, List, length, slice_get, Option, Some, None, refl, sym, ap, ◌∙◌, ◌⊎◌, inl, inr}
-use Rattle.std.proofs.Common.{subst, arith}
+use Rattle.std.proofs.Common.{◌≡◌, ℕ, suc, zero, ◌+◌, ◌-◌, ◌<◌, ◌≤◌, List, length, slice_get, Option, Some, None, refl, sym, ap, ◌∙◌, ◌⊎◌, inl, inr, subst}
+use Rattle.std.proofs.Common.{arith}
 use Rattle.std.specs.Prelude.{Contains}
-use Rattle.std.proofs.lemmas.Bool.{cases_lt, cases_order}
-use Rattle.std.proofs.lemmas.Option.{get_or_from_slice_get, none-some, same_Some, slice_get_within}
-use Rattle.irig_codes.specs.Format.{FormatView}
-use Rattle.irig_codes.specs.declared.fields.Fields.{Fields}
-use Rattle.irig_codes.specs.declared.note.Note.TheVariants.{Fine}
+use Rattle.std.proofs.lemmas.{Bool.cases_lt, Bool.cases_order, Option.get_or_from_slice_get, Option.none-some, Option.same_Some, Option.slice_get_within}
+use Rattle.irig_codes.specs.{Format.FormatView, declared.fields.Fields.Fields, declared.note.Note.TheVariants.Fine}
 use Rattle.irig_recording.specs.declared.pulse.Pulse.{Pulse}
-use Rattle.irig_index.specs.declared.record.Record.{Record}
-use Rattle.irig_index.specs.Frames.{frame_at, frames}
-use Rattle.irig_index.specs.Laws.{TellsOfMarker}
-use Rattle.irig_index.specs.Verdict.{verdict_of}
 use Rattle.irig_index.specs.declared.record.Verdict.TheVariants.{Read}
+use Rattle.irig_index.specs.{declared.record.Record.Record, Frames.frame_at, Frames.frames, Laws.TellsOfMarker, Verdict.verdict_of}
 use Rattle.irig_index.proofs.MarkerLaws.{frames_are_the_markers, markers_rise}
-use Rattle.irig_times.specs.Elements.{AreFrames, IsElement}
-use Rattle.irig_times.specs.FrameLooks.{PartedAt, MarkersRise}
-use Rattle.irig_times.specs.Times.{timed}
+use Rattle.irig_times.specs.{Elements.AreFrames, Elements.IsElement, FrameLooks.PartedAt, FrameLooks.MarkersRise, Times.timed}
 use Rattle.irig_times.proofs.SoundFrames.{element-stands, none-within, timed-read}
 
 module _ (f : FormatView) (ps : List Pulse) where

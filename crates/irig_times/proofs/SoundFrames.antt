@@ -1,25 +1,17 @@
 -- A frame that is read has all its pulses, and no marker within it.
-use Rattle.std.proofs.Common.{◌≡◌, ℕ, suc, zero, ◌+◌, ◌-◌, ◌%◌, ◌==◌, ◌<◌, ◌≤◌, Bool, true, false, cond, List, Option, Some, None, slice_get, refl, sym, ap, ◌∙◌, ◌⊎◌, inl, inr}
-use Rattle.std.proofs.Common.{subst, arith}
+use Rattle.std.proofs.Common.{◌≡◌, ℕ, suc, zero, ◌+◌, ◌-◌, ◌%◌, ◌==◌, ◌<◌, ◌≤◌, Bool, true, false, cond, List, Option, Some, None, slice_get, refl, sym, ap}
+use Rattle.std.proofs.Common.{◌∙◌, ◌⊎◌, inl, inr, subst, arith}
 use Rattle.std.proofs.lemmas.Bool.{and_parts, both_ways, cases_Bool, cases_lt, eqb-false, eqb-true, leb-true}
 use Rattle.std.proofs.lemmas.Option.{none-some, same_Some, cond_some}
-use Rattle.irig_codes.specs.Format.{FormatView, frame_period_of}
-use Rattle.irig_codes.specs.declared.fields.Fields.{Fields}
-use Rattle.irig_codes.specs.declared.note.Note.{Note}
 use Rattle.irig_codes.specs.declared.note.Note.TheVariants.{Fine, Field, SbsDisagrees, Stray}
+use Rattle.irig_codes.specs.{Format.FormatView, Format.frame_period_of, declared.fields.Fields.Fields, declared.note.Note.Note}
 use Rattle.irig_recording.specs.declared.pulse.Pulse.{Pulse}
 use Rattle.irig_track.proofs.Items.{slice_get-part}
-use Rattle.irig_index.specs.declared.record.Cause.{Cause}
 use Rattle.irig_index.specs.declared.record.Cause.TheVariants.{Ended, Step, Class}
-use Rattle.irig_index.specs.declared.record.Record.{Record}
-use Rattle.irig_index.specs.declared.record.Verdict.{Verdict}
-use Rattle.irig_index.specs.declared.record.Verdict.TheVariants.{Broken, Read}
-use Rattle.irig_index.specs.Frames.{frame_at}
-use Rattle.irig_index.specs.Laws.{TellsOfMarker}
-use Rattle.irig_index.specs.Marker.{class_at, follows, is_position}
-use Rattle.irig_index.specs.Verdict.{fault_at, fault_of, first_fault, judged, suits, verdict_of}
-use Rattle.irig_index.proofs.CheckLemmas.{suits_other}
-use Rattle.irig_index.proofs.VerdictLemmas.{first_fault-here, first_fault-next}
+use Rattle.irig_index.specs.{declared.record.Verdict.TheVariants.Broken, declared.record.Verdict.TheVariants.Read, Marker.class_at, Marker.follows}
+use Rattle.irig_index.specs.{Marker.is_position, Verdict.fault_at, Verdict.fault_of, Verdict.first_fault, Verdict.judged, Verdict.suits, Verdict.verdict_of}
+use Rattle.irig_index.specs.{declared.record.Cause.Cause, declared.record.Record.Record, declared.record.Verdict.Verdict, Frames.frame_at, Laws.TellsOfMarker}
+use Rattle.irig_index.proofs.{CheckLemmas.suits_other, VerdictLemmas.first_fault-here, VerdictLemmas.first_fault-next}
 use Rattle.irig_times.specs.Times.{minute_micros, timed}
 
 -- only a frame that is read, and fine, has a time

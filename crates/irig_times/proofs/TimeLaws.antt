@@ -1,29 +1,20 @@
 -- Times at index points, and between them.
-use Rattle.std.proofs.Common.{◌≡◌, ℕ, suc, zero, ◌+◌, ◌-◌, ◌*◌, ◌/◌, ◌<◌, ◌≤◌, List, [], ◌∷◌, length, slice_get, Option, Some, refl, sym, ap, ◌∙◌, ◌⊎◌, inl, inr, subst, arith}
-use Rattle.std.proofs.lemmas.Bool.{cases_lt, cases_order}
-use Rattle.std.proofs.lemmas.Option.{none-some, same_Some, slice_get-get_or, slice_get_within}
+use Rattle.std.proofs.Common.{◌≡◌, ℕ, suc, zero, ◌+◌, ◌-◌, ◌*◌, ◌/◌, ◌<◌, ◌≤◌, List, [], ◌∷◌, length, slice_get, Option, Some, refl, sym, ap, ◌∙◌, ◌⊎◌, inl}
+use Rattle.std.proofs.Common.{inr, subst, arith}
+use Rattle.std.proofs.lemmas.{Bool.cases_lt, Bool.cases_order, Option.none-some, Option.same_Some, Option.slice_get-get_or, Option.slice_get_within, Nat.le-div}
 use Rattle.std.proofs.Math.Nat.{mul-div_cancel_left, mul-div-le, mul-le-mul_left, mul-le-mul_right, lt_of_mul-lt-mul_left, mul-lt-mul_of_pos_left}
-use Rattle.std.proofs.lemmas.Nat.{le-div}
-use Rattle.irig_codes.specs.Format.{FormatView, frame_period_of, interval_of}
-use Rattle.irig_codes.specs.declared.fields.Fields.{Fields}
-use Rattle.irig_recording.specs.Recording.{RisesFrom}
-use Rattle.irig_recording.specs.declared.pulse.Pulse.{Pulse}
-use Rattle.irig_track.specs.Edges.{edges_of}
-use Rattle.irig_track.specs.Splices.{risen_by}
-use Rattle.irig_track.specs.Track.{IsTrack}
+use Rattle.irig_codes.specs.{Format.FormatView, Format.frame_period_of, Format.interval_of, declared.fields.Fields.Fields}
+use Rattle.irig_recording.specs.{Recording.RisesFrom, declared.pulse.Pulse.Pulse}
+use Rattle.irig_track.specs.{Edges.edges_of, Splices.risen_by, Track.IsTrack}
 use Rattle.irig_track.proofs.Searches.{risen_above, risen_below, risen_by-le}
-use Rattle.irig_index.specs.Frames.{frames}
-use Rattle.irig_index.specs.declared.record.Record.{Record}
-use Rattle.irig_times.specs.declared.time.Time.{Time}
+use Rattle.irig_index.specs.{Frames.frames, declared.record.Record.Record}
 use Rattle.irig_times.specs.Elements.{HasTime, IntervalEnds, IsElement, IsFollowed, NextRises, share}
 use Rattle.irig_times.specs.Laws.{BeforeTheNext, ExactAtPoints, InItsMinute, NeverFalls, NotBefore, PicosecondsSuffice}
-use Rattle.irig_times.specs.Times.{minute_micros, time_in, timed}
-use Rattle.irig_times.proofs.Decisions.{followed-or-not}
-use Rattle.irig_times.proofs.Found.{last-risen, next-later}
-use Rattle.irig_times.proofs.OneTime.{time-by}
+use Rattle.irig_times.specs.{declared.time.Time.Time, Times.minute_micros, Times.time_in, Times.timed}
 use Rattle.irig_times.proofs.Records.{frames-rise, marker-stands, next-stands}
-use Rattle.irig_times.proofs.SoundFrames.{whole-minute}
-use Rattle.irig_times.proofs.Shares.{divides, hundred-intervals, interval-some, picos-after, picos-before, picos-micros, picos-share, times-less, share-below, share-grows, share-none}
+use Rattle.irig_times.proofs.Shares.{divides, hundred-intervals, interval-some, picos-after, picos-before, picos-micros, picos-share, times-less, share-below}
+use Rattle.irig_times.proofs.Shares.{share-grows, share-none}
+use Rattle.irig_times.proofs.{Decisions.followed-or-not, Found.last-risen, Found.next-later, OneTime.time-by, SoundFrames.whole-minute}
 
 -- each pulse rises after the one before it
 rise-order : (low i : ℕ) (p q : Pulse) (ps : List Pulse) → RisesFrom low (edges_of ps) → slice_get ps i ≡ Some p → slice_get ps (suc i) ≡ Some q

@@ -4,11 +4,9 @@ use Rattle.irig_codes.specs.Format.{FormatView, frame_period_of}
 use Rattle.irig_codes.specs.declared.fields.Fields.{Fields}
 use Rattle.irig_recording.specs.declared.pulse.Pulse.{Pulse}
 use Rattle.irig_track.specs.Track.{IsTrack}
-use Rattle.irig_index.specs.Frames.{frames}
-use Rattle.irig_index.specs.declared.record.Record.{Record}
-use Rattle.irig_times.specs.declared.time.Time.{Time}
+use Rattle.irig_index.specs.{Frames.frames, declared.record.Record.Record}
 use Rattle.irig_times.specs.Elements.{HasTime, IsFollowed}
-use Rattle.irig_times.specs.Follows.{minute_follows}
+use Rattle.irig_times.specs.{declared.time.Time.Time, Follows.minute_follows}
 
 -- the frame of the marker `to` is the k-th after that of the marker `from`, which has these fields:
 -- each of them follows the one before it

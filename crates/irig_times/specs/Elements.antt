@@ -1,14 +1,12 @@
 -- The index points of a track, and the time of a microsecond. This project's own.
-use Rattle.std.specs.Prelude.{◌≡◌, ◌⊎◌, ℕ, ◌+◌, ◌-◌, ◌*◌, ◌/◌, ◌<◌, ◌≤◌, true, List, slice_get, Some}
+use Rattle.std.specs.Prelude.{◌≡◌, ◌⊎◌, ℕ, ◌+◌, ◌-◌, ◌*◌, ◌/◌, ◌<◌, ◌≤◌, true, List, slice_get}
+use Rattle.std.specs.Prelude.{Some}
 use Rattle.irig_codes.specs.Format.{FormatView, interval_of, frame_period_of}
 use Rattle.irig_codes.specs.declared.fields.Fields.{Fields}
 use Rattle.irig_recording.specs.declared.pulse.Pulse.{Pulse}
 use Rattle.irig_track.specs.Splices.{risen_by}
-use Rattle.irig_index.specs.Frames.{frames}
-use Rattle.irig_index.specs.declared.record.Record.{Record}
-use Rattle.irig_times.specs.declared.time.Time.{Time}
-use Rattle.irig_times.specs.Follows.{is_later}
-use Rattle.irig_times.specs.Times.{time_in, timed}
+use Rattle.irig_index.specs.{Frames.frames, declared.record.Record.Record}
+use Rattle.irig_times.specs.{declared.time.Time.Time, Follows.is_later, Times.time_in, Times.timed}
 
 -- some records are the frames of a track
 pub record AreFrames (f : FormatView) (rs : List Record) : Type 0 where

@@ -6,9 +6,8 @@ use Rattle.irig_codes.specs.declared.fields.Fields.{Fields}
 use Rattle.irig_recording.specs.declared.pulse.Pulse.{Pulse}
 use Rattle.irig_track.specs.Track.{IsTrack}
 use Rattle.irig_index.specs.Frames.{frames}
-use Rattle.irig_times.specs.declared.time.Time.{Time}
 use Rattle.irig_times.specs.Elements.{HasTime, IsElement}
-use Rattle.irig_times.specs.Times.{time_in}
+use Rattle.irig_times.specs.{declared.time.Time.Time, Times.time_in}
 
 -- n / d microseconds after the start there is one time at most
 abbrev pub OneTime : Type 0

@@ -1,13 +1,10 @@
 -- Where frames start, for a table of them. This project's own.
 use Rattle.std.specs.Prelude.{◌≡◌, ◌↔◌, ℕ, ◌+◌, true, List, slice_get, Option, Some, None}
-use Rattle.irig_codes.specs.Format.{FormatView}
-use Rattle.irig_codes.specs.declared.fields.Fields.{Fields}
+use Rattle.irig_codes.specs.{Format.FormatView, declared.fields.Fields.Fields}
 use Rattle.irig_recording.specs.declared.pulse.Pulse.{Pulse}
-use Rattle.irig_index.specs.Frames.{frames}
-use Rattle.irig_index.specs.declared.record.Record.{Record}
+use Rattle.irig_index.specs.{Frames.frames, declared.record.Record.Record}
 use Rattle.irig_times.specs.declared.start.FrameStart.{FrameStart}
-use Rattle.irig_times.specs.Elements.{IsFollowed}
-use Rattle.irig_times.specs.Times.{time_in, timed}
+use Rattle.irig_times.specs.{Elements.IsFollowed, Times.time_in, Times.timed}
 
 -- a frame that has a time starts so: when its marker rises, its time, and whether the frame after
 -- it follows it

@@ -3,8 +3,8 @@
 ghost use Rattle.std.specs.Prelude.{◌≡◌, ◌+◌, ◌*◌, ◌%◌, ◌≤◌, ◌<◌, ◌^◌, pos};
 ghost use Rattle.jiff_core.specs.Calendar.{days_in_year};
 ghost use Rattle.irig_times.specs.Follows.{same_year, next_year, same_day, same_hour, same_minute};
-ghost use Rattle.irig_times.specs.Follows.{is_day_after, day_follows, hour_follows};
-ghost use Rattle.irig_times.specs.Follows.{minute_follows, is_later_in, is_later};
+ghost use Rattle.irig_times.specs.Follows.{is_day_after, day_follows, hour_follows, minute_follows};
+ghost use Rattle.irig_times.specs.Follows.{is_later_in, is_later};
 
 use crate::time::Time;
 use jiff_core::civil::days_in_year;

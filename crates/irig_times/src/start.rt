@@ -2,13 +2,10 @@
 
 ghost use Rattle.std.specs.Prelude.{◌≡◌, ◌↔◌, ◌<◌, ◌≤◌, ◌+◌, IsTrue, length, slice_get, Some};
 ghost use Rattle.irig_codes.specs.Format.{FormatView};
-ghost use Rattle.irig_index.specs.Frames.{frames};
-ghost use Rattle.irig_index.specs.declared.record.Record.{Record};
+ghost use Rattle.irig_index.specs.{Frames.frames, declared.record.Record.Record};
 ghost use Rattle.irig_recording.specs.declared.pulse.Pulse.{Pulse};
-ghost use Rattle.irig_times.specs.Elements.{IsFollowed};
 ghost use Rattle.irig_times.specs.FrameLooks.{PartedAt};
-ghost use Rattle.irig_times.specs.Starts.{IsStartOf};
-ghost use Rattle.irig_times.specs.Times.{time_in};
+ghost use Rattle.irig_times.specs.{Elements.IsFollowed, Starts.IsStartOf, Times.time_in};
 
 use crate::frame_lens::FrameLens;
 use crate::point::{Point, is_followed};

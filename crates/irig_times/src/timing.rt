@@ -1,14 +1,12 @@
 //! The time of a microsecond.
 
-ghost use Rattle.std.specs.Prelude.{◌≡◌, ◌↔◌, ◌<◌, ◌≤◌, ◌+◌, ◌*◌, ◌^◌, ℕ, length, Some};
-ghost use Rattle.std.specs.Prelude.{slice_get};
+ghost use Rattle.std.specs.Prelude.{◌≡◌, ◌↔◌, ◌<◌, ◌≤◌, ◌+◌, ◌*◌, ◌^◌, ℕ, length, Some, slice_get};
 ghost use Rattle.irig_track.specs.Looks.{LookedThrough, LensView};
 ghost use Rattle.irig_index.specs.Frames.{frames};
 ghost use Rattle.irig_codes.specs.Format.{interval_of};
-ghost use Rattle.irig_times.specs.declared.time.Time.{Time};
 ghost use Rattle.irig_times.specs.Elements.{HasTime, IsElement, IntervalEnds, NextRises, share};
 ghost use Rattle.irig_times.specs.FrameLooks.{LookedAtFrames, PartedAt};
-ghost use Rattle.irig_times.specs.Times.{time_in};
+ghost use Rattle.irig_times.specs.{declared.time.Time.Time, Times.time_in};
 
 use crate::frame_lens::FrameLens;
 use crate::point::{Point, is_followed, point_at};

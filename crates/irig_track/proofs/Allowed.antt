@@ -2,18 +2,12 @@
 use Rattle.std.proofs.Common.{◌≡◌, ℕ, suc, zero, ℤ, ◌+◌, ◌-◌, ◌^◌, ◌<◌, ◌≤◌, List, [], ◌∷◌, ◌++◌, map, length, take, drop, slice_get, Some, refl, sym, ap, ◌∙◌}
 use Rattle.std.proofs.Common.{subst, arith, append_assoc}
 use Rattle.std.proofs.lemmas.List.{take-map, length-map}
-use Rattle.irig_recording.specs.Recording.{RisesFrom, UpTo}
-use Rattle.irig_recording.specs.declared.pulse.Pulse.{Pulse}
-use Rattle.irig_track.specs.Edges.{edges_of}
-use Rattle.irig_track.specs.Free.{following, first_or}
+use Rattle.irig_recording.specs.{Recording.RisesFrom, Recording.UpTo, declared.pulse.Pulse.Pulse}
 use Rattle.irig_track.specs.Shifts.{moved_pulse, moved, ahead, back, count_to, StaysFromZero, CanShift}
-use Rattle.irig_track.specs.Splices.{piece, CanSplice}
-use Rattle.irig_track.specs.Track.{IsTrack}
-use Rattle.irig_track.proofs.Carried.{length-spliced, length-piece}
-use Rattle.irig_track.proofs.Items.{drop-item, slice_get-drop}
-use Rattle.irig_track.proofs.Laws.{edges_of-three, edges_of-parts}
+use Rattle.irig_track.specs.{Edges.edges_of, Free.following, Free.first_or, Splices.piece, Splices.CanSplice, Track.IsTrack}
 use Rattle.irig_track.proofs.RisingLists.{rises_left, rises_right, rises_more}
 use Rattle.irig_track.proofs.PulsesBetween.{rises_split, rises_joined, rises_first, rises_cut, following-last}
+use Rattle.irig_track.proofs.{Carried.length-spliced, Carried.length-piece, Items.drop-item, Items.slice_get-drop, Laws.edges_of-three, Laws.edges_of-parts}
 
 -- numbers up to a bound are below the next number
 bounded : (low top : ℕ) (xs : List ℕ) → RisesFrom low xs → UpTo top xs → low ≤ top + 1 → RisesFrom low (xs ++ (top + 1) ∷ [])

@@ -1,12 +1,8 @@
 -- How many edges lie below a time, which a toggle from that time on leaves.
 use Rattle.std.proofs.Common.{◌≡◌, ℕ, ◌+◌, ◌*◌, ◌<◌, ◌≤◌, nat_lt, cond, List, [], ◌∷◌, refl, sym, ap, ◌∙◌, arith, inl, inr}
-use Rattle.std.proofs.lemmas.Bool.{cases_lt}
-use Rattle.std.proofs.lemmas.Bool.Decides.{nat_tests}
-use Rattle.irig_recording.specs.Recording.{RisesFrom}
-use Rattle.irig_recording.specs.declared.pulse.Pulse.{Pulse}
-use Rattle.irig_track.specs.Edges.{edges_of}
-use Rattle.irig_track.specs.Toggles.{flipped, toggled}
-use Rattle.irig_track.specs.Splices.{ended_before}
+use Rattle.std.proofs.lemmas.{Bool.cases_lt, Bool.Decides.nat_tests}
+use Rattle.irig_recording.specs.{Recording.RisesFrom, declared.pulse.Pulse.Pulse}
+use Rattle.irig_track.specs.{Edges.edges_of, Toggles.flipped, Toggles.toggled, Splices.ended_before}
 use Rattle.irig_track.proofs.RisingLists.{three, flip_low, flip_same, flip_high, RisesFrom-flipped}
 use Rattle.irig_track.proofs.Searches.{ended_yes, ended_no, ended_none}
 

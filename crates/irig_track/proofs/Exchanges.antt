@@ -1,15 +1,11 @@
 -- Pulses replaced by others, one after the other, each in its place.
-use Rattle.std.proofs.Common.{◌≡◌, ℕ, ◌+◌, ◌<◌, ◌≤◌, List, [], ◌∷◌, length, take, drop}
-use Rattle.std.proofs.Common.{insert, remove, slice_get, slice_set, Option, Some, sym, ap, ◌∙◌, subst, arith, length-drop, refl}
-use Rattle.std.proofs.lemmas.List.{drop-drop, length-take-le}
-use Rattle.std.proofs.lemmas.List.Edits.{insert_end}
-use Rattle.std.proofs.lemmas.Option.{slice_get_within}
+use Rattle.std.proofs.Common.{◌≡◌, ℕ, ◌+◌, ◌<◌, ◌≤◌, List, [], ◌∷◌, length, take, drop, insert, remove, slice_get, slice_set, Option, Some, sym, ap, ◌∙◌, subst}
+use Rattle.std.proofs.Common.{arith, length-drop, refl}
+use Rattle.std.proofs.lemmas.{List.drop-drop, List.length-take-le, List.Edits.insert_end, Option.slice_get_within}
 use Rattle.irig_gap.specs.Items.{GapView, gap_view}
 use Rattle.irig_recording.specs.declared.pulse.Pulse.{Pulse}
 use Rattle.irig_track.specs.Splices.{spliced, piece}
-use Rattle.irig_track.proofs.Carried.{first_of_drop, length-piece}
-use Rattle.irig_track.proofs.Items.{take-item}
-use Rattle.irig_track.proofs.MovedPulses.{more_piece, more_set, unmoved}
+use Rattle.irig_track.proofs.{Carried.first_of_drop, Carried.length-piece, Items.take-item, MovedPulses.more_piece, MovedPulses.more_set, MovedPulses.unmoved}
 
 -- the first of what is left is removed
 remove_first : (qs : List Pulse) → remove qs 0 ≡ drop 1 qs

@@ -1,26 +1,16 @@
 -- Each edit can be reversed by one of its kind.
-use Rattle.std.proofs.Common.{◌≡◌, ℕ, suc, zero, ℤ, pos, negsuc, ◌+◌, ◌-◌, ◌<◌, ◌≤◌, ◌==◌, Bool, true, false}
-use Rattle.std.proofs.Common.{cond, not, ◌||◌, List, [], ◌∷◌, ◌++◌, length, take, drop, slice_get, Some, refl}
-use Rattle.std.proofs.Common.{sym, ap, ◌∙◌, subst, arith}
+use Rattle.std.proofs.Common.{◌≡◌, ℕ, suc, zero, ℤ, pos, negsuc, ◌+◌, ◌-◌, ◌<◌, ◌≤◌, ◌==◌, Bool, true, false, cond, not, ◌||◌, List, [], ◌∷◌, ◌++◌, length}
+use Rattle.std.proofs.Common.{take, drop, slice_get, Some, refl, sym, ap, ◌∙◌, subst, arith}
 use Rattle.std.proofs.lemmas.List.{length-take-le, length-map, take-append-drop}
 use lib.IntN.{neg_ℤ}
 use Rattle.std.proofs.Math.Seq.{take-append_seam, drop-append_seam, drop-append-add}
-use Rattle.irig_recording.specs.Recording.{RisesFrom, UpTo, IsRecording}
-use Rattle.irig_recording.specs.declared.pulse.Pulse.{Pulse}
-use Rattle.irig_track.specs.Edges.{edges_of, pulse, has, inverted}
+use Rattle.irig_recording.specs.{Recording.RisesFrom, Recording.UpTo, Recording.IsRecording, declared.pulse.Pulse.Pulse}
 use Rattle.irig_track.specs.Shifts.{moved_pulse, moved, ahead, back, count_to, shifted, StaysFromZero, CanShift}
-use Rattle.irig_track.specs.Splices.{spliced, piece, CanSplice}
-use Rattle.irig_track.specs.Toggles.{toggled, CanToggle}
-use Rattle.irig_track.specs.Track.{IsTrack}
-use Rattle.irig_track.specs.Free.{following, first_or}
-use Rattle.irig_track.proofs.Allowed.{shift_stands}
-use Rattle.irig_track.proofs.Places.{rise_within}
-use Rattle.irig_track.proofs.Carried.{length-spliced, length-piece}
-use Rattle.irig_track.proofs.Laws.{parts, has-toggled}
-use Rattle.irig_track.proofs.Recordings.{recording_of}
+use Rattle.irig_track.specs.{Edges.edges_of, Edges.pulse, Edges.has, Edges.inverted, Splices.spliced, Splices.piece, Splices.CanSplice, Toggles.toggled}
+use Rattle.irig_track.specs.{Toggles.CanToggle, Track.IsTrack, Free.following, Free.first_or}
+use Rattle.irig_track.proofs.{Allowed.shift_stands, Places.rise_within, Carried.length-spliced, Carried.length-piece, Laws.parts, Laws.has-toggled}
+use Rattle.irig_track.proofs.{Recordings.recording_of, RisingLists.RisesFrom-flipped, Sets.only_list}
 use Rattle.irig_recording.proofs.PulseEdges.{edges_of-append}
-use Rattle.irig_track.proofs.RisingLists.{RisesFrom-flipped}
-use Rattle.irig_track.proofs.Sets.{only_list}
 
 -- what was inserted is where it was inserted
 pub piece-spliced : (at count : ℕ) (put ps : List Pulse) → at ≤ length ps → piece at (length put) (spliced at count put ps) ≡ put

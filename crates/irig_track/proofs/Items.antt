@@ -1,16 +1,11 @@
 -- Places of lists: what is there, what is before it, and what follows.
-use Rattle.std.proofs.Common.{◌≡◌, ℕ, suc, zero, ◌+◌, ◌<◌, ◌≤◌, List, [], ◌∷◌, ◌++◌, length, take, drop, insert, remove, slice_get, Some, refl, sym, ap}
-use Rattle.std.proofs.Common.{◌∙◌, arith, add-one}
-use Rattle.std.proofs.lemmas.List.{length-take-le}
-use Rattle.std.proofs.lemmas.Option.{get_or_from_slice_get, slice_get_within}
-use Rattle.std.proofs.Math.Seq.{drop-append-add, drop-append_seam, drop-cons, take-append-add, take-append_seam, take-suc}
+use Rattle.std.proofs.Common.{◌≡◌, ℕ, suc, zero, ◌+◌, ◌<◌, ◌≤◌, List, [], ◌∷◌, ◌++◌, length, take, drop, insert, remove, slice_get, Some, refl, sym, ap, ◌∙◌}
+use Rattle.std.proofs.Common.{arith, add-one}
+use Rattle.std.proofs.lemmas.{List.length-take-le, Option.get_or_from_slice_get, Option.slice_get_within}
+use Rattle.std.proofs.Math.Seq.{drop-append-add, drop-append_seam, take-append-add, take-append_seam, take-suc}
+pub use Rattle.irig_recording.proofs.Items.{drop-item}
 
 module _ {X : Type 0} where
-  -- from a place on: what is there, and what follows
-  pub drop-item : (xs : List X) (i : ℕ) (x : X) → slice_get xs i ≡ Some x → drop i xs ≡ x ∷ drop (i + 1) xs
-  drop-item xs i x e = rw add-one
-      (drop-cons xs i x (slice_get_within xs i x e) ∙ ap (λ y. y ∷ drop (suc i) xs) (get_or_from_slice_get xs i x x e))
-
   slice_get-take : (n : ℕ) (xs : List X) (k : ℕ) → k < n → slice_get (take n xs) k ≡ slice_get xs k
   slice_get-take zero xs k h = absurd (omega arith)
   slice_get-take (suc n) [] k h = refl

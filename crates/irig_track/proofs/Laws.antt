@@ -4,11 +4,9 @@ use Rattle.std.proofs.Common.{◌∙◌, subst, inl, inr, arith, append_assoc}
 use Rattle.std.proofs.lemmas.Bool.{and_from, and_left, and_right, cases_Bool, cases_eq, eq-eqb, le-leb, lt-leb, ne_eqb}
 use Rattle.std.proofs.lemmas.List.{take-append-drop, drop-drop}
 use Rattle.std.proofs.Math.Bool.{or-false}
-use Rattle.irig_recording.specs.declared.pulse.Pulse.{Pulse}
-use Rattle.irig_recording.specs.Recording.{RisesFrom, UpTo}
+use Rattle.irig_recording.specs.{declared.pulse.Pulse.Pulse, Recording.RisesFrom, Recording.UpTo}
 use Rattle.irig_track.specs.Edges.{Under, has, edges_of, is_edge, with_both, replaced, without, without_between, inverted, pulse}
-use Rattle.irig_track.specs.Toggles.{flipped, toggled}
-use Rattle.irig_track.specs.Splices.{spliced, piece}
+use Rattle.irig_track.specs.{Toggles.flipped, Toggles.toggled, Splices.spliced, Splices.piece}
 use Rattle.irig_recording.proofs.PulseEdges.{edges_of-append}
 use Rattle.irig_track.proofs.RisingLists.{rises_left, rises_right, has_there, has-flipped_same, has-flipped_other, RisesFrom-flipped, under_next}
 use Rattle.irig_track.proofs.Sets.{has-append, has-splice}

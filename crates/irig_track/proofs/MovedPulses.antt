@@ -1,13 +1,10 @@
 -- Pulses moved in time, one after the other.
-use Rattle.std.proofs.Common.{◌≡◌, ℕ, suc, ◌+◌, ◌-◌, ◌<◌, List, [], ◌∷◌, ◌++◌, map, length, take, drop, set}
-use Rattle.std.proofs.Common.{slice_get, Some, refl, sym, ap, ◌∙◌, arith, append_assoc}
-use Rattle.std.proofs.lemmas.List.{map-append, set-append_right, length-take-le, length-map}
-use Rattle.std.proofs.lemmas.Option.{slice_get_within}
+use Rattle.std.proofs.Common.{◌≡◌, ℕ, suc, ◌+◌, ◌-◌, ◌<◌, List, [], ◌∷◌, ◌++◌, map, length, take, drop, set, slice_get, Some, refl, sym, ap, ◌∙◌, arith}
+use Rattle.std.proofs.Common.{append_assoc}
+use Rattle.std.proofs.lemmas.{List.map-append, List.set-append_right, List.length-take-le, List.length-map, Option.slice_get_within}
 use Rattle.irig_recording.specs.declared.pulse.Pulse.{Pulse}
-use Rattle.irig_track.specs.Shifts.{moved_pulse}
-use Rattle.irig_track.specs.Splices.{spliced, piece}
-use Rattle.irig_track.proofs.Carried.{first_of_drop, length-piece}
-use Rattle.irig_track.proofs.Items.{drop-item, slice_get-drop, take-item}
+use Rattle.irig_track.specs.{Shifts.moved_pulse, Splices.spliced, Splices.piece}
+use Rattle.irig_track.proofs.{Carried.first_of_drop, Carried.length-piece, Items.drop-item, Items.slice_get-drop, Items.take-item}
 
 -- the pulses with the first m of those from at on moved
 abbrev pub moved_so_far : ℕ → ℕ → ℕ → ℕ → List Pulse → List Pulse

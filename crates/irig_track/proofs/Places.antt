@@ -2,15 +2,10 @@
 use Rattle.std.proofs.Common.{◌≡◌, ℕ, suc, zero, ◌+◌, ◌<◌, ◌≤◌, ◌==◌, false, ◌||◌, List, [], ◌∷◌, drop, slice_get, Some, refl, ap, ◌∙◌, subst, arith, inl, inr}
 use Rattle.std.proofs.lemmas.Bool.{cases_lt}
 use Rattle.std.proofs.Math.Bool.{or-false}
-use Rattle.irig_recording.specs.Recording.{RisesFrom, UpTo}
-use Rattle.irig_recording.specs.declared.pulse.Pulse.{Pulse}
-use Rattle.irig_track.specs.Edges.{edges_of, has, is_edge}
-use Rattle.irig_track.specs.Splices.{risen_by}
-use Rattle.irig_track.specs.Free.{first_or}
-use Rattle.irig_track.proofs.RisingLists.{has_there, has_none}
-use Rattle.irig_track.proofs.Sets.{has-append}
-use Rattle.irig_track.proofs.Laws.{two}
+use Rattle.irig_recording.specs.{Recording.RisesFrom, Recording.UpTo, declared.pulse.Pulse.Pulse}
+use Rattle.irig_track.specs.{Edges.edges_of, Edges.has, Edges.is_edge, Splices.risen_by, Free.first_or}
 use Rattle.irig_track.proofs.Searches.{risen_yes, risen_none, risen_ends}
+use Rattle.irig_track.proofs.{RisingLists.has_there, RisingLists.has_none, Sets.has-append, Laws.two}
 
 -- a pulse rises before it falls
 pub pulse_order : (low i : ℕ) (p : Pulse) (ps : List Pulse) → RisesFrom low (edges_of ps) → slice_get ps i ≡ Some p → p.rise < p.fall

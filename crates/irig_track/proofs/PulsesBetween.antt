@@ -1,11 +1,8 @@
 -- Pulses that fit between two times.
 use Rattle.std.proofs.Common.{◌≡◌, ℕ, suc, zero, ◌+◌, ◌<◌, ◌≤◌, List, [], ◌∷◌, ◌++◌, take, drop, slice_get, Some, sym, ap, subst, arith}
-use Rattle.irig_recording.specs.declared.pulse.Pulse.{Pulse}
-use Rattle.irig_recording.specs.Recording.{RisesFrom}
-use Rattle.irig_track.specs.Edges.{edges_of}
-use Rattle.irig_track.specs.Free.{following}
-use Rattle.irig_track.proofs.RisingLists.{rises_right}
-use Rattle.irig_track.proofs.Items.{drop-item}
+use Rattle.irig_recording.specs.{declared.pulse.Pulse.Pulse, Recording.RisesFrom}
+use Rattle.irig_track.specs.{Edges.edges_of, Free.following}
+use Rattle.irig_track.proofs.{RisingLists.rises_right, Items.drop-item}
 
 -- the pulses from the i-th on fit between low and high
 abbrev pub StandFrom : ℕ → ℕ → ℕ → List Pulse → Type 0

@@ -1,14 +1,11 @@
 -- Tracks and recordings: pulses on the one side, edges on the other.
 use Rattle.std.proofs.Common.{◌≡◌, ℕ, ◌+◌, ◌^◌, ◌<◌, ◌≤◌, true, false, not, List, [], ◌∷◌, length, refl, sym, ap, ◌∙◌, subst, arith, inl, inr}
-use Rattle.irig_recording.specs.Recording.{RisesFrom, IsRecording, is_even_long}
-use Rattle.irig_recording.specs.declared.pulse.Pulse.{Pulse}
+use Rattle.irig_recording.specs.{Recording.RisesFrom, Recording.IsRecording, Recording.is_even_long, declared.pulse.Pulse.Pulse}
 use Rattle.std.proofs.Math.Bool.{not-not}
-use Rattle.irig_track.specs.Edges.{edges_of, has, is_edge}
-use Rattle.irig_track.specs.Toggles.{flipped, toggled, CanToggle}
-use Rattle.irig_track.specs.Track.{IsTrack}
+use Rattle.irig_track.specs.{Edges.edges_of, Edges.has, Edges.is_edge, Toggles.flipped, Toggles.toggled, Toggles.CanToggle, Track.IsTrack}
 use Rattle.irig_recording.proofs.PulseEdges.{length-edges_of, even-edges_of}
-use Rattle.irig_track.proofs.RisingLists.{three, flip_low, flip_same, flip_high, has_here, has_there, has_none, has-flipped_other}
-use Rattle.irig_track.proofs.RisingLists.{RisesFrom-flipped, UpTo-flipped}
+use Rattle.irig_track.proofs.RisingLists.{three, flip_low, flip_same, flip_high, has_here, has_there, has_none, has-flipped_other, RisesFrom-flipped}
+use Rattle.irig_track.proofs.RisingLists.{UpTo-flipped}
 
 -- the edges of a track are a recording
 pub recording_of : (micros : ℕ) (ps : List Pulse) → IsTrack micros ps → IsRecording micros (edges_of ps)

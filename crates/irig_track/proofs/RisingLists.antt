@@ -1,11 +1,9 @@
 -- Laws of a rising list of edges.
-use Rattle.std.proofs.Common.{◌≡◌, ℕ, suc, zero, ◌+◌, ◌<◌, ◌≤◌, ◌≢◌, ◌==◌, true, false, cond}
-use Rattle.std.proofs.Common.{not, List, [], ◌∷◌, ◌++◌, refl, sym, ap, ◌∙◌, subst, ◌⊎◌, inl}
+use Rattle.std.proofs.Common.{◌≡◌, ℕ, suc, zero, ◌+◌, ◌<◌, ◌≤◌, ◌≢◌, ◌==◌, true, false, cond, not, List, [], ◌∷◌, ◌++◌, refl, sym, ap, ◌∙◌, subst, ◌⊎◌, inl}
 use Rattle.std.proofs.Common.{inr, arith}
 use Rattle.std.proofs.lemmas.Bool.Decides.{nat_tests}
 use Rattle.irig_recording.specs.Recording.{RisesFrom, UpTo}
-use Rattle.irig_track.specs.Edges.{Under, has}
-use Rattle.irig_track.specs.Toggles.{flipped}
+use Rattle.irig_track.specs.{Edges.Under, Edges.has, Toggles.flipped}
 
 pub three : (a b : ℕ) → (a < b) ⊎ ((a ≡ b) ⊎ (b < a))
 three zero zero = inr (inl refl)

@@ -1,11 +1,9 @@
 -- How many pulses rise at or before a time.
-use Rattle.std.proofs.Common.{◌≡◌, ℕ, suc, zero, ◌+◌, ◌-◌, ◌<◌, ◌≤◌, nat_le, Bool, true, false, cond, List, [], ◌∷◌, length, slice_get, Some, refl, ap}
-use Rattle.std.proofs.Common.{subst, arith, inl, inr}
+use Rattle.std.proofs.Common.{◌≡◌, ℕ, suc, zero, ◌+◌, ◌-◌, ◌<◌, ◌≤◌, nat_le, Bool, true, false, cond, List, [], ◌∷◌, length, slice_get, Some, refl, ap, subst}
+use Rattle.std.proofs.Common.{arith, inl, inr}
 use Rattle.std.proofs.lemmas.Bool.{cases_lt, le-leb, le-ltb, lt-leb, lt-ltb}
-use Rattle.irig_recording.specs.declared.pulse.Pulse.{Pulse}
-use Rattle.irig_recording.specs.Recording.{RisesFrom}
-use Rattle.irig_track.specs.Edges.{edges_of}
-use Rattle.irig_track.specs.Splices.{risen_by, ended_before}
+use Rattle.irig_recording.specs.{declared.pulse.Pulse.Pulse, Recording.RisesFrom}
+use Rattle.irig_track.specs.{Edges.edges_of, Splices.risen_by, Splices.ended_before}
 
 pub risen_yes : (t : ℕ) (p : Pulse) (ps : List Pulse) → p.rise ≤ t → risen_by t (p ∷ ps) ≡ 1 + risen_by t ps
 risen_yes t p ps h = ap (λ v. cond v 1 0 + risen_by t ps) (le-leb p.rise t h)

@@ -1,21 +1,14 @@
 -- Spans, and where a toggle begins and ends.
 use Rattle.std.proofs.Common.{◌≡◌, ℕ, suc, ◌+◌, ◌-◌, ◌<◌, ◌≤◌, List, [], ◌∷◌, ◌++◌, length, take, drop, refl, sym, ap, ◌∙◌, subst, arith, inl, inr}
 use Rattle.std.proofs.Common.{append_assoc, length-append}
-use Rattle.std.proofs.lemmas.Bool.{cases_lt}
-use Rattle.std.proofs.lemmas.List.{take-append-drop, length-take-le}
+use Rattle.std.proofs.lemmas.{Bool.cases_lt, List.take-append-drop, List.length-take-le}
 use Rattle.std.proofs.Math.Seq.{take-append_seam, drop-append_seam, drop-append-add}
 use Rattle.irig_gap.specs.Items.{GapView, gap_view}
-use Rattle.irig_recording.specs.declared.pulse.Pulse.{Pulse}
-use Rattle.irig_recording.specs.Recording.{RisesFrom}
-use Rattle.irig_track.specs.Edges.{Under, edges_of}
-use Rattle.irig_track.specs.Toggles.{toggled}
+use Rattle.irig_recording.specs.{declared.pulse.Pulse.Pulse, Recording.RisesFrom}
 use Rattle.irig_track.specs.Splices.{spliced, piece, IsSpan, risen_by, ended_before}
-use Rattle.irig_track.specs.Sides.{left_of, right_of, ReachesFrom, RiseUpTo, Stays}
-use Rattle.irig_track.proofs.Laws.{parts}
-use Rattle.irig_track.proofs.Turns.{RiseUpTo-append}
-use Rattle.irig_track.proofs.Below.{same_below-ended}
-use Rattle.irig_track.proofs.Carried.{length-piece}
+use Rattle.irig_track.specs.{Edges.Under, Edges.edges_of, Toggles.toggled, Sides.left_of, Sides.right_of, Sides.ReachesFrom, Sides.RiseUpTo, Sides.Stays}
 use Rattle.irig_track.proofs.Searches.{risen_yes, risen_none, risen_by-le, ended_yes, ended_no, ended_none}
+use Rattle.irig_track.proofs.{Laws.parts, Turns.RiseUpTo-append, Below.same_below-ended, Carried.length-piece}
 
 span_parts : (xs gone made ys : List Pulse) → IsSpan (length xs) (length gone) (length made) (xs ++ (gone ++ ys)) (xs ++ (made ++ ys))
 span_parts xs gone made ys = record {

@@ -1,16 +1,10 @@
 -- The text of a track, pulse by pulse.
-use Rattle.std.proofs.Common.{◌≡◌, ℕ, ◌+◌, ◌==◌, ◌++◌, true, false, List, [], ◌∷◌, drop, slice_get, Some, sym, ap, refl, ◌∙◌, append_assoc}
+use Rattle.std.proofs.Common.{◌≡◌, ℕ, ◌+◌, ◌++◌, true, false, List, [], ◌∷◌, drop, slice_get, Some, sym, ap, refl, ◌∙◌, append_assoc}
 use Rattle.irig_recording.specs.FileText.{file_text, header_text, begins_high, lines_at, length_line}
-use Rattle.irig_recording.specs.Recording.{recording_view}
+use Rattle.irig_recording.specs.{Recording.recording_view, declared.pulse.Pulse.Pulse}
 use Rattle.irig_recording.proofs.WrittenText.{last_or, all_lines, whole_text}
-use Rattle.irig_recording.specs.declared.pulse.Pulse.{Pulse}
-use Rattle.irig_track.specs.Edges.{edges_of}
-use Rattle.irig_track.specs.Texts.{lines_of, last_fall, lines_after}
-use Rattle.irig_track.specs.Track.{IsTrack}
+use Rattle.irig_track.specs.{Edges.edges_of, Texts.lines_of, Texts.last_fall, Texts.lines_after, Track.IsTrack}
 use Rattle.irig_track.proofs.Items.{drop-item}
-
-pub first_high : (p : Pulse) (ps : List Pulse) → slice_get ps 0 ≡ Some p → (p.rise == 0) ≡ begins_high (edges_of ps)
-first_high p ps is = sym (ap (λ qs. begins_high (edges_of qs)) (drop-item ps 0 p is))
 
 lines_of_edges : (ps : List Pulse) → lines_of ps ≡ all_lines true (edges_of ps)
 lines_of_edges [] = refl

@@ -3,16 +3,11 @@ use Rattle.std.proofs.Common.{◌≡◌, ℕ, suc, ◌+◌, ◌-◌, ◌<◌, �
 use Rattle.std.proofs.Common.{inr}
 use Rattle.std.proofs.lemmas.Bool.{cases_lt, le-leb, lt-leb}
 use Rattle.std.proofs.Math.Bool.{not-not}
-use Rattle.irig_recording.specs.Recording.{RisesFrom}
-use Rattle.irig_recording.specs.declared.pulse.Pulse.{Pulse}
-use Rattle.irig_track.specs.Edges.{edges_of, pulse}
-use Rattle.irig_track.specs.Splices.{IsSpan, ended_before, risen_by}
-use Rattle.irig_track.specs.Toggles.{flipped, toggled}
-use Rattle.irig_track.proofs.Below.{same_below-ended}
+use Rattle.irig_recording.specs.{Recording.RisesFrom, declared.pulse.Pulse.Pulse}
+use Rattle.irig_track.specs.{Edges.edges_of, Edges.pulse, Splices.IsSpan, Splices.ended_before, Splices.risen_by, Toggles.flipped, Toggles.toggled}
 use Rattle.irig_track.proofs.RisingLists.{three, flip_low, flip_same, flip_high}
 use Rattle.irig_track.proofs.Searches.{ended_no, ended_none, ended_yes, risen_by-le, risen_none, risen_yes}
-use Rattle.irig_track.proofs.Sets.{edges_of-inj}
-use Rattle.irig_track.proofs.Spans.{ended_before-le-risen_by}
+use Rattle.irig_track.proofs.{Below.same_below-ended, Sets.edges_of-inj, Spans.ended_before-le-risen_by}
 
 -- the edges of the pulses that rise after b: the first edge is a fall if it is inside a pulse
 abbrev later : Bool → ℕ → List ℕ → List ℕ

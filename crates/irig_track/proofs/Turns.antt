@@ -1,14 +1,11 @@
 -- A toggle turns one edge, then the other.
-use Rattle.std.proofs.Common.{◌≡◌, ℕ, ◌+◌, ◌<◌, ◌≤◌, ◌≢◌, List, [], ◌∷◌, ◌++◌, length, insert, remove, slice_get, Some, None, refl, sym}
-use Rattle.std.proofs.Common.{ap, ◌∙◌, subst, arith, append_assoc}
-use Rattle.std.proofs.lemmas.List.{take-append-drop, append-nil}
-use Rattle.std.proofs.lemmas.Option.{slice_get_within}
+use Rattle.std.proofs.Common.{◌≡◌, ℕ, ◌+◌, ◌<◌, ◌≤◌, ◌≢◌, List, [], ◌∷◌, ◌++◌, length, insert, remove, slice_get, Some, None, refl, sym, ap, ◌∙◌, subst, arith}
+use Rattle.std.proofs.Common.{append_assoc}
+use Rattle.std.proofs.lemmas.{List.take-append-drop, List.append-nil, Option.slice_get_within}
 use Rattle.irig_gap.specs.Items.{GapView, gap_view}
-use Rattle.irig_recording.specs.declared.pulse.Pulse.{Pulse}
-use Rattle.irig_recording.specs.Recording.{RisesFrom}
-use Rattle.irig_track.specs.Edges.{Under, edges_of, pulse}
-use Rattle.irig_track.specs.Toggles.{flipped}
+use Rattle.irig_recording.specs.{declared.pulse.Pulse.Pulse, Recording.RisesFrom}
 use Rattle.irig_track.specs.Sides.{left_of, right_of, waiting, RiseUpTo, Stays, Took, Wrote, Begun, Finished}
+use Rattle.irig_track.specs.{Edges.Under, Edges.edges_of, Edges.pulse, Toggles.flipped}
 use Rattle.irig_recording.proofs.PulseEdges.{edges_of-append}
 use Rattle.irig_track.proofs.Items.{drop-insert, drop-removed, slice_get-drop, take-insert, take-remove}
 use Rattle.irig_track.proofs.RisingLists.{flip_low, flip_same, flip_high, flipped-past, Under-more, rises_right, rises_more}

@@ -2,9 +2,8 @@
 use Rattle.std.specs.Prelude.{ℕ, ℤ, pos, negsuc, suc, ◌+◌, ◌-◌, ◌<◌, ◌≤◌, List, [], ◌∷◌, length}
 use Rattle.std.specs.Prelude.{map}
 use Rattle.irig_recording.specs.declared.pulse.Pulse.{Pulse}
-use Rattle.irig_track.specs.Edges.{pulse, edges_of}
 use Rattle.irig_track.specs.Splices.{spliced, piece}
-use Rattle.irig_track.specs.Track.{IsTrack}
+use Rattle.irig_track.specs.{Edges.pulse, Edges.edges_of, Track.IsTrack}
 
 -- by how much a distance goes on; 0 if it goes back
 abbrev pub ahead : ℤ → ℕ

@@ -1,10 +1,8 @@
 -- The pulses on both sides of a gap, while a toggle goes through them. This project's own.
 use Rattle.std.specs.Prelude.{◌≡◌, ℕ, ◌+◌, ◌≤◌, List, [], ◌∷◌, ◌++◌, take, drop}
 use Rattle.irig_gap.specs.Items.{GapView}
-use Rattle.irig_recording.specs.declared.pulse.Pulse.{Pulse}
-use Rattle.irig_recording.specs.Recording.{RisesFrom}
-use Rattle.irig_track.specs.Edges.{edges_of, Under}
-use Rattle.irig_track.specs.Toggles.{flipped}
+use Rattle.irig_recording.specs.{declared.pulse.Pulse.Pulse, Recording.RisesFrom}
+use Rattle.irig_track.specs.{Edges.edges_of, Edges.Under, Toggles.flipped}
 
 -- the pulses left of the gap
 abbrev pub left_of : GapView Pulse → List Pulse

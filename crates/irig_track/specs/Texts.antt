@@ -1,12 +1,9 @@
 -- The text of a track, pulse by pulse. This project's own.
 use Rattle.std.specs.Prelude.{◌++◌, ℕ, true, false, List, [], ◌∷◌, Option, Some, None, drop}
 use Rattle.irig_recording.specs.FileText.{file_text, lines_at, length_line}
-use Rattle.irig_recording.specs.Recording.{recording_view}
-use Rattle.irig_recording.specs.declared.pulse.Pulse.{Pulse}
-use Rattle.irig_track.specs.declared.track_text.Next.{Next}
+use Rattle.irig_recording.specs.{Recording.recording_view, declared.pulse.Pulse.Pulse}
 use Rattle.irig_track.specs.declared.track_text.Next.TheVariants.{Header, Lines, Nothing}
-use Rattle.irig_track.specs.Edges.{edges_of}
-use Rattle.irig_track.specs.Track.{TrackView}
+use Rattle.irig_track.specs.{declared.track_text.Next.Next, Edges.edges_of, Track.TrackView}
 
 -- the lines of pulses, in order
 abbrev pub lines_of : List Pulse → List ℕ

@@ -1,7 +1,6 @@
 -- What a toggle makes of the edges: the symmetric difference with two times. This project's own.
 use Rattle.std.specs.Prelude.{ℕ, ◌<◌, ◌≤◌, ◌==◌, nat_lt, List, [], ◌∷◌, cond}
-use Rattle.irig_recording.specs.Recording.{IsRecording}
-use Rattle.irig_recording.specs.declared.pulse.Pulse.{Pulse}
+use Rattle.irig_recording.specs.{Recording.IsRecording, declared.pulse.Pulse.Pulse}
 use Rattle.irig_track.specs.Edges.{edges_of}
 
 -- the rising list with t removed if it is there, and added if it is not

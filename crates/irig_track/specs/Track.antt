@@ -1,7 +1,6 @@
 -- A track: a length in microseconds, pulses in order, and a spare. This project's own.
 use Rattle.std.specs.Prelude.{ℕ, ◌≤◌, ◌^◌, List, length}
-use Rattle.irig_recording.specs.Recording.{RisesFrom, UpTo}
-use Rattle.irig_recording.specs.declared.pulse.Pulse.{Pulse}
+use Rattle.irig_recording.specs.{Recording.RisesFrom, Recording.UpTo, declared.pulse.Pulse.Pulse}
 use Rattle.irig_track.specs.Edges.{edges_of}
 
 -- what a contract sees: the length, the pulses from 0, and how many more fit without a growth

@@ -7,8 +7,8 @@ ghost use Rattle.std.specs.Prelude.{IsTrue};
 ghost use Rattle.irig_track.specs.Edges.{edges_of, is_edge, replaced, inverted};
 ghost use Rattle.irig_track.specs.Free.{following, first_or};
 ghost use Rattle.irig_track.specs.Shifts.{shifted, moved, count_to, CanShift};
-ghost use Rattle.irig_track.specs.Splices.{spliced, piece, CanSplice, IsSpan};
-ghost use Rattle.irig_track.specs.Splices.{risen_by, ended_before};
+ghost use Rattle.irig_track.specs.Splices.{spliced, piece, CanSplice, IsSpan, risen_by};
+ghost use Rattle.irig_track.specs.Splices.{ended_before};
 ghost use Rattle.irig_track.specs.Toggles.{toggled, CanToggle};
 
 use crate::shift::{ahead_of, back_of, move_pulses};

@@ -2,8 +2,7 @@
 
 ghost use Rattle.std.specs.Prelude.{◌≡◌, ◌<◌, ◌≤◌, ◌^◌, ℕ, length, slice_get, Some};
 ghost use Rattle.irig_track.specs.Looks.{LookedThrough, lens_view, counted};
-ghost use Rattle.irig_track.specs.Splices.{risen_by};
-ghost use Rattle.irig_track.specs.Track.{IsTrack};
+ghost use Rattle.irig_track.specs.{Splices.risen_by, Track.IsTrack};
 
 use crate::track::Track;
 use irig_recording::Pulse;

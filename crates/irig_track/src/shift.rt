@@ -3,9 +3,8 @@
 ghost use Rattle.std.specs.Prelude.{◌≡◌, ◌+◌, ◌-◌, ◌^◌, ◌<◌, ◌≤◌, length, map};
 ghost use Rattle.irig_gap.specs.Items.{gap_view};
 ghost use Rattle.irig_recording.specs.Recording.{UpTo};
-ghost use Rattle.irig_track.specs.Edges.{edges_of};
 ghost use Rattle.irig_track.specs.Shifts.{moved_pulse, ahead, back};
-ghost use Rattle.irig_track.specs.Splices.{spliced, piece};
+ghost use Rattle.irig_track.specs.{Edges.edges_of, Splices.spliced, Splices.piece};
 
 use irig_gap::Gap;
 use irig_recording::Pulse;

@@ -2,8 +2,7 @@
 
 ghost use Rattle.std.specs.Prelude.{◌≡◌, ◌+◌, ◌<◌, ◌≤◌, ◌++◌, ◌∷◌, [], length, slice_get, Some};
 ghost use Rattle.std.specs.Prelude.{IsSome};
-ghost use Rattle.irig_track.specs.Sides.{right_of, Took, Wrote};
-ghost use Rattle.irig_track.specs.Edges.{pulse};
+ghost use Rattle.irig_track.specs.{Sides.right_of, Sides.Took, Sides.Wrote, Edges.pulse};
 ghost use Rattle.irig_recording.specs.declared.pulse.Pulse.{Pulse};
 
 use irig_gap::Gap;

@@ -5,10 +5,9 @@
 
 ghost use Rattle.std.specs.Prelude.{◌≡◌, ◌+◌, ◌-◌, ◌<◌, ◌≤◌, ◌++◌, ◌∷◌, [], length};
 ghost use Rattle.irig_recording.specs.Recording.{RisesFrom};
-ghost use Rattle.irig_track.specs.Edges.{edges_of, Under};
-ghost use Rattle.irig_track.specs.Toggles.{toggled};
 ghost use Rattle.irig_track.specs.Sides.{left_of, right_of, waiting, ReachesFrom, Stays, Begun};
 ghost use Rattle.irig_track.specs.Sides.{Finished};
+ghost use Rattle.irig_track.specs.{Edges.edges_of, Edges.Under, Toggles.toggled};
 
 use crate::sides::{next, put_last, take_next};
 use irig_gap::Gap;

@@ -4,9 +4,8 @@ ghost use Rattle.std.specs.Prelude.{◌≡◌, ◌+◌, ◌-◌, ◌^◌, ◌/�
 ghost use Rattle.std.specs.Prelude.{true, max, IfOk, OnOk, OnErr};
 ghost use Rattle.irig_recording.specs.FileText.{file_text, begins_high};
 ghost use Rattle.irig_recording.specs.Recording.{recording_view};
-ghost use Rattle.irig_track.specs.Edges.{edges_of, is_edge};
 ghost use Rattle.irig_track.specs.Splices.{risen_by, ended_before};
-ghost use Rattle.irig_track.specs.Track.{IsTrack};
+ghost use Rattle.irig_track.specs.{Edges.edges_of, Edges.is_edge, Track.IsTrack};
 
 use irig_gap::Gap;
 use irig_recording::{PULSES_LIMIT, Pulse, Recording};
@@ -51,7 +50,7 @@ impl Track {
         ensures bounded { IfOk result (λ t. t.spare ≤ length t.pulses + 1536) }
     {
         let micros = recording.length();
-        let mut pulses = Gap::from_vec(recording.into_pulses());
+        let mut pulses = recording.into_pulses();
         pulses.reserve(NEW_SPARE)?;
         Ok(Track { micros, pulses })
     }

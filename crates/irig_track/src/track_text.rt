@@ -1,8 +1,7 @@
 //! The text of a track, in parts.
 
 ghost use Rattle.std.specs.Prelude.{◌≡◌, ◌≤◌, ◌<◌, ◌++◌, drop, length, vec_len, IfOk, IsSome};
-ghost use Rattle.irig_recording.specs.FileText.{file_text};
-ghost use Rattle.irig_recording.specs.Recording.{recording_view};
+ghost use Rattle.irig_recording.specs.{FileText.file_text, Recording.recording_view};
 ghost use Rattle.irig_track.specs.Edges.{edges_of};
 ghost use Rattle.irig_track.specs.Texts.{coming, lines_after, still_to_come};
 

@@ -2,8 +2,7 @@
 use Rattle.std.proofs.Common.{◌≡◌, List, Result, Ok, Err, true, inr}
 use Rattle.std.specs.Prelude.{IfErr}
 use Rattle.clap.specs.Words.{App, FailsBy, Text, fault_of, kind_of, takes}
-use Rattle.clap.specs.declared.error.Error.{Error}
-use Rattle.clap.specs.declared.error.kind.ErrorKind.TheVariants.{OutOfMemory}
+use Rattle.clap.specs.{declared.error.Error.Error, declared.error.kind.ErrorKind.TheVariants.OutOfMemory}
 use Rattle.irig_words.specs.Errors.{MayRefuse}
 
 -- the error of a parse by the command

@@ -1,17 +1,12 @@
 -- How many looks a step of the journal takes.
 use Rattle.std.proofs.Common.{◌≡◌, ◌-◌, ◌<◌, ◌≤◌, ◌^◌, ◌++◌, ℕ, List, [], ◌∷◌, Option, Some, None, refl, ap₂, sym, ◌∙◌, subst, arith}
 use Rattle.std.specs.Prelude.{IfSome, flat_map}
-use Rattle.irig_journal.specs.declared.opening.Opening.{Opening}
-use Rattle.irig_journal.specs.History.{CountsNearest, Step}
-use Rattle.irig_journal.specs.Joining.{CountsAlong, beyond, changes_of}
-use Rattle.irig_saved.specs.declared.change.Change.{Change}
-use Rattle.irig_saved.specs.declared.single.Single.{Single}
+use Rattle.irig_journal.specs.{declared.opening.Opening.Opening, History.CountsNearest, History.Step, Joining.CountsAlong, Joining.beyond, Joining.changes_of}
+use Rattle.irig_saved.specs.{declared.change.Change.Change, declared.single.Single.Single}
 use Rattle.irig_edit.specs.Changes.Delta.{gathered, singles_of, turned}
-use Rattle.irig_edit.specs.Changes.Laws.Groups.{singles_state}
 use Rattle.irig_edit.specs.Changes.Laws.Looks.{looks_along-append, looks_along-singles, rose_then}
 use Rattle.irig_edit.specs.Changes.Looks.{RoseWithin, Within, both, looks_along, looks_of}
-use Rattle.irig_edit.specs.Session.Session.{looks_of_nearest, looks_since}
-use Rattle.irig_edit.specs.State.State.{State}
+use Rattle.irig_edit.specs.{Changes.Laws.Groups.singles_state, Session.Session.looks_of_nearest, Session.Session.looks_since, State.State.State}
 
 -- what the trait counts
 abbrev pub counted : State → Change → ℕ → ℕ → Type 0

@@ -1,15 +1,8 @@
 -- The same steps are ready.
 use Rattle.std.proofs.Common.{◌≡◌, List, sym, subst}
-use Rattle.irig_journal.specs.Held.{Held, flat}
-use Rattle.irig_journal.specs.History.{FitInTurn}
-use Rattle.irig_journal.specs.Journal.{ReadyInTurn, Steps}
-use Rattle.irig_edit.specs.Changes.Delta.{Fits, turned}
-use Rattle.irig_edit.specs.Changes.Held.{delta_of, deltas_of}
-use Rattle.irig_edit.specs.State.Places.{places_in}
-use Rattle.irig_edit.specs.State.Present.{PresentView}
-use Rattle.irig_edit.specs.Changes.Ready.{StepsAreReady}
-use Rattle.irig_edit.specs.Changes.Room.{HasRoomFor}
-use Rattle.irig_edit.specs.declared.changes.turn.Turn.{Turn}
+use Rattle.irig_journal.specs.{Held.Held, Held.flat, History.FitInTurn, Journal.ReadyInTurn, Journal.Steps}
+use Rattle.irig_edit.specs.{Changes.Delta.Fits, Changes.Delta.turned, Changes.Held.delta_of, Changes.Held.deltas_of, State.Places.places_in}
+use Rattle.irig_edit.specs.{State.Present.PresentView, Changes.Ready.StepsAreReady, Changes.Room.HasRoomFor, declared.changes.turn.Turn.Turn}
 
 pub ready_same : (p : PresentView) (i j : Steps Turn) → j.past ≡ i.past → j.future ≡ i.future → StepsAreReady p i → StepsAreReady p j
 ready_same p i j past future ready = (

@@ -1,31 +1,19 @@
 -- The room of changes: what an edit asks for is enough, and a turn leaves room for its way back.
 use Rattle.std.proofs.Common.{suc, ◌≡◌, ◌≤◌, ◌+◌, ◌-◌, ℕ, List, Result, Ok, Err, OnOk, length, take, drop, refl, ap, sym, subst, ◌∙◌, arith}
-use Rattle.irig_index.specs.Frames.{frames}
-use Rattle.irig_index.specs.Index.{WereFrames}
+use Rattle.irig_index.specs.{Frames.frames, Index.WereFrames}
 use Rattle.irig_index.proofs.FewFrames.{frames_few, frames_few_after, frames_moved}
 use Rattle.irig_recording.specs.declared.pulse.Pulse.{Pulse}
-use Rattle.irig_track.specs.Shifts.{count_to, moved}
-use Rattle.irig_track.specs.Splices.{IsSpan, ended_before, piece, risen_by, spliced}
-use Rattle.irig_track.proofs.Carried.{length-spliced}
-use Rattle.irig_track.proofs.Laws.{parts}
-use Rattle.irig_track.proofs.ToggleSpans.{span_of_toggle}
-use Rattle.irig_edit.specs.Changes.Ample.{IsAmpleFor, PutsIn, records_for}
-use Rattle.irig_edit.specs.Changes.Held.{single_of}
-use Rattle.irig_edit.specs.Changes.Laws.Edges.{edges_of-toggled}
-use Rattle.irig_edit.specs.Changes.Laws.Room.{holds_wider}
-use Rattle.irig_edit.specs.Changes.Laws.Single.{turned_single-turned}
-use Rattle.irig_edit.specs.Changes.Laws.State.{IsState-turned_single}
-use Rattle.irig_edit.specs.State.Places.{HoldsState, IsWithin, KeepsPlaces, Places, places_in}
-use Rattle.irig_edit.specs.State.Present.{PresentView}
-use Rattle.irig_edit.specs.Changes.Room.{HasRoomFor, TakesIn, passing}
+use Rattle.irig_track.specs.{Shifts.count_to, Shifts.moved, Splices.IsSpan, Splices.ended_before, Splices.piece, Splices.risen_by, Splices.spliced}
+use Rattle.irig_track.proofs.{Carried.length-spliced, Laws.parts, ToggleSpans.span_of_toggle}
+use Rattle.irig_edit.specs.{Changes.Ample.IsAmpleFor, Changes.Ample.PutsIn, Changes.Ample.records_for, State.Places.HoldsState, State.Places.IsWithin}
+use Rattle.irig_edit.specs.{State.Places.KeepsPlaces, State.Places.Places, State.Places.places_in, Changes.Held.single_of, Changes.Laws.Edges.edges_of-toggled}
+use Rattle.irig_edit.specs.{Changes.Laws.Room.holds_wider, Changes.Laws.Single.turned_single-turned, Changes.Laws.State.IsState-turned_single}
+use Rattle.irig_edit.specs.{State.Present.PresentView, Changes.Room.HasRoomFor, Changes.Room.TakesIn, Changes.Room.passing, Changes.Single.FitsSingle}
+use Rattle.irig_edit.specs.{Changes.Single.turned_single, State.State.State, State.State.IsState, State.State.frames_of, declared.changes.turn.Turn.Turn}
 use Rattle.irig_saved.specs.declared.single.Single as saved
-use Rattle.irig_edit.specs.Changes.Single.{FitsSingle, turned_single}
 use Rattle.irig_saved.specs.declared.single.Single.TheVariants.{Splice, Toggle, Shift}
-use Rattle.irig_edit.specs.State.State.{State, IsState, frames_of}
-use Rattle.irig_edit.specs.declared.changes.turn.Turn.{Turn}
-use Rattle.irig_edit.proofs.EditLemmas.ShiftedStates.{length-shifted}
-use Rattle.irig_edit.proofs.EditLemmas.Toggles.{length-toggled}
 use Rattle.irig_edit.proofs.ChangeLemmas.Windows.{length-spanned, risen_few, toggled_few}
+use Rattle.irig_edit.proofs.{EditLemmas.ShiftedStates.length-shifted, EditLemmas.Toggles.length-toggled}
 
 -- an edit at one place brings no more records than pulses came, and two
 spanned_few : (s : State) (at gone come : ℕ) (ps : List Pulse) → IsState s → IsSpan at gone come s.pulses ps

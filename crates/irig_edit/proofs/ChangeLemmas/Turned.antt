@@ -1,15 +1,10 @@
 -- What a turn leaves is what the change says.
 use Rattle.std.proofs.Common.{suc, ◌≡◌, ℕ, ℤ, Bool, List, Option, ap, sym, subst, ◌∙◌}
 use Rattle.irig_recording.specs.declared.pulse.Pulse.{Pulse}
-use Rattle.irig_track.specs.Edges.{edges_of}
-use Rattle.irig_track.specs.Shifts.{shifted}
-use Rattle.irig_track.specs.Toggles.{toggled}
-use Rattle.irig_edit.specs.Changes.Single.{FitsSingle, turned_single, pulses_of}
-use Rattle.irig_edit.specs.State.Marks.{marks_moved}
+use Rattle.irig_track.specs.{Edges.edges_of, Shifts.shifted, Toggles.toggled}
+use Rattle.irig_edit.specs.{Changes.Single.FitsSingle, Changes.Single.turned_single, Changes.Single.pulses_of, State.State.State, State.State.IsState}
+use Rattle.irig_edit.specs.{State.State.state, State.Marks.marks_moved, Changes.Laws.State.IsState-turned_single, Changes.Laws.Edges.pulses_of-edges_of}
 use Rattle.irig_saved.specs.declared.single.Single.TheVariants.{Toggle, Shift}
-use Rattle.irig_edit.specs.Changes.Laws.State.{IsState-turned_single}
-use Rattle.irig_edit.specs.Changes.Laws.Edges.{pulses_of-edges_of}
-use Rattle.irig_edit.specs.State.State.{State, IsState, state}
 
 -- a toggle of the track
 pub toggle_turned : (s t : State) (a b micros : ℕ) (ps : List Pulse) → s ≡ t → IsState s → FitsSingle t (Toggle a b)

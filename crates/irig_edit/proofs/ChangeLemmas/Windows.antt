@@ -1,13 +1,9 @@
 -- Where a turn takes place, and how often it looks.
-use Rattle.std.proofs.Common.{◌≡◌, ℕ, ◌+◌, ◌<◌, ◌≤◌, nat_le, ◌&&◌, cond, List, [], ◌∷◌, length, refl, ap, ◌∙◌, arith, length-drop}
-use Rattle.std.proofs.Common.{inl, inr}
+use Rattle.std.proofs.Common.{◌≡◌, ℕ, ◌+◌, ◌<◌, ◌≤◌, nat_le, ◌&&◌, cond, List, [], ◌∷◌, length, refl, ap, ◌∙◌, arith, length-drop, inl, inr}
 use Rattle.std.proofs.lemmas.Bool.{cases_lt, le-leb, lt-leb}
 use Rattle.std.proofs.Math.Bool.{and-true}
-use Rattle.irig_recording.specs.Recording.{RisesFrom}
-use Rattle.irig_track.specs.Edges.{edges_of}
-use Rattle.irig_track.specs.Splices.{IsSpan, ended_before, risen_by}
-use Rattle.irig_track.specs.Toggles.{flipped, toggled}
-use Rattle.irig_recording.specs.declared.pulse.Pulse.{Pulse}
+use Rattle.irig_recording.specs.{Recording.RisesFrom, declared.pulse.Pulse.Pulse}
+use Rattle.irig_track.specs.{Edges.edges_of, Splices.IsSpan, Splices.ended_before, Splices.risen_by, Toggles.flipped, Toggles.toggled}
 use Rattle.irig_track.proofs.Recordings.{length-flipped_most}
 use Rattle.irig_track.proofs.Searches.{at_most_one, ended_no, ended_yes, risen_none, risen_yes}
 use Rattle.irig_recording.proofs.PulseEdges.{length-edges_of}

@@ -1,29 +1,17 @@
 -- Pulses that are split, joined and forced.
 use Rattle.std.proofs.Common.{◌≡◌, ◌≤◌, ◌<◌, ◌+◌, ◌-◌, ◌^◌, ◌==◌, ◌||◌, ◌&&◌, not, ℕ, suc, zero, Bool, true, false, List, [], ◌∷◌, ◌++◌, length, take, drop}
 use Rattle.std.proofs.Common.{slice_get, get_or, Some, refl, ap, ap₂, sym, ◌∙◌, subst, arith, if◌then◌else◌}
-use Rattle.std.proofs.Math.Bool.{or-true}
-use Rattle.std.proofs.Math.Seq.{drop-nil}
-use Rattle.std.proofs.lemmas.Option.{slice_get_within, get_or_from_slice_get}
-use Rattle.std.proofs.lemmas.Bool.Decides.{nat_tests}
-use Rattle.irig_recording.specs.Recording.{RisesFrom}
-use Rattle.irig_codes.specs.declared.width.Element.{Element}
-use Rattle.irig_codes.specs.Width.{nominal_of}
-use Rattle.irig_recording.specs.declared.pulse.Pulse.{Pulse}
+use Rattle.std.proofs.{Math.Bool.or-true, Math.Seq.drop-nil}
+use Rattle.std.proofs.lemmas.{Option.slice_get_within, Option.get_or_from_slice_get, Bool.Decides.nat_tests}
+use Rattle.irig_recording.specs.{Recording.RisesFrom, declared.pulse.Pulse.Pulse}
+use Rattle.irig_codes.specs.{declared.width.Element.Element, Width.nominal_of}
 use Rattle.irig_track.specs.Edges.{edges_of, pulse, is_edge, has, replaced, without_between}
 use Rattle.irig_track.specs.Splices.{spliced, piece, CanSplice}
 use Rattle.irig_track.proofs.Laws.{edges_of-parts, is_edge-spliced, is_edge-joined}
-use Rattle.irig_track.proofs.RisingLists.{rises_right}
-use Rattle.irig_track.proofs.Sets.{has-append}
-use Rattle.irig_track.proofs.Places.{pulse_within}
-use Rattle.irig_track.proofs.Carried.{length-spliced}
-use Rattle.irig_track.proofs.Items.{take-item}
-use Rattle.irig_edit.specs.State.State.{State, IsState, with_pulses}
-use Rattle.irig_edit.specs.Edits.Edits.{pulse_of}
-use Rattle.irig_edit.specs.Edits.Conditions.{meets_next}
-use Rattle.irig_edit.specs.Edits.Becoming.{Becomes}
-use Rattle.irig_edit.specs.Session.Calls.Edit.{Split, Join, Force}
-use Rattle.irig_edit.proofs.StateLemmas.TouchedStretches.{pulse_after}
-use Rattle.irig_edit.proofs.EditLemmas.Replacements.{IsTrack-replaced, piece-one}
+use Rattle.irig_track.proofs.{RisingLists.rises_right, Sets.has-append, Places.pulse_within, Carried.length-spliced, Items.take-item}
+use Rattle.irig_edit.specs.{State.State.State, State.State.IsState, State.State.with_pulses, Edits.Edits.pulse_of, Edits.Conditions.meets_next}
+use Rattle.irig_edit.specs.{Edits.Becoming.Becomes, Session.Calls.Edit.Split, Session.Calls.Edit.Join, Session.Calls.Edit.Force}
+use Rattle.irig_edit.proofs.{StateLemmas.TouchedStretches.pulse_after, EditLemmas.Replacements.IsTrack-replaced, EditLemmas.Replacements.piece-one}
 
 -- an edge of a piece is an edge of the whole
 pub member : (t at count : ℕ) (ps : List Pulse) → has t (edges_of (piece at count ps)) ≡ true → is_edge t ps ≡ true

@@ -1,13 +1,8 @@
 -- Pulses that are removed.
 use Rattle.std.proofs.Common.{◌≡◌, ◌≤◌, ◌+◌, ◌-◌, ℕ, [], length, refl, ap, ◌∙◌, arith, min}
-use Rattle.irig_track.specs.Edges.{edges_of}
-use Rattle.irig_track.specs.Splices.{spliced, piece, CanSplice}
-use Rattle.irig_track.proofs.Laws.{is_edge-deleted}
-use Rattle.irig_track.proofs.Carried.{length-spliced}
-use Rattle.irig_track.proofs.RisingLists.{rises_right}
-use Rattle.irig_edit.specs.State.State.{State, IsState, with_pulses}
-use Rattle.irig_edit.specs.Edits.Becoming.{Becomes}
-use Rattle.irig_edit.specs.Session.Calls.Edit.{Delete}
+use Rattle.irig_track.specs.{Edges.edges_of, Splices.spliced, Splices.piece, Splices.CanSplice}
+use Rattle.irig_track.proofs.{Laws.is_edge-deleted, Carried.length-spliced, RisingLists.rises_right}
+use Rattle.irig_edit.specs.{State.State.State, State.State.IsState, State.State.with_pulses, Edits.Becoming.Becomes, Session.Calls.Edit.Delete}
 use Rattle.irig_edit.proofs.EditLemmas.Replacements.{IsTrack-replaced}
 
 pub deleted : (s : State) (i j cursor : ℕ) → IsState s → 1 ≤ i → i ≤ j → j ≤ length s.pulses

@@ -4,17 +4,10 @@ use Rattle.std.proofs.Common.{append_assoc}
 use Rattle.std.specs.Prelude.{Contains}
 use Rattle.std.specs.List.{flat_map, range_with_len}
 use Rattle.std.proofs.Math.Seq.{drop-append-add, take-append_seam}
-use Rattle.irig_codes.specs.declared.fields.Fields.{Fields}
-use Rattle.irig_codes.specs.declared.note.Note.TheVariants.{Fine}
-use Rattle.irig_codes.specs.declared.width.Element.{Element}
 use Rattle.irig_codes.specs.declared.width.Element.TheVariants.{Position}
-use Rattle.irig_codes.specs.Format.{FormatView}
-use Rattle.irig_index.specs.declared.record.Record.{Record}
-use Rattle.irig_index.specs.declared.record.Verdict.TheVariants.{Read}
-use Rattle.irig_index.specs.Frames.{frame_at, frames}
-use Rattle.irig_index.specs.Laws.{TellsOfMarker}
-use Rattle.irig_index.specs.Marker.{class_at, follows, is_marker}
-use Rattle.irig_index.specs.Verdict.{verdict_of}
+use Rattle.irig_codes.specs.{declared.fields.Fields.Fields, declared.note.Note.TheVariants.Fine, declared.width.Element.Element, Format.FormatView}
+use Rattle.irig_index.specs.{declared.record.Record.Record, declared.record.Verdict.TheVariants.Read, Frames.frame_at, Frames.frames, Laws.TellsOfMarker}
+use Rattle.irig_index.specs.{Marker.class_at, Marker.follows, Marker.is_marker, Verdict.verdict_of}
 use Rattle.irig_index.proofs.MarkerLaws.{frames_are_the_markers}
 use Rattle.irig_track.proofs.Items.{slice_get-part}
 use Rattle.irig_recording.specs.declared.pulse.Pulse.{Pulse}

@@ -2,20 +2,13 @@
 use Rattle.std.proofs.Common.{◌≡◌, ◌≤◌, ◌<◌, ◌+◌, ◌-◌, ◌*◌, ◌/◌, ◌%◌, ℕ, true, List, [], ◌∷◌, ◌++◌, length, slice_get, Some, refl, ap, subst, ◌∙◌, arith}
 use Rattle.std.proofs.Common.{length-append}
 use Rattle.std.specs.Prelude.{Contains}
-use Rattle.irig_codes.specs.declared.fields.Fields.{Fields}
-use Rattle.irig_codes.specs.declared.width.Element.{Element}
 use Rattle.irig_codes.specs.declared.width.Element.TheVariants.{Position}
-use Rattle.irig_codes.specs.Format.{FormatView}
-use Rattle.irig_codes.specs.Width.{is_in_step}
-use Rattle.irig_index.specs.declared.record.Record.{Record}
-use Rattle.irig_index.specs.Frames.{frames}
-use Rattle.irig_index.specs.Marker.{class_at}
-use Rattle.irig_moment.specs.Generated.{frame_fields}
-use Rattle.irig_moment.specs.Moment.{MomentView}
+use Rattle.irig_codes.specs.{declared.fields.Fields.Fields, declared.width.Element.Element, Format.FormatView, Width.is_in_step}
+use Rattle.irig_index.specs.{declared.record.Record.Record, Frames.frames, Marker.class_at}
+use Rattle.irig_moment.specs.{Generated.frame_fields, Moment.MomentView}
 use Rattle.irig_recording.specs.declared.pulse.Pulse.{Pulse}
 use Rattle.irig_edit.specs.Edits.ReadBack.{frame_read, MadeFramesReadBack, FirstFrameReadsBack, NoOtherFrameIsRead}
-use Rattle.irig_edit.specs.Edits.Regenerated.{CanMake}
-use Rattle.irig_edit.specs.Edits.Regenerated.{frame_elements, frames_pulses, index_point}
+use Rattle.irig_edit.specs.Edits.Regenerated.{CanMake, frame_elements, frames_pulses, index_point}
 use Rattle.irig_edit.proofs.EditLemmas.GeneratedFrames.{Tell, carried_tell}
 use Rattle.irig_edit.proofs.EditLemmas.GeneratedFields.{frame_fine, frame_fits}
 use Rattle.irig_edit.proofs.EditLemmas.FramesAmongPulses.{found, found_next, marker_first, record_is}

@@ -2,32 +2,21 @@
 use Rattle.std.proofs.Common.{◌≡◌, ◌≤◌, ◌<◌, ◌+◌, ◌-◌, ◌*◌, ◌%◌, ◌==◌, ◌||◌, ◌&&◌, ℕ, suc, zero, Bool, true, false, cond, List, ◌∷◌, length, take, drop, map}
 use Rattle.std.proofs.Common.{get_or, slice_get, unwrap_or, Some, None, refl, ap, ap₂, sym, ◌∙◌, arith}
 use Rattle.std.specs.List.{range_with_len}
-use Rattle.std.proofs.lemmas.Bool.{and_parts, eqb-true}
-use Rattle.std.proofs.lemmas.Bool.Decides.{nat_tests}
-use Rattle.std.proofs.lemmas.List.{drop_more}
 use Rattle.std.proofs.lemmas.List.FromFn.{get_or-map-range_with_len}
-use Rattle.std.proofs.lemmas.Option.{slice_get-get_or}
+use Rattle.std.proofs.lemmas.{Bool.and_parts, Bool.eqb-true, Bool.Decides.nat_tests, List.drop_more, Option.slice_get-get_or}
 use Rattle.std.proofs.Math.Seq.{take-length}
-use Rattle.irig_codes.specs.declared.fields.Fields.{Fields}
-use Rattle.irig_codes.specs.declared.width.Element.{Element}
 use Rattle.irig_codes.specs.declared.width.Element.TheVariants.{Zero, One, Position}
-use Rattle.irig_codes.specs.declared.note.Note.{Note}
-use Rattle.irig_codes.specs.declared.note.Note.TheVariants.{Fine}
-use Rattle.irig_codes.specs.Decoding.{decoded, made_note}
-use Rattle.irig_codes.specs.Encoding.{encoded, is_identifier, is_set}
-use Rattle.irig_codes.specs.Fields.{fits_in}
-use Rattle.irig_codes.specs.Format.{FormatView, interval_of}
-use Rattle.irig_codes.specs.Width.{class_of, is_in_step, nominal_of}
-use Rattle.irig_codes.proofs.RoundTrip.{decoded-encoded}
-use Rattle.irig_index.specs.declared.record.Cause.TheVariants.{Step, Class}
-use Rattle.irig_index.specs.declared.record.Verdict.TheVariants.{Read}
+use Rattle.irig_codes.specs.{declared.fields.Fields.Fields, declared.width.Element.Element, declared.note.Note.Note, declared.note.Note.TheVariants.Fine}
+use Rattle.irig_codes.specs.{Decoding.decoded, Decoding.made_note, Encoding.encoded, Encoding.is_identifier, Encoding.is_set, Fields.fits_in, Format.FormatView}
+use Rattle.irig_codes.specs.{Format.interval_of, Width.class_of, Width.is_in_step, Width.nominal_of}
+use Rattle.irig_codes.proofs.{RoundTrip.decoded-encoded, WidthLemmas.class_of-nominal_of, WidthLemmas.is_in_step-interval_of}
 use Rattle.irig_index.specs.Marker.{class_at, follows, is_digit, is_marker, is_position}
 use Rattle.irig_index.specs.Verdict.{elements_of, fault_at, fault_of, suits, verdict_of}
+use Rattle.irig_index.specs.{declared.record.Cause.TheVariants.Step, declared.record.Cause.TheVariants.Class, declared.record.Verdict.TheVariants.Read}
 use Rattle.irig_index.proofs.FaultLaws.{read_where_none_fails}
 use Rattle.irig_recording.specs.declared.pulse.Pulse.{Pulse}
 use Rattle.irig_edit.specs.Edits.Regenerated.{index_point, element_pulse, frame_pulses}
 use Rattle.irig_edit.proofs.EditLemmas.GeneratedPulses.{frame_many}
-use Rattle.irig_codes.proofs.WidthLemmas.{class_of-nominal_of, is_in_step-interval_of}
 
 -- the pulse of an element means it
 pub element_class : (f : FormatView) (start k : ℕ) (es : List Element) (e : ℕ)

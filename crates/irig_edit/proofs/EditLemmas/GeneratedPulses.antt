@@ -2,21 +2,14 @@
 use Rattle.std.proofs.Common.{◌≡◌, ◌≤◌, ◌<◌, ◌+◌, ◌*◌, ℕ, suc, zero, List, [], ◌∷◌, ◌++◌, length, map, get_or, refl, ap, sym, ◌∙◌, subst, arith, insert}
 use Rattle.std.proofs.Common.{length-append, append_assoc}
 use Rattle.std.proofs.Math.Nat.{mul-le-mul_right}
-use Rattle.std.proofs.lemmas.List.{flat_map_more}
-use Rattle.std.proofs.lemmas.List.Edits.{insert_end}
-use Rattle.std.proofs.lemmas.List.FromFn.{map-range_with_len_more}
+use Rattle.std.proofs.lemmas.{List.flat_map_more, List.Edits.insert_end, List.FromFn.map-range_with_len_more}
 use Rattle.std.specs.List.{flat_map, range_with_len}
-use Rattle.irig_recording.specs.Recording.{RisesFrom, UpTo}
-use Rattle.irig_codes.specs.declared.width.Element.{Element}
-use Rattle.irig_codes.specs.declared.width.Element.TheVariants.{Zero}
-use Rattle.irig_codes.specs.Format.{FormatView, interval_of}
-use Rattle.irig_codes.specs.Width.{nominal_of}
+use Rattle.irig_recording.specs.{Recording.RisesFrom, Recording.UpTo, declared.pulse.Pulse.Pulse}
+use Rattle.irig_codes.specs.{declared.width.Element.Element, declared.width.Element.TheVariants.Zero, Format.FormatView, Format.interval_of, Width.nominal_of}
 use Rattle.irig_gap.specs.Items.{GapView, gap_view}
-use Rattle.irig_recording.specs.declared.pulse.Pulse.{Pulse}
 use Rattle.irig_track.specs.Edges.{edges_of, pulse, Under}
 use Rattle.irig_recording.proofs.PulseEdges.{edges_of-append}
-use Rattle.irig_track.proofs.RisingLists.{rises_more}
-use Rattle.irig_track.proofs.Turns.{Under-append}
+use Rattle.irig_track.proofs.{RisingLists.rises_more, Turns.Under-append}
 use Rattle.irig_edit.specs.Edits.Regenerated.{index_point, element_pulse, frame_pulses, frames_end}
 use Rattle.irig_codes.proofs.WidthLemmas.{nominal_of-within}
 

@@ -1,14 +1,11 @@
 -- What the tests of a generation of frames say.
 use Rattle.std.proofs.Common.{◌≡◌, ◌≤◌, ◌<◌, ◌+◌, ◌-◌, ◌*◌, ◌^◌, ℕ, Bool, true, false, ◌&&◌, ◌⊎◌, inl, inr, nat_le, length, Some, None, ◌/◌, if◌then◌else◌}
 use Rattle.std.proofs.Common.{refl, subst, arith}
-use Rattle.std.proofs.lemmas.Bool.{and_parts, cases_lt, le-leb, lt-leb}
-use Rattle.std.proofs.lemmas.Bool.Decides.{nat_tests}
-use Rattle.std.proofs.lemmas.Nat.{pow_pos}
+use Rattle.std.proofs.lemmas.{Bool.and_parts, Bool.cases_lt, Bool.le-leb, Bool.lt-leb, Bool.Decides.nat_tests, Nat.pow_pos}
 use Rattle.std.proofs.Math.Nat.{div-eq_of_lt, div-lt_iff_lt-mul}
 use Rattle.irig_codes.specs.Format.{control_count_of}
-use Rattle.irig_edit.specs.Edits.Conditions.{are_frames, are_too_many, is_wide}
 use Rattle.irig_edit.specs.Edits.Regenerated.{frames_end, rising_before, rising_in}
-use Rattle.irig_edit.specs.State.State.{State}
+use Rattle.irig_edit.specs.{Edits.Conditions.are_frames, Edits.Conditions.are_too_many, Edits.Conditions.is_wide, State.State.State}
 use Rattle.irig_edit.proofs.StateLemmas.Risings.{before_end}
 
 -- what an end says of the frames

@@ -4,10 +4,8 @@ use Rattle.irig_recording.specs.declared.pulse.Pulse.{Pulse}
 use Rattle.irig_saved.specs.declared.single.Single.TheVariants.{Splice}
 use Rattle.irig_track.proofs.Carried.{length-piece}
 use Rattle.irig_edit.specs.Changes.Single.{FitsSingle, held_in, turned_single}
-use Rattle.irig_edit.specs.Edits.Holds.{EditsHold}
-use Rattle.irig_edit.specs.Edits.Regenerated.{frame_elements}
 use Rattle.irig_edit.specs.Session.Calls.Edit.{Insert, Delete, Split, Join, Shift, Invert, Force, Regen, SetFormat, SetMark}
-use Rattle.irig_edit.specs.State.State.{State}
+use Rattle.irig_edit.specs.{Edits.Holds.EditsHold, Edits.Regenerated.frame_elements, State.State.State}
 use Rattle.irig_edit.proofs.EditLemmas.GeneratedPulses.{frames_many}
 
 back_holds : (s : State) (i count : ℕ) (put : List Pulse) → FitsSingle s (Splice i count put) → held_in (turned_single s (Splice i count put)).1 ≡ count

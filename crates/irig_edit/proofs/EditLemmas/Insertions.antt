@@ -1,20 +1,13 @@
 -- A pulse that is inserted in free time.
 use Rattle.std.proofs.Common.{◌≡◌, ◌≤◌, ◌<◌, ◌+◌, ◌^◌, ℕ, List, [], ◌∷◌, ◌++◌, length, take, drop, refl, ap, sym, ◌∙◌, subst, arith, take-append-drop}
 use Rattle.std.proofs.Common.{length-take-le, false}
-use Rattle.irig_recording.specs.Recording.{RisesFrom, UpTo}
-use Rattle.irig_recording.specs.declared.pulse.Pulse.{Pulse}
-use Rattle.irig_track.specs.Edges.{edges_of, pulse, Under}
-use Rattle.irig_track.specs.Splices.{spliced, risen_by, CanSplice}
-use Rattle.irig_track.specs.Track.{IsTrack}
+use Rattle.irig_recording.specs.{Recording.RisesFrom, Recording.UpTo, declared.pulse.Pulse.Pulse}
+use Rattle.irig_track.specs.{Edges.edges_of, Edges.pulse, Edges.Under, Splices.spliced, Splices.risen_by, Splices.CanSplice, Track.IsTrack}
 use Rattle.irig_recording.proofs.PulseEdges.{edges_of-append}
-use Rattle.irig_track.proofs.Laws.{is_edge-inserted}
+use Rattle.irig_track.proofs.{Laws.is_edge-inserted, Carried.length-spliced, Searches.risen_none, Searches.risen_yes}
 use Rattle.irig_edit.specs.State.State.{State, IsState, with_pulses}
-use Rattle.irig_edit.specs.Edits.Conditions.{is_touched}
-use Rattle.irig_edit.specs.Edits.Becoming.{Becomes}
-use Rattle.irig_edit.specs.Session.Calls.Edit.{Insert}
+use Rattle.irig_edit.specs.{Edits.Conditions.is_touched, Edits.Becoming.Becomes, Session.Calls.Edit.Insert}
 use Rattle.irig_edit.proofs.StateLemmas.TouchedStretches.{touched-any, free_sides}
-use Rattle.irig_track.proofs.Carried.{length-spliced}
-use Rattle.irig_track.proofs.Searches.{risen_none, risen_yes}
 
 -- two more edges, between those below a and those above b
 pub rises_put : (low a b : ℕ) (xs ys : List ℕ) → low ≤ a → a < b → RisesFrom low (xs ++ ys) → Under a xs → RisesFrom (b + 1) ys

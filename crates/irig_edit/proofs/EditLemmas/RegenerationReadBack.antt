@@ -2,33 +2,19 @@
 use Rattle.std.proofs.Common.{◌≡◌, ◌≤◌, ◌<◌, ◌+◌, ◌-◌, ◌*◌, ◌^◌, ℕ, Bool, true, false, not, nat_lt, List, [], ◌∷◌, ◌++◌, length, take, drop, slice_get, Option}
 use Rattle.std.proofs.Common.{Some, None, if◌then◌else◌, refl, ap, sym, ◌∙◌, subst, arith, length-take-le}
 use Rattle.std.specs.Prelude.{Contains, ◌↔◌}
-use Rattle.std.proofs.lemmas.Bool.{leb-false, ltb-false, not-false}
-use Rattle.std.proofs.lemmas.List.Filters.{length-filter_both}
-use Rattle.irig_codes.specs.declared.width.Element.TheVariants.{Position}
-use Rattle.irig_codes.specs.Width.{is_in_step}
-use Rattle.irig_codes.specs.Format.{control_count_of}
-use Rattle.irig_index.specs.declared.record.Record.{Record}
-use Rattle.irig_index.specs.Frames.{frames}
-use Rattle.irig_index.specs.Marker.{class_at}
-use Rattle.irig_track.proofs.Items.{take-item}
-use Rattle.irig_moment.specs.Generated.{starts_in}
-use Rattle.irig_moment.specs.Moment.{MomentView, IsMoment}
+use Rattle.std.proofs.lemmas.{Bool.leb-false, Bool.ltb-false, Bool.not-false, List.Filters.length-filter_both}
+use Rattle.irig_codes.specs.{declared.width.Element.TheVariants.Position, Width.is_in_step, Format.control_count_of}
+use Rattle.irig_index.specs.{declared.record.Record.Record, Frames.frames, Marker.class_at}
+use Rattle.irig_track.proofs.{Items.take-item, Sets.only_pulses}
+use Rattle.irig_moment.specs.{Generated.starts_in, Moment.MomentView, Moment.IsMoment}
 use Rattle.irig_recording.specs.declared.pulse.Pulse.{Pulse}
 use Rattle.irig_track.specs.Splices.{spliced}
-use Rattle.irig_track.proofs.Sets.{only_pulses}
-use Rattle.irig_edit.specs.declared.session.refusal.Refusal.{Refusal}
-use Rattle.irig_edit.specs.Session.Calls.Edit.{Regen}
-use Rattle.irig_edit.specs.Edits.Becoming.{judgement_of}
-use Rattle.irig_edit.specs.Edits.Conditions.{are_frames, are_too_many, is_met, is_wide}
-use Rattle.irig_edit.specs.Edits.Edits.{IsAfter}
-use Rattle.irig_edit.specs.Edits.ReadBack.{frame_read, RegenReadsBack, RegenReadsFirstBack}
-use Rattle.irig_edit.specs.Edits.Regenerated.{CanMake}
-use Rattle.irig_edit.specs.Edits.Regenerated.{frames_end, frames_pulses, rising_before, rising_in}
-use Rattle.irig_edit.specs.State.State.{State, IsState}
+use Rattle.irig_edit.specs.Edits.Regenerated.{CanMake, frames_end, frames_pulses, rising_before, rising_in}
+use Rattle.irig_edit.specs.{declared.session.refusal.Refusal.Refusal, Session.Calls.Edit.Regen, Edits.Becoming.judgement_of, Edits.Conditions.are_frames}
+use Rattle.irig_edit.specs.{Edits.Conditions.are_too_many, Edits.Conditions.is_met, Edits.Conditions.is_wide, Edits.Edits.IsAfter, Edits.ReadBack.frame_read}
+use Rattle.irig_edit.specs.{Edits.ReadBack.RegenReadsBack, Edits.ReadBack.RegenReadsFirstBack, State.State.State, State.State.IsState}
 use Rattle.irig_edit.proofs.EditLemmas.FramesReadBack.{first_frame_reads_back, made_frames_read_back, no_other_frame_is_read}
-use Rattle.irig_edit.proofs.EditLemmas.GenerationTests.{frames_said}
-use Rattle.irig_edit.proofs.EditLemmas.Regenerations.{regenerated}
-use Rattle.irig_edit.proofs.StateLemmas.Risings.{before_end}
+use Rattle.irig_edit.proofs.{EditLemmas.GenerationTests.frames_said, EditLemmas.Regenerations.regenerated, StateLemmas.Risings.before_end}
 
 -- if nothing refuses, no test holds
 passed : (test : Bool) (why : Refusal) (others : Option Refusal)

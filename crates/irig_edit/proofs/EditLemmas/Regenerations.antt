@@ -1,20 +1,13 @@
 -- Frames instead of the pulses that rise in their time.
 use Rattle.std.proofs.Common.{◌≡◌, ◌≤◌, ◌+◌, ◌*◌, ◌^◌, ℕ, suc, false, List, [], ◌∷◌, ◌++◌, length, take, drop, refl, ap, sym, ◌∙◌, subst, arith, length-take-le}
-use Rattle.irig_recording.specs.Recording.{RisesFrom, UpTo}
+use Rattle.irig_recording.specs.{Recording.RisesFrom, Recording.UpTo, declared.pulse.Pulse.Pulse}
 use Rattle.irig_moment.specs.Moment.{MomentView}
-use Rattle.irig_recording.specs.declared.pulse.Pulse.{Pulse}
-use Rattle.irig_track.specs.Edges.{edges_of, Under, replaced, is_edge}
-use Rattle.irig_track.specs.Splices.{spliced, piece, CanSplice}
-use Rattle.irig_track.specs.Track.{IsTrack}
-use Rattle.irig_track.proofs.Carried.{length-spliced}
-use Rattle.irig_track.proofs.Laws.{edges_of-three, edges_of-parts, is_edge-spliced}
+use Rattle.irig_track.specs.{Edges.edges_of, Edges.Under, Edges.replaced, Edges.is_edge, Splices.spliced, Splices.piece, Splices.CanSplice, Track.IsTrack}
+use Rattle.irig_track.proofs.{Carried.length-spliced, Laws.edges_of-three, Laws.edges_of-parts, Laws.is_edge-spliced, RisingLists.rises_left}
 use Rattle.irig_recording.proofs.PulseEdges.{edges_of-append}
-use Rattle.irig_track.proofs.RisingLists.{rises_left}
-use Rattle.irig_edit.specs.Edits.Becoming.{Becomes}
-use Rattle.irig_edit.specs.Session.Calls.Edit.{Regen}
-use Rattle.irig_edit.specs.Edits.Conditions.{is_met}
 use Rattle.irig_edit.specs.Edits.Regenerated.{frames_end, rising_before, rising_in, frame_elements, frames_pulses, index_point}
 use Rattle.irig_edit.specs.State.State.{State, IsState, with_pulses}
+use Rattle.irig_edit.specs.{Edits.Becoming.Becomes, Session.Calls.Edit.Regen, Edits.Conditions.is_met}
 use Rattle.irig_edit.proofs.EditLemmas.GeneratedPulses.{rises_apart, UpTo-under, index_end, index_same, frames_rise, frames_under, frames_many}
 use Rattle.irig_edit.proofs.EditLemmas.Replacements.{upto_left, upto_right, upto_joined}
 use Rattle.irig_edit.proofs.StateLemmas.Risings.{before_yes, before_end, none_before, piece_in}

@@ -1,25 +1,15 @@
 -- The state after a shift.
 use Rattle.std.proofs.Common.{◌≡◌, ◌≤◌, ◌<◌, ◌+◌, ◌-◌, ℕ, ℤ, suc, zero, List, [], ◌∷◌, length, map, take, drop, Option, refl, ap, sym, ◌∙◌, subst, arith}
 use Rattle.std.proofs.lemmas.List.{length-map}
-use Rattle.irig_recording.specs.declared.pulse.Pulse.{Pulse}
-use Rattle.irig_track.specs.Edges.{edges_of, is_edge, replaced}
+use Rattle.irig_recording.specs.{declared.pulse.Pulse.Pulse, Recording.UpTo}
 use Rattle.irig_track.specs.Shifts.{CanShift, ahead, back, moved, moved_pulse, shifted, count_to}
-use Rattle.irig_track.specs.Splices.{piece}
-use Rattle.irig_track.specs.Free.{following, first_or}
-use Rattle.irig_recording.specs.Recording.{UpTo}
-use Rattle.irig_track.proofs.Allowed.{shift_stands}
-use Rattle.irig_track.proofs.Carried.{length-spliced, length-piece}
-use Rattle.irig_track.proofs.Laws.{is_edge-spliced}
+use Rattle.irig_track.specs.{Edges.edges_of, Edges.is_edge, Edges.replaced, Splices.piece, Free.following, Free.first_or}
+use Rattle.irig_track.proofs.{Allowed.shift_stands, Carried.length-spliced, Carried.length-piece, Laws.is_edge-spliced}
 use Rattle.irig_edit.specs.State.State.{State, IsState, state}
-use Rattle.irig_edit.specs.Edits.Edits.{IsAfter, pulse_of}
-use Rattle.irig_edit.specs.State.Marks.{moved_time, moved_mark}
-use Rattle.irig_edit.specs.Session.Calls.Edit.{Shift}
-use Rattle.irig_edit.specs.Edits.Becoming.{Becomes}
-use Rattle.irig_edit.specs.Changes.Single.{turned_single}
-use Rattle.irig_edit.specs.State.Marks.{AllMayMove, marks_moved, stands}
+use Rattle.irig_edit.specs.State.Marks.{moved_time, moved_mark, AllMayMove, marks_moved, stands}
+use Rattle.irig_edit.specs.{Edits.Edits.IsAfter, Edits.Edits.pulse_of, Session.Calls.Edit.Shift, Edits.Becoming.Becomes, Changes.Single.turned_single}
 use Rattle.irig_saved.specs.declared.single.Single.TheVariants.{Shift as Shifted}
-use Rattle.irig_edit.proofs.StateLemmas.MovedMarks.{may_between, moved_between}
-use Rattle.irig_edit.proofs.EditLemmas.Shifts.{pulse_there}
+use Rattle.irig_edit.proofs.{StateLemmas.MovedMarks.may_between, StateLemmas.MovedMarks.moved_between, EditLemmas.Shifts.pulse_there}
 
 -- the edges of moved pulses are their moved edges
 edges_of-moved : (d : ℤ) (ps : List Pulse) → edges_of (moved d ps) ≡ map (moved_time d) (edges_of ps)

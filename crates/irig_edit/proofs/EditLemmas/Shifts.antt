@@ -1,22 +1,12 @@
 -- Pulses that are moved in time, and the marks with them.
-use Rattle.std.proofs.Common.{◌≡◌, ◌≤◌, ◌<◌, ◌+◌, ◌-◌, ℕ, ℤ, suc, zero, Bool, true, false, ◌&&◌, inl, inr, nat_lt, nat_le, List, [], ◌∷◌, length, take}
-use Rattle.std.proofs.Common.{drop, slice_get, Some, refl, ap, sym, ◌∙◌, subst, arith}
-use Rattle.std.proofs.lemmas.Bool.{cases_lt, or_parts}
-use Rattle.std.proofs.lemmas.Bool.Decides.{nat_tests}
-use Rattle.std.proofs.lemmas.List.{drop_all}
-use Rattle.std.proofs.lemmas.Option.{slice_get-get_or}
-use Rattle.irig_recording.specs.Recording.{RisesFrom}
-use Rattle.irig_recording.specs.declared.pulse.Pulse.{Pulse}
-use Rattle.irig_track.specs.Edges.{edges_of, pulse}
-use Rattle.irig_track.specs.Free.{following, first_or}
-use Rattle.irig_track.specs.Shifts.{CanShift, ahead, back}
-use Rattle.irig_track.proofs.Allowed.{shift_stands, stands_shift}
-use Rattle.irig_track.proofs.Places.{first_or-drop}
-use Rattle.irig_track.proofs.PulsesBetween.{following-last}
-use Rattle.irig_edit.specs.State.State.{State, IsState}
-use Rattle.irig_edit.specs.Edits.Edits.{pulse_of}
-use Rattle.irig_edit.specs.State.Marks.{moved_time}
+use Rattle.std.proofs.Common.{◌≡◌, ◌≤◌, ◌<◌, ◌+◌, ◌-◌, ℕ, ℤ, suc, zero, Bool, true, false, ◌&&◌, inl, inr, nat_lt, nat_le, List, [], ◌∷◌, length, take, drop}
+use Rattle.std.proofs.Common.{slice_get, Some, refl, ap, sym, ◌∙◌, subst, arith}
+use Rattle.std.proofs.lemmas.{Bool.cases_lt, Bool.or_parts, Bool.Decides.nat_tests, List.drop_all, Option.slice_get-get_or}
+use Rattle.irig_recording.specs.{Recording.RisesFrom, declared.pulse.Pulse.Pulse}
+use Rattle.irig_track.specs.{Edges.edges_of, Edges.pulse, Free.following, Free.first_or, Shifts.CanShift, Shifts.ahead, Shifts.back}
+use Rattle.irig_track.proofs.{Allowed.shift_stands, Allowed.stands_shift, Places.first_or-drop, PulsesBetween.following-last}
 use Rattle.irig_edit.specs.Edits.Conditions.{leaves, meets, meets_next}
+use Rattle.irig_edit.specs.{State.State.State, State.State.IsState, Edits.Edits.pulse_of, State.Marks.moved_time}
 use Rattle.irig_edit.proofs.StateLemmas.TouchedStretches.{pulse_after}
 
 -- if a pulse is there, it is the pulse of that number

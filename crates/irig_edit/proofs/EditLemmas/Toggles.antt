@@ -1,20 +1,13 @@
 -- When the level can be inverted, and what comes of it.
 use Rattle.std.proofs.Common.{◌≡◌, ◌≤◌, ◌<◌, ◌+◌, ◌-◌, ◌^◌, ℕ, Bool, true, false, length, refl, ap, ◌∙◌, arith}
 use Rattle.std.proofs.lemmas.Bool.Decides.{nat_tests}
-use Rattle.irig_track.specs.Edges.{edges_of, has, is_edge}
-use Rattle.irig_track.specs.Splices.{risen_by}
-use Rattle.irig_track.specs.Toggles.{CanToggle, flipped}
+use Rattle.irig_track.specs.{Edges.edges_of, Edges.has, Edges.is_edge, Splices.risen_by, Toggles.CanToggle, Toggles.flipped}
 use Rattle.irig_track.proofs.Laws.{has-toggled}
-use Rattle.irig_recording.proofs.PulseEdges.{length-edges_of}
 use Rattle.irig_track.proofs.Recordings.{can_toggle_room, can_toggle_first, can_toggle_second, cannot_toggle, length-flipped_most}
-use Rattle.irig_edit.specs.Edits.Becoming.{Becomes}
-use Rattle.irig_edit.specs.Session.Calls.Edit.{Invert}
-use Rattle.irig_edit.specs.Changes.Single.{turned_single}
+use Rattle.irig_recording.proofs.PulseEdges.{length-edges_of}
+use Rattle.irig_edit.specs.{Edits.Becoming.Becomes, Session.Calls.Edit.Invert, Changes.Single.turned_single, Changes.Laws.State.IsState-turned_single}
+use Rattle.irig_edit.specs.{Changes.Laws.Edges.edges_of-toggled, State.State.State, State.State.IsState, Edits.Conditions.is_overfull, Edits.Conditions.is_full}
 use Rattle.irig_saved.specs.declared.single.Single.TheVariants.{Toggle}
-use Rattle.irig_edit.specs.Changes.Laws.State.{IsState-turned_single}
-use Rattle.irig_edit.specs.Changes.Laws.Edges.{edges_of-toggled}
-use Rattle.irig_edit.specs.State.State.{State, IsState}
-use Rattle.irig_edit.specs.Edits.Conditions.{is_overfull, is_full}
 
 -- what can be inverted is not overfull
 pub overfull_not : (a b : ℕ) (s : State) → IsState s → CanToggle s.micros a b s.pulses → is_overfull a b s ≡ false

@@ -2,43 +2,25 @@
 use Rattle.std.proofs.Common.{◌≡◌, ◌≤◌, ◌<◌, ◌+◌, ◌^◌, ◌++◌, ℕ, suc, zero, false, List, [], ◌∷◌, Option, Some, None, Result, Ok, length, map, take, reverse}
 use Rattle.std.proofs.Common.{nat_lt, codes, inl, inr, refl, ap, sym, ◌∙◌, subst, arith}
 use Rattle.std.specs.List.{AllByRecursion}
-use Rattle.std.proofs.lemmas.Bool.Decides.{nat_tests}
-use Rattle.std.proofs.lemmas.List.{length-append, reverse-append, reverse-reverse, take-map}
+use Rattle.std.proofs.lemmas.{Bool.Decides.nat_tests, List.length-append, List.reverse-append, List.reverse-reverse, List.take-map}
 use Rattle.irig_codes.specs.Format.{FormatView}
 use Rattle.irig_journal.specs.History.{Step}
-use Rattle.irig_saved.specs.Faults.{IsFault}
-use Rattle.irig_saved.specs.Ranges.{IsSaved}
-use Rattle.irig_saved.specs.SavedText.{journal_text}
-use Rattle.irig_saved.specs.declared.saved.Saved.{Saved}
-use Rattle.irig_saved.specs.declared.step.Step.{Step as SavedStep}
-use Rattle.irig_saved.specs.Numbers.{NumbersOfStep}
-use Rattle.irig_saved.proofs.Counts.{saved_of_parts}
-use Rattle.irig_saved.proofs.FaultFacts.{journal_not_at_fault}
+use Rattle.irig_saved.specs.{Faults.IsFault, Ranges.IsSaved, SavedText.journal_text, declared.saved.Saved.Saved, declared.step.Step.Step as SavedStep}
+use Rattle.irig_saved.specs.{Numbers.NumbersOfStep, declared.change.Change.Change}
 use Rattle.irig_saved.proofs.JournalTexts.{journal_is_text, section_is_comment}
-use Rattle.irig_saved.proofs.Unique.{same_journal}
+use Rattle.irig_saved.proofs.{Counts.saved_of_parts, FaultFacts.journal_not_at_fault, Unique.same_journal}
 use Rattle.irig_track.proofs.Recordings as track
-use Rattle.irig_vcd.specs.Answer.{IsFaultOf}
-use Rattle.irig_recording.specs.FileText.{file_text}
-use Rattle.irig_recording.specs.Comments.{comment_text}
-use Rattle.irig_vcd.specs.Parts.{dump_parts}
-use Rattle.irig_recording.specs.Recording.{RecordingView}
-use Rattle.irig_vcd.specs.declared.fault.VcdFault.{VcdFault}
+use Rattle.irig_vcd.specs.{Answer.IsFaultOf, Parts.dump_parts, declared.fault.VcdFault.VcdFault}
+use Rattle.irig_recording.specs.{FileText.file_text, Comments.comment_text, Recording.RecordingView}
 use Rattle.irig_vcd.specs.declared.fault.VcdFault.TheVariants as fault
 use Rattle.irig_vcd.proofs.WrittenJournal.{journal_back}
-use Rattle.irig_saved.specs.declared.change.Change.{Change}
-use Rattle.irig_edit.specs.Changes.Delta.{turned}
-use Rattle.irig_edit.specs.Changes.Laws.Edges.{pulses_of-edges_of}
-use Rattle.irig_edit.specs.Session.Limits.{IsWork}
 use Rattle.irig_edit.specs.Opened.Opened.{IsAccepted, IsLineAtFault, head_fault, mark_beyond, state_of}
 use Rattle.irig_edit.specs.Opened.Openings.{IsBad, IsJournalFault, IsOpened, IsTextOf, IsUnopened}
-use Rattle.irig_edit.specs.Saved.Saved.{saved_step}
-use Rattle.irig_edit.specs.Saved.SavedSession.{saved_of, saved_text}
-use Rattle.irig_edit.specs.Session.Session.{SessionView, work_in}
-use Rattle.irig_edit.specs.Session.Work.{Work, with_floor}
 use Rattle.irig_edit.specs.State.State.{IsMark, IsState, State, recording_of, state}
-use Rattle.irig_edit.specs.Opened.Taken.{CanTakeAll, StopsAfter, steps_of}
+use Rattle.irig_edit.specs.{Changes.Delta.turned, Changes.Laws.Edges.pulses_of-edges_of, Session.Limits.IsWork, Saved.Saved.saved_step}
+use Rattle.irig_edit.specs.{Saved.SavedSession.saved_of, Saved.SavedSession.saved_text, Session.Session.SessionView, Session.Session.work_in, Session.Work.Work}
+use Rattle.irig_edit.specs.{Session.Work.with_floor, Opened.Taken.CanTakeAll, Opened.Taken.StopsAfter, Opened.Taken.steps_of, Changes.Laws.Delta.IsState-turned}
 use Rattle.irig_edit.proofs.OpenedLemmas.Heads.{head_marks}
-use Rattle.irig_edit.specs.Changes.Laws.Delta.{IsState-turned}
 use Rattle.irig_edit.proofs.SavedLemmas.Numbers.{change_small, digit_permitted, times_small}
 
 -- saved steps are the steps that were saved

@@ -1,17 +1,14 @@
 -- What a saved journal says above its steps.
-use Rattle.std.proofs.Common.{◌≡◌, ◌≤◌, ◌+◌, ℕ, Bool, true, false, List, [], ◌∷◌, Option, Some, None, IsTrue, length, nat_lt, not, if◌then◌else◌, refl, ap}
-use Rattle.std.proofs.Common.{sym, ◌∙◌, arith}
+use Rattle.std.proofs.Common.{◌≡◌, ◌≤◌, ◌+◌, ℕ, Bool, true, false, List, [], ◌∷◌, Option, Some, None, IsTrue, length, nat_lt, not, if◌then◌else◌, refl, ap, sym}
+use Rattle.std.proofs.Common.{◌∙◌, arith}
 use Rattle.std.proofs.lemmas.Bool.Decides.{nat_tests}
 use Rattle.std.specs.List.{AllByRecursion}
 use Rattle.irig_codes.specs.Format.{is_permitted}
 use Rattle.irig_saved.specs.declared.saved.Saved.{Saved}
-use Rattle.irig_recording.specs.Recording.{RecordingView}
-use Rattle.irig_recording.specs.declared.pulse.Pulse.{Pulse}
+use Rattle.irig_recording.specs.{Recording.RecordingView, declared.pulse.Pulse.Pulse}
 use Rattle.irig_track.specs.Edges.{edges_of}
-use Rattle.irig_edit.specs.Changes.Laws.Edges.{pulses_of-edges_of}
-use Rattle.irig_edit.specs.Opened.Opened.{head_fault, mark_beyond, state_of}
-use Rattle.irig_edit.specs.Changes.Single.{pulses_of}
-use Rattle.irig_edit.specs.State.State.{IsMark, State, recording_of, state}
+use Rattle.irig_edit.specs.{Changes.Laws.Edges.pulses_of-edges_of, Opened.Opened.head_fault, Opened.Opened.mark_beyond, Opened.Opened.state_of}
+use Rattle.irig_edit.specs.{Changes.Single.pulses_of, State.State.IsMark, State.State.State, State.State.recording_of, State.State.state}
 
 -- the state of a recording with a format and marks
 pub opened_state : (s : State) (r : RecordingView) (saved : Saved) → recording_of s ≡ r

@@ -2,16 +2,12 @@
 use Rattle.std.proofs.Common.{◌≡◌, ℕ, List, Option, Some, None, Result, Ok, Err, IfErr, inl, inr}
 use Rattle.irig_codes.specs.Format.{FormatView}
 use Rattle.irig_saved.specs.declared.saved.Saved.{Saved}
-use Rattle.irig_vcd.specs.Parts.{dump_parts}
+use Rattle.irig_vcd.specs.{Parts.dump_parts, declared.fault.VcdFault.VcdFault}
 use Rattle.irig_recording.specs.Recording.{RecordingView}
-use Rattle.irig_vcd.specs.declared.fault.VcdFault.{VcdFault}
 use Rattle.irig_vcd.specs.declared.fault.VcdFault.TheVariants as fault
-use Rattle.irig_edit.specs.Opened.Opened.{IsLineAtFault, state_of}
 use Rattle.irig_edit.specs.Opened.Openings.{ArePartsOf, IsBad, IsJournalFault, IsOpened, IsTextOf, IsUnopened}
-use Rattle.irig_edit.specs.Opened.Parts.{HasNoSession, IsJournalOf, IsSessionOf}
-use Rattle.irig_edit.specs.Session.Machine.{NoMarks}
-use Rattle.irig_edit.specs.Session.Session.{SessionView, started}
-use Rattle.irig_edit.specs.State.State.{recording_of}
+use Rattle.irig_edit.specs.{Opened.Opened.IsLineAtFault, Opened.Opened.state_of, Opened.Parts.HasNoSession, Opened.Parts.IsJournalOf, Opened.Parts.IsSessionOf}
+use Rattle.irig_edit.specs.{Session.Machine.NoMarks, Session.Session.SessionView, Session.Session.started, State.State.recording_of}
 
 pub err_so : {X Y : Type 0} (P Q : Y → Type 0) (r : Result X Y) → ((e : Y) → P e → Q e) → IfErr r P → IfErr r Q
 err_so P Q (Ok x) so h = tt

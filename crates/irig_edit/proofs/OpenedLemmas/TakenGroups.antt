@@ -3,19 +3,13 @@ use Rattle.std.proofs.Common.{◌≡◌, ◌≤◌, ◌<◌, ◌++◌, ℕ, List
 use Rattle.std.specs.Prelude.{flat_map}
 use Rattle.std.proofs.Math.Seq.{drop-append_seam, take-append_seam}
 use Rattle.std.proofs.lemmas.List.{append-nil, length-append, length-map, length-reverse, map-append}
-use Rattle.irig_journal.specs.History.{History, Step, step}
-use Rattle.irig_journal.specs.Joining.{changes_of}
-use Rattle.irig_journal.specs.Laws.Turns.{FitAll-append, ways_back-cons}
 use Rattle.irig_journal.specs.Turns.{FitAll, backs, left_by, ways_back}
-use Rattle.irig_saved.specs.declared.change.Change.{Change}
+use Rattle.irig_journal.specs.{History.History, History.Step, History.step, Joining.changes_of, Laws.Turns.FitAll-append, Laws.Turns.ways_back-cons}
 use Rattle.irig_saved.specs.declared.change.Change.TheVariants.{One, Group}
-use Rattle.irig_saved.specs.declared.single.Single.{Single}
-use Rattle.irig_saved.specs.declared.step.Step.{Step as SavedStep}
+use Rattle.irig_saved.specs.{declared.change.Change.Change, declared.single.Single.Single, declared.step.Step.Step as SavedStep}
 use Rattle.irig_edit.specs.Changes.Delta.{Fits, gathered, singles_of, turned}
-use Rattle.irig_edit.specs.Changes.Single.{FitsSingle, turned_single}
-use Rattle.irig_edit.specs.Opened.Taken.{CanTake, step_of}
 use Rattle.irig_edit.specs.Opened.Walk.{changed, gone_on, walk}
-use Rattle.irig_edit.specs.State.State.{State}
+use Rattle.irig_edit.specs.{Changes.Single.FitsSingle, Changes.Single.turned_single, Opened.Taken.CanTake, Opened.Taken.step_of, State.State.State}
 
 -- single changes made one after another, each a step of its own
 abbrev pub made_along : History State Change → List Single → History State Change

@@ -1,16 +1,11 @@
 -- The steps of a saved journal that were taken so far.
-use Rattle.std.proofs.Common.{◌≡◌, ◌<◌, ◌^◌, ℕ, ◌+◌, ◌++◌, List, [], ◌∷◌, length, take, reverse, refl, ap}
-use Rattle.std.proofs.Common.{sym, ◌∙◌, subst, arith, append_assoc}
+use Rattle.std.proofs.Common.{◌≡◌, ◌<◌, ◌^◌, ℕ, ◌+◌, ◌++◌, List, [], ◌∷◌, length, take, reverse, refl, ap, sym, ◌∙◌, subst, arith, append_assoc}
 use Rattle.std.proofs.Math.Seq.{take-append-add, take-append_seam}
 use Rattle.std.proofs.lemmas.List.{length-append, map-append, reverse-append}
-use Rattle.irig_saved.specs.SavedText.{step_lines, steps_lines}
-use Rattle.irig_saved.specs.declared.step.Step.{Step as SavedStep}
+use Rattle.irig_saved.specs.{SavedText.step_lines, SavedText.steps_lines, declared.step.Step.Step as SavedStep, declared.change.Change.Change}
 use Rattle.irig_journal.specs.History.{History, Step}
-use Rattle.irig_saved.specs.declared.change.Change.{Change}
-use Rattle.irig_edit.specs.State.State.{State}
-use Rattle.irig_edit.specs.Opened.Stops.{StopsAt}
 use Rattle.irig_edit.specs.Opened.Taken.{CanTake, CanTakeAll, step_of, steps_of}
-use Rattle.irig_edit.specs.Opened.Walk.{gone_along, gone_on}
+use Rattle.irig_edit.specs.{State.State.State, Opened.Stops.StopsAt, Opened.Walk.gone_along, Opened.Walk.gone_on}
 use Rattle.irig_edit.proofs.OpenedLemmas.Walks.{can_take-append, can_take-next, gone_along-append}
 
 -- the lines of steps and of others

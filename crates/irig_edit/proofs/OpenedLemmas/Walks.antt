@@ -3,15 +3,11 @@ use Rattle.std.proofs.Common.{◌≡◌, ◌≢◌, ◌⊎◌, inl, inr, Ok, Err
 use Rattle.std.proofs.Common.{drop, refl, ap, ap₂, sym, ◌∙◌, subst, arith}
 use Rattle.std.proofs.lemmas.List.{take-append-drop, take_all}
 use Rattle.std.proofs.Math.ListN.{drop_of_length-le}
-use Rattle.irig_journal.specs.History.{History, Step, step, stepped_back, turned_back}
-use Rattle.irig_journal.specs.declared.fault.JournalFault.{JournalFault}
 use Rattle.irig_journal.specs.declared.fault.JournalFault.TheVariants.{GroupFloor, NothingToUndo}
+use Rattle.irig_journal.specs.{History.History, History.Step, History.step, History.stepped_back, History.turned_back, declared.fault.JournalFault.JournalFault}
 use Rattle.irig_saved.specs.declared.change.Change.{Change}
-use Rattle.irig_edit.specs.Changes.Delta.{turned}
-use Rattle.irig_edit.specs.Changes.Laws.Delta.{IsState-turned, turned-turned}
-use Rattle.irig_edit.specs.State.State.{State, IsState}
-use Rattle.irig_edit.specs.Opened.Taken.{CanTake, CanTakeAll}
-use Rattle.irig_edit.specs.Opened.Walk.{ahead_of, gone_along, gone_on, walk}
+use Rattle.irig_edit.specs.{Changes.Delta.turned, Changes.Laws.Delta.IsState-turned, Changes.Laws.Delta.turned-turned, State.State.State, State.State.IsState}
+use Rattle.irig_edit.specs.{Opened.Taken.CanTake, Opened.Taken.CanTakeAll, Opened.Walk.ahead_of, Opened.Walk.gone_along, Opened.Walk.gone_on, Opened.Walk.walk}
 
 -- steps and then others
 pub gone_along-append : (h : History State Change) (ds es : List (Step Change))

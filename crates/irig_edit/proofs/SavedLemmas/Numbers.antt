@@ -3,30 +3,20 @@ use Rattle.std.proofs.Common.{suc, ◌≡◌, ◌≤◌, ◌+◌, ◌-◌, ◌^�
 use Rattle.std.proofs.Common.{arith}
 use Rattle.std.specs.List.{AllByRecursion}
 use Rattle.std.proofs.lemmas.Bool.Decides.{nat_tests}
-use Rattle.irig_codes.specs.Format.{is_permitted}
-use Rattle.irig_codes.specs.declared.format.Kind.{Kind}
 use Rattle.irig_codes.specs.declared.format.Kind.TheVariants.{A, B, E, G}
-use Rattle.irig_recording.specs.declared.pulse.Pulse.{Pulse}
-use Rattle.irig_track.specs.Edges.{edges_of}
-use Rattle.irig_track.specs.Shifts.{CanShift, ahead, back}
+use Rattle.irig_codes.specs.{Format.is_permitted, declared.format.Kind.Kind}
+use Rattle.irig_recording.specs.{declared.pulse.Pulse.Pulse, Recording.UpTo}
+use Rattle.irig_track.specs.{Edges.edges_of, Shifts.CanShift, Shifts.ahead, Shifts.back}
 use Rattle.irig_track.proofs.Places.{pulse_within}
 use Rattle.irig_recording.proofs.PulseEdges.{edges_of-append}
-use Rattle.irig_recording.specs.Recording.{UpTo}
 use Rattle.irig_journal.specs.Turns.{FitAll}
-use Rattle.irig_saved.specs.Ranges.{IsDistance, IsPulse, IsTime}
-use Rattle.irig_saved.specs.Numbers.{NumbersOfChange, NumbersOfSingle}
-use Rattle.irig_saved.specs.declared.change.Change.{Change}
-use Rattle.irig_edit.specs.Changes.Delta.{Fits}
-use Rattle.irig_saved.specs.declared.change.Change.TheVariants.{One, Group}
-use Rattle.irig_edit.specs.Edits.Edits.{pulse_of}
-use Rattle.irig_edit.specs.Changes.Laws.State.{IsState-turned_single}
-use Rattle.irig_saved.specs.declared.single.Single.{Single}
-use Rattle.irig_edit.specs.Changes.Single.{FitsSingle, turned_single}
 use Rattle.irig_saved.specs.declared.single.Single.TheVariants.{Splice, Toggle, Shift, SetFormat, SetMark}
-use Rattle.irig_edit.specs.State.State.{IsMark, IsState, State}
-use Rattle.irig_edit.proofs.EditLemmas.Replacements.{upto_left, upto_right}
-use Rattle.irig_edit.proofs.EditLemmas.ShiftedStates.{moved_from_zero, moved_within}
-use Rattle.irig_edit.proofs.EditLemmas.Shifts.{pulse_there, rise_before}
+use Rattle.irig_saved.specs.{Ranges.IsDistance, Ranges.IsPulse, Ranges.IsTime, Numbers.NumbersOfChange, Numbers.NumbersOfSingle, declared.change.Change.Change}
+use Rattle.irig_saved.specs.{declared.change.Change.TheVariants.One, declared.change.Change.TheVariants.Group, declared.single.Single.Single}
+use Rattle.irig_edit.specs.{Changes.Delta.Fits, Edits.Edits.pulse_of, Changes.Laws.State.IsState-turned_single, Changes.Single.FitsSingle}
+use Rattle.irig_edit.specs.{Changes.Single.turned_single, State.State.IsMark, State.State.IsState, State.State.State}
+use Rattle.irig_edit.proofs.{EditLemmas.Replacements.upto_left, EditLemmas.Replacements.upto_right, EditLemmas.ShiftedStates.moved_from_zero}
+use Rattle.irig_edit.proofs.{EditLemmas.ShiftedStates.moved_within, EditLemmas.Shifts.pulse_there, EditLemmas.Shifts.rise_before}
 
 -- an expression that is permitted is a digit up to 7
 pub digit_permitted : (kind : Kind) (n : ℕ) → IsTrue (is_permitted kind n) → n ≤ 7

@@ -1,19 +1,13 @@
 -- Texts in a row, given part by part: what was given, with what is left.
-use Rattle.std.proofs.Common.{◌≡◌, ◌++◌, ℕ, List, [], ◌∷◌, ap, map, refl, reverse, sym, ◌∙◌}
-use Rattle.std.proofs.Common.{append_assoc}
+use Rattle.std.proofs.Common.{◌≡◌, ◌++◌, ℕ, List, [], ◌∷◌, ap, map, refl, reverse, sym, ◌∙◌, append_assoc}
 use Rattle.std.proofs.lemmas.List.{reverse-append}
-use Rattle.irig_journal.specs.Held.{Held}
-use Rattle.irig_journal.specs.History.{step}
-use Rattle.irig_saved.specs.Lines.{text_of}
-use Rattle.irig_saved.specs.SavedText.{single_lines, singles_lines, step_lines, steps_lines}
+use Rattle.irig_journal.specs.{Held.Held, History.step}
+use Rattle.irig_saved.specs.{Lines.text_of, SavedText.single_lines, SavedText.singles_lines, SavedText.step_lines, SavedText.steps_lines}
 use Rattle.irig_saved.proofs.Texts.{text_of_append}
-use Rattle.irig_edit.specs.Changes.Held.{delta_of, deltas_of, single_of}
-use Rattle.irig_edit.specs.Saved.Saved.{saved_step}
 use Rattle.irig_edit.specs.Saved.SavedParts.{changes_text, parts_left, steps_text}
-use Rattle.irig_edit.specs.Saved.Stages.{next_stage, stage_left, text_after}
-use Rattle.irig_edit.specs.declared.changes.turn.Turn.{Turn}
-use Rattle.irig_edit.specs.declared.saved.stage.Stage.{Stage}
 use Rattle.irig_edit.specs.declared.saved.stage.Stage.TheVariants.{Dump, Back, On, Over}
+use Rattle.irig_edit.specs.{Changes.Held.delta_of, Changes.Held.deltas_of, Changes.Held.single_of, Saved.Saved.saved_step, Saved.Stages.next_stage}
+use Rattle.irig_edit.specs.{Saved.Stages.stage_left, Saved.Stages.text_after, declared.changes.turn.Turn.Turn, declared.saved.stage.Stage.Stage}
 
 -- a part of the first of two was given
 pub in_row : (block new left after rest : List ℕ) → new ++ after ≡ block ++ left

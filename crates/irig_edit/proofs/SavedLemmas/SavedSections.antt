@@ -1,12 +1,9 @@
 -- The text of a saved session is made of its parts.
 use Rattle.std.proofs.Common.{◌≡◌, ◌++◌, ℕ, List, [], ◌∷◌, codes, refl, append_assoc}
-use Rattle.irig_saved.specs.Lines.{text_of}
-use Rattle.irig_saved.specs.SavedText.{journal_section, journal_text, saved_lines}
+use Rattle.irig_saved.specs.{Lines.text_of, SavedText.journal_section, SavedText.journal_text, SavedText.saved_lines}
 use Rattle.irig_saved.proofs.Texts.{text_of_append}
 use Rattle.irig_recording.specs.FileText.{file_text}
-use Rattle.irig_edit.specs.Session.Work.{Work}
-use Rattle.irig_edit.specs.Saved.SavedSession.{saved_of, saved_text}
-use Rattle.irig_edit.specs.State.State.{recording_of}
+use Rattle.irig_edit.specs.{Session.Work.Work, Saved.SavedSession.saved_of, Saved.SavedSession.saved_text, State.State.recording_of}
 
 -- a section after a body: lines, of which two count those after them, between the words that open it and those that shut it
 pub section : (body opens shuts p f : List ℕ) (hs ps fs : List (List ℕ))

@@ -4,20 +4,14 @@ use Rattle.std.specs.Prelude.{replicate, is_ok}
 use Rattle.std.specs.Option.{option_and_then}
 use Rattle.irig_journal.specs.History.{Step, step, turned_back}
 use Rattle.irig_saved.specs.declared.change.Change.{Change}
-use Rattle.irig_edit.specs.Changes.Delta.{turned}
-use Rattle.irig_edit.specs.Changes.Laws.Delta.{IsState-turned, turned-turned}
-use Rattle.irig_edit.specs.Edits.Changes.{change_by}
-use Rattle.irig_edit.specs.Edits.Edits.{cursor_after}
-use Rattle.irig_edit.specs.Opened.Taken.{CanTakeAll}
-use Rattle.irig_edit.specs.Session.Calls.{Call, Edit}
 use Rattle.irig_edit.specs.Session.Calls.Call.{Make, Undo, Redo, Go, Begin, End, Abort}
-use Rattle.irig_edit.specs.Session.Machine.{Steps, Accepts, Edits}
 use Rattle.irig_edit.specs.Session.Runs.{Answered, Runs, accepted_of, OneOutcome, EditIsTakenBack, UndosAreMadeAgain}
 use Rattle.irig_edit.specs.Session.Work.{Work, dropped_since, floored_here, gone_back, gone_on, joined_since, made, work_over}
-use Rattle.irig_edit.specs.State.State.{IsState, State}
-use Rattle.irig_edit.specs.declared.session.refusal.Refusal.{Refusal}
 use Rattle.irig_edit.specs.declared.session.refusal.Refusal.TheVariants.{OutOfRange, NoPulse, Touching, NotInside, TooMany, BadExpression, BadTime, BadControl}
 use Rattle.irig_edit.specs.declared.session.refusal.Refusal.TheVariants.{NothingToUndo, NothingToRedo, GroupOpen, NoGroup, GroupFloor, OutOfMemory}
+use Rattle.irig_edit.specs.{Changes.Delta.turned, Changes.Laws.Delta.IsState-turned, Changes.Laws.Delta.turned-turned, Edits.Changes.change_by}
+use Rattle.irig_edit.specs.{Edits.Edits.cursor_after, Opened.Taken.CanTakeAll, Session.Calls.Call, Session.Calls.Edit, Session.Machine.Steps}
+use Rattle.irig_edit.specs.{Session.Machine.Accepts, Session.Machine.Edits, State.State.IsState, State.State.State, declared.session.refusal.Refusal.Refusal}
 
 -- a refused call changes nothing
 pub refused_same : (call : Call) (old new : Work) (why : Refusal) → Steps call old (Err why) new → new ≡ old

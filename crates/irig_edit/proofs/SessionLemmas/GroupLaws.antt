@@ -1,32 +1,20 @@
 -- What a group leaves, whatever is done in it.
-use Rattle.std.proofs.Common.{◌≡◌, ◌-◌, ◌+◌, ◌≤◌, inl, inr, ℕ, suc, zero, Bool, true, false, List, [], ◌∷◌, ◌++◌, length, drop, take, nat_le, Option, Some, None}
-use Rattle.std.proofs.Common.{option_map, Result, Ok, Err, refl, ap, sym, ◌∙◌, subst, if◌then◌else◌, arith, length-append}
+use Rattle.std.proofs.Common.{◌≡◌, ◌-◌, ◌+◌, ◌≤◌, inl, inr, ℕ, suc, zero, Bool, true, false, List, [], ◌∷◌, ◌++◌, length, drop, take, nat_le, Option, Some}
+use Rattle.std.proofs.Common.{None, option_map, Result, Ok, Err, refl, ap, sym, ◌∙◌, subst, if◌then◌else◌, arith, length-append}
 use Rattle.std.specs.List.{AllByRecursion}
 use Rattle.std.specs.Prelude.{is_ok}
-use Rattle.std.proofs.lemmas.Bool.{leb-false}
-use Rattle.std.proofs.lemmas.Bool.Decides.{nat_tests}
-use Rattle.irig_journal.specs.declared.opening.Opening.{Opening}
-use Rattle.irig_journal.specs.Groups.{Floor, Grouped, floored, is_at_floor, over}
-use Rattle.irig_journal.specs.History.{Step, step, turned_back, turned_round}
-use Rattle.irig_journal.specs.Joining.{beyond, changes_of, farthest, joined}
-use Rattle.irig_journal.specs.Machine.{Kept, Machine, kept, redone, undone}
-use Rattle.irig_journal.specs.Openings.{floor_at}
-use Rattle.irig_journal.specs.Turns.{left_by}
+use Rattle.std.proofs.lemmas.{Bool.leb-false, Bool.Decides.nat_tests}
+use Rattle.irig_journal.specs.{declared.opening.Opening.Opening, Groups.Floor, Groups.Grouped, Groups.floored, Groups.is_at_floor, Groups.over, History.Step}
+use Rattle.irig_journal.specs.{History.step, History.turned_back, History.turned_round, Joining.beyond, Joining.changes_of, Joining.farthest, Joining.joined}
+use Rattle.irig_journal.specs.{Machine.Kept, Machine.Machine, Machine.kept, Machine.redone, Machine.undone, Openings.floor_at, Turns.left_by}
 use Rattle.irig_saved.specs.declared.change.Change.{Change}
-use Rattle.irig_edit.specs.Changes.Delta.{gathered, turned}
-use Rattle.irig_edit.specs.Changes.Laws.Groups.{turned-gathered}
-use Rattle.irig_edit.specs.Session.Calls.{Call}
 use Rattle.irig_edit.specs.Session.Calls.Call.{Make, Undo, Redo, Go, Begin, End, Abort}
-use Rattle.irig_edit.specs.Edits.Changes.{change_by}
-use Rattle.irig_edit.specs.Edits.Refusals.{is_at_begin}
 use Rattle.irig_edit.specs.Session.GroupRuns.{AbortGivesBack, EndLeavesOneStep, IsAtMostOneMore, IsInGroup, StaysOpen}
-use Rattle.irig_edit.specs.Session.Machine.{Accepts, Steps}
-use Rattle.irig_edit.specs.Session.Runs.{Answered, Runs, accepted_of}
 use Rattle.irig_edit.specs.Session.Work.{Work, dropped_since, grouped_in, joined_since, work_over}
-use Rattle.irig_edit.specs.State.State.{State}
-use Rattle.irig_edit.specs.declared.session.refusal.Refusal.{Refusal}
-use Rattle.irig_edit.proofs.SessionLemmas.CallRuns.{refused_same}
-use Rattle.irig_edit.proofs.SessionLemmas.MachineSteps.{above_begin}
+use Rattle.irig_edit.specs.{Changes.Delta.gathered, Changes.Delta.turned, Changes.Laws.Groups.turned-gathered, Session.Calls.Call, Edits.Changes.change_by}
+use Rattle.irig_edit.specs.{Edits.Refusals.is_at_begin, Session.Machine.Accepts, Session.Machine.Steps, Session.Runs.Answered, Session.Runs.Runs}
+use Rattle.irig_edit.specs.{Session.Runs.accepted_of, State.State.State, declared.session.refusal.Refusal.Refusal}
+use Rattle.irig_edit.proofs.{SessionLemmas.CallRuns.refused_same, SessionLemmas.MachineSteps.above_begin}
 
 -- where the group was begun, in the steps
 abbrev begin_of : Work → Opening

@@ -1,27 +1,19 @@
 -- An edit that is made or refused is a step of the machine, and so is each other call.
-use Rattle.std.proofs.Common.{◌≡◌, ℕ, suc, Bool, true, false, not, List, [], ◌∷◌, length, nat_le, Option, Some, None, option_map, if◌then◌else◌, Ok, is_some, refl, ap, sym, subst, ◌∙◌}
+use Rattle.std.proofs.Common.{◌≡◌, ℕ, suc, Bool, true, false, not, List, [], ◌∷◌, length, nat_le, Option, Some, None, option_map, if◌then◌else◌, Ok, is_some}
+use Rattle.std.proofs.Common.{refl, ap, sym, subst, ◌∙◌}
 use Rattle.std.specs.Prelude.{IfSome}
-use Rattle.irig_journal.specs.declared.opening.Opening.{Opening}
 use Rattle.irig_journal.specs.Joining.{beyond, changes_of, farthest, joined_beyond}
-use Rattle.irig_journal.specs.Journal as journal
-use Rattle.irig_journal.specs.Turns.{left_by}
 use Rattle.irig_journal.specs.Groups.{Grouped, aborted, begun, ended, is_at_floor, over, recorded_over, redone_over, undone_over}
 use Rattle.irig_journal.specs.History.{Step, machine, states_along, turned_back, turned_round}
-use Rattle.irig_journal.specs.Machine.{Kept, kept, undone}
-use Rattle.irig_journal.specs.Openings.{floor_at}
+use Rattle.irig_journal.specs.{declared.opening.Opening.Opening, Turns.left_by, Machine.Kept, Machine.kept, Machine.undone, Openings.floor_at}
+use Rattle.irig_journal.specs.Journal as journal
 use Rattle.irig_saved.specs.declared.change.Change.{Change}
-use Rattle.irig_edit.specs.Changes.Delta.{Fits, gathered, turned}
-use Rattle.irig_edit.specs.Changes.Held.{deltas_of}
-use Rattle.irig_edit.specs.Edits.Becoming.{Becomes}
-use Rattle.irig_edit.specs.Edits.Changes.{change_by}
-use Rattle.irig_edit.specs.Edits.Refusals.{first_holding, is_at_begin, is_empty}
-use Rattle.irig_edit.specs.Session.Calls.{Edit}
 use Rattle.irig_edit.specs.Session.Calls.Call.{Undo, Redo, Begin, End, Abort}
-use Rattle.irig_edit.specs.Session.Machine.{Edits, Moves, Steps}
 use Rattle.irig_edit.specs.Session.Work.{Work, dropped_since, floored_here, gone_back, gone_on, grouped_in, history_in, joined_since, made, work_at, work_over}
-use Rattle.irig_edit.specs.State.State.{State}
-use Rattle.irig_edit.specs.declared.changes.turn.Turn.{Turn}
 use Rattle.irig_edit.specs.declared.session.refusal.Refusal.TheVariants.{GroupFloor, GroupOpen, NoGroup, NothingToRedo, NothingToUndo}
+use Rattle.irig_edit.specs.{Changes.Delta.Fits, Changes.Delta.gathered, Changes.Delta.turned, Changes.Held.deltas_of, Edits.Becoming.Becomes}
+use Rattle.irig_edit.specs.{Edits.Changes.change_by, Edits.Refusals.first_holding, Edits.Refusals.is_at_begin, Edits.Refusals.is_empty, Session.Calls.Edit}
+use Rattle.irig_edit.specs.{Session.Machine.Edits, Session.Machine.Moves, Session.Machine.Steps, State.State.State, declared.changes.turn.Turn.Turn}
 
 -- a change that was made is an accepted edit
 pub accepts_becomes : (edit : Edit) (w v : Work) (d : Change) (cursor : ℕ) → Becomes edit w.state (turned w.state d).0 cursor → d ≡ change_by edit w.state

@@ -1,14 +1,9 @@
 -- What a refused call leaves.
 use Rattle.std.proofs.Common.{◌≡◌, ℕ, Some, ap, sym, subst, ◌∙◌}
 use Rattle.irig_journal.specs.Journal.{Steps}
-use Rattle.irig_edit.specs.Edits.Refusals.{refusal_of}
-use Rattle.irig_edit.specs.Session.Calls.{Call}
-use Rattle.irig_edit.specs.Session.Limits.{IsWork}
 use Rattle.irig_edit.specs.Session.Session.{LooksStay, SessionView, session_view, work_in}
-use Rattle.irig_edit.specs.Session.Work.{Work, work_at}
-use Rattle.irig_edit.specs.State.Present.{PresentView}
-use Rattle.irig_edit.specs.declared.changes.turn.Turn.{Turn}
-use Rattle.irig_edit.specs.declared.session.refusal.Refusal.{Refusal}
+use Rattle.irig_edit.specs.{Edits.Refusals.refusal_of, Session.Calls.Call, Session.Limits.IsWork, Session.Work.Work, Session.Work.work_at}
+use Rattle.irig_edit.specs.{State.Present.PresentView, declared.changes.turn.Turn.Turn, declared.session.refusal.Refusal.Refusal}
 
 -- the same state, cursor and journal are the same work
 same_work : (p q : PresentView) (m n : ℕ) (i j : Steps Turn) → q ≡ p → n ≡ m → j ≡ i → work_at q.state n j ≡ work_at p.state m i

@@ -2,19 +2,14 @@
 use Rattle.std.proofs.Common.{◌≡◌, ◌≤◌, ◌-◌, ℕ, suc, zero, Bool, true, false, List, [], ◌∷◌, length, nat_le, drop, take, Option, Some, None, option_map}
 use Rattle.std.proofs.Common.{if◌then◌else◌, ap, sym, subst, arith, ◌+◌}
 use Rattle.std.proofs.lemmas.Bool.{leb-false}
-use Rattle.irig_journal.specs.declared.opening.Opening.{Opening}
-use Rattle.irig_journal.specs.History.{Step, step, turned_back, turned_round}
-use Rattle.irig_journal.specs.Joining.{beyond, changes_of, cursor_of_farthest, farthest, joined}
-use Rattle.irig_journal.specs.Turns.{FitAll, left_by}
+use Rattle.irig_journal.specs.{declared.opening.Opening.Opening, History.Step, History.step, History.turned_back, History.turned_round, Joining.beyond}
+use Rattle.irig_journal.specs.{Joining.changes_of, Joining.cursor_of_farthest, Joining.farthest, Joining.joined, Turns.FitAll, Turns.left_by}
 use Rattle.irig_saved.specs.declared.change.Change.{Change}
-use Rattle.irig_edit.specs.Changes.Delta.{Fits, gathered, turned}
 use Rattle.irig_edit.specs.Changes.Laws.Delta.{Fits-turned, IsState-turned, turned-turned}
 use Rattle.irig_edit.specs.Changes.Laws.Groups.{Fits-gathered, turned-gathered}
-use Rattle.irig_edit.specs.Edits.Refusals.{is_at_begin}
-use Rattle.irig_edit.specs.Opened.Taken.{CanTakeAll}
-use Rattle.irig_edit.specs.Session.Limits.{IsBegin, IsWork}
 use Rattle.irig_edit.specs.Session.Work.{Work, at_cursor, dropped_since, floored_here, gone_back, gone_on, joined_since, made, work_over}
-use Rattle.irig_edit.specs.State.State.{IsState, State}
+use Rattle.irig_edit.specs.{Changes.Delta.Fits, Changes.Delta.gathered, Changes.Delta.turned, Edits.Refusals.is_at_begin, Opened.Taken.CanTakeAll}
+use Rattle.irig_edit.specs.{Session.Limits.IsBegin, Session.Limits.IsWork, State.State.IsState, State.State.State}
 
 -- what leads back from a change gives back the state
 pub state_back : (s : State) (d : Change) → IsState s → Fits s d → (turned (turned s d).0 (turned s d).1).0 ≡ s

@@ -1,6 +1,6 @@
 -- Marks moved one after the other.
-use Rattle.std.proofs.Common.{◌≡◌, ◌≤◌, ◌<◌, ◌+◌, ℕ, ℤ, suc, zero, Bool, true, false, ◌&&◌, nat_le, List, [], ◌∷◌, length, map, slice_set}
-use Rattle.std.proofs.Common.{get_or, Option, Some, None, refl, ap, subst, ◌∙◌, arith}
+use Rattle.std.proofs.Common.{◌≡◌, ◌≤◌, ◌<◌, ◌+◌, ℕ, ℤ, suc, zero, Bool, true, false, ◌&&◌, nat_le, List, [], ◌∷◌, length, map, slice_set, get_or, Option, Some}
+use Rattle.std.proofs.Common.{None, refl, ap, subst, ◌∙◌, arith}
 use Rattle.std.proofs.lemmas.Bool.Decides.{nat_tests}
 use Rattle.irig_track.specs.Shifts.{ahead, back}
 use Rattle.irig_edit.specs.State.Marks.{AllMayMove, MayMove, marks_moved, moved_if, moved_mark, stands}

@@ -1,16 +1,12 @@
 -- Whether a pulse meets a time, and what lies before the time and after it.
-use Rattle.std.proofs.Common.{◌≡◌, ◌≤◌, ◌<◌, ◌+◌, ◌-◌, ℕ, suc, zero, Bool, true, false, ◌&&◌, ◌⊎◌, inl, inr, nat_lt, nat_le, List, [], ◌∷◌, length, take}
-use Rattle.std.proofs.Common.{drop, slice_get, Some, refl, ap, sym, ◌∙◌, subst, arith}
+use Rattle.std.proofs.Common.{◌≡◌, ◌≤◌, ◌<◌, ◌+◌, ◌-◌, ℕ, suc, zero, Bool, true, false, ◌&&◌, ◌⊎◌, inl, inr, nat_lt, nat_le, List, [], ◌∷◌, length, take, drop}
+use Rattle.std.proofs.Common.{slice_get, Some, refl, ap, sym, ◌∙◌, subst, arith}
 use Rattle.std.proofs.Math.Bool.{or-false}
-use Rattle.std.proofs.lemmas.Bool.{and_right, cases_lt, or_parts}
-use Rattle.std.proofs.lemmas.Bool.Decides.{nat_tests}
+use Rattle.std.proofs.lemmas.{Bool.and_right, Bool.cases_lt, Bool.or_parts, Bool.Decides.nat_tests}
 use Rattle.std.specs.List.{list_any}
-use Rattle.irig_recording.specs.Recording.{RisesFrom}
-use Rattle.irig_recording.specs.declared.pulse.Pulse.{Pulse}
+use Rattle.irig_recording.specs.{Recording.RisesFrom, declared.pulse.Pulse.Pulse}
 use Rattle.irig_track.specs.Edges.{edges_of, Under}
-use Rattle.irig_edit.specs.Edits.Conditions.{is_met}
-use Rattle.irig_edit.specs.Edits.Regenerated.{rising_before}
-use Rattle.irig_edit.specs.State.State.{State, IsState}
+use Rattle.irig_edit.specs.{Edits.Conditions.is_met, Edits.Regenerated.rising_before, State.State.State, State.State.IsState}
 use Rattle.irig_edit.proofs.StateLemmas.Risings.{before_yes, before_no, none_before}
 
 -- a pulse rises before a time, and does not fall before it

@@ -1,12 +1,9 @@
 -- The pulses that rise before a time, and those that rise in a stretch of time.
 use Rattle.std.proofs.Common.{◌≡◌, ◌≤◌, ◌<◌, ◌+◌, ◌-◌, ℕ, true, false, ◌⊎◌, ⊎_elim, inl, inr, nat_lt, nat_le, List, [], ◌∷◌, length, refl, ap, ◌∙◌, subst}
 use Rattle.std.proofs.Common.{arith}
-use Rattle.std.proofs.lemmas.Bool.{and_right, cases_lt}
-use Rattle.std.proofs.lemmas.Bool.Decides.{nat_tests}
-use Rattle.irig_recording.specs.Recording.{RisesFrom}
-use Rattle.irig_recording.specs.declared.pulse.Pulse.{Pulse}
-use Rattle.irig_track.specs.Edges.{edges_of}
-use Rattle.irig_track.specs.Splices.{piece, risen_by}
+use Rattle.std.proofs.lemmas.{Bool.and_right, Bool.cases_lt, Bool.Decides.nat_tests}
+use Rattle.irig_recording.specs.{Recording.RisesFrom, declared.pulse.Pulse.Pulse}
+use Rattle.irig_track.specs.{Edges.edges_of, Splices.piece, Splices.risen_by}
 use Rattle.irig_edit.specs.Edits.Regenerated.{rising_before, rising_in}
 
 -- one more pulse that rises before a time, or not

@@ -2,18 +2,12 @@
 use Rattle.std.proofs.Common.{◌≡◌, ◌≤◌, ◌<◌, ◌+◌, ◌-◌, ℕ, suc, Bool, true, false, ◌&&◌, ◌||◌, ◌⊎◌, inl, inr, nat_lt, nat_le, List, [], ◌∷◌, take, drop}
 use Rattle.std.proofs.Common.{slice_get, Some, zero, refl, ap, sym, ◌∙◌, subst, arith}
 use Rattle.std.proofs.Math.Bool.{not-not, or-false, or-true}
-use Rattle.std.proofs.lemmas.Bool.{and_right, cases_lt, or_parts}
-use Rattle.std.proofs.lemmas.Bool.Decides.{nat_tests}
-use Rattle.std.proofs.lemmas.Option.{slice_get_within}
+use Rattle.std.proofs.lemmas.{Bool.and_right, Bool.cases_lt, Bool.or_parts, Bool.Decides.nat_tests, Option.slice_get_within}
 use Rattle.std.specs.List.{list_any}
-use Rattle.irig_recording.specs.Recording.{RisesFrom}
-use Rattle.irig_recording.specs.declared.pulse.Pulse.{Pulse}
-use Rattle.irig_track.specs.Edges.{edges_of, Under}
-use Rattle.irig_track.specs.Splices.{risen_by}
+use Rattle.irig_recording.specs.{Recording.RisesFrom, Recording.level_by_edges, declared.pulse.Pulse.Pulse}
+use Rattle.irig_track.specs.{Edges.edges_of, Edges.Under, Splices.risen_by}
 use Rattle.irig_track.proofs.Searches.{risen_none, risen_yes}
-use Rattle.irig_recording.specs.Recording.{level_by_edges}
-use Rattle.irig_edit.specs.State.State.{State, IsState}
-use Rattle.irig_edit.specs.Edits.Conditions.{is_touched}
+use Rattle.irig_edit.specs.{State.State.State, State.State.IsState, Edits.Conditions.is_touched}
 
 -- a time lies in a stretch, both ends included
 abbrev pub lies_in : ℕ → ℕ → ℕ → Bool

@@ -2,14 +2,12 @@
 use Rattle.std.specs.Prelude.{ℕ, ◌≤◌, ◌+◌, ◌-◌, length, min}
 use Rattle.irig_index.specs.Frames.{frames}
 use Rattle.irig_track.specs.Splices.{risen_by}
-use Rattle.irig_edit.specs.Changes.Held.{single_of}
-use Rattle.irig_edit.specs.State.Places.{Places}
-use Rattle.irig_edit.specs.Changes.Room.{TakesIn}
+use Rattle.irig_edit.specs.State.State.{State, frames_of}
+use Rattle.irig_edit.specs.declared.changes.turn.Turn.{Turn}
+use Rattle.irig_edit.specs.{Changes.Held.single_of, State.Places.Places, Changes.Room.TakesIn}
 use Rattle.irig_saved.specs.declared.single.Single.{Single}
 use Rattle.irig_saved.specs.declared.single.Single.TheVariants.{Splice, Toggle, Shift, SetFormat}
 use Rattle.irig_saved.specs.declared.single.Single.TheVariants.{SetMark}
-use Rattle.irig_edit.specs.State.State.{State, frames_of}
-use Rattle.irig_edit.specs.declared.changes.turn.Turn.{Turn}
 
 -- there are places for the pulses that a change inserts; of a toggle, that it may insert, and then
 -- one that its way back needs

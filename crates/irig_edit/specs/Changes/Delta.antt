@@ -3,9 +3,8 @@
 use Rattle.std.specs.Prelude.{ℕ, ◌-◌, ◌^◌, List, [], ◌∷◌, flat_map, min}
 use Rattle.std.specs.List.{sum_by}
 use Rattle.irig_journal.specs.Turns.{FitAll, left_by, ways_back}
-use Rattle.irig_saved.specs.declared.change.Change.{Change}
 use Rattle.irig_saved.specs.declared.change.Change.TheVariants.{One, Group}
-use Rattle.irig_saved.specs.declared.single.Single.{Single}
+use Rattle.irig_saved.specs.{declared.change.Change.Change, declared.single.Single.Single}
 use Rattle.irig_edit.specs.Changes.Single.{FitsSingle, held_in, turned_single}
 use Rattle.irig_edit.specs.State.State.{State}
 

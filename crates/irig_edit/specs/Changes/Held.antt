@@ -1,9 +1,7 @@
 -- The changes that the code holds, and what they mean. This project's own.
 use Rattle.std.specs.Prelude.{List, map}
-use Rattle.irig_journal.specs.Held.{Held, Parts}
 use Rattle.irig_journal.specs.Held.Parts.{Alone, Group}
-use Rattle.irig_journal.specs.History.{Step}
-use Rattle.irig_journal.specs.Journal.{told}
+use Rattle.irig_journal.specs.{Held.Held, Held.Parts, History.Step, Journal.told}
 use Rattle.irig_saved.specs.declared.change.Change as saved
 use Rattle.irig_saved.specs.declared.change.Change.TheVariants as change
 use Rattle.irig_saved.specs.declared.single.Single.{Single}

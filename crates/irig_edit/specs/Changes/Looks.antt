@@ -3,13 +3,11 @@ use Rattle.std.specs.Prelude.{◌≤◌, ℕ, ◌+◌, ◌-◌, ◌*◌, ◌^◌
 use Rattle.std.specs.Prelude.{suc, min, nat_le, ◌&&◌, cond}
 use Rattle.irig_track.specs.Shifts.{count_to}
 use Rattle.irig_recording.specs.declared.pulse.Pulse.{Pulse}
-use Rattle.irig_saved.specs.declared.change.Change.{Change}
 use Rattle.irig_saved.specs.declared.change.Change.TheVariants.{One, Group}
-use Rattle.irig_saved.specs.declared.single.Single.{Single}
-use Rattle.irig_edit.specs.Changes.Single.{turned_single}
 use Rattle.irig_saved.specs.declared.single.Single.TheVariants.{Splice, Toggle, Shift, SetFormat}
 use Rattle.irig_saved.specs.declared.single.Single.TheVariants.{SetMark}
-use Rattle.irig_edit.specs.State.State.{State}
+use Rattle.irig_saved.specs.{declared.change.Change.Change, declared.single.Single.Single}
+use Rattle.irig_edit.specs.{Changes.Single.turned_single, State.State.State}
 
 -- how many pulses are there from a to b: they rise at or before b and fall at or after a
 abbrev pub standing_in : ℕ → ℕ → List Pulse → ℕ

@@ -1,14 +1,12 @@
 -- The room that a turn of a change needs, and the turn of the change that leads back. This
 -- project's own.
 use Rattle.std.specs.Prelude.{ℕ, ◌≤◌}
-use Rattle.irig_edit.specs.Changes.Held.{single_of}
-use Rattle.irig_edit.specs.State.Places.{HoldsState, Places}
-use Rattle.irig_saved.specs.declared.single.Single.{Single}
 use Rattle.irig_edit.specs.Changes.Single.{goes, turned_single}
+use Rattle.irig_edit.specs.{Changes.Held.single_of, State.Places.HoldsState, State.Places.Places}
+use Rattle.irig_edit.specs.{State.State.State, declared.changes.turn.Turn.Turn}
+use Rattle.irig_saved.specs.declared.single.Single.{Single}
 use Rattle.irig_saved.specs.declared.single.Single.TheVariants.{Splice, Toggle, Shift, SetFormat}
 use Rattle.irig_saved.specs.declared.single.Single.TheVariants.{SetMark}
-use Rattle.irig_edit.specs.State.State.{State}
-use Rattle.irig_edit.specs.declared.changes.turn.Turn.{Turn}
 
 -- there are places for the pulses that go
 abbrev pub TakesIn : Turn → Type 0

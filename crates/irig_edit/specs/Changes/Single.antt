@@ -7,10 +7,9 @@ use Rattle.irig_saved.specs.declared.single.Single.{Single}
 use Rattle.irig_saved.specs.declared.single.Single.TheVariants.{Splice, Toggle, Shift, SetFormat}
 use Rattle.irig_saved.specs.declared.single.Single.TheVariants.{SetMark}
 use Rattle.irig_recording.specs.declared.pulse.Pulse.{Pulse}
-use Rattle.irig_track.specs.Edges.{pulse, edges_of}
-use Rattle.irig_track.specs.Shifts.{CanShift, shifted}
 use Rattle.irig_track.specs.Splices.{CanSplice, piece, spliced}
 use Rattle.irig_track.specs.Toggles.{CanToggle, toggled}
+use Rattle.irig_track.specs.{Edges.pulse, Edges.edges_of, Shifts.CanShift, Shifts.shifted}
 use Rattle.irig_edit.specs.State.State.{State, IsMark, state, with_pulses}
 use Rattle.irig_edit.specs.State.Marks.{AllMayMove, marks_moved}
 

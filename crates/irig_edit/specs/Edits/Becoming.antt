@@ -1,10 +1,8 @@
 -- What an edit of the pulses is judged by, and what it comes to. This project's own.
 use Rattle.std.specs.Prelude.{◌≡◌, ◌≤◌, ℕ, Option, length}
-use Rattle.irig_edit.specs.State.State.{State}
-use Rattle.irig_edit.specs.Session.Calls.{Edit}
-use Rattle.irig_edit.specs.Edits.Edits.{IsAfter, cursor_after}
 use Rattle.irig_edit.specs.Edits.Refusals.{first_holding, tests_of}
-use Rattle.irig_edit.specs.declared.session.refusal.Refusal.{Refusal}
+use Rattle.irig_edit.specs.{State.State.State, Session.Calls.Edit, Edits.Edits.IsAfter}
+use Rattle.irig_edit.specs.{Edits.Edits.cursor_after, declared.session.refusal.Refusal.Refusal}
 
 -- the first refusal of an edit in a state
 abbrev pub judgement_of : Edit → State → Option Refusal

@@ -1,21 +1,16 @@
 -- The change that each edit is. This project's own.
 use Rattle.std.specs.Prelude.{◌+◌, ◌-◌, [], ◌∷◌, length, map}
 use Rattle.irig_codes.specs.Width.{nominal_of}
-use Rattle.irig_track.specs.Edges.{pulse}
-use Rattle.irig_track.specs.Splices.{risen_by}
-use Rattle.irig_edit.specs.Session.Calls.{Edit}
+use Rattle.irig_track.specs.{Edges.pulse, Splices.risen_by}
 use Rattle.irig_edit.specs.Session.Calls.Edit.{Insert, Delete, Split, Join, Shift, Invert, Force}
 use Rattle.irig_edit.specs.Session.Calls.Edit.{Regen, SetFormat, SetMark}
-use Rattle.irig_edit.specs.Edits.Conditions.{fall_at}
-use Rattle.irig_saved.specs.declared.change.Change.{Change}
-use Rattle.irig_saved.specs.declared.change.Change.TheVariants.{One}
-use Rattle.irig_edit.specs.Edits.Edits.{pulse_of}
-use Rattle.irig_edit.specs.State.Marks.{stands}
 use Rattle.irig_edit.specs.Edits.Regenerated.{frames_end, frames_pulses, rising_before, rising_in}
+use Rattle.irig_edit.specs.{Session.Calls.Edit, Edits.Conditions.fall_at, Edits.Edits.pulse_of}
+use Rattle.irig_edit.specs.{State.Marks.stands, State.State.State}
 use Rattle.irig_saved.specs.declared.single.Single.TheVariants.{Splice, Toggle, Shift as Shifted}
 use Rattle.irig_saved.specs.declared.single.Single.TheVariants.{SetFormat as Formatted}
 use Rattle.irig_saved.specs.declared.single.Single.TheVariants.{SetMark as Marked}
-use Rattle.irig_edit.specs.State.State.{State}
+use Rattle.irig_saved.specs.{declared.change.Change.Change, declared.change.Change.TheVariants.One}
 
 -- what an edit of a state changes. Most insert pulses instead of those that they remove, an
 -- inserted one after those that rise at or before its fall; a shift moves the marks that are

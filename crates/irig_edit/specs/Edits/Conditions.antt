@@ -3,13 +3,10 @@ use Rattle.std.specs.Prelude.{◌+◌, ◌-◌, ◌*◌, ◌^◌, ℕ, ℤ, Bool
 use Rattle.std.specs.Prelude.{length}
 use Rattle.std.specs.List.{list_any}
 use Rattle.irig_codes.specs.Format.{control_count_of}
-use Rattle.irig_track.specs.Edges.{edges_of, is_edge}
-use Rattle.irig_track.specs.Shifts.{ahead, back}
-use Rattle.irig_edit.specs.Edits.Edits.{pulse_of}
-use Rattle.irig_edit.specs.State.Marks.{moved_time}
+use Rattle.irig_track.specs.{Edges.edges_of, Edges.is_edge, Shifts.ahead, Shifts.back}
 use Rattle.irig_edit.specs.Edits.Regenerated.{frames_end, rising_in}
+use Rattle.irig_edit.specs.{Edits.Edits.pulse_of, State.Marks.moved_time, State.State.State}
 use Rattle.irig_recording.specs.Recording.{level_by_edges}
-use Rattle.irig_edit.specs.State.State.{State}
 
 -- two times in order, none above the length
 abbrev pub is_range : ℕ → ℕ → State → Bool

@@ -6,20 +6,16 @@
 -- says all.
 use Rattle.std.specs.Prelude.{◌≡◌, ◌+◌, ◌-◌, ◌*◌, ℕ, Bool, List, [], ◌∷◌, length, map, Option}
 use Rattle.std.specs.Prelude.{get_or, slice_set, min}
-use Rattle.irig_codes.specs.Format.{FormatView}
-use Rattle.irig_codes.specs.Width.{nominal_of}
+use Rattle.irig_codes.specs.{Format.FormatView, Width.nominal_of}
 use Rattle.irig_recording.specs.declared.pulse.Pulse.{Pulse}
 use Rattle.irig_track.specs.Edges.{pulse, edges_of, is_edge, with_both, without, without_between}
 use Rattle.irig_track.specs.Edges.{inverted, replaced}
-use Rattle.irig_track.specs.Splices.{piece, risen_by}
-use Rattle.irig_track.specs.Track.{IsTrack}
+use Rattle.irig_track.specs.{Splices.piece, Splices.risen_by, Track.IsTrack}
 use Rattle.irig_edit.specs.State.Marks.{moved_mark, moved_time}
-use Rattle.irig_edit.specs.State.State.{State}
 use Rattle.irig_edit.specs.Edits.Regenerated.{frames_end, rising_before, rising_in, frames_pulses}
-use Rattle.irig_edit.specs.Session.Calls.{Edit}
 use Rattle.irig_edit.specs.Session.Calls.Edit.{Insert, Delete, Split, Join, Shift, Invert, Force}
-use Rattle.irig_edit.specs.Session.Calls.Edit.{Regen}
-use Rattle.irig_edit.specs.Session.Calls.Edit.{SetFormat, SetMark}
+use Rattle.irig_edit.specs.Session.Calls.Edit.{Regen, SetFormat, SetMark}
+use Rattle.irig_edit.specs.{State.State.State, Session.Calls.Edit}
 
 -- pulse i, from 1
 abbrev pub pulse_of : ℕ → State → Pulse

@@ -1,14 +1,10 @@
 -- How many pulses each edit removes and inserts: its steps hold as many. This project's own.
 use Rattle.std.specs.Prelude.{◌≡◌, ◌+◌, ◌-◌, ◌*◌, ℕ, Ok, length}
 use Rattle.irig_edit.specs.Changes.Delta.{turned, weight_of}
-use Rattle.irig_edit.specs.Edits.Changes.{change_by}
 use Rattle.irig_edit.specs.Edits.Regenerated.{frames_end, rising_in}
-use Rattle.irig_edit.specs.Session.Calls.{Edit}
-use Rattle.irig_edit.specs.Session.Calls.Call.{Make}
 use Rattle.irig_edit.specs.Session.Calls.Edit.{Insert, Delete, Split, Join, Force, Regen}
-use Rattle.irig_edit.specs.Session.Machine.{Steps}
-use Rattle.irig_edit.specs.Session.Work.{Work}
-use Rattle.irig_edit.specs.State.State.{State}
+use Rattle.irig_edit.specs.{Edits.Changes.change_by, Session.Calls.Edit, Session.Calls.Call.Make}
+use Rattle.irig_edit.specs.{Session.Machine.Steps, Session.Work.Work, State.State.State}
 
 -- how many pulses an edit inserts
 abbrev pub inserted_by : Edit → ℕ

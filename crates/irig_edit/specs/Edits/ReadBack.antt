@@ -4,21 +4,14 @@ use Rattle.std.specs.Prelude.{◌≡◌, ◌↔◌, ◌+◌, ◌-◌, ◌*◌, �
 use Rattle.std.specs.Prelude.{length, slice_get, Ok, Some, Contains}
 use Rattle.irig_codes.specs.declared.note.Note.TheVariants.{Fine}
 use Rattle.irig_codes.specs.declared.width.Element.TheVariants.{Position}
-use Rattle.irig_codes.specs.Format.{FormatView}
-use Rattle.irig_codes.specs.Width.{is_in_step}
-use Rattle.irig_index.specs.declared.record.Record.{Record}
+use Rattle.irig_codes.specs.{Format.FormatView, Width.is_in_step}
 use Rattle.irig_index.specs.declared.record.Verdict.TheVariants.{Read}
-use Rattle.irig_index.specs.Frames.{frames}
-use Rattle.irig_index.specs.Marker.{class_at}
-use Rattle.irig_moment.specs.Generated.{frame_fields}
-use Rattle.irig_moment.specs.Moment.{MomentView, IsMoment}
+use Rattle.irig_index.specs.{declared.record.Record.Record, Frames.frames, Marker.class_at}
+use Rattle.irig_moment.specs.{Generated.frame_fields, Moment.MomentView, Moment.IsMoment}
 use Rattle.irig_recording.specs.declared.pulse.Pulse.{Pulse}
-use Rattle.irig_edit.specs.Session.Calls.Call.{Make}
-use Rattle.irig_edit.specs.Session.Calls.Edit.{Regen}
-use Rattle.irig_edit.specs.Session.Machine.{Steps}
 use Rattle.irig_edit.specs.Edits.Regenerated.{CanMake, frames_pulses, rising_before}
-use Rattle.irig_edit.specs.State.State.{IsState, frames_of}
-use Rattle.irig_edit.specs.Session.Work.{Work}
+use Rattle.irig_edit.specs.{Session.Calls.Edit.Regen, State.State.IsState, State.State.frames_of}
+use Rattle.irig_edit.specs.{Session.Calls.Call.Make, Session.Machine.Steps, Session.Work.Work}
 
 -- frame k from a moment on, from 0, as it is read: its fields, and the note is `Fine`. The frames
 -- begin with the pulse at a place, from 0

@@ -3,30 +3,23 @@
 use Rattle.std.specs.Prelude.{Bool, true, false, not, ◌&&◌, nat_le, nat_lt, List, [], ◌∷◌, Option}
 use Rattle.std.specs.Prelude.{Some, None, if◌then◌else◌, is_some, length}
 use Rattle.irig_codes.specs.Width.{nominal_of}
-use Rattle.irig_journal.specs.declared.opening.Opening.{Opening}
-use Rattle.irig_journal.specs.History.{Step}
+use Rattle.irig_journal.specs.{declared.opening.Opening.Opening, History.Step}
 use Rattle.irig_saved.specs.declared.change.Change.{Change}
 use Rattle.irig_moment.specs.Generated.{starts_in}
-use Rattle.irig_edit.specs.State.State.{State}
 use Rattle.irig_edit.specs.Edits.Conditions.{is_range, are_pulses, is_touched, is_inside, is_full}
 use Rattle.irig_edit.specs.Edits.Conditions.{is_overfull, meets_next, leaves, meets, fall_at}
-use Rattle.irig_edit.specs.Edits.Conditions.{are_frames}
-use Rattle.irig_edit.specs.Edits.Conditions.{is_met, are_too_many, is_wide}
-use Rattle.irig_edit.specs.Session.Calls.{Call, Edit}
+use Rattle.irig_edit.specs.Edits.Conditions.{are_frames, is_met, are_too_many, is_wide}
 use Rattle.irig_edit.specs.Session.Calls.Call.{Make, Undo, Redo, Go, Begin, End, Abort}
 use Rattle.irig_edit.specs.Session.Calls.Edit.{Insert, Delete, Split, Join, Shift, Invert, Force}
-use Rattle.irig_edit.specs.Session.Calls.Edit.{Regen}
-use Rattle.irig_edit.specs.Session.Calls.Edit.{SetMark}
-use Rattle.irig_edit.specs.declared.session.refusal.Refusal.{Refusal}
+use Rattle.irig_edit.specs.Session.Calls.Edit.{Regen, SetMark}
 use Rattle.irig_edit.specs.declared.session.refusal.Refusal.TheVariants.{OutOfRange, NoPulse}
-use Rattle.irig_edit.specs.declared.session.refusal.Refusal.TheVariants.{Touching}
-use Rattle.irig_edit.specs.declared.session.refusal.Refusal.TheVariants.{NotInside, TooMany}
-use Rattle.irig_edit.specs.declared.session.refusal.Refusal.TheVariants.{BadTime}
+use Rattle.irig_edit.specs.declared.session.refusal.Refusal.TheVariants.{Touching, NotInside}
+use Rattle.irig_edit.specs.declared.session.refusal.Refusal.TheVariants.{TooMany, BadTime}
 use Rattle.irig_edit.specs.declared.session.refusal.Refusal.TheVariants.{BadControl, NothingToUndo}
 use Rattle.irig_edit.specs.declared.session.refusal.Refusal.TheVariants.{NothingToRedo, GroupOpen}
-use Rattle.irig_edit.specs.declared.session.refusal.Refusal.TheVariants.{NoGroup}
-use Rattle.irig_edit.specs.declared.session.refusal.Refusal.TheVariants.{GroupFloor}
-use Rattle.irig_edit.specs.Session.Work.{Work}
+use Rattle.irig_edit.specs.declared.session.refusal.Refusal.TheVariants.{NoGroup, GroupFloor}
+use Rattle.irig_edit.specs.{State.State.State, Session.Calls.Call, Session.Calls.Edit}
+use Rattle.irig_edit.specs.{declared.session.refusal.Refusal.Refusal, Session.Work.Work}
 
 -- the first whose test holds
 abbrev pub first_holding : List (Bool × Refusal) → Option Refusal

@@ -4,9 +4,8 @@ use Rattle.irig_codes.specs.Format.{FormatView}
 use Rattle.irig_vcd.specs.declared.fault.VcdFault.{VcdFault}
 use Rattle.irig_vcd.specs.declared.fault.VcdFault.TheVariants.{OutOfMemory}
 use Rattle.irig_edit.specs.Opened.Openings.{IsOpened, IsUnopened}
-use Rattle.irig_edit.specs.Saved.SavedSession.{saved_text}
 use Rattle.irig_edit.specs.Session.Session.{SessionView, work_in}
-use Rattle.irig_edit.specs.Session.Work.{with_floor}
+use Rattle.irig_edit.specs.{Saved.SavedSession.saved_text, Session.Work.with_floor}
 
 -- what a session is saved as is short enough to be opened
 abbrev pub IsShort : SessionView → Type 0

@@ -3,13 +3,11 @@ use Rattle.std.specs.Prelude.{◌≡◌, ◌⊎◌, ◌+◌, ◌-◌, ℕ, List,
 use Rattle.std.specs.Prelude.{nat_lt, not, if◌then◌else◌, reverse, take}
 use Rattle.irig_codes.specs.Format.{is_permitted}
 use Rattle.irig_saved.specs.SavedText.{mark_lines, steps_lines}
-use Rattle.irig_saved.specs.declared.saved.Saved.{Saved}
-use Rattle.irig_saved.specs.declared.step.Step.{Step as SavedStep}
+use Rattle.irig_saved.specs.{declared.saved.Saved.Saved, declared.step.Step.Step as SavedStep}
 use Rattle.irig_recording.specs.Recording.{RecordingView}
 use Rattle.irig_edit.specs.Session.Session.{SessionView, session_view}
-use Rattle.irig_edit.specs.Changes.Single.{pulses_of}
-use Rattle.irig_edit.specs.State.State.{State, state}
 use Rattle.irig_edit.specs.Opened.Taken.{CanTakeAll, StopsAfter, steps_of}
+use Rattle.irig_edit.specs.{Changes.Single.pulses_of, State.State.State, State.State.state}
 
 -- the state of a recording with the format and the marks of its journal
 abbrev pub state_of : RecordingView → Saved → State

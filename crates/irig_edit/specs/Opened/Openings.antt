@@ -2,18 +2,13 @@
 use Rattle.std.specs.Prelude.{◌≡◌, ◌⊎◌, ℕ, List, Option, Some, None, Result, Ok, Err}
 use Rattle.irig_codes.specs.Format.{FormatView}
 use Rattle.irig_saved.specs.Faults.{IsFault, ReachesSteps}
-use Rattle.irig_saved.specs.Ranges.{IsSaved}
-use Rattle.irig_saved.specs.SavedText.{journal_text}
-use Rattle.irig_saved.specs.declared.saved.Saved.{Saved}
-use Rattle.irig_vcd.specs.Answer.{IsFaultOf}
-use Rattle.irig_vcd.specs.Parts.{dump_parts}
-use Rattle.irig_recording.specs.Recording.{RecordingView}
-use Rattle.irig_vcd.specs.declared.fault.VcdFault.{VcdFault}
+use Rattle.irig_saved.specs.{Ranges.IsSaved, SavedText.journal_text, declared.saved.Saved.Saved}
 use Rattle.irig_vcd.specs.declared.fault.VcdFault.TheVariants.{BadJournal, OutOfMemory}
-use Rattle.irig_edit.specs.Session.Machine.{NoMarks}
+use Rattle.irig_vcd.specs.{Answer.IsFaultOf, Parts.dump_parts, declared.fault.VcdFault.VcdFault}
+use Rattle.irig_recording.specs.Recording.{RecordingView}
 use Rattle.irig_edit.specs.Opened.Opened.{IsAccepted, IsLineAtFault, head_fault, state_of}
 use Rattle.irig_edit.specs.Session.Session.{SessionView, started}
-use Rattle.irig_edit.specs.State.State.{recording_of}
+use Rattle.irig_edit.specs.{Session.Machine.NoMarks, State.State.recording_of}
 
 -- the session of a recording in a format: its cursor is at the last pulse, no mark is set, and
 -- no step can be undone

@@ -1,8 +1,7 @@
 -- A session of what a dump says, part by part. This project's own.
 use Rattle.std.specs.Prelude.{◌≡◌, ℕ, List, Option, Some, None}
 use Rattle.irig_codes.specs.Format.{FormatView}
-use Rattle.irig_saved.specs.Faults.{IsFault}
-use Rattle.irig_saved.specs.declared.saved.Saved.{Saved}
+use Rattle.irig_saved.specs.{Faults.IsFault, declared.saved.Saved.Saved}
 use Rattle.irig_recording.specs.Recording.{RecordingView}
 use Rattle.irig_vcd.specs.declared.fault.VcdFault.{VcdFault}
 use Rattle.irig_edit.specs.Opened.Opened.{IsAccepted, IsLineAtFault, head_fault, state_of}

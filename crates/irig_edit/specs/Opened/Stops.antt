@@ -1,14 +1,12 @@
 -- Where the steps of a saved journal are no longer taken. This project's own.
 use Rattle.std.specs.Prelude.{◌≡◌, ◌<◌, ◌^◌, ◌+◌, ℕ, List, length, reverse, take}
-use Rattle.irig_saved.specs.SavedText.{steps_lines}
 use Rattle.irig_saved.specs.declared.step.Step.{Step as SavedStep}
+use Rattle.irig_saved.specs.{SavedText.steps_lines, declared.change.Change.Change}
 use Rattle.irig_journal.specs.History.{History}
-use Rattle.irig_saved.specs.declared.change.Change.{Change}
-use Rattle.irig_edit.specs.State.State.{State}
 use Rattle.irig_edit.specs.Opened.Taken.{CanTakeAll, StopsAfter, steps_of}
-use Rattle.irig_edit.specs.Opened.Walk.{walk}
 use Rattle.irig_edit.specs.declared.opened.taking.NotTaken.{NotTaken}
 use Rattle.irig_edit.specs.declared.opened.taking.NotTaken.TheVariants.{At, Memory}
+use Rattle.irig_edit.specs.{State.State.State, Opened.Walk.walk}
 
 -- this many lines are before the step that is not taken, and this many up to its end
 pub record StopsAt (s : State) (saves : List SavedStep) (before behind : ℕ) : Type 0 where

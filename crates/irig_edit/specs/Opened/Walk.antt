@@ -2,8 +2,7 @@
 use Rattle.std.specs.Prelude.{ℕ, List, [], ◌∷◌}
 use Rattle.irig_journal.specs.History.{History, Step, step}
 use Rattle.irig_saved.specs.declared.change.Change.{Change}
-use Rattle.irig_edit.specs.Changes.Delta.{turned}
-use Rattle.irig_edit.specs.State.State.{State}
+use Rattle.irig_edit.specs.{Changes.Delta.turned, State.State.State}
 
 -- a state with its cursor and its steps
 abbrev pub walk : State → ℕ → List (Step Change) → List (Step Change) → History State Change

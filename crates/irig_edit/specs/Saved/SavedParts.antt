@@ -1,18 +1,14 @@
 -- What is left of the text of a saved session while it is given in parts: docs/FORMATS.md, "The
 -- saved journal". This project's own.
 use Rattle.std.specs.Prelude.{ℕ, List, [], ◌++◌, codes, length, map, reverse}
-use Rattle.irig_journal.specs.History.{Step}
-use Rattle.irig_journal.specs.Journal.{Steps, future_of, past_of}
-use Rattle.irig_saved.specs.Lines.{text_of}
+use Rattle.irig_journal.specs.{History.Step, Journal.Steps, Journal.future_of, Journal.past_of}
 use Rattle.irig_saved.specs.SavedText.{count_text, head_lines, singles_lines, steps_lines}
+use Rattle.irig_saved.specs.{Lines.text_of, declared.change.Change.Change}
 use Rattle.irig_recording.specs.FileText.{file_text}
-use Rattle.irig_saved.specs.declared.change.Change.{Change}
 use Rattle.irig_edit.specs.Changes.Held.{delta_of, deltas_of, single_of}
-use Rattle.irig_edit.specs.Saved.Saved.{saved_step}
-use Rattle.irig_edit.specs.State.State.{State, recording_of}
-use Rattle.irig_edit.specs.declared.changes.turn.Turn.{Turn}
-use Rattle.irig_edit.specs.declared.saved.stage.Stage.{Stage}
 use Rattle.irig_edit.specs.declared.saved.stage.Stage.TheVariants.{Dump, Back, On, Over}
+use Rattle.irig_edit.specs.{Saved.Saved.saved_step, State.State.State, State.State.recording_of}
+use Rattle.irig_edit.specs.{declared.changes.turn.Turn.Turn, declared.saved.stage.Stage.Stage}
 
 -- the lines of changes
 abbrev pub changes_text : List Turn → List ℕ

@@ -1,11 +1,8 @@
 -- What a session is saved as: docs/FORMATS.md, "The saved journal". This project's own.
 use Rattle.std.specs.Prelude.{ℕ, List, ◌++◌, map, reverse}
-use Rattle.irig_saved.specs.SavedText.{journal_section}
-use Rattle.irig_saved.specs.declared.saved.Saved.{Saved}
+use Rattle.irig_saved.specs.{SavedText.journal_section, declared.saved.Saved.Saved}
 use Rattle.irig_recording.specs.FileText.{file_text}
-use Rattle.irig_edit.specs.Saved.Saved.{saved_step}
-use Rattle.irig_edit.specs.Session.Work.{Work}
-use Rattle.irig_edit.specs.State.State.{recording_of}
+use Rattle.irig_edit.specs.{Saved.Saved.saved_step, Session.Work.Work, State.State.recording_of}
 
 -- the journal of a session: its state without the pulses, and its steps, those back with the oldest
 -- first

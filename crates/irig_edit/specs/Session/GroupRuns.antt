@@ -3,13 +3,10 @@ use Rattle.std.specs.Prelude.{◌≡◌, ◌⊎◌, List, [], ◌∷◌, Ok, Non
 use Rattle.std.specs.List.{AllByRecursion}
 use Rattle.irig_journal.specs.History.{Step}
 use Rattle.irig_saved.specs.declared.change.Change.{Change}
-use Rattle.irig_edit.specs.Changes.Delta.{turned}
-use Rattle.irig_edit.specs.Session.Calls.{Call}
 use Rattle.irig_edit.specs.Session.Calls.Call.{Begin, End, Abort}
-use Rattle.irig_edit.specs.Session.Work.{Work}
-use Rattle.irig_edit.specs.Session.Machine.{Steps}
 use Rattle.irig_edit.specs.Session.Runs.{Answered, Runs, accepted_of}
-use Rattle.irig_edit.specs.State.State.{State}
+use Rattle.irig_edit.specs.{Changes.Delta.turned, Session.Calls.Call, Session.Work.Work}
+use Rattle.irig_edit.specs.{Session.Machine.Steps, State.State.State}
 
 -- a call that is accepted leaves an open group open
 abbrev pub StaysOpen : Call → Type 0

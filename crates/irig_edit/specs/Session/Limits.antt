@@ -1,14 +1,10 @@
 -- A session within its limits. This project's own.
 use Rattle.std.specs.Prelude.{◌≤◌, List, Option, Some, None, length}
-use Rattle.irig_journal.specs.declared.opening.Opening.{Opening}
-use Rattle.irig_journal.specs.History.{Step}
 use Rattle.irig_journal.specs.Joining.{beyond, changes_of}
-use Rattle.irig_journal.specs.Turns.{left_by}
+use Rattle.irig_journal.specs.{declared.opening.Opening.Opening, History.Step, Turns.left_by}
 use Rattle.irig_saved.specs.declared.change.Change.{Change}
-use Rattle.irig_edit.specs.Changes.Delta.{turned}
-use Rattle.irig_edit.specs.Opened.Taken.{CanTakeAll}
-use Rattle.irig_edit.specs.Session.Work.{Work}
 use Rattle.irig_edit.specs.State.State.{IsState, State}
+use Rattle.irig_edit.specs.{Changes.Delta.turned, Opened.Taken.CanTakeAll, Session.Work.Work}
 
 -- the steps reach down to the begin of a group, and its cursor was within the limits there
 abbrev pub IsBegin : State → List (Step Change) → Option Opening → Type 0

@@ -5,17 +5,14 @@ use Rattle.std.specs.Prelude.{◌≡◌, ℕ, List, Option, Some, None, Result, 
 use Rattle.irig_journal.specs.Groups.{Grouped, aborted, begun, ended, recorded_over, redone_over}
 use Rattle.irig_journal.specs.Groups.{undone_over}
 use Rattle.irig_journal.specs.Machine.{Kept, kept}
-use Rattle.irig_edit.specs.State.State.{State}
-use Rattle.irig_edit.specs.Session.Calls.{Call, Edit}
 use Rattle.irig_edit.specs.Session.Calls.Call.{Make, Undo, Redo, Go, Begin, End, Abort}
-use Rattle.irig_edit.specs.Changes.Delta.{Fits}
-use Rattle.irig_edit.specs.Edits.Changes.{change_by}
 use Rattle.irig_edit.specs.Edits.Edits.{IsAfter, cursor_after}
 use Rattle.irig_edit.specs.Session.Work.{Work, at_cursor, dropped_since, floored_here, gone_back}
 use Rattle.irig_edit.specs.Session.Work.{gone_on, grouped_in, joined_since, made}
-use Rattle.irig_edit.specs.Edits.Refusals.{refusal_of}
 use Rattle.irig_edit.specs.declared.session.refusal.Refusal.{Refusal}
 use Rattle.irig_edit.specs.declared.session.refusal.Refusal.TheVariants.{OutOfMemory}
+use Rattle.irig_edit.specs.{State.State.State, Session.Calls.Call, Session.Calls.Edit}
+use Rattle.irig_edit.specs.{Changes.Delta.Fits, Edits.Changes.change_by, Edits.Refusals.refusal_of}
 
 -- no mark is set
 abbrev pub NoMarks : List (Option ℕ) → Type 0

@@ -1,13 +1,10 @@
 -- Calls one after the other. This project's own.
 use Rattle.std.specs.Prelude.{◌≡◌, ℕ, List, [], ◌∷◌, Result, Ok, is_ok, replicate, if◌then◌else◌}
 use Rattle.irig_journal.specs.History.{step}
-use Rattle.irig_edit.specs.Edits.Changes.{change_by}
-use Rattle.irig_edit.specs.Session.Calls.{Call, Edit}
 use Rattle.irig_edit.specs.Session.Calls.Call.{Make, Undo, Redo}
-use Rattle.irig_edit.specs.Session.Machine.{Steps}
 use Rattle.irig_edit.specs.declared.session.refusal.Refusal.{Refusal}
-use Rattle.irig_edit.specs.Session.Limits.{IsWork}
-use Rattle.irig_edit.specs.Session.Work.{Work}
+use Rattle.irig_edit.specs.{Edits.Changes.change_by, Session.Calls.Call, Session.Calls.Edit}
+use Rattle.irig_edit.specs.{Session.Machine.Steps, Session.Limits.IsWork, Session.Work.Work}
 
 -- a call, and what it answered
 pub record Answered : Type 0 where

@@ -1,20 +1,15 @@
 -- What contracts see of a session: its state and its steps, and how many looks at pulses its last
 -- change took. This project's own.
-use Rattle.std.specs.Prelude.{◌≡◌, ◌≤◌, ℕ, ◌-◌, List, [], ◌∷◌, Option, Some, None, Result, Ok}
-use Rattle.std.specs.Prelude.{Err, length}
-use Rattle.irig_journal.specs.declared.opening.Opening.{Opening}
-use Rattle.irig_journal.specs.History.{Step}
+use Rattle.std.specs.Prelude.{◌≡◌, ◌≤◌, ℕ, ◌-◌, List, [], ◌∷◌, Option, Some, None, Result, Ok, Err}
+use Rattle.std.specs.Prelude.{length}
 use Rattle.irig_journal.specs.Joining.{beyond, changes_of}
+use Rattle.irig_journal.specs.{declared.opening.Opening.Opening, History.Step}
 use Rattle.irig_saved.specs.declared.change.Change.{Change}
-use Rattle.irig_edit.specs.Changes.Delta.{gathered}
-use Rattle.irig_edit.specs.Changes.Looks.{Within, looks_of}
-use Rattle.irig_edit.specs.Edits.Changes.{change_by}
-use Rattle.irig_edit.specs.Session.Calls.{Call}
 use Rattle.irig_edit.specs.Session.Calls.Call.{Make, Undo, Redo, Abort}
+use Rattle.irig_edit.specs.{Changes.Delta.gathered, Changes.Looks.Within, Changes.Looks.looks_of}
+use Rattle.irig_edit.specs.{Edits.Changes.change_by, Session.Calls.Call, Session.Work.Work}
+use Rattle.irig_edit.specs.{State.State.State, declared.session.refusal.Refusal.Refusal}
 use Rattle.irig_edit.specs.Session.Machine as machine
-use Rattle.irig_edit.specs.Session.Work.{Work}
-use Rattle.irig_edit.specs.State.State.{State}
-use Rattle.irig_edit.specs.declared.session.refusal.Refusal.{Refusal}
 
 -- the state and its cursor; the steps back and on; where the open group was begun; the looks at
 -- pulses so far, and those of the last accepted edit, undo, redo or abort

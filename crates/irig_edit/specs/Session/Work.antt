@@ -1,19 +1,14 @@
 -- What a session works on: its state, and the steps of its journal. And how calls move the steps.
 -- This project's own.
 use Rattle.std.specs.Prelude.{ℕ, List, [], ◌∷◌, Option, Some, None, length, option_map}
-use Rattle.irig_journal.specs.declared.opening.Opening.{Opening}
-use Rattle.irig_journal.specs.Groups.{Grouped, over}
 use Rattle.irig_journal.specs.History.{History, Step, machine, step, stepped_back, stepped_forward}
 use Rattle.irig_journal.specs.Journal.{Steps, history_of}
 use Rattle.irig_journal.specs.Joining.{beyond, changes_of, farthest, joined_beyond}
-use Rattle.irig_journal.specs.Machine.{Kept}
-use Rattle.irig_journal.specs.Openings.{floor_at}
-use Rattle.irig_journal.specs.Turns.{left_by}
+use Rattle.irig_journal.specs.{declared.opening.Opening.Opening, Groups.Grouped, Groups.over}
+use Rattle.irig_journal.specs.{Machine.Kept, Openings.floor_at, Turns.left_by}
 use Rattle.irig_saved.specs.declared.change.Change.{Change}
-use Rattle.irig_edit.specs.Changes.Delta.{gathered, turned}
-use Rattle.irig_edit.specs.Changes.Held.{delta_of}
-use Rattle.irig_edit.specs.State.State.{State}
-use Rattle.irig_edit.specs.declared.changes.turn.Turn.{Turn}
+use Rattle.irig_edit.specs.{Changes.Delta.gathered, Changes.Delta.turned, Changes.Held.delta_of}
+use Rattle.irig_edit.specs.{State.State.State, declared.changes.turn.Turn.Turn}
 
 -- a state with its cursor, the number of a pulse from 1, or 0 before the first; the steps that lead
 -- back and on from it, the nearest first; and where the open group was begun

@@ -1,7 +1,6 @@
 -- How many pulses and how many records the present state has places for. This project's own.
 use Rattle.std.specs.Prelude.{◌≡◌, ℕ, ◌≤◌, ◌+◌, length}
-use Rattle.irig_edit.specs.State.Present.{PresentView}
-use Rattle.irig_edit.specs.State.State.{State, frames_of}
+use Rattle.irig_edit.specs.{State.Present.PresentView, State.State.State, State.State.frames_of}
 
 -- this many pulses and this many records have places
 pub record Places : Type 0 where

@@ -2,12 +2,10 @@
 use Rattle.std.specs.Prelude.{◌≡◌, ◌≤◌, ℕ, IsTrue, List, Option, Some, None, length}
 use Rattle.std.specs.List.{AllByRecursion}
 use Rattle.irig_recording.specs.Recording.{RecordingView, recording_view}
-use Rattle.irig_codes.specs.Format.{FormatView, is_permitted}
 use Rattle.irig_recording.specs.declared.pulse.Pulse.{Pulse}
-use Rattle.irig_track.specs.Edges.{edges_of}
-use Rattle.irig_index.specs.declared.record.Record.{Record}
-use Rattle.irig_index.specs.Frames.{frames}
-use Rattle.irig_track.specs.Track.{IsTrack}
+use Rattle.irig_codes.specs.Format.{FormatView, is_permitted}
+use Rattle.irig_track.specs.{Edges.edges_of, Track.IsTrack}
+use Rattle.irig_index.specs.{declared.record.Record.Record, Frames.frames}
 
 -- a length in microseconds; the pulses, which are the set of edges taken two by two; a format; and
 -- the marks a to z, each unset or a time in microseconds

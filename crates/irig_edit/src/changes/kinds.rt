@@ -1,17 +1,15 @@
 //! How each kind of single change turns, of the track and of the marks alone: the change is made,
 //! and what leads back is left instead.
 
-ghost use Rattle.std.specs.Prelude.{◌≡◌, ◌≤◌, ◌<◌, ◌+◌, ◌-◌, neg_ℤ, length, get_or};
-ghost use Rattle.std.specs.Prelude.{slice_set, None, IsTrue};
+ghost use Rattle.std.specs.Prelude.{◌≡◌, ◌≤◌, ◌<◌, ◌+◌, ◌-◌, neg_ℤ, length, get_or, slice_set};
+ghost use Rattle.std.specs.Prelude.{None, IsTrue};
 ghost use Rattle.std.specs.List.{AllByRecursion};
 ghost use Rattle.irig_codes.specs.Format.{is_permitted};
 ghost use Rattle.irig_track.specs.Shifts.{CanShift, count_to, shifted};
-ghost use Rattle.irig_track.specs.Splices.{IsSpan, risen_by};
 ghost use Rattle.irig_track.specs.Toggles.{CanToggle, toggled};
-ghost use Rattle.irig_track.specs.Edges.{edges_of};
-ghost use Rattle.irig_edit.specs.State.Marks.{marks_moved};
+ghost use Rattle.irig_track.specs.{Splices.IsSpan, Splices.risen_by, Edges.edges_of};
 ghost use Rattle.irig_edit.specs.Changes.Looks.{standing_in};
-ghost use Rattle.irig_edit.specs.State.State.{IsMark};
+ghost use Rattle.irig_edit.specs.{State.Marks.marks_moved, State.State.IsMark};
 
 use crate::state::marks::move_marks;
 use irig_codes::{Format, Kind};

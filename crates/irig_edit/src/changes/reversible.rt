@@ -1,21 +1,18 @@
 //! Changes of the present state, turned in place.
 
 ghost use Rattle.std.specs.Prelude.{ℕ};
-ghost use Rattle.irig_edit.specs.Changes.Ample.{IsAmpleFor};
-ghost use Rattle.irig_saved.specs.declared.change.Change.{Change};
 ghost use Rattle.irig_edit.specs.Changes.Delta.{Fits, gathered, turned, weight_of};
-ghost use Rattle.irig_edit.specs.Changes.Held.{delta_of};
 ghost use Rattle.irig_edit.specs.Changes.Laws.Delta.{Fits-turned, IsState-turned, turned-turned};
 ghost use Rattle.irig_edit.specs.Changes.Laws.Groups.{Fits-gathered, turned-gathered};
 ghost use Rattle.irig_edit.specs.Changes.Laws.Groups.{weight_of-gathered};
-ghost use Rattle.irig_edit.specs.Changes.Laws.Parts.{delta_of-group};
-ghost use Rattle.irig_edit.specs.Changes.Laws.Looks.{looks_of-gathered};
-ghost use Rattle.irig_edit.specs.Changes.Laws.Room.{HasRoomFor-wider};
 ghost use Rattle.irig_edit.specs.Changes.Looks.{RoseWithin, looks_of};
-ghost use Rattle.irig_edit.specs.State.Present.{looks_in, state_in};
 ghost use Rattle.irig_edit.specs.State.Places.{IsWithin, Places, places_in};
-ghost use Rattle.irig_edit.specs.Changes.Room.{HasRoomFor};
-ghost use Rattle.irig_edit.specs.State.State.{State, IsState};
+ghost use Rattle.irig_edit.specs.{Changes.Laws.Looks.looks_of-gathered};
+ghost use Rattle.irig_edit.specs.{Changes.Laws.Room.HasRoomFor-wider, State.Present.looks_in};
+ghost use Rattle.irig_edit.specs.{State.Present.state_in, State.State.State, State.State.IsState};
+ghost use Rattle.irig_edit.specs.{Changes.Ample.IsAmpleFor, Changes.Held.delta_of};
+ghost use Rattle.irig_edit.specs.{Changes.Laws.Parts.delta_of-group, Changes.Room.HasRoomFor};
+ghost use Rattle.irig_saved.specs.declared.change.Change.{Change};
 
 use crate::changes::turn::Turn;
 use crate::state::present::Present;

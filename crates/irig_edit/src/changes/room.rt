@@ -1,16 +1,12 @@
 //! Whether a change of the present state can be made, and room for its turn.
 
 ghost use Rattle.std.specs.Prelude.{◌≡◌, ◌≤◌, ◌↔◌, IsTrue, OnErr, OnOk, length};
-ghost use Rattle.irig_track.specs.Shifts.{CanShift};
-ghost use Rattle.irig_track.specs.Splices.{CanSplice};
-ghost use Rattle.irig_track.specs.Toggles.{CanToggle};
+ghost use Rattle.irig_track.specs.{Shifts.CanShift, Splices.CanSplice, Toggles.CanToggle};
 ghost use Rattle.irig_edit.specs.Changes.Ample.{IsAmpleFor, PutsIn, records_for};
-ghost use Rattle.irig_edit.specs.Changes.Held.{single_of};
 ghost use Rattle.irig_edit.specs.State.Places.{IsWithin, places_in};
-ghost use Rattle.irig_edit.specs.Changes.Room.{HasRoomFor};
 ghost use Rattle.irig_edit.specs.Changes.Single.{FitsSingle};
-ghost use Rattle.irig_edit.specs.State.Marks.{AllMayMove};
-ghost use Rattle.irig_edit.specs.State.State.{IsState};
+ghost use Rattle.irig_edit.specs.{Changes.Held.single_of, Changes.Room.HasRoomFor};
+ghost use Rattle.irig_edit.specs.{State.Marks.AllMayMove, State.State.IsState};
 
 use crate::changes::kinds::permitted;
 use crate::changes::turn::Turn;

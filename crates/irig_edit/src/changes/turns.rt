@@ -2,17 +2,16 @@
 
 ghost use Rattle.std.specs.Prelude.{◌≡◌, ◌≤◌, ◌<◌, [], IsTrue, neg_ℤ, length};
 ghost use Rattle.irig_codes.specs.Format.{is_permitted};
-ghost use Rattle.irig_track.specs.Edges.{edges_of};
 ghost use Rattle.irig_track.specs.Shifts.{CanShift, count_to, shifted};
 ghost use Rattle.irig_track.specs.Splices.{CanSplice, piece, spliced};
-ghost use Rattle.irig_track.specs.Toggles.{CanToggle, toggled};
+ghost use Rattle.irig_track.specs.{Edges.edges_of, Toggles.CanToggle, Toggles.toggled};
 ghost use Rattle.irig_edit.specs.Changes.Held.{single_of};
 ghost use Rattle.irig_edit.specs.Changes.Looks.{Rose, RoseWithin, looks_by, standing_in, window};
 ghost use Rattle.irig_edit.specs.State.Marks.{AllMayMove, marks_moved};
 ghost use Rattle.irig_edit.specs.State.Places.{HoldsState, KeepsPlaces, places_in};
 ghost use Rattle.irig_edit.specs.Changes.Room.{HasRoomFor, passing};
-ghost use Rattle.irig_edit.specs.Changes.Single.{FitsSingle, IsRoomFor, IsShift, goes};
-ghost use Rattle.irig_edit.specs.Changes.Single.{pulses_of, turned_single};
+ghost use Rattle.irig_edit.specs.Changes.Single.{FitsSingle, IsRoomFor, IsShift, goes, pulses_of};
+ghost use Rattle.irig_edit.specs.Changes.Single.{turned_single};
 ghost use Rattle.irig_edit.specs.State.State.{IsState, state, with_pulses};
 
 use crate::changes::kinds::{permitted, turn_mark, turn_shift, turn_toggle};

@@ -4,14 +4,12 @@ ghost use Rattle.std.specs.Prelude.{◌≡◌, ◌+◌, ◌-◌, ◌≤◌, [], 
 ghost use Rattle.std.specs.Prelude.{length};
 ghost use Rattle.irig_track.specs.Splices.{spliced, CanSplice};
 ghost use Rattle.irig_edit.specs.Edits.Becoming.{Becomes, judgement_of};
-ghost use Rattle.irig_edit.specs.Session.Calls.Call.{Make};
-ghost use Rattle.irig_edit.specs.Session.Calls.Edit.{Force};
-ghost use Rattle.irig_edit.specs.Edits.Changes.{change_by};
-ghost use Rattle.irig_saved.specs.declared.change.Change.TheVariants.{One};
 ghost use Rattle.irig_edit.specs.Session.Session.{LooksAfter, Steps};
 ghost use Rattle.irig_edit.specs.Edits.Conditions.{meets_next};
+ghost use Rattle.irig_edit.specs.{Session.Calls.Call.Make, Session.Calls.Edit.Force};
+ghost use Rattle.irig_edit.specs.{Edits.Changes.change_by, State.State.with_pulses};
+ghost use Rattle.irig_saved.specs.declared.change.Change.TheVariants.{One};
 ghost use Rattle.irig_saved.specs.declared.single.Single.TheVariants.{Splice};
-ghost use Rattle.irig_edit.specs.State.State.{with_pulses};
 
 use super::one;
 use crate::session::refusal::Refusal;

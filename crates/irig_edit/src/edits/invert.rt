@@ -3,9 +3,8 @@
 ghost use Rattle.std.specs.Prelude.{◌≡◌, None, Some, IfErr, OnOk};
 ghost use Rattle.irig_track.specs.Toggles.{CanToggle};
 ghost use Rattle.irig_edit.specs.Edits.Becoming.{judgement_of};
-ghost use Rattle.irig_edit.specs.Session.Calls.Call.{Make};
-ghost use Rattle.irig_edit.specs.Session.Calls.Edit.{Invert};
 ghost use Rattle.irig_edit.specs.Session.Session.{LooksAfter, Steps};
+ghost use Rattle.irig_edit.specs.{Session.Calls.Call.Make, Session.Calls.Edit.Invert};
 
 use crate::session::refusal::Refusal;
 use crate::session::session::Session;

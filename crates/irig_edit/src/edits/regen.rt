@@ -6,15 +6,14 @@ ghost use Rattle.irig_codes.specs.Format.{control_count_of};
 ghost use Rattle.irig_moment.specs.Generated.{starts_in};
 ghost use Rattle.irig_track.specs.Splices.{spliced, CanSplice};
 ghost use Rattle.irig_edit.specs.Edits.Becoming.{Becomes, judgement_of};
-ghost use Rattle.irig_edit.specs.Session.Calls.Call.{Make};
 ghost use Rattle.irig_edit.specs.Session.Calls.Edit.{Regen};
 ghost use Rattle.irig_edit.specs.Edits.Conditions.{are_frames, is_met};
-ghost use Rattle.irig_edit.specs.Edits.Changes.{change_by};
-ghost use Rattle.irig_saved.specs.declared.change.Change.TheVariants.{One};
 ghost use Rattle.irig_edit.specs.Session.Session.{LooksAfter, Steps};
 ghost use Rattle.irig_edit.specs.Edits.Regenerated.{frames_end, frames_pulses, rising_before};
-ghost use Rattle.irig_saved.specs.declared.single.Single.TheVariants.{Splice};
 ghost use Rattle.irig_edit.specs.State.State.{IsState, with_pulses};
+ghost use Rattle.irig_edit.specs.{Session.Calls.Call.Make, Edits.Changes.change_by};
+ghost use Rattle.irig_saved.specs.declared.change.Change.TheVariants.{One};
+ghost use Rattle.irig_saved.specs.declared.single.Single.TheVariants.{Splice};
 
 use crate::edits::frames::{pulses_of, span};
 use crate::session::refusal::Refusal;

@@ -3,13 +3,11 @@
 ghost use Rattle.std.specs.Prelude.{◌≡◌, ◌-◌, ◌≤◌, None, Some, IfOk, IfErr, OnOk, length};
 ghost use Rattle.irig_track.specs.Shifts.{CanShift};
 ghost use Rattle.irig_edit.specs.Edits.Becoming.{Becomes, judgement_of};
-ghost use Rattle.irig_edit.specs.Session.Calls.Call.{Make};
-ghost use Rattle.irig_edit.specs.Session.Calls.Edit.{Shift};
-ghost use Rattle.irig_edit.specs.Edits.Conditions.{leaves};
 ghost use Rattle.irig_edit.specs.Changes.Delta.{Fits, turned};
-ghost use Rattle.irig_saved.specs.declared.change.Change.TheVariants.{One};
-ghost use Rattle.irig_edit.specs.Edits.Changes.{change_by};
 ghost use Rattle.irig_edit.specs.Session.Session.{LooksAfter, Steps};
+ghost use Rattle.irig_edit.specs.{Session.Calls.Call.Make, Session.Calls.Edit.Shift};
+ghost use Rattle.irig_edit.specs.{Edits.Conditions.leaves, Edits.Changes.change_by};
+ghost use Rattle.irig_saved.specs.declared.change.Change.TheVariants.{One};
 
 use crate::session::refusal::Refusal;
 use crate::session::session::Session;

@@ -1,14 +1,12 @@
 //! What a saved journal says above its steps: format, cursor and marks.
 
-ghost use Rattle.std.specs.Prelude.{◌≡◌, ◌+◌, ◌≤◌, Err, IfOk, IfErr, MatchResult, None};
-ghost use Rattle.std.specs.Prelude.{Some, [], length};
+ghost use Rattle.std.specs.Prelude.{◌≡◌, ◌+◌, ◌≤◌, Err, IfOk, IfErr, MatchResult, None, Some, []};
+ghost use Rattle.std.specs.Prelude.{length};
 ghost use Rattle.irig_saved.specs.SavedText.{mark_lines};
 ghost use Rattle.irig_vcd.specs.declared.fault.VcdFault.TheVariants.{OutOfMemory};
 ghost use Rattle.irig_edit.specs.Changes.Single.{pulses_of};
 ghost use Rattle.irig_edit.specs.Opened.Opened.{head_fault, mark_beyond, state_of};
-ghost use Rattle.irig_edit.specs.Opened.Openings.{IsBad};
-ghost use Rattle.irig_edit.specs.State.State.{state};
-ghost use Rattle.irig_edit.specs.Opened.Walk.{walk};
+ghost use Rattle.irig_edit.specs.{Opened.Openings.IsBad, State.State.state, Opened.Walk.walk};
 
 use crate::opened::walk::Walk;
 use crate::state::present::Present;

@@ -1,21 +1,15 @@
 //! A session is opened from a dump, with the journal that it carries.
 
-ghost use Rattle.std.specs.Prelude.{◌≡◌, ◌≤◌, ◌^◌, ◌⊎◌, ℕ, List, Option, Ok, Err, IfOk, IfErr, IfSome};
-ghost use Rattle.std.specs.Prelude.{None, length};
-ghost use Rattle.irig_saved.specs.Faults.{IsFault, ReachesSteps};
-ghost use Rattle.irig_saved.specs.SavedText.{saved_lines};
-ghost use Rattle.irig_vcd.specs.Answer.{bytes_of, name_of};
-ghost use Rattle.irig_vcd.specs.Declarations.{declarations_of};
-ghost use Rattle.irig_vcd.specs.Dump.{changes_before};
-ghost use Rattle.irig_vcd.specs.Level.{HasEdge};
-ghost use Rattle.irig_vcd.specs.Parts.{dump_parts};
-ghost use Rattle.irig_vcd.specs.Words.{words_of};
-ghost use Rattle.irig_vcd.specs.declared.fault.VcdFault.{VcdFault};
+ghost use Rattle.std.specs.Prelude.{◌≡◌, ◌≤◌, ◌^◌, ◌⊎◌, ℕ, List, Option, Ok, Err, IfOk, IfErr};
+ghost use Rattle.std.specs.Prelude.{IfSome, None, length};
+ghost use Rattle.irig_saved.specs.{Faults.IsFault, Faults.ReachesSteps, SavedText.saved_lines};
 ghost use Rattle.irig_vcd.specs.declared.fault.VcdFault.TheVariants.{OutOfMemory};
+ghost use Rattle.irig_vcd.specs.{Answer.bytes_of, Answer.name_of, Declarations.declarations_of};
+ghost use Rattle.irig_vcd.specs.{Dump.changes_before, Level.HasEdge, Parts.dump_parts};
+ghost use Rattle.irig_vcd.specs.{Words.words_of, declared.fault.VcdFault.VcdFault};
 ghost use Rattle.irig_edit.specs.Opened.Opened.{IsAccepted, IsLineAtFault, head_fault, state_of};
 ghost use Rattle.irig_edit.specs.Opened.Openings.{ArePartsOf, IsBad, IsOpened, IsTextOf};
-ghost use Rattle.irig_edit.specs.Opened.Openings.{IsUnopened};
-ghost use Rattle.irig_edit.specs.Opened.Openings.{MayBeShort};
+ghost use Rattle.irig_edit.specs.Opened.Openings.{IsUnopened, MayBeShort};
 ghost use Rattle.irig_edit.specs.Opened.Parts.{HasBadText, HasHead, HasNoSession, IsJournalOf};
 ghost use Rattle.irig_edit.specs.Opened.Parts.{IsSessionOf};
 

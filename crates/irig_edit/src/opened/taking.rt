@@ -2,20 +2,18 @@
 
 ghost use Rattle.std.specs.Prelude.{◌≡◌, ◌+◌, ◌≤◌, ◌<◌, ◌^◌, List, [], IfErr, IfOk, None};
 ghost use Rattle.std.specs.Prelude.{MatchBool, MatchResult, OnOk, length, reverse};
-ghost use Rattle.irig_journal.specs.History.{History, Step};
-ghost use Rattle.irig_journal.specs.Turns.{FitAll};
+ghost use Rattle.irig_journal.specs.{History.History, History.Step, Turns.FitAll};
 ghost use Rattle.irig_saved.specs.SavedText.{mark_lines, saved_lines, steps_lines};
 ghost use Rattle.irig_saved.specs.declared.change.Change.{Change};
-ghost use Rattle.irig_edit.specs.Changes.Delta.{Fits};
 ghost use Rattle.irig_saved.specs.declared.change.Change.TheVariants.{One, Group};
 ghost use Rattle.irig_edit.specs.Changes.Single.{FitsSingle, turned_single};
 ghost use Rattle.irig_edit.specs.Opened.Opened.{IsAccepted, IsLineAtFault, IsStepAtFault};
 ghost use Rattle.irig_edit.specs.Opened.Opened.{head_fault};
-ghost use Rattle.irig_edit.specs.Opened.Openings.{IsBad};
 ghost use Rattle.irig_edit.specs.State.State.{IsState, State};
 ghost use Rattle.irig_edit.specs.Opened.Stops.{HasTaken, IsNotTaken};
 ghost use Rattle.irig_edit.specs.Opened.Taken.{CanTake, CanTakeAll, step_of, steps_of};
 ghost use Rattle.irig_edit.specs.Opened.Walk.{ahead_of, changed, gone_along, gone_on, walk};
+ghost use Rattle.irig_edit.specs.{Changes.Delta.Fits, Opened.Openings.IsBad};
 
 use crate::opened::walk::Walk;
 use crate::session::session::Session;

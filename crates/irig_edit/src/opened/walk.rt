@@ -1,17 +1,13 @@
 //! A state on its way along steps.
 
-ghost use Rattle.std.specs.Prelude.{◌≡◌, ◌≢◌, ◌≤◌, ◌∷◌, Some, None, OnOk, []};
-ghost use Rattle.std.specs.Prelude.{drop, length, take};
+ghost use Rattle.std.specs.Prelude.{◌≡◌, ◌≢◌, ◌≤◌, ◌∷◌, Some, None, OnOk, [], drop, length, take};
 ghost use Rattle.irig_journal.specs.History.{step, stepped_back, turned_round};
 ghost use Rattle.irig_journal.specs.Joining.{changes_of};
 ghost use Rattle.irig_edit.specs.Changes.Delta.{gathered, turned};
+ghost use Rattle.irig_edit.specs.{Changes.Single.FitsSingle, Session.Work.work_over};
+ghost use Rattle.irig_edit.specs.{Session.Session.session_view, State.State.IsState};
+ghost use Rattle.irig_edit.specs.{Opened.Taken.CanTakeAll, Opened.Walk.changed, Opened.Walk.walk};
 ghost use Rattle.irig_saved.specs.declared.change.Change.TheVariants.{One};
-ghost use Rattle.irig_edit.specs.Changes.Single.{FitsSingle};
-ghost use Rattle.irig_edit.specs.Session.Work.{work_over};
-ghost use Rattle.irig_edit.specs.Session.Session.{session_view};
-ghost use Rattle.irig_edit.specs.State.State.{IsState};
-ghost use Rattle.irig_edit.specs.Opened.Taken.{CanTakeAll};
-ghost use Rattle.irig_edit.specs.Opened.Walk.{changed, walk};
 
 use crate::changes::turn::Turn;
 use crate::session::session::Session;
@@ -34,12 +30,10 @@ pub(crate) struct Walk {
 
 impl Model for Walk {
     ghost use Rattle.std.specs.Prelude.{◌≡◌, None};
-    ghost use Rattle.irig_journal.specs.History.{History};
-    ghost use Rattle.irig_journal.specs.Journal.{history_of};
+    ghost use Rattle.irig_journal.specs.{History.History, Journal.history_of};
     ghost use Rattle.irig_saved.specs.declared.change.Change.{Change};
-    ghost use Rattle.irig_edit.specs.Changes.Held.{delta_of};
     ghost use Rattle.irig_edit.specs.Changes.Ready.{StepsAreReady};
-    ghost use Rattle.irig_edit.specs.State.State.{State};
+    ghost use Rattle.irig_edit.specs.{Changes.Held.delta_of, State.State.State};
 
     ghost Value = { History State Change };
 

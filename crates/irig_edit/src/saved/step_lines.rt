@@ -1,14 +1,11 @@
 //! The lines of the steps on one side of the present, in parts.
 
-ghost use Rattle.std.specs.Prelude.{◌≡◌, ◌≤◌, ◌<◌, ◌++◌, [], IfOk, OnOk, false, length};
-ghost use Rattle.std.specs.Prelude.{true, vec_len};
-ghost use Rattle.irig_journal.specs.Held.{held_of};
-ghost use Rattle.irig_journal.specs.History.{step};
-ghost use Rattle.irig_saved.specs.Lines.{text_of};
-ghost use Rattle.irig_saved.specs.SavedText.{step_lines};
+ghost use Rattle.std.specs.Prelude.{◌≡◌, ◌≤◌, ◌<◌, ◌++◌, [], IfOk, OnOk, false, length, true};
+ghost use Rattle.std.specs.Prelude.{vec_len};
+ghost use Rattle.irig_journal.specs.{Held.held_of, History.step};
+ghost use Rattle.irig_saved.specs.{Lines.text_of, SavedText.step_lines};
 ghost use Rattle.irig_edit.specs.Changes.Held.{delta_of, deltas_of};
-ghost use Rattle.irig_edit.specs.Saved.Saved.{saved_step};
-ghost use Rattle.irig_edit.specs.Saved.SavedParts.{steps_text};
+ghost use Rattle.irig_edit.specs.{Saved.Saved.saved_step, Saved.SavedParts.steps_text};
 
 use crate::changes::turn::Turn;
 use crate::saved::change_lines::ChangeLines;
@@ -26,8 +23,7 @@ pub(crate) struct StepLines<'s> {
 
 impl<'s> Model for StepLines<'s> {
     ghost use Rattle.std.specs.Prelude.{◌++◌, List, ℕ};
-    ghost use Rattle.irig_edit.specs.Changes.Held.{deltas_of};
-    ghost use Rattle.irig_edit.specs.Saved.SavedParts.{steps_text};
+    ghost use Rattle.irig_edit.specs.{Changes.Held.deltas_of, Saved.SavedParts.steps_text};
 
     ghost Value = { List ℕ };
 

@@ -1,7 +1,7 @@
 //! The text of a saved session, in parts.
 
-ghost use Rattle.std.specs.Prelude.{◌≡◌, ◌≤◌, ◌++◌, ℕ, List, [], IfOk, OnOk, false, reverse};
-ghost use Rattle.std.specs.Prelude.{true, vec_len};
+ghost use Rattle.std.specs.Prelude.{◌≡◌, ◌≤◌, ◌++◌, ℕ, List, [], IfOk, OnOk, false, reverse, true};
+ghost use Rattle.std.specs.Prelude.{vec_len};
 ghost use Rattle.irig_edit.specs.Saved.SavedParts.{middle_text, opening_text, parts_left};
 ghost use Rattle.irig_edit.specs.Saved.SavedParts.{parts_text};
 ghost use Rattle.irig_edit.specs.Saved.Stages.{next_stage, stage_left, text_after};

@@ -2,19 +2,16 @@
 
 ghost use Rattle.std.specs.Prelude.{◌≡◌, ◌≤◌, ◌<◌, ◌-◌, length, IfOk, OnOk, OnErr, IsErrOf, None};
 ghost use Rattle.std.specs.Prelude.{Ok};
-ghost use Rattle.irig_journal.specs.Groups.{recorded_over};
-ghost use Rattle.irig_journal.specs.Machine.{kept};
+ghost use Rattle.irig_journal.specs.{Groups.recorded_over, Machine.kept};
 ghost use Rattle.irig_edit.specs.State.State.{recording_of, with_pulses};
-ghost use Rattle.irig_edit.specs.Session.Machine.{NoMarks};
 ghost use Rattle.irig_edit.specs.Session.Session.{LooksAfter, Steps, started, work_in};
 ghost use Rattle.irig_edit.specs.Session.Work.{grouped_in, made};
-ghost use Rattle.irig_edit.specs.Edits.Changes.{change_by};
 ghost use Rattle.irig_edit.specs.Edits.Becoming.{Becomes, judgement_of};
-ghost use Rattle.irig_edit.specs.Session.Calls.{Edit};
-ghost use Rattle.irig_edit.specs.Changes.Delta.{Fits, turned};
-ghost use Rattle.irig_saved.specs.declared.change.Change.TheVariants.{One};
 ghost use Rattle.irig_edit.specs.Session.Calls.Call.{Make, Undo, Redo, Go};
 ghost use Rattle.irig_edit.specs.Session.Calls.Edit.{SetFormat, SetMark};
+ghost use Rattle.irig_edit.specs.{Session.Machine.NoMarks, Edits.Changes.change_by};
+ghost use Rattle.irig_edit.specs.{Session.Calls.Edit, Changes.Delta.Fits, Changes.Delta.turned};
+ghost use Rattle.irig_saved.specs.declared.change.Change.TheVariants.{One};
 ghost use Rattle.irig_saved.specs.declared.single.Single.TheVariants.{Splice as Spliced};
 ghost use Rattle.irig_track.specs.Splices.{spliced, CanSplice};
 
@@ -44,9 +41,8 @@ pub struct Session {
 
 impl Model for Session {
     ghost use Rattle.irig_edit.specs.Session.Session.{SessionView, session_view};
-    ghost use Rattle.irig_edit.specs.Session.Limits.{IsWork};
-    ghost use Rattle.irig_edit.specs.Session.Work.{work_at};
     ghost use Rattle.irig_edit.specs.Changes.Ready.{StepsAreReady};
+    ghost use Rattle.irig_edit.specs.{Session.Limits.IsWork, Session.Work.work_at};
 
     ghost Value = { SessionView };
 

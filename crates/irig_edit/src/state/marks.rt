@@ -3,8 +3,7 @@
 ghost use Rattle.std.specs.Prelude.{◌≡◌, ◌≤◌, ◌^◌, ◌↔◌, IsTrue, map};
 ghost use Rattle.std.specs.List.{AllByRecursion};
 ghost use Rattle.irig_edit.specs.State.Marks.{AllMayMove, MayMove, marks_moved, moved_if};
-ghost use Rattle.irig_edit.specs.State.Marks.{moved_time};
-ghost use Rattle.irig_edit.specs.State.Marks.{stands};
+ghost use Rattle.irig_edit.specs.State.Marks.{moved_time, stands};
 ghost use Rattle.irig_edit.specs.State.State.{IsMark};
 
 use irig_saved::{Letters, Marks};

@@ -3,11 +3,9 @@
 ghost use Rattle.std.specs.Prelude.{◌≡◌, ◌<◌, ◌≤◌, ◌+◌, ◌-◌, ◌*◌, ◌^◌, length, map, ◌↔◌, IsTrue};
 ghost use Rattle.std.specs.Prelude.{IfOk, Some, slice_get};
 ghost use Rattle.irig_track.specs.Splices.{risen_by};
-ghost use Rattle.irig_edit.specs.Edits.Conditions.{is_touched};
-ghost use Rattle.irig_edit.specs.State.Marks.{stands};
-ghost use Rattle.irig_edit.specs.Edits.Edits.{pulse_of};
-ghost use Rattle.irig_edit.specs.Session.Machine.{NoMarks};
 ghost use Rattle.irig_edit.specs.State.State.{IsMark, IsState, frames_of, recording_of};
+ghost use Rattle.irig_edit.specs.{Edits.Conditions.is_touched, State.Marks.stands};
+ghost use Rattle.irig_edit.specs.{Edits.Edits.pulse_of, Session.Machine.NoMarks};
 
 use crate::state::marks::letters_from;
 use irig_codes::Format;

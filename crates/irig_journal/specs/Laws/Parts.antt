@@ -1,8 +1,7 @@
 -- What holds of changes that are made of parts. This project's own.
 use Rattle.std.proofs.Common.{◌≡◌, ◌++◌, ◌∷◌, [], List, reverse, refl, ap, ap₂, sym, subst, ◌∙◌}
 use Rattle.std.specs.Prelude.{flat_map}
-use Rattle.std.proofs.lemmas.List.{append-nil, reverse-append}
-use Rattle.std.proofs.lemmas.List.Concat.{flat_map-append}
+use Rattle.std.proofs.lemmas.{List.append-nil, List.reverse-append, List.Concat.flat_map-append}
 use Rattle.irig_journal.specs.Turns.{FitAll, left_by, backs, ways_back}
 use Rattle.irig_journal.specs.Laws.Turns.{FitAll-append, backs-append, left_by-append}
 use Rattle.irig_journal.specs.Laws.Turns.{ways_back-cons}

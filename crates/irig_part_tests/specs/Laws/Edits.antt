@@ -1,9 +1,9 @@
 -- What an edit of a stack leaves is its inverse. This project's own.
 use Rattle.std.proofs.Common.{◌≡◌, ℕ, List, ap, ap₂}
 use Rattle.irig_journal.specs.Held.{Alone, Group, Parts}
+use Rattle.irig_journal.specs.Laws.Backs.{LeadsBack, lead_all_back, ways_back-ways_back}
 use Rattle.irig_part_tests.specs.declared.stack.Single.{Single}
 use Rattle.irig_part_tests.specs.Stack.{CanMake, made, CanEdit, edited}
-use Rattle.irig_journal.specs.Laws.Backs.{LeadsBack, lead_all_back, ways_back-ways_back}
 use Rattle.irig_part_tests.specs.Laws.Stack.{CanMake-made, made-made}
 
 -- any list of bytes is a stack

@@ -1,19 +1,16 @@
 -- A group of edits of a stack does what the edits do, one after another. This project's own.
-use Rattle.std.proofs.Common.{◌≡◌, ◌-◌, ◌^◌, ◌∷◌, [], ℕ, List, map, min, refl, ap, ap₂}
-use Rattle.std.proofs.Common.{sym, arith, length-append}
+use Rattle.std.proofs.Common.{◌≡◌, ◌-◌, ◌^◌, ◌∷◌, [], ℕ, List, map, min, refl, ap, ap₂, sym, arith}
+use Rattle.std.proofs.Common.{length-append}
 use Rattle.std.specs.Prelude.{flat_map}
 use Rattle.std.specs.List.{sum_by}
-use Rattle.std.proofs.lemmas.List.{map-id}
-use Rattle.std.proofs.lemmas.List.Sums.{sum_by-append, sum_by-cons}
+use Rattle.std.proofs.lemmas.{List.map-id, List.Sums.sum_by-append, List.Sums.sum_by-cons}
 use Rattle.irig_journal.specs.Held.{Alone, Group, Parts, parts_in}
-use Rattle.irig_part_tests.specs.declared.stack.Single.{Single}
+use Rattle.irig_journal.specs.Turns.{CountsAll, FitAll, left_by, ways_back}
+use Rattle.irig_journal.specs.Laws.Parts.{IsOfParts, fit_of_parts, state_of_parts, ways_of_parts}
 use Rattle.irig_part_tests.specs.declared.stack.Single.TheVariants.{Push, Pop}
 use Rattle.irig_part_tests.specs.Stack.{CanMake, made, CanEdit, edited, bytes_held, bytes_in}
-use Rattle.irig_part_tests.specs.Stack.{grouped}
-use Rattle.irig_part_tests.specs.Stack.{Counts}
-use Rattle.irig_journal.specs.Turns.{CountsAll, FitAll, left_by, ways_back}
-use Rattle.irig_part_tests.specs.Laws.Edits.{pair_with_group}
-use Rattle.irig_journal.specs.Laws.Parts.{IsOfParts, fit_of_parts, state_of_parts, ways_of_parts}
+use Rattle.irig_part_tests.specs.Stack.{grouped, Counts}
+use Rattle.irig_part_tests.specs.{declared.stack.Single.Single, Laws.Edits.pair_with_group}
 
 -- an edit is its pushes and pops, made one after another
 edit_fit : (xs : List ℕ) (d : Parts Single) → CanEdit xs d → FitAll CanMake made xs (parts_in d)

@@ -2,7 +2,8 @@
 
 ghost use Rattle.std.specs.Prelude.{◌≤◌, ◌^◌, length};
 
-use irig_recording::Recording;
+use irig_gap::Gap;
+use irig_recording::{Pulse, Recording};
 use irig_vcd::{DumpReader, VcdFault, read_parts};
 use std::alloc::Global;
 
@@ -57,7 +58,20 @@ fn is_same(whole: &Whole<'_>, parts: &Parts) -> bool {
 
 /// Whether two recordings have one length and the same pulses.
 fn are_one(one: &Recording, other: &Recording) -> bool {
-    one.length() == other.length() && one.pulses() == other.pulses()
+    one.length() == other.length() && are_same(one.pulses(), other.pulses())
+}
+
+/// Whether two lists have the same pulses.
+fn are_same(one: &Gap<Pulse>, other: &Gap<Pulse>) -> bool {
+    if one.len() != other.len() {
+        return false;
+    }
+    for index in 0..one.len() {
+        if one.get(index) != other.get(index) {
+            return false;
+        }
+    }
+    true
 }
 
 /// The bytes of a vector, if there is one.

@@ -21,7 +21,7 @@ static EDGES: [Row; 6] = [
 fn gives(recording: Recording, length: u64, edges: &[u64]) -> bool {
     recording.length() == length
         && have_edges(recording.pulses(), edges)
-        && have_edges(recording.into_pulses().as_slice(), edges)
+        && have_edges(&recording.into_pulses(), edges)
 }
 
 /// Whether edges make a recording that gives them, or none, as their row says.

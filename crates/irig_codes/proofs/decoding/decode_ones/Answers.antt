@@ -1,8 +1,6 @@
 use Rattle.std.proofs.Common.{ℕ, List, ◌≤◌, get_or, sym, ap, subst, ◌∙◌}
 use Rattle.irig_codes.specs.OnesDigits.{digits_in}
-use Rattle.irig_codes.proofs.OnesLemmas.{digits-gathered}
-use Rattle.irig_codes.proofs.DigitBounds.{digits-small}
-use Rattle.irig_codes.proofs.RoundTrip.{decoded-parts}
+use Rattle.irig_codes.proofs.{OnesLemmas.digits-gathered, DigitBounds.digits-small, RoundTrip.decoded-parts}
 use Rattle.irig_codes.proofs.decoding.decode_ones.Goals as goal
 
 pub fields_from-fields-requires : goal.fields_from-fields-requires

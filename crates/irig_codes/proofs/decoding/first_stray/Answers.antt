@@ -1,7 +1,5 @@
 use Rattle.std.proofs.Common.{ℕ, sym, subst}
-use Rattle.irig_codes.specs.Ones.{IsLowestOutside}
-use Rattle.irig_codes.specs.Used.{used_of}
-use Rattle.irig_codes.specs.Slots.{slots_at}
+use Rattle.irig_codes.specs.{Ones.IsLowestOutside, Used.used_of, Slots.slots_at}
 use Rattle.irig_codes.proofs.Strays.{stray-gathered}
 use Rattle.irig_codes.proofs.decoding.first_stray.Goals as goal
 

@@ -1,12 +1,8 @@
 use Rattle.std.proofs.Common.{◌≡◌, ◌+◌, ◌*◌, ◌++◌, List, get_or, map, take, sym, ap, subst, ◌∙◌, arith, drop-set-lt}
 use Rattle.std.specs.List.{range_with_len}
 use Rattle.std.proofs.lemmas.List.{length-set}
-use Rattle.irig_codes.specs.Digits.{element_of}
-use Rattle.irig_codes.specs.Slots.{IsNarrow, slot_at}
-use Rattle.irig_codes.specs.declared.layout.Slot.{Slot}
-use Rattle.irig_codes.specs.declared.layout.Slot.TheVariants.{Identifier}
-use Rattle.irig_codes.proofs.EncodeSteps.{put-more, slot-of-part}
-use Rattle.irig_codes.proofs.Slots.{narrow-at}
+use Rattle.irig_codes.specs.{Digits.element_of, Slots.IsNarrow, Slots.slot_at, declared.layout.Slot.Slot, declared.layout.Slot.TheVariants.Identifier}
+use Rattle.irig_codes.proofs.{EncodeSteps.put-more, EncodeSteps.slot-of-part, Slots.narrow-at}
 use Rattle.irig_codes.proofs.encoding.put_part.Goals as goal
 
 pub element_of-requires : goal.element_of-requires

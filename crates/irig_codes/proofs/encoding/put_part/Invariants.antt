@@ -1,7 +1,6 @@
 use Rattle.std.proofs.Common.{◌≡◌, ◌+◌, ◌*◌, ◌++◌, drop, length, map, take}
 use Rattle.std.specs.List.{range_with_len}
-use Rattle.irig_codes.specs.Digits.{element_of}
-use Rattle.irig_codes.specs.Slots.{slot_at}
+use Rattle.irig_codes.specs.{Digits.element_of, Slots.slot_at}
 use Rattle.irig_codes.proofs.encoding.put_part.Given as goal
 
 abbrev pub invariant-loop-place : goal.invariant-loop-place

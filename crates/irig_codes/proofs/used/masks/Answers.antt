@@ -1,7 +1,6 @@
 use Rattle.std.proofs.Common.{refl}
-use Rattle.irig_codes.specs.Slots.{slots_of}
-use Rattle.irig_codes.specs.Used.{masks_of}
 use Rattle.irig_codes.specs.declared.format.Kind.TheVariants.{A, B, E, G}
+use Rattle.irig_codes.specs.{Slots.slots_of, Used.masks_of}
 use Rattle.irig_codes.proofs.Masks.{masks-are}
 use Rattle.irig_codes.proofs.used.masks.Goals as goal
 

@@ -1,7 +1,5 @@
 use Rattle.std.proofs.Common.{subst}
-use Rattle.irig_edit.specs.Opened.GoingOn.{GoesOn, IsAlwaysOpened, IsShort}
-use Rattle.irig_edit.specs.Session.Session.{SessionView}
-use Rattle.irig_edit.specs.Session.Work.{work_at}
+use Rattle.irig_edit.specs.{Opened.GoingOn.GoesOn, Opened.GoingOn.IsAlwaysOpened, Opened.GoingOn.IsShort, Session.Session.SessionView, Session.Work.work_at}
 use Rattle.irig_edit.proofs.OpenedLemmas.GoingOn.{always_opened, goes_on}
 use Rattle.irig_edit.proofs.law.saved_goes_on.Goals as goal
 

@@ -2,14 +2,12 @@
 use Rattle.std.proofs.Common.{◌≡◌, List, ap, ap₂}
 use Rattle.irig_journal.specs.Laws.Backs.{LeadsBack, lead_all_back, ways_back-ways_back}
 use Rattle.irig_journal.specs.Laws.Turns.{keeps_all}
-use Rattle.irig_saved.specs.declared.change.Change.{Change}
-use Rattle.irig_edit.specs.Changes.Delta.{Fits, turned}
 use Rattle.irig_saved.specs.declared.change.Change.TheVariants.{One, Group}
-use Rattle.irig_saved.specs.declared.single.Single.{Single}
-use Rattle.irig_edit.specs.Changes.Single.{FitsSingle, turned_single}
+use Rattle.irig_saved.specs.{declared.change.Change.Change, declared.single.Single.Single}
 use Rattle.irig_edit.specs.Changes.Laws.Single.{FitsSingle-turned, turned_single-turned}
-use Rattle.irig_edit.specs.Changes.Laws.State.{IsState-turned_single}
-use Rattle.irig_edit.specs.State.State.{State, IsState}
+use Rattle.irig_edit.specs.{Changes.Delta.Fits, Changes.Delta.turned, Changes.Single.FitsSingle}
+use Rattle.irig_edit.specs.{Changes.Single.turned_single, Changes.Laws.State.IsState-turned_single}
+use Rattle.irig_edit.specs.{State.State.State, State.State.IsState}
 
 -- each single change leads back
 singles_lead_back : LeadsBack IsState FitsSingle turned_single

@@ -1,10 +1,8 @@
 -- Pulses and their edges determine each other. This project's own.
 use Rattle.std.proofs.Common.{◌≡◌, ℕ, true, false, List, [], ◌∷◌, refl, ap, sym, ◌∙◌}
 use Rattle.std.proofs.Math.Bool.{not-not}
-use Rattle.irig_recording.specs.Recording.{is_even_long}
-use Rattle.irig_recording.specs.declared.pulse.Pulse.{Pulse}
-use Rattle.irig_track.specs.Edges.{edges_of}
-use Rattle.irig_track.specs.Toggles.{CanToggle, toggled}
+use Rattle.irig_recording.specs.{Recording.is_even_long, declared.pulse.Pulse.Pulse}
+use Rattle.irig_track.specs.{Edges.edges_of, Toggles.CanToggle, Toggles.toggled}
 use Rattle.irig_edit.specs.Changes.Single.{pulses_of}
 
 -- pulses are determined by their edges

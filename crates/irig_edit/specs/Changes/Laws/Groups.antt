@@ -6,11 +6,10 @@ use Rattle.std.proofs.lemmas.List.Sums.{sum_by-append, sum_by-cons}
 use Rattle.irig_journal.specs.Turns.{FitAll, left_by, ways_back}
 use Rattle.irig_journal.specs.Laws.Parts.{IsOfParts, fit_of_parts, state_of_parts, ways_of_parts}
 use Rattle.irig_saved.specs.declared.change.Change.{Change}
-use Rattle.irig_edit.specs.Changes.Delta.{Fits, turned, gathered, singles_of, weight_of}
 use Rattle.irig_saved.specs.declared.change.Change.TheVariants.{One, Group}
+use Rattle.irig_edit.specs.Changes.Delta.{Fits, turned, gathered, singles_of, weight_of}
 use Rattle.irig_edit.specs.Changes.Single.{FitsSingle, turned_single, held_in}
-use Rattle.irig_edit.specs.Changes.Laws.Delta.{with_together}
-use Rattle.irig_edit.specs.State.State.{State}
+use Rattle.irig_edit.specs.{Changes.Laws.Delta.with_together, State.State.State}
 
 -- a change is its singles, made one after another
 fit_singles : (s : State) (d : Change) → Fits s d

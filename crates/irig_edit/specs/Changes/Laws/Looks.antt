@@ -1,16 +1,14 @@
 -- A group takes the looks that its changes take, one after another. This project's own.
-use Rattle.std.proofs.Common.{◌≡◌, ◌++◌, [], ◌∷◌, ℕ, List, Option, Some, None, refl, ap, ap₂}
-use Rattle.std.proofs.Common.{sym, subst, ◌∙◌, arith}
+use Rattle.std.proofs.Common.{◌≡◌, ◌++◌, [], ◌∷◌, ℕ, List, Option, Some, None, refl, ap, ap₂, sym}
+use Rattle.std.proofs.Common.{subst, ◌∙◌, arith}
 use Rattle.std.specs.Prelude.{flat_map}
 use Rattle.irig_journal.specs.Turns.{CountsAll, left_by}
-use Rattle.irig_saved.specs.declared.change.Change.{Change}
-use Rattle.irig_edit.specs.Changes.Delta.{gathered, singles_of, turned}
 use Rattle.irig_saved.specs.declared.change.Change.TheVariants.{One, Group}
+use Rattle.irig_saved.specs.{declared.change.Change.Change, declared.single.Single.Single}
+use Rattle.irig_edit.specs.Changes.Delta.{gathered, singles_of, turned}
 use Rattle.irig_edit.specs.Changes.Looks.{RoseWithin, both, looks_along, looks_by, looks_of}
 use Rattle.irig_edit.specs.Changes.Laws.Groups.{singles_state}
-use Rattle.irig_saved.specs.declared.single.Single.{Single}
-use Rattle.irig_edit.specs.Changes.Single.{turned_single}
-use Rattle.irig_edit.specs.State.State.{State}
+use Rattle.irig_edit.specs.{Changes.Single.turned_single, State.State.State}
 
 -- bounds are added in any order of the sums
 both-both : (a b c : Option ℕ) → both a (both b c) ≡ both (both a b) c

@@ -2,13 +2,11 @@
 use Rattle.std.proofs.Common.{◌≡◌, ◌++◌, [], ◌∷◌, List, map, refl, ap, ap₂, ◌∙◌}
 use Rattle.std.specs.Prelude.{flat_map}
 use Rattle.std.proofs.lemmas.List.{map-append}
-use Rattle.irig_journal.specs.Held.{Parts, parts_in}
-use Rattle.irig_journal.specs.Held.Parts.{Alone, Group}
-use Rattle.irig_edit.specs.Changes.Delta.{gathered, singles_of}
+use Rattle.irig_journal.specs.{Held.Parts, Held.parts_in, Held.Parts.Alone, Held.Parts.Group}
+use Rattle.irig_edit.specs.{Changes.Delta.gathered, Changes.Delta.singles_of, Changes.Held.delta_of}
+use Rattle.irig_edit.specs.{Changes.Held.single_of, declared.changes.turn.Turn.Turn}
 use Rattle.irig_saved.specs.declared.change.Change.TheVariants as change
-use Rattle.irig_edit.specs.Changes.Held.{delta_of, single_of}
 use Rattle.irig_saved.specs.declared.single.Single as saved
-use Rattle.irig_edit.specs.declared.changes.turn.Turn.{Turn}
 
 -- the single changes of a step
 pub singles_of-delta_of : (p : Parts Turn) → map single_of (parts_in p) ≡ singles_of (delta_of p)

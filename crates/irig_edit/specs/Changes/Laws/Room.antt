@@ -1,11 +1,9 @@
 -- Room in some places is room in those places and more. This project's own.
 use Rattle.std.proofs.Common.{ℕ, arith}
-use Rattle.irig_edit.specs.Changes.Held.{single_of}
 use Rattle.irig_edit.specs.State.Places.{HoldsState, IsWithin, Places}
 use Rattle.irig_edit.specs.Changes.Room.{HasRoomFor, passing}
-use Rattle.irig_edit.specs.Changes.Single.{turned_single}
-use Rattle.irig_edit.specs.State.State.{State}
 use Rattle.irig_edit.specs.declared.changes.turn.Turn.{Turn}
+use Rattle.irig_edit.specs.{Changes.Held.single_of, Changes.Single.turned_single, State.State.State}
 
 -- more places hold a state too
 pub holds_wider : (a b : Places) (n : ℕ) (s : State) → IsWithin a b → HoldsState a n s

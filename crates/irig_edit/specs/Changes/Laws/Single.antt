@@ -1,9 +1,7 @@
 -- A single change is reversed by the one that it leaves. This project's own.
 use Rattle.std.proofs.Common.{suc, ◌≡◌, ◌<◌, ◌≤◌, ℕ, neg_ℤ, List, length, refl, ap, ◌∙◌, arith}
 use Rattle.std.proofs.Math.IntN.{neg_ℤ-neg_ℤ}
-use Rattle.irig_track.specs.Edges.{edges_of}
-use Rattle.irig_track.specs.Splices.{piece}
-use Rattle.irig_track.specs.Toggles.{toggled}
+use Rattle.irig_track.specs.{Edges.edges_of, Splices.piece, Toggles.toggled}
 use Rattle.irig_track.proofs.Inverses.{piece-spliced, spliced-spliced, can_splice_back}
 use Rattle.irig_track.proofs.Inverses.{toggled-toggled, can_toggle_back, Opposite-neg}
 use Rattle.irig_track.proofs.Inverses.{shifted-shifted, can_shift_back}
@@ -12,8 +10,8 @@ use Rattle.irig_edit.specs.State.State.{State, IsState, state, with_pulses}
 use Rattle.irig_edit.specs.Changes.Laws.Edges.{edges_of-toggled, pulses_of-edges_of}
 use Rattle.irig_edit.specs.Changes.Laws.Marks.{marks_back, may_move_back}
 use Rattle.irig_edit.specs.Changes.Laws.SetMarks.{mark_back, mark_read, mark_within}
-use Rattle.irig_saved.specs.declared.single.Single.{Single}
 use Rattle.irig_edit.specs.Changes.Single.{FitsSingle, turned_single, pulses_of}
+use Rattle.irig_saved.specs.declared.single.Single.{Single}
 use Rattle.irig_saved.specs.declared.single.Single.TheVariants.{Splice, Toggle, Shift, SetFormat}
 use Rattle.irig_saved.specs.declared.single.Single.TheVariants.{SetMark}
 

@@ -1,13 +1,12 @@
 -- A single change of a state within the limits leaves one within them. This project's own.
 use Rattle.std.proofs.Common.{suc, ◌<◌, length, sym, subst, ◌∙◌, arith}
 use Rattle.irig_recording.specs.Recording.{IsRecording}
-use Rattle.irig_track.specs.Edges.{edges_of}
-use Rattle.irig_track.specs.Toggles.{toggled}
+use Rattle.irig_track.specs.{Edges.edges_of, Toggles.toggled}
 use Rattle.irig_track.proofs.Recordings.{track_of}
 use Rattle.irig_saved.specs.declared.single.Single.{Single}
-use Rattle.irig_edit.specs.Changes.Single.{FitsSingle, turned_single, pulses_of}
 use Rattle.irig_saved.specs.declared.single.Single.TheVariants.{Splice, Toggle, Shift, SetFormat}
 use Rattle.irig_saved.specs.declared.single.Single.TheVariants.{SetMark}
+use Rattle.irig_edit.specs.Changes.Single.{FitsSingle, turned_single, pulses_of}
 use Rattle.irig_edit.specs.Changes.Laws.Edges.{edges_of-toggled}
 use Rattle.irig_edit.specs.Changes.Laws.Marks.{length-marks_moved, marks_within}
 use Rattle.irig_edit.specs.Changes.Laws.SetMarks.{all-set, length-set}

@@ -1,8 +1,7 @@
 use Rattle.std.proofs.Common.{◌≡◌, ◌+◌, ◌*◌, ◌-◌, [], ◌∷◌, length, ap, sym, ◌∙◌, arith, length-append}
 use Rattle.irig_index.specs.Frames.{records_in}
-use Rattle.irig_index.proofs.FrameLemmas.{records_in-none}
-use Rattle.irig_index.proofs.LookLemmas.{looked_more, looked_none}
 use Rattle.irig_index.proofs.PlaceLemmas.{found_in, found_record, passed_in, window_found, window_none}
+use Rattle.irig_index.proofs.{FrameLemmas.records_in-none, LookLemmas.looked_more, LookLemmas.looked_none}
 use Rattle.irig_index.proofs.filling.count_markers.Goals as goal
 
 pub loop-before-init : goal.loop-before-init

@@ -1,6 +1,5 @@
 use Rattle.std.proofs.Common.{◌≡◌, ◌*◌, ◌-◌, ◌≤◌, length}
-use Rattle.irig_index.specs.Frames.{records_in}
-use Rattle.irig_index.specs.Looked.{Looked}
+use Rattle.irig_index.specs.{Frames.records_in, Looked.Looked}
 use Rattle.irig_index.proofs.filling.count_markers.Given as goal
 
 -- as many as there are records of the places so far

@@ -3,18 +3,11 @@ use Rattle.std.proofs.lemmas.List.{append-nil}
 use Rattle.irig_codes.specs.Format.{FormatView}
 use Rattle.irig_gap.specs.Items.{GapView}
 use Rattle.irig_recording.specs.declared.pulse.Pulse.{Pulse}
-use Rattle.irig_index.specs.declared.record.Record.{Record}
 use Rattle.irig_index.specs.Frames.{frame_at, record_after, records_in}
-use Rattle.irig_index.specs.Kept.{IsNarrow}
-use Rattle.irig_index.specs.Passed.{StandsAfter}
-use Rattle.irig_index.specs.Sides.{left_of, kept_right}
-use Rattle.irig_index.specs.Verdict.{verdict_of}
-use Rattle.irig_index.proofs.FrameLemmas.{records_in-le, records_in-none}
-use Rattle.irig_index.proofs.LookLemmas.{looked_up}
-use Rattle.irig_index.proofs.NarrowVerdicts.{narrow-verdict_of}
+use Rattle.irig_index.specs.{declared.record.Record.Record, Kept.IsNarrow, Passed.StandsAfter, Sides.left_of, Sides.kept_right, Verdict.verdict_of}
 use Rattle.irig_index.proofs.PlaceLemmas.{checked_in, found_in, found_record, passed_in, same_pulses, window_found, window_none}
-use Rattle.irig_index.proofs.SideLemmas.{length-sides}
-use Rattle.irig_index.proofs.LookBounds.{spent_all, spent_checked, spent_none, spent_on, spent_passed}
+use Rattle.irig_index.proofs.{FrameLemmas.records_in-le, FrameLemmas.records_in-none, LookBounds.spent_all, LookBounds.spent_checked, LookBounds.spent_none}
+use Rattle.irig_index.proofs.{LookBounds.spent_on, LookBounds.spent_passed, LookLemmas.looked_up, NarrowVerdicts.narrow-verdict_of, SideLemmas.length-sides}
 use Rattle.irig_index.proofs.filling.fill.Goals as goal
 
 pub loop-before-init : goal.loop-before-init

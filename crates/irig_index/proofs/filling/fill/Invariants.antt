@@ -1,6 +1,5 @@
 use Rattle.std.proofs.Common.{◌≡◌, ◌+◌, ◌-◌, ◌*◌, ◌≤◌, ◌++◌, length, max}
-use Rattle.irig_index.specs.Frames.{records_in}
-use Rattle.irig_index.specs.Sides.{left_of, kept_right}
+use Rattle.irig_index.specs.{Frames.records_in, Sides.left_of, Sides.kept_right}
 use Rattle.irig_index.proofs.LookBounds.{Spent}
 use Rattle.irig_index.proofs.filling.fill.Given as goal
 

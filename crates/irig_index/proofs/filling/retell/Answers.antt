@@ -1,19 +1,11 @@
 use Rattle.std.proofs.Common.{◌≡◌, ℕ, ◌-◌, ◌<◌, List, [], ◌∷◌, ◌++◌, take, drop, length, slice_get, Some, ap, sym, subst, ◌∙◌, arith}
-use Rattle.std.proofs.lemmas.List.{take-append-drop}
-use Rattle.std.proofs.lemmas.Option.{slice_get_within}
+use Rattle.std.proofs.lemmas.{List.take-append-drop, Option.slice_get_within}
 use Rattle.irig_codes.specs.Format.{FormatView}
 use Rattle.irig_recording.specs.declared.pulse.Pulse.{Pulse}
-use Rattle.irig_index.specs.declared.record.Record.{Record}
-use Rattle.irig_index.specs.Frames.{frame_at}
-use Rattle.irig_index.specs.Kept.{IsNarrow}
-use Rattle.irig_index.specs.Marker.{class_at}
 use Rattle.irig_index.specs.Stale.{MayBeStale, LastMayBeStale, last_retold, retold}
-use Rattle.irig_index.specs.Sides.{shown}
-use Rattle.irig_index.specs.Verdict.{verdict_of}
-use Rattle.irig_index.proofs.LookLemmas.{looked_more, looked_up}
-use Rattle.irig_index.proofs.NarrowVerdicts.{narrow-verdict_of}
-use Rattle.irig_index.proofs.ShownLemmas.{first-last, first-set}
+use Rattle.irig_index.specs.{declared.record.Record.Record, Frames.frame_at, Kept.IsNarrow, Marker.class_at, Sides.shown, Verdict.verdict_of}
 use Rattle.irig_index.proofs.StaleLemmas.{LastMayBeStale-there, last_retold-push}
+use Rattle.irig_index.proofs.{LookLemmas.looked_more, LookLemmas.looked_up, NarrowVerdicts.narrow-verdict_of, ShownLemmas.first-last, ShownLemmas.first-set}
 use Rattle.irig_index.proofs.filling.retell.Goals as goal
 
 -- the last of the first records

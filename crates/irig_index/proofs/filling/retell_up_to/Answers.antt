@@ -1,6 +1,5 @@
 use Rattle.std.proofs.Common.{sym, subst, take}
-use Rattle.irig_index.specs.Sides.{shown}
-use Rattle.irig_index.specs.Stale.{LastMayBeStale}
+use Rattle.irig_index.specs.{Sides.shown, Stale.LastMayBeStale}
 use Rattle.irig_index.proofs.filling.retell_up_to.Goals as goal
 
 pub retell-requires-clause-stale : goal.retell-requires-clause-stale

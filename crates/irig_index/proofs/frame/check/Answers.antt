@@ -1,25 +1,16 @@
 use Rattle.std.proofs.Common.{◌≡◌, ◌+◌, ◌-◌, ◌<◌, ◌≤◌, ◌∷◌, ◌++◌, [], length, drop, slice_get, unwrap_or, true, false, cond, None, refl, ap, sym, ◌∙◌, arith}
 use Rattle.std.proofs.Common.{take, List}
-use Rattle.std.proofs.lemmas.List.{length-append, length-take, take_all}
-use Rattle.std.proofs.lemmas.Option.{slice_get_within}
-use Rattle.irig_codes.specs.declared.width.Element.{Element}
+use Rattle.std.proofs.lemmas.{List.length-append, List.length-take, List.take_all, Option.slice_get_within}
 use Rattle.irig_codes.specs.declared.width.Element.TheVariants.{Zero, Position}
-use Rattle.irig_codes.specs.Decoding.{decoded}
-use Rattle.irig_codes.specs.Ones.{raised}
-use Rattle.irig_codes.specs.Reading.{counts}
-use Rattle.irig_codes.specs.Width.{class_in, step_in}
+use Rattle.irig_codes.specs.{declared.width.Element.Element, Decoding.decoded, Ones.raised, Reading.counts, Width.class_in, Width.step_in}
 use Rattle.irig_track.specs.Looks.{after_looks, lens_view}
 use Rattle.irig_index.specs.declared.record.Cause.TheVariants.{Ended, Step, Class}
-use Rattle.irig_index.specs.declared.record.Verdict.TheVariants.{Broken, Read}
-use Rattle.irig_index.specs.Frames.{frame_at}
-use Rattle.irig_index.specs.Marker.{class_at, follows, is_digit, is_position}
-use Rattle.irig_index.specs.Verdict.{elements_of, first_fault, judged, suits}
-use Rattle.irig_index.proofs.CheckLemmas.{alone_next, digits_next, is_due, suits_other}
-use Rattle.irig_track.proofs.Looks.{lens_next}
-use Rattle.irig_track.proofs.Items.{slice_get-part}
-use Rattle.irig_index.proofs.PulseLemmas.{rise-rise}
+use Rattle.irig_index.specs.{declared.record.Verdict.TheVariants.Broken, declared.record.Verdict.TheVariants.Read, Frames.frame_at, Marker.class_at}
+use Rattle.irig_index.specs.{Marker.follows, Marker.is_digit, Marker.is_position, Verdict.elements_of, Verdict.first_fault, Verdict.judged, Verdict.suits}
 use Rattle.irig_index.proofs.VerdictLemmas.{fault-ended, fault-step, fault-class, fault-none, elements-next, first_fault-here, first_fault-next}
 use Rattle.irig_index.proofs.VerdictLemmas.{first_fault-zero}
+use Rattle.irig_index.proofs.{CheckLemmas.alone_next, CheckLemmas.digits_next, CheckLemmas.is_due, CheckLemmas.suits_other, PulseLemmas.rise-rise}
+use Rattle.irig_track.proofs.{Looks.lens_next, Items.slice_get-part}
 use Rattle.irig_index.proofs.frame.check.Goals as goal
 
 pub loop-k-init : goal.loop-k-init

@@ -1,9 +1,7 @@
 use Rattle.std.proofs.Common.{◌≡◌, ℕ, ◌+◌, ◌-◌, ◌%◌, ◌<◌, ◌≤◌, [], false, length, slice_get, take, Some}
 use Rattle.irig_codes.specs.Ones.{raised}
 use Rattle.irig_track.specs.Looks.{after_looks, lens_view}
-use Rattle.irig_index.specs.Frames.{frame_at, record_after}
-use Rattle.irig_index.specs.Marker.{class_at, is_position}
-use Rattle.irig_index.specs.Verdict.{elements_of, first_fault}
+use Rattle.irig_index.specs.{Frames.frame_at, Frames.record_after, Marker.class_at, Marker.is_position, Verdict.elements_of, Verdict.first_fault}
 use Rattle.irig_index.proofs.frame.check.Given as goal
 
 -- no pulse so far fails or is a marker, and which of their elements are One is kept

@@ -1,11 +1,8 @@
 use Rattle.std.proofs.Common.{◌≡◌, ◌-◌, ℕ, cond, false, length, ap, sym, ◌∙◌, arith}
 use Rattle.irig_codes.specs.Width.{class_in}
-use Rattle.irig_index.specs.Frames.{records_in}
-use Rattle.irig_index.specs.Marker.{class_at, is_marker, is_position}
-use Rattle.irig_index.proofs.FewFrames.{length-next}
-use Rattle.irig_index.proofs.FrameLemmas.{records_in-none}
-use Rattle.irig_index.proofs.PlaceLemmas.{two_passed, window_none}
+use Rattle.irig_index.specs.{Frames.records_in, Marker.class_at, Marker.is_marker, Marker.is_position}
 use Rattle.irig_index.proofs.marker.markers_among.Goals.{then-is_marker, else-is_marker}
+use Rattle.irig_index.proofs.{FewFrames.length-next, FrameLemmas.records_in-none, PlaceLemmas.two_passed, PlaceLemmas.window_none}
 use Rattle.irig_index.proofs.marker.markers_among.Goals as goal
 
 pub loop-place-init : goal.loop-place-init

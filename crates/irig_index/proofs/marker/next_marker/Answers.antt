@@ -2,12 +2,10 @@ use Rattle.std.proofs.Common.{◌≡◌, ◌+◌, ◌-◌, ◌∷◌, [], cond, 
 use Rattle.std.proofs.lemmas.Bool.{and_parts}
 use Rattle.irig_codes.specs.Width.{class_in}
 use Rattle.irig_track.specs.Looks.{after_looks, lens_view}
-use Rattle.irig_index.specs.Frames.{frame_at}
-use Rattle.irig_index.specs.Marker.{class_at, follows, is_marker, is_position}
-use Rattle.irig_index.specs.Verdict.{verdict_of}
+use Rattle.irig_index.specs.{Frames.frame_at, Marker.class_at, Marker.follows, Marker.is_marker, Marker.is_position, Verdict.verdict_of}
 use Rattle.irig_index.proofs.FrameLemmas.{position_class, record_after-pulses}
-use Rattle.irig_track.proofs.Looks.{lens_next}
 use Rattle.irig_index.proofs.PlaceLemmas.{none_more, one_passed, two_passed}
+use Rattle.irig_track.proofs.Looks.{lens_next}
 use Rattle.irig_index.proofs.marker.next_marker.Goals as goal
 
 pub loop-next-init : goal.loop-next-init

@@ -1,7 +1,6 @@
 use Rattle.std.proofs.Common.{◌≡◌, ◌+◌, ◌-◌, ◌/◌, slice_get, ap, ◌∙◌, arith}
 use Rattle.irig_index.specs.Sides.{shown}
-use Rattle.irig_index.proofs.ShownLemmas.{begins_at}
-use Rattle.irig_index.proofs.SideLemmas.{ends_up_to}
+use Rattle.irig_index.proofs.{ShownLemmas.begins_at, SideLemmas.ends_up_to}
 use Rattle.irig_index.proofs.places.count_up_to.Goals as goal
 
 pub loop-low-preserved-then-marker-last : goal.loop-low-preserved-then-marker-last

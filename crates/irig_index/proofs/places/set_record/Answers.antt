@@ -1,7 +1,6 @@
 use Rattle.std.proofs.Common.{ap, ◌∙◌, arith}
 use Rattle.irig_index.specs.Sides.{turned}
-use Rattle.irig_index.proofs.ShownLemmas.{shown-set_left, shown-set_right}
-use Rattle.irig_index.proofs.SideLemmas.{turned-twice}
+use Rattle.irig_index.proofs.{ShownLemmas.shown-set_left, ShownLemmas.shown-set_right, SideLemmas.turned-twice}
 use Rattle.irig_index.proofs.places.set_record.Goals as goal
 
 pub returns-then-k-gap_at-clause-shown : goal.returns-then-k-gap_at-clause-shown

@@ -1,6 +1,5 @@
 use Rattle.std.proofs.Common.{◌≡◌, ◌-◌, ◌<◌, ◌∷◌, ◌++◌, [], length, ap, sym, ◌∙◌, arith, append_assoc, remove}
-use Rattle.std.proofs.lemmas.List.Edits.{length-remove}
-use Rattle.std.proofs.lemmas.Option.{slice_get_within}
+use Rattle.std.proofs.lemmas.{List.Edits.length-remove, Option.slice_get_within}
 use Rattle.irig_index.specs.Sides.{left_of, right_of}
 use Rattle.irig_index.proofs.SideLemmas.{left-cut, right-cut}
 use Rattle.irig_index.proofs.sides.drop_back_to.Goals as goal

@@ -1,6 +1,5 @@
 use Rattle.std.proofs.Common.{◌≡◌, ◌≤◌, ◌++◌, List, length}
-use Rattle.irig_index.specs.declared.record.Record.{Record}
-use Rattle.irig_index.specs.Sides.{left_of, right_of, shown, AllAfter, AllUpTo}
+use Rattle.irig_index.specs.{declared.record.Record.Record, Sides.left_of, Sides.right_of, Sides.shown, Sides.AllAfter, Sides.AllUpTo}
 use Rattle.irig_index.proofs.sides.drop_back_to.Given as goal
 
 abbrev pub invariant-loop-records : goal.invariant-loop-records

@@ -1,7 +1,6 @@
 use Rattle.std.proofs.Common.{◌≤◌, length, ap, arith}
-use Rattle.irig_index.proofs.SideLemmas.{left_of-put, kept_right-put}
+use Rattle.irig_index.proofs.{SideLemmas.left_of-put, SideLemmas.kept_right-put, sides.put.Goals.After-put}
 use Rattle.irig_index.proofs.sides.put.Goals as goal
-use Rattle.irig_index.proofs.sides.put.Goals.{After-put}
 
 -- the gap is among the records
 inside : (c : After-put) → c.args.records.now.place ≤ length c.args.records.now.items

@@ -1,6 +1,5 @@
 use Rattle.std.proofs.Common.{◌≤◌, vec_len}
-use Rattle.irig_journal.specs.Journal.{AreReady, past_of, steps_in}
-use Rattle.irig_journal.specs.Sides.{AreSides}
+use Rattle.irig_journal.specs.{Journal.AreReady, Journal.past_of, Journal.steps_in, Sides.AreSides}
 use Rattle.irig_journal.proofs.TurningLemmas.{LedDown}
 use Rattle.irig_journal.proofs.groups.turn_beyond.Given as goal
 

@@ -1,8 +1,7 @@
 use Rattle.std.proofs.Common.{rules, ◌≡◌, ◌∷◌, reverse, ap, arith}
 use Rattle.irig_journal.specs.Journal.{one_of}
-use Rattle.irig_journal.proofs.HeldLemmas.{reverse-push}
-use Rattle.irig_journal.proofs.MoveLemmas.{moved_more, moved_none}
 use Rattle.irig_journal.proofs.ReadyLemmas.{IsWider, ready_back, ready_left, ready_nearest}
+use Rattle.irig_journal.proofs.{HeldLemmas.reverse-push, MoveLemmas.moved_more, MoveLemmas.moved_none}
 use Rattle.irig_journal.proofs.moving.turn_changes.Goals as goal
 
 pub loop-turned-init : goal.loop-turned-init

@@ -1,6 +1,5 @@
 use Rattle.std.proofs.Common.{◌≡◌, ◌≤◌, ◌+◌, reverse, vec_len, vec_capacity}
-use Rattle.irig_journal.specs.Journal.{ReadyInTurn, one_of}
-use Rattle.irig_journal.specs.Moves.{Moved}
+use Rattle.irig_journal.specs.{Journal.ReadyInTurn, Journal.one_of, Moves.Moved}
 use Rattle.irig_journal.proofs.moving.turn_changes.Given as goal
 
 -- the changes turned so far, and that what is left and what came is ready

@@ -1,12 +1,8 @@
 use Rattle.std.proofs.Common.{◌≡◌, ◌∷◌, ◌++◌, [], map, reverse, ap, sym, subst, arith, ◌∙◌}
-use Rattle.irig_journal.specs.Held.{held_in, parts_of}
-use Rattle.irig_journal.specs.History.{FitInTurn, step}
 use Rattle.irig_journal.specs.Journal.{ReadyInTurn, one_of, told}
-use Rattle.irig_journal.specs.Sizes.{entry, is_group}
+use Rattle.irig_journal.specs.{Held.held_in, Held.parts_of, History.FitInTurn, History.step, Sizes.entry, Sizes.is_group}
 use Rattle.irig_journal.proofs.HeldLemmas.{flat-held_in, held_in-nearest, one_alone, whole_left, whole_more}
-use Rattle.irig_journal.proofs.JoinLemmas.{fit_first}
-use Rattle.irig_journal.proofs.MoveLemmas.{step_turned}
-use Rattle.irig_journal.proofs.StepLemmas.{fits_back, stepped_back_by, undone_by}
+use Rattle.irig_journal.proofs.{JoinLemmas.fit_first, MoveLemmas.step_turned, StepLemmas.fits_back, StepLemmas.stepped_back_by, StepLemmas.undone_by}
 use Rattle.irig_journal.proofs.moving.turn_nearest.Goals as goal
 
 pub turn_changes-requires-clause-ready : goal.turn_changes-requires-clause-ready

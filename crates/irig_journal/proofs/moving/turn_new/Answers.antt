@@ -1,11 +1,6 @@
 use Rattle.std.proofs.Common.{map, ap, sym, subst, ◌∙◌}
-use Rattle.irig_journal.specs.Held.{flat}
-use Rattle.irig_journal.specs.History.{FitInTurn, step}
-use Rattle.irig_journal.specs.Journal.{ReadyInTurn, one_of, told}
-use Rattle.irig_journal.specs.Sides.{steps_on}
-use Rattle.irig_journal.proofs.HeldLemmas.{flat-cons}
-use Rattle.irig_journal.proofs.ReadyLemmas.{IsWider, ready_back}
-use Rattle.irig_journal.proofs.StepLemmas.{fits_back}
+use Rattle.irig_journal.specs.{Held.flat, History.FitInTurn, History.step, Journal.ReadyInTurn, Journal.one_of, Journal.told, Sides.steps_on}
+use Rattle.irig_journal.proofs.{HeldLemmas.flat-cons, ReadyLemmas.IsWider, ReadyLemmas.ready_back, StepLemmas.fits_back}
 use Rattle.irig_journal.proofs.moving.turn_new.Goals as goal
 
 -- the way back is ready, before what was ready at the state

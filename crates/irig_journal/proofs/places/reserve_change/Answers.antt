@@ -1,7 +1,6 @@
 use Rattle.std.proofs.Common.{rules}
 use Rattle.irig_journal.specs.Journal.{LacksPlace, steps_in}
-use Rattle.irig_journal.proofs.ReadyLemmas.{ready_same}
-use Rattle.irig_journal.proofs.SideLemmas.{lacks_place, same_steps}
+use Rattle.irig_journal.proofs.{ReadyLemmas.ready_same, SideLemmas.lacks_place, SideLemmas.same_steps}
 use Rattle.irig_journal.proofs.places.reserve_change.Goals as goal
 
 pub returns-in_default-clause-memory : goal.returns-in_default-clause-memory

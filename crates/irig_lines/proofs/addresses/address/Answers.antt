@@ -1,8 +1,6 @@
 use Rattle.std.proofs.Common.{rules, ◌≡◌, ◌==◌, length, false}
-use Rattle.irig_lines.specs.Addresses.{IsAddress}
-use Rattle.irig_lines.specs.declared.address.Address.{Address}
-use Rattle.irig_lines.proofs.AddressCut.{address_of, address_parts}
-use Rattle.irig_lines.proofs.KnownWords.{finds_none}
+use Rattle.irig_lines.specs.{Addresses.IsAddress, declared.address.Address.Address}
+use Rattle.irig_lines.proofs.{AddressCut.address_of, AddressCut.address_parts, KnownWords.finds_none}
 use Rattle.irig_lines.proofs.addresses.address.Goals as goal
 
 pub returns-in_err-base : goal.returns-in_err-base

@@ -1,9 +1,8 @@
 use Rattle.std.proofs.Common.{arith, ◌≡◌, [], length, ap}
 use Rattle.std.proofs.lemmas.Bool.Decides.{nat_tests}
-use Rattle.irig_lines.proofs.AddressCut.{pair_addresses}
-use Rattle.irig_lines.proofs.KnownWords.{finds_none}
-use Rattle.irig_lines.proofs.addresses.pair.Goals as goal
 use Rattle.irig_lines.proofs.addresses.pair.Goals.{else-is_empty-via-then-is_empty+else-is_empty-2, else-is_empty-via-else-is_empty}
+use Rattle.irig_lines.proofs.{AddressCut.pair_addresses, KnownWords.finds_none}
+use Rattle.irig_lines.proofs.addresses.pair.Goals as goal
 
 pub returns-in_err-address : goal.returns-in_err-address
 returns-in_err-address c =

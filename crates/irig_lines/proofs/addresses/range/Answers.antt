@@ -1,8 +1,5 @@
-use Rattle.irig_lines.specs.Addresses.{IsRange}
-use Rattle.irig_lines.specs.declared.range.Range.{Range}
-use Rattle.irig_lines.proofs.AddressCut.{pair_range, pair_refused, uncut_range}
-use Rattle.irig_lines.proofs.WordLemmas.{rest_whole}
-use Rattle.irig_lines.proofs.KnownWords.{finds_none}
+use Rattle.irig_lines.specs.{Addresses.IsRange, declared.range.Range.Range}
+use Rattle.irig_lines.proofs.{AddressCut.pair_range, AddressCut.pair_refused, AddressCut.uncut_range, WordLemmas.rest_whole, KnownWords.finds_none}
 use Rattle.irig_lines.proofs.addresses.range.Goals as goal
 
 pub returns-in_err-address_or_cursor-in-empty : goal.returns-in_err-address_or_cursor-in-empty

@@ -1,11 +1,6 @@
 use Rattle.std.proofs.Common.{◌∷◌, [], refl, ap, sym, ◌∙◌, subst, List, ℕ}
 use Rattle.irig_moment.specs.Written.{moment_of}
-use Rattle.irig_lines.specs.Addresses.{IsTime}
-use Rattle.irig_lines.specs.Arguments.{AreControls}
-use Rattle.irig_lines.specs.Commands.{Asks}
-use Rattle.irig_lines.specs.Numbers.{IsNumber}
-use Rattle.irig_lines.specs.Words.{words_of}
-use Rattle.irig_lines.specs.declared.command.Command.{Command}
+use Rattle.irig_lines.specs.{Addresses.IsTime, Arguments.AreControls, Commands.Asks, Numbers.IsNumber, Words.words_of, declared.command.Command.Command}
 use Rattle.irig_lines.specs.declared.keyword.Keyword.TheVariants as word
 use Rattle.irig_lines.proofs.KnownWords.{finds_none, full_word, moment_some, next_word, time_some}
 use Rattle.irig_lines.proofs.orders.frames.Goals as goal

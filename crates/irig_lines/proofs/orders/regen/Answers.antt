@@ -1,6 +1,5 @@
 use Rattle.std.proofs.Common.{refl}
-use Rattle.irig_lines.specs.Commands.{Asks}
-use Rattle.irig_lines.specs.Words.{words_of}
+use Rattle.irig_lines.specs.{Commands.Asks, Words.words_of}
 use Rattle.irig_lines.specs.declared.keyword.Keyword.TheVariants as word
 use Rattle.irig_lines.proofs.KnownWords.{finds_as}
 use Rattle.irig_lines.proofs.orders.regen.Goals as goal

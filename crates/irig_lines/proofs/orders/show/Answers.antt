@@ -1,6 +1,5 @@
 use Rattle.std.proofs.Common.{[]}
-use Rattle.irig_lines.specs.Commands.{Asks}
-use Rattle.irig_lines.specs.declared.command.Command.{Command}
+use Rattle.irig_lines.specs.{Commands.Asks, declared.command.Command.Command}
 use Rattle.irig_lines.specs.declared.keyword.Keyword.TheVariants as word
 use Rattle.irig_lines.proofs.KnownWords.{finds_none}
 use Rattle.irig_lines.proofs.orders.show.Goals as goal

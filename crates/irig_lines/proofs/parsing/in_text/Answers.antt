@@ -1,6 +1,5 @@
 use Rattle.irig_lines.specs.Grammar.{Orders}
-use Rattle.irig_lines.proofs.KnownWords.{finds_as}
-use Rattle.irig_lines.proofs.LineReading.{no_order_of, order_read}
+use Rattle.irig_lines.proofs.{KnownWords.finds_as, LineReading.no_order_of, LineReading.order_read}
 use Rattle.irig_lines.proofs.parsing.in_text.Goals as goal
 
 pub returns : goal.returns

@@ -1,7 +1,6 @@
 use Rattle.std.proofs.Common.{sym, ◌∙◌}
 use Rattle.std.proofs.lemmas.Result.{IfOk-weaker, on_err_weaker}
-use Rattle.irig_lines.proofs.KnownWords.{finds_err, finds_ok}
-use Rattle.irig_lines.proofs.LineReading.{line_orders, line_refused, line_rests}
+use Rattle.irig_lines.proofs.{KnownWords.finds_err, KnownWords.finds_ok, LineReading.line_orders, LineReading.line_refused, LineReading.line_rests}
 use Rattle.irig_lines.proofs.parsing.parse_line.Goals as goal
 
 pub returns-then-is_nothing-clause-meant : goal.returns-then-is_nothing-clause-meant

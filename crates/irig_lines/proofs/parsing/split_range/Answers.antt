@@ -1,8 +1,8 @@
 use Rattle.std.proofs.Common.{arith, rules, ◌≡◌, ◌∙◌, drop, get_or, true, false}
 use Rattle.irig_lines.proofs.RangeCut.{ends_range, range_done, range_found, range_length, range_stops}
 use Rattle.irig_lines.proofs.WordLemmas.{rest_whole}
-use Rattle.irig_lines.proofs.parsing.split_range.Goals as goal
 use Rattle.irig_lines.proofs.parsing.split_range.Goals.{then-loop-at-test+else-not-ends_range, else-loop-at-test}
+use Rattle.irig_lines.proofs.parsing.split_range.Goals as goal
 
 pub returns-clause-cut : goal.returns-clause-cut
 returns-clause-cut c = λ range rest r e is follows.

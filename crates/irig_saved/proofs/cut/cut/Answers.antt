@@ -1,6 +1,5 @@
 use Rattle.std.proofs.Common.{arith, ◌++◌, ◌∷◌, ◌+◌, ◌<◌, take, length, get_or, sym, ap, ◌∙◌, List, ℕ}
-use Rattle.std.proofs.lemmas.Bool.{eq-eqb, eqb-true}
-use Rattle.std.proofs.lemmas.List.{take_rest}
+use Rattle.std.proofs.lemmas.{Bool.eq-eqb, Bool.eqb-true, List.take_rest}
 use Rattle.irig_saved.proofs.Bytes.{lacks_from, lacks_take, parts_at}
 use Rattle.irig_saved.proofs.cut.cut.Goals as goal
 

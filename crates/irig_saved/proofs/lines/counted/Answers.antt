@@ -1,7 +1,6 @@
 use Rattle.std.proofs.Common.{◌++◌, ◌∷◌, [], ℕ, List, decimal, drop, ap}
 use Rattle.std.proofs.lemmas.List.{append-nil, append_cancel_left}
-use Rattle.irig_saved.specs.Lines.{numbered}
-use Rattle.irig_saved.specs.Ranges.{IsNumber}
+use Rattle.irig_saved.specs.{Lines.numbered, Ranges.IsNumber}
 use Rattle.irig_saved.proofs.Decoding.{over}
 use Rattle.irig_saved.proofs.lines.counted.Goals as goal
 

@@ -1,8 +1,6 @@
 use Rattle.std.proofs.Common.{◌++◌, [], decimal}
 use Rattle.irig_codes.specs.Words.{kind_word}
-use Rattle.irig_saved.proofs.Bytes.{wordy_lacks}
-use Rattle.irig_saved.proofs.SameWords.{kind_is_word}
-use Rattle.irig_saved.proofs.Decoding.{headed_one, headed_words}
+use Rattle.irig_saved.proofs.{Bytes.wordy_lacks, SameWords.kind_is_word, Decoding.headed_one, Decoding.headed_words}
 use Rattle.irig_saved.proofs.lines.format.Goals as goal
 
 pub returns-in_err-name : goal.returns-in_err-name

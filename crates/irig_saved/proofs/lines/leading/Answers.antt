@@ -1,7 +1,5 @@
 use Rattle.std.proofs.Common.{decimal}
-use Rattle.irig_saved.proofs.Bytes.{wordy_lacks}
-use Rattle.irig_saved.proofs.Decimals.{number_is_word}
-use Rattle.irig_saved.proofs.Decoding.{first_word}
+use Rattle.irig_saved.proofs.{Bytes.wordy_lacks, Decimals.number_is_word, Decoding.first_word}
 use Rattle.irig_saved.proofs.lines.leading.Goals as goal
 
 pub returns-in-None : goal.returns-in-None

@@ -1,8 +1,7 @@
 use Rattle.std.proofs.Common.{◌∷◌, [], decimal, drop, List, ℕ, sym, ap, ◌∙◌, nat_lt, refl}
 use Rattle.std.proofs.lemmas.Bool.{and_from, lt-ltb}
 use Rattle.std.specs.Cmp.Lexicographic.{other_text}
-use Rattle.irig_saved.proofs.Bytes.{wordy_lacks}
-use Rattle.irig_saved.proofs.Decoding.{two_words}
+use Rattle.irig_saved.proofs.{Bytes.wordy_lacks, Decoding.two_words}
 use Rattle.irig_saved.proofs.lines.mark.Goals as goal
 
 pub returns-else-eq : goal.returns-else-eq

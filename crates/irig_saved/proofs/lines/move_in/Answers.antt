@@ -1,8 +1,6 @@
 use Rattle.std.specs.Fmt.{signed_decimal}
 use Rattle.irig_saved.specs.ChangeWords.{moved_word}
-use Rattle.irig_saved.proofs.Bytes.{wordy_lacks}
-use Rattle.irig_saved.proofs.Decimals.{distance_is_word}
-use Rattle.irig_saved.proofs.Decoding.{two_words}
+use Rattle.irig_saved.proofs.{Bytes.wordy_lacks, Decimals.distance_is_word, Decoding.two_words}
 use Rattle.irig_saved.proofs.lines.move_in.Goals as goal
 
 pub returns-in_err-distance : goal.returns-in_err-distance

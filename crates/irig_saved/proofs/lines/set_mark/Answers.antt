@@ -1,10 +1,6 @@
 use Rattle.std.proofs.Common.{◌++◌, ◌+◌, [], codes, ℕ, ◌<◌, arith}
-use Rattle.irig_saved.specs.ChangeWords.{time_word}
-use Rattle.irig_saved.specs.Letters.{letter_word}
-use Rattle.irig_saved.specs.Reading.{Lacks}
-use Rattle.irig_saved.proofs.Bytes.{wordy_lacks}
-use Rattle.irig_saved.proofs.SameWords.{byte_is_word}
-use Rattle.irig_saved.proofs.Decoding.{headed_one, headed_words}
+use Rattle.irig_saved.specs.{ChangeWords.time_word, Letters.letter_word, Reading.Lacks}
+use Rattle.irig_saved.proofs.{Bytes.wordy_lacks, SameWords.byte_is_word, Decoding.headed_one, Decoding.headed_words}
 use Rattle.irig_saved.proofs.lines.set_mark.Goals as goal
 
 letter_lacks : (x : ℕ) → x < 26 → Lacks 32 (letter_word x)

@@ -1,7 +1,6 @@
 use Rattle.std.proofs.Common.{◌++◌, ◌∷◌, [], decimal, codes}
 use Rattle.std.specs.Fmt.{signed_decimal}
-use Rattle.irig_saved.specs.Lines.{line}
-use Rattle.irig_saved.specs.ChangeWords.{moved_word}
+use Rattle.irig_saved.specs.{Lines.line, ChangeWords.moved_word}
 use Rattle.irig_saved.proofs.Decoding.{behind_head, leading_number}
 use Rattle.irig_saved.proofs.lines.shift.Goals as goal
 

@@ -1,7 +1,6 @@
 use Rattle.std.proofs.Common.{◌++◌, ◌∷◌, [], ℕ, List, codes, decimal, drop, ap, refl}
 use Rattle.std.proofs.lemmas.List.{append_cancel_left}
-use Rattle.irig_saved.specs.Lines.{line, numbered}
-use Rattle.irig_saved.specs.Values.{AreTwo, words_of_two}
+use Rattle.irig_saved.specs.{Lines.line, Lines.numbered, Values.AreTwo, Values.words_of_two}
 use Rattle.irig_saved.proofs.Decoding.{over}
 use Rattle.irig_saved.proofs.lines.toggle.Goals as goal
 

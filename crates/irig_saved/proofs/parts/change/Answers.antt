@@ -1,5 +1,4 @@
-use Rattle.irig_saved.proofs.Carried.{stopped}
-use Rattle.irig_saved.proofs.ChangeParts.{group_stops, one_stops, no_change_stops}
+use Rattle.irig_saved.proofs.{Carried.stopped, ChangeParts.group_stops, ChangeParts.one_stops, ChangeParts.no_change_stops}
 use Rattle.irig_saved.proofs.parts.change.Goals as goal
 
 pub returns-in_default : goal.returns-in_default

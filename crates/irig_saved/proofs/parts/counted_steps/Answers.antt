@@ -1,9 +1,6 @@
-use Rattle.irig_saved.specs.Ranges.{ManySteps, AreSteps}
-use Rattle.irig_saved.specs.SavedText.{steps_lines, counted_lines}
-use Rattle.irig_saved.specs.Leading.{BeginsSome, BeginsSteps}
-use Rattle.irig_saved.proofs.Carried.{reparsed}
+use Rattle.irig_saved.specs.{Ranges.ManySteps, Ranges.AreSteps, SavedText.steps_lines, SavedText.counted_lines, Leading.BeginsSome, Leading.BeginsSteps}
 use Rattle.irig_saved.proofs.ChangeParts.{counted_reads, counted_stops, counted_line_stops, no_counted_stops}
-use Rattle.irig_saved.proofs.FirstSteps.{counted_begins}
+use Rattle.irig_saved.proofs.{Carried.reparsed, FirstSteps.counted_begins}
 use Rattle.irig_saved.proofs.parts.counted_steps.Goals as goal
 
 pub returns-in_default : goal.returns-in_default

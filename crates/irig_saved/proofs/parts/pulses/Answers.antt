@@ -1,11 +1,7 @@
 use Rattle.std.proofs.Common.{◌≡◌, ℕ, arith, subst}
-use Rattle.irig_saved.specs.Ranges.{IsPulse, ArePulses}
-use Rattle.irig_saved.specs.SavedText.{pulse_line, pulse_lines}
-use Rattle.irig_saved.specs.Reading.{Reads}
-use Rattle.irig_saved.proofs.Repeats.{row_begins, row_next, row_stops}
-use Rattle.irig_saved.proofs.Sequences.{line_reads}
-use Rattle.irig_saved.proofs.Rows.{one_line}
+use Rattle.irig_saved.specs.{Ranges.IsPulse, Ranges.ArePulses, SavedText.pulse_line, SavedText.pulse_lines, Reading.Reads}
 use Rattle.irig_saved.proofs.PulseParts.{pulse_family, pulse_stops, no_pulse_stops}
+use Rattle.irig_saved.proofs.{Repeats.row_begins, Repeats.row_next, Repeats.row_stops, Sequences.line_reads, Rows.one_line}
 use Rattle.irig_saved.proofs.parts.pulses.Goals as goal
 
 pub loop-init : goal.loop-init

@@ -1,6 +1,4 @@
-use Rattle.irig_saved.specs.Ranges.{ArePulses}
-use Rattle.irig_saved.specs.SavedText.{pulse_lines}
-use Rattle.irig_saved.specs.Reading.{Reads}
+use Rattle.irig_saved.specs.{Ranges.ArePulses, SavedText.pulse_lines, Reading.Reads}
 use Rattle.irig_saved.proofs.parts.pulses.Given as goal
 
 -- one pulse for each turn is before the rest

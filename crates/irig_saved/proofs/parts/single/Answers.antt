@@ -1,6 +1,5 @@
 use Rattle.std.proofs.Common.{◌++◌, ◌∷◌, ◌∙◌, ℕ, List, ap}
-use Rattle.irig_saved.proofs.Carried.{stopped}
-use Rattle.irig_saved.proofs.SingleParts.{splice_stops, short_reads, single_line_stops, no_single_stops}
+use Rattle.irig_saved.proofs.{Carried.stopped, SingleParts.splice_stops, SingleParts.short_reads, SingleParts.single_line_stops, SingleParts.no_single_stops}
 use Rattle.irig_saved.proofs.parts.single.Goals as goal
 
 pub returns-in_default : goal.returns-in_default

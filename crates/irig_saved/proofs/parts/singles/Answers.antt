@@ -1,10 +1,6 @@
 use Rattle.std.proofs.Common.{◌≡◌, ℕ, arith, subst}
-use Rattle.irig_saved.specs.Ranges.{IsSingle, AreSingles}
-use Rattle.irig_saved.specs.SavedText.{single_lines, singles_lines}
-use Rattle.irig_saved.specs.Reading.{Reads}
-use Rattle.irig_saved.proofs.Carried.{stopped}
-use Rattle.irig_saved.proofs.Repeats.{row_begins, row_next, row_stops}
-use Rattle.irig_saved.proofs.SingleParts.{single_family}
+use Rattle.irig_saved.specs.{Ranges.IsSingle, Ranges.AreSingles, SavedText.single_lines, SavedText.singles_lines, Reading.Reads}
+use Rattle.irig_saved.proofs.{Carried.stopped, Repeats.row_begins, Repeats.row_next, Repeats.row_stops, SingleParts.single_family}
 use Rattle.irig_saved.proofs.parts.singles.Goals as goal
 
 pub loop-init : goal.loop-init

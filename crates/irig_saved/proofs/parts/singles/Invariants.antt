@@ -1,6 +1,4 @@
-use Rattle.irig_saved.specs.Ranges.{AreSingles}
-use Rattle.irig_saved.specs.SavedText.{singles_lines}
-use Rattle.irig_saved.specs.Reading.{Reads}
+use Rattle.irig_saved.specs.{Ranges.AreSingles, SavedText.singles_lines, Reading.Reads}
 use Rattle.irig_saved.proofs.parts.singles.Given as goal
 
 -- one change for each turn is before the rest

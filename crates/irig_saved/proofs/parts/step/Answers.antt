@@ -1,6 +1,4 @@
-use Rattle.irig_saved.proofs.Carried.{stopped}
-use Rattle.irig_saved.proofs.ChangeParts.{step_stops, step_line_stops, no_step_stops}
-use Rattle.irig_saved.proofs.FirstSteps.{begins_step}
+use Rattle.irig_saved.proofs.{Carried.stopped, ChangeParts.step_stops, ChangeParts.step_line_stops, ChangeParts.no_step_stops, FirstSteps.begins_step}
 use Rattle.irig_saved.proofs.parts.step.Goals as goal
 
 pub returns-in_default : goal.returns-in_default

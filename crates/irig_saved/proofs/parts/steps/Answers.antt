@@ -1,11 +1,7 @@
 use Rattle.std.proofs.Common.{◌≡◌, ℕ, arith, subst}
-use Rattle.irig_saved.specs.Ranges.{IsStep, ManySteps}
-use Rattle.irig_saved.specs.SavedText.{step_lines, steps_lines}
-use Rattle.irig_saved.specs.Reading.{Reads}
-use Rattle.irig_saved.proofs.Carried.{stopped}
+use Rattle.irig_saved.specs.{Ranges.IsStep, Ranges.ManySteps, SavedText.step_lines, SavedText.steps_lines, Reading.Reads}
 use Rattle.irig_saved.proofs.Repeats.{row_begins, row_next, row_stops}
-use Rattle.irig_saved.proofs.ChangeParts.{step_family}
-use Rattle.irig_saved.proofs.FirstSteps.{step_begins, steps_begin}
+use Rattle.irig_saved.proofs.{Carried.stopped, ChangeParts.step_family, FirstSteps.step_begins, FirstSteps.steps_begin}
 use Rattle.irig_saved.proofs.parts.steps.Goals as goal
 
 pub loop-init : goal.loop-init

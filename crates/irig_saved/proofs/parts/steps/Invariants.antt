@@ -1,6 +1,4 @@
-use Rattle.irig_saved.specs.Ranges.{ManySteps}
-use Rattle.irig_saved.specs.SavedText.{steps_lines}
-use Rattle.irig_saved.specs.Reading.{Reads}
+use Rattle.irig_saved.specs.{Ranges.ManySteps, SavedText.steps_lines, Reading.Reads}
 use Rattle.irig_saved.proofs.parts.steps.Given as goal
 
 -- one step for each turn is before the rest

@@ -1,8 +1,6 @@
 use Rattle.std.proofs.Common.{ℕ, List, codes, refl, sym, subst, ◌∙◌}
 use Rattle.irig_saved.specs.Reading.{Lacks}
-use Rattle.irig_saved.proofs.Bytes.{cut_at, not_lacking}
-use Rattle.irig_saved.proofs.Clean.{newline, counted_lacks}
-use Rattle.irig_saved.proofs.SavedParts.{cursor_line}
+use Rattle.irig_saved.proofs.{Bytes.cut_at, Bytes.not_lacking, Clean.newline, Clean.counted_lacks, SavedParts.cursor_line}
 use Rattle.irig_saved.proofs.reader.cursor_line.Goals as goal
 
 pub returns-in_default : goal.returns-in_default

@@ -1,7 +1,6 @@
 use Rattle.std.proofs.Common.{ℕ, List, sym, subst, ◌∙◌}
 use Rattle.irig_saved.specs.Reading.{Lacks}
-use Rattle.irig_saved.proofs.Bytes.{cut_at, not_lacking}
-use Rattle.irig_saved.proofs.SavedParts.{format_line, format_clean}
+use Rattle.irig_saved.proofs.{Bytes.cut_at, Bytes.not_lacking, SavedParts.format_line, SavedParts.format_clean}
 use Rattle.irig_saved.proofs.reader.format_line.Goals as goal
 
 pub returns-in_default : goal.returns-in_default

@@ -1,9 +1,5 @@
 use Rattle.std.proofs.Common.{subst}
-use Rattle.irig_saved.specs.SavedText.{saved_lines}
-use Rattle.irig_saved.specs.Ranges.{IsSaved}
-use Rattle.irig_saved.specs.Faults.{ReachesSteps}
-use Rattle.irig_saved.specs.Reading.{Stops, IsStop}
-use Rattle.irig_saved.specs.declared.stop.Stop.{Stop}
+use Rattle.irig_saved.specs.{SavedText.saved_lines, Ranges.IsSaved, Faults.ReachesSteps, Reading.Stops, Reading.IsStop, declared.stop.Stop.Stop}
 use Rattle.irig_saved.proofs.FaultLines.{line_of_stop, line_of_rest, whole_text, whole_short}
 use Rattle.irig_saved.proofs.reader.parse.Goals as goal
 

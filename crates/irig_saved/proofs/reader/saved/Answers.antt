@@ -1,6 +1,5 @@
-use Rattle.irig_saved.proofs.Carried.{stopped}
 use Rattle.irig_saved.proofs.SavedParts.{past_stops, future_stops, tail_stops, head_stops, saved_reads}
-use Rattle.irig_saved.proofs.FirstSteps.{past_reached, future_reached}
+use Rattle.irig_saved.proofs.{Carried.stopped, FirstSteps.past_reached, FirstSteps.future_reached}
 use Rattle.irig_saved.proofs.reader.saved.Goals as goal
 
 pub returns-in-Err : goal.returns-in-Err

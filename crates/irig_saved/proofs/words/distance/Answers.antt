@@ -1,9 +1,6 @@
-use Rattle.std.proofs.Common.{◌≡◌, ℕ, List, sym, ap, ◌∙◌, subst}
-use Rattle.std.specs.Fmt.{signed_decimal}
-use Rattle.std.specs.Str.{IsUtf8}
-use Rattle.std.specs.Cmp.Lexicographic.{other_text}
+use Rattle.std.proofs.Common.{◌≡◌, ℕ, List, sym, ap, ◌∙◌, subst, w64, to_z, of_z}
+use Rattle.std.specs.{Fmt.signed_decimal, Str.IsUtf8, Cmp.Lexicographic.other_text}
 use Rattle.std.proofs.lemmas.Int.{to_z-of_z}
-use Rattle.std.proofs.Common.{w64, to_z, of_z}
 use Rattle.irig_saved.proofs.Parsed.{utf8_distance, parsed_distance, ok_same, fits}
 use Rattle.irig_saved.proofs.words.distance.Goals as goal
 

@@ -1,11 +1,10 @@
 use Rattle.std.proofs.Common.{◌≡◌, ◌<◌, ◌+◌, ◌++◌, ◌∷◌, [], ℕ, suc, List, true, not, drop, get_or, length, sym, ap, ◌∙◌, append_assoc, arith}
 use Rattle.std.proofs.lemmas.List.{length-set, drop-set-lt, drop_more, take_rest}
-use Rattle.std.specs.Borrow.{Bor}
-use Rattle.std.specs.List.{list_all}
+use Rattle.std.specs.{Borrow.Bor, List.list_all}
 use Rattle.irig_saved.specs.ChangeWords.{letters_from}
 use Rattle.irig_saved.proofs.Moves.{skipped, taken, one_more, clear_next}
-use Rattle.irig_saved.proofs.words.moved.Goals as goal
 use Rattle.irig_saved.proofs.words.moved.Goals.{in_default, in-len1-up+then-first-letter, in-len1-up+else-first-letter}
+use Rattle.irig_saved.proofs.words.moved.Goals as goal
 
 pub loop-letter-preserved : goal.loop-letter-preserved
 loop-letter-preserved c =

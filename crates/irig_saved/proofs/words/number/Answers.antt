@@ -1,6 +1,5 @@
 use Rattle.std.proofs.Common.{◌≡◌, ℕ, List, decimal, sym, ap, ◌∙◌, subst}
-use Rattle.std.specs.Str.{IsUtf8}
-use Rattle.std.specs.Cmp.Lexicographic.{other_text}
+use Rattle.std.specs.{Str.IsUtf8, Cmp.Lexicographic.other_text}
 use Rattle.irig_saved.proofs.Parsed.{utf8_number, parsed_number, ok_same}
 use Rattle.irig_saved.proofs.words.number.Goals as goal
 

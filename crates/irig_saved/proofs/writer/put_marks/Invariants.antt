@@ -1,6 +1,5 @@
 use Rattle.std.proofs.Common.{◌≡◌, ◌+◌, ◌++◌, drop}
-use Rattle.irig_saved.specs.Lines.{text_of}
-use Rattle.irig_saved.specs.SavedText.{mark_lines}
+use Rattle.irig_saved.specs.{Lines.text_of, SavedText.mark_lines}
 use Rattle.irig_saved.proofs.writer.put_marks.Given as goal
 
 abbrev pub invariant-loop-letter : goal.invariant-loop-letter

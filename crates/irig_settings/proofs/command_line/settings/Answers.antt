@@ -1,12 +1,8 @@
 use Rattle.std.specs.Prelude.{Result, Ok, Err}
-use Rattle.clap.specs.Words.{Text, found_of}
-use Rattle.clap.specs.declared.parser.matches.ArgMatches.{ArgMatches}
-use Rattle.irig_settings.specs.declared.chosen.Settings.{Settings}
-use Rattle.irig_settings.specs.declared.chosen.UsageFault.{UsageFault}
+use Rattle.clap.specs.{Words.Text, Words.found_of, declared.parser.matches.ArgMatches.ArgMatches}
+use Rattle.irig_settings.specs.{declared.chosen.Settings.Settings, declared.chosen.UsageFault.UsageFault, Options.IsParsed, Settings.Chooses, Settings.Reads}
 use Rattle.irig_settings.specs.declared.chosen.UsageFault.TheVariants as fault
 use Rattle.std.proofs.Common.{List, inl}
-use Rattle.irig_settings.specs.Options.{IsParsed}
-use Rattle.irig_settings.specs.Settings.{Chooses, Reads}
 use Rattle.irig_settings.proofs.command_line.settings.Goals as goal
 
 reads_of : (words : List Text) (m : ArgMatches) (r : Result Settings UsageFault) → IsParsed words m → Chooses (found_of m) r → Reads words r

@@ -1,6 +1,5 @@
 use Rattle.std.proofs.Common.{◌≡◌, suc, ◌+◌, ◌-◌, ap, sym, ◌∙◌, arith}
-use Rattle.irig_stamps.specs.Columns.{onward, word_at}
-use Rattle.irig_stamps.specs.declared.cutting.Until.TheVariants.{Blank}
+use Rattle.irig_stamps.specs.{Columns.onward, Columns.word_at, declared.cutting.Until.TheVariants.Blank}
 use Rattle.irig_stamps.proofs.columns.word.Goals as goal
 
 pub loop-passed-preserved : goal.loop-passed-preserved

@@ -1,8 +1,7 @@
 use Rattle.std.proofs.Common.{take, drop, ◌+◌, sym, arith, length-drop}
 use Rattle.std.proofs.lemmas.List.{take-append-drop}
 use Rattle.std.proofs.KnownBytes.{Appends-kept}
-use Rattle.irig_stamps.proofs.Known.{wrote_more, rest_some}
-use Rattle.irig_stamps.proofs.Known.{rest_whole}
+use Rattle.irig_stamps.proofs.Known.{wrote_more, rest_some, rest_whole}
 use Rattle.irig_stamps.proofs.printing.put_all.Goals as goal
 
 pub loop-done-preserved : goal.loop-done-preserved

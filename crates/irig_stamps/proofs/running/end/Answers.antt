@@ -1,8 +1,7 @@
 use Rattle.std.proofs.Common.{rules, ◌≡◌, ◌≢◌, ◌<◌, [], length, ap, refl, arith}
 use Rattle.std.proofs.KnownBytes.{Consumes-nil}
 use Rattle.irig_stamps.specs.declared.fault.RunFault.TheVariants.{OutOfMemory}
-use Rattle.irig_stamps.proofs.Known.{no-items}
-use Rattle.irig_stamps.proofs.RunSteps.{ended-line, ended-whole, stopped}
+use Rattle.irig_stamps.proofs.{Known.no-items, RunSteps.ended-line, RunSteps.ended-whole, RunSteps.stopped}
 use Rattle.irig_stamps.proofs.running.end.Goals as goal
 
 pub returns-then-is_empty-clause-step : goal.returns-then-is_empty-clause-step

@@ -2,9 +2,7 @@ use Rattle.std.proofs.Common.{[], refl, sym, subst}
 use Rattle.std.specs.Prelude.{Ok}
 use Rattle.std.proofs.KnownBytes.{Consumes-nil}
 use Rattle.irig_track.specs.Track.{TrackView}
-use Rattle.irig_stamps.specs.Runs.{Ran}
-use Rattle.irig_stamps.specs.Steps.{GoesOn, Underway}
-use Rattle.irig_stamps.specs.declared.fault.RunFault.TheVariants.{TooManyReads}
+use Rattle.irig_stamps.specs.{Runs.Ran, Steps.GoesOn, Steps.Underway, declared.fault.RunFault.TheVariants.TooManyReads}
 use Rattle.irig_stamps.proofs.RunSteps.{begun-with, stopped}
 use Rattle.irig_stamps.proofs.running.run.Goals as goal
 

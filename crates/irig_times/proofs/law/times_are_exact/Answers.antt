@@ -1,7 +1,5 @@
-use Rattle.irig_times.proofs.Calendar.{times_are_of_calendar}
-use Rattle.irig_times.proofs.Chains.{chains_never_fall}
-use Rattle.irig_times.proofs.OneTime.{one_time}
 use Rattle.irig_times.proofs.TimeLaws.{before_the_next, exact_at_points, in_its_minute, never_falls, picoseconds_suffice}
+use Rattle.irig_times.proofs.{Calendar.times_are_of_calendar, Chains.chains_never_fall, OneTime.one_time}
 use Rattle.irig_times.proofs.law.times_are_exact.Goals as goal
 
 pub returns-clause-one : goal.returns-clause-one

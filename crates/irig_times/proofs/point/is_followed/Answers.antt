@@ -1,10 +1,8 @@
 use Rattle.std.proofs.Common.{◌≡◌, ℕ, ◌+◌, ◌-◌, ◌*◌, true, Some, refl, ap, ap₂, sym, ◌∙◌, subst, arith}
 use Rattle.std.proofs.lemmas.Option.{none-some, same_Some}
 use Rattle.irig_codes.specs.Format.{frame_period_of}
-use Rattle.irig_times.specs.Follows.{is_later}
-use Rattle.irig_times.specs.Times.{time_in}
-use Rattle.irig_times.proofs.FrameLookLemmas.{looked-next, looked-none}
-use Rattle.irig_times.proofs.Records.{begins-next, begins-none}
+use Rattle.irig_times.specs.{Follows.is_later, Times.time_in}
+use Rattle.irig_times.proofs.{FrameLookLemmas.looked-next, FrameLookLemmas.looked-none, Records.begins-next, Records.begins-none}
 use Rattle.irig_times.proofs.point.is_followed.Goals as goal
 
 pub returns-then-point-len-clause-exact : goal.returns-then-point-len-clause-exact

@@ -1,8 +1,7 @@
 use Rattle.std.proofs.Common.{◌≡◌, ℕ, ◌+◌, ◌-◌, length, slice_get, Some, ap, sym, ◌∙◌, subst, arith}
 use Rattle.std.proofs.lemmas.Option.{none-some}
 use Rattle.irig_times.specs.FrameLooks.{PartedAt}
-use Rattle.irig_times.proofs.FrameLookLemmas.{looked-next}
-use Rattle.irig_times.proofs.Records.{element-last, records-rise}
+use Rattle.irig_times.proofs.{FrameLookLemmas.looked-next, Records.element-last, Records.records-rise}
 use Rattle.irig_times.proofs.point.point_at.Goals as goal
 
 pub find-next-requires : goal.find-next-requires

@@ -3,13 +3,9 @@ use Rattle.std.proofs.lemmas.Option.{none-some, same_Some, slice_get_within}
 use Rattle.irig_codes.specs.declared.fields.Fields.{Fields}
 use Rattle.irig_recording.specs.declared.pulse.Pulse.{Pulse}
 use Rattle.irig_track.specs.Splices.{risen_by}
-use Rattle.irig_index.specs.Frames.{frames}
-use Rattle.irig_index.specs.declared.record.Record.{Record}
+use Rattle.irig_index.specs.{Frames.frames, declared.record.Record.Record}
 use Rattle.irig_times.specs.Elements.{IntervalEnds, IsElement}
-use Rattle.irig_times.proofs.Found.{last-risen, no-element}
-use Rattle.irig_times.proofs.FrameLookLemmas.{looked-both}
-use Rattle.irig_times.proofs.OneTime.{time-by}
-use Rattle.irig_times.proofs.PulseLooks.{through-search}
+use Rattle.irig_times.proofs.{Found.last-risen, Found.no-element, FrameLookLemmas.looked-both, OneTime.time-by, PulseLooks.through-search}
 use Rattle.irig_times.proofs.timing.time_at.Goals as goal
 
 pub pulse-from-requires : goal.pulse-from-requires

@@ -3,9 +3,8 @@ use Rattle.irig_gap.specs.Items.{GapView, gap_view}
 use Rattle.irig_recording.specs.declared.pulse.Pulse.{Pulse}
 use Rattle.irig_track.specs.Edges.{pulse}
 use Rattle.irig_track.proofs.MovedPulses.{next_unmoved, more_moved}
-use Rattle.irig_track.proofs.Places.{rise_within, pulse_within}
+use Rattle.irig_track.proofs.{Places.rise_within, Places.pulse_within, shift.move_pulses.Goals.After-get-pulse}
 use Rattle.irig_track.proofs.shift.move_pulses.Goals as goal
-use Rattle.irig_track.proofs.shift.move_pulses.Goals.{After-get-pulse}
 
 -- the pulse that is read is the next one to be moved
 is_next : (c : After-get-pulse) → slice_get c.args.pulses.now.items (c.args.at + c.loop-moved.moved) ≡ Some c.get-pulse.result

@@ -1,6 +1,5 @@
 use Rattle.std.proofs.Common.{rules, subst, sym}
-use Rattle.irig_track.specs.Edges.{pulse}
-use Rattle.irig_track.specs.Sides.{Wrote}
+use Rattle.irig_track.specs.{Edges.pulse, Sides.Wrote}
 use Rattle.irig_track.proofs.Turns.{wrote_step}
 use Rattle.irig_track.proofs.sides.put_last.Goals as goal
 

@@ -1,8 +1,8 @@
 use Rattle.std.proofs.Common.{arith}
 use Rattle.irig_track.proofs.PulsesBetween.{stand_here, stand_next}
-use Rattle.irig_track.proofs.stands.stands.Goals as goal
 use Rattle.irig_track.proofs.stands.stands.Goals.{then-pulse-low-via-then-pulse-low, then-pulse-low-via-else-pulse-low+then-pulse}
 use Rattle.irig_track.proofs.stands.stands.Goals.{then-pulse-low-via-else-pulse-low+else-pulse+then-pulse-high}
+use Rattle.irig_track.proofs.stands.stands.Goals as goal
 
 pub returns-then-pulse-low : goal.returns-then-pulse-low
 returns-then-pulse-low c = (

@@ -2,8 +2,8 @@ use Rattle.std.proofs.Common.{arith, sym, ◌∙◌, ◌≡◌, Some, None, ap}
 use Rattle.irig_recording.specs.declared.pulse.Pulse.{Pulse}
 use Rattle.irig_track.specs.Sides.{right_of}
 use Rattle.irig_track.proofs.Turns.{NotHere, finished_some, finished_below, finished_above, finished_at}
-use Rattle.irig_track.proofs.toggle.finish.Goals as goal
 use Rattle.irig_track.proofs.toggle.finish.Goals.{In_default, in_default-via-in-Some+else-last-b, in_default-via-in_default}
+use Rattle.irig_track.proofs.toggle.finish.Goals as goal
 
 pub returns-in-Some : goal.returns-in-Some
 returns-in-Some c = finished_some c.args.b c.args.rise c.in-Some.last _ c.take_next.new.pulses _ c.requires.rises c.requires.left c.if-last-b.true

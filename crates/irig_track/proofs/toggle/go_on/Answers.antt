@@ -1,7 +1,6 @@
 use Rattle.std.proofs.Common.{arith, sym, ◌∙◌, subst, refl}
 use Rattle.irig_recording.specs.Recording.{RisesFrom}
-use Rattle.irig_track.specs.Edges.{pulse}
-use Rattle.irig_track.specs.Sides.{Took, waiting}
+use Rattle.irig_track.specs.{Edges.pulse, Sides.Took, Sides.waiting}
 use Rattle.irig_track.proofs.Turns.{stays_same, stays_step, waiting_on, under_on, late_some, late_none, waits_below}
 use Rattle.irig_track.proofs.toggle.go_on.Goals as goal
 

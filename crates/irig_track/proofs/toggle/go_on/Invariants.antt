@@ -1,6 +1,5 @@
 use Rattle.std.proofs.Common.{◌-◌, ◌≡◌, length}
-use Rattle.irig_track.specs.Edges.{edges_of, Under}
-use Rattle.irig_track.specs.Sides.{left_of, waiting, Stays}
+use Rattle.irig_track.specs.{Edges.edges_of, Edges.Under, Sides.left_of, Sides.waiting, Sides.Stays}
 use Rattle.irig_track.proofs.toggle.go_on.Given as goal
 
 abbrev pub invariant-loop-first : goal.invariant-loop-first

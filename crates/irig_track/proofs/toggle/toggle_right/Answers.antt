@@ -1,7 +1,6 @@
 use Rattle.std.proofs.Common.{arith, sym, ◌∙◌, ◌+◌, subst}
 use Rattle.irig_recording.specs.Recording.{RisesFrom}
-use Rattle.irig_track.proofs.RisingLists.{RisesFrom-flipped, Under-more}
-use Rattle.irig_track.proofs.Turns.{stays_then, stays_up}
+use Rattle.irig_track.proofs.{RisingLists.RisesFrom-flipped, RisingLists.Under-more, Turns.stays_then, Turns.stays_up}
 use Rattle.irig_track.proofs.toggle.toggle_right.Goals as goal
 
 pub go_on-rise-requires-clause-rises : goal.go_on-rise-requires-clause-rises

@@ -1,7 +1,6 @@
 use Rattle.std.proofs.Common.{◌≡◌, ◌+◌, ◌/◌, ◌^◌, ap, sym, ◌∙◌, cond}
-use Rattle.irig_codes.proofs.OnesSteps.{and-gathered}
+use Rattle.irig_codes.proofs.{OnesSteps.and-gathered, gathering.Gathering.and.Goals.then-is_one, gathering.Gathering.and.Goals.else-is_one}
 use Rattle.irig_codes.proofs.gathering.Gathering.and.Goals as goal
-use Rattle.irig_codes.proofs.gathering.Gathering.and.Goals.{then-is_one, else-is_one}
 
 pub returns : goal.returns
 returns c =

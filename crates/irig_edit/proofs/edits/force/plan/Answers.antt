@@ -1,6 +1,5 @@
 use Rattle.std.proofs.Common.{rules, arith, ◌+◌, ap, sym, ◌∙◌, length}
-use Rattle.irig_codes.specs.Format.{FormatView}
-use Rattle.irig_codes.specs.Width.{nominal_of}
+use Rattle.irig_codes.specs.{Format.FormatView, Width.nominal_of}
 use Rattle.irig_edit.proofs.EditLemmas.ChangedPulses.{forced, next_free}
 use Rattle.irig_edit.proofs.edits.force.plan.Goals as goal
 use Rattle.irig_codes.proofs.WidthLemmas.{nominal_of-within}

@@ -1,6 +1,5 @@
 use Rattle.std.proofs.Common.{ap, ◌∙◌, arith}
-use Rattle.irig_codes.specs.Encoding.{encoded}
-use Rattle.irig_codes.specs.declared.fields.Fields.{Fields}
+use Rattle.irig_codes.specs.{Encoding.encoded, declared.fields.Fields.Fields}
 use Rattle.irig_gap.specs.Items.{GapView}
 use Rattle.irig_recording.specs.declared.pulse.Pulse.{Pulse}
 use Rattle.irig_edit.specs.Edits.Regenerated.{frame_elements}

@@ -1,9 +1,6 @@
 use Rattle.std.proofs.Common.{rules, ◌≡◌, ◌+◌, ◌-◌, ℕ, [], ◌∷◌, arith, subst, sym, ◌∙◌, ap, length}
-use Rattle.irig_track.specs.Edges.{pulse}
-use Rattle.irig_track.specs.Splices.{CanSplice, spliced}
-use Rattle.irig_edit.specs.Edits.Becoming.{Becomes}
-use Rattle.irig_edit.specs.Session.Calls.Edit.{Insert}
-use Rattle.irig_edit.specs.State.State.{with_pulses}
+use Rattle.irig_track.specs.{Edges.pulse, Splices.CanSplice, Splices.spliced}
+use Rattle.irig_edit.specs.{Edits.Becoming.Becomes, Session.Calls.Edit.Insert, State.State.with_pulses}
 use Rattle.irig_edit.proofs.EditLemmas.Insertions.{inserted}
 use Rattle.irig_edit.proofs.edits.insert.plan.Goals as goal
 

@@ -1,20 +1,15 @@
 use Rattle.std.proofs.Common.{rules, ℕ, subst, ◌≡◌, ◌≤◌, ◌+◌, ◌-◌, ◌*◌, ◌^◌, true, false, length, refl, ap, sym, ◌∙◌, arith}
 use Rattle.irig_codes.specs.Format.{FormatView, control_count_of}
-use Rattle.irig_moment.specs.Generated.{starts_in}
-use Rattle.irig_moment.specs.Moment.{MomentView}
+use Rattle.irig_moment.specs.{Generated.starts_in, Moment.MomentView}
 use Rattle.irig_track.specs.Splices.{CanSplice, spliced}
-use Rattle.irig_edit.specs.Edits.Becoming.{Becomes}
-use Rattle.irig_edit.specs.Session.Calls.Edit.{Regen}
-use Rattle.irig_edit.specs.State.State.{IsState, State, with_pulses}
 use Rattle.irig_edit.specs.Edits.Conditions.{are_frames, is_met, are_too_many}
 use Rattle.irig_edit.specs.Edits.Regenerated.{frames_end, frames_pulses, rising_before, rising_in}
-use Rattle.irig_saved.specs.declared.change.Change.TheVariants.{One}
-use Rattle.irig_saved.specs.declared.single.Single.TheVariants.{Splice}
+use Rattle.irig_edit.specs.{Edits.Becoming.Becomes, Session.Calls.Edit.Regen, State.State.IsState, State.State.State, State.State.with_pulses}
+use Rattle.irig_saved.specs.{declared.change.Change.TheVariants.One, declared.single.Single.TheVariants.Splice}
 use Rattle.irig_edit.proofs.EditLemmas.GenerationTests.{end_said, frames_said, too_many_yes, too_many_no, is_wide_yes, is_wide_no}
-use Rattle.irig_edit.proofs.EditLemmas.Regenerations.{regenerated}
-use Rattle.irig_edit.proofs.StateLemmas.Risings.{before_end}
-use Rattle.irig_edit.proofs.edits.regen.plan.Goals as goal
 use Rattle.irig_edit.proofs.edits.regen.plan.Goals.{After-control_count, After-moment-1, After-rising_before, After-starts}
+use Rattle.irig_edit.proofs.{EditLemmas.Regenerations.regenerated, StateLemmas.Risings.before_end}
+use Rattle.irig_edit.proofs.edits.regen.plan.Goals as goal
 
 -- what is known of a state once the places of the start and of the end are found
 record Found (start frames at by : ℕ) (s : State) : Type 0 where

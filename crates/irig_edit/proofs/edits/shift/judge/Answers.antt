@@ -1,12 +1,9 @@
 use Rattle.std.proofs.Common.{◌≡◌, ◌≤◌, ◌-◌, ℕ, ℤ, ap, arith, sym, subst, ◌∙◌, refl, true, false, length, w64}
-use Rattle.std.proofs.lemmas.Bool.Decides.{nat_tests}
-use Rattle.std.proofs.lemmas.Int.{to_z-of_z}
+use Rattle.std.proofs.lemmas.{Bool.Decides.nat_tests, Int.to_z-of_z}
 use Rattle.irig_track.specs.Shifts.{CanShift}
-use Rattle.irig_edit.specs.Edits.Conditions.{are_pulses, leaves}
-use Rattle.irig_edit.specs.State.State.{State}
-use Rattle.irig_edit.proofs.EditLemmas.Shifts.{meets_not, meets_some}
+use Rattle.irig_edit.specs.{Edits.Conditions.are_pulses, Edits.Conditions.leaves, State.State.State}
+use Rattle.irig_edit.proofs.{EditLemmas.Shifts.meets_not, EditLemmas.Shifts.meets_some, edits.shift.judge.Goals.After-can_shift}
 use Rattle.irig_edit.proofs.edits.shift.judge.Goals as goal
-use Rattle.irig_edit.proofs.edits.shift.judge.Goals.{After-can_shift}
 
 -- what is known of the pulses of a shift that does not leave the track
 record Stays (i j : ℕ) (d : ℤ) (s : State) : Type 0 where

@@ -2,13 +2,9 @@ use Rattle.std.proofs.Common.{suc, ℕ, rules, ◌≡◌, ◌-◌, ℤ, List, Bo
 use Rattle.std.proofs.lemmas.Int.{to_z-of_z}
 use Rattle.irig_recording.specs.declared.pulse.Pulse.{Pulse}
 use Rattle.irig_track.specs.Shifts.{CanShift}
-use Rattle.irig_edit.specs.Edits.Becoming.{Becomes}
-use Rattle.irig_edit.specs.Session.Calls.Edit.{Shift}
-use Rattle.irig_saved.specs.declared.change.Change.TheVariants.{One}
 use Rattle.irig_edit.specs.Changes.Single.{FitsSingle, turned_single}
-use Rattle.irig_saved.specs.declared.single.Single.TheVariants.{Shift as Shifted}
-use Rattle.irig_edit.specs.Edits.Edits.{pulse_of}
-use Rattle.irig_edit.specs.State.Marks.{AllMayMove, stands}
+use Rattle.irig_edit.specs.{Edits.Becoming.Becomes, Session.Calls.Edit.Shift, Edits.Edits.pulse_of, State.Marks.AllMayMove, State.Marks.stands}
+use Rattle.irig_saved.specs.{declared.change.Change.TheVariants.One, declared.single.Single.TheVariants.Shift as Shifted}
 use Rattle.irig_edit.proofs.EditLemmas.ShiftedStates.{marks_may, shifted_becomes}
 use Rattle.irig_edit.proofs.edits.shift.plan.Goals as goal
 

@@ -1,8 +1,6 @@
 use Rattle.std.proofs.Common.{◌≡◌, [], ℕ, None, ap, subst, sym, ◌∙◌}
 use Rattle.irig_recording.specs.Recording.{RecordingView}
-use Rattle.irig_edit.specs.Opened.Opened.{mark_beyond, state_of}
-use Rattle.irig_edit.specs.State.State.{State}
-use Rattle.irig_edit.specs.Opened.Walk.{walk}
+use Rattle.irig_edit.specs.{Opened.Opened.mark_beyond, Opened.Opened.state_of, State.State.State, Opened.Walk.walk}
 use Rattle.irig_edit.proofs.OpenedLemmas.Heads.{head_within, opened_state}
 use Rattle.irig_edit.proofs.opened.head.start.Goals as goal
 

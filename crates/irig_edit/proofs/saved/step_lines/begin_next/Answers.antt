@@ -1,11 +1,7 @@
 use Rattle.std.proofs.Common.{rules, ◌≡◌, ◌∷◌}
-use Rattle.irig_journal.specs.Held.{held_of}
-use Rattle.irig_journal.specs.History.{step}
-use Rattle.irig_saved.specs.Lines.{text_of}
-use Rattle.irig_saved.specs.SavedText.{step_lines}
-use Rattle.irig_edit.specs.Changes.Held.{delta_of, deltas_of}
-use Rattle.irig_edit.specs.Saved.Saved.{saved_step}
-use Rattle.irig_edit.specs.Saved.SavedParts.{steps_text}
+use Rattle.irig_journal.specs.{Held.held_of, History.step}
+use Rattle.irig_saved.specs.{Lines.text_of, SavedText.step_lines}
+use Rattle.irig_edit.specs.{Changes.Held.delta_of, Changes.Held.deltas_of, Saved.Saved.saved_step, Saved.SavedParts.steps_text}
 use Rattle.irig_edit.proofs.SavedLemmas.Rests.{next_begun, steps-next}
 use Rattle.irig_edit.proofs.saved.step_lines.begin_next.Goals as goal
 

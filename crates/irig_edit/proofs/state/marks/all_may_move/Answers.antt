@@ -2,9 +2,9 @@ use Rattle.std.proofs.Common.{ℤ, ◌≡◌, true, false, sym, subst, arith, �
 use Rattle.std.proofs.lemmas.Int.{to_z-of_z}
 use Rattle.irig_edit.specs.State.Marks.{AllMayMove}
 use Rattle.irig_edit.proofs.StateLemmas.MovedMarks.{may_more, may_all, may_one}
-use Rattle.irig_edit.proofs.state.marks.all_may_move.Goals as goal
 use Rattle.irig_edit.proofs.state.marks.all_may_move.Goals.{else-letters-letter-via-then-letters-letter+else-not-may_move}
 use Rattle.irig_edit.proofs.state.marks.all_may_move.Goals.{else-letters-letter-via-else-letters-letter}
+use Rattle.irig_edit.proofs.state.marks.all_may_move.Goals as goal
 
 pub returns-then-not-may_move : goal.returns-then-not-may_move
 returns-then-not-may_move c =

@@ -1,8 +1,6 @@
 use Rattle.std.proofs.Common.{ℤ, Option, List, ℕ, false, None, get_or, ◌^◌, ap, sym, subst, arith, ◌∙◌, to_z, of_z, w64}
 use Rattle.std.proofs.lemmas.Int.{to_z-of_z}
-use Rattle.irig_edit.specs.State.Marks.{marks_moved, moved_if}
-use Rattle.irig_edit.specs.Changes.Laws.SetMarks.{mark_within}
-use Rattle.irig_edit.specs.State.State.{IsMark}
+use Rattle.irig_edit.specs.{State.Marks.marks_moved, State.Marks.moved_if, Changes.Laws.SetMarks.mark_within, State.State.IsMark}
 use Rattle.irig_edit.proofs.StateLemmas.MovedMarks.{made_first-more, made_first-next, moved_all}
 use Rattle.irig_edit.proofs.state.marks.move_marks.Goals as goal
 

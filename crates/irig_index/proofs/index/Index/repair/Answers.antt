@@ -1,14 +1,9 @@
 use Rattle.std.proofs.Common.{◌≡◌, ◌-◌, ◌+◌, ◌*◌, ◌%◌, ◌^◌, length, min, take, ap, subst, ◌∙◌, sym, arith}
-use Rattle.irig_index.specs.Frames.{records_in}
-use Rattle.irig_index.specs.Looked.{Looked}
-use Rattle.irig_index.specs.Sides.{shown}
-use Rattle.irig_index.specs.Stale.{LastMayBeStale}
-use Rattle.irig_index.proofs.LookLemmas.{looked_more}
+use Rattle.irig_index.specs.{Frames.records_in, Looked.Looked, Sides.shown, Stale.LastMayBeStale}
 use Rattle.irig_index.proofs.PlaceLemmas.{passed_in, same_pulses}
 use Rattle.irig_index.proofs.RepairLemmas.{Filled, all_room, frames_long, kept_in_place, length-filled, repaired, stale, were_kept}
-use Rattle.irig_index.proofs.SideLemmas.{length-shown}
+use Rattle.irig_index.proofs.{LookLemmas.looked_more, SideLemmas.length-shown, index.Index.repair.Goals.After-cut_out}
 use Rattle.irig_index.proofs.index.Index.repair.Goals as goal
-use Rattle.irig_index.proofs.index.Index.repair.Goals.{After-cut_out}
 
 pub retell_up_to-some_go-requires : goal.retell_up_to-some_go-requires
 retell_up_to-some_go-requires c = λ count before after.

@@ -1,7 +1,5 @@
 use Rattle.std.proofs.Common.{map, ap, sym, refl, ◌∙◌}
-use Rattle.irig_journal.specs.Groups.{aborted}
-use Rattle.irig_journal.specs.Journal.{grouped_of, told}
-use Rattle.irig_journal.specs.Sides.{steps_on}
+use Rattle.irig_journal.specs.{Groups.aborted, Journal.grouped_of, Journal.told, Sides.steps_on}
 use Rattle.irig_journal.proofs.FloorLemmas.{aborted_by, grouped_at}
 use Rattle.irig_journal.proofs.journal.Journal.abort.Goals as goal
 

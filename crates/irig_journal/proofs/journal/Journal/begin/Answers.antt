@@ -1,9 +1,6 @@
 use Rattle.std.proofs.Common.{rules, ◌≡◌, None, Some, length, map, ap, sym, ◌∙◌, arith}
-use Rattle.irig_journal.specs.Groups.{begun}
-use Rattle.irig_journal.specs.Journal.{grouped_of, past_of, told}
-use Rattle.irig_journal.specs.Sides.{steps_on}
-use Rattle.irig_journal.proofs.FloorLemmas.{begun_by, grouped_at}
-use Rattle.irig_journal.proofs.SideLemmas.{length-told}
+use Rattle.irig_journal.specs.{Groups.begun, Journal.grouped_of, Journal.past_of, Journal.told, Sides.steps_on}
+use Rattle.irig_journal.proofs.{FloorLemmas.begun_by, FloorLemmas.grouped_at, SideLemmas.length-told}
 use Rattle.irig_journal.proofs.journal.Journal.begin.Goals as goal
 
 pub returns-clause-grouped : goal.returns-clause-grouped

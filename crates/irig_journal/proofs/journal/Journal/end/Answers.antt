@@ -1,15 +1,9 @@
 use Rattle.std.proofs.Common.{rules, ◌≡◌, Some, map, ap, sym, subst, ◌∙◌, arith}
 use Rattle.std.specs.Prelude.{IfSome}
-use Rattle.irig_journal.specs.Groups.{ended}
-use Rattle.irig_journal.specs.Held.{held_in}
-use Rattle.irig_journal.specs.History.{FitInTurn}
-use Rattle.irig_journal.specs.Joining.{beyond, changes_of, joined_beyond}
 use Rattle.irig_journal.specs.Journal.{AreReady, ReadyInTurn, grouped_of, past_of, told}
-use Rattle.irig_journal.specs.Sides.{steps_on}
+use Rattle.irig_journal.specs.{Groups.ended, Held.held_in, History.FitInTurn, Joining.beyond, Joining.changes_of, Joining.joined_beyond, Sides.steps_on}
 use Rattle.irig_journal.proofs.EntryLemmas.{ended_steps, fit_ended, whole_ended}
-use Rattle.irig_journal.proofs.FloorLemmas.{ended_by, floor_in, grouped_at}
-use Rattle.irig_journal.proofs.HeldLemmas.{flat-held_in}
-use Rattle.irig_journal.proofs.JoinLemmas.{fit_parts}
+use Rattle.irig_journal.proofs.{FloorLemmas.ended_by, FloorLemmas.floor_in, FloorLemmas.grouped_at, HeldLemmas.flat-held_in, JoinLemmas.fit_parts}
 use Rattle.irig_journal.proofs.journal.Journal.end.Goals as goal
 
 pub invariant_of-self : goal.invariant_of-self

@@ -1,17 +1,10 @@
 use Rattle.std.proofs.Common.{rules, ◌≡◌, ◌⊎◌, ◌≤◌, ◌<◌, ◌+◌, ◌-◌, ◌∷◌, None, length, map, take, drop, vec_len, vec_capacity, ap, sym, subst, ◌∙◌, arith}
 use Rattle.std.proofs.lemmas.List.{take-append-drop}
-use Rattle.irig_journal.specs.Held.{HaveAll, flat, held_in}
-use Rattle.irig_journal.specs.History.{FitInTurn, step}
-use Rattle.irig_journal.specs.Joining.{beyond, changes_of, farthest}
 use Rattle.irig_journal.specs.Journal.{AreReady, ReadyInTurn, future_of, past_of, told}
-use Rattle.irig_journal.specs.Openings.{StandsOnFloor}
-use Rattle.irig_journal.specs.Sides.{steps_on}
-use Rattle.irig_journal.specs.Sizes.{counts_of, joined_as}
-use Rattle.irig_journal.proofs.EntryLemmas.{joined_steps, whole_joined}
-use Rattle.irig_journal.proofs.FloorLemmas.{floor_in}
-use Rattle.irig_journal.proofs.HeldLemmas.{counts-append, flat-held_in}
-use Rattle.irig_journal.proofs.JoinLemmas.{fit_joined, fit_parts}
-use Rattle.irig_journal.proofs.SideLemmas.{lacks_group, length-told}
+use Rattle.irig_journal.specs.{Held.HaveAll, Held.flat, Held.held_in, History.FitInTurn, History.step, Joining.beyond, Joining.changes_of, Joining.farthest}
+use Rattle.irig_journal.specs.{Openings.StandsOnFloor, Sides.steps_on, Sizes.counts_of, Sizes.joined_as}
+use Rattle.irig_journal.proofs.{EntryLemmas.joined_steps, EntryLemmas.whole_joined, FloorLemmas.floor_in, HeldLemmas.counts-append, HeldLemmas.flat-held_in}
+use Rattle.irig_journal.proofs.{JoinLemmas.fit_joined, JoinLemmas.fit_parts, SideLemmas.lacks_group, SideLemmas.length-told}
 use Rattle.irig_journal.proofs.journal.Journal.gather.Goals as goal
 
 pub overflow_sub-at : goal.overflow_sub-at

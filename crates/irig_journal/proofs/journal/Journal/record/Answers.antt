@@ -1,12 +1,7 @@
 use Rattle.std.proofs.Common.{◌≡◌, ◌∷◌, length, map, ap, subst, ◌∙◌, arith}
-use Rattle.irig_journal.specs.Groups.{recorded_over}
-use Rattle.irig_journal.specs.History.{step}
 use Rattle.irig_journal.specs.Journal.{grouped_of, one_of, told}
-use Rattle.irig_journal.specs.Machine.{kept}
-use Rattle.irig_journal.specs.Openings.{StandsOnFloor}
-use Rattle.irig_journal.specs.Sides.{steps_on}
-use Rattle.irig_journal.proofs.FloorLemmas.{recorded_by}
-use Rattle.irig_journal.proofs.SideLemmas.{length-told, same_steps}
+use Rattle.irig_journal.specs.{Groups.recorded_over, History.step, Machine.kept, Openings.StandsOnFloor, Sides.steps_on}
+use Rattle.irig_journal.proofs.{FloorLemmas.recorded_by, SideLemmas.length-told, SideLemmas.same_steps}
 use Rattle.irig_journal.proofs.journal.Journal.record.Goals as goal
 
 pub returns-clause-grouped : goal.returns-clause-grouped

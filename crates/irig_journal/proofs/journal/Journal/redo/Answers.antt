@@ -1,11 +1,7 @@
 use Rattle.std.proofs.Common.{map, length, ap, sym, subst, ◌∙◌, arith}
 use Rattle.std.specs.Prelude.{option_map}
-use Rattle.irig_journal.specs.Groups.{redone_over}
-use Rattle.irig_journal.specs.History.{FitInTurn, step}
 use Rattle.irig_journal.specs.Journal.{future_of, grouped_of, told}
-use Rattle.irig_journal.specs.Machine.{mirrored}
-use Rattle.irig_journal.specs.Openings.{StandsOnFloor}
-use Rattle.irig_journal.specs.Sides.{steps_on}
+use Rattle.irig_journal.specs.{Groups.redone_over, History.FitInTurn, History.step, Machine.mirrored, Openings.StandsOnFloor, Sides.steps_on}
 use Rattle.irig_journal.proofs.FloorLemmas.{floor_in, floor_kept, stepped_back-parts, redone_over_by}
 use Rattle.irig_journal.proofs.SideLemmas.{length-told}
 use Rattle.irig_journal.proofs.journal.Journal.redo.Goals as goal

@@ -1,8 +1,5 @@
 use Rattle.std.proofs.Common.{rules, ◌≡◌, ◌<◌, [], map, length, ap, sym, subst, ◌∙◌, arith}
-use Rattle.irig_journal.specs.Groups.{undone_over}
-use Rattle.irig_journal.specs.Journal.{grouped_of, past_of, told}
-use Rattle.irig_journal.specs.Openings.{AtFloor}
-use Rattle.irig_journal.specs.Sides.{steps_on}
+use Rattle.irig_journal.specs.{Groups.undone_over, Journal.grouped_of, Journal.past_of, Journal.told, Openings.AtFloor, Sides.steps_on}
 use Rattle.irig_journal.proofs.FloorLemmas.{floor_in, floor_kept, not_at_floor, stands_below, stepped_back-parts, undone_over_by}
 use Rattle.irig_journal.proofs.SideLemmas.{length-told}
 use Rattle.irig_journal.proofs.journal.Journal.undo.Goals as goal

@@ -1,6 +1,5 @@
 use Rattle.std.proofs.Common.{arith}
-use Rattle.irig_moment.proofs.Days.{last-day}
-use Rattle.irig_moment.proofs.FieldRanges.{elapsed-small}
+use Rattle.irig_moment.proofs.{Days.last-day, FieldRanges.elapsed-small}
 use Rattle.irig_moment.proofs.moment.Moment.fields.Goals as goal
 
 pub overflow_add-day : goal.overflow_add-day

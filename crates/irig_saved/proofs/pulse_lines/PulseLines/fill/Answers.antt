@@ -1,8 +1,7 @@
 use Rattle.std.proofs.Common.{◌++◌, ◌+◌, ℕ, List, Option, ap, drop, sym, ◌∙◌, arith}
 use Rattle.std.specs.Borrow.{Bor}
-use Rattle.irig_saved.specs.SavedText.{pulse_line, pulse_lines}
+use Rattle.irig_saved.specs.{SavedText.pulse_line, SavedText.pulse_lines, LinesLeft.pulses_left}
 use Rattle.irig_recording.specs.declared.pulse.Pulse.{Pulse}
-use Rattle.irig_saved.specs.LinesLeft.{pulses_left}
 use Rattle.irig_saved.proofs.LinesInRow.{line_first, pulses-end, pulses-next}
 use Rattle.irig_saved.proofs.pulse_lines.PulseLines.fill.Goals as goal
 

@@ -1,7 +1,5 @@
 use Rattle.std.proofs.Common.{◌≡◌, ◌++◌, ℕ, drop}
-use Rattle.irig_saved.specs.Lines.{text_of}
-use Rattle.irig_saved.specs.SavedText.{pulse_lines}
-use Rattle.irig_saved.specs.LinesLeft.{pulses_left}
+use Rattle.irig_saved.specs.{Lines.text_of, SavedText.pulse_lines, LinesLeft.pulses_left}
 use Rattle.irig_saved.proofs.pulse_lines.PulseLines.fill.Given as goal
 
 -- the block, with the lines of the pulses that are left

@@ -1,6 +1,5 @@
 use Rattle.std.proofs.Common.{◌+◌, ◌-◌, ◌/◌, slice_get, ap, sym, ◌∙◌, arith}
-use Rattle.irig_times.proofs.FrameLookLemmas.{narrowed_half}
-use Rattle.irig_times.proofs.Records.{after_here, up_to_here}
+use Rattle.irig_times.proofs.{FrameLookLemmas.narrowed_half, Records.after_here, Records.up_to_here}
 use Rattle.irig_times.proofs.frame_lens.FrameLens.find.Goals as goal
 
 pub loop-low-preserved-then-record-number : goal.loop-low-preserved-then-record-number

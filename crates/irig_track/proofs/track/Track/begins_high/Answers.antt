@@ -1,8 +1,7 @@
 use Rattle.std.proofs.Common.{ap, ◌∙◌}
 use Rattle.irig_recording.specs.FileText.{begins_high}
-use Rattle.irig_track.specs.Edges.{edges_of}
-use Rattle.irig_track.specs.Track.{TrackView}
-use Rattle.irig_track.proofs.Texts.{first_high}
+use Rattle.irig_track.specs.{Edges.edges_of, Track.TrackView}
+use Rattle.irig_recording.proofs.WrittenText.{first_high}
 use Rattle.irig_track.proofs.track.Track.begins_high.Goals as goal
 
 pub returns-then-len-gt0-clause-high : goal.returns-then-len-gt0-clause-high

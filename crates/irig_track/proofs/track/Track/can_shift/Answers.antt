@@ -1,12 +1,8 @@
 use Rattle.std.proofs.Common.{arith, ◌≡◌, ◌+◌, ◌<◌, ◌≤◌, ◌∙◌, ap, length, w64, drop, refl}
-use Rattle.std.proofs.lemmas.Bool.{leb-true, lt-ltb, ltb-true}
-use Rattle.std.proofs.lemmas.Int.{to_z-of_z}
-use Rattle.irig_track.specs.Edges.{edges_of}
-use Rattle.irig_track.specs.Free.{first_or}
-use Rattle.irig_track.specs.Shifts.{ahead, back}
-use Rattle.irig_track.proofs.Allowed.{shift_stands, stands_shift}
+use Rattle.std.proofs.lemmas.{Bool.leb-true, Bool.lt-ltb, Bool.ltb-true, Int.to_z-of_z}
+use Rattle.irig_track.specs.{Edges.edges_of, Free.first_or, Shifts.ahead, Shifts.back}
+use Rattle.irig_track.proofs.{Allowed.shift_stands, Allowed.stands_shift, track.Track.can_shift.Goals.After-back_of-back}
 use Rattle.irig_track.proofs.track.Track.can_shift.Goals as goal
-use Rattle.irig_track.proofs.track.Track.can_shift.Goals.{After-back_of-back}
 
 -- how far the pulses move
 distances : (c : After-back_of-back)

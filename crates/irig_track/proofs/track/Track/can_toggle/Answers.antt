@@ -1,8 +1,8 @@
 use Rattle.std.proofs.Common.{arith, ◌≡◌, ◌≤◌, sym, ◌∙◌, true, false, inl, inr}
 use Rattle.std.proofs.lemmas.Bool.{cases_Bool, lt-ltb}
 use Rattle.irig_track.proofs.Recordings.{can_toggle_room, can_toggle_first, can_toggle_second, cannot_toggle}
-use Rattle.irig_track.proofs.track.Track.can_toggle.Goals as goal
 use Rattle.irig_track.proofs.track.Track.can_toggle.Goals.{then-room-gt0, else-room-gt0}
+use Rattle.irig_track.proofs.track.Track.can_toggle.Goals as goal
 
 pub returns-then-is_edge_at : goal.returns-then-is_edge_at
 returns-then-is_edge_at c =

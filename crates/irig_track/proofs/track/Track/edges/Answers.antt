@@ -1,6 +1,5 @@
 use Rattle.std.proofs.Common.{arith, ◌≡◌, ◌+◌, ◌*◌, ◌∙◌, ◌++◌, ◌∷◌, [], ap, sym, take, length, length-take, append_assoc}
-use Rattle.std.proofs.lemmas.List.{take_more}
-use Rattle.std.proofs.lemmas.Option.{slice_get_within, get_or_from_slice_get}
+use Rattle.std.proofs.lemmas.{List.take_more, Option.slice_get_within, Option.get_or_from_slice_get}
 use Rattle.irig_recording.proofs.PulseEdges.{edges_of-append, length-edges_of}
 use Rattle.irig_track.specs.Edges.{edges_of}
 use Rattle.irig_track.proofs.track.Track.edges.Goals as goal

@@ -1,8 +1,8 @@
 use Rattle.std.proofs.Common.{arith, sym, ◌≡◌, ◌∙◌, subst, ap, ◌-◌, ◌<◌, slice_get, Some}
 use Rattle.irig_recording.specs.declared.pulse.Pulse.{Pulse}
 use Rattle.irig_track.proofs.Searches.{ended_at_last, ended_all}
-use Rattle.irig_track.proofs.track.Track.first_reaching.Goals as goal
 use Rattle.irig_track.proofs.track.Track.first_reaching.Goals.{else-risen-gt0-via-then-risen-gt0+else-pulse-time, else-risen-gt0-via-else-risen-gt0}
+use Rattle.irig_track.proofs.track.Track.first_reaching.Goals as goal
 
 pub returns-then-pulse-time : goal.returns-then-pulse-time
 returns-then-pulse-time c = sym (ended_at_last c.args.time 0 (c.find-risen.result - 1) c.pulse.result c.args.self.now.pulses c.find-risen.ensures.track.rises

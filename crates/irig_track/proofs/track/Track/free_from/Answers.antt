@@ -1,6 +1,5 @@
 use Rattle.std.proofs.Common.{◌≡◌, ◌-◌, ◌∙◌, ap, sym, suc, take, arith}
-use Rattle.irig_track.specs.Edges.{edges_of}
-use Rattle.irig_track.specs.Free.{following}
+use Rattle.irig_track.specs.{Edges.edges_of, Free.following}
 use Rattle.irig_track.proofs.PulsesBetween.{following-last}
 use Rattle.irig_track.proofs.track.Track.free_from.Goals as goal
 

@@ -1,7 +1,6 @@
 use Rattle.std.proofs.Common.{◌∙◌, ap, subst, sym}
 use Rattle.irig_recording.specs.Recording.{IsRecording}
-use Rattle.irig_track.specs.Edges.{edges_of}
-use Rattle.irig_track.specs.Track.{TrackView}
+use Rattle.irig_track.specs.{Edges.edges_of, Track.TrackView}
 use Rattle.irig_track.proofs.Recordings.{recording_of}
 use Rattle.irig_track.proofs.track.Track.recording.Goals as goal
 

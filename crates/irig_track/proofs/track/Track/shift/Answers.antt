@@ -1,15 +1,10 @@
 use Rattle.std.proofs.Common.{rules, arith, sym, ◌≡◌, ◌∙◌, subst, ap, ◌+◌, ◌^◌, ◌≤◌, length, map, w64}
-use Rattle.std.proofs.lemmas.Int.{to_z-of_z}
-use Rattle.std.proofs.lemmas.List.{length-map}
+use Rattle.std.proofs.lemmas.{Int.to_z-of_z, List.length-map}
 use Rattle.irig_gap.specs.Items.{GapView}
 use Rattle.irig_recording.specs.declared.pulse.Pulse.{Pulse}
-use Rattle.irig_track.specs.Edges.{edges_of, is_edge, replaced}
 use Rattle.irig_track.specs.Shifts.{moved, moved_pulse, count_to, ahead, back, shifted}
-use Rattle.irig_track.specs.Splices.{spliced, piece, IsSpan}
-use Rattle.irig_track.proofs.Carried.{length-piece}
-use Rattle.irig_track.proofs.Laws.{is_edge-spliced}
-use Rattle.irig_track.proofs.Places.{UpTo-more}
-use Rattle.irig_track.proofs.Spans.{span_spliced}
+use Rattle.irig_track.specs.{Edges.edges_of, Edges.is_edge, Edges.replaced, Splices.spliced, Splices.piece, Splices.IsSpan}
+use Rattle.irig_track.proofs.{Carried.length-piece, Laws.is_edge-spliced, Places.UpTo-more, Spans.span_spliced}
 use Rattle.irig_track.proofs.track.Track.shift.Goals as goal
 
 pub move_pulses-requires-clause-short : goal.move_pulses-requires-clause-short

@@ -1,8 +1,6 @@
 use Rattle.std.proofs.Common.{rules, arith, sym, ◌≡◌, ◌∙◌, subst, ap, length}
-use Rattle.irig_track.specs.Edges.{is_edge, replaced, edges_of}
-use Rattle.irig_track.specs.Splices.{IsSpan}
-use Rattle.irig_track.proofs.Laws.{is_edge-spliced}
-use Rattle.irig_track.proofs.Spans.{span_spliced}
+use Rattle.irig_track.specs.{Edges.is_edge, Edges.replaced, Edges.edges_of, Splices.IsSpan}
+use Rattle.irig_track.proofs.{Laws.is_edge-spliced, Spans.span_spliced}
 use Rattle.irig_track.proofs.track.Track.splice.Goals as goal
 
 pub returns-clause-edges : goal.returns-clause-edges

@@ -2,14 +2,10 @@ use Rattle.std.proofs.Common.{rules, arith, sym, ◌≡◌, ◌∙◌, subst, ap
 use Rattle.irig_gap.specs.Items.{GapView}
 use Rattle.irig_recording.specs.declared.pulse.Pulse.{Pulse}
 use Rattle.irig_track.specs.Edges.{is_edge, inverted, edges_of, Under}
-use Rattle.irig_track.specs.Toggles.{toggled, CanToggle}
-use Rattle.irig_track.specs.Splices.{IsSpan, ended_before}
-use Rattle.irig_track.specs.Sides.{ReachesFrom, left_of, right_of}
-use Rattle.irig_track.proofs.Laws.{is_edge-toggled}
-use Rattle.irig_track.proofs.Recordings.{still_track}
-use Rattle.irig_track.proofs.Spans.{under_ended, reaches_ended, ended_before-le, toggle_spanned, ToggleSpan}
+use Rattle.irig_track.specs.{Toggles.toggled, Toggles.CanToggle, Splices.IsSpan, Splices.ended_before, Sides.ReachesFrom, Sides.left_of, Sides.right_of}
+use Rattle.irig_track.proofs.{Laws.is_edge-toggled, Recordings.still_track, Spans.under_ended, Spans.reaches_ended, Spans.ended_before-le, Spans.toggle_spanned}
+use Rattle.irig_track.proofs.{Spans.ToggleSpan, track.Track.toggle.Goals.After-first_reaching-at, track.Track.toggle.Goals.After-gap_at-end}
 use Rattle.irig_track.proofs.track.Track.toggle.Goals as goal
-use Rattle.irig_track.proofs.track.Track.toggle.Goals.{After-first_reaching-at, After-gap_at-end}
 
 -- the place of the toggle
 place : (c : After-first_reaching-at) → c.first_reaching-at.result ≡ ended_before c.args.a c.self.inside.pulses.items

@@ -1,12 +1,7 @@
 use Rattle.std.proofs.Common.{rules, ◌≡◌, ap, ◌∙◌}
-use Rattle.irig_journal.specs.History.{History}
-use Rattle.irig_journal.specs.Journal.{past_of, future_of}
-use Rattle.irig_journal.specs.Machine.{Machine, Kept}
-use Rattle.irig_saved.specs.declared.change.Change.{Change}
-use Rattle.irig_saved.specs.declared.change.Change.TheVariants.{One}
-use Rattle.irig_edit.specs.Changes.Held.{delta_of}
-use Rattle.irig_edit.specs.State.State.{State}
-use Rattle.irig_edit.specs.Opened.Walk.{changed, walk}
+use Rattle.irig_journal.specs.{History.History, Journal.past_of, Journal.future_of, Machine.Machine, Machine.Kept}
+use Rattle.irig_saved.specs.{declared.change.Change.Change, declared.change.Change.TheVariants.One}
+use Rattle.irig_edit.specs.{Changes.Held.delta_of, State.State.State, Opened.Walk.changed, Opened.Walk.walk}
 use Rattle.irig_edit.proofs.opened.walk.Walk.change.Goals as goal
 use Rattle.irig_edit.proofs.opened.walk.Walk.change.Goals.{in-Ok, in-Err}
 

@@ -1,9 +1,7 @@
 use Rattle.std.proofs.Common.{◌≡◌, ◌-◌, List, [], length, take, drop}
 use Rattle.irig_journal.specs.History.{History, Step}
 use Rattle.irig_saved.specs.declared.change.Change.{Change}
-use Rattle.irig_edit.specs.State.State.{State, IsState}
-use Rattle.irig_edit.specs.Opened.Taken.{CanTakeAll}
-use Rattle.irig_edit.specs.Opened.Walk.{ahead_of, gone_along}
+use Rattle.irig_edit.specs.{State.State.State, State.State.IsState, Opened.Taken.CanTakeAll, Opened.Walk.ahead_of, Opened.Walk.gone_along}
 use Rattle.irig_edit.proofs.opened.walk.Walk.go_back.Given as goal
 
 -- those that were undone are ahead

@@ -1,12 +1,7 @@
 use Rattle.std.proofs.Common.{Option, None, sym, subst}
-use Rattle.irig_journal.specs.declared.opening.Opening.{Opening}
-use Rattle.irig_journal.specs.History.{History}
-use Rattle.irig_journal.specs.Journal.{history_of}
+use Rattle.irig_journal.specs.{declared.opening.Opening.Opening, History.History, Journal.history_of}
 use Rattle.irig_saved.specs.declared.change.Change.{Change}
-use Rattle.irig_edit.specs.Changes.Held.{delta_of}
-use Rattle.irig_edit.specs.Session.Limits.{IsWork}
-use Rattle.irig_edit.specs.Session.Work.{work_over}
-use Rattle.irig_edit.specs.State.State.{State}
+use Rattle.irig_edit.specs.{Changes.Held.delta_of, Session.Limits.IsWork, Session.Work.work_over, State.State.State}
 use Rattle.irig_edit.proofs.opened.walk.Walk.into_session.Goals as goal
 
 pub invariant_of-result : goal.invariant_of-result

@@ -1,9 +1,7 @@
 use Rattle.std.proofs.Common.{◌≡◌, ◌∙◌, ap, subst, sym}
 use Rattle.std.specs.Prelude.{IfOk, MatchBool}
-use Rattle.irig_saved.specs.declared.change.Change.{Change}
-use Rattle.irig_saved.specs.declared.change.Change.TheVariants.{Group}
-use Rattle.irig_edit.specs.Changes.Delta.{Fits}
-use Rattle.irig_edit.specs.Opened.Walk.{changed}
+use Rattle.irig_saved.specs.{declared.change.Change.Change, declared.change.Change.TheVariants.Group}
+use Rattle.irig_edit.specs.{Changes.Delta.Fits, Opened.Walk.changed}
 use Rattle.irig_edit.proofs.opened.walk.Walk.make.Goals as goal
 
 pub returns-in-One : goal.returns-in-One

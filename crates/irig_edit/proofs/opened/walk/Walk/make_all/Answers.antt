@@ -1,10 +1,9 @@
 use Rattle.std.proofs.Common.{rules, ◌≡◌, ◌∷◌, [], List, reverse, ap, sym, subst, ◌∙◌, arith}
-use Rattle.std.proofs.lemmas.Bool.{MatchBool-at_false, MatchBool-at_true}
-use Rattle.std.proofs.lemmas.List.{reverse-append, reverse-reverse}
+use Rattle.std.proofs.lemmas.{Bool.MatchBool-at_false, Bool.MatchBool-at_true, List.reverse-append, List.reverse-reverse}
 use Rattle.irig_saved.specs.declared.single.Single.{Single}
 use Rattle.irig_edit.proofs.OpenedLemmas.TakenGroups.{MadeSoFar, enough_made, group_made, made_more, made_none, made_stops}
-use Rattle.irig_edit.proofs.opened.walk.Walk.make_all.Goals as goal
 use Rattle.irig_edit.proofs.opened.walk.Walk.make_all.Goals.{In-Some}
+use Rattle.irig_edit.proofs.opened.walk.Walk.make_all.Goals as goal
 
 -- the single changes in their order again
 pub loop-single-init : goal.loop-single-init

@@ -1,14 +1,11 @@
 use Rattle.std.proofs.Common.{rules, ◌∷◌, length, ◌≡◌, ◌+◌, ◌<◌, ◌^◌, ◌∙◌, true, false, reverse, ap, arith}
 use Rattle.std.proofs.lemmas.Bool.{MatchBool-at_false, MatchBool-at_true}
 use Rattle.irig_journal.specs.History.{History}
-use Rattle.irig_saved.specs.declared.change.Change.{Change}
-use Rattle.irig_saved.specs.SavedText.{step_lines}
-use Rattle.irig_edit.specs.Opened.Taken.{steps_of}
-use Rattle.irig_edit.specs.State.State.{State}
+use Rattle.irig_saved.specs.{declared.change.Change.Change, SavedText.step_lines}
+use Rattle.irig_edit.specs.{Opened.Taken.steps_of, State.State.State}
 use Rattle.irig_edit.proofs.OpenedLemmas.TakenSteps.{TakenSoFar, lines_short, taken_more, taken_next, taken_stops}
-use Rattle.irig_edit.proofs.OpenedLemmas.Walks.{future_gone}
+use Rattle.irig_edit.proofs.{OpenedLemmas.Walks.future_gone, opened.walk.Walk.take_all.Goals.In-Some}
 use Rattle.irig_edit.proofs.opened.walk.Walk.take_all.Goals as goal
-use Rattle.irig_edit.proofs.opened.walk.Walk.take_all.Goals.{In-Some}
 
 pub take-requires : goal.take-requires
 take-requires c =

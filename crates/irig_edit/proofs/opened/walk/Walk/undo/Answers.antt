@@ -1,11 +1,7 @@
 use Rattle.std.proofs.Common.{ap, sym, subst, ◌∙◌}
-use Rattle.irig_journal.specs.History.{stepped_back}
-use Rattle.irig_journal.specs.Journal.{past_of}
-use Rattle.irig_journal.specs.declared.opening.Opening.{Opening}
+use Rattle.irig_journal.specs.{History.stepped_back, Journal.past_of, declared.opening.Opening.Opening, Openings.AtFloor}
 use Rattle.std.specs.Prelude.{Option, length}
-use Rattle.irig_journal.specs.Openings.{AtFloor}
-use Rattle.irig_edit.specs.Changes.Delta.{turned}
-use Rattle.irig_edit.specs.Changes.Held.{delta_of}
+use Rattle.irig_edit.specs.{Changes.Delta.turned, Changes.Held.delta_of}
 use Rattle.irig_edit.proofs.OpenedLemmas.Walks.{made_back}
 use Rattle.irig_edit.proofs.opened.walk.Walk.undo.Goals as goal
 

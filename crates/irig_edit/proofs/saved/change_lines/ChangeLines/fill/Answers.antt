@@ -1,6 +1,5 @@
 use Rattle.std.proofs.Common.{◌≡◌, ◌++◌, ◌∷◌, [], ℕ, List, ap, reverse, ◌∙◌}
-use Rattle.irig_saved.specs.Lines.{text_of}
-use Rattle.irig_saved.specs.SavedText.{single_lines}
+use Rattle.irig_saved.specs.{Lines.text_of, SavedText.single_lines}
 use Rattle.irig_edit.specs.Saved.SavedParts.{changes_text}
 use Rattle.irig_edit.proofs.SavedLemmas.Rests.{begun, changes-next}
 use Rattle.irig_edit.proofs.saved.change_lines.ChangeLines.fill.Goals as goal

@@ -1,6 +1,5 @@
 use Rattle.std.proofs.Common.{◌∙◌}
-use Rattle.irig_edit.specs.Changes.Held.{deltas_of}
-use Rattle.irig_edit.specs.Saved.SavedParts.{steps_text}
+use Rattle.irig_edit.specs.{Changes.Held.deltas_of, Saved.SavedParts.steps_text}
 use Rattle.irig_edit.proofs.SavedLemmas.Rests.{ended}
 use Rattle.irig_edit.proofs.saved.step_lines.StepLines.fill.Goals as goal
 

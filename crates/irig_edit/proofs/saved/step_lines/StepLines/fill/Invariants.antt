@@ -1,6 +1,5 @@
 use Rattle.std.proofs.Common.{◌≡◌, ◌++◌, length}
-use Rattle.irig_edit.specs.Changes.Held.{deltas_of}
-use Rattle.irig_edit.specs.Saved.SavedParts.{steps_text}
+use Rattle.irig_edit.specs.{Changes.Held.deltas_of, Saved.SavedParts.steps_text}
 use Rattle.irig_edit.proofs.saved.step_lines.StepLines.fill.Given as goal
 
 -- the block, with the lines that are left of the step that has begun, and those of the steps that are left

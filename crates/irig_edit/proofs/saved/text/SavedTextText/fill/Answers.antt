@@ -1,6 +1,5 @@
 use Rattle.std.proofs.Common.{◌++◌, ◌∙◌}
-use Rattle.irig_edit.specs.Saved.SavedParts.{middle_text, opening_text, parts_left}
-use Rattle.irig_edit.specs.Saved.Stages.{text_after}
+use Rattle.irig_edit.specs.{Saved.SavedParts.middle_text, Saved.SavedParts.opening_text, Saved.SavedParts.parts_left, Saved.Stages.text_after}
 use Rattle.irig_edit.proofs.SavedLemmas.Rests.{stage-ended, written}
 use Rattle.irig_edit.proofs.saved.text.SavedTextText.fill.Goals as goal
 

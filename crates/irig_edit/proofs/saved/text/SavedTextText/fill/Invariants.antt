@@ -1,7 +1,6 @@
 use Rattle.std.proofs.Common.{◌≡◌, ◌++◌, ℕ}
-use Rattle.irig_edit.specs.Saved.SavedParts.{middle_text, opening_text, parts_left}
-use Rattle.irig_edit.specs.declared.saved.stage.Stage.{Stage}
 use Rattle.irig_edit.specs.declared.saved.stage.Stage.TheVariants.{Dump, Back, On, Over}
+use Rattle.irig_edit.specs.{Saved.SavedParts.middle_text, Saved.SavedParts.opening_text, Saved.SavedParts.parts_left, declared.saved.stage.Stage.Stage}
 use Rattle.irig_edit.proofs.saved.text.SavedTextText.fill.Given as goal
 
 -- how many stages are left

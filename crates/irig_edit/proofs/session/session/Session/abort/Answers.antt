@@ -1,20 +1,12 @@
 use Rattle.std.proofs.Common.{◌≡◌, ◌≤◌, rules, IsErr, IsNone, Option, Ok, Bool, not, [], ◌∷◌, refl, sym, subst, ◌-◌, ap, arith}
-use Rattle.irig_journal.specs.declared.opening.Opening.{Opening}
-use Rattle.irig_journal.specs.Groups.{aborted}
-use Rattle.irig_edit.specs.Session.Calls.Call.{Abort}
-use Rattle.irig_edit.specs.Changes.Held.{deltas_of}
-use Rattle.irig_edit.specs.Changes.Looks.{Within}
-use Rattle.irig_edit.specs.Edits.Refusals.{first_holding}
-use Rattle.irig_edit.specs.Session.Machine.{Moves, Steps}
+use Rattle.irig_journal.specs.{declared.opening.Opening.Opening, Groups.aborted}
 use Rattle.irig_edit.specs.Session.Session.{SessionView, looks_since, work_in}
-use Rattle.irig_edit.specs.Session.Work.{dropped_since, work_at}
-use Rattle.irig_edit.specs.declared.session.refusal.Refusal.TheVariants.{NoGroup}
-use Rattle.irig_edit.proofs.SessionLemmas.Works.{IsWork-aborted}
-use Rattle.irig_edit.proofs.ChangeLemmas.LooksOfSteps.{shown, since_rose}
-use Rattle.irig_edit.proofs.SessionLemmas.Refused.{refused_stays, still_work}
+use Rattle.irig_edit.specs.{Session.Calls.Call.Abort, Changes.Held.deltas_of, Changes.Looks.Within, Edits.Refusals.first_holding, Session.Machine.Moves}
+use Rattle.irig_edit.specs.{Session.Machine.Steps, Session.Work.dropped_since, Session.Work.work_at, declared.session.refusal.Refusal.TheVariants.NoGroup}
 use Rattle.irig_edit.proofs.SessionLemmas.MachineSteps.{Steps-aborted, aborted_moves}
+use Rattle.irig_edit.proofs.{SessionLemmas.Works.IsWork-aborted, ChangeLemmas.LooksOfSteps.shown, ChangeLemmas.LooksOfSteps.since_rose}
+use Rattle.irig_edit.proofs.{SessionLemmas.Refused.refused_stays, SessionLemmas.Refused.still_work, session.session.Session.abort.Goals.In-Ok}
 use Rattle.irig_edit.proofs.session.session.Session.abort.Goals as goal
-use Rattle.irig_edit.proofs.session.session.Session.abort.Goals.{In-Ok}
 
 -- an accepted abort is one of the machine
 dropped : (c : In-Ok) → Moves aborted (dropped_since c.self.inside.journal.floor)

@@ -1,15 +1,9 @@
 use Rattle.std.proofs.Common.{rules, IsErr, Ok, Bool, [], ◌∷◌, refl, ap, subst}
-use Rattle.irig_edit.specs.Session.Calls.Call.{Begin}
-use Rattle.irig_edit.specs.Edits.Refusals.{first_holding}
-use Rattle.irig_edit.specs.Session.Machine.{Steps}
-use Rattle.irig_edit.specs.Session.Session.{SessionView, work_in}
-use Rattle.irig_edit.specs.Session.Work.{work_at}
-use Rattle.irig_edit.specs.declared.session.refusal.Refusal.TheVariants.{GroupOpen}
-use Rattle.irig_edit.proofs.SessionLemmas.Works.{IsWork-begun}
-use Rattle.irig_edit.proofs.SessionLemmas.Refused.{refused_stays, still_work}
-use Rattle.irig_edit.proofs.SessionLemmas.MachineSteps.{Steps-begun, begun_moves}
-use Rattle.irig_edit.proofs.ChangeLemmas.Readiness.{ready_same}
+use Rattle.irig_edit.specs.{Session.Calls.Call.Begin, Edits.Refusals.first_holding, Session.Machine.Steps, Session.Session.SessionView, Session.Session.work_in}
+use Rattle.irig_edit.specs.{Session.Work.work_at, declared.session.refusal.Refusal.TheVariants.GroupOpen}
 use Rattle.irig_edit.proofs.session.session.Session.begin.Goals.{in-Ok, in-Err}
+use Rattle.irig_edit.proofs.{SessionLemmas.Works.IsWork-begun, SessionLemmas.Refused.refused_stays, SessionLemmas.Refused.still_work}
+use Rattle.irig_edit.proofs.{SessionLemmas.MachineSteps.Steps-begun, SessionLemmas.MachineSteps.begun_moves, ChangeLemmas.Readiness.ready_same}
 use Rattle.irig_edit.proofs.session.session.Session.begin.Goals as goal
 
 pub invariant_of-self : goal.invariant_of-self

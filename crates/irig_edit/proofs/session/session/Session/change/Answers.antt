@@ -1,20 +1,12 @@
 use Rattle.std.proofs.Common.{◌≡◌, ◌≤◌, length, ap, sym, subst, ◌-◌, arith}
-use Rattle.irig_journal.specs.Groups.{recorded_over}
-use Rattle.irig_journal.specs.Machine.{Kept, Machine, kept}
-use Rattle.irig_edit.specs.Changes.Delta.{Fits, turned}
-use Rattle.irig_saved.specs.declared.change.Change.{Change}
-use Rattle.irig_saved.specs.declared.change.Change.TheVariants.{One}
-use Rattle.irig_edit.specs.Changes.Held.{deltas_of}
-use Rattle.irig_edit.specs.State.State.{State}
-use Rattle.irig_edit.specs.Changes.Looks.{Within, looks_of}
-use Rattle.irig_edit.specs.Session.Limits.{IsWork}
-use Rattle.irig_edit.specs.Session.Session.{SessionView, work_in}
+use Rattle.irig_journal.specs.{Groups.recorded_over, Machine.Kept, Machine.Machine, Machine.kept}
 use Rattle.irig_edit.specs.Session.Work.{Work, grouped_in, made, work_at}
-use Rattle.irig_edit.proofs.SessionLemmas.Works.{IsWork-made}
-use Rattle.irig_edit.proofs.ChangeLemmas.LooksOfSteps.{shown}
-use Rattle.irig_edit.proofs.SessionLemmas.MachineSteps.{accepts_becomes}
-use Rattle.irig_edit.proofs.session.session.Session.change.Goals as goal
+use Rattle.irig_edit.specs.{Changes.Delta.Fits, Changes.Delta.turned, Changes.Held.deltas_of, State.State.State, Changes.Looks.Within, Changes.Looks.looks_of}
+use Rattle.irig_edit.specs.{Session.Limits.IsWork, Session.Session.SessionView, Session.Session.work_in}
+use Rattle.irig_saved.specs.{declared.change.Change.Change, declared.change.Change.TheVariants.One}
 use Rattle.irig_edit.proofs.session.session.Session.change.Goals.{In-Ok}
+use Rattle.irig_edit.proofs.{SessionLemmas.Works.IsWork-made, ChangeLemmas.LooksOfSteps.shown, SessionLemmas.MachineSteps.accepts_becomes}
+use Rattle.irig_edit.proofs.session.session.Session.change.Goals as goal
 
 -- the change is one more step
 longer : (c : In-Ok) → work_at c.record.new.state.state c.args.cursor c.record.new.self

@@ -1,14 +1,9 @@
 use Rattle.std.proofs.Common.{rules, IsErr, Ok, Bool, not, [], ◌∷◌, refl, subst, ap}
-use Rattle.irig_edit.specs.Session.Calls.Call.{End}
-use Rattle.irig_edit.specs.Edits.Refusals.{first_holding}
-use Rattle.irig_edit.specs.Session.Machine.{Steps}
-use Rattle.irig_edit.specs.Session.Session.{SessionView, work_in}
-use Rattle.irig_edit.specs.Session.Work.{work_at}
-use Rattle.irig_edit.specs.declared.session.refusal.Refusal.TheVariants.{NoGroup}
-use Rattle.irig_edit.proofs.SessionLemmas.Works.{IsWork-ended}
-use Rattle.irig_edit.proofs.SessionLemmas.Refused.{refused_stays, still_work}
+use Rattle.irig_edit.specs.{Session.Calls.Call.End, Edits.Refusals.first_holding, Session.Machine.Steps, Session.Session.SessionView, Session.Session.work_in}
+use Rattle.irig_edit.specs.{Session.Work.work_at, declared.session.refusal.Refusal.TheVariants.NoGroup}
 use Rattle.irig_edit.proofs.SessionLemmas.MachineSteps.{Steps-ended, ended_moves}
 use Rattle.irig_edit.proofs.session.session.Session.end.Goals.{in-Ok, in-Err}
+use Rattle.irig_edit.proofs.{SessionLemmas.Works.IsWork-ended, SessionLemmas.Refused.refused_stays, SessionLemmas.Refused.still_work}
 use Rattle.irig_edit.proofs.session.session.Session.end.Goals as goal
 
 pub invariant_of-self : goal.invariant_of-self

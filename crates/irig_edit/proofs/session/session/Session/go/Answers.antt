@@ -1,12 +1,7 @@
 use Rattle.std.proofs.Common.{◌≡◌, ◌≤◌, length, Bool, true, not, [], ◌∷◌, Ok, ap, refl, subst, arith, ◌∙◌}
 use Rattle.std.proofs.lemmas.Bool.Decides.{nat_tests}
-use Rattle.irig_edit.specs.Session.Calls.Call.{Go}
-use Rattle.irig_edit.specs.Edits.Conditions.{are_pulses}
-use Rattle.irig_edit.specs.Session.Machine.{Steps}
-use Rattle.irig_edit.specs.Edits.Refusals.{first_holding}
-use Rattle.irig_edit.specs.Session.Session.{SessionView, work_in}
-use Rattle.irig_edit.specs.Session.Work.{work_at}
-use Rattle.irig_edit.specs.declared.session.refusal.Refusal.TheVariants.{NoPulse}
+use Rattle.irig_edit.specs.{Session.Calls.Call.Go, Edits.Conditions.are_pulses, Session.Machine.Steps, Edits.Refusals.first_holding}
+use Rattle.irig_edit.specs.{Session.Session.SessionView, Session.Session.work_in, Session.Work.work_at, declared.session.refusal.Refusal.TheVariants.NoPulse}
 use Rattle.irig_edit.proofs.SessionLemmas.Works.{IsWork-at}
 use Rattle.irig_edit.proofs.session.session.Session.go.Goals as goal
 

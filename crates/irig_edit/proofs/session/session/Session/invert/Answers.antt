@@ -1,20 +1,11 @@
 use Rattle.std.proofs.Common.{◌≡◌, ◌≤◌, length, None, refl, ap, sym, ◌∙◌, subst, ◌-◌}
-use Rattle.irig_journal.specs.GroupRuns.{gone_to}
-use Rattle.irig_journal.specs.Groups.{Grouped, over}
-use Rattle.irig_journal.specs.Machine.{Kept}
-use Rattle.irig_track.specs.Splices.{risen_by}
-use Rattle.irig_track.specs.Toggles.{CanToggle}
-use Rattle.irig_edit.specs.Changes.Looks.{Within, looks_of}
-use Rattle.irig_edit.specs.Edits.Becoming.{judgement_of}
-use Rattle.irig_edit.specs.Session.Calls.Edit.{Invert}
-use Rattle.irig_saved.specs.declared.change.Change.TheVariants.{One}
-use Rattle.irig_saved.specs.declared.single.Single.TheVariants.{Toggle}
-use Rattle.irig_edit.specs.Session.Session.{SessionView, work_in}
+use Rattle.irig_journal.specs.{GroupRuns.gone_to, Groups.Grouped, Groups.over, Machine.Kept}
+use Rattle.irig_track.specs.{Splices.risen_by, Toggles.CanToggle}
 use Rattle.irig_edit.specs.Session.Work.{Work, at_cursor, grouped_in, work_at}
-use Rattle.irig_edit.specs.State.State.{State, IsState}
-use Rattle.irig_edit.proofs.SessionLemmas.Works.{IsWork-at}
-use Rattle.irig_edit.proofs.SessionLemmas.MachineSteps.{accepts_becomes}
-use Rattle.irig_edit.proofs.EditLemmas.Toggles.{toggled_becomes}
+use Rattle.irig_edit.specs.{Changes.Looks.Within, Changes.Looks.looks_of, Edits.Becoming.judgement_of, Session.Calls.Edit.Invert, Session.Session.SessionView}
+use Rattle.irig_edit.specs.{Session.Session.work_in, State.State.State, State.State.IsState}
+use Rattle.irig_saved.specs.{declared.change.Change.TheVariants.One, declared.single.Single.TheVariants.Toggle}
+use Rattle.irig_edit.proofs.{SessionLemmas.Works.IsWork-at, SessionLemmas.MachineSteps.accepts_becomes, EditLemmas.Toggles.toggled_becomes}
 use Rattle.irig_edit.proofs.session.session.Session.invert.Goals as goal
 
 pub invariant_of-self : goal.invariant_of-self

@@ -1,7 +1,5 @@
 use Rattle.std.proofs.Common.{rules}
-use Rattle.irig_edit.specs.Session.Limits.{IsWork}
-use Rattle.irig_edit.specs.Session.Work.{work_at}
-use Rattle.irig_edit.specs.State.Places.{places_in}
+use Rattle.irig_edit.specs.{Session.Limits.IsWork, Session.Work.work_at, State.Places.places_in}
 use Rattle.irig_edit.proofs.session.session.Session.open.Goals as goal
 
 pub invariant_of-result : goal.invariant_of-result

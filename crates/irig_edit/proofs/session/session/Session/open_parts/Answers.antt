@@ -1,11 +1,8 @@
 use Rattle.std.proofs.Common.{◌≡◌, ℕ, List, Option, Ok}
 use Rattle.std.proofs.lemmas.Result.{IfOk-weaker}
-use Rattle.irig_vcd.specs.Answer.{bytes_of}
-use Rattle.irig_vcd.specs.Parts.{dump_parts}
-use Rattle.irig_vcd.specs.declared.fault.VcdFault.{VcdFault}
+use Rattle.irig_vcd.specs.{Answer.bytes_of, Parts.dump_parts, declared.fault.VcdFault.VcdFault}
 use Rattle.irig_edit.specs.Opened.Openings.{IsOpened, IsUnopened}
-use Rattle.irig_edit.specs.Opened.Parts.{HasNoSession, IsSessionOf}
-use Rattle.irig_edit.specs.Session.Session.{SessionView}
+use Rattle.irig_edit.specs.{Opened.Parts.HasNoSession, Opened.Parts.IsSessionOf, Session.Session.SessionView}
 use Rattle.irig_edit.proofs.OpenedLemmas.Parts.{err_so, parts_of, parts_opened, parts_unopened}
 use Rattle.irig_edit.proofs.session.session.Session.open_parts.Goals as goal
 

@@ -1,23 +1,13 @@
 use Rattle.std.proofs.Common.{◌≡◌, ◌≤◌, Option, Some, Ok, [], ◌∷◌, List, subst, ◌-◌, ap, ◌∙◌, sym, arith, option_map}
-use Rattle.irig_journal.specs.declared.opening.Opening.{Opening}
-use Rattle.irig_journal.specs.Groups.{redone_over}
-use Rattle.irig_journal.specs.History.{Step}
-use Rattle.irig_journal.specs.Journal.{past_of, future_of}
+use Rattle.irig_journal.specs.{declared.opening.Opening.Opening, Groups.redone_over, History.Step, Journal.past_of, Journal.future_of}
 use Rattle.irig_saved.specs.declared.change.Change.{Change}
-use Rattle.irig_edit.specs.Session.Calls.Call.{Redo}
-use Rattle.irig_edit.specs.Changes.Held.{delta_of}
-use Rattle.irig_edit.specs.Changes.Looks.{Within}
-use Rattle.irig_edit.specs.Edits.Refusals.{first_holding, is_empty}
-use Rattle.irig_edit.specs.Session.Machine.{Moves, Steps}
-use Rattle.irig_edit.specs.declared.session.refusal.Refusal.TheVariants.{NothingToRedo}
-use Rattle.irig_edit.specs.Session.Session.{SessionView, looks_of_nearest, work_in}
-use Rattle.irig_edit.specs.Session.Work.{gone_on, work_at, work_over}
-use Rattle.irig_edit.proofs.SessionLemmas.Works.{IsWork-on}
+use Rattle.irig_edit.specs.{Session.Session.SessionView, Session.Session.looks_of_nearest, Session.Session.work_in, Session.Work.gone_on, Session.Work.work_at}
+use Rattle.irig_edit.specs.{Session.Work.work_over, Session.Calls.Call.Redo, Changes.Held.delta_of, Changes.Looks.Within, Edits.Refusals.first_holding}
+use Rattle.irig_edit.specs.{Edits.Refusals.is_empty, Session.Machine.Moves, Session.Machine.Steps, declared.session.refusal.Refusal.TheVariants.NothingToRedo}
 use Rattle.irig_edit.proofs.ChangeLemmas.LooksOfSteps.{nearest_rose, shown}
 use Rattle.irig_edit.proofs.SessionLemmas.Refused.{refused_stays, still_work}
-use Rattle.irig_edit.proofs.SessionLemmas.MachineSteps.{Steps-redone}
+use Rattle.irig_edit.proofs.{SessionLemmas.Works.IsWork-on, SessionLemmas.MachineSteps.Steps-redone, session.session.Session.redo.Goals.In-Ok}
 use Rattle.irig_edit.proofs.session.session.Session.redo.Goals as goal
-use Rattle.irig_edit.proofs.session.session.Session.redo.Goals.{In-Ok}
 
 -- an accepted redo is one of the machine, and a step on
 again : (c : In-Ok) → Moves redone_over gone_on (work_at c.self.inside.present.state c.self.inside.cursor c.self.inside.journal)

@@ -2,19 +2,12 @@ use Rattle.std.proofs.Common.{◌≡◌, ◌++◌, ℕ, List, [], ◌∷◌, cod
 use Rattle.std.proofs.lemmas.List.{length-map, length-reverse}
 use Rattle.irig_journal.specs.History as history
 use Rattle.irig_journal.specs.Journal.{told}
-use Rattle.irig_saved.specs.Lines.{numbered, text_of}
 use Rattle.irig_saved.specs.SavedText.{counted_lines, head_lines, steps_lines}
-use Rattle.irig_saved.specs.declared.step.Step.{Step}
+use Rattle.irig_saved.specs.{Lines.numbered, Lines.text_of, declared.step.Step.Step, declared.change.Change.Change}
 use Rattle.irig_recording.specs.FileText.{file_text}
-use Rattle.irig_saved.specs.declared.change.Change.{Change}
-use Rattle.irig_edit.specs.Changes.Held.{delta_of, deltas_of}
-use Rattle.irig_edit.specs.Saved.Saved.{saved_step}
-use Rattle.irig_edit.specs.Saved.SavedSession.{saved_text}
-use Rattle.irig_edit.specs.Session.Session.{SessionView, work_in}
-use Rattle.irig_edit.specs.Session.Work.{work_at}
-use Rattle.irig_edit.specs.State.State.{recording_of}
-use Rattle.irig_edit.proofs.StateLemmas.Reversed.{map-reverse}
-use Rattle.irig_edit.proofs.SavedLemmas.SavedSections.{saved_text-parts, section}
+use Rattle.irig_edit.specs.{Changes.Held.delta_of, Changes.Held.deltas_of, Saved.Saved.saved_step, Saved.SavedSession.saved_text, Session.Session.SessionView}
+use Rattle.irig_edit.specs.{Session.Session.work_in, Session.Work.work_at, State.State.recording_of}
+use Rattle.irig_edit.proofs.{StateLemmas.Reversed.map-reverse, SavedLemmas.SavedSections.saved_text-parts, SavedLemmas.SavedSections.section}
 use Rattle.irig_edit.proofs.session.session.Session.saved_parts.Goals as goal
 
 pub returns : goal.returns

@@ -1,13 +1,8 @@
 use Rattle.std.proofs.Common.{◌≡◌, ◌∙◌, ℕ, ℤ, None, ap, subst, w64}
 use Rattle.std.proofs.lemmas.Int.{to_z-of_z}
 use Rattle.irig_edit.specs.Edits.Becoming.{Becomes, judgement_of}
-use Rattle.irig_edit.specs.Session.Calls.Edit.{Shift}
-use Rattle.irig_edit.specs.Changes.Delta.{turned}
-use Rattle.irig_saved.specs.declared.change.Change.{Change}
-use Rattle.irig_saved.specs.declared.change.Change.TheVariants.{One}
-use Rattle.irig_edit.specs.Edits.Changes.{change_by}
-use Rattle.irig_edit.specs.Session.Session.{SessionView}
-use Rattle.irig_edit.specs.State.State.{State}
+use Rattle.irig_edit.specs.{Session.Calls.Edit.Shift, Changes.Delta.turned, Edits.Changes.change_by, Session.Session.SessionView, State.State.State}
+use Rattle.irig_saved.specs.{declared.change.Change.Change, declared.change.Change.TheVariants.One}
 use Rattle.irig_edit.proofs.session.session.Session.shift.Goals as goal
 
 same_change : (i j : ℕ) (d e : ℤ) (s t : State) (m : Change) → e ≡ d → s ≡ t → m ≡ change_by (Shift i j e) s → m ≡ change_by (Shift i j d) t

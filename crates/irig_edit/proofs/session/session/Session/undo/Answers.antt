@@ -1,26 +1,15 @@
 use Rattle.std.proofs.Common.{◌≤◌, rules, length, ◌≡◌, IsErrOf, Ok, true, Option, Some, subst, ◌-◌, ap, ◌∙◌, sym, arith, inl, inr, option_map, List, None}
 use Rattle.std.proofs.lemmas.Bool.Decides.{nat_tests}
-use Rattle.irig_journal.specs.declared.opening.Opening.{Opening}
-use Rattle.irig_journal.specs.Groups.{undone_over}
-use Rattle.irig_journal.specs.History.{Step}
-use Rattle.irig_journal.specs.Journal.{past_of, future_of}
-use Rattle.irig_journal.specs.Openings.{AtFloor}
+use Rattle.irig_journal.specs.{declared.opening.Opening.Opening, Groups.undone_over, History.Step, Journal.past_of, Journal.future_of, Openings.AtFloor}
 use Rattle.irig_journal.specs.declared.fault.JournalFault.TheVariants as fault
 use Rattle.irig_saved.specs.declared.change.Change.{Change}
-use Rattle.irig_edit.specs.Session.Calls.Call.{Undo}
-use Rattle.irig_edit.specs.Changes.Held.{delta_of}
-use Rattle.irig_edit.specs.Changes.Looks.{Within}
-use Rattle.irig_edit.specs.Edits.Refusals.{is_at_begin}
-use Rattle.irig_edit.specs.Session.Machine.{Moves, Steps}
-use Rattle.irig_edit.specs.declared.session.refusal.Refusal.TheVariants.{GroupFloor}
-use Rattle.irig_edit.specs.Session.Session.{SessionView, looks_of_nearest, work_in}
-use Rattle.irig_edit.specs.Session.Work.{gone_back, work_at, work_over}
-use Rattle.irig_edit.proofs.SessionLemmas.Works.{IsWork-back}
-use Rattle.irig_edit.proofs.ChangeLemmas.LooksOfSteps.{nearest_rose, shown}
-use Rattle.irig_edit.proofs.SessionLemmas.Refused.{refused_stays, still_work}
+use Rattle.irig_edit.specs.{Session.Calls.Call.Undo, Changes.Held.delta_of, Changes.Looks.Within, Edits.Refusals.is_at_begin, Session.Machine.Moves}
+use Rattle.irig_edit.specs.{Session.Machine.Steps, declared.session.refusal.Refusal.TheVariants.GroupFloor, Session.Session.SessionView}
+use Rattle.irig_edit.specs.{Session.Session.looks_of_nearest, Session.Session.work_in, Session.Work.gone_back, Session.Work.work_at, Session.Work.work_over}
 use Rattle.irig_edit.proofs.SessionLemmas.MachineSteps.{Steps-undone, above_begin, floor_refusal}
+use Rattle.irig_edit.proofs.{SessionLemmas.Works.IsWork-back, ChangeLemmas.LooksOfSteps.nearest_rose, ChangeLemmas.LooksOfSteps.shown}
+use Rattle.irig_edit.proofs.{SessionLemmas.Refused.refused_stays, SessionLemmas.Refused.still_work, session.session.Session.undo.Goals.In-Ok}
 use Rattle.irig_edit.proofs.session.session.Session.undo.Goals as goal
-use Rattle.irig_edit.proofs.session.session.Session.undo.Goals.{In-Ok}
 
 -- an accepted undo is one of the machine, and a step back
 back : (c : In-Ok) → Moves undone_over gone_back (work_at c.self.inside.present.state c.self.inside.cursor c.self.inside.journal)

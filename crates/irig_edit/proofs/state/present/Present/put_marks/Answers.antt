@@ -1,6 +1,5 @@
 use Rattle.std.proofs.Common.{rules, ◌≡◌, None, subst, sym}
-use Rattle.irig_edit.specs.Opened.Opened.{mark_beyond}
-use Rattle.irig_edit.specs.State.Present.{PresentView}
+use Rattle.irig_edit.specs.{Opened.Opened.mark_beyond, State.Present.PresentView}
 use Rattle.irig_edit.proofs.OpenedLemmas.Heads.{marks_within}
 use Rattle.irig_edit.proofs.state.present.Present.put_marks.Goals as goal
 

@@ -1,11 +1,7 @@
 use Rattle.std.proofs.Common.{◌≡◌, ap, ap₂, sym, subst, ◌∙◌, arith}
-use Rattle.irig_edit.specs.Changes.Ample.{PutsIn, records_for}
-use Rattle.irig_edit.specs.Changes.Held.{single_of}
-use Rattle.irig_edit.specs.State.Places.{places_in}
-use Rattle.irig_edit.specs.State.Present.{PresentView, present_view, state_in}
+use Rattle.irig_edit.specs.{Changes.Ample.PutsIn, Changes.Ample.records_for, Changes.Held.single_of, State.Places.places_in, State.Present.PresentView}
+use Rattle.irig_edit.specs.{State.Present.present_view, State.Present.state_in, Changes.Single.FitsSingle, State.State.State, State.State.state}
 use Rattle.irig_saved.specs.declared.single.Single.{Single}
-use Rattle.irig_edit.specs.Changes.Single.{FitsSingle}
-use Rattle.irig_edit.specs.State.State.{State, state}
 use Rattle.irig_edit.proofs.ChangeLemmas.Rooms.{ample_enough, on_ok, puts_wider}
 use Rattle.irig_edit.proofs.state.present.Present.room_for.Goals as goal
 

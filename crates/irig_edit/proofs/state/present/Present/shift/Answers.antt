@@ -1,16 +1,12 @@
 use Rattle.std.proofs.Common.{rules, ◌≡◌, List, ap, length, sym, subst, ◌∙◌, arith, ℤ, pos, ◌-ℤ◌, neg_ℤ, to_z, of_z, w64}
 use Rattle.std.proofs.lemmas.Int.{to_z-of_z}
 use Rattle.irig_index.specs.Frames.{frames}
-use Rattle.irig_track.specs.Looks.{LensView}
-use Rattle.irig_track.specs.Shifts.{CanShift, shifted}
+use Rattle.irig_track.specs.{Looks.LensView, Shifts.CanShift, Shifts.shifted}
 use Rattle.irig_recording.specs.declared.pulse.Pulse.{Pulse}
-use Rattle.irig_edit.specs.State.Marks.{marks_moved}
-use Rattle.irig_edit.specs.State.Places.{HoldsState, places_in}
 use Rattle.irig_edit.specs.State.Present.{PresentView, state_in}
-use Rattle.irig_edit.specs.State.State.{State, state}
+use Rattle.irig_edit.specs.{State.Marks.marks_moved, State.Places.HoldsState, State.Places.places_in, State.State.State, State.State.state}
 use Rattle.irig_track.proofs.Inverses.{shift_within}
-use Rattle.irig_edit.proofs.ChangeLemmas.Turned.{shift_turned}
-use Rattle.irig_edit.proofs.StateLemmas.Distances.{opposite_fits, opposite_is}
+use Rattle.irig_edit.proofs.{ChangeLemmas.Turned.shift_turned, StateLemmas.Distances.opposite_fits, StateLemmas.Distances.opposite_is}
 use Rattle.irig_edit.proofs.state.present.Present.shift.Goals as goal
 
 pub invariant_of-self : goal.invariant_of-self

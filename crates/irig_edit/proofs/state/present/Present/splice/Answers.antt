@@ -1,12 +1,9 @@
 use Rattle.std.proofs.Common.{List, ap, length, sym, subst, arith}
 use Rattle.irig_index.specs.Frames.{frames}
-use Rattle.irig_track.specs.Looks.{LensView}
-use Rattle.irig_track.specs.Splices.{CanSplice, spliced}
+use Rattle.irig_track.specs.{Looks.LensView, Splices.CanSplice, Splices.spliced}
 use Rattle.irig_recording.specs.declared.pulse.Pulse.{Pulse}
 use Rattle.irig_track.proofs.Carried.{length-spliced}
-use Rattle.irig_edit.specs.State.Places.{HoldsState, places_in}
-use Rattle.irig_edit.specs.State.Present.{PresentView}
-use Rattle.irig_edit.specs.State.State.{with_pulses}
+use Rattle.irig_edit.specs.{State.Places.HoldsState, State.Places.places_in, State.Present.PresentView, State.State.with_pulses}
 use Rattle.irig_edit.proofs.state.present.Present.splice.Goals as goal
 
 pub exchange-span-requires-clause-spare : goal.exchange-span-requires-clause-spare

@@ -1,14 +1,9 @@
 use Rattle.std.proofs.Common.{◌≡◌, List, ap, length, sym, subst, ◌∙◌, arith}
 use Rattle.irig_index.specs.Frames.{frames}
-use Rattle.irig_track.specs.Edges.{edges_of}
-use Rattle.irig_track.specs.Looks.{LensView}
-use Rattle.irig_track.specs.Toggles.{toggled}
+use Rattle.irig_track.specs.{Edges.edges_of, Looks.LensView, Toggles.toggled}
 use Rattle.irig_recording.specs.declared.pulse.Pulse.{Pulse}
-use Rattle.irig_edit.specs.Changes.Laws.Edges.{pulses_of-edges_of}
-use Rattle.irig_edit.specs.State.Places.{HoldsState, places_in}
-use Rattle.irig_edit.specs.State.Present.{PresentView, state_in}
-use Rattle.irig_edit.specs.Changes.Single.{pulses_of}
-use Rattle.irig_edit.specs.State.State.{state, with_pulses}
+use Rattle.irig_edit.specs.{Changes.Laws.Edges.pulses_of-edges_of, State.Places.HoldsState, State.Places.places_in, State.Present.PresentView}
+use Rattle.irig_edit.specs.{State.Present.state_in, Changes.Single.pulses_of, State.State.state, State.State.with_pulses}
 use Rattle.irig_edit.proofs.ChangeLemmas.Turned.{toggle_turned}
 use Rattle.irig_edit.proofs.state.present.Present.toggle.Goals as goal
 
