@@ -1,14 +1,12 @@
 -- The steps of a gap buffer, on the places of its block.
-use Rattle.std.proofs.Common.{◌≡◌, ℕ, ◌+◌, ◌-◌, ◌<◌, ◌≤◌, List, ◌++◌, map, length, take, drop, set, get_or, insert, remove, Option, Some, None}
-use Rattle.std.proofs.Common.{slice_get, replicate, refl, sym, ap, ◌∙◌, inl, inr, arith}
-use Rattle.std.proofs.lemmas.List.{map-set, take-map, drop-map, length-map, length-set, drop-take, length-append, length-replicate}
+use Rattle.std.proofs.Common.{◌≡◌, ℕ, ◌+◌, ◌-◌, ◌<◌, ◌≤◌, List, ◌++◌, map, length, take, drop, set, get_or, insert, remove, Option, Some, None, slice_get, refl}
+use Rattle.std.proofs.Common.{sym, ap, ◌∙◌, ◌⊎◌, inl, inr, arith}
+use Rattle.std.proofs.lemmas.List.{map-set, take-map, drop-map, length-map, length-set, length-take, drop-take, drop_all, get_or-take}
 use Rattle.std.proofs.lemmas.Bool.{cases_lt}
-use Rattle.irig_gap.specs.Cells.{IsFull, IsRun, moved}
-use Rattle.irig_gap.specs.Items.{GapView, gap_view}
-use Rattle.irig_gap.specs.Slots.{somes, live, IsGap, view_of}
+use Rattle.irig_gap.specs.{Cells.IsFull, Cells.IsRun, Cells.moved, Items.GapView, Items.gap_view, Slots.somes, Slots.live, Slots.IsGap, Slots.view_of}
 use Rattle.irig_gap.proofs.Live.{somes-map, read_map, map-insert, map-remove, cut_at, length-live, live-put, live-left, live-right, live-set_left}
 use Rattle.irig_gap.proofs.Live.{live-set_right, read_left, read_right, live-of, live-none, live-up, live-down, length-moved, live-left_side, live-right_side}
-use Rattle.irig_gap.proofs.Live.{live-taken, live-taken_right, live-front}
+use Rattle.irig_gap.proofs.Live.{live-taken, live-taken_right, seam-take}
 use Rattle.irig_gap.proofs.Copies.{copied, length-copied}
 
 module _ {X : Type 0} where
@@ -41,17 +39,18 @@ module _ {X : Type 0} where
       let same : somes (live ds k b) ≡ w.items = ap somes e ∙ somes-map w.items in
       (record { within = (p, q); full = e ∙ ap (map Some) (sym same) }, λ t. gap_view (same t) (i t) (j t))
 
-  -- the places of a vector's block
-  pub of_vec : (xs : List X) (cs : List (Option X)) (n c : ℕ) → n ≡ length xs → n ≤ c → cs ≡ map Some xs ++ replicate (c - n) None
-      → (length cs ≡ c) × Holds cs n c (gap_view xs n c)
-  of_vec xs cs n c here within is =
-      let free : List (Option X) = replicate (c - n) None in
-      let full : length (map Some xs) ≡ n = length-map xs Some ∙ sym here in
-      let long : length cs ≡ c = omega (arith, ap length is, length-append (map Some xs) free, length-replicate {A = Option X} (c - n) None, full) in (
-        long,
-        holds _ _ _ _ within (omega arith)
-            (ap (λ ds. live ds n c) is ∙ live-front xs free n c (sym full) (omega (arith, ap length is))) refl long,
+  -- the places of a run are full
+  pub run_full : (cs : List (Option X)) (n k : ℕ) → IsRun cs 0 n → n ≤ length cs → k < n → IsFull cs (0 + k)
+  run_full cs n k run within lt =
+      let xs = run.0 in let same : 0 + k ≡ k = omega arith in
+      let t = cut_at xs k (omega (arith, ap length run.1, length-map xs Some, length-take n cs)) in (
+        t.0,
+        ap (λ j. get_or cs j None) same ∙ sym (get_or-take n cs k None lt) ∙ ap (λ ys. get_or ys k None) run.1 ∙ read_map xs k ∙ t.1,
       )
+
+  -- a row that begins with the first n places of another one
+  pub take-kept : (ds cs rest : List (Option X)) (n : ℕ) → n ≤ length cs → ds ≡ take n cs ++ rest → take n ds ≡ take n cs
+  take-kept ds cs rest n within is = ap (take n) is ∙ seam-take (take n cs) rest n (omega (arith, length-take n cs))
 
   module _ (cs : List (Option X)) (g a : ℕ) (v : GapView X) (e : view_of cs g a ≡ v) (h : IsGap cs g a) where
     pub put_step : (x : X) → length v.items < v.capacity → (g < length cs)
@@ -130,6 +129,12 @@ module _ {X : Type 0} where
     slot_right i p q = let s = shows cs g a v e h in sym (read_right cs g a i q (omega arith) (omega arith)) ∙ ap (λ ys. get_or ys i None) s.items
         ∙ read_map v.items i
 
+    pub front_holds : (i : ℕ) → i < v.place → get_or cs i None ≡ slice_get v.items i
+    front_holds i lt = let s = shows cs g a v e h in slot_left i (omega arith) (omega arith)
+
+    pub front_full : (i : ℕ) → i < v.place → IsFull cs i
+    front_full i lt = let s = shows cs g a v e h in let t = cut_at v.items i (omega arith) in (t.0, front_holds i lt ∙ t.1)
+
     -- j is the slot of the item i
     abbrev pub IsSlot : ℕ → ℕ → Type 0
     IsSlot i j = (i < g → j ≡ i) × (g ≤ i → j ≡ a + (i - g))
@@ -183,6 +188,14 @@ module _ {X : Type 0} where
         → Holds ds g b (gap_view v.items v.place n)
     grown ds b n end more long is = let s = shows cs g a v e h in
         holds _ _ _ _ (omega arith) (omega arith) (ap (λ j. live ds j b) (sym s.place) ∙ is) (sym s.place) long
+
+    -- the same items in n places, as many as wanted or as before, in a row that begins with them
+    pub lengthened : (ds : List (Option X)) (n wanted : ℕ) → v.place ≡ length v.items → v.capacity < wanted → (n ≡ wanted) ⊎ (n ≡ v.capacity) → length ds ≡ n
+        → take g ds ≡ take g cs → Holds ds g n (gap_view v.items v.place n)
+    lengthened ds n wanted end more either long same =
+        let s = shows cs g a v e h in let room : v.capacity ≤ n = elim either [ inl is ↦ omega (arith, is) | inr is ↦ omega (arith, is) ] in
+        holds _ _ _ _ (omega arith) (omega arith)
+        (live-of ds n cs g a same (drop_all n ds (omega arith) ∙ sym (drop_all a cs (omega arith))) ∙ s.items) (sym s.place) long
 
     -- if no place is free, the gap is anywhere
     pub anywhere_step : (p : ℕ) → g ≡ a → p ≤ length v.items → Holds cs p p (gap_view v.items p v.capacity)

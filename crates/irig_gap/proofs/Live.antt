@@ -4,11 +4,9 @@ use Rattle.std.proofs.Common.{Option, Some, None, slice_get, refl, sym, ap, ◌�
 use Rattle.std.proofs.Math.Seq.{take-add, take-set-lt, take-append_seam, drop-append_seam, drop-drop}
 use Rattle.std.proofs.lemmas.List.{get_or-take, get_or-drop, map-append, take-map, drop-map, drop_more, take_more, set-append_left, set-append_right}
 use Rattle.std.proofs.lemmas.List.{drop-set-add, get_or_append_left, get_or-append_right, length-take, take-set-le, drop-set-lt, take-append-drop}
-use Rattle.std.proofs.lemmas.List.{length-replicate, append-nil, drop_all}
-use Rattle.std.proofs.lemmas.Grind.{take-set_at, drop-set_at}
-use Rattle.std.proofs.lemmas.List.Edits.{insert-append_left, insert_end, remove-append_right}
-use Rattle.irig_gap.specs.Cells.{laid, moved}
-use Rattle.irig_gap.specs.Slots.{somes, live}
+use Rattle.std.proofs.lemmas.List.{length-replicate}
+use Rattle.std.proofs.lemmas.{Grind.take-set_at, Grind.drop-set_at, List.Edits.insert-append_left, List.Edits.insert_end, List.Edits.remove-append_right}
+use Rattle.irig_gap.specs.{Cells.laid, Cells.moved, Slots.somes, Slots.live}
 use Rattle.irig_gap.proofs.Overlays.{length-laid, take-laid, drop-laid_at, take-laid_past, drop-laid}
 
 module _ {X : Type 0} where
@@ -157,11 +155,3 @@ module _ {X : Type 0} where
       sym (remove-append_right (take g cs) (drop a cs) g g long (omega arith)
       ∙ (let none : g - g ≡ 0 = omega arith in ap (λ k. take g cs ++ remove (drop a cs) k) none)
       ∙ ap (λ ys. take g cs ++ remove ys 0) (drop_more cs a None q))
-
-  -- items in the first places, and the gap after them
-  pub live-front : (xs : List X) (free : List (Option X)) (n c : ℕ) → n ≡ length (map Some xs) → length (map Some xs ++ free) ≤ c
-      → live (map Some xs ++ free) n c ≡ map Some xs
-  unfolding live
-  live-front xs free n c here end =
-      ap (λ ys. take n (map Some xs ++ free) ++ ys) (drop_all c (map Some xs ++ free) end) ∙ append-nil (take n (map Some xs ++ free))
-      ∙ ap (λ k. take k (map Some xs ++ free)) here ∙ take-append_seam (map Some xs) free

@@ -2,18 +2,16 @@
 //! crate is here.
 
 ghost use Rattle.std.specs.Prelude.{◌≡◌, ℕ, ◌+◌, ◌*◌, ◌^◌, ◌<◌, ◌≤◌, List, Option, Some, None};
-ghost use Rattle.std.specs.Prelude.{length, replicate, get_or, slice_set, IfOk, ◌-◌, ◌++◌, map};
-ghost use Rattle.std.specs.Prelude.{vec_len, vec_capacity};
-ghost use Rattle.std.specs.Vec.{vec_ptr, vec_allocator};
+ghost use Rattle.std.specs.Prelude.{length, replicate, get_or, slice_set, IfOk, ◌-◌, ◌++◌, take};
+ghost use Rattle.std.specs.Prelude.{MatchResult};
 ghost use Rattle.std.specs.Mem.{type_size};
-ghost use base.Fml.{ftrue};
 ghost use denote.RawPtr.{Ptr};
 ghost use Rattle.irig_gap.specs.Cells.{IsFull, IsRun, AreApart, moved, cells_own, cells_lent};
 ghost use Rattle.irig_gap.specs.Cells.{deed_owns};
 
 use std::alloc::{AllocError, Allocator};
-use std::marker::{Model, Move, Owns, PhantomData};
-use std::mem::{ManuallyDrop, align_of, size_of};
+use std::marker::{Model, PhantomData};
+use std::mem::{align_of, size_of};
 use std::ptr;
 
 /// The places, from where the block begins.
@@ -40,21 +38,6 @@ pub(crate) struct Deed<T, A: Allocator> {
 
 impl<T, A: Allocator> Model for Deed<T, A> {
     ghost also_owns = { λ d. deed_owns T.row (A.dealloc_token d.alloc) d.at d.len };
-}
-
-/// The bits of a vector whose block has another owner. They own nothing.
-pub(crate) struct Husk<V> {
-    _vec: V,
-}
-
-impl<V> Owns for Husk<V> {
-    ghost Value = { Unit {0} };
-
-    ghost shr_at = { λ _ _ _. ftrue };
-}
-
-impl<V> Move for Husk<V> {
-    ghost own_val = { λ _ _. ftrue };
 }
 
 /// A block of `len` empty places.
@@ -89,34 +72,31 @@ pub(crate) fn deallocate<T, A: Allocator>(alloc: &A, len: usize, cells: Cells<T>
     }
 }
 
-/// The block of a vector, which has one. Its items are in the first places.
-pub(crate) fn block_of<T, A: Allocator>(mut vec: Vec<T, A>) -> (Cells<T>, Deed<T, A>)
-    requires { 0 < vec_capacity vec }
-    ensures slots { result.0.slots
-        ≡ map Some vec.items ++ replicate (vec_capacity vec - vec_len vec) None }
-    ensures deed { (result.1.at ≡ result.0.start) × (result.1.len ≡ vec_capacity vec)
-        × (result.1.alloc ≡ vec_allocator vec) }
+/// Makes a block of `old` places one of `len`, which keeps the items in its first `full` places. It
+/// can stay where it is. If there is no memory, it is as long as before. No other item is kept.
+pub(crate) fn enlarge<T, A: Allocator>(
+    alloc: &A,
+    full: usize,
+    old: usize,
+    len: usize,
+    cells: Cells<T>,
+    deed: Deed<T, A>,
+) -> Result<(Cells<T>, Deed<T, A>), (Cells<T>, Deed<T, A>)>
+    requires { IsRun cells.slots 0 full × (deed.at ≡ cells.start) × (deed.len ≡ old)
+        × (length cells.slots ≡ old) × (deed.alloc ≡ alloc.now) × (full ≤ old) × (old ≤ len)
+        × (len * type_size T.row < 2 ^ 63) }
+    ensures { MatchResult result
+        (λ r. (r.0.slots ≡ take full cells.slots ++ replicate (len - full) None)
+        × (r.1.at ≡ r.0.start) × (r.1.len ≡ len) × (r.1.alloc ≡ alloc.now))
+        (λ r. (r.0.slots ≡ take full cells.slots ++ replicate (old - full) None)
+        × (r.1.at ≡ r.0.start) × (r.1.len ≡ old) × (r.1.alloc ≡ alloc.now)) }
 {
-    let start = vec.as_mut_ptr();
-    let (cells, deed, husk) = take_over(vec, start);
-    // The block has another owner now, so the vector is not dropped.
-    let _husk = unsafe { ManuallyDrop::new_unchecked(husk) };
-    (cells, deed)
-}
-
-/// Takes over the block of a vector, which begins at `start`.
-fn take_over<T, A: Allocator>(
-    vec: Vec<T, A>,
-    start: *mut T,
-) -> (Cells<T>, Deed<T, A>, Husk<Vec<T, A>>)
-    requires { (start ≡ vec_ptr vec) × (0 < vec_capacity vec) }
-    ensures { (result.0.slots
-        ≡ map Some vec.items ++ replicate (vec_capacity vec - vec_len vec) None)
-        × (result.1.at ≡ result.0.start) × (result.1.len ≡ vec_capacity vec)
-        × (result.1.alloc ≡ vec_allocator vec) }
-{
-    let husk = Husk { _vec: vec };
-    (Cells { start }, Deed { mark: PhantomData }, husk)
+    let Cells { start } = cells;
+    let Deed { mark: _ } = deed;
+    match unsafe { alloc.grow(start, full, old, len) } {
+        Ok(start) => Ok((Cells { start }, Deed { mark: PhantomData })),
+        Err(_) => Err((Cells { start }, Deed { mark: PhantomData })),
+    }
 }
 
 /// Places that take no memory: none, or of items of size zero. They have no block, and `near` lends

@@ -3,29 +3,26 @@
 //! The places of the block left of `gap` hold the items before the place, and those from `after` on
 //! hold the rest. Nothing is claimed of the places between.
 
-ghost use Rattle.std.specs.Prelude.{◌≡◌, ◌+◌, ◌-◌, ◌/◌, ◌^◌, ◌<◌, ◌≤◌, length, max, min};
-ghost use Rattle.std.specs.Prelude.{[], slice_get, slice_set, insert, remove, OnOk, OnErr};
-ghost use Rattle.std.specs.Prelude.{vec_capacity, map, Some};
+ghost use Rattle.std.specs.Prelude.{◌≡◌, ◌+◌, ◌-◌, ◌^◌, ◌<◌, ◌≤◌, ◌⊎◌, true, false, length, []};
+ghost use Rattle.std.specs.Prelude.{slice_get, slice_set, insert, remove, Some};
 ghost use Rattle.irig_gap.specs.Items.{gap_view};
-ghost use Rattle.irig_gap.specs.Slots.{live};
 
-use crate::block::{block, copy_items, free};
-use crate::cells::{Cells, Deed, block_of, nowhere};
-use std::alloc::{AllocError, Global};
+use crate::block::{free, longer};
+use crate::cells::{Cells, Deed, nowhere};
+use std::alloc::Global;
 use std::marker::Model;
-use std::mem;
 
 /// A list of items, counted from 0, with a place from 0 to its length and a capacity.
 ///
-/// `put`, `take_left` and `take_right` work at the place and take no memory; only `reserve` does,
-/// and it alone changes the capacity.
+/// `put`, `take_left` and `take_right` work at the place and take no memory; only `reserve` and
+/// `grow` do, and they alone change the capacity.
 pub struct Gap<T: Copy> {
     pub(crate) cells: Cells<T>,
-    deed: Option<Deed<T, Global>>,
+    pub(crate) deed: Option<Deed<T, Global>>,
     pub(crate) gap: usize,
     pub(crate) after: usize,
-    capacity: usize,
-    alloc: Global,
+    pub(crate) capacity: usize,
+    pub(crate) alloc: Global,
 }
 
 impl<T: Copy> Model for Gap<T> {
@@ -36,8 +33,7 @@ impl<T: Copy> Model for Gap<T> {
     ghost coded = { gap_code T.code };
 
     ghost use Rattle.std.specs.Prelude.{◌≡◌, ◌<◌, ◌^◌, length};
-    ghost use Rattle.irig_gap.specs.Slots.{view_of, IsGap};
-    ghost use Rattle.irig_gap.specs.Block.{IsBlock};
+    ghost use Rattle.irig_gap.specs.{Slots.view_of, Slots.IsGap, Block.IsBlock};
 
     ghost view = { λ g. view_of g.cells.slots g.gap g.after };
 
@@ -61,62 +57,20 @@ impl<T: Copy> Gap<T> {
         }
     }
 
-    /// A buffer in the block of a vector, with its items and its capacity. No item moves, and it
-    /// takes no memory. The place is right of all items.
-    pub fn from_vec(vec: Vec<T>) -> Self
-        ensures { result ≡ gap_view vec.items (length vec.items) (vec_capacity vec) }
-    {
-        let alloc = *vec.allocator();
-        let (len, capacity) = (vec.len(), vec.capacity());
-        if capacity == 0 {
-            return Gap::new(alloc);
-        }
-        let (cells, deed) = block_of(vec);
-        Gap {
-            cells,
-            deed: Some(deed),
-            gap: len,
-            after: capacity,
-            capacity,
-            alloc,
-        }
-    }
-
-    /// Makes room for `more` further items.
-    ///
-    /// It grows by half at least, so that many small growths take time in proportion to the items.
-    /// A count that no memory can hold gives the same error as any other growth.
-    pub fn reserve(&mut self, more: usize) -> Result<(), AllocError>
-        ensures stays { (self.new.items ≡ self.old.items) × (self.new.place ≡ self.old.place) }
-        ensures room { OnOk result (length self.old.items + more ≤ self.new.capacity) }
-        ensures grows { self.old.capacity ≤ self.new.capacity }
-        ensures bounded { OnOk result (self.new.capacity
-            ≤ max (length self.old.items + more) (self.old.capacity + self.old.capacity / 2)) }
-        ensures enough { length self.old.items + more ≤ self.old.capacity → self.new ≡ self.old }
-        ensures unchanged { OnErr result (self.new ≡ self.old) }
-        ensures refused { OnErr result (self.old.capacity < length self.old.items + more) }
-        ensures generous { OnOk result (self.old.capacity < length self.old.items + more →
-            min (self.old.capacity + self.old.capacity / 2) (2 ^ 64 - 1) ≤ self.new.capacity) }
-    {
-        let len = self.len();
-        if more <= self.capacity() - len {
-            return Ok(());
-        }
-        match len.checked_add(more) {
-            None => Err(AllocError),
-            Some(wanted) => {
-                let generous = self.capacity().saturating_add(self.capacity() / 2);
-                self.grow(wanted.max(generous))
-            }
-        }
-    }
-
     /// How many items there are.
     pub fn len(&self) -> usize
         ensures len { result ≡ length self.now.items }
         ensures within { result ≤ self.now.capacity }
     {
         self.gap + (self.capacity - self.after)
+    }
+
+    /// Whether there is no room.
+    pub fn is_full(&self) -> bool
+        ensures full { result ≡ true → length self.now.items ≡ self.now.capacity }
+        ensures room { result ≡ false → length self.now.items < self.now.capacity }
+    {
+        self.gap == self.after
     }
 
     /// How many items there may be before a growth.
@@ -143,6 +97,14 @@ impl<T: Copy> Gap<T> {
     {
         let slot = slot_of(index, self.gap, self.after);
         *self.cells.get(slot)
+    }
+
+    /// The item at `index`, from 0, left of the place.
+    pub fn get_left(&self, index: usize) -> T
+        requires { index < self.now.place }
+        ensures { slice_get self.now.items index ≡ Some result }
+    {
+        *self.cells.get(index)
     }
 
     /// Replaces the item at `index`, from 0, by `item`.
@@ -201,39 +163,29 @@ impl<T: Copy> Gap<T> {
         Some(*self.cells.get(first))
     }
 
-    /// Makes the capacity `wanted`, in a block of its own.
-    fn grow(&mut self, wanted: usize) -> Result<(), AllocError>
-        requires { self.old.capacity < wanted }
-        ensures ok { OnOk result (self.new ≡ gap_view self.old.items self.old.place wanted) }
-        ensures err { OnErr result (self.new ≡ self.old) }
+    /// The same items with the capacity `wanted`, or with that of before if there is no memory.
+    pub(crate) fn lengthened(self, wanted: usize) -> Gap<T>
+        requires longer { self.capacity < wanted }
+        requires end { self.place ≡ length self.items }
+        ensures { (result ≡ gap_view self.items self.place wanted) ⊎ (result ≡ self) }
     {
-        let Ok((mut cells, deed)) = block(&self.alloc, wanted) else {
-            return Err(AllocError);
-        };
-        let after = self.copy_to(&mut cells, wanted);
-        mem::swap(&mut self.cells, &mut cells);
-        let old = mem::replace(&mut self.deed, deed);
-        free(&self.alloc, self.capacity, cells, old);
-        self.after = after;
-        self.capacity = wanted;
-        Ok(())
-    }
-
-    /// Copies the items left of the place to the front of `len` places, and the others to their
-    /// end. The result is the first place of the others.
-    fn copy_to(&self, cells: &mut Cells<T>, len: usize) -> usize
-        requires len { length cells.old.slots ≡ len }
-        requires longer { self.now.capacity ≤ len }
-        ensures items { live cells.new.slots self.now.place result ≡ map Some self.now.items }
-        ensures end { result + length self.now.items ≡ self.now.place + len }
-        ensures len { length cells.new.slots ≡ len }
-        ensures start { cells.new.start ≡ cells.old.start }
-    {
-        let right = self.capacity - self.after;
-        let after = len - right;
-        copy_items(&self.cells, 0, cells, 0, self.gap);
-        copy_items(&self.cells, self.after, cells, after, right);
-        after
+        let Gap {
+            cells,
+            deed,
+            gap,
+            after: _,
+            capacity,
+            alloc,
+        } = self;
+        let (cells, deed, capacity) = longer(&alloc, gap, capacity, wanted, cells, deed);
+        Gap {
+            cells,
+            deed,
+            gap,
+            after: capacity,
+            capacity,
+            alloc,
+        }
     }
 }
 

@@ -4,6 +4,7 @@
 mod block;
 mod cells;
 mod gap;
+mod growth;
 mod moves;
 
 pub use gap::Gap;

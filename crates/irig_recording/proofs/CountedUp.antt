@@ -3,8 +3,7 @@ use Rattle.std.proofs.Common.{◌≡◌, ◌<◌, ◌+◌, ◌-◌, ◌/◌, ◌
 use Rattle.std.proofs.Common.{decimal, ap, sym, ◌∙◌, arith, append_assoc}
 use Rattle.std.proofs.Math.Seq.{get_or-append_seam, set-append_seam}
 use Rattle.std.proofs.lemmas.Fmt.{decimal_digit, decimal_step}
-use Rattle.irig_recording.specs.KeptPulse.{HoldsPulse, front, pulse_parts}
-use Rattle.irig_recording.specs.declared.kept_pulse.KeptPulse.{KeptPulse}
+use Rattle.irig_recording.specs.{KeptPulse.HoldsPulse, KeptPulse.front, KeptPulse.pulse_parts, declared.kept_pulse.KeptPulse.KeptPulse}
 
 -- a front by its last digit, which may count up by one
 record ByLast (k : ℕ) : Type 0 where

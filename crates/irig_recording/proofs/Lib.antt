@@ -1,4 +1,5 @@
--- Pulses and their edges.
+-- Lists; pulses and their edges.
+pub mod Items
 pub mod RecordingLemmas
 pub mod PulseEdges
 -- The text of a recording, and the lines of one pulse.

@@ -1,11 +1,8 @@
 -- Pulses and their edges: as many again, and even in number; and edges that are kept as pulses.
-use Rattle.std.proofs.Common.{◌≡◌, ◌≤◌, ◌+◌, ◌*◌, ◌∙◌, ℕ, Bool, true, false, not, List, [], ◌∷◌, ◌++◌, length, refl, ap, sym, arith}
-use Rattle.std.proofs.Common.{append_assoc, length-append}
+use Rattle.std.proofs.Common.{◌≡◌, ◌≤◌, ◌+◌, ◌*◌, ◌∙◌, ℕ, Bool, true, false, not, List, [], ◌∷◌, ◌++◌, length, refl, ap, sym, arith, append_assoc}
+use Rattle.std.proofs.Common.{length-append}
 use Rattle.std.proofs.lemmas.List.{append-nil}
-use Rattle.irig_recording.specs.Edges.{kept_edges}
-use Rattle.irig_recording.specs.Pulses.{edges_of, pulse}
-use Rattle.irig_recording.specs.Recording.{is_even_long}
-use Rattle.irig_recording.specs.declared.pulse.Pulse.{Pulse}
+use Rattle.irig_recording.specs.{Edges.kept_edges, Pulses.edges_of, Pulses.pulse, Recording.is_even_long, declared.pulse.Pulse.Pulse}
 use Rattle.std.proofs.Math.Bool.{not-not}
 
 pub edges_of-append : (ps qs : List Pulse) → edges_of (ps ++ qs) ≡ edges_of ps ++ edges_of qs

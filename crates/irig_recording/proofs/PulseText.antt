@@ -3,13 +3,9 @@ use Rattle.std.proofs.Common.{◌≡◌, ◌&&◌, zero, suc, T, eqb, eqb→eq, 
 use Rattle.std.proofs.Common.{[], ℕ, Bool, true, false, List, length, length-append, take, drop, set, decimal, refl, ap, sym, ◌∙◌, arith, append_assoc}
 use lib.Ieee.Fits.{and_l, and_r}
 use Rattle.std.proofs.Math.Seq.{take-append-add, take-append_seam, drop-append_seam, set-append_seam}
-use Rattle.std.proofs.lemmas.Bool.{ne_eqb}
-use Rattle.std.proofs.lemmas.Fmt.{decimal_digit, decimal_step}
-use Rattle.std.proofs.lemmas.List.{take-append-drop, drop-drop, drop-take, drop-set-add}
+use Rattle.std.proofs.lemmas.{Bool.ne_eqb, Fmt.decimal_digit, Fmt.decimal_step, List.take-append-drop, List.drop-drop, List.drop-take, List.drop-set-add}
 use Rattle.irig_recording.specs.KeptPulse.{HoldsPulse, last_four, front, pulse_parts}
-use Rattle.irig_recording.specs.FileText.{lines_at, level_line}
-use Rattle.irig_recording.specs.declared.kept_pulse.KeptPulse.{KeptPulse}
-use Rattle.irig_recording.specs.declared.kept_pulse.TheConstants.{PAIRS}
+use Rattle.irig_recording.specs.{FileText.lines_at, FileText.level_line, declared.kept_pulse.KeptPulse.KeptPulse, declared.kept_pulse.TheConstants.PAIRS}
 
 -- a part of a list between others, replaced
 pub part_put : (old new p a q x : List ℕ) (i : ℕ) → old ≡ p ++ (a ++ q) → length p ≡ i → length a ≡ 4 → take i new ≡ take i old

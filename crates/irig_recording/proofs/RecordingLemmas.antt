@@ -1,9 +1,8 @@
 -- Edges, one after the other.
-use Rattle.std.proofs.Common.{◌≡◌, ◌<◌, ◌≤◌, ◌%◌, ℕ, zero, suc, Bool, true, false, inl, inr}
-use Rattle.std.proofs.Common.{not, List, [], ◌∷◌, length, nat_eq, refl, ap, sym, ◌∙◌, arith, lit<}
-use Rattle.std.proofs.lemmas.Bool.{eqb-true, cases_lt}
+use Rattle.std.proofs.Common.{◌≡◌, ◌<◌, ◌≤◌, ◌%◌, ℕ, zero, suc, Bool, true, false, inl, inr, not, List, [], ◌∷◌, length, nat_eq, refl, ap, sym, ◌∙◌, arith}
+use Rattle.std.proofs.Common.{lit<}
+use Rattle.std.proofs.lemmas.{Bool.eqb-true, Bool.cases_lt, Nat.mod_below}
 use Rattle.std.proofs.Math.Nat.{suc-mod}
-use Rattle.std.proofs.lemmas.Nat.{mod_below}
 use Rattle.irig_recording.specs.Recording.{is_even_long}
 
 turned : (r : ℕ) → r < 2 → nat_eq (suc r % 2) 0 ≡ not (nat_eq r 0)

@@ -2,8 +2,7 @@
 use Rattle.std.proofs.Common.{◌≡◌, ◌≤◌, ◌*◌, ◌^◌, ◌==◌, ◌++◌, ◌∷◌, [], ℕ, Bool, true, false, not, List, length, decimal, refl, arith, length-append}
 use Rattle.std.proofs.Common.{if◌then◌else◌, nat_lt, ◌&&◌, Result, Ok, Err, IsOk, OnOk}
 use Rattle.std.specs.List.{list_any}
-use Rattle.std.proofs.lemmas.Bool.{false≢true}
-use Rattle.std.proofs.lemmas.Fmt.{length-decimal-le}
+use Rattle.std.proofs.lemmas.{Bool.false≢true, Fmt.length-decimal-le}
 use Rattle.irig_recording.specs.FileText.{time_line, level_line, edge_lines, head_text, header_text, later_edges, begins_high, end_line, lines_at, file_text}
 use Rattle.irig_recording.specs.Recording.{UpTo, RecordingView, IsRecording}
 

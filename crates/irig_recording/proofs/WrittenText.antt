@@ -1,14 +1,16 @@
 -- The text that is written pulse by pulse is the text of the recording.
-use Rattle.std.proofs.Common.{◌≡◌, ◌≤◌, ◌+◌, ◌==◌, ◌++◌, ◌∷◌, ◌&&◌, [], ℕ, Bool, true, false, not, List, length, drop, nat_lt, inl, inr, subst, refl, ap}
-use Rattle.std.proofs.Common.{sym, ◌∙◌, arith, append_assoc, if◌then◌else◌}
+use Rattle.std.proofs.Common.{◌≡◌, ◌≤◌, ◌+◌, ◌==◌, ◌++◌, ◌∷◌, ◌&&◌, [], ℕ, Bool, true, false, not, List, length, drop, nat_lt, inl, inr, subst, refl, ap, sym}
+use Rattle.std.proofs.Common.{◌∙◌, arith, append_assoc, if◌then◌else◌, slice_get, Some}
 use Rattle.std.specs.List.{list_any}
-use Rattle.std.proofs.lemmas.List.{drop_all, append-nil}
-use Rattle.std.proofs.lemmas.Bool.{ne_eqb, eq-eqb, lt-ltb, cases_eq}
+use Rattle.std.proofs.lemmas.{List.drop_all, List.append-nil, Bool.ne_eqb, Bool.eq-eqb, Bool.lt-ltb, Bool.cases_eq}
 use Rattle.std.proofs.Math.Bool.{or-false}
 use Rattle.irig_recording.specs.FileText.{file_text, header_text, time_line, level_line, edge_lines, begins_high, later_edges, end_line, lines_at, length_line}
-use Rattle.irig_recording.specs.Pulses.{edges_of}
-use Rattle.irig_recording.specs.Recording.{recording_view, RisesFrom, UpTo}
-use Rattle.irig_recording.specs.declared.pulse.Pulse.{Pulse}
+use Rattle.irig_recording.specs.{Pulses.edges_of, Recording.recording_view, Recording.RisesFrom, Recording.UpTo, declared.pulse.Pulse.Pulse}
+use Rattle.irig_recording.proofs.Items.{drop-item}
+
+-- whether the first pulse rises at 0
+pub first_high : (p : Pulse) (ps : List Pulse) → slice_get ps 0 ≡ Some p → (p.rise == 0) ≡ begins_high (edges_of ps)
+first_high p ps is = sym (ap (λ qs. begins_high (edges_of qs)) (drop-item ps 0 p is))
 
 -- the last of some edges
 abbrev pub last_or : ℕ → List ℕ → ℕ

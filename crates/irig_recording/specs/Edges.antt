@@ -1,7 +1,6 @@
 -- How edges are kept as pulses.
 use Rattle.std.specs.Prelude.{ℕ, Bool, List, [], ◌∷◌, ◌++◌, if◌then◌else◌}
-use Rattle.irig_recording.specs.Pulses.{edges_of}
-use Rattle.irig_recording.specs.declared.pulse.Pulse.{Pulse}
+use Rattle.irig_recording.specs.{Pulses.edges_of, declared.pulse.Pulse.Pulse}
 
 -- the most edges that are kept: one more than a recording may have
 unfoldable pub edges_kept : ℕ

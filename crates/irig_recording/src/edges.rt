@@ -1,13 +1,12 @@
 //! Edges that are kept as pulses.
 
 ghost use Rattle.std.specs.Prelude.{◌≡◌, ◌≤◌, ◌<◌, ◌+◌, ◌^◌, ◌↔◌, ◌∷◌, [], ◌++◌, true, false, not};
-ghost use Rattle.std.specs.Prelude.{◌*◌, length, vec_capacity, vec_len, IsTrue, OnErr, OnOk};
-ghost use Rattle.irig_recording.specs.Edges.{edges_kept};
-ghost use Rattle.irig_recording.specs.Pulses.{edges_of};
-ghost use Rattle.irig_recording.specs.Recording.{is_even_long};
+ghost use Rattle.std.specs.Prelude.{◌*◌, length, IsTrue, OnErr, OnOk};
+ghost use Rattle.irig_recording.specs.{Edges.edges_kept, Pulses.edges_of, Recording.is_even_long};
 
 use crate::pulse::Pulse;
 use crate::recording::PULSES_LIMIT;
+use irig_gap::Gap;
 use std::alloc::{AllocError, Global};
 use std::marker::Model;
 
@@ -18,14 +17,13 @@ const FIRST_ROOM: usize = 1024;
 /// than a recording may have.
 #[derive(Drop)]
 pub struct Edges {
-    pulses: Vec<Pulse>,
+    pulses: Gap<Pulse>,
     is_open: bool,
     rise: u64,
 }
 
 impl Model for Edges {
-    ghost use Rattle.std.specs.Prelude.{ℕ, List, length, vec_capacity, vec_len, ◌≤◌, ◌^◌, ◌*◌};
-    ghost use Rattle.std.specs.Prelude.{◌+◌};
+    ghost use Rattle.std.specs.Prelude.{ℕ, List, length, ◌≡◌, ◌≤◌, ◌^◌, ◌*◌, ◌+◌};
     ghost use Rattle.irig_recording.specs.Edges.{kept_edges};
 
     ghost Value = { List ℕ };
@@ -33,7 +31,8 @@ impl Model for Edges {
     ghost view = { λ e. kept_edges e.pulses.items e.is_open e.rise };
 
     ghost invariant = { λ e. (length e.pulses.items ≤ 2 ^ 22)
-        × (vec_capacity e.pulses ≤ 2 * vec_len e.pulses + 1024) };
+        × (e.pulses.place ≡ length e.pulses.items)
+        × (e.pulses.capacity ≤ 2 * length e.pulses.items + 1024) };
 }
 
 impl Edges {
@@ -42,7 +41,7 @@ impl Edges {
         ensures { result ≡ [] }
     {
         Edges {
-            pulses: Vec::new(alloc),
+            pulses: Gap::new(alloc),
             is_open: false,
             rise: 0,
         }
@@ -59,7 +58,7 @@ impl Edges {
     pub fn is_full(&self) -> bool
         ensures { IsTrue result ↔ (2 ^ 23 < length self.now) }
     {
-        self.is_open && self.pulses.len() == PULSES_LIMIT
+        self.is_open && self.pulses.gap_at() == PULSES_LIMIT
     }
 
     /// Whether two edges more are kept.
@@ -67,7 +66,7 @@ impl Edges {
     pub fn has_room(&self) -> bool
         ensures { result ≡ true ↔ (length self.now + 2 ≤ edges_kept) }
     {
-        self.pulses.len() < PULSES_LIMIT
+        self.pulses.gap_at() < PULSES_LIMIT
     }
 
     /// Adds an edge after the others. Only a fall takes memory.
@@ -99,11 +98,12 @@ impl Edges {
         Ok(())
     }
 
-    /// The pulses of the edges, none of which is copied.
-    pub fn into_pulses(self) -> Vec<Pulse>
+    /// The pulses of the edges, none of which is copied. The place is after them all.
+    pub fn into_pulses(self) -> Gap<Pulse>
         requires { is_even_long self ≡ true }
         ensures edges { edges_of result.items ≡ self }
-        ensures room { vec_capacity result ≤ 2 * vec_len result + 1024 }
+        ensures place { result.place ≡ length result.items }
+        ensures room { result.capacity ≤ 2 * length result.items + 1024 }
     {
         self.pulses
     }
@@ -111,31 +111,33 @@ impl Edges {
 
 /// Adds a pulse after the others.
 #[inline(always)]
-fn put(pulses: &mut Vec<Pulse>, pulse: Pulse) -> Result<(), AllocError>
-    requires few { vec_len pulses.old ≤ 2 ^ 22 }
-    requires room { vec_capacity pulses.old ≤ 2 * vec_len pulses.old + 1024 }
+fn put(pulses: &mut Gap<Pulse>, pulse: Pulse) -> Result<(), AllocError>
+    requires few { length pulses.old.items ≤ 2 ^ 22 }
+    requires place { pulses.old.place ≡ length pulses.old.items }
+    requires room { pulses.old.capacity ≤ 2 * length pulses.old.items + 1024 }
     ensures put { OnOk result (pulses.new.items ≡ pulses.old.items ++ pulse ∷ []) }
-    ensures refused { OnErr result (pulses.new.items ≡ pulses.old.items) }
-    ensures room { vec_capacity pulses.new ≤ 2 * vec_len pulses.new + 1024 }
+    ensures refused { OnErr result (pulses.new ≡ pulses.old) }
+    ensures place { pulses.new.place ≡ length pulses.new.items }
+    ensures room { pulses.new.capacity ≤ 2 * length pulses.new.items + 1024 }
 {
-    if pulses.len() == pulses.capacity() {
+    if pulses.is_full() {
         grow(pulses)?;
     }
-    pulses.push_reserved(pulse);
+    pulses.put(pulse);
     Ok(())
 }
 
 /// Makes a full block twice as large, and adds the room of a first block. It never has more room
 /// than the most pulses and a first block.
 #[inline(never)]
-fn grow(pulses: &mut Vec<Pulse>) -> Result<(), AllocError>
-    requires few { vec_len pulses.old ≤ 2 ^ 22 }
-    requires full { vec_capacity pulses.old ≡ vec_len pulses.old }
-    ensures items { pulses.new.items ≡ pulses.old.items }
-    ensures grown { OnOk result (vec_len pulses.new < vec_capacity pulses.new) }
-    ensures room { vec_capacity pulses.new ≤ 2 * vec_len pulses.new + 1024 }
+fn grow(pulses: &mut Gap<Pulse>) -> Result<(), AllocError>
+    requires few { length pulses.old.items ≤ 2 ^ 22 }
+    requires full { length pulses.old.items ≡ pulses.old.capacity }
+    ensures stays { (pulses.new.items ≡ pulses.old.items) × (pulses.new.place ≡ pulses.old.place) }
+    ensures grown { OnOk result (length pulses.new.items < pulses.new.capacity) }
+    ensures refused { OnErr result (pulses.new ≡ pulses.old) }
+    ensures room { pulses.new.capacity ≤ 2 * length pulses.new.items + 1024 }
 {
-    let more = pulses.len() + FIRST_ROOM;
-    let left = PULSES_LIMIT + FIRST_ROOM - pulses.len();
-    pulses.reserve_exact(more.min(left))
+    let twice = 2 * pulses.capacity() + FIRST_ROOM;
+    pulses.grow(twice.min(PULSES_LIMIT + FIRST_ROOM))
 }

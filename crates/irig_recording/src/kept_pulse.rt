@@ -1,8 +1,7 @@
 //! The lines of a pulse, kept for the next one.
 
 ghost use Rattle.std.specs.Prelude.{◌≡◌, ◌↔◌, ◌≤◌, ◌<◌, ◌+◌, ◌-◌, ◌/◌, ◌%◌, ◌^◌, ◌++◌, ◌∷◌, true};
-ghost use Rattle.std.specs.Prelude.{false};
-ghost use Rattle.std.specs.Prelude.{OnOk, length, take, drop, vec_capacity, vec_len, IsOk};
+ghost use Rattle.std.specs.Prelude.{false, OnOk, length, take, drop, vec_capacity, vec_len, IsOk};
 ghost use Rattle.irig_recording.specs.KeptPulse.{HoldsPulse, IsNear, last_four};
 ghost use Rattle.irig_recording.specs.FileText.{EndsLines, lines_at};
 

@@ -1,13 +1,14 @@
 //! A length and the pulses of a level.
 
-ghost use Rattle.std.specs.Prelude.{◌≡◌, ◌≤◌, ◌↔◌, ◌^◌, IsTrue, IsSome, IfOk, IfSome, OnErr};
-ghost use Rattle.std.specs.Prelude.{true, length, vec_capacity, vec_len, ◌≢◌, ◌*◌, ◌+◌, []};
+ghost use Rattle.std.specs.Prelude.{◌≡◌, ◌≤◌, ◌↔◌, ◌^◌, IsTrue, IsSome, IfOk, IfSome, OnErr, true};
+ghost use Rattle.std.specs.Prelude.{length, ◌≢◌, ◌*◌, ◌+◌, []};
 ghost use Rattle.irig_recording.specs.Pulses.{edges_of};
 ghost use Rattle.irig_recording.specs.Recording.{IsRecording, RecordingView, RisesFrom, UpTo};
 ghost use Rattle.irig_recording.specs.Recording.{is_even_long, recording_view};
 
 use crate::edges::Edges;
 use crate::pulse::Pulse;
+use irig_gap::Gap;
 use std::alloc::{AllocError, Global};
 use std::marker::Model;
 
@@ -25,7 +26,7 @@ const EDGES_LIMIT: usize = 2 * PULSES_LIMIT;
 #[derive(Drop)]
 pub struct Recording {
     micros: u64,
-    pulses: Vec<Pulse>,
+    pulses: Gap<Pulse>,
 }
 
 impl Model for Recording {
@@ -34,7 +35,8 @@ impl Model for Recording {
     ghost view = { λ r. recording_view r.micros (edges_of r.pulses.items) };
 
     ghost invariant = { λ r. IsRecording r.micros (edges_of r.pulses.items)
-        × (vec_capacity r.pulses ≤ 2 * vec_len r.pulses + 1024) };
+        × (r.pulses.place ≡ length r.pulses.items)
+        × (r.pulses.capacity ≤ 2 * length r.pulses.items + 1024) };
 }
 
 impl Recording {
@@ -55,16 +57,14 @@ impl Recording {
     }
 
     /// The recording of a length and pulses, both in microseconds, that are known to make one, in
-    /// a block that is not much larger.
-    pub fn from_parts(length: u64, pulses: Vec<Pulse>) -> Recording
-        requires lawful { IsRecording length (edges_of pulses.items) }
-        requires room { vec_capacity pulses ≤ 2 * vec_len pulses + 1024 }
-        ensures { result ≡ recording_view length (edges_of pulses.items) }
+    /// a block that is not much larger. The place is after them all.
+    pub fn from_parts(micros: u64, pulses: Gap<Pulse>) -> Recording
+        requires lawful { IsRecording micros (edges_of pulses.items) }
+        requires place { pulses.place ≡ length pulses.items }
+        requires room { pulses.capacity ≤ 2 * length pulses.items + 1024 }
+        ensures { result ≡ recording_view micros (edges_of pulses.items) }
     {
-        Recording {
-            micros: length,
-            pulses,
-        }
+        Recording { micros, pulses }
     }
 
     /// How long the recording is, in microseconds.
@@ -75,18 +75,22 @@ impl Recording {
         self.micros
     }
 
-    /// The pulses, in order.
-    pub fn pulses(&self) -> &[Pulse]
-        ensures exact { edges_of result.now ≡ self.now.edges }
+    /// The pulses, in order. The place is after them all, so `gap_at` is their number, and
+    /// `get_left` gives each.
+    pub fn pulses(&self) -> &Gap<Pulse>
+        ensures exact { edges_of result.now.items ≡ self.now.edges }
+        ensures place { result.now.place ≡ length result.now.items }
         ensures lawful { IsRecording self.now.micros self.now.edges }
     {
-        self.pulses.as_slice()
+        &self.pulses
     }
 
-    /// The pulses, in order, without a copy. Their block is not much larger.
-    pub fn into_pulses(self) -> Vec<Pulse>
+    /// The pulses, in order, without a copy, and the place after them all. Their block is not much
+    /// larger.
+    pub fn into_pulses(self) -> Gap<Pulse>
         ensures exact { edges_of result.items ≡ self.edges }
-        ensures room { vec_capacity result ≤ 2 * vec_len result + 1024 }
+        ensures place { result.place ≡ length result.items }
+        ensures room { result.capacity ≤ 2 * length result.items + 1024 }
         ensures lawful { IsRecording self.micros self.edges }
     {
         self.pulses
@@ -94,11 +98,12 @@ impl Recording {
 }
 
 /// The pulses of edges.
-fn pulses_of(alloc: Global, edges: &[u64]) -> Result<Vec<Pulse>, AllocError>
+fn pulses_of(alloc: Global, edges: &[u64]) -> Result<Gap<Pulse>, AllocError>
     requires few { length edges.now ≤ 2 ^ 23 }
     requires even { is_even_long edges.now ≡ true }
     ensures edges { IfOk result (λ pulses. edges_of pulses.items ≡ edges.now) }
-    ensures room { IfOk result (λ pulses. vec_capacity pulses ≤ 2 * vec_len pulses + 1024) }
+    ensures place { IfOk result (λ pulses. pulses.place ≡ length pulses.items) }
+    ensures room { IfOk result (λ pulses. pulses.capacity ≤ 2 * length pulses.items + 1024) }
     ensures refused { OnErr result (edges.now ≢ []) }
 {
     let mut kept = Edges::new(alloc);

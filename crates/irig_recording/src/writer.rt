@@ -1,8 +1,7 @@
 //! A recording is written.
 
-ghost use Rattle.std.specs.Prelude.{◌≡◌, ◌≤◌, ◌<◌, ◌^◌, ◌+◌, ◌/◌, true, false, ◌++◌, ◌∷◌};
-ghost use Rattle.std.specs.Prelude.{OnOk, IfOk, length, drop, decimal};
-ghost use Rattle.std.specs.Prelude.{vec_capacity, vec_len, IsOk};
+ghost use Rattle.std.specs.Prelude.{◌≡◌, ◌≤◌, ◌<◌, ◌^◌, ◌+◌, ◌/◌, true, false, ◌++◌, ◌∷◌, OnOk};
+ghost use Rattle.std.specs.Prelude.{IfOk, length, drop, decimal, vec_capacity, vec_len, IsOk};
 ghost use Rattle.irig_recording.specs.FileText.{EndsLines, begins_high, file_text, head_text};
 ghost use Rattle.irig_recording.specs.FileText.{header_text, length_line, level_line, lines_at};
 ghost use Rattle.irig_recording.specs.FileText.{time_line};
@@ -11,6 +10,7 @@ ghost use Rattle.irig_recording.specs.Pulses.{edges_of};
 use crate::kept_pulse::KeptPulse;
 use crate::pulse::Pulse;
 use crate::recording::Recording;
+use irig_gap::Gap;
 use itoa::write_digits;
 use std::alloc::{AllocError, Global};
 use std::marker::Model;
@@ -120,7 +120,7 @@ pub fn text(alloc: Global, recording: &Recording) -> Result<Vec<u8>, AllocError>
     ensures written { IfOk result (λ text. text.items ≡ file_text recording.now) }
     ensures short { IfOk result (λ text. length text.items ≤ 2 ^ 28) }
 {
-    let mut text = Vec::with_capacity(alloc, 36 * recording.pulses().len() + 140)?;
+    let mut text = Vec::with_capacity(alloc, 36 * recording.pulses().gap_at() + 140)?;
     put_text(&mut text, recording)?;
     Ok(text)
 }
@@ -132,7 +132,8 @@ fn put_text(text: &mut Vec<u8>, recording: &Recording) -> Result<(), AllocError>
     let pulses = recording.pulses();
     let mut writer = TextWriter::new();
     writer.begin(text, begins_high(pulses))?;
-    for pulse in pulses {
+    for index in 0..pulses.gap_at() {
+        let pulse = pulses.get_left(index);
         writer.put_pulse(text, pulse.rise, pulse.fall)?;
     }
     writer.finish(text, recording.length())
@@ -148,13 +149,10 @@ fn share_front(rise: u64, fall: u64) -> bool
 }
 
 /// Whether the first pulse rises at 0.
-fn begins_high(pulses: &[Pulse]) -> bool
-    ensures { result ≡ begins_high (edges_of pulses.now) }
+fn begins_high(pulses: &Gap<Pulse>) -> bool
+    ensures { result ≡ begins_high (edges_of pulses.now.items) }
 {
-    match pulses {
-        [first, ..] => first.rise == 0,
-        [] => false,
-    }
+    0 < pulses.len() && pulses.get(0).rise == 0
 }
 
 /// Writes the lines before the first edge above 0.

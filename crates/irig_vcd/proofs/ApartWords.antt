@@ -1,14 +1,9 @@
 -- Values on other codes, which say nothing.
-use Rattle.std.proofs.Common.{◌≡◌, ◌<◌, ◌≤◌, ◌+◌, ◌∷◌, [], ℕ, true, false, List, length, drop, get_or, None, Ok}
-use Rattle.std.proofs.Common.{refl, ap, sym, ◌∙◌, arith}
+use Rattle.std.proofs.Common.{◌≡◌, ◌<◌, ◌≤◌, ◌+◌, ◌∷◌, [], ℕ, true, false, List, length, drop, get_or, None, Ok, refl, ap, sym, ◌∙◌, arith}
 use Rattle.std.specs.Str.{bytes_eq}
-use Rattle.irig_vcd.specs.Code.Short.{TakesValue, takes_code}
-use Rattle.irig_vcd.specs.Values.{level_by}
-use Rattle.irig_vcd.specs.Words.{Word, WordKind, is_space, kind_of_byte, words_from, before_space}
-use Rattle.irig_vcd.specs.Words.{dollar, hash, scalar, vector, real, text, other}
-use Rattle.irig_vcd.proofs.CodeRuns.{other_bytes}
-use Rattle.irig_vcd.proofs.DigitRuns.{dark_above, none_before}
-use Rattle.irig_vcd.proofs.Runs.{begins, newline, skips}
+use Rattle.irig_vcd.specs.Words.{Word, WordKind, is_space, kind_of_byte, words_from, before_space, dollar, hash, scalar, vector, real, text, other}
+use Rattle.irig_vcd.specs.{Code.Short.TakesValue, Code.Short.takes_code, Values.level_by}
+use Rattle.irig_vcd.proofs.{CodeRuns.other_bytes, DigitRuns.dark_above, DigitRuns.none_before, Runs.begins, Runs.newline, Runs.skips}
 
 -- a space ends a word
 space : (s : List ℕ) (i : ℕ) → get_or s i 0 ≡ 32 → is_space (get_or s i 0) ≡ true

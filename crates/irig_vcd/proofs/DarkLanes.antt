@@ -1,13 +1,10 @@
 -- The bytes of a word among sixteen.
-use Rattle.std.proofs.Common.{◌≡◌, ◌<◌, ◌≤◌, ◌+◌, ℕ, zero, suc, true, false, List, length, drop, get_or, map, replicate, leb, cond, w8, ap, ◌∙◌, arith}
-use Rattle.std.proofs.lemmas.Bool.{leb-false}
-use Rattle.std.proofs.lemmas.Simd.{bitmask_splat, none_from_empty_mask}
+use Rattle.std.proofs.Common.{◌≡◌, ◌<◌, ◌≤◌, ◌+◌, ℕ, zero, suc, true, false, List, length, drop, get_or, map, replicate, leb, cond, w8, ap, ◌∙◌, arith, ◌^◌}
+use Rattle.std.proofs.Common.{◌%◌}
+use Rattle.std.proofs.lemmas.{Bool.leb-false, Simd.bitmask_splat, Simd.none_from_empty_mask}
 use lib.Lanes.{zip2, mask_l, top, chunk}
-use Rattle.std.proofs.Common.{◌^◌, ◌%◌}
-use Rattle.irig_vcd.specs.Code.Lanes.{is_low}
-use Rattle.irig_vcd.specs.Words.{words_from}
-use Rattle.irig_vcd.proofs.DigitRuns.{dark_above}
-use Rattle.irig_vcd.proofs.Runs.{runs}
+use Rattle.irig_vcd.specs.{Code.Lanes.is_low, Words.words_from}
+use Rattle.irig_vcd.proofs.{DigitRuns.dark_above, Runs.runs}
 
 -- the mask of the bytes up to a space
 pub low_mask : (v : List ℕ) → length v ≡ 16 → mask_l (map (top 7) (zip2 (λ a b. cond (leb a b) 255 0) v (replicate 16 32))) % 2 ^ 64 ≡ mask_l (map is_low v)

@@ -1,10 +1,8 @@
 -- An edge before a time.
 use Rattle.std.proofs.Common.{◌≡◌, ◌<◌, ◌≤◌, ◌∙◌, ℕ, zero, suc, Bool, true, false, List, Option, Some, None, refl, sym, arith}
 use Rattle.std.proofs.lemmas.Bool.{false≢true}
-use Rattle.irig_vcd.specs.Code.Trace.{EdgeBefore, Follows}
 use Rattle.irig_vcd.specs.Level.{Change, change, differs, level_before}
-use Rattle.irig_vcd.specs.Scan.{and_level}
-use Rattle.irig_vcd.specs.declared.trace.Trace.{Trace}
+use Rattle.irig_vcd.specs.{Code.Trace.EdgeBefore, Code.Trace.Follows, Scan.and_level, declared.trace.Trace.Trace}
 use Rattle.irig_vcd.proofs.Levels.{level_kept}
 
 -- a high level before a time

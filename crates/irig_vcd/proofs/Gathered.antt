@@ -1,25 +1,16 @@
 -- The bytes of the first journal, gathered part by part.
-use Rattle.std.proofs.Common.{◌≡◌, ◌≤◌, ◌+◌, ◌-◌, ◌++◌, ◌∷◌, [], ℕ, zero, suc, Bool, true, false, cond, List, Option, Some, None, IfSome}
-use Rattle.std.proofs.Common.{length, take, drop, refl, ap, sym, subst, ◌∙◌, arith}
+use Rattle.std.proofs.Common.{◌≡◌, ◌≤◌, ◌+◌, ◌-◌, ◌++◌, ◌∷◌, [], ℕ, zero, suc, Bool, true, false, cond, List, Option, Some, None, IfSome, length, take, drop}
+use Rattle.std.proofs.Common.{refl, ap, sym, subst, ◌∙◌, arith}
 use Rattle.std.proofs.lemmas.List.{drop_all, length-append, length-drop, take_all}
-use Rattle.irig_vcd.specs.Code.DumpReader.{HasReadWords, Stage}
 use Rattle.irig_vcd.specs.Code.Gathered.{bytes_at, gathered, part_at, place_by, place_in, so_far}
-use Rattle.irig_vcd.specs.Code.Journals.{first_place, place_view, text_at}
-use Rattle.irig_vcd.specs.Code.Pending.{Means}
-use Rattle.irig_vcd.specs.Code.Scanned.{Keeps}
-use Rattle.irig_vcd.specs.Journals.{Comment, comment, first_or, is_journal}
 use Rattle.irig_vcd.specs.Scan.{Open, closed, code_of, comment_of, Scan, start, shut, scan_words}
-use Rattle.irig_vcd.specs.Words.{Word, words_from, words_of}
-use Rattle.irig_vcd.specs.declared.fault.VcdFault.{VcdFault}
-use Rattle.irig_vcd.specs.declared.journals.Journals.{Journals}
-use Rattle.irig_vcd.specs.declared.journals.Place.{Place}
-use Rattle.irig_vcd.specs.declared.pending.Pending.{Pending}
+use Rattle.irig_vcd.specs.{Code.DumpReader.HasReadWords, Code.DumpReader.Stage, Code.Journals.first_place, Code.Journals.place_view, Code.Journals.text_at}
+use Rattle.irig_vcd.specs.{Code.Pending.Means, Code.Scanned.Keeps, Journals.Comment, Journals.comment, Journals.first_or, Journals.is_journal, Words.Word}
+use Rattle.irig_vcd.specs.{Words.words_from, Words.words_of, declared.fault.VcdFault.VcdFault, declared.journals.Journals.Journals}
+use Rattle.irig_vcd.specs.{declared.journals.Place.Place, declared.pending.Pending.Pending, declared.reading.Reading.Reading}
 use Rattle.irig_vcd.specs.declared.pending.Pending.TheVariants as pending
-use Rattle.irig_vcd.specs.declared.reading.Reading.{Reading}
 use Rattle.irig_vcd.proofs.JournalPlaces.{Ordered, words_ordered}
-use Rattle.irig_vcd.proofs.MoreWords.{declared_more}
-use Rattle.irig_vcd.proofs.Scans.{scan-append, after}
-use Rattle.irig_vcd.proofs.WordSteps.{Plain, next_always}
+use Rattle.irig_vcd.proofs.{MoreWords.declared_more, Scans.scan-append, Scans.after, WordSteps.Plain, WordSteps.next_always}
 
 -- the place that is kept is that of the scan
 kept_place : (p : Pending) (now : Open) (top : ℕ) → Means p now → so_far None p top ≡ place_by [] now top

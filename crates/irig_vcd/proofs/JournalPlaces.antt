@@ -1,18 +1,14 @@
 -- The places of the journals of a text: after its declarations, and within it.
-use Rattle.std.proofs.Common.{◌≡◌, ◌≤◌, ◌<◌, ◌+◌, ◌∷◌, [], ℕ, Bool, true, false, cond, List, Option, Some, None, Result, Ok, Err, IfSome, length, ◌++◌}
-use Rattle.std.proofs.Common.{refl, ap, arith, subst}
-use Rattle.irig_vcd.specs.Answer.{◌>>=◌, pair_of}
+use Rattle.std.proofs.Common.{◌≡◌, ◌≤◌, ◌<◌, ◌+◌, ◌∷◌, [], ℕ, Bool, true, false, cond, List, Option, Some, None, Result, Ok, Err, IfSome, length, ◌++◌, refl}
+use Rattle.std.proofs.Common.{ap, arith, subst}
 use Rattle.irig_vcd.specs.Code.Journals.{Holds, LiesIn, place_view, first_place}
 use Rattle.irig_vcd.specs.Cut.{Section, Stop, no_end, no_definitions, bad, ended, Cut, cut_from, then_cut, stop_at, is_stray, is_last}
 use Rattle.irig_vcd.specs.Declarations.{Heading, nothing, declarations_of, read_cut, judged, stopped, start_of}
-use Rattle.irig_vcd.specs.Journals.{Comment, comment, first_or, is_journal}
 use Rattle.irig_vcd.specs.Scan.{Open, closed, code_of, comment_of, Scan, start, scan_words}
-use Rattle.irig_vcd.specs.Sections.{is_end, section_of}
 use Rattle.irig_vcd.specs.Words.{Word, is_space, words_from, words_of, before_space, kind_of_byte}
-use Rattle.irig_vcd.specs.declared.fault.VcdFault.{VcdFault}
+use Rattle.irig_vcd.specs.{Answer.◌>>=◌, Answer.pair_of, Journals.Comment, Journals.comment, Journals.first_or, Journals.is_journal, Sections.is_end}
+use Rattle.irig_vcd.specs.{Sections.section_of, declared.fault.VcdFault.VcdFault, declared.journals.Journals.Journals, declared.journals.Place.Place}
 use Rattle.irig_vcd.proofs.WordSteps.{Plain, next_always}
-use Rattle.irig_vcd.specs.declared.journals.Journals.{Journals}
-use Rattle.irig_vcd.specs.declared.journals.Place.{Place}
 
 -- the words after the declarations, if these end
 abbrev words_behind : Stop → List Word

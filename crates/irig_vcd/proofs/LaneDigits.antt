@@ -1,23 +1,14 @@
 -- The digits of a number among sixteen bytes.
 use Rattle.std.proofs.Common.{◌≡◌, ◌<◌, ◌≤◌, ◌+◌, ◌-◌, ◌*◌, ◌%◌, ◌^◌, ◌++◌, ◌∷◌, [], ℕ, zero, suc, true, false, List, length, drop, take, get_or, map}
 use Rattle.std.proofs.Common.{replicate, nat_le, leb, cond, w8, Fits, refl, ap, subst, ◌∙◌, arith}
-use Rattle.std.specs.List.{list_all}
-use Rattle.std.specs.Int.Digits.{number_from_digits, number_from_digits_after, AllBelowBase}
-use Rattle.std.proofs.lemmas.Nat.{and_mask, and_le_r}
-use Rattle.std.proofs.lemmas.Bool.{leb-false, leb-true, and_parts}
-use Rattle.std.proofs.lemmas.List.{drop-map, drop-take, drop-drop}
+use Rattle.std.specs.{List.list_all, Int.Digits.number_from_digits, Int.Digits.number_from_digits_after, Int.Digits.AllBelowBase}
+use Rattle.std.proofs.lemmas.{Nat.and_mask, Nat.and_le_r, Bool.leb-false, Bool.leb-true, Bool.and_parts, List.drop-map, List.drop-take, List.drop-drop}
+use Rattle.std.proofs.lemmas.{List.length-map, Simd.length-chunk, Simd.zip2_splat, Simd.zip2_splat_left, Simd.tops_compared, Simd.map-map, Simd.mask_l-mod}
 use lib.Count.{count_trailing_zeros}
-use Rattle.std.proofs.lemmas.Simd.{length-chunk, zip2_splat, zip2_splat_left, tops_compared, map-map}
-use Rattle.std.proofs.lemmas.Simd.{mask_l-mod}
-use Rattle.std.proofs.lemmas.List.{length-map}
 use lib.Bits.{bit_and}
 use lib.Lanes.{zip2, mask_l, top, Each1, chunk}
-use Rattle.irig_vcd.specs.Words.{words_from, before_space}
-use Rattle.irig_vcd.specs.Digits.{is_digit, number_from}
-use Rattle.irig_vcd.specs.Code.Lanes.{shows_none}
-use Rattle.irig_vcd.proofs.LaneCounts.{counted_fails}
-use Rattle.irig_vcd.proofs.Runs.{runs, more_front}
-use Rattle.irig_vcd.proofs.DigitRuns.{dark_digit, more_digits}
+use Rattle.irig_vcd.specs.{Words.words_from, Words.before_space, Digits.is_digit, Digits.number_from, Code.Lanes.shows_none}
+use Rattle.irig_vcd.proofs.{LaneCounts.counted_fails, Runs.runs, Runs.more_front, DigitRuns.dark_digit, DigitRuns.more_digits}
 
 abbrev pub less_48 : ℕ → ℕ
 less_48 b = (b + 208) % 256

@@ -2,16 +2,11 @@
 use Rattle.std.proofs.Common.{◌≡◌, ◌<◌, ℕ, zero, suc, Bool, true, false, not, List, [], ◌∷◌, ◌++◌, cond, nat_le, nat_lt, length, Option, Result, Ok, Err, refl}
 use Rattle.std.proofs.Common.{ap, subst, ◌∙◌, inl, inr, arith}
 use Rattle.std.specs.List.{filter}
-use Rattle.std.proofs.lemmas.List.{append-nil}
-use Rattle.std.proofs.lemmas.List.Elements.{filter-append}
-use Rattle.std.proofs.lemmas.Bool.{cases_lt, le-leb}
-use Rattle.std.proofs.lemmas.Bool.Decides.{nat_tests}
-use Rattle.irig_vcd.specs.Answer.{◌>>=◌}
+use Rattle.std.proofs.lemmas.{List.append-nil, List.Elements.filter-append, Bool.cases_lt, Bool.le-leb, Bool.Decides.nat_tests}
 use Rattle.irig_vcd.specs.Dump.{dump, changes_of, recorded, TellsLevels}
 use Rattle.irig_vcd.specs.Level.{Change, level_by_changes, level_before, edges_below, edges_up_to, differs}
+use Rattle.irig_vcd.specs.{Answer.◌>>=◌, declared.fault.VcdFault.VcdFault, declared.fault.VcdFault.TheVariants.TooManyPulses}
 use Rattle.irig_recording.specs.Recording.{RecordingView, recording_view, is_even_long, level_by_edges}
-use Rattle.irig_vcd.specs.declared.fault.VcdFault.{VcdFault}
-use Rattle.irig_vcd.specs.declared.fault.VcdFault.TheVariants.{TooManyPulses}
 use Rattle.irig_vcd.proofs.Lawful.{not-not, even_below, Below, edges_are_below}
 
 -- an edge after a time leaves the level there

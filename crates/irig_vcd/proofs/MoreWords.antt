@@ -1,11 +1,8 @@
 -- What was read of words is read of them with more words after them.
 use Rattle.std.proofs.Common.{◌≡◌, ◌∷◌, [], ◌++◌, ℕ, Bool, true, false, cond, List, Option, Some, None, Result, Ok, Err, refl, ap, ◌∙◌}
-use Rattle.irig_vcd.specs.Answer.{◌>>=◌, pair_of}
 use Rattle.irig_vcd.specs.Cut.{Section, Stop, no_end, no_definitions, bad, ended, Cut, cut_from, stop_at, then_cut, is_stray, is_last}
 use Rattle.irig_vcd.specs.Declarations.{Heading, nothing, judged, stopped, read_cut, start_of, declarations_of}
-use Rattle.irig_vcd.specs.Sections.{is_end, section_of}
-use Rattle.irig_vcd.specs.Words.{Word}
-use Rattle.irig_vcd.specs.declared.fault.VcdFault.{VcdFault}
+use Rattle.irig_vcd.specs.{Answer.◌>>=◌, Answer.pair_of, Sections.is_end, Sections.section_of, Words.Word, declared.fault.VcdFault.VcdFault}
 
 -- the declarations end in these sections, and those words are after them
 abbrev EndsIn : Cut → List Section → List Word → Type 0

@@ -1,10 +1,6 @@
 -- Words of a part, at their places in the dump.
-use Rattle.std.proofs.Common.{◌≡◌, ◌+◌, ℕ, List, map}
-use Rattle.std.proofs.Common.{ap, sym, ◌∙◌}
-use Rattle.irig_vcd.specs.Code.Part.{moved}
-use Rattle.irig_vcd.specs.Code.Short.{TakesNumber}
-use Rattle.irig_vcd.specs.Words.{Word}
-use Rattle.irig_vcd.specs.declared.short.Number.{Number}
+use Rattle.std.proofs.Common.{◌≡◌, ◌+◌, ℕ, List, map, ap, sym, ◌∙◌}
+use Rattle.irig_vcd.specs.{Code.Part.moved, Code.Short.TakesNumber, Words.Word, declared.short.Number.Number}
 
 pub number_moved : (b : ℕ) (old new : List Word) (n m : Number) → m.offset ≡ b + n.offset → m.value ≡ n.value → TakesNumber old new n
     → TakesNumber (map (moved b) old) (map (moved b) new) m

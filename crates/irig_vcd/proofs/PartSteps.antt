@@ -1,34 +1,19 @@
 -- A dump that comes in parts: what is read of its words, part by part.
-use Rattle.std.proofs.Common.{◌≡◌, ◌⊎◌, ◌++◌, ◌+◌, [], ℕ, false, List, Option, Some, None, Result, Ok, Err, IfErr, OnOk, length, take, refl, ap, inl, inr}
-use Rattle.std.proofs.Common.{◌∙◌, sym, subst, append_assoc, drop, ◌≤◌, ◌<◌, arith, length-append}
+use Rattle.std.proofs.Common.{◌≡◌, ◌⊎◌, ◌++◌, ◌+◌, [], ℕ, false, List, Option, Some, None, Result, Ok, Err, IfErr, OnOk, length, take, refl, ap, inl, inr, ◌∙◌}
+use Rattle.std.proofs.Common.{sym, subst, append_assoc, drop, ◌≤◌, ◌<◌, arith, length-append}
 use Rattle.std.specs.Prelude.{vec_capacity, vec_len}
 use Rattle.std.specs.Global.{Vec}
 use Rattle.std.proofs.lemmas.List.{length-take-le, take-append-drop}
-use Rattle.irig_vcd.specs.Answer.{◌>>=◌, IsFaultOf, bytes_of, pair_of}
 use Rattle.irig_vcd.specs.Code.DumpReader.{HasRead, HasReadWords, ScansTo, Stage, StopsAt, StopsIn}
 use Rattle.irig_vcd.specs.Code.Gathered.{bytes_at, gathered, part_at, so_far}
-use Rattle.irig_vcd.specs.Code.Joins.{ends_inside}
-use Rattle.irig_vcd.specs.Code.Journals.{place_view}
-use Rattle.irig_vcd.specs.Code.NextPart.{TakesMemory}
-use Rattle.irig_vcd.specs.Code.Trace.{EdgeBefore}
-use Rattle.irig_vcd.specs.Times.{micros_of}
-use Rattle.irig_vcd.specs.Code.Scanned.{HasScanned, StandsAt, Stops}
-use Rattle.irig_vcd.specs.Declarations.{declarations_of}
-use Rattle.irig_vcd.specs.Dump.{changes_before, dump, recorded, scan_of, scanned}
-use Rattle.irig_vcd.specs.Level.{Change, HasEdge}
-use Rattle.irig_vcd.specs.Parts.{dump_parts}
-use Rattle.irig_vcd.specs.Scan.{Scan, scan_ended, scan_words, start}
-use Rattle.irig_vcd.specs.Words.{Word, words_from, words_of}
-use Rattle.irig_vcd.specs.declared.progress.Progress.{Progress}
-use Rattle.irig_vcd.specs.declared.fault.VcdFault.{VcdFault}
+use Rattle.irig_vcd.specs.{Answer.◌>>=◌, Answer.IsFaultOf, Answer.bytes_of, Answer.pair_of, Code.Joins.ends_inside, Code.Journals.place_view}
+use Rattle.irig_vcd.specs.{Code.NextPart.TakesMemory, Code.Trace.EdgeBefore, Times.micros_of, Code.Scanned.HasScanned, Code.Scanned.StandsAt}
+use Rattle.irig_vcd.specs.{Code.Scanned.Stops, Declarations.declarations_of, Dump.changes_before, Dump.dump, Dump.recorded, Dump.scan_of, Dump.scanned}
+use Rattle.irig_vcd.specs.{Level.Change, Level.HasEdge, Parts.dump_parts, Scan.Scan, Scan.scan_ended, Scan.scan_words, Scan.start, Words.Word, Words.words_from}
+use Rattle.irig_vcd.specs.{Words.words_of, declared.progress.Progress.Progress, declared.fault.VcdFault.VcdFault, declared.reading.Reading.Reading}
 use Rattle.irig_vcd.specs.declared.fault.VcdFault.TheVariants as fault
-use Rattle.irig_vcd.specs.declared.reading.Reading.{Reading}
-use Rattle.irig_vcd.proofs.Gathered.{more_gathered, so_far_is}
-use Rattle.irig_vcd.proofs.Joins.{ends_inside-append, words_from-apart}
-use Rattle.irig_vcd.proofs.MoreWords.{declared_more}
-use Rattle.irig_vcd.proofs.ScanSteps.{edges_on}
-use Rattle.irig_vcd.proofs.Scans.{after, scan-append}
-use Rattle.irig_vcd.proofs.WholeDump.{fails_now, no_dump}
+use Rattle.irig_vcd.proofs.{Gathered.more_gathered, Gathered.so_far_is, Joins.ends_inside-append, Joins.words_from-apart, MoreWords.declared_more}
+use Rattle.irig_vcd.proofs.{ScanSteps.edges_on, Scans.after, Scans.scan-append, WholeDump.fails_now, WholeDump.no_dump}
 
 -- a part comes after the words that are read
 pub scans_next : (wire : Option (List ℕ)) (words part : List Word) (unit : ℕ) (code : List ℕ) (r : Reading) (h : HasReadWords wire words unit code r)

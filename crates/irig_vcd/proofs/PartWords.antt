@@ -1,10 +1,9 @@
 -- The words of a part of a dump, at their places.
-use Rattle.std.proofs.Common.{◌≡◌, ◌<◌, ◌≤◌, ◌+◌, ◌-◌, ◌∷◌, [], ℕ, zero, suc, Bool, true, false, cond, List, length}
-use Rattle.std.proofs.Common.{take, get_or, map, refl, ap, sym, ◌∙◌, arith}
+use Rattle.std.proofs.Common.{◌≡◌, ◌<◌, ◌≤◌, ◌+◌, ◌-◌, ◌∷◌, [], ℕ, zero, suc, Bool, true, false, cond, List, length, take, get_or, map, refl, ap, sym, ◌∙◌}
+use Rattle.std.proofs.Common.{arith}
 use Rattle.std.proofs.Math.Seq.{take-suc}
-use Rattle.irig_vcd.specs.Code.Joins.{ends_inside}
-use Rattle.irig_vcd.specs.Code.Part.{moved, words_at}
 use Rattle.irig_vcd.specs.Words.{Word, is_space, words_from, before_space, kind_of_byte}
+use Rattle.irig_vcd.specs.{Code.Joins.ends_inside, Code.Part.moved, Code.Part.words_at}
 use Rattle.irig_vcd.proofs.Joins.{ends_inside-space}
 
 -- after white space no word goes on

@@ -1,30 +1,17 @@
 -- A rise and a fall in one step.
-use Rattle.std.proofs.Common.{◌≡◌, ◌<◌, ◌≤◌, ◌+◌, ◌-◌, cond, ◌++◌, ◌∷◌, [], ℕ, Bool, true, false, List, length, drop, take, get_or, ◌/◌, ◌%◌, ◌^◌}
-use Rattle.std.proofs.Common.{Some, Ok, map, refl, ap, sym, subst, ◌∙◌, arith, append_assoc}
+use Rattle.std.proofs.Common.{◌≡◌, ◌<◌, ◌≤◌, ◌+◌, ◌-◌, cond, ◌++◌, ◌∷◌, [], ℕ, Bool, true, false, List, length, drop, take, get_or, ◌/◌, ◌%◌, ◌^◌, Some, Ok}
+use Rattle.std.proofs.Common.{map, refl, ap, sym, subst, ◌∙◌, arith, append_assoc}
 use Rattle.std.specs.List.{list_all}
 use Rattle.std.proofs.lemmas.List.{length-append}
-use Rattle.irig_vcd.specs.Answer.{◌>>=◌}
 use Rattle.irig_vcd.specs.Code.Along.{HasFallen, TakesEdge, at_micros}
-use Rattle.irig_vcd.specs.Code.Part.{moved}
-use Rattle.irig_vcd.specs.Code.Scanned.{IsTraced, Passes}
-use Rattle.irig_vcd.specs.Code.Time.{units_of, IsTime}
-use Rattle.irig_vcd.specs.Code.Trace.{Follows}
-use Rattle.irig_recording.specs.Edges.{edges_kept}
-use Rattle.irig_vcd.specs.Digits.{is_digit, number_from}
-use Rattle.irig_vcd.specs.Level.{Change, change}
-use Rattle.irig_vcd.specs.Scan.{Scan, closed, given, scan_words}
-use Rattle.irig_vcd.specs.Times.{micros_of}
 use Rattle.irig_vcd.specs.Words.{Word, words_from, before_space, is_space, is_code, kind_of_byte, hash, scalar, rest_of}
-use Rattle.irig_vcd.specs.declared.pulses.Edge.{Edge}
-use Rattle.irig_vcd.specs.declared.time.Clock.{Clock}
-use Rattle.irig_vcd.specs.declared.trace.Trace.{Trace}
-use Rattle.irig_vcd.proofs.Clocks.{micros_fine}
-use Rattle.irig_vcd.proofs.CodeRuns.{bit_level, bit_word}
-use Rattle.irig_vcd.proofs.DigitRuns.{hash_word}
-use Rattle.irig_vcd.proofs.Levels.{advanced, changed, kept_more}
-use Rattle.irig_vcd.proofs.ScanSteps.{one_word, own}
-use Rattle.irig_vcd.proofs.Runs.{opened, newline, behind_newline}
+use Rattle.irig_vcd.specs.{Answer.◌>>=◌, Code.Part.moved, Code.Scanned.IsTraced, Code.Scanned.Passes, Code.Time.units_of, Code.Time.IsTime, Code.Trace.Follows}
+use Rattle.irig_vcd.specs.{Digits.is_digit, Digits.number_from, Level.Change, Level.change, Scan.Scan, Scan.closed, Scan.given, Scan.scan_words}
+use Rattle.irig_vcd.specs.{Times.micros_of, declared.pulses.Edge.Edge, declared.time.Clock.Clock, declared.trace.Trace.Trace}
+use Rattle.irig_recording.specs.Edges.{edges_kept}
 use Rattle.irig_vcd.proofs.TimeLemmas.{units_cut, shown_time, fine_time, rest_low, later_read}
+use Rattle.irig_vcd.proofs.{Clocks.micros_fine, CodeRuns.bit_level, CodeRuns.bit_word, DigitRuns.hash_word, Levels.advanced, Levels.changed, Levels.kept_more}
+use Rattle.irig_vcd.proofs.{ScanSteps.one_word, ScanSteps.own, Runs.opened, Runs.newline, Runs.behind_newline}
 
 -- a trace after a fall takes a pulse
 pub pulse_put : (cs : List Change) (old new : Trace) (rise fall : ℕ) → HasFallen old → length old.edges + 2 ≤ edges_kept

@@ -2,26 +2,16 @@
 use Rattle.std.proofs.Common.{◌≡◌, ◌≤◌, ◌+◌, ◌++◌, ◌∷◌, ◌==◌, [], ℕ, Bool, true, false, not, List, length, codes, None, Ok, refl, ap, sym, ◌∙◌, arith, inl, inr}
 use Rattle.std.proofs.Common.{subst, length-append}
 use Rattle.std.specs.List.{list_any}
-use Rattle.std.proofs.lemmas.Bool.{le-ltb, cases_eq, eq-eqb, ne_eqb}
-use Rattle.std.proofs.lemmas.List.{append-nil}
-use Rattle.irig_vcd.specs.Answer.{◌>>=◌, pair_of}
-use Rattle.irig_vcd.specs.Declarations.{declarations_of}
-use Rattle.irig_vcd.specs.Dump.{dump, recorded, scan_of, scanned}
-use Rattle.irig_vcd.specs.Journals.{Comment}
-use Rattle.irig_vcd.specs.Level.{edges_up_to, Change, change}
-use Rattle.irig_vcd.specs.Scales.{exponent_of}
-use Rattle.irig_vcd.specs.Scan.{scan_ended, scan_words, start}
-use Rattle.irig_vcd.specs.Sections.{section_of, is_mark}
-use Rattle.irig_vcd.specs.Times.{time_of, micros_of}
-use Rattle.irig_vcd.specs.Variables.{declared_by, variable_of}
+use Rattle.std.proofs.lemmas.{Bool.le-ltb, Bool.cases_eq, Bool.eq-eqb, Bool.ne_eqb, List.append-nil}
 use Rattle.irig_vcd.specs.Words.{Word, words_from, words_of, dollar, hash}
+use Rattle.irig_vcd.specs.{Answer.◌>>=◌, Answer.pair_of, Declarations.declarations_of, Dump.dump, Dump.recorded, Dump.scan_of, Dump.scanned, Journals.Comment}
+use Rattle.irig_vcd.specs.{Level.edges_up_to, Level.Change, Level.change, Scales.exponent_of, Scan.scan_ended, Scan.scan_words, Scan.start, Sections.section_of}
+use Rattle.irig_vcd.specs.{Sections.is_mark, Times.time_of, Times.micros_of, Variables.declared_by, Variables.variable_of}
 use Rattle.irig_recording.specs.FileText.{file_text, head_text, header_text, edge_lines, begins_high, later_edges, end_line}
 use Rattle.irig_recording.specs.Recording.{RisesFrom, UpTo, RecordingView, recording_view, IsRecording}
-use Rattle.irig_recording.proofs.TextLength.{length-header_text}
-use Rattle.irig_recording.proofs.WrittenText.{last_or, last_up}
-use Rattle.irig_vcd.proofs.WrittenEdges.{turns, high_edges, low_edges}
-use Rattle.irig_vcd.proofs.WrittenWords.{level_word}
+use Rattle.irig_recording.proofs.{TextLength.length-header_text, WrittenText.last_or, WrittenText.last_up}
 use Rattle.irig_vcd.proofs.WrittenChanges.{at_rest, ending, last_top, lines, regroup, rises_after, same_micros}
+use Rattle.irig_vcd.proofs.{WrittenEdges.turns, WrittenEdges.high_edges, WrittenEdges.low_edges, WrittenWords.level_word}
 
 -- the words after the declarations
 abbrev pub after_header : Bool → List Word → List Word

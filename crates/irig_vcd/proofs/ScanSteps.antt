@@ -2,40 +2,20 @@
 use Rattle.std.proofs.Common.{◌≡◌, ◌≤◌, ◌<◌, ◌⊎◌, ◌++◌, ◌∷◌, [], ℕ, Bool, true, false, cond, List, Option, Some, None, Result, Ok, Err, IfOk, OnErr, length}
 use Rattle.std.proofs.Common.{inl, inr, refl, ap, sym, subst, ◌∙◌, arith, codes}
 use Rattle.std.specs.Str.{bytes_eq}
-use Rattle.std.proofs.lemmas.List.{append-nil}
-use Rattle.std.proofs.lemmas.Slice.Eq.{bytes_eq-Decides}
-use Rattle.irig_vcd.specs.Answer.{◌>>=◌, Gives, IsFaultOf}
-use Rattle.irig_vcd.specs.Code.Event.{is_hash}
-use Rattle.irig_vcd.specs.Code.Journals.{Holds}
-use Rattle.irig_vcd.specs.Code.Pending.{Means}
-use Rattle.irig_vcd.specs.Code.Reached.{IsOn}
+use Rattle.std.proofs.lemmas.{List.append-nil, Slice.Eq.bytes_eq-Decides}
 use Rattle.irig_vcd.specs.Code.Scanned.{IsAt, IsTraced, Keeps, Leads, Passes, Puts, Reaches, Scans, Stops, Takes}
-use Rattle.irig_vcd.specs.Code.Section.{end_read}
 use Rattle.irig_vcd.specs.Code.Short.{TakesApart, TakesBit, TakesValue, takes_code}
-use Rattle.irig_vcd.specs.Code.Time.{IsTime, units_of}
-use Rattle.irig_vcd.specs.Code.Trace.{EdgeBefore, Follows}
-use Rattle.irig_vcd.specs.Sections.{is_comment}
-use Rattle.irig_vcd.specs.Values.{level_by}
-use Rattle.irig_vcd.specs.Journals.{Comment, comment, is_journal}
-use Rattle.irig_vcd.specs.Level.{Change, change}
 use Rattle.irig_vcd.specs.Scan.{Open, closed, code_of, comment_of, Scan, given, left_open, shut, scan_ended, scan_on, scan_words, word_by_kind, word_in}
-use Rattle.irig_vcd.specs.Sections.{is_end, is_mark}
-use Rattle.irig_vcd.specs.Times.{micros_of, time_of}
-use Rattle.irig_vcd.specs.Values.{scalar_level}
 use Rattle.irig_vcd.specs.Words.{Word, WordKind, dollar, hash, scalar, vector, real, text, other, rest_of}
-use Rattle.irig_vcd.specs.declared.fault.VcdFault.{VcdFault}
+use Rattle.irig_vcd.specs.{Answer.◌>>=◌, Answer.Gives, Answer.IsFaultOf, Code.Event.is_hash, Code.Journals.Holds, Code.Pending.Means, Code.Reached.IsOn}
+use Rattle.irig_vcd.specs.{Code.Section.end_read, Code.Time.IsTime, Code.Time.units_of, Code.Trace.EdgeBefore, Code.Trace.Follows, Sections.is_comment}
+use Rattle.irig_vcd.specs.{Sections.is_end, Sections.is_mark, Values.level_by, Values.scalar_level, Journals.Comment, Journals.comment, Journals.is_journal}
+use Rattle.irig_vcd.specs.{Level.Change, Level.change, Times.micros_of, Times.time_of, declared.fault.VcdFault.VcdFault, declared.journals.Journals.Journals}
+use Rattle.irig_vcd.specs.{declared.pending.Pending.Pending, declared.time.Clock.Clock, declared.trace.Trace.Trace}
 use Rattle.irig_vcd.specs.declared.fault.VcdFault.TheVariants as fault
-use Rattle.irig_vcd.specs.declared.journals.Journals.{Journals}
-use Rattle.irig_vcd.specs.declared.pending.Pending.{Pending}
 use Rattle.irig_vcd.specs.declared.pending.Pending.TheVariants as pending
-use Rattle.irig_vcd.specs.declared.time.Clock.{Clock}
-use Rattle.irig_vcd.specs.declared.trace.Trace.{Trace}
-use Rattle.irig_vcd.proofs.Clocks.{later}
-use Rattle.irig_vcd.proofs.CodeRuns.{bit_level}
-use Rattle.irig_vcd.proofs.EarlyEdges.{edge_stays}
-use Rattle.irig_vcd.proofs.Sound.{never_memory}
 use Rattle.irig_vcd.proofs.TimeLemmas.{micros_later, time_later}
-use Rattle.irig_vcd.proofs.WordSteps.{next_always}
+use Rattle.irig_vcd.proofs.{Clocks.later, CodeRuns.bit_level, EarlyEdges.edge_stays, Sound.never_memory, WordSteps.next_always}
 
 -- one word
 pub one_word : (code : List ℕ) (unit : ℕ) (s t : Scan) (w : Word) (ws : List Word) → word_in s.opened code unit s w ≡ Ok t

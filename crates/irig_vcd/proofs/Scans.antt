@@ -1,8 +1,6 @@
 -- Words after others.
 use Rattle.std.proofs.Common.{◌≡◌, ◌++◌, ◌∷◌, [], ℕ, List, Option, Some, None, Result, Ok, Err, refl}
-use Rattle.irig_vcd.specs.Scan.{Scan, scan_on, scan_words, word_in}
-use Rattle.irig_vcd.specs.Words.{Word}
-use Rattle.irig_vcd.specs.declared.fault.VcdFault.{VcdFault}
+use Rattle.irig_vcd.specs.{Scan.Scan, Scan.scan_on, Scan.scan_words, Scan.word_in, Words.Word, declared.fault.VcdFault.VcdFault}
 
 -- what is read after words, if there is no fault among them
 abbrev pub after : Scan × Option VcdFault → (Scan → Scan × Option VcdFault) → Scan × Option VcdFault

@@ -1,23 +1,15 @@
 -- No fault of a dump is out of memory.
 use Rattle.std.proofs.Common.{◌≡◌, ◌∷◌, ◌==◌, [], ℕ, Bool, true, false, not, cond, List, Option, Some, None, Result, Ok, Err, IfErr, length, nat_lt, ◌∙◌}
-use Rattle.std.specs.Str.{bytes_eq}
-use Rattle.std.specs.List.{list_any, list_all}
-use Rattle.irig_vcd.specs.Answer.{◌>>=◌}
+use Rattle.std.specs.{Str.bytes_eq, List.list_any, List.list_all}
 use Rattle.irig_vcd.specs.Cut.{Section, Stop, no_end, no_definitions, bad, ended, cut_from}
 use Rattle.irig_vcd.specs.Declarations.{Heading, nothing, taken, with_var, with_scale, judged, stopped, read_cut, scale_needed, start_of, declarations_of}
-use Rattle.irig_vcd.specs.Digits.{is_digit, is_number, number_from}
-use Rattle.irig_vcd.specs.Sections.{is_comment}
-use Rattle.irig_vcd.specs.Values.{level_by}
-use Rattle.irig_vcd.specs.Scales.{exponent_of, joined, scale_of, scale_or_fault}
+use Rattle.irig_vcd.specs.Sections.{is_comment, SectionKind, timescale, variable, definitions_end, skipped, no_section, is_mark}
 use Rattle.irig_vcd.specs.Scan.{Open, closed, code_of, comment_of, Scan, word_by_kind, word_in, scan_on, scan_words}
-use Rattle.irig_vcd.specs.Sections.{SectionKind, timescale, variable, definitions_end, skipped, no_section, is_mark}
-use Rattle.irig_vcd.specs.Times.{time_of}
-use Rattle.irig_vcd.specs.Values.{scalar_level}
-use Rattle.irig_vcd.specs.Variables.{Declared, declared_by, variable_of}
-use Rattle.irig_vcd.specs.Wire.{chosen, code_of as common_code, has_others, is_wide}
 use Rattle.irig_vcd.specs.Words.{Word, WordKind, dollar, hash, scalar, vector, real, text, other, is_code, rest_of}
-use Rattle.irig_vcd.specs.declared.fault.VcdFault.{VcdFault}
 use Rattle.irig_vcd.specs.declared.fault.VcdFault.TheVariants.{OutOfMemory, BadToken, Backward, TimeTooLarge, BadVar, ManyWires, NotOneBit}
+use Rattle.irig_vcd.specs.{Answer.◌>>=◌, Digits.is_digit, Digits.is_number, Digits.number_from, Values.level_by, Values.scalar_level, Scales.exponent_of}
+use Rattle.irig_vcd.specs.{Scales.joined, Scales.scale_of, Scales.scale_or_fault, Times.time_of, Variables.Declared, Variables.declared_by}
+use Rattle.irig_vcd.specs.{Variables.variable_of, Wire.chosen, Wire.code_of as common_code, Wire.has_others, Wire.is_wide, declared.fault.VcdFault.VcdFault}
 
 -- no fault is out of memory
 abbrev IsSound : {X : Type 0} → Result X VcdFault → Type 0

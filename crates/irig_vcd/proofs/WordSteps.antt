@@ -1,14 +1,9 @@
 -- What a word can make of a scan.
 use Rattle.std.proofs.Common.{◌≡◌, ℕ, Bool, true, false, cond, List, Option, Some, None, Result, Ok, Err, IfOk, refl}
-use Rattle.irig_vcd.specs.Answer.{◌>>=◌}
-use Rattle.irig_vcd.specs.Journals.{comment, first_or}
 use Rattle.irig_vcd.specs.Scan.{Open, closed, code_of, comment_of, Scan, given, shut, scan_on, word_by_kind, word_in}
-use Rattle.irig_vcd.specs.Sections.{is_comment, is_end, is_mark}
-use Rattle.irig_vcd.specs.Times.{time_of}
-use Rattle.irig_vcd.specs.Values.{level_by, scalar_level}
 use Rattle.irig_vcd.specs.Words.{Word, WordKind, dollar, hash, scalar, vector, real, text, other, rest_of}
-use Rattle.irig_vcd.specs.declared.fault.VcdFault.{VcdFault}
-use Rattle.irig_vcd.specs.declared.fault.VcdFault.TheVariants.{BadToken}
+use Rattle.irig_vcd.specs.{Answer.◌>>=◌, Journals.comment, Journals.first_or, Sections.is_comment, Sections.is_end, Sections.is_mark, Times.time_of}
+use Rattle.irig_vcd.specs.{Values.level_by, Values.scalar_level, declared.fault.VcdFault.VcdFault, declared.fault.VcdFault.TheVariants.BadToken}
 
 -- nothing is open, or what has no first word
 abbrev pub Plain : Open → Type 0

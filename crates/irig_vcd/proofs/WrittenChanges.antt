@@ -1,23 +1,16 @@
 -- The changes of the lines that are written.
-use Rattle.std.proofs.Common.{◌≡◌, ◌≤◌, ◌+◌, ◌++◌, ◌∷◌, ◌&&◌, ◌==◌, [], ℕ, Bool, true, false, not, List, nat_lt, decimal, Some, Ok, refl, ap, length, length-append}
-use Rattle.std.proofs.Common.{◌∙◌, arith, inl, inr, append_assoc}
+use Rattle.std.proofs.Common.{◌≡◌, ◌≤◌, ◌+◌, ◌++◌, ◌∷◌, ◌&&◌, ◌==◌, [], ℕ, Bool, true, false, not, List, nat_lt, decimal, Some, Ok, refl, ap, length}
+use Rattle.std.proofs.Common.{length-append, ◌∙◌, arith, inl, inr, append_assoc}
 use Rattle.std.specs.List.{list_any}
 use Rattle.std.proofs.lemmas.Bool.{le-ltb, ltb-false, and_cases, cases_Bool, eqb-true, or_cases, not-false, false≢true}
 use Rattle.std.proofs.lemmas.List.{append-nil}
-use Rattle.irig_vcd.specs.Answer.{◌>>=◌}
-use Rattle.irig_vcd.specs.Journals.{Comment}
-use Rattle.irig_vcd.specs.Level.{Change, change}
-use Rattle.irig_vcd.specs.Scan.{Scan, closed, given, scan_words}
-use Rattle.irig_vcd.specs.Times.{time_of, micros_of}
-use Rattle.irig_vcd.specs.Values.{scalar_level}
-use Rattle.irig_vcd.specs.Words.{Word, hash, words_from, rest_of}
+use Rattle.irig_vcd.specs.{Answer.◌>>=◌, Journals.Comment, Level.Change, Level.change, Scan.Scan, Scan.closed, Scan.given, Scan.scan_words, Times.time_of}
+use Rattle.irig_vcd.specs.{Times.micros_of, Values.scalar_level, Words.Word, Words.hash, Words.words_from, Words.rest_of}
 use Rattle.irig_recording.specs.FileText.{time_line, level_line, edge_lines, end_line}
 use Rattle.irig_recording.specs.Recording.{RisesFrom, UpTo, recording_view}
 use Rattle.irig_recording.proofs.WrittenText.{last_or}
-use Rattle.irig_vcd.proofs.DecimalLemmas.{spells, decimal_is_number}
-use Rattle.irig_vcd.proofs.ScanSteps.{one_word, own}
-use Rattle.irig_vcd.proofs.WrittenEdges.{turns}
 use Rattle.irig_vcd.proofs.WrittenWords.{time_word, level_word, level_words}
+use Rattle.irig_vcd.proofs.{DecimalLemmas.spells, DecimalLemmas.decimal_is_number, ScanSteps.one_word, ScanSteps.own, WrittenEdges.turns}
 
 -- a unit of ten to the nine femtoseconds is a microsecond
 pub same_micros : (t : ℕ) → micros_of 9 t ≡ t

@@ -1,26 +1,15 @@
 -- The journal after the text of a recording.
-use Rattle.std.proofs.Common.{◌≡◌, ◌+◌, ◌-◌, ◌++◌, ◌∷◌, ◌==◌, [], ℕ, Bool, true, false, not, cond, List, Some, None, Result, Ok, length}
-use Rattle.std.proofs.Common.{length-append, take, drop, map, codes, refl, ap, sym, ◌∙◌, arith, append_assoc}
+use Rattle.std.proofs.Common.{◌≡◌, ◌+◌, ◌-◌, ◌++◌, ◌∷◌, ◌==◌, [], ℕ, Bool, true, false, not, cond, List, Some, None, Result, Ok, length, length-append, take}
+use Rattle.std.proofs.Common.{drop, map, codes, refl, ap, sym, ◌∙◌, arith, append_assoc}
 use Rattle.std.specs.List.{list_all}
-use Rattle.std.proofs.lemmas.Bool.{and_parts, not-true}
-use Rattle.std.proofs.lemmas.List.{append-nil}
-use Rattle.std.proofs.lemmas.List.Folds.{list_all-append}
+use Rattle.std.proofs.lemmas.{Bool.and_parts, Bool.not-true, List.append-nil, List.Folds.list_all-append}
 use Rattle.std.proofs.Math.Seq.{take-append_seam, drop-append_seam}
-use Rattle.irig_vcd.specs.Code.Section.{end_read}
-use Rattle.irig_vcd.specs.Sections.{is_mark}
-use Rattle.irig_recording.specs.FileText.{file_text}
-use Rattle.irig_vcd.specs.Journals.{comment, text_of}
-use Rattle.irig_vcd.specs.Level.{Change}
-use Rattle.irig_vcd.specs.Scan.{comment_of, scan_words}
-use Rattle.irig_recording.specs.Comments.{IsJournalText, comment_text}
-use Rattle.irig_vcd.specs.Parts.{dump_parts, one_journal}
-use Rattle.irig_recording.specs.Recording.{RecordingView, IsRecording}
 use Rattle.irig_vcd.specs.Words.{Word, words_from, before_space, kind_of_byte, is_space, dollar, other}
-use Rattle.irig_vcd.specs.declared.fault.VcdFault.{VcdFault}
-use Rattle.irig_vcd.proofs.ReadBack.{back, begun}
+use Rattle.irig_vcd.specs.{Code.Section.end_read, Sections.is_mark, Journals.comment, Journals.text_of, Level.Change, Scan.comment_of, Scan.scan_words}
+use Rattle.irig_vcd.specs.{Parts.dump_parts, Parts.one_journal, declared.fault.VcdFault.VcdFault}
+use Rattle.irig_recording.specs.{FileText.file_text, Comments.IsJournalText, Comments.comment_text, Recording.RecordingView, Recording.IsRecording}
 use Rattle.irig_vcd.proofs.ScanSteps.{past_end, to_comment, to_first}
-use Rattle.irig_vcd.proofs.WholeDump.{with_journal}
-use Rattle.irig_vcd.proofs.WrittenChanges.{at_rest}
+use Rattle.irig_vcd.proofs.{ReadBack.back, ReadBack.begun, WholeDump.with_journal, WrittenChanges.at_rest}
 
 -- a word that does not begin with a dollar is no end
 past_word : (dark inside : Bool) (b : ℕ) (bs : List ℕ) (offset : ℕ) (x y : List Word) → (b == 36) ≡ false

@@ -1,10 +1,9 @@
 -- What a dump says of a wire, and the journal that it carries. This project's own.
 use Rattle.std.specs.Prelude.{ℕ, List, [], ◌∷◌, Option, Some, None, Result, Ok, Err}
 use Rattle.irig_vcd.specs.Answer.{◌>>=◌, name_of, pair_of}
-use Rattle.irig_vcd.specs.Dump.{dump, journals_of}
-use Rattle.irig_recording.specs.Recording.{RecordingView}
-use Rattle.irig_vcd.specs.declared.fault.VcdFault.{VcdFault}
 use Rattle.irig_vcd.specs.declared.fault.VcdFault.TheVariants.{BadJournal}
+use Rattle.irig_vcd.specs.{Dump.dump, Dump.journals_of, declared.fault.VcdFault.VcdFault}
+use Rattle.irig_recording.specs.Recording.{RecordingView}
 use denote.Ref.{Bor}
 
 -- the one journal, if there is one; a second one is a fault

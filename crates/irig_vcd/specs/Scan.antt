@@ -1,17 +1,15 @@
 -- Reading the words after the declarations, one after the other: IEEE 1364-2005, clause 18; the
 -- wire, the levels and the journals are this project's own.
-use Rattle.std.specs.Prelude.{◌≡◌, ◌++◌, ℕ, Bool, List, [], ◌∷◌, Option, Some, None, Result, Ok, Err}
-use Rattle.std.specs.Prelude.{if◌then◌else◌}
-use Rattle.irig_vcd.specs.Answer.{◌>>=◌, pair_of}
+use Rattle.std.specs.Prelude.{◌≡◌, ◌++◌, ℕ, Bool, List, [], ◌∷◌, Option, Some, None, Result, Ok}
+use Rattle.std.specs.Prelude.{Err, if◌then◌else◌}
 use Rattle.irig_vcd.specs.Journals.{Comment, comment, first_or, is_journal}
-use Rattle.irig_vcd.specs.Level.{Change, change}
 use Rattle.irig_vcd.specs.Sections.{is_comment, is_end, is_mark}
-use Rattle.irig_vcd.specs.Times.{time_of, micros_of}
 use Rattle.irig_vcd.specs.Values.{level_by, scalar_level}
 use Rattle.irig_vcd.specs.Words.{Word, WordKind, dollar, hash, scalar, vector, real, text, other}
 use Rattle.irig_vcd.specs.Words.{rest_of}
-use Rattle.irig_vcd.specs.declared.fault.VcdFault.{VcdFault}
 use Rattle.irig_vcd.specs.declared.fault.VcdFault.TheVariants.{Unclosed, BadToken}
+use Rattle.irig_vcd.specs.{Answer.◌>>=◌, Answer.pair_of, Level.Change, Level.change, Times.time_of}
+use Rattle.irig_vcd.specs.{Times.micros_of, declared.fault.VcdFault.VcdFault}
 
 -- what is open after a word: nothing, a value without its code, or a comment, by its first word if
 -- that has come

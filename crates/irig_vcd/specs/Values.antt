@@ -1,7 +1,7 @@
 -- The level that a value gives the wire: IEEE 1364-2005, clause 18; the levels are this project's
 -- own.
-use Rattle.std.specs.Prelude.{◌-◌, ◌==◌, ℕ, Bool, not, List, [], ◌∷◌, length, slice_index}
-use Rattle.std.specs.Prelude.{Option, Some, None, Result, Ok, Err, if◌then◌else◌, nat_lt}
+use Rattle.std.specs.Prelude.{◌-◌, ◌==◌, ℕ, Bool, not, List, [], ◌∷◌, length, slice_index, Option}
+use Rattle.std.specs.Prelude.{Some, None, Result, Ok, Err, if◌then◌else◌, nat_lt}
 use Rattle.std.specs.Str.{bytes_eq}
 use Rattle.irig_vcd.specs.Words.{Word, WordKind, vector, is_value, rest_of}
 use Rattle.irig_vcd.specs.declared.fault.VcdFault.{VcdFault}

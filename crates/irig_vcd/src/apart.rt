@@ -3,9 +3,8 @@
 ghost use Rattle.std.specs.Prelude.{◌≡◌, ◌≤◌, ◌<◌, ◌+◌, ◌∷◌, ◌↔◌, [], true, false, length, drop};
 ghost use Rattle.std.specs.Prelude.{◌⊎◌, ℕ, map, slice_index, IfSome};
 ghost use Rattle.std.specs.Simd.Lanes.{mask_l};
-ghost use Rattle.irig_vcd.specs.Code.Lanes.{is_low};
-ghost use Rattle.irig_vcd.specs.Words.{words_from, kind_of_byte};
 ghost use Rattle.irig_vcd.specs.Code.Short.{TakesApart, TakesValue, takes_code};
+ghost use Rattle.irig_vcd.specs.{Code.Lanes.is_low, Words.words_from, Words.kind_of_byte};
 
 use std::simd::prelude::*;
 

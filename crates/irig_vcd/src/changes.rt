@@ -1,18 +1,13 @@
 //! The changes of a wire.
 
-ghost use Rattle.std.specs.Prelude.{◌≡◌, ◌≤◌, ◌^◌, ◌∷◌, [], Option, None, Err};
-ghost use Rattle.std.specs.Prelude.{length, IfOk, OnOk};
-ghost use Rattle.irig_vcd.specs.Level.{HasEdge};
+ghost use Rattle.std.specs.Prelude.{◌≡◌, ◌≤◌, ◌^◌, ◌∷◌, [], Option, None, Err, length, IfOk, OnOk};
 ghost use Rattle.irig_vcd.specs.Code.Token.{kind_view, word_of};
-ghost use Rattle.irig_vcd.specs.Words.{rest_of};
-ghost use Rattle.irig_vcd.specs.Code.Event.{is_hash};
-ghost use Rattle.irig_vcd.specs.Code.Trace.{KeepsEdges};
-ghost use Rattle.irig_vcd.specs.Code.Reached.{IsOn};
 ghost use Rattle.irig_vcd.specs.Code.Scanned.{IsAt, Leads, Scans};
 ghost use Rattle.irig_vcd.specs.Scan.{Scan, scan_ended, scan_words, start};
 ghost use Rattle.irig_vcd.specs.declared.fault.VcdFault.{VcdFault};
 ghost use Rattle.irig_vcd.specs.declared.fault.VcdFault.TheVariants.{OutOfMemory};
-ghost use Rattle.irig_vcd.specs.Code.Journals.{Holds};
+ghost use Rattle.irig_vcd.specs.{Level.HasEdge, Words.rest_of, Code.Event.is_hash};
+ghost use Rattle.irig_vcd.specs.{Code.Trace.KeepsEdges, Code.Reached.IsOn, Code.Journals.Holds};
 
 use crate::event::{take_level, take_open};
 use crate::fault::VcdFault;

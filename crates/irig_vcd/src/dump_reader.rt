@@ -1,20 +1,15 @@
 //! A dump that comes in parts.
 
-ghost use Rattle.std.specs.Prelude.{◌≡◌, ◌≤◌, ◌<◌, ◌+◌, ◌*◌, ◌++◌, ◌^◌, ◌⊎◌, ◌↔◌, [], ℕ, List, Option};
-ghost use Rattle.std.specs.Prelude.{Some, None, Ok, Err, IfOk, IfErr, IfSome, IsTrue, OnOk};
+ghost use Rattle.std.specs.Prelude.{◌≡◌, ◌≤◌, ◌<◌, ◌+◌, ◌*◌, ◌++◌, ◌^◌, ◌⊎◌, ◌↔◌, [], ℕ, List};
+ghost use Rattle.std.specs.Prelude.{Option, Some, None, Ok, Err, IfOk, IfErr, IfSome, IsTrue, OnOk};
 ghost use Rattle.std.specs.Prelude.{length, vec_capacity, vec_len};
 ghost use Rattle.irig_vcd.specs.Answer.{IsFaultOf, bytes_of, name_of};
 ghost use Rattle.irig_vcd.specs.Code.DumpReader.{HasRead, HasReadWords, IsReader, bytes_read};
-ghost use Rattle.irig_vcd.specs.Code.Gathered.{gathered};
 ghost use Rattle.irig_vcd.specs.Code.NextPart.{HasReadEnough, IsReadUp, TakesMemory};
-ghost use Rattle.irig_vcd.specs.Code.Reached.{IsOn};
-ghost use Rattle.irig_vcd.specs.Declarations.{declarations_of};
-ghost use Rattle.irig_vcd.specs.Dump.{changes_before};
-ghost use Rattle.irig_vcd.specs.Level.{HasEdge};
-ghost use Rattle.irig_vcd.specs.Parts.{dump_parts};
-ghost use Rattle.irig_vcd.specs.Words.{words_of};
-ghost use Rattle.irig_vcd.specs.declared.fault.VcdFault.{VcdFault};
 ghost use Rattle.irig_vcd.specs.declared.fault.VcdFault.TheVariants.{OutOfMemory};
+ghost use Rattle.irig_vcd.specs.{Declarations.declarations_of, declared.fault.VcdFault.VcdFault};
+ghost use Rattle.irig_vcd.specs.{Code.Gathered.gathered, Code.Reached.IsOn, Dump.changes_before};
+ghost use Rattle.irig_vcd.specs.{Level.HasEdge, Parts.dump_parts, Words.words_of};
 
 use crate::changes::Body;
 use crate::fault::VcdFault;
@@ -37,8 +32,7 @@ pub struct DumpReader {
 }
 
 impl Model for DumpReader {
-    ghost use Rattle.irig_vcd.specs.Code.DumpReader.{IsReader};
-    ghost use Rattle.irig_vcd.specs.declared.progress.Progress.{Progress};
+    ghost use Rattle.irig_vcd.specs.{Code.DumpReader.IsReader, declared.progress.Progress.Progress};
 
     ghost Value = { Progress };
 

@@ -1,19 +1,15 @@
 //! The journals of a dump, by their places.
 
 ghost use Rattle.std.specs.Prelude.{◌≡◌, ◌≤◌, ◌++◌, ◌∷◌, [], ℕ, List, None, Some, IfErr, IfOk};
-ghost use Rattle.irig_vcd.specs.declared.fault.VcdFault.TheVariants.{BadJournal};
 ghost use Rattle.std.specs.Prelude.{IfSome, codes, length, map, vec_len};
-ghost use Rattle.std.specs.Str.{bytes_eq};
+ghost use Rattle.irig_vcd.specs.declared.fault.VcdFault.TheVariants.{BadJournal};
 ghost use Rattle.irig_vcd.specs.Answer.{Gives, bytes_of, name_of};
-ghost use Rattle.irig_vcd.specs.Code.Gathered.{part_at, so_far};
 ghost use Rattle.irig_vcd.specs.Code.Journals.{Holds, LiesIn, place_view, text_at};
-ghost use Rattle.irig_vcd.specs.Code.Pending.{Begins};
-ghost use Rattle.irig_vcd.specs.Code.Scanned.{Keeps, Reaches};
-ghost use Rattle.irig_vcd.specs.Code.Token.{word_of};
-ghost use Rattle.irig_vcd.specs.Journals.{Comment, text_of};
-ghost use Rattle.irig_vcd.specs.Scan.{Scan};
+ghost use Rattle.irig_vcd.specs.{Code.Gathered.part_at, Code.Gathered.so_far, Code.Pending.Begins};
+ghost use Rattle.irig_vcd.specs.{Code.Scanned.Keeps, Code.Scanned.Reaches, Code.Token.word_of};
+ghost use Rattle.irig_vcd.specs.{Journals.Comment, Journals.text_of, Scan.Scan, Parts.one_journal};
+ghost use Rattle.std.specs.Str.{bytes_eq};
 ghost use Rattle.irig_vcd.specs.declared.pending.Pending.TheVariants as pending;
-ghost use Rattle.irig_vcd.specs.Parts.{one_journal};
 
 use crate::fault::VcdFault;
 use crate::pending::Pending;

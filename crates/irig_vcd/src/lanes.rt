@@ -1,11 +1,10 @@
 //! Digits, sixteen at a time.
 
-ghost use Rattle.std.specs.Prelude.{◌≡◌, ◌≤◌, ◌<◌, ◌+◌, ◌-◌, ◌*◌, ◌^◌, ◌++◌, ℕ, length};
-ghost use Rattle.std.specs.Prelude.{drop, map, replicate, slice_index};
+ghost use Rattle.std.specs.Prelude.{◌≡◌, ◌≤◌, ◌<◌, ◌+◌, ◌-◌, ◌*◌, ◌^◌, ◌++◌, ℕ, length, drop, map};
+ghost use Rattle.std.specs.Prelude.{replicate, slice_index};
 ghost use Rattle.std.specs.Int.Digits.{number_from_digits, AllBelowBase};
 ghost use Rattle.std.specs.Simd.Lanes.{mask_l};
-ghost use Rattle.irig_vcd.specs.Code.Lanes.{joined, shows_none};
-ghost use Rattle.irig_vcd.specs.Code.Spelled.{Spells};
+ghost use Rattle.irig_vcd.specs.{Code.Lanes.joined, Code.Lanes.shows_none, Code.Spelled.Spells};
 
 use std::simd::prelude::*;
 

@@ -2,8 +2,7 @@
 
 ghost use Rattle.std.specs.Prelude.{◌≡◌, ◌≤◌, true, false, not, length, drop, take};
 ghost use Rattle.std.specs.List.{list_all};
-ghost use Rattle.irig_vcd.specs.Code.Joins.{ends_inside};
-ghost use Rattle.irig_vcd.specs.Words.{is_space};
+ghost use Rattle.irig_vcd.specs.{Code.Joins.ends_inside, Words.is_space};
 
 use crate::token::is_space;
 

@@ -1,7 +1,6 @@
 //! What is open after a word.
 
-ghost use Rattle.irig_vcd.specs.Code.Pending.{Means};
-ghost use Rattle.irig_vcd.specs.Scan.{IsClosed, Open, left_open};
+ghost use Rattle.irig_vcd.specs.{Code.Pending.Means, Scan.IsClosed, Scan.Open, Scan.left_open};
 
 use crate::fault::VcdFault;
 

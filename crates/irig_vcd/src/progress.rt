@@ -1,17 +1,14 @@
 //! How far a dump that comes in parts is read.
 
 ghost use Rattle.std.specs.Prelude.{◌≡◌, ◌≤◌, ◌<◌, ◌+◌, ◌*◌, ◌++◌, ◌^◌, [], ℕ, List, Option, Some};
-ghost use Rattle.std.specs.Prelude.{None, Ok, Err, IfOk, IfErr, OnErr, OnOk, false};
-ghost use Rattle.std.specs.Prelude.{length, take, drop, vec_capacity, vec_len};
-ghost use Rattle.irig_vcd.specs.Answer.{bytes_of, name_of};
+ghost use Rattle.std.specs.Prelude.{None, Ok, Err, IfOk, IfErr, OnErr, OnOk, false, length, take};
+ghost use Rattle.std.specs.Prelude.{drop, vec_capacity, vec_len};
 ghost use Rattle.irig_vcd.specs.Code.DumpReader.{HasReadWords, IsNew, IsReady, Stage, StopsAt};
 ghost use Rattle.irig_vcd.specs.Code.DumpReader.{StopsIn};
-ghost use Rattle.irig_vcd.specs.Code.Gathered.{part_at, so_far};
-ghost use Rattle.irig_vcd.specs.Code.Journals.{place_view};
-ghost use Rattle.irig_vcd.specs.Code.Reached.{IsOn};
-ghost use Rattle.irig_vcd.specs.Declarations.{declarations_of};
 ghost use Rattle.irig_vcd.specs.Words.{Word, words_from, words_of};
-ghost use Rattle.irig_vcd.specs.declared.fault.VcdFault.{VcdFault};
+ghost use Rattle.irig_vcd.specs.{Answer.bytes_of, Answer.name_of, Code.Gathered.part_at};
+ghost use Rattle.irig_vcd.specs.{Code.Gathered.so_far, Code.Journals.place_view, Code.Reached.IsOn};
+ghost use Rattle.irig_vcd.specs.{Declarations.declarations_of, declared.fault.VcdFault.VcdFault};
 
 use crate::fault::VcdFault;
 use crate::header::{Start, declarations};

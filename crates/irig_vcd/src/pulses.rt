@@ -1,12 +1,10 @@
 //! Pulses that are read in one step: a rise and a fall, each a time line and a level line.
 
-ghost use Rattle.std.specs.Prelude.{◌≡◌, ◌≤◌, ◌<◌, ◌+◌, ◌^◌, ◌∷◌, [], true, false};
-ghost use Rattle.std.specs.Prelude.{length, slice_index, IfSome, IfOk};
+ghost use Rattle.std.specs.Prelude.{◌≡◌, ◌≤◌, ◌<◌, ◌+◌, ◌^◌, ◌∷◌, [], true, false, length};
+ghost use Rattle.std.specs.Prelude.{slice_index, IfSome, IfOk};
 ghost use Rattle.irig_vcd.specs.Code.Along.{HasFallen, TakesEdge, at_micros};
 ghost use Rattle.irig_vcd.specs.Code.Scanned.{IsTraced, Passes};
-ghost use Rattle.irig_vcd.specs.Scan.{Scan, closed};
-ghost use Rattle.irig_vcd.specs.Code.Time.{IsTime};
-ghost use Rattle.irig_vcd.specs.Words.{is_code};
+ghost use Rattle.irig_vcd.specs.{Scan.Scan, Scan.closed, Code.Time.IsTime, Words.is_code};
 
 use crate::lanes::lanes_end;
 use crate::time::{Clock, cut};

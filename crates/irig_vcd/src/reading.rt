@@ -1,13 +1,10 @@
 //! What was read after the declarations.
 
 ghost use Rattle.std.specs.Prelude.{◌≡◌, ◌≤◌, ◌^◌, ℕ, List, None, Err, IfOk, OnOk};
-ghost use Rattle.irig_vcd.specs.Code.Journals.{Holds};
-ghost use Rattle.irig_vcd.specs.Code.Reached.{IsOn};
-ghost use Rattle.irig_vcd.specs.Code.Scanned.{HasScanned, StandsAt};
-ghost use Rattle.irig_vcd.specs.Code.Trace.{IsKept, KeepsEdges};
-ghost use Rattle.irig_vcd.specs.Level.{HasEdge, Change};
-ghost use Rattle.irig_vcd.specs.Scan.{Scan, scan_ended, start};
-ghost use Rattle.irig_vcd.specs.declared.fault.VcdFault.TheVariants.{OutOfMemory};
+ghost use Rattle.irig_vcd.specs.{Code.Journals.Holds, Code.Reached.IsOn, Code.Scanned.HasScanned};
+ghost use Rattle.irig_vcd.specs.{Code.Scanned.StandsAt, Code.Trace.IsKept, Code.Trace.KeepsEdges};
+ghost use Rattle.irig_vcd.specs.{Level.HasEdge, Level.Change, Scan.Scan, Scan.scan_ended};
+ghost use Rattle.irig_vcd.specs.{Scan.start, declared.fault.VcdFault.TheVariants.OutOfMemory};
 
 use crate::changes::{Body, follow};
 use crate::fault::VcdFault;

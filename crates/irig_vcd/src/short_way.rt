@@ -1,19 +1,14 @@
 //! The tokens of a wire's changes that are taken in one step.
 
-ghost use Rattle.std.specs.Prelude.{◌≡◌, ◌↔◌, ◌≤◌, ◌<◌, List, Option};
-ghost use Rattle.std.specs.Prelude.{true, length, slice_index, IfOk, OnErr};
-ghost use Rattle.irig_vcd.specs.Code.Reached.{IsOn};
+ghost use Rattle.std.specs.Prelude.{◌≡◌, ◌↔◌, ◌≤◌, ◌<◌, List, Option, true, length, slice_index};
+ghost use Rattle.std.specs.Prelude.{IfOk, OnErr};
 ghost use Rattle.irig_vcd.specs.Code.Scanned.{IsTraced, Leads, Passes, Puts, Scans};
-ghost use Rattle.irig_vcd.specs.Code.Short.{TakesBit};
-ghost use Rattle.irig_vcd.specs.Code.Time.{IsTime, units_of};
-ghost use Rattle.irig_vcd.specs.Code.Trace.{EdgeBefore, Follows};
-ghost use Rattle.irig_vcd.specs.Level.{Change};
-ghost use Rattle.irig_vcd.specs.Scan.{Scan, closed};
-ghost use Rattle.irig_vcd.specs.Times.{micros_of};
-ghost use Rattle.irig_vcd.specs.Words.{Word, is_code};
-ghost use Rattle.irig_vcd.specs.declared.fault.VcdFault.{VcdFault};
-ghost use Rattle.irig_vcd.specs.declared.journals.Journals.{Journals};
-ghost use Rattle.irig_vcd.specs.declared.pending.Pending.{Pending};
+ghost use Rattle.irig_vcd.specs.{Code.Reached.IsOn, Code.Short.TakesBit, Code.Time.IsTime};
+ghost use Rattle.irig_vcd.specs.{Code.Time.units_of, Code.Trace.EdgeBefore, Code.Trace.Follows};
+ghost use Rattle.irig_vcd.specs.{Level.Change, Scan.Scan, Scan.closed, Times.micros_of, Words.Word};
+ghost use Rattle.irig_vcd.specs.{Words.is_code, declared.fault.VcdFault.VcdFault};
+ghost use Rattle.irig_vcd.specs.{declared.journals.Journals.Journals};
+ghost use Rattle.irig_vcd.specs.{declared.pending.Pending.Pending};
 
 use crate::fault::VcdFault;
 use crate::pulses::pulses;

@@ -1,12 +1,10 @@
 //! A level that is given by its changes, traced.
 
 ghost use Rattle.std.specs.Prelude.{◌≡◌, ◌≤◌, ◌<◌, ◌+◌, ◌^◌, true, false, ◌∷◌, [], ◌++◌, ℕ, List};
-ghost use Rattle.std.specs.Prelude.{◌↔◌, OnOk, OnErr, IfOk};
-ghost use Rattle.std.specs.Prelude.{length, take, if◌then◌else◌};
+ghost use Rattle.std.specs.Prelude.{◌↔◌, OnOk, OnErr, IfOk, length, take, if◌then◌else◌};
 ghost use Rattle.irig_vcd.specs.Level.{Change, change, edges_up_to, differs};
-ghost use Rattle.irig_vcd.specs.Code.Along.{HasFallen};
+ghost use Rattle.irig_vcd.specs.{Code.Along.HasFallen, Code.Trace.EdgeBefore, Code.Trace.Follows};
 ghost use Rattle.irig_recording.specs.Edges.{edges_kept};
-ghost use Rattle.irig_vcd.specs.Code.Trace.{EdgeBefore, Follows};
 
 use irig_recording::Edges;
 use std::alloc::{AllocError, Global};

@@ -1,13 +1,10 @@
 -- The state of reading between two tokens.
-use Rattle.std.specs.Prelude.{◌≡◌, ◌≤◌, ◌<◌, ◌+◌, ◌-◌, ◌^◌, ◌∷◌, [], ℕ, List, Bool}
-use Rattle.std.specs.Prelude.{true, false, drop, if◌then◌else◌}
-use Rattle.irig_vcd.specs.Code.Time.{units_of}
-use Rattle.irig_vcd.specs.Digits.{is_number, number_from}
-use Rattle.irig_recording.specs.Recording.{is_even_long}
+use Rattle.std.specs.Prelude.{◌≡◌, ◌≤◌, ◌<◌, ◌+◌, ◌-◌, ◌^◌, ◌∷◌, [], ℕ, List, Bool, true, false}
+use Rattle.std.specs.Prelude.{drop, if◌then◌else◌}
 use Rattle.irig_vcd.specs.Words.{Word, words_from, rest_of, hash, scalar}
-use Rattle.irig_vcd.specs.declared.pulses.Edge.{Edge}
-use Rattle.irig_vcd.specs.declared.time.Clock.{Clock}
-use Rattle.irig_vcd.specs.declared.trace.Trace.{Trace}
+use Rattle.irig_vcd.specs.{Digits.is_number, Digits.number_from, declared.trace.Trace.Trace}
+use Rattle.irig_vcd.specs.{Code.Time.units_of, declared.pulses.Edge.Edge, declared.time.Clock.Clock}
+use Rattle.irig_recording.specs.Recording.{is_even_long}
 
 -- a time in whole microseconds
 abbrev pub at_micros : ℕ → Clock

@@ -1,19 +1,13 @@
 -- What a reader of parts has read.
-use Rattle.std.specs.Prelude.{◌≡◌, ◌≤◌, ◌<◌, ◌⊎◌, ◌+◌, ◌*◌, ◌++◌, ◌^◌, ℕ, false, List, [], Option, Some, None}
-use Rattle.std.specs.Prelude.{Ok, length, vec_capacity, vec_len}
+use Rattle.std.specs.Prelude.{◌≡◌, ◌≤◌, ◌<◌, ◌⊎◌, ◌+◌, ◌*◌, ◌++◌, ◌^◌, ℕ, false, List, [], Option}
+use Rattle.std.specs.Prelude.{Some, None, Ok, length, vec_capacity, vec_len}
 use Rattle.std.specs.Global.{Vec}
-use Rattle.irig_vcd.specs.Answer.{bytes_of}
-use Rattle.irig_vcd.specs.Code.Gathered.{gathered}
-use Rattle.irig_vcd.specs.Code.Joins.{ends_inside}
-use Rattle.irig_vcd.specs.Code.Reached.{IsOn}
-use Rattle.irig_vcd.specs.Code.Scanned.{StandsAt, Stops}
-use Rattle.irig_vcd.specs.Declarations.{declarations_of}
-use Rattle.irig_vcd.specs.Scan.{Scan, scan_words, start}
-use Rattle.irig_vcd.specs.Words.{Word, words_of}
-use Rattle.irig_vcd.specs.declared.fault.VcdFault.{VcdFault}
 use Rattle.irig_vcd.specs.declared.fault.VcdFault.TheVariants.{OutOfMemory}
-use Rattle.irig_vcd.specs.declared.progress.Progress.{Progress}
-use Rattle.irig_vcd.specs.declared.reading.Reading.{Reading}
+use Rattle.irig_vcd.specs.{Answer.bytes_of, Code.Gathered.gathered, Code.Joins.ends_inside}
+use Rattle.irig_vcd.specs.{Code.Reached.IsOn, Code.Scanned.StandsAt, Code.Scanned.Stops}
+use Rattle.irig_vcd.specs.{Declarations.declarations_of, Scan.Scan, Scan.scan_words, Scan.start}
+use Rattle.irig_vcd.specs.{Words.Word, Words.words_of, declared.fault.VcdFault.VcdFault}
+use Rattle.irig_vcd.specs.{declared.progress.Progress.Progress, declared.reading.Reading.Reading}
 
 -- the declarations are read, and the words after them up to the first fault
 abbrev pub ScansTo : Option (List ℕ) → List Word → ℕ → List ℕ → Scan × Option VcdFault → Type 0

@@ -1,12 +1,11 @@
 -- The bytes of the first journal, while its dump comes in parts. This project's own.
 use Rattle.std.specs.Prelude.{◌-◌, ℕ, List, [], ◌∷◌, Option, Some, None, length, take, drop}
 use Rattle.std.specs.Prelude.{if◌then◌else◌}
-use Rattle.irig_vcd.specs.Code.Journals.{place_view}
 use Rattle.irig_vcd.specs.Journals.{Comment, comment, is_journal}
 use Rattle.irig_vcd.specs.Scan.{Open, closed, code_of, comment_of, Scan}
-use Rattle.irig_vcd.specs.declared.pending.Pending.{Pending}
-use Rattle.irig_vcd.specs.declared.pending.Pending.TheVariants as pending
 use Rattle.irig_vcd.specs.declared.reading.Reading.{Reading}
+use Rattle.irig_vcd.specs.{Code.Journals.place_view, declared.pending.Pending.Pending}
+use Rattle.irig_vcd.specs.declared.pending.Pending.TheVariants as pending
 
 -- the place of a journal that is open: from its first word up to the last byte so far
 abbrev pub open_place : Option ℕ → ℕ → Option (ℕ × ℕ)

@@ -1,9 +1,8 @@
 -- What the code keeps of the journals so far.
-use Rattle.std.specs.Prelude.{◌≡◌, ◌≤◌, ◌-◌, ℕ, Bool, true, false, List, [], ◌∷◌, length}
-use Rattle.std.specs.Prelude.{Option, Some, None, IfSome, take, drop}
-use Rattle.irig_vcd.specs.Journals.{Comment}
+use Rattle.std.specs.Prelude.{◌≡◌, ◌≤◌, ◌-◌, ℕ, Bool, true, false, List, [], ◌∷◌, length, Option}
+use Rattle.std.specs.Prelude.{Some, None, IfSome, take, drop}
 use Rattle.irig_vcd.specs.declared.journals.Journals.{Journals}
-use Rattle.irig_vcd.specs.declared.journals.Place.{Place}
+use Rattle.irig_vcd.specs.{Journals.Comment, declared.journals.Place.Place}
 
 -- a place, if there is one, as two numbers
 abbrev pub place_view : Option Place → Option (ℕ × ℕ)

@@ -1,19 +1,12 @@
 -- What a reader of parts does with the next part.
-use Rattle.std.specs.Prelude.{◌≡◌, ◌<◌, ◌+◌, ◌*◌, ◌++◌, ◌⊎◌, ℕ, not, true, false, List, [], Option, Some, None}
-use Rattle.std.specs.Prelude.{Err, drop, length, take, vec_capacity, vec_len}
-use Rattle.std.specs.Global.{Vec}
-use Rattle.std.specs.List.{list_all}
-use Rattle.irig_vcd.specs.Answer.{bytes_of}
-use Rattle.irig_vcd.specs.Code.DumpReader.{ScansTo}
-use Rattle.irig_vcd.specs.Code.Gathered.{journal_in}
-use Rattle.irig_vcd.specs.Code.Joins.{ends_inside}
-use Rattle.irig_vcd.specs.Declarations.{declarations_of}
-use Rattle.irig_vcd.specs.Dump.{changes_before}
-use Rattle.irig_vcd.specs.Level.{HasEdge}
-use Rattle.irig_vcd.specs.Scan.{Scan}
-use Rattle.irig_vcd.specs.Words.{is_space, words_of}
-use Rattle.irig_vcd.specs.declared.fault.VcdFault.{VcdFault}
+use Rattle.std.specs.Prelude.{◌≡◌, ◌<◌, ◌+◌, ◌*◌, ◌++◌, ◌⊎◌, ℕ, not, true, false, List, [], Option}
+use Rattle.std.specs.Prelude.{Some, None, Err, drop, length, take, vec_capacity, vec_len}
+use Rattle.std.specs.{Global.Vec, List.list_all}
 use Rattle.irig_vcd.specs.declared.progress.Progress.{Progress}
+use Rattle.irig_vcd.specs.{Answer.bytes_of, Code.DumpReader.ScansTo, Code.Gathered.journal_in}
+use Rattle.irig_vcd.specs.{Code.Joins.ends_inside, Declarations.declarations_of}
+use Rattle.irig_vcd.specs.{Dump.changes_before, Level.HasEdge, Scan.Scan, Words.is_space}
+use Rattle.irig_vcd.specs.{Words.words_of, declared.fault.VcdFault.VcdFault}
 
 -- bytes have no white space
 abbrev pub IsDark : List ℕ → Type 0

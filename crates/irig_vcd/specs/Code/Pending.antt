@@ -2,12 +2,10 @@
 use Rattle.std.specs.Prelude.{◌≡◌, ℕ, true, false, List, Option, Some, None, Ok, codes}
 use Rattle.std.specs.Prelude.{if◌then◌else◌}
 use Rattle.std.specs.Str.{bytes_eq}
-use Rattle.irig_vcd.specs.Values.{level_by}
 use Rattle.irig_vcd.specs.Scan.{Open, closed, code_of, comment_of}
-use Rattle.irig_vcd.specs.Words.{Word}
 use Rattle.irig_vcd.specs.declared.pending.Pending.{Pending}
+use Rattle.irig_vcd.specs.{Values.level_by, Words.Word, declared.pending.Value.Value}
 use Rattle.irig_vcd.specs.declared.pending.Pending.TheVariants as pending
-use Rattle.irig_vcd.specs.declared.pending.Value.{Value}
 
 -- a value as it is kept: its place, and the level that it gives its wire
 pub record IsValue (w : Word) (v : Value) : Type 0 where

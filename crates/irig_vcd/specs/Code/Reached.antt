@@ -1,11 +1,7 @@
 -- How far a dump is read after its declarations.
 use Rattle.std.specs.Prelude.{◌≤◌, ℕ, List}
-use Rattle.irig_vcd.specs.Code.Time.{IsTime, units_of}
-use Rattle.irig_vcd.specs.Code.Trace.{Follows}
-use Rattle.irig_vcd.specs.Level.{Change}
-use Rattle.irig_vcd.specs.Times.{micros_of}
-use Rattle.irig_vcd.specs.declared.time.Clock.{Clock}
-use Rattle.irig_vcd.specs.declared.trace.Trace.{Trace}
+use Rattle.irig_vcd.specs.{Code.Time.IsTime, Code.Time.units_of, Code.Trace.Follows, Level.Change}
+use Rattle.irig_vcd.specs.{Times.micros_of, declared.time.Clock.Clock, declared.trace.Trace.Trace}
 
 -- a trace has followed some changes, and is not after a time of the unit
 pub record IsOn (unit : ℕ) (t : Trace) (clock : Clock) : Type 0 where

@@ -1,19 +1,12 @@
 -- Where the code is in the words after the declarations.
 use Rattle.std.specs.Prelude.{◌≡◌, ◌≤◌, ◌⊎◌, ℕ, Bool, List, [], Option, Some, None, Result, Ok, Err}
-use Rattle.irig_vcd.specs.Code.Journals.{Holds}
-use Rattle.irig_vcd.specs.Code.Pending.{Means}
-use Rattle.irig_vcd.specs.Code.Time.{IsTime, units_of}
-use Rattle.irig_vcd.specs.Code.Trace.{EdgeBefore, Follows}
 use Rattle.irig_vcd.specs.Scan.{Scan, and_level, closed, scan_words}
-use Rattle.irig_vcd.specs.Times.{micros_of}
-use Rattle.irig_vcd.specs.Words.{Word}
-use Rattle.irig_vcd.specs.declared.fault.VcdFault.{VcdFault}
-use Rattle.irig_vcd.specs.declared.fault.VcdFault.TheVariants.{OutOfMemory}
-use Rattle.irig_vcd.specs.declared.journals.Journals.{Journals}
-use Rattle.irig_vcd.specs.declared.pending.Pending.{Pending}
-use Rattle.irig_vcd.specs.declared.reading.Reading.{Reading}
-use Rattle.irig_vcd.specs.declared.time.Clock.{Clock}
-use Rattle.irig_vcd.specs.declared.trace.Trace.{Trace}
+use Rattle.irig_vcd.specs.{Code.Time.IsTime, Code.Time.units_of, Code.Trace.EdgeBefore}
+use Rattle.irig_vcd.specs.{Code.Trace.Follows, declared.fault.VcdFault.TheVariants.OutOfMemory}
+use Rattle.irig_vcd.specs.{Code.Journals.Holds, Code.Pending.Means, Times.micros_of, Words.Word}
+use Rattle.irig_vcd.specs.{declared.fault.VcdFault.VcdFault, declared.journals.Journals.Journals}
+use Rattle.irig_vcd.specs.{declared.pending.Pending.Pending, declared.reading.Reading.Reading}
+use Rattle.irig_vcd.specs.{declared.time.Clock.Clock, declared.trace.Trace.Trace}
 
 -- the time and the changes of a scan are those of a clock and a trace
 pub record IsTraced (unit : ℕ) (s : Scan) (t : Trace) (clock : Clock) : Type 0 where

@@ -1,13 +1,10 @@
 -- The sections of the declarations, read word by word.
 use Rattle.std.specs.Prelude.{◌++◌, ℕ, List, [], ◌∷◌, Result, Ok, Err, if◌then◌else◌}
-use Rattle.irig_vcd.specs.Words.{Word}
 use Rattle.irig_vcd.specs.Sections.{SectionKind, timescale, variable, definitions_end, skipped}
-use Rattle.irig_vcd.specs.Sections.{no_section}
-use Rattle.irig_vcd.specs.Sections.{is_end}
-use Rattle.irig_vcd.specs.declared.fault.VcdFault.{VcdFault}
+use Rattle.irig_vcd.specs.Sections.{no_section, is_end}
 use Rattle.irig_vcd.specs.declared.fault.VcdFault.TheVariants.{Unclosed}
-use Rattle.irig_vcd.specs.declared.section.Head.{Head}
 use Rattle.irig_vcd.specs.declared.section.Head.TheVariants.{Timescale, Var, Last, Skipped, Stray}
+use Rattle.irig_vcd.specs.{Words.Word, declared.fault.VcdFault.VcdFault, declared.section.Head.Head}
 
 -- what a section is
 abbrev pub section_view : Head → SectionKind

@@ -1,8 +1,7 @@
 -- A time in two parts: the digits of its number of units above one microsecond, and those below.
 use Rattle.std.specs.Prelude.{◌≡◌, ◌+◌, ◌-◌, ◌*◌, ◌/◌, ◌^◌, ◌==◌, ◌&&◌, ◌||◌, ◌≤◌, ◌<◌, ℕ, Bool}
 use Rattle.std.specs.Prelude.{true, List, nat_lt, min}
-use Rattle.irig_vcd.specs.Digits.{is_number, number_from}
-use Rattle.irig_vcd.specs.declared.time.Clock.{Clock}
+use Rattle.irig_vcd.specs.{Digits.is_number, Digits.number_from, declared.time.Clock.Clock}
 
 -- the number of units of a clock
 unfoldable pub units_of : ℕ → Clock → ℕ

@@ -1,11 +1,7 @@
 -- The unit of a dump, read word by word into a short text.
 use Rattle.std.specs.Prelude.{◌≡◌, ◌<◌, ◌≤◌, ℕ, true, false, List, [], length, take, Result, Ok}
-use Rattle.irig_vcd.specs.Answer.{◌>>=◌}
-use Rattle.irig_vcd.specs.Code.Section.{section_words}
-use Rattle.irig_vcd.specs.Scales.{scale_of}
-use Rattle.irig_vcd.specs.Words.{Word}
-use Rattle.irig_vcd.specs.declared.fault.VcdFault.{VcdFault}
-use Rattle.irig_vcd.specs.declared.timescale.Joined.{Joined}
+use Rattle.irig_vcd.specs.{Answer.◌>>=◌, Code.Section.section_words, Scales.scale_of, Words.Word}
+use Rattle.irig_vcd.specs.{declared.fault.VcdFault.VcdFault, declared.timescale.Joined.Joined}
 
 -- a text holds all of what was joined, or says that it is too long
 pub record Holds (all : List ℕ) (text : Joined) : Type 0 where

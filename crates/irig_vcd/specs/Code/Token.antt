@@ -1,8 +1,7 @@
 -- What a token shows of a word.
 use Rattle.irig_vcd.specs.Words.{Word, WordKind, dollar, hash, scalar, vector, real, text, other}
-use Rattle.irig_vcd.specs.declared.token.Kind.{Kind}
+use Rattle.irig_vcd.specs.{declared.token.Kind.Kind, declared.token.Token.Token}
 use Rattle.irig_vcd.specs.declared.token.Kind.TheVariants as kind
-use Rattle.irig_vcd.specs.declared.token.Token.{Token}
 
 -- what a token is
 abbrev pub kind_view : Kind → WordKind

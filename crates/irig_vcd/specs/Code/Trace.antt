@@ -1,13 +1,10 @@
 -- What a trace has kept of the changes that it followed.
 use Rattle.std.specs.Prelude.{◌≡◌, ◌≤◌, ◌<◌, ℕ, Bool, true, List, Result, Ok, Err, take}
 use Rattle.std.specs.List.{AllByRecursion}
-use Rattle.irig_vcd.specs.Answer.{IsFaultOf}
+use Rattle.irig_vcd.specs.{Level.Change, Level.change, Level.level_by_changes, Level.level_before}
+use Rattle.irig_vcd.specs.{Level.edges_below, Level.edges_up_to, declared.fault.VcdFault.VcdFault}
+use Rattle.irig_vcd.specs.{Answer.IsFaultOf, declared.changes.Body.Body, declared.trace.Trace.Trace}
 use Rattle.irig_recording.specs.Edges.{edges_kept}
-use Rattle.irig_vcd.specs.Level.{Change, change, level_by_changes, level_before, edges_below}
-use Rattle.irig_vcd.specs.Level.{edges_up_to}
-use Rattle.irig_vcd.specs.declared.changes.Body.{Body}
-use Rattle.irig_vcd.specs.declared.fault.VcdFault.{VcdFault}
-use Rattle.irig_vcd.specs.declared.trace.Trace.{Trace}
 
 -- a time and the level from it on, as a change
 abbrev pub change_of : ℕ × Bool → Change

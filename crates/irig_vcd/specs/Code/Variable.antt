@@ -1,14 +1,9 @@
 -- A variable, read word by word.
-use Rattle.std.specs.Prelude.{ℕ, List, [], ◌∷◌, Result, Ok, Err}
-use Rattle.std.specs.Prelude.{if◌then◌else◌}
-use Rattle.irig_vcd.specs.Answer.{◌>>=◌}
-use Rattle.irig_vcd.specs.Code.Section.{after_end}
-use Rattle.irig_vcd.specs.Sections.{is_end}
+use Rattle.std.specs.Prelude.{ℕ, List, [], ◌∷◌, Result, Ok, Err, if◌then◌else◌}
 use Rattle.irig_vcd.specs.Variables.{Declared, variable_of}
-use Rattle.irig_vcd.specs.Words.{Word}
-use Rattle.irig_vcd.specs.declared.fault.VcdFault.{VcdFault}
 use Rattle.irig_vcd.specs.declared.fault.VcdFault.TheVariants.{Unclosed, BadVar}
-use Rattle.irig_vcd.specs.declared.variable.Variable.{Variable}
+use Rattle.irig_vcd.specs.{Answer.◌>>=◌, Code.Section.after_end, Sections.is_end, Words.Word}
+use Rattle.irig_vcd.specs.{declared.fault.VcdFault.VcdFault, declared.variable.Variable.Variable}
 
 -- a variable without where its words lie in memory
 abbrev pub variable_view : Variable → Declared

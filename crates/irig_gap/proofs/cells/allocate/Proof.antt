@@ -6,6 +6,8 @@ use Rattle.irig_gap.proofs.Steps.{stop, fld, size_word, align_word, lit, of_opd,
 use Rattle.irig_gap.proofs.Steps.{pass_all, free_all, look_at, local, get_in, get_tag, is, sets, sets_last, lands_as, env, usize, RefOf, yes, uint_vals}
 use Rattle.irig_gap.proofs.Steps.{uint_Tells, RattleType, owns, block_ptr, shr_vals, shr_Tells, plain, types_at, heard, nothing, owned, Stays, stay_dropped}
 use Rattle.irig_gap.proofs.Steps.{walk_of, Goes-dropped, ends_at, says, proved, None, El, R, elτ, after}
+use Rattle.irig_gap.proofs.Blocks.{De, mark, pair, deed, deed_made, pair_of}
+use Rattle.irig_gap.proofs.{Rows.Ce, Rows.sz, Rows.word, Rows.of_room, Rows.cells_made, cells.allocate.Statement.statement}
 use prog.Capped.{capped_fits}
 use prog.Memory.{align, capped}
 use prog.Wp.{Wp, after_seq, at_return}
@@ -23,16 +25,10 @@ use Rattle.core.proofs.slots.Bodies.{head, arm_body}
 use Rattle.core.proofs.slots.Leases.{uncapped, block_ty, block_size, block_align, args as both_args, P}
 use Rattle.core.specs.contracts.result.Result as RS
 use Rattle.core.specs.contracts.alloc.AllocError as AE
-use Rattle.std.proofs.RawLayout.{as_written}
-use Rattle.std.proofs.ResultValues.{ok_of, err_of}
-use Rattle.std.proofs.RcSteps.{Good, first_Good}
+use Rattle.std.proofs.{RawLayout.as_written, ResultValues.ok_of, ResultValues.err_of, RcSteps.Good, RcSteps.first_Good}
 use Rattle.std.specs.Prelude.{Ok, Err}
-use Rattle.irig_gap.proofs.Blocks.{De, mark, pair, deed, deed_made, pair_of}
-use Rattle.irig_gap.specs.Cells.{row}
-use Rattle.irig_gap.proofs.Rows.{Ce, sz, word, of_room, cells_made}
+use Rattle.irig_gap.specs.{Cells.row, contracts.cells.allocate.Key.name as #self}
 use Rattle.irig_gap.specs.contracts.cells.allocate as F
-use Rattle.irig_gap.specs.contracts.cells.allocate.Key.{name as #self}
-use Rattle.irig_gap.proofs.cells.allocate.Statement.{statement}
 use Rattle.irig_gap.proofs.cells.allocate.Code as code
 
 pub allocate_spec : {M : Type 1} → statement M

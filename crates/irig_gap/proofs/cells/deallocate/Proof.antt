@@ -5,17 +5,15 @@ use Rattle.irig_gap.proofs.Steps.{qed, done, move, keep, drop, use1, use3, split
 use Rattle.irig_gap.proofs.Steps.{prop, learn, given, whole, sub, stop, fld, size_word, align_word, unit_lit, of_opd, bin, and_then, no_more, first, blocks}
 use Rattle.irig_gap.proofs.Steps.{exec, returns, enter, alloc_all, pass_all, free_all, look_at, local, get_in, is, sets, lands_last, env, usize, RefOf, yes, no}
 use Rattle.irig_gap.proofs.Steps.{owns, Ptr, plain, types_at, heard, nothing, Stays, stay_dropped, walk_of, Goes-dropped, ends_at, proved_at, El, elτ, after}
+use Rattle.irig_gap.proofs.{Blocks.De, Blocks.deed_had, Rows.Ce, Rows.sz, Rows.to_room, Rows.cells_had, cells.deallocate.Statement.statement}
 use prog.Capped.{capped_fits}
 use prog.Memory.{align, capped}
 use denote.Triple.Table.{framed}
 use denote.Triple.Call.{calls_at_last}
 use Rattle.core.proofs.alloc.Calls.{Al, token, Gives, at_gives, Gives-goes, Gives-Gives, Goes-blank}
 use Rattle.core.proofs.slots.Leases.{uncapped, block_ty, block_size, block_align, args as both_args, P}
-use Rattle.irig_gap.proofs.Blocks.{De, deed_had}
-use Rattle.irig_gap.proofs.Rows.{Ce, sz, to_room, cells_had}
 use Rattle.irig_gap.specs.contracts.cells.deallocate as F
 use Rattle.irig_gap.specs.contracts.cells.deallocate.Key.{name as #self}
-use Rattle.irig_gap.proofs.cells.deallocate.Statement.{statement}
 use Rattle.irig_gap.proofs.cells.deallocate.Code as code
 
 pub deallocate_spec : {M : Type 1} → statement M

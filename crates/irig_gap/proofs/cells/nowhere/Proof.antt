@@ -4,11 +4,9 @@ use Rattle.irig_gap.proofs.Steps.{◌⊑◌, fact, ‵, raw, ◌⊛◌, ◌$◌,
 use Rattle.irig_gap.proofs.Steps.{and_then, no_more, returns, enter, alloc_all, pass_all, free_all, look_at, local, through, sets, u8, usize, RefOf, yes}
 use Rattle.irig_gap.proofs.Steps.{uint_vals, uint_Tells, owns, block_ptr, shr_vals, shr_Tells, plain, types_at, heard, nothing, alive, Stays, stay_dropped}
 use Rattle.irig_gap.proofs.Steps.{walk_of, Goes-dropped, ends_at, says, proved, None, El, R, args}
-use Rattle.irig_gap.specs.Cells.{row}
-use Rattle.irig_gap.proofs.Rows.{Ce, sz, word, of_nothing, cells_made}
+use Rattle.irig_gap.proofs.{Rows.Ce, Rows.sz, Rows.word, Rows.of_nothing, Rows.cells_made, cells.nowhere.Statement.statement}
+use Rattle.irig_gap.specs.{Cells.row, contracts.cells.nowhere.Key.name as #self}
 use Rattle.irig_gap.specs.contracts.cells.nowhere as F
-use Rattle.irig_gap.specs.contracts.cells.nowhere.Key.{name as #self}
-use Rattle.irig_gap.proofs.cells.nowhere.Statement.{statement}
 use Rattle.irig_gap.proofs.cells.nowhere.Code as code
 
 pub nowhere_spec : {M : Type 1} → statement M

@@ -1,6 +1,5 @@
 use Rattle.std.proofs.Common.{◌≡◌, ◌≤◌, ◌+◌, ◌-◌, ◌∷◌, ◌∙◌, length, decimal, drop, List, ℕ, arith, ap, lit<}
-use Rattle.std.proofs.lemmas.Fmt.{length-decimal-le}
-use Rattle.std.proofs.lemmas.List.{drop-set}
+use Rattle.std.proofs.lemmas.{Fmt.length-decimal-le, List.drop-set}
 use Rattle.irig_recording.proofs.writer.put_digits.Goals as goal
 
 pub write_digits-start-requires : goal.write_digits-start-requires

@@ -2,8 +2,8 @@ use Rattle.std.proofs.Common.{◌≡◌, ◌∙◌, ◌++◌, ◌∷◌, ◌+◌
 use mir.Val.{bool_byte}
 use Rattle.irig_recording.specs.FileText.{EndsLines}
 use Rattle.irig_recording.proofs.TextParts.{cut_line, level_byte, level_set, digits_before}
-use Rattle.irig_recording.proofs.writer.put_lines.Goals as goal
 use Rattle.irig_recording.proofs.writer.put_lines.Goals.{After-put_digits-start}
+use Rattle.irig_recording.proofs.writer.put_lines.Goals as goal
 
 pub returns-clause-text : goal.returns-clause-text
 returns-clause-text c =

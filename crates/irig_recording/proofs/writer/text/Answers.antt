@@ -1,17 +1,30 @@
 use Rattle.std.proofs.Common.{◌≤◌, ◌^◌, ◌++◌, ◌∙◌, ap, sym, subst, length, List, ℕ, arith}
 use Rattle.irig_recording.specs.FileText.{file_text}
-use Rattle.irig_recording.proofs.PulseEdges.{length-edges_of}
-use Rattle.irig_recording.proofs.TextLength.{length-file_text}
+use Rattle.irig_recording.proofs.{PulseEdges.length-edges_of, TextLength.length-file_text}
 use Rattle.irig_recording.proofs.writer.text.Goals as goal
 
-pub overflow_mul-pulses : goal.overflow_mul-pulses
-overflow_mul-pulses c = record {
-  fits = omega (arith, length-edges_of c.pulses.result.now, ap length c.pulses.ensures.exact, c.pulses.ensures.lawful.few);
+pub overflow_mul-gap_at : goal.overflow_mul-gap_at
+overflow_mul-gap_at c = record {
+  fits = omega (
+    arith,
+    length-edges_of c.pulses.result.now.items,
+    ap length c.pulses.ensures.exact,
+    c.pulses.ensures.lawful.few,
+    c.pulses.ensures.place,
+    c.gap_at.ensures.place,
+  );
 }
 
-pub overflow_add-pulses : goal.overflow_add-pulses
-overflow_add-pulses c = record {
-  fits = omega (arith, length-edges_of c.pulses.result.now, ap length c.pulses.ensures.exact, c.pulses.ensures.lawful.few);
+pub overflow_add-gap_at : goal.overflow_add-gap_at
+overflow_add-gap_at c = record {
+  fits = omega (
+    arith,
+    length-edges_of c.pulses.result.now.items,
+    ap length c.pulses.ensures.exact,
+    c.pulses.ensures.lawful.few,
+    c.pulses.ensures.place,
+    c.gap_at.ensures.place,
+  );
 }
 
 pub returns-clause-written : goal.returns-clause-written

@@ -1,7 +1,6 @@
 use Rattle.std.proofs.Common.{◌<◌, arith}
 use Rattle.irig_vcd.specs.Code.Lanes.{is_low}
-use Rattle.irig_vcd.proofs.DarkLanes.{all_dark}
-use Rattle.irig_vcd.proofs.LaneCounts.{counted_few, counted_fails}
+use Rattle.irig_vcd.proofs.{DarkLanes.all_dark, LaneCounts.counted_few, LaneCounts.counted_fails}
 use Rattle.irig_vcd.proofs.apart.dark_count.Goals as goal
 
 pub returns-clause-few : goal.returns-clause-few

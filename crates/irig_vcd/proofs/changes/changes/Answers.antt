@@ -1,11 +1,7 @@
 use Rattle.std.proofs.Common.{◌≡◌, ap, sym, subst}
 use Rattle.std.proofs.lemmas.Result.{IfOk-weaker}
-use Rattle.irig_vcd.specs.Code.Scanned.{Stops}
-use Rattle.irig_vcd.specs.Code.Journals.{Holds}
-use Rattle.irig_vcd.specs.Code.Trace.{KeepsEdges}
-use Rattle.irig_vcd.specs.Level.{HasEdge}
-use Rattle.irig_vcd.specs.Scan.{scan_ended, scan_words, start}
 use Rattle.irig_vcd.specs.declared.fault.VcdFault.TheVariants.{OutOfMemory}
+use Rattle.irig_vcd.specs.{Code.Scanned.Stops, Code.Journals.Holds, Code.Trace.KeepsEdges, Level.HasEdge, Scan.scan_ended, Scan.scan_words, Scan.start}
 use Rattle.irig_vcd.proofs.ScanSteps.{stopped_so}
 use Rattle.irig_vcd.proofs.changes.changes.Goals as goal
 

@@ -1,11 +1,7 @@
 use Rattle.std.proofs.Common.{◌≡◌, ◌∷◌, [], Option, rules}
-use Rattle.irig_vcd.specs.Code.Scanned.{Leads}
-use Rattle.irig_vcd.specs.Code.Token.{word_of}
-use Rattle.irig_vcd.specs.Scan.{Scan}
-use Rattle.irig_vcd.specs.declared.fault.VcdFault.{VcdFault}
-use Rattle.irig_vcd.proofs.ScanSteps.{leads_as}
+use Rattle.irig_vcd.specs.{Code.Scanned.Leads, Code.Token.word_of, Scan.Scan, declared.fault.VcdFault.VcdFault}
+use Rattle.irig_vcd.proofs.{ScanSteps.leads_as, changes.follow_on.Goals.After-take}
 use Rattle.irig_vcd.proofs.changes.follow_on.Goals as goal
-use Rattle.irig_vcd.proofs.changes.follow_on.Goals.{After-take}
 
 -- where the code is before the token that is taken
 at_token : (c : After-take) (end : Scan × Option VcdFault)

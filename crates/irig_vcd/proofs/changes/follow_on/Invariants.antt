@@ -1,8 +1,5 @@
 use Rattle.std.proofs.Common.{Option, length}
-use Rattle.irig_vcd.specs.Code.Reached.{IsOn}
-use Rattle.irig_vcd.specs.Code.Scanned.{Leads}
-use Rattle.irig_vcd.specs.Scan.{Scan}
-use Rattle.irig_vcd.specs.declared.fault.VcdFault.{VcdFault}
+use Rattle.irig_vcd.specs.{Code.Reached.IsOn, Code.Scanned.Leads, Scan.Scan, declared.fault.VcdFault.VcdFault}
 use Rattle.irig_vcd.proofs.changes.follow_on.Given as goal
 
 abbrev pub invariant-tokens : goal.invariant-tokens

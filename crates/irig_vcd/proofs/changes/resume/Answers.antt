@@ -1,7 +1,6 @@
 use Rattle.std.proofs.Common.{◌≡◌, ◌∙◌, ap, Bool, Option, None, Some, refl, subst, rules}
 use Rattle.std.proofs.lemmas.Result.{err_from_is_err_and}
-use Rattle.irig_vcd.specs.Code.Scanned.{Reaches}
-use Rattle.irig_vcd.specs.Times.{micros_of}
+use Rattle.irig_vcd.specs.{Code.Scanned.Reaches, Times.micros_of}
 use Rattle.irig_vcd.proofs.ScanSteps.{fails_at, leads_level, leads_none, leads_short, on_put}
 use Rattle.irig_vcd.proofs.changes.resume.Goals as goal
 

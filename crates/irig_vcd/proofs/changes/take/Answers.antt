@@ -1,9 +1,6 @@
 use Rattle.std.proofs.Common.{◌≡◌, ◌∙◌, ◌∷◌, Option, Bool, None, Some, true, ap, subst, rules}
 use Rattle.std.proofs.lemmas.Result.{err_from_is_err_and}
-use Rattle.irig_vcd.specs.Code.Event.{is_hash}
-use Rattle.irig_vcd.specs.Code.Scanned.{Reaches}
-use Rattle.irig_vcd.specs.Code.Token.{word_of}
-use Rattle.irig_vcd.specs.Times.{micros_of}
+use Rattle.irig_vcd.specs.{Code.Event.is_hash, Code.Scanned.Reaches, Code.Token.word_of, Times.micros_of}
 use Rattle.irig_vcd.proofs.ScanSteps.{at_word, fails_in, hash_kind, leads_level, leads_none, leads_short, leads_time, on_put, on_read}
 use Rattle.irig_vcd.proofs.changes.take.Goals as goal
 

@@ -1,19 +1,11 @@
 use Rattle.std.proofs.Common.{◌≡◌, ◌∙◌, List, None, Ok, Err, Option, ℕ, Some, IfSome, length, ap, subst, sym}
 use Rattle.std.proofs.lemmas.Result.{err_from_is_err_and}
-use Rattle.irig_vcd.specs.Code.DumpReader.{HasReadWords}
-use Rattle.irig_vcd.specs.Code.Gathered.{gathered}
-use Rattle.irig_vcd.specs.Code.Journals.{Holds, text_at}
-use Rattle.irig_vcd.specs.Dump.{dump, scan_of, scanned}
-use Rattle.irig_vcd.specs.Journals.{Comment}
-use Rattle.irig_vcd.specs.Level.{HasEdge}
-use Rattle.irig_vcd.specs.Words.{words_of}
 use Rattle.irig_vcd.specs.declared.fault.VcdFault.TheVariants.{OutOfMemory}
-use Rattle.irig_vcd.specs.declared.journals.Journals.{Journals}
-use Rattle.irig_vcd.proofs.PartSteps.{before_scanned, dump_kept, end_fault, told_in}
-use Rattle.irig_vcd.proofs.WholeDump.{fails_now, many_journals, no_dump, with_journal}
-use Rattle.irig_vcd.proofs.Gathered.{whole_gathered}
+use Rattle.irig_vcd.specs.{Code.DumpReader.HasReadWords, Code.Gathered.gathered, Code.Journals.Holds, Code.Journals.text_at, Dump.dump, Dump.scan_of}
+use Rattle.irig_vcd.specs.{Dump.scanned, Journals.Comment, Level.HasEdge, Words.words_of, declared.journals.Journals.Journals}
+use Rattle.irig_vcd.proofs.{PartSteps.before_scanned, PartSteps.dump_kept, PartSteps.end_fault, PartSteps.told_in, WholeDump.fails_now, WholeDump.many_journals}
+use Rattle.irig_vcd.proofs.{WholeDump.no_dump, WholeDump.with_journal, Gathered.whole_gathered, dump_reader.finish.Goals.After-one}
 use Rattle.irig_vcd.proofs.dump_reader.finish.Goals as goal
-use Rattle.irig_vcd.proofs.dump_reader.finish.Goals.{After-one}
 
 -- what the dump is, its journals, and the bytes of the first one
 read_up : (c : After-one) (wire : Option (List ℕ)) (bytes code : List ℕ) → HasReadWords wire (words_of bytes) c.args.unit code c.args.reading

@@ -1,17 +1,11 @@
 use Rattle.std.proofs.Common.{◌≡◌, ◌≤◌, ◌++◌, ◌+◌, ◌∙◌, false, inl, List, Option, Some, ℕ, length, take, drop, ap, sym, subst}
-use Rattle.irig_vcd.specs.Answer.{IsFaultOf}
 use Rattle.irig_vcd.specs.Code.DumpReader.{HasRead, HasReadWords, Stage, StopsAt}
-use Rattle.irig_vcd.specs.Code.Gathered.{gathered, so_far}
-use Rattle.irig_vcd.specs.Code.Joins.{ends_inside}
-use Rattle.irig_vcd.specs.Code.Journals.{place_view}
-use Rattle.irig_vcd.specs.Code.NextPart.{IsDark, IsReadUp}
-use Rattle.irig_vcd.specs.Parts.{dump_parts}
-use Rattle.irig_vcd.specs.Words.{Word, words_from, words_of}
 use Rattle.irig_vcd.specs.declared.fault.VcdFault.TheVariants.{OutOfMemory}
-use Rattle.irig_vcd.proofs.PartSteps.{gathers_next, gathers_same, memory_at, memory_journal, next_bytes, no_room, part_words, put_read}
-use Rattle.irig_vcd.proofs.PartSteps.{stops_at}
-use Rattle.irig_vcd.proofs.dump_reader.read_held.Goals as goal
+use Rattle.irig_vcd.specs.{Answer.IsFaultOf, Code.Gathered.gathered, Code.Gathered.so_far, Code.Joins.ends_inside, Code.Journals.place_view}
+use Rattle.irig_vcd.specs.{Code.NextPart.IsDark, Code.NextPart.IsReadUp, Parts.dump_parts, Words.Word, Words.words_from, Words.words_of}
+use Rattle.irig_vcd.proofs.PartSteps.{gathers_next, gathers_same, memory_at, memory_journal, next_bytes, no_room, part_words, put_read, stops_at}
 use Rattle.irig_vcd.proofs.dump_reader.read_held.Goals.{After-whole_len-whole, In-Err}
+use Rattle.irig_vcd.proofs.dump_reader.read_held.Goals as goal
 
 -- what is read ends outside a word
 outside : (c : After-whole_len-whole) → ends_inside false (take c.whole_len-whole.result c.args.progress.now.held.items) ≡ false

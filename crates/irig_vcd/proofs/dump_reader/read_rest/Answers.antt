@@ -1,16 +1,10 @@
 use Rattle.std.proofs.Common.{◌≡◌, ◌∙◌, ◌+◌, ◌++◌, [], inr, refl, length, take, arith, sym, subst}
 use Rattle.std.proofs.lemmas.List.{append-nil, take_all}
 use Rattle.irig_vcd.specs.Code.Gathered.{gathered, part_at, so_far}
-use Rattle.irig_vcd.specs.Code.Journals.{place_view}
-use Rattle.irig_vcd.specs.Code.DumpReader.{StopsAt}
-use Rattle.irig_vcd.specs.Words.{words_of}
-use Rattle.irig_vcd.specs.declared.fault.VcdFault.TheVariants.{OutOfMemory}
-use Rattle.irig_vcd.proofs.PartSteps.{gathers_same, last_early, last_fault, last_gathered, last_read, memory_at, memory_journal, no_room}
-use Rattle.irig_vcd.proofs.PartSteps.{stops_at}
-use Rattle.irig_vcd.proofs.Sound.{never_declared}
-use Rattle.irig_vcd.proofs.WholeDump.{fails_now, no_parts}
+use Rattle.irig_vcd.specs.{Code.Journals.place_view, Code.DumpReader.StopsAt, Words.words_of, declared.fault.VcdFault.TheVariants.OutOfMemory}
+use Rattle.irig_vcd.proofs.PartSteps.{gathers_same, last_early, last_fault, last_gathered, last_read, memory_at, memory_journal, no_room, stops_at}
+use Rattle.irig_vcd.proofs.{Sound.never_declared, WholeDump.fails_now, WholeDump.no_parts, dump_reader.read_rest.Goals.After-len-all}
 use Rattle.irig_vcd.proofs.dump_reader.read_rest.Goals as goal
-use Rattle.irig_vcd.proofs.dump_reader.read_rest.Goals.{After-len-all}
 
 -- all bytes that are held
 all_held : (c : After-len-all) → take c.len-all.result c.args.progress.now.held.items ≡ c.args.progress.now.held.items

@@ -1,7 +1,6 @@
 use Rattle.std.proofs.Common.{◌≡◌, ◌∷◌, [], Bool, true, None, Ok, cond, inr, refl, ap, rules, ◌∙◌}
 use Rattle.std.specs.Str.{bytes_eq}
-use Rattle.irig_vcd.specs.Code.Token.{word_of}
-use Rattle.irig_vcd.specs.Scan.{closed, code_of}
+use Rattle.irig_vcd.specs.{Code.Token.word_of, Scan.closed, Scan.code_of}
 use Rattle.irig_vcd.proofs.ScanSteps.{keeps_open, stays, takes_coded, takes_via, to_value, via}
 use Rattle.irig_vcd.proofs.event.coded.Goals as goal
 

@@ -1,8 +1,5 @@
 use Rattle.std.proofs.Common.{◌≡◌, None, true, false, inl, refl, sym, rules, ◌∙◌}
-use Rattle.irig_vcd.specs.Code.Token.{word_of}
-use Rattle.irig_vcd.specs.Sections.{is_comment}
-use Rattle.irig_vcd.specs.Scan.{comment_of}
-use Rattle.irig_vcd.specs.Sections.{is_mark}
+use Rattle.irig_vcd.specs.{Code.Token.word_of, Sections.is_comment, Sections.is_mark, Scan.comment_of}
 use Rattle.irig_vcd.proofs.ScanSteps.{past_mark, stays, to_comment, via, via_same}
 use Rattle.irig_vcd.proofs.event.dollar.Goals as goal
 

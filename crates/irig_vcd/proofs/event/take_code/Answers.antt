@@ -1,7 +1,6 @@
 use Rattle.std.proofs.Common.{◌≡◌, ◌∷◌, [], Bool, true, false, Ok, None, cond, refl, inr, ap, subst, rules, ◌∙◌}
 use Rattle.std.specs.Str.{bytes_eq}
-use Rattle.irig_vcd.specs.Code.Pending.{Means}
-use Rattle.irig_vcd.specs.Code.Token.{word_of}
+use Rattle.irig_vcd.specs.{Code.Pending.Means, Code.Token.word_of}
 use Rattle.irig_vcd.proofs.ScanSteps.{stays, takes_coded}
 use Rattle.irig_vcd.proofs.event.take_code.Goals as goal
 

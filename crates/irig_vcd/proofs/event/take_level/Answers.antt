@@ -1,6 +1,5 @@
 use Rattle.std.proofs.Common.{◌≡◌, rules}
-use Rattle.irig_vcd.specs.Code.Token.{kind_view, word_of}
-use Rattle.irig_vcd.specs.Words.{scalar}
+use Rattle.irig_vcd.specs.{Code.Token.kind_view, Code.Token.word_of, Words.scalar}
 use Rattle.irig_vcd.proofs.ScanSteps.{takes_scalar}
 use Rattle.irig_vcd.proofs.event.take_level.Goals as goal
 

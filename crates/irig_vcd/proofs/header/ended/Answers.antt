@@ -1,6 +1,5 @@
 use Rattle.std.proofs.Common.{ap}
-use Rattle.irig_vcd.specs.Answer.{name_of}
-use Rattle.irig_vcd.specs.Code.Header.{started_by}
+use Rattle.irig_vcd.specs.{Answer.name_of, Code.Header.started_by}
 use Rattle.irig_vcd.proofs.Steps.{finishes, last_fault, last_next}
 use Rattle.irig_vcd.proofs.header.ended.Goals as goal
 

@@ -1,7 +1,5 @@
 use Rattle.std.proofs.Common.{◌∙◌, refl, ap}
-use Rattle.irig_vcd.specs.Code.Section.{section_view}
-use Rattle.irig_vcd.specs.Code.Variable.{variable_view}
-use Rattle.irig_vcd.specs.Declarations.{with_scale, with_var}
+use Rattle.irig_vcd.specs.{Code.Section.section_view, Code.Variable.variable_view, Declarations.with_scale, Declarations.with_var}
 use Rattle.irig_vcd.proofs.Steps.{other_head, scale_fault, scale_next, skipped_fault, skipped_next, var_fault, var_next}
 use Rattle.irig_vcd.proofs.header.take_section.Goals as goal
 

@@ -1,10 +1,6 @@
 use Rattle.std.proofs.Common.{◌≡◌, ◌++◌, ◌∙◌, List, Ok, refl, inl, inr, ap, sym, subst, ℕ}
 use Rattle.std.proofs.lemmas.Result.{err_from_is_err_and}
-use Rattle.irig_vcd.specs.Answer.{name_of}
-use Rattle.irig_vcd.specs.Code.DumpReader.{HasReadWords}
-use Rattle.irig_vcd.specs.Declarations.{declarations_of}
-use Rattle.irig_vcd.specs.Scan.{scan_words, start}
-use Rattle.irig_vcd.specs.Words.{words_of}
+use Rattle.irig_vcd.specs.{Answer.name_of, Code.DumpReader.HasReadWords, Declarations.declarations_of, Scan.scan_words, Scan.start, Words.words_of}
 use Rattle.irig_vcd.proofs.progress.begin.Goals as goal
 use Rattle.irig_vcd.proofs.progress.begin.Goals.{In-Ok}
 

@@ -1,7 +1,5 @@
 use Rattle.std.proofs.Common.{List, false, subst}
-use Rattle.irig_vcd.specs.Code.Scanned.{HasScanned, StandsAt}
-use Rattle.irig_vcd.specs.Scan.{Scan}
-use Rattle.irig_vcd.specs.Words.{Word, words_from}
+use Rattle.irig_vcd.specs.{Code.Scanned.HasScanned, Code.Scanned.StandsAt, Scan.Scan, Words.Word, Words.words_from}
 use Rattle.irig_vcd.proofs.PartSteps.{goes_on, goes_wrong}
 use Rattle.irig_vcd.proofs.progress.go_on.Goals as goal
 

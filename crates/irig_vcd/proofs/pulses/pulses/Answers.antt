@@ -1,8 +1,6 @@
 use Rattle.std.proofs.Common.{◌≡◌, ◌∷◌, ◌∙◌, [], ℕ, IfOk, subst, sym}
 use Rattle.std.proofs.lemmas.Bool.{eqb-true}
-use Rattle.irig_vcd.specs.Code.Scanned.{IsTraced, Passes}
-use Rattle.irig_vcd.specs.Scan.{Scan, closed}
-use Rattle.irig_vcd.specs.declared.time.Clock.{Clock}
+use Rattle.irig_vcd.specs.{Code.Scanned.IsTraced, Code.Scanned.Passes, Scan.Scan, Scan.closed, declared.time.Clock.Clock}
 use Rattle.irig_vcd.proofs.PulseSteps.{step_micros}
 use Rattle.irig_vcd.proofs.pulses.pulses.Goals as goal
 

@@ -1,7 +1,5 @@
 use Rattle.std.proofs.Common.{◌≡◌, ◌≤◌, ◌-◌, ◌∷◌, [], length}
-use Rattle.irig_vcd.specs.Code.Along.{HasFallen}
-use Rattle.irig_vcd.specs.Code.Scanned.{IsTraced, Passes}
-use Rattle.irig_vcd.specs.Scan.{Scan, closed}
+use Rattle.irig_vcd.specs.{Code.Along.HasFallen, Code.Scanned.IsTraced, Code.Scanned.Passes, Scan.Scan, Scan.closed}
 use Rattle.irig_vcd.proofs.PulseSteps.{words_here}
 use Rattle.irig_vcd.proofs.pulses.pulses_in.Given as goal
 

@@ -15,6 +15,7 @@ from_parts-requires c =
     let few : length c.args.edges ≤ 8388608 = not_full (length c.args.edges) c.is_full.result c.is_full.ensures.1 c.if-is_full.false in
     let kept = c.requires.kept in
     record {
+      place = c.into_pulses.ensures.place;
       room = c.into_pulses.ensures.room;
       lawful = subst (IsRecording c.args.end) (sym c.into_pulses.ensures.edges)
           (is_lawful kept.0 c.args.end c.args.edges (few_edges kept.0 c.args.end c.args.edges kept.1 few) c.requires.short few);

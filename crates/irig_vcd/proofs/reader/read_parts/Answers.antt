@@ -1,5 +1,4 @@
-use Rattle.irig_vcd.specs.Answer.{name_of}
-use Rattle.irig_vcd.specs.Dump.{scan_of, scanned}
+use Rattle.irig_vcd.specs.{Answer.name_of, Dump.scan_of, Dump.scanned}
 use Rattle.irig_vcd.proofs.WholeDump.{fails_now, no_dump, with_journal, many_journals}
 use Rattle.irig_vcd.proofs.reader.read_parts.Goals as goal
 

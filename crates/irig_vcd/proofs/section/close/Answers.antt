@@ -1,8 +1,5 @@
 use Rattle.std.proofs.Common.{◌≡◌, ◌∙◌, ℕ, Bool, true, false, cond, List, Ok, refl, ap, [], ◌∷◌}
-use Rattle.irig_vcd.specs.Answer.{◌>>=◌}
-use Rattle.irig_vcd.specs.Code.Section.{after_end, end_read}
-use Rattle.irig_vcd.specs.Sections.{is_end}
-use Rattle.irig_vcd.specs.Words.{Word}
+use Rattle.irig_vcd.specs.{Answer.◌>>=◌, Code.Section.after_end, Code.Section.end_read, Sections.is_end, Words.Word}
 use Rattle.irig_vcd.proofs.section.close.Goals as goal
 
 same_end : (ends : Bool) (offset : ℕ) (ws : List Word) → after_end ws ≡ (end_read ws >>= λ x. Ok x.1)

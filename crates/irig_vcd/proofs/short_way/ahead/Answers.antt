@@ -1,9 +1,7 @@
 use Rattle.std.proofs.Common.{◌≡◌, ℕ, List, refl, subst, sym, ◌∙◌}
 use Rattle.std.proofs.lemmas.Result.{err_from_is_err_and}
-use Rattle.irig_vcd.specs.Code.Scanned.{IsTraced, Passes}
-use Rattle.irig_vcd.specs.Scan.{Scan, closed}
-use Rattle.irig_vcd.proofs.PulseSteps.{late_fine, one_byte}
-use Rattle.irig_vcd.proofs.EarlyEdges.{high_before}
+use Rattle.irig_vcd.specs.{Code.Scanned.IsTraced, Code.Scanned.Passes, Scan.Scan, Scan.closed}
+use Rattle.irig_vcd.proofs.{PulseSteps.late_fine, PulseSteps.one_byte, EarlyEdges.high_before}
 use Rattle.irig_vcd.proofs.short_way.ahead.Goals as goal
 
 pub pulses-requires-clause-late : goal.pulses-requires-clause-late

@@ -1,9 +1,5 @@
 use Rattle.std.proofs.Common.{◌≡◌, ◌≤◌, Bool, ℕ, List, inl, inr, Ok, Err, length, ap, sym, arith}
-use Rattle.irig_vcd.specs.Code.Short.{Takes}
-use Rattle.irig_vcd.specs.Code.Time.{units_of}
-use Rattle.irig_vcd.specs.Times.{time_of}
-use Rattle.irig_vcd.specs.Words.{Word, rest_of}
-use Rattle.irig_vcd.specs.declared.short.Short.{Short}
+use Rattle.irig_vcd.specs.{Code.Short.Takes, Code.Time.units_of, Times.time_of, Words.Word, Words.rest_of, declared.short.Short.Short}
 use Rattle.irig_vcd.specs.declared.short.Short.TheVariants as short
 use Rattle.irig_vcd.proofs.ScanSteps.{leads_apart, leads_as, leads_time, on_later}
 use Rattle.irig_vcd.proofs.short_way.follow_short.Goals as goal

@@ -1,10 +1,6 @@
 use Rattle.std.proofs.Common.{◌≤◌, Option, length}
-use Rattle.irig_vcd.specs.Code.Reached.{IsOn}
-use Rattle.irig_vcd.specs.Code.Scanned.{Leads}
-use Rattle.irig_vcd.specs.Scan.{Scan}
-use Rattle.irig_vcd.specs.declared.fault.VcdFault.{VcdFault}
 use Rattle.irig_vcd.specs.declared.journals.Journals.{Journals}
-use Rattle.irig_vcd.specs.declared.pending.Pending.{Pending}
+use Rattle.irig_vcd.specs.{Code.Reached.IsOn, Code.Scanned.Leads, Scan.Scan, declared.fault.VcdFault.VcdFault, declared.pending.Pending.Pending}
 use Rattle.irig_vcd.proofs.short_way.follow_short.Given as goal
 
 abbrev pub invariant-tokens : goal.invariant-tokens

@@ -1,8 +1,7 @@
 use Rattle.std.proofs.Common.{◌≡◌, ◌+◌, ◌<◌, ◌≤◌, ℕ, List, true, false, length, get_or, inl, inr, sym, ap, ◌∙◌, arith}
 use Rattle.std.specs.List.{prefix_len}
-use Rattle.std.proofs.lemmas.List.Sums.{prefix_len_passes, prefix_len_stops, prefix_len-le-length}
+use Rattle.std.proofs.lemmas.{List.Sums.prefix_len_passes, List.Sums.prefix_len_stops, List.Sums.prefix_len-le-length, Bool.cases_lt}
 use Rattle.irig_vcd.specs.Digits.{is_digit}
-use Rattle.std.proofs.lemmas.Bool.{cases_lt}
 use Rattle.irig_vcd.proofs.timescale.digits.Goals as goal
 
 further : (xs : List ℕ) (n : ℕ) → n ≤ prefix_len is_digit xs → n < length xs → is_digit (get_or xs n 0) ≡ true → n + 1 ≤ prefix_len is_digit xs

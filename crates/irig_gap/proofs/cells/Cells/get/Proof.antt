@@ -1,21 +1,17 @@
 -- `get` hands on the `&` to the item that a `&` to the row holds. Assumes `Logic`.
-use Rattle.irig_gap.proofs.Steps.{refl, ◌+◌, ◌*◌, ◌<◌, ◌^◌, arith, [], ◌∷◌, length, get_or, id⊢, never, ftrue, flft, w64, named}
-use Rattle.irig_gap.proofs.Steps.{inst_fn, vptr, ◌⊑◌, fact, tables, ‵, raw, ◌⊛◌, at_ret, ◌$◌, ◌∵◌, !, qed, done, move, keep, drop, use1, split, join, fsplit}
-use Rattle.irig_gap.proofs.Steps.{fjoin, feq_i, flt_l, rewrite, suffices, stop, fld, load, addr, size_lit, of_opd, bin, first, blocks, exec, returns, enter}
-use Rattle.irig_gap.proofs.Steps.{alloc_all, pass_all, free_all, look_at, local, through, sets, sets_last, env, usize, RefOf, yes, uint_vals, uint_Tells, owns}
-use Rattle.irig_gap.proofs.Steps.{RawPtr, in_a_block, shr_vals, shr_Tells, plain, types_at, heard, nothing, Stays, stay_dropped, walk_of, Goes-dropped, ends_at}
-use Rattle.irig_gap.proofs.Steps.{says, proved, None, El, R, args, after}
+use Rattle.irig_gap.proofs.Steps.{refl, ◌+◌, ◌*◌, ◌<◌, ◌^◌, arith, [], ◌∷◌, length, get_or, id⊢, never, ftrue, flft, w64, named, inst_fn, vptr, ◌⊑◌, fact}
+use Rattle.irig_gap.proofs.Steps.{tables, ‵, raw, ◌⊛◌, at_ret, ◌$◌, ◌∵◌, !, qed, done, move, keep, drop, use1, split, join, fsplit, fjoin, feq_i, flt_l}
+use Rattle.irig_gap.proofs.Steps.{rewrite, suffices, stop, fld, load, addr, size_lit, of_opd, bin, first, blocks, exec, returns, enter, alloc_all, pass_all}
+use Rattle.irig_gap.proofs.Steps.{free_all, look_at, local, through, sets, sets_last, env, usize, RefOf, yes, uint_vals, uint_Tells, owns, RawPtr, in_a_block}
+use Rattle.irig_gap.proofs.Steps.{shr_vals, shr_Tells, plain, types_at, heard, nothing, Stays, stay_dropped, walk_of, Goes-dropped, ends_at, says, proved, None}
+use Rattle.irig_gap.proofs.Steps.{El, R, args, after}
+use Rattle.irig_gap.proofs.{Copies.full_within, Rows.Place, Rows.Ce, Rows.sz, Rows.seen, Rows.shown, cells.Cells.get.Statement.statement}
 use types.Run.{look}
 use denote.Memory.{hidden_shr}
 use denote.Opens.{hide}
-use Rattle.core.proofs.ptr.Rows.{times_below, one_below}
-use Rattle.core.proofs.slots.Lent.{pointer_in, pointer_out}
-use Rattle.irig_gap.specs.Cells.{IsFull, place_lent, cells_lent}
-use Rattle.irig_gap.proofs.Copies.{full_within}
-use Rattle.irig_gap.proofs.Rows.{Place, Ce, sz, seen, shown}
+use Rattle.core.proofs.{ptr.Rows.times_below, ptr.Rows.one_below, slots.Lent.pointer_in, slots.Lent.pointer_out}
+use Rattle.irig_gap.specs.{Cells.IsFull, Cells.place_lent, Cells.cells_lent, contracts.cells.Cells.get.Key.name as #self}
 use Rattle.irig_gap.specs.contracts.cells.Cells.get as F
-use Rattle.irig_gap.specs.contracts.cells.Cells.get.Key.{name as #self}
-use Rattle.irig_gap.proofs.cells.Cells.get.Statement.{statement}
 use Rattle.irig_gap.proofs.cells.Cells.get.Code as code
 
 pub get_spec : {M : Type 1} → statement M

@@ -7,6 +7,9 @@ use Rattle.irig_gap.proofs.Steps.{look_in, stop, fld, load, size_word, unit_lit,
 use Rattle.irig_gap.proofs.Steps.{pass_all, free_all, look_at, local, is, through, sets, lands_last, env, usize, unit, yes, uint_vals, uint_Tells, owns, RawPtr}
 use Rattle.irig_gap.proofs.Steps.{block_ptr, mut_vals, mut_Tells, plain, types_at, heard, nothing, Stays, stay_dropped, stay_ref, walk_of, Goes-dropped}
 use Rattle.irig_gap.proofs.Steps.{Goes-ref, ends_at, proved, Some, None, El, R, args, elτ, after}
+use Rattle.irig_gap.proofs.Rows.{Place, Ce, sz, of_room, cells_opens, cells_closes}
+use Rattle.irig_gap.proofs.RowPairs.{Others, runs_out, runs_in, to_array, of_array, to_space}
+use Rattle.irig_gap.proofs.{Overlays.length-laid, cells.Cells.move_run.Statement.statement}
 use lib.ListN.{length-map}
 use base.Fraction.{full_share}
 use base.Fml.{fsep}
@@ -18,18 +21,10 @@ use denote.Steps.{only}
 use denote.Triple.Call.{calls_at_last}
 use denote.Triple.Spec.{triple_of}
 use denote.Triple.Table.{framed}
-use Rattle.core.proofs.mem.Facts.{says_two}
-use Rattle.core.proofs.ptr.Rows.{times_below}
-use Rattle.core.proofs.slots.Leases.{uncapped}
+use Rattle.core.proofs.{mem.Facts.says_two, ptr.Rows.times_below, slots.Leases.uncapped, ptr.copy_nonoverlapping.Met.met}
 use Rattle.core.specs.contracts.ptr.copy_nonoverlapping as copy
-use Rattle.core.proofs.ptr.copy_nonoverlapping.Met.{met}
-use Rattle.irig_gap.specs.Cells.{IsRun, AreApart, laid, row}
-use Rattle.irig_gap.proofs.Rows.{Place, Ce, sz, of_room, cells_opens, cells_closes}
-use Rattle.irig_gap.proofs.Overlays.{length-laid}
-use Rattle.irig_gap.proofs.RowPairs.{Others, runs_out, runs_in, to_array, of_array, to_space}
+use Rattle.irig_gap.specs.{Cells.IsRun, Cells.AreApart, Cells.laid, Cells.row, contracts.cells.Cells.move_run.Key.name as #self}
 use Rattle.irig_gap.specs.contracts.cells.Cells.move_run as F
-use Rattle.irig_gap.specs.contracts.cells.Cells.move_run.Key.{name as #self}
-use Rattle.irig_gap.proofs.cells.Cells.move_run.Statement.{statement}
 use Rattle.irig_gap.proofs.cells.Cells.move_run.Code as code
 
 length_run : {X : Type 0} (cs : List X) (i n : ℕ) → i + n ≤ length cs → length (take n (dropped i cs)) ≡ n

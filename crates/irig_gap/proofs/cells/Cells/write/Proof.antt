@@ -5,14 +5,11 @@ use Rattle.irig_gap.proofs.Steps.{use3, split, join, fsplit, fsplit3, fjoin, fjo
 use Rattle.irig_gap.proofs.Steps.{fld, load, size_lit, unit_lit, of_opd, bin, assigns_last, first, blocks, exec, returns, enter, alloc_all, pass_all, free_all}
 use Rattle.irig_gap.proofs.Steps.{look_at, local, through, sets, env, usize, yes, no, owns, plain, types_at, heard, nothing, Stays, stay_dropped, stay_ref}
 use Rattle.irig_gap.proofs.Steps.{walk_of, Goes-dropped, Goes-ref, ends_at, proved_at, Some, El, R, args, elτ, after}
-use Rattle.core.proofs.mem.Param.{lawful, one}
-use Rattle.core.proofs.mem.Facts.{says_two}
-use Rattle.core.proofs.ptr.Rows.{times_below, one_below}
-use Rattle.irig_gap.specs.Cells.{row}
 use Rattle.irig_gap.proofs.Rows.{Ce, sz, Beside, place_out, place_in, cells_opens, cells_closes}
-use Rattle.irig_gap.specs.contracts.cells.Cells.write as F
-use Rattle.irig_gap.specs.contracts.cells.Cells.write.Key.{name as #self}
 use Rattle.irig_gap.proofs.cells.Cells.write.Statement.{statement}
+use Rattle.core.proofs.{mem.Param.lawful, mem.Param.one, mem.Facts.says_two, ptr.Rows.times_below, ptr.Rows.one_below}
+use Rattle.irig_gap.specs.{Cells.row, contracts.cells.Cells.write.Key.name as #self}
+use Rattle.irig_gap.specs.contracts.cells.Cells.write as F
 use Rattle.irig_gap.proofs.cells.Cells.write.Code as code
 
 pub write_spec : {M : Type 1} → statement M

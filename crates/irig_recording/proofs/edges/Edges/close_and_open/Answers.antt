@@ -1,6 +1,5 @@
 use Rattle.std.proofs.Common.{◌≡◌, ◌∙◌, ◌∷◌, ◌++◌, [], arith, sym, ap, length, length-append}
-use Rattle.irig_recording.specs.Edges.{edges_kept, kept_edges}
-use Rattle.irig_recording.specs.Pulses.{pulse}
+use Rattle.irig_recording.specs.{Edges.edges_kept, Edges.kept_edges, Pulses.pulse}
 use Rattle.irig_recording.proofs.PulseEdges.{count_open, closed_and_opened, open_odd}
 use Rattle.irig_recording.proofs.edges.Edges.close_and_open.Goals as goal
 
@@ -11,7 +10,7 @@ invariant_of-self-2 c =
     let pushed : c.put.new.pulses.items ≡ ps ++ pulse c.self.inside.rise c.args.fall ∷ [] = c.in_ok-put.ensures.put in
     let up = open_odd ps c.self.inside.is_open c.self.inside.rise c.args.self.now c.self.view_is c.requires.risen in
     let count = count_open ps c.self.inside.is_open c.self.inside.rise c.args.self.now c.self.view_is up in
-    (omega (arith, count, c.requires.room, ap length pushed, length-append ps (pulse c.self.inside.rise c.args.fall ∷ [])), c.put.ensures.room)
+    (omega (arith, count, c.requires.room, ap length pushed, length-append ps (pulse c.self.inside.rise c.args.fall ∷ [])), c.put.ensures.place, c.put.ensures.room)
 
 pub returns : goal.returns
 returns c =

@@ -1,6 +1,5 @@
 use Rattle.std.proofs.Common.{◌≡◌, ◌∙◌, ◌∷◌, ◌++◌, [], arith, sym, ap, false, length, length-append}
-use Rattle.irig_recording.specs.Edges.{kept_edges}
-use Rattle.irig_recording.specs.Pulses.{pulse}
+use Rattle.irig_recording.specs.{Edges.kept_edges, Pulses.pulse}
 use Rattle.irig_recording.proofs.PulseEdges.{count_open, closed}
 use Rattle.irig_recording.proofs.edges.Edges.push.Goals as goal
 
@@ -15,6 +14,7 @@ invariant_of-self-then-self c =
         ap length pushed,
         length-append c.self.inside.pulses.items (pulse c.self.inside.rise c.args.edge ∷ []),
       ),
+      c.put.ensures.place,
       c.put.ensures.room,
     )
 

@@ -1,9 +1,7 @@
 use Rattle.std.proofs.Common.{◌≡◌, ◌∙◌, ◌++◌, ◌∷◌, ◌-◌, ◌/◌, [], ℕ, List, true, false, length, refl, ap, sym, arith}
-use Rattle.irig_recording.specs.KeptPulse.{HoldsPulse, last_four, front}
-use Rattle.irig_recording.specs.FileText.{lines_at}
-use Rattle.irig_recording.proofs.PulseText.{digits_put, parts_put, edge_line}
+use Rattle.irig_recording.specs.{KeptPulse.HoldsPulse, KeptPulse.last_four, KeptPulse.front, FileText.lines_at}
+use Rattle.irig_recording.proofs.{PulseText.digits_put, PulseText.parts_put, PulseText.edge_line, kept_pulse.KeptPulse.put.Goals.After-put_four-2}
 use Rattle.irig_recording.proofs.kept_pulse.KeptPulse.put.Goals as goal
-use Rattle.irig_recording.proofs.kept_pulse.KeptPulse.put.Goals.{After-put_four-2}
 
 -- the lines hold both times, whether or not they were written
 held : (c : After-put_four-2) → HoldsPulse (record c.args.self.now { bytes = c.put_four-2.new.bytes })

@@ -1,9 +1,7 @@
 use Rattle.std.proofs.Common.{◌≡◌, ◌≤◌, ◌∙◌, ◌++◌, ◌∷◌, ◌+◌, ◌-◌, ◌/◌, ◌%◌, ℕ, List, length, set, take, drop, decimal, refl, ap, arith}
-use Rattle.std.proofs.lemmas.Fmt.{length-decimal-le}
-use Rattle.std.proofs.lemmas.List.{length-append}
+use Rattle.std.proofs.lemmas.{Fmt.length-decimal-le, List.length-append}
 use Rattle.irig_recording.specs.KeptPulse.{last_four}
-use Rattle.irig_recording.proofs.PulseText.{four_last, level_again, lines_made}
-use Rattle.irig_recording.proofs.TextParts.{level_set, digits_before}
+use Rattle.irig_recording.proofs.{PulseText.four_last, PulseText.level_again, PulseText.lines_made, TextParts.level_set, TextParts.digits_before}
 use Rattle.irig_recording.proofs.kept_pulse.KeptPulse.renew.Goals as goal
 
 pub returns-clause-holds : goal.returns-clause-holds

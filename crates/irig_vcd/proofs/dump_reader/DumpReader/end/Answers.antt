@@ -1,6 +1,5 @@
 use Rattle.std.proofs.Common.{◌≡◌, Err, None, inl, ap, sym, subst}
-use Rattle.irig_vcd.specs.Code.DumpReader.{HasRead}
-use Rattle.irig_vcd.specs.declared.progress.Progress.{Progress}
+use Rattle.irig_vcd.specs.{Code.DumpReader.HasRead, declared.progress.Progress.Progress}
 use Rattle.std.proofs.lemmas.Result.{IfOk-weaker}
 use Rattle.irig_vcd.proofs.PartSteps.{if_err}
 use Rattle.irig_vcd.proofs.dump_reader.DumpReader.end.Goals as goal

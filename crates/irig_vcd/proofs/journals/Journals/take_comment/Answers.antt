@@ -1,8 +1,5 @@
 use Rattle.std.proofs.Common.{◌≡◌, ◌∷◌, [], None, Some, true, false, inr, refl, rules, sym, ◌∙◌}
-use Rattle.irig_vcd.specs.Code.Token.{word_of}
-use Rattle.irig_vcd.specs.Journals.{comment}
-use Rattle.irig_vcd.specs.Scan.{comment_of}
-use Rattle.irig_vcd.specs.Sections.{is_end}
+use Rattle.irig_vcd.specs.{Code.Token.word_of, Journals.comment, Scan.comment_of, Sections.is_end}
 use Rattle.irig_vcd.proofs.ScanSteps.{holds_end, past_shut, reaches_shut, stays, to_first, via}
 use Rattle.irig_vcd.proofs.journals.Journals.take_comment.Goals as goal
 

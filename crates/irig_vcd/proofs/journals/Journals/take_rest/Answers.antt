@@ -1,6 +1,5 @@
 use Rattle.std.proofs.Common.{inr, refl, sym, subst}
-use Rattle.irig_vcd.specs.Code.Pending.{Begins}
-use Rattle.irig_vcd.specs.Journals.{comment}
+use Rattle.irig_vcd.specs.{Code.Pending.Begins, Journals.comment}
 use Rattle.irig_vcd.proofs.ScanSteps.{ends_at, goes_on, holds_shut, reaches_shut}
 use Rattle.irig_vcd.proofs.journals.Journals.take_rest.Goals as goal
 

@@ -1,6 +1,5 @@
 use Rattle.std.proofs.Common.{Option, ℕ, subst}
-use Rattle.irig_vcd.specs.Answer.{bytes_of}
-use Rattle.irig_vcd.specs.Code.DumpReader.{Stage}
+use Rattle.irig_vcd.specs.{Answer.bytes_of, Code.DumpReader.Stage}
 use Rattle.irig_vcd.proofs.PartSteps.{next_fault, next_words}
 use Rattle.irig_vcd.proofs.progress.Progress.read_to.Goals as goal
 

@@ -1,7 +1,6 @@
 use Rattle.std.proofs.Common.{◌≡◌, refl, ap, sym, ◌∙◌, Some}
 use Rattle.irig_vcd.specs.declared.fault.VcdFault.TheVariants.{OutOfMemory}
-use Rattle.irig_vcd.proofs.ScanSteps.{never_open}
-use Rattle.irig_vcd.proofs.WholeDump.{fails_now}
+use Rattle.irig_vcd.proofs.{ScanSteps.never_open, WholeDump.fails_now}
 use Rattle.irig_vcd.proofs.reading.Reading.finish.Goals as goal
 
 pub returns-in-Err-clause-exact : goal.returns-in-Err-clause-exact

@@ -1,7 +1,6 @@
 use Rattle.std.proofs.Common.{refl, ap, ◌∙◌}
 use Rattle.irig_recording.specs.Recording.{is_even_long}
-use Rattle.irig_vcd.proofs.Lawful.{even-push_two}
-use Rattle.irig_vcd.proofs.PulseSteps.{pulse_put}
+use Rattle.irig_vcd.proofs.{Lawful.even-push_two, PulseSteps.pulse_put}
 use Rattle.irig_vcd.proofs.trace.Trace.put_pulse.Goals as goal
 
 pub returns-clause-ok : goal.returns-clause-ok
