@@ -1,7 +1,6 @@
 -- What one more call makes of a text that is being written.
 use Rattle.std.proofs.Common.{◌≡◌, ◌++◌, ℕ, List, append_assoc}
-use Rattle.irig_disk.specs.Disk.{Disk}
-use Rattle.irig_disk.specs.Parts.{Adds, Spoils}
+use Rattle.irig_disk.specs.{Disk.Disk, Parts.Adds, Parts.Spoils}
 
 -- the same names and the same file, by other words for them
 pub adds_more : {F : Type 0} (disk : F → Disk) (a b c : F) (beside beside' : List ℕ) (file file' : ℕ) (bytes more : List ℕ) → beside' ≡ beside → file' ≡ file

@@ -1,10 +1,8 @@
 -- When a crash leaves nothing else of a file than what is seen.
 use Rattle.std.proofs.Common.{◌≡◌, ◌∷◌, ◌∙◌, ◌++◌, ℕ, List, [], Vec, inl, inr, refl, sym, ap, subst, arith, length, cond}
 use Rattle.std.specs.declared.alloc.Global.{Global}
-use Rattle.irig_disk.specs.Held.{Held}
-use Rattle.irig_disk.specs.Log.{holds_in, may_hold_in}
-use Rattle.irig_disk.specs.declared.call.Call.{Call}
 use Rattle.irig_disk.specs.declared.call.Call.TheVariants.{Make, Append, TakeMode, SyncFile, Rename, Remove, SyncNames}
+use Rattle.irig_disk.specs.{Held.Held, Log.holds_in, Log.may_hold_in, declared.call.Call.Call}
 use Rattle.irig_disk.proofs.LogSteps.{other_file}
 
 -- nothing but what is seen

@@ -1,18 +1,11 @@
 -- What each call adds to a log.
 use Rattle.std.proofs.Common.{◌≡◌, ◌≢◌, ◌⊎◌, ◌<◌, inl, inr, ⊎_elim, refl, sym, ap, ◌∙◌, subst, arith, Bool, true, false, cond, nat_eq, ℕ, List, [], ◌∷◌, ◌++◌}
 use Rattle.std.proofs.Common.{length, Some, None, Vec}
-use Rattle.std.specs.Bool.{Decides}
-use Rattle.std.specs.Str.{bytes_eq}
-use Rattle.std.specs.declared.alloc.Global.{Global}
-use Rattle.std.proofs.lemmas.Bool.{cases_eq}
-use Rattle.std.proofs.lemmas.Bool.Decides.{Decides-eqb}
-use Rattle.std.proofs.lemmas.Slice.Eq.{bytes_eq-Decides}
-use Rattle.irig_disk.specs.Held.{Held}
-use Rattle.irig_disk.specs.Calls.{Made, SyncedFile, SyncedNames}
-use Rattle.irig_disk.specs.Moves.{IsMoved}
+use Rattle.std.specs.{Bool.Decides, Str.bytes_eq, declared.alloc.Global.Global}
+use Rattle.std.proofs.lemmas.{Bool.cases_eq, Bool.Decides.Decides-eqb, Slice.Eq.bytes_eq-Decides}
 use Rattle.irig_disk.specs.Log.{leads_in, holds_in, may_lead_in, may_hold_in, disk_of}
-use Rattle.irig_disk.specs.declared.call.Call.{Call}
 use Rattle.irig_disk.specs.declared.call.Call.TheVariants.{Make, Append, TakeMode, SyncFile, Rename, Remove, SyncNames}
+use Rattle.irig_disk.specs.{Held.Held, Calls.Made, Calls.SyncedFile, Calls.SyncedNames, Moves.IsMoved, declared.call.Call.Call}
 
 false_where : (P : Type 0) (r : Bool) → Decides r P → (P → ⊥) → r ≡ false
 false_where P true d none = absurd (none (d.0 refl))

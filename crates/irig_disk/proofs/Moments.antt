@@ -1,7 +1,6 @@
 -- How a run of calls goes on.
 use Rattle.std.proofs.Common.{inl, inr, ⊎_elim, ℕ, List, Option, arith}
-use Rattle.irig_disk.specs.Disk.{Disk, MayLeave, Elapses, LeavesOnly}
-use Rattle.irig_disk.specs.Held.{Held}
+use Rattle.irig_disk.specs.{Disk.Disk, Disk.MayLeave, Disk.Elapses, Disk.LeavesOnly, Held.Held}
 
 -- one call more, after which a crash leaves what has P
 pub goes_on : (old mid new : Disk) (P : List ℕ → Option Held → Type 0) → LeavesOnly old mid P → Elapses mid new

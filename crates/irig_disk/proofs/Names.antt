@@ -1,7 +1,6 @@
 -- Two names are one or they are not.
 use Rattle.std.proofs.Common.{◌≡◌, ◌≢◌, ◌⊎◌, inl, inr, refl, Bool, true, false, ℕ, List}
-use Rattle.std.specs.Bool.{Decides}
-use Rattle.std.specs.Str.{bytes_eq}
+use Rattle.std.specs.{Bool.Decides, Str.bytes_eq}
 use Rattle.std.proofs.lemmas.Slice.Eq.{bytes_eq-Decides}
 
 decided : (P : Type 0) (r : Bool) → Decides r P → P ⊎ (P → ⊥)

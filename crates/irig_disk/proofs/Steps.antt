@@ -1,21 +1,16 @@
 -- What each call makes of a new file next to its target.
-use Rattle.std.proofs.Common.{◌≡◌, ◌≢◌, ◌⊎◌, inl, inr, ⊎_elim, refl, sym, ◌∙◌, ap, subst, ℕ, List, [], ◌∷◌, ◌++◌, append_assoc, Option, Some, None, Result, Ok, Err, OnOk, OnErr}
-use Rattle.std.proofs.Common.{IfOk, IfErr, IsErrOf, MatchOption}
-use Rattle.irig_disk.specs.declared.fault.PutFault.{PutFault}
+use Rattle.std.proofs.Common.{◌≡◌, ◌≢◌, ◌⊎◌, inl, inr, ⊎_elim, refl, sym, ◌∙◌, ap, subst, ℕ, List, [], ◌∷◌, ◌++◌, append_assoc, Option, Some, None, Result, Ok}
+use Rattle.std.proofs.Common.{Err, OnOk, OnErr, IfOk, IfErr, IsErrOf, MatchOption}
 use Rattle.irig_disk.specs.declared.fault.PutFault.TheVariants.{Memory, NamesTaken, Failed, LeftBehind, Remains, NotKept}
-use Rattle.std.proofs.lemmas.Result.{IfErr-at_err, IfErr-weaker}
-use Rattle.irig_disk.specs.Disk.{Disk, IsPlace, seen_under, MayLeave, Elapses, LeavesOnly}
-use Rattle.irig_disk.specs.Held.{Held}
-use Rattle.irig_disk.specs.Stays.{FilesStay, NamesStay, OtherFilesStay, Stays}
-use Rattle.irig_disk.specs.Calls.{Made, IsTaken, Wrote, TookMode, MaySpoil, SyncedFile, SyncedNames}
-use Rattle.irig_disk.specs.Moves.{MayMove, IsMoved, IsNotMoved, MayRemove, Removed, NotRemoved}
-use Rattle.irig_disk.specs.Put.{TriesNone, TriesOne, OldOrNew, OldOrNewIfThere, OldIfThere, SeenSame, SeenSameIfThere, AfterFault, SeenAfter, left_by, IsPut, IsKept}
+use Rattle.irig_disk.specs.Put.{TriesNone, TriesOne, OldOrNew, OldOrNewIfThere, OldIfThere, SeenSame, SeenSameIfThere, AfterFault, SeenAfter, left_by, IsPut}
+use Rattle.irig_disk.specs.Put.{IsKept}
 use Rattle.irig_disk.specs.Writing.{IsUnchanged, NotBegun, NotFinished, SeenUnfinished, IsBeside, IsWriting, IsPlaced, IsStuck}
-use Rattle.irig_disk.specs.Name.{IsName}
-use Rattle.irig_disk.specs.Trail.{Moved, NotMoved, Synced}
-use Rattle.irig_disk.specs.Parts.{IsPassed, ComesTo}
-use Rattle.irig_disk.proofs.Moments.{goes_on, weaker}
-use Rattle.irig_disk.proofs.Names.{same_or_not}
+use Rattle.irig_disk.specs.{declared.fault.PutFault.PutFault, Disk.Disk, Disk.IsPlace, Disk.seen_under, Disk.MayLeave, Disk.Elapses, Disk.LeavesOnly, Held.Held}
+use Rattle.irig_disk.specs.{Stays.FilesStay, Stays.NamesStay, Stays.OtherFilesStay, Stays.Stays, Calls.Made, Calls.IsTaken, Calls.Wrote, Calls.TookMode}
+use Rattle.irig_disk.specs.{Calls.MaySpoil, Calls.SyncedFile, Calls.SyncedNames, Moves.MayMove, Moves.IsMoved, Moves.IsNotMoved, Moves.MayRemove, Moves.Removed}
+use Rattle.irig_disk.specs.{Moves.NotRemoved, Name.IsName, Trail.Moved, Trail.NotMoved, Trail.Synced, Parts.IsPassed, Parts.ComesTo}
+use Rattle.std.proofs.lemmas.Result.{IfErr-at_err, IfErr-weaker}
+use Rattle.irig_disk.proofs.{Moments.goes_on, Moments.weaker, Names.same_or_not}
 
 -- a name that leads to the same file, which holds the same, shows the same
 shows : (a b : Disk) (n : List ℕ) → b.leads n ≡ a.leads n → ((i : ℕ) → a.leads n ≡ Some i → b.holds i ≡ a.holds i) → seen_under b n ≡ seen_under a n

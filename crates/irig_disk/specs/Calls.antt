@@ -1,11 +1,8 @@
 -- What each single call on a file, or on all names, makes of a folder. This project's own.
 use Rattle.std.specs.Prelude.{◌≡◌, ◌≢◌, ◌⊎◌, ℕ, List, [], ◌∷◌, ◌++◌, take, Option, Some, None, Bool}
 use Rattle.std.specs.Prelude.{if◌then◌else◌}
-use Rattle.irig_disk.specs.Disk.{Disk}
-use Rattle.irig_disk.specs.Held.{Held}
-use Rattle.irig_disk.specs.Name.{IsName}
 use Rattle.irig_disk.specs.Stays.{OtherNamesStay, NamesStay, OtherFilesStay, FilesStay, Stays}
-use Rattle.irig_disk.specs.Trail.{Synced}
+use Rattle.irig_disk.specs.{Disk.Disk, Held.Held, Name.IsName, Trail.Synced}
 
 -- the mode of a hidden file: its owner alone may read and write it
 abbrev pub owner_only : ℕ

@@ -1,8 +1,7 @@
 -- What the places of a file system lead to, and what a crash may leave of them. A place is a folder
 -- and a name in it: each has one name here, whatever the paths that lead to it. This project's own.
 use Rattle.std.specs.Prelude.{◌≡◌, ◌⊎◌, ◌≤◌, ℕ, List, Option, Some, None}
-use Rattle.irig_disk.specs.Held.{Held}
-use Rattle.irig_disk.specs.Trail.{Step}
+use Rattle.irig_disk.specs.{Held.Held, Trail.Step}
 
 -- The state of the folders. Files have numbers; a place leads to a file or to none.
 pub record Disk : Type 1 where

@@ -1,14 +1,11 @@
 -- What a log of calls makes of an empty folder, the newest call first. This project's own.
 use Rattle.std.specs.Prelude.{◌≡◌, ◌≢◌, ◌⊎◌, ◌≤◌, ℕ, nat_eq, List, [], ◌∷◌, ◌++◌, length, Option}
 use Rattle.std.specs.Prelude.{Some, None, cond}
-use Rattle.std.specs.Path.{path_file_name}
-use Rattle.std.specs.Str.{bytes_eq}
-use Rattle.irig_disk.specs.Disk.{Disk, Left}
-use Rattle.irig_disk.specs.Held.{Held}
+use Rattle.std.specs.{Path.path_file_name, Str.bytes_eq}
 use Rattle.irig_disk.specs.Trail.{Step, Moved, Synced}
-use Rattle.irig_disk.specs.declared.call.Call.{Call}
 use Rattle.irig_disk.specs.declared.call.Call.TheVariants.{Make, Append, TakeMode, SyncFile, Rename}
 use Rattle.irig_disk.specs.declared.call.Call.TheVariants.{Remove, SyncNames}
+use Rattle.irig_disk.specs.{Disk.Disk, Disk.Left, Held.Held, declared.call.Call.Call}
 
 -- the file that a name leads to
 abbrev pub leads_in : List Call → List ℕ → Option ℕ

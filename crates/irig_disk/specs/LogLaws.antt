@@ -1,10 +1,8 @@
 -- The laws of time hold of each log.
 use Rattle.std.specs.Prelude.{◌≤◌, ℕ, List, [], ◌∷◌, length, Option}
 use Rattle.std.proofs.Common.{inl, inr, arith}
-use Rattle.irig_disk.specs.Disk.{MayLeave}
-use Rattle.irig_disk.specs.Held.{Held}
 use Rattle.irig_disk.specs.Log.{disk_of, left_in}
-use Rattle.irig_disk.specs.declared.call.Call.{Call}
+use Rattle.irig_disk.specs.{Disk.MayLeave, Held.Held, declared.call.Call.Call}
 
 pub log_counts_now : (calls : List Call) (t : ℕ) (n : List ℕ) (c : Option Held) → t ≤ length calls
     → MayLeave (disk_of calls) n c → left_in calls t n c

@@ -1,8 +1,7 @@
 -- What a rename and a removal make of a folder. This project's own.
 use Rattle.std.specs.Prelude.{◌≡◌, ◌≢◌, ◌⊎◌, ℕ, List, [], ◌∷◌, ◌++◌, Option, Some, None}
 use Rattle.irig_disk.specs.Disk.{Disk, IsPlace, seen_under}
-use Rattle.irig_disk.specs.Stays.{OtherNamesStay, FilesStay}
-use Rattle.irig_disk.specs.Trail.{Moved, NotMoved}
+use Rattle.irig_disk.specs.{Stays.OtherNamesStay, Stays.FilesStay, Trail.Moved, Trail.NotMoved}
 
 -- What a rename may leave: either name as it was or as it is after it, whether it succeeds or not.
 pub record MayMove (old new : Disk) («from» to : List ℕ) : Type 0 where

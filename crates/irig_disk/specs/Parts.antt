@@ -1,12 +1,9 @@
 -- What single calls make of a text that is being written. This project's own.
 use Rattle.std.specs.Prelude.{◌≢◌, ℕ, List, ◌++◌, None, Result, OnOk, IfErr, IsErrOf}
-use Rattle.irig_disk.specs.Disk.{Disk, LeavesOnly}
-use Rattle.irig_disk.specs.Held.{Held}
-use Rattle.irig_disk.specs.Name.{IsName}
-use Rattle.irig_disk.specs.Put.{OldOrNewIfThere, IsKept, AfterFault}
 use Rattle.irig_disk.specs.Writing.{IsUnchanged, IsWriting, IsPlaced, IsStuck, WhileWriting}
-use Rattle.irig_disk.specs.declared.fault.PutFault.{PutFault}
-use Rattle.irig_disk.specs.declared.fault.PutFault.TheVariants.{NamesTaken}
+use Rattle.irig_disk.specs.{Disk.Disk, Disk.LeavesOnly, Held.Held, Name.IsName, Put.OldOrNewIfThere}
+use Rattle.irig_disk.specs.{Put.IsKept, Put.AfterFault, declared.fault.PutFault.PutFault}
+use Rattle.irig_disk.specs.{declared.fault.PutFault.TheVariants.NamesTaken}
 
 -- At this name no new file is made: it leads to a file, or is none, or the target's own.
 pub record IsPassed (start now : Disk) (place : List ℕ → List ℕ) (name target : List ℕ)

@@ -1,15 +1,12 @@
 -- What writing a text whole makes of a folder. This project's own.
-use Rattle.std.specs.Prelude.{◌≡◌, ◌≢◌, ◌⊎◌, ◌<◌, ◌++◌, ◌∷◌, [], ℕ, List, Option, Some, None, Result, Ok}
-use Rattle.std.specs.Prelude.{Err}
+use Rattle.std.specs.Prelude.{◌≡◌, ◌≢◌, ◌⊎◌, ◌<◌, ◌++◌, ◌∷◌, [], ℕ, List, Option, Some, None}
+use Rattle.std.specs.Prelude.{Result, Ok, Err}
 use Rattle.std.specs.Fmt.{decimal}
 use Rattle.irig_disk.specs.Disk.{Disk, IsPlace, seen_under, MayLeave, LeavesOnly}
-use Rattle.irig_disk.specs.Held.{Held}
-use Rattle.irig_disk.specs.Calls.{owner_only}
-use Rattle.irig_disk.specs.Name.{IsName}
-use Rattle.irig_disk.specs.Trail.{Moved, NotMoved, Synced}
-use Rattle.irig_disk.specs.declared.fault.PutFault.{PutFault}
 use Rattle.irig_disk.specs.declared.fault.PutFault.TheVariants.{Memory, NamesTaken, Failed}
 use Rattle.irig_disk.specs.declared.fault.PutFault.TheVariants.{LeftBehind, Remains, NotKept}
+use Rattle.irig_disk.specs.{Held.Held, Calls.owner_only, Name.IsName, Trail.Moved, Trail.NotMoved}
+use Rattle.irig_disk.specs.{Trail.Synced, declared.fault.PutFault.PutFault}
 
 -- the mode of a file that takes one or keeps the usual one: at first, and in the end
 abbrev pub first_mode : ℕ → Option ℕ → ℕ
@@ -88,6 +85,10 @@ pub record AfterFault {X : Type 0} (old new : Disk) (target : List ℕ) (text : 
 -- the name of a new file, if this many others were tried before it
 abbrev pub name_after : List ℕ → ℕ → List ℕ
 name_after stem number = stem ++ decimal number
+
+-- a name is the stem with a number below this one
+abbrev pub IsNameAfter : List ℕ → ℕ → List ℕ → Type 0
+IsNameAfter stem count name = (k : ℕ) × (k < count) × (name ≡ name_after stem k)
 
 -- each of the first names for a new file leads to a file, or is none, or the target's own
 abbrev pub AllTaken : Disk → (List ℕ → List ℕ) → List ℕ → List ℕ → ℕ → Type 0

@@ -1,7 +1,6 @@
 -- What stays of a folder in a call. This project's own.
 use Rattle.std.specs.Prelude.{◌≡◌, ◌≢◌, ℕ, List, Option}
-use Rattle.irig_disk.specs.Disk.{Disk}
-use Rattle.irig_disk.specs.Held.{Held}
+use Rattle.irig_disk.specs.{Disk.Disk, Held.Held}
 
 -- every name but these two leads where it led, and may be left so
 pub record OtherNamesStay (old new : Disk) (name other : List ℕ) : Type 0 where

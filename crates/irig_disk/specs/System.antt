@@ -1,7 +1,6 @@
 -- A folder. Nothing is known of it.
 use Rattle.std.specs.Prelude.{ℕ, List, [], Option, Some, None, ◌≤◌}
-use Rattle.irig_disk.specs.Disk.{Disk, MayLeave}
-use Rattle.irig_disk.specs.Held.{Held}
+use Rattle.irig_disk.specs.{Disk.Disk, Disk.MayLeave, Held.Held}
 
 -- a state, because one is asked for: no clause speaks of it
 abbrev pub untold : Disk

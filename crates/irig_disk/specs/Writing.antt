@@ -1,13 +1,12 @@
 -- A text that is being written to a new file next to its target. This project's own.
 use Rattle.std.specs.Prelude.{◌≡◌, ◌≢◌, ◌⊎◌, ℕ, List, [], ◌∷◌, ◌++◌, Option, Some, None}
 use Rattle.irig_disk.specs.Disk.{Disk, IsPlace, seen_under, MayLeave, LeavesOnly}
-use Rattle.irig_disk.specs.Held.{Held}
-use Rattle.irig_disk.specs.Stays.{Stays}
-use Rattle.irig_disk.specs.Put.{OldIfThere, TriesNone, TriesOne, OldOrNewIfThere, SeenSame, SeenSameIfThere, IsPut}
-use Rattle.irig_disk.specs.Trail.{Moved, NotMoved}
+use Rattle.irig_disk.specs.Put.{OldIfThere, TriesNone, TriesOne, OldOrNewIfThere, SeenSame}
+use Rattle.irig_disk.specs.Put.{SeenSameIfThere, IsPut}
 use Rattle.irig_disk.specs.declared.fault.PutFault.{PutFault}
 use Rattle.irig_disk.specs.declared.fault.PutFault.TheVariants.{Memory, NamesTaken, Failed}
 use Rattle.irig_disk.specs.declared.fault.PutFault.TheVariants.{LeftBehind, Remains, NotKept}
+use Rattle.irig_disk.specs.{Held.Held, Stays.Stays, Trail.Moved, Trail.NotMoved}
 
 -- nothing is changed since the start, at no moment
 pub record IsUnchanged (start now : Disk) : Type 0 where

@@ -3,12 +3,9 @@
 ghost use Rattle.std.specs.Prelude.{◌≡◌, ◌≢◌, ◌↔◌, [], string_bytes, IfOk, IfErr, MatchOption};
 ghost use Rattle.std.specs.Prelude.{OnOk, IsErrOf, IsTrue};
 ghost use Rattle.irig_disk.specs.declared.fault.PutFault.TheVariants.{NamesTaken};
-ghost use Rattle.irig_disk.specs.declared.new_text.TheConstants.{NAMES};
-ghost use Rattle.irig_disk.specs.Name.{IsName};
-ghost use Rattle.irig_disk.specs.Put.{AllTaken, name_after};
 ghost use Rattle.irig_disk.specs.Writing.{IsWriting, NotBegun, IsUnchanged};
-ghost use Rattle.irig_disk.specs.Parts.{IsPassed};
-ghost use Rattle.irig_disk.specs.Calls.{mode_made};
+ghost use Rattle.irig_disk.specs.{declared.new_text.TheConstants.NAMES, Name.IsName, Put.AllTaken};
+ghost use Rattle.irig_disk.specs.{Put.IsNameAfter, Put.name_after, Parts.IsPassed, Calls.mode_made};
 
 use crate::fault::PutFault;
 use crate::folder::Folder;
@@ -33,6 +30,7 @@ pub(crate) fn make_beside<F: Folder>(
     ensures err { IsTrue F.is_told → IfErr result (NotBegun (F.disk folder.old) (F.disk folder.new)) }
     ensures taken { IsTrue F.is_told → IsErrOf result NamesTaken
         → AllTaken (F.disk folder.old) (F.place dir.now) stem.now target.now NAMES }
+    ensures named { OnOk result (IsNameAfter stem.now NAMES (string_bytes name.new)) }
 {
     for number in 0..NAMES {
         match make_at(folder, dir, name, target, stem, number, hidden) {
@@ -64,6 +62,7 @@ fn make_at<F: Folder>(
     ensures err { IsTrue F.is_told → (start : F) → IsUnchanged (F.disk start) (F.disk folder.old)
         → IfErr result (NotBegun (F.disk start) (F.disk folder.new)) }
     ensures untaken { IsErrOf result NamesTaken → ⊥ }
+    ensures named { OnOk result (string_bytes name.new ≡ name_after stem.now number) }
 {
     match put_name(name, target, stem, number) {
         Ok(true) => match folder.make(dir, name.as_str(), hidden) {

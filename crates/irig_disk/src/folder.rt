@@ -1,14 +1,12 @@
 //! Single system calls on the names of open folders.
 
-ghost use Rattle.std.specs.Prelude.{◌≡◌, ◌≤◌, ◌⊎◌, ℕ, List, Option, OnOk, OnErr, MatchResult};
-ghost use Rattle.std.specs.Prelude.{Bool, IsTrue, MatchOption};
+ghost use Rattle.std.specs.Prelude.{◌≡◌, ◌≤◌, ◌⊎◌, ℕ, List, Option, OnOk, OnErr, MatchResult, Bool};
+ghost use Rattle.std.specs.Prelude.{IsTrue, MatchOption};
 ghost use Rattle.irig_disk.specs.Disk.{Disk, Elapses, MayLeave};
-ghost use Rattle.irig_disk.specs.Held.{Held};
-ghost use Rattle.irig_disk.specs.Name.{IsName};
-ghost use Rattle.irig_disk.specs.Stays.{Stays};
 ghost use Rattle.irig_disk.specs.Calls.{Made, IsTaken, Wrote, WroteSome, TookMode, SyncedFile};
 ghost use Rattle.irig_disk.specs.Calls.{MaySpoil, SyncedNames, mode_made};
 ghost use Rattle.irig_disk.specs.Moves.{IsMoved, IsNotMoved, Removed, NotRemoved};
+ghost use Rattle.irig_disk.specs.{Held.Held, Name.IsName, Stays.Stays};
 
 /// The names of open folders. Each method is one call, and says what a crash may leave of it. A name
 /// has one component; what a longer path leads to no clause says.

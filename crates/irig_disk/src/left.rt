@@ -1,8 +1,7 @@
 //! What a crash may leave of a folder in memory, for tests.
 
 ghost use Rattle.std.specs.Prelude.{◌≡◌, ◌++◌, IfOk, IsTrue};
-ghost use Rattle.irig_disk.specs.Held.{Held};
-ghost use Rattle.irig_disk.specs.Log.{holds_in, may_hold_in};
+ghost use Rattle.irig_disk.specs.{Held.Held, Log.holds_in, Log.may_hold_in};
 
 use crate::call::Call;
 use std::alloc::{AllocError, Global};

@@ -1,17 +1,13 @@
 //! A folder in memory, for tests. It is the log of the calls that were done on it, the newest
 //! first.
 
-ghost use Rattle.std.specs.Prelude.{◌≡◌, ◌↔◌, ◌≤◌, ◌<◌, ◌∷◌, ◌+◌, ◌-◌, ◌^◌, [], List, false, true, None};
-ghost use Rattle.std.specs.Prelude.{OnOk, OnErr, IfOk, IfErr, IsTrue, MatchOption, min, vec_len};
-ghost use Rattle.std.specs.Prelude.{vec_capacity};
-ghost use Rattle.irig_disk.specs.Calls.{Made};
-ghost use Rattle.irig_disk.specs.Disk.{Elapses};
-ghost use Rattle.irig_disk.specs.Led.{makes};
-ghost use Rattle.irig_disk.specs.Log.{leads_in, disk_of};
+ghost use Rattle.std.specs.Prelude.{◌≡◌, ◌↔◌, ◌≤◌, ◌<◌, ◌∷◌, ◌+◌, ◌-◌, ◌^◌, [], List, false, true};
+ghost use Rattle.std.specs.Prelude.{None, OnOk, OnErr, IfOk, IfErr, IsTrue, MatchOption, min};
+ghost use Rattle.std.specs.Prelude.{vec_len, vec_capacity};
 ghost use Rattle.irig_disk.specs.LogLaws.{log_counts_now, log_only_now};
-ghost use Rattle.irig_disk.specs.declared.call.Call.{Call};
 ghost use Rattle.irig_disk.specs.declared.memory_fault.MemoryFault.TheVariants.{NoMemory};
-ghost use Rattle.irig_disk.specs.declared.memory.TheConstants.{USUAL};
+ghost use Rattle.irig_disk.specs.{Calls.Made, Disk.Elapses, Led.makes, Log.leads_in, Log.disk_of};
+ghost use Rattle.irig_disk.specs.{declared.call.Call.Call, declared.memory.TheConstants.USUAL};
 
 use crate::call::Call;
 use crate::folder::Folder;

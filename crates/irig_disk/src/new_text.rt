@@ -1,15 +1,13 @@
 //! A text of a target, in parts, written whole.
 
-ghost use Rattle.std.specs.Prelude.{◌≡◌, ◌++◌, ◌+◌, ◌-◌, ◌^◌, ℕ, List, [], length, min, take};
-ghost use Rattle.std.specs.Prelude.{IfOk, IfErr, OnOk, OnErr, IsErrOf, IsTrue};
-ghost use Rattle.irig_disk.specs.Disk.{LeavesOnly};
-ghost use Rattle.irig_disk.specs.declared.fault.PutFault.TheVariants.{NamesTaken};
-ghost use Rattle.irig_disk.specs.Name.{IsName};
+ghost use Rattle.std.specs.Prelude.{◌≡◌, ◌++◌, ◌+◌, ◌-◌, ◌^◌, ℕ, List, [], length, min, take, IfOk};
+ghost use Rattle.std.specs.Prelude.{IfErr, OnOk, OnErr, IsErrOf, IsTrue};
 ghost use Rattle.irig_disk.specs.Put.{OldIfThere, OldOrNewIfThere, SeenSame, SeenSameIfThere};
-ghost use Rattle.irig_disk.specs.Put.{IsKept, AllTaken, held, first_mode, last_mode};
+ghost use Rattle.irig_disk.specs.Put.{IsKept, AllTaken, IsNameAfter, held, first_mode, last_mode};
 ghost use Rattle.irig_disk.specs.Writing.{NotFinished, IsBeside, IsWriting, IsPlaced, IsStuck};
 ghost use Rattle.irig_disk.specs.Writing.{NotBegun, WhileWriting};
-ghost use Rattle.irig_disk.specs.Parts.{WhilePlaced, WhileStuck};
+ghost use Rattle.irig_disk.specs.{Disk.LeavesOnly, declared.fault.PutFault.TheVariants.NamesTaken};
+ghost use Rattle.irig_disk.specs.{Name.IsName, Parts.WhilePlaced, Parts.WhileStuck};
 
 use crate::beside::make_beside;
 use crate::fault::{PutFault, fault_after};
@@ -54,6 +52,7 @@ impl<'n, F: Folder> NewText<'n, F> {
             (NotBegun (F.disk folder.old) (F.disk folder.new)) }
         ensures taken { IsTrue F.is_told → IsErrOf result NamesTaken
             → AllTaken (F.disk folder.old) (F.place dir.now) stem.now target.now NAMES }
+        ensures named { IfOk result (λ new. IsNameAfter stem.now NAMES new.beside.now) }
     {
         match make_beside(folder, dir, name, target, stem, mode.is_some()) {
             Ok(file) => Ok(NewText {

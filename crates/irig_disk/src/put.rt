@@ -2,17 +2,13 @@
 
 ghost use Rattle.std.specs.Prelude.{◌≡◌, ◌<◌, ◌≤◌, ◌++◌, ◌+◌, ◌^◌, ℕ, List, [], false, true};
 ghost use Rattle.std.specs.Prelude.{length, IfOk, IfErr, IfSome, OnOk, OnErr, OnSome, IsOk, IsSome};
-ghost use Rattle.std.specs.Prelude.{Err, IsErrOf, IsTrue};
+ghost use Rattle.std.specs.Prelude.{Err, IsErrOf, IsTrue, Result};
 ghost use Rattle.irig_text.specs.declared.block.TheConstants.{ENOUGH};
-ghost use Rattle.irig_disk.specs.Disk.{LeavesOnly};
-ghost use Rattle.irig_disk.specs.Held.{Held};
-ghost use Rattle.irig_disk.specs.declared.fault.PutFault.TheVariants.{NamesTaken};
-ghost use Rattle.irig_disk.specs.declared.new_text.TheConstants.{NAMES};
-ghost use Rattle.irig_disk.specs.Name.{IsName};
-ghost use Rattle.irig_disk.specs.Put.{OldOrNewIfThere, AfterFault, IsKept, AllTaken, first_mode};
-ghost use Rattle.irig_disk.specs.Put.{held};
-ghost use Rattle.irig_disk.specs.Parts.{Adds, Spoils, ComesTo};
-ghost use Rattle.irig_disk.specs.Writing.{WhileWriting};
+ghost use Rattle.irig_disk.specs.{declared.fault.PutFault.TheVariants.NamesTaken};
+ghost use Rattle.irig_disk.specs.{declared.new_text.TheConstants.NAMES, Put.OldOrNewIfThere};
+ghost use Rattle.irig_disk.specs.{Put.AfterFault, Put.IsKept, Put.AllTaken, Put.first_mode};
+ghost use Rattle.irig_disk.specs.{Put.held, Put.left_by, Parts.Adds, Parts.Spoils, Parts.ComesTo};
+ghost use Rattle.irig_disk.specs.{Disk.LeavesOnly, Held.Held, Name.IsName, Writing.WhileWriting};
 
 use crate::fault::{PutFault, fault_after};
 use crate::folder::Folder;
@@ -97,6 +93,8 @@ fn finish_or_give_up<F: Folder>(
         folder.old (F.place new.entry.dir.now new.entry.beside.now) (F.place new.entry.dir.now new.entry.target.now) (F.number new.entry.file) mode
         (λ start so_far. ComesTo start (F.disk folder.new) (F.place new.entry.dir.now new.entry.target.now) text result)) }
     ensures written { IfOk result (λ _. IsOk written) }
+    ensures fault { IfErr written (λ fault. (removal : Result F.NameRemoved F.Fault)
+        × (result ≡ Err (left_by fault removal))) }
     ensures count { IfOk result (λ kept. kept.count ≡ new.entry.count) }
 {
     match written {

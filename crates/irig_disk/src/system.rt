@@ -1,8 +1,8 @@
 //! A folder of the system: each method is one call, and only it makes the answer of that call.
 
-ghost use Rattle.std.specs.Prelude.{◌≡◌, ◌≤◌, IfOk, IsSome, OnOk, false};
-ghost use Rattle.std.specs.Io.KnownBytes.{Appends};
-ghost use Rattle.std.specs.Path.{path_buf_cap};
+ghost use Rattle.std.specs.Prelude.{◌≡◌, ◌≤◌, ◌↔◌, IfErr, IfOk, IsOk, IsSome, IsTrue, OnOk, false};
+ghost use Rattle.std.specs.Fs.{asks_create_new, asks_write};
+ghost use Rattle.std.specs.{Io.KnownBytes.Appends, IoError.error_kind, Path.path_buf_cap};
 ghost use Rattle.irig_disk.specs.System.{untold, untold_now};
 ghost use Rattle.irig_disk.specs.declared.system.TheConstants.{PATH};
 
@@ -132,20 +132,14 @@ impl<R: Files> Folder for SystemFolder<'_, R> {
 
     ghost only_now = { λ _ _ _ left. absurd left };
 
-    /// A hidden file has mode 600 (octal); any other one what the process gives to a new file.
     fn make(
         &mut self,
         dir: &SystemDir<R::File>,
         name: &str,
         hidden: bool,
     ) -> Result<Option<SystemFile<R::File>>, SystemFault> {
-        let mut how = OpenOptions::new();
-        how.write(true).create_new(true);
-        if hidden {
-            how.mode(0o600);
-        }
         put_path(&mut self.one, dir.path.as_str(), name)?;
-        match how.open(self.runtime, self.one.as_str()) {
+        match new_file(hidden).open(self.runtime, self.one.as_str()) {
             Ok(file) => Ok(Some(SystemFile(file))),
             Err(error) if error.kind() == ErrorKind::AlreadyExists => Ok(None),
             Err(error) => Err(SystemFault(error)),
@@ -200,17 +194,11 @@ impl<R: Files> Folder for SystemFolder<'_, R> {
         }
     }
 
-    /// A file system that has no such call answers that the call is invalid: its names are kept as
-    /// it keeps them, and nobody can ask for more.
     fn sync_names(&mut self, dir: &SystemDir<R::File>) -> Result<NamesSynced, SystemFault> {
         let Some(folder) = &dir.file else {
             return Err(SystemFault(io::Error::from(ErrorKind::NotFound)));
         };
-        match folder.sync_all() {
-            Ok(()) => Ok(NamesSynced(())),
-            Err(error) if error.kind() == ErrorKind::InvalidInput => Ok(NamesSynced(())),
-            Err(error) => Err(SystemFault(error)),
-        }
+        names_synced(folder.sync_all())
     }
 }
 
@@ -245,6 +233,35 @@ pub struct NameRemoved(());
 /// The system says that it keeps the names of a folder.
 #[derive(Drop)]
 pub struct NamesSynced(());
+
+/// How a new file is opened: only if no file has its name. A hidden one has mode 600 (octal); any
+/// other one what the process gives to a new file.
+fn new_file(hidden: bool) -> OpenOptions
+    ensures write { IsTrue (asks_write result) }
+    ensures new { IsTrue (asks_create_new result) }
+{
+    let mut how = OpenOptions::new();
+    if hidden {
+        how.mode(0o600);
+    }
+    how.write(true).create_new(true);
+    how
+}
+
+/// Whether names are kept, by what the system says of the sync of their folder. A file system that
+/// has no such call answers that the call is invalid: its names are kept as it keeps them, and
+/// nobody can ask for more.
+fn names_synced(outcome: io::Result<()>) -> Result<NamesSynced, SystemFault>
+    ensures ok { OnOk outcome (IsOk result) }
+    ensures err { IfErr outcome (λ error. IsOk result
+        ↔ (error_kind error ≡ ErrorKind.InvalidInput)) }
+{
+    match outcome {
+        Ok(()) => Ok(NamesSynced(())),
+        Err(error) if error.kind() == ErrorKind::InvalidInput => Ok(NamesSynced(())),
+        Err(error) => Err(SystemFault(error)),
+    }
+}
 
 /// Writes all of the bytes. It is a function for its clause: of this folder those of `Folder` say
 /// nothing.

@@ -1,21 +1,15 @@
 -- An edit on the shelf of a file, as one by the settings.
 use Rattle.std.proofs.Common.{◌≡◌, [], ℕ, List, Option, Result, Err, inl, refl, subst}
 use Rattle.std.specs.Prelude.{option_map}
-use Rattle.irig_vcd.specs.Parts.{dump_parts}
-use Rattle.irig_vcd.specs.declared.fault.VcdFault.{VcdFault}
+use Rattle.irig_vcd.specs.{Parts.dump_parts, declared.fault.VcdFault.VcdFault}
 use Rattle.irig_vcd.proofs.WholeDump.{fails_now}
-use Rattle.irig_script.specs.Obey.Desk.{Desk, desk}
-use Rattle.irig_script.specs.Obey.DumpRun.{RunsOnDump}
+use Rattle.irig_script.specs.{Obey.Desk.Desk, Obey.Desk.desk, Obey.DumpRun.RunsOnDump, declared.obey.status.Status.Status}
+use Rattle.irig_script.specs.{declared.obey.dump_run.DumpRunFault.DumpRunFault, declared.obey.dump_run.DumpRunFault.TheVariants.Dump}
 use Rattle.irig_text.specs.Shelved.{shelved}
-use Rattle.irig_script.specs.declared.obey.status.Status.{Status}
-use Rattle.irig_script.specs.declared.obey.dump_run.DumpRunFault.{DumpRunFault}
-use Rattle.irig_script.specs.declared.obey.dump_run.DumpRunFault.TheVariants.{Dump}
 use Rattle.irig_files.proofs.Intakes.{tells_heading}
-use Rattle.irig_ed.specs.Ending.{Ends, Files, RunsBy, ends}
-use Rattle.irig_ed.specs.Shortage.{IsShortOnly}
+use Rattle.irig_ed.specs.{Ending.Ends, Ending.Files, Ending.RunsBy, Ending.ends, Shortage.IsShortOnly}
 use Rattle.irig_ed.proofs.Sound.{never_parts}
-use Rattle.irig_files.specs.Puts.{texts_at}
-use Rattle.irig_files.specs.Writes.{Write}
+use Rattle.irig_files.specs.{Puts.texts_at, Writes.Write}
 use Rattle.irig_settings.specs.declared.chosen.Settings.{Settings}
 
 -- the wire of the settings

@@ -1,16 +1,10 @@
 -- No dump with its journal has out of memory as its fault.
-use Rattle.std.proofs.Common.{◌≡◌, ◌∷◌, [], ℕ, Bool, true, false, List, Option, Some, None, Result, Ok, Err, IfErr, length, nat_lt, ◌∙◌, ap}
-use Rattle.std.proofs.Common.{if◌then◌else◌}
+use Rattle.std.proofs.Common.{◌≡◌, ◌∷◌, [], ℕ, Bool, true, false, List, Option, Some, None, Result, Ok, Err, IfErr, length, nat_lt, ◌∙◌, ap, if◌then◌else◌}
 use Rattle.irig_recording.specs.Recording.{RecordingView}
-use Rattle.irig_vcd.specs.Answer.{◌>>=◌, pair_of}
-use Rattle.irig_vcd.specs.Declarations.{declarations_of}
-use Rattle.irig_vcd.specs.Dump.{changes_of, dump, journals_of}
-use Rattle.irig_vcd.specs.Level.{edges_up_to}
-use Rattle.irig_vcd.specs.Parts.{dump_parts, one_journal}
 use Rattle.irig_vcd.specs.Scan.{Open, closed, code_of, comment_of, Scan, left_open, scan_ended, scan_words, start, unless}
-use Rattle.irig_vcd.specs.Words.{Word, words_of}
-use Rattle.irig_vcd.specs.declared.fault.VcdFault.{VcdFault}
 use Rattle.irig_vcd.specs.declared.fault.VcdFault.TheVariants.{OutOfMemory, TooManyPulses}
+use Rattle.irig_vcd.specs.{Answer.◌>>=◌, Answer.pair_of, Declarations.declarations_of, Dump.changes_of, Dump.dump, Dump.journals_of, Level.edges_up_to}
+use Rattle.irig_vcd.specs.{Parts.dump_parts, Parts.one_journal, Words.Word, Words.words_of, declared.fault.VcdFault.VcdFault}
 use Rattle.irig_vcd.proofs.Sound.{chain_sound, heading_sound, never_memory}
 
 -- no fault is out of memory

@@ -3,20 +3,15 @@
 use Rattle.std.specs.Prelude.{◌≡◌, ◌<◌, ◌^◌, ℕ, List, Option, Result, Ok, Err, IfSome, length}
 use Rattle.std.specs.Prelude.{option_map}
 use Rattle.clap.specs.Words.{Text}
-use Rattle.irig_script.specs.Obey.Desk.{desk}
-use Rattle.irig_script.specs.Obey.DumpRun.{RunsOnDump}
-use Rattle.irig_text.specs.Shelved.{shelved}
 use Rattle.irig_script.specs.declared.obey.status.Status.{Status}
 use Rattle.irig_script.specs.declared.obey.dump_run.DumpRunFault.{DumpRunFault}
-use Rattle.irig_settings.specs.Settings.{Reads}
-use Rattle.irig_files.specs.Puts.{texts_at}
-use Rattle.irig_files.specs.Writes.{Write}
-use Rattle.irig_ed.specs.Shortage.{IsShortOnly}
-use Rattle.irig_ed.specs.Statuses.{HasStatus}
-use Rattle.irig_settings.specs.declared.chosen.Settings.{Settings}
-use Rattle.irig_ed.specs.declared.ending.Ending.{Ending}
-use Rattle.irig_ed.specs.declared.ending.Ending.TheVariants.{Usage, Unread, Ran}
+use Rattle.irig_script.specs.{Obey.Desk.desk, Obey.DumpRun.RunsOnDump}
+use Rattle.irig_text.specs.Shelved.{shelved}
+use Rattle.irig_settings.specs.{Settings.Reads, declared.chosen.Settings.Settings}
 use Rattle.irig_files.specs.declared.dump_file.DumpFileFault.TheVariants.{TooLong}
+use Rattle.irig_files.specs.{Puts.texts_at, Writes.Write}
+use Rattle.irig_ed.specs.declared.ending.Ending.TheVariants.{Usage, Unread, Ran}
+use Rattle.irig_ed.specs.{Shortage.IsShortOnly, Statuses.HasStatus, declared.ending.Ending.Ending}
 
 -- what is known of the ends of the program: what was printed, what was written, and what is left of
 -- the script

@@ -5,8 +5,7 @@ use Rattle.irig_script.specs.declared.obey.dump_run.DumpRunFault.{DumpRunFault}
 use Rattle.irig_script.specs.declared.obey.dump_run.DumpRunFault.TheVariants.{Dump}
 use Rattle.irig_script.specs.declared.obey.status.Status.{Status}
 use Rattle.irig_settings.specs.declared.chosen.Settings.{Settings}
-use Rattle.irig_vcd.specs.Parts.{dump_parts}
-use Rattle.irig_vcd.specs.declared.fault.VcdFault.TheVariants.{OutOfMemory}
+use Rattle.irig_vcd.specs.{Parts.dump_parts, declared.fault.VcdFault.TheVariants.OutOfMemory}
 
 -- a run on these bytes is out of memory only if the session of what they say may be
 abbrev pub IsShortOnly : Settings → List ℕ → Result Status DumpRunFault → Type 0

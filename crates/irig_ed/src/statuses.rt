@@ -1,6 +1,6 @@
 //! The statuses of the program as a process, and what it says of faults.
 
-ghost use Rattle.std.specs.Prelude.{◌≡◌, ◌⊎◌};
+ghost use Rattle.std.specs.Prelude.{◌≡◌, ◌⊎◌, MatchResult};
 ghost use Rattle.std.specs.Process.{exit_status};
 ghost use Rattle.irig_ed.specs.Statuses.{HasStatus, status_number, unread_text};
 ghost use Rattle.irig_words.specs.Errors.{IsHelp, IsMistake};
@@ -10,6 +10,7 @@ use irig_files::DumpFileFault;
 use irig_script::{DumpRunFault, RunFault, Status};
 use irig_settings::UsageFault;
 use std::fmt::Display;
+use std::io;
 use std::process::ExitCode;
 
 /// The status of the process for how the program ended, which is reported if it is a fault.
@@ -37,8 +38,18 @@ pub fn explain<R: Print + Eprint>(rt: &R, error: &clap::Error) -> ExitCode
     ensures mistake { IsMistake error.now → exit_status result ≡ 2 }
     ensures help { IsHelp error.now → (exit_status result ≡ 0) ⊎ (exit_status result ≡ 4) }
 {
-    match error.print(rt) {
-        _ if error.use_stderr() => ExitCode::from(2),
+    let printed = error.print(rt);
+    if error.use_stderr() {
+        return ExitCode::from(2);
+    }
+    tell_help(rt, printed)
+}
+
+/// The exit status of a call for help, by whether it was printed.
+fn tell_help<R: Eprint>(rt: &R, printed: io::Result<()>) -> ExitCode
+    ensures { MatchResult printed (λ _. exit_status result ≡ 0) (λ _. exit_status result ≡ 4) }
+{
+    match printed {
         Ok(()) => ExitCode::SUCCESS,
         Err(_) => tell_ended(rt, "", Err(DumpRunFault::Run(RunFault::PrintFailed))),
     }

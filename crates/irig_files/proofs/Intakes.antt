@@ -1,20 +1,13 @@
 -- A dump that is taken in, part by part.
-use Rattle.std.proofs.Common.{◌≡◌, ◌++◌, ◌<◌, ◌^◌, ◌∙◌, ℕ, List, [], Option, Some, None, Result, Ok, Err, length, ap, append_assoc}
-use Rattle.std.proofs.Common.{append-nil, length-append, arith, refl, subst, sym}
-use Rattle.std.specs.Global.{Vec}
+use Rattle.std.proofs.Common.{◌≡◌, ◌++◌, ◌<◌, ◌^◌, ◌∙◌, ℕ, List, [], Option, Some, None, Result, Ok, Err, length, ap, append_assoc, append-nil, length-append}
+use Rattle.std.proofs.Common.{arith, refl, subst, sym}
+use Rattle.std.specs.{Global.Vec, Io.KnownBytes.Consumes, Io.KnownBytes.IsAtEnd}
 use Rattle.std.specs.Prelude.{◌≢◌, IfOk, IfSome, OnErr}
-use Rattle.std.specs.Io.KnownBytes.{Consumes, IsAtEnd}
-use Rattle.irig_vcd.specs.Declarations.{declarations_of}
-use Rattle.irig_vcd.specs.Parts.{dump_parts}
-use Rattle.irig_vcd.specs.Words.{words_of}
-use Rattle.irig_vcd.specs.declared.fault.VcdFault.{VcdFault}
-use Rattle.irig_vcd.specs.declared.fault.VcdFault.TheVariants.{OutOfMemory}
-use Rattle.irig_vcd.specs.declared.progress.Progress.{Progress}
-use Rattle.irig_vcd.specs.Answer.{Gives}
+use Rattle.irig_vcd.specs.{Declarations.declarations_of, Parts.dump_parts, Words.words_of, declared.fault.VcdFault.VcdFault}
+use Rattle.irig_vcd.specs.{declared.fault.VcdFault.TheVariants.OutOfMemory, declared.progress.Progress.Progress, Answer.Gives}
 use Rattle.irig_recording.specs.Recording.{RecordingView}
 use Rattle.irig_files.specs.Reads.{AreRead, HasFewBytes, HasTaken, IsReadOf, Takes, parts_of}
-use Rattle.irig_files.specs.declared.dump_file.DumpFileFault.{DumpFileFault}
-use Rattle.irig_files.specs.declared.intake.Intake.{Intake}
+use Rattle.irig_files.specs.{declared.dump_file.DumpFileFault.DumpFileFault, declared.intake.Intake.Intake}
 use Rattle.irig_vcd.proofs.WholeDump.{no_parts}
 
 -- a fault is that of the declarations, if they have one

@@ -1,12 +1,8 @@
 -- What holds of a call's outcome holds of it without its error.
 use Rattle.std.proofs.Common.{◌≡◌, ◌⊎◌, ℕ, List, Option, Some, None, Result, Ok, Err, inl, inr, arith, refl, ◌≢◌}
 use Rattle.std.specs.Prelude.{IfOk, IfErr, IsErr, IsOk, OnOk, OnErr}
-use Rattle.irig_disk.specs.Disk.{Disk, IsPlace, LeavesOnly, MayLeave}
-use Rattle.irig_disk.specs.Held.{Held}
-use Rattle.irig_disk.specs.Put.{AfterFault, IsKept, IsPut, OldOrNewIfThere, SeenAfter, SeenSameIfThere}
-use Rattle.irig_disk.specs.Stays.{Stays}
-use Rattle.irig_disk.specs.Writing.{IsUnchanged}
-use Rattle.irig_disk.specs.declared.fault.PutFault.{PutFault}
+use Rattle.irig_disk.specs.{Disk.Disk, Disk.IsPlace, Disk.LeavesOnly, Disk.MayLeave, Held.Held, Put.AfterFault, Put.IsKept, Put.IsPut, Put.OldOrNewIfThere}
+use Rattle.irig_disk.specs.{Put.SeenAfter, Put.SeenSameIfThere, Stays.Stays, Writing.IsUnchanged, declared.fault.PutFault.PutFault}
 use Rattle.irig_disk.specs.declared.fault.PutFault.TheVariants as fault
 use Rattle.irig_files.specs.Once.{FailsToPut, PutsOnce, Replaces}
 

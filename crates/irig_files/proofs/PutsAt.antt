@@ -1,18 +1,12 @@
 -- The texts written at a place, one after another.
 use Rattle.std.proofs.Common.{◌≡◌, ◌⊎◌, ◌++◌, ◌∷◌, [], ℕ, List, Option, Some, None, Bool, true, false, refl, sym, ap, ◌∙◌, cond, inl, inr, Ok, Err}
-use Rattle.std.proofs.lemmas.List.{append-nil}
+use Rattle.std.proofs.lemmas.{List.append-nil, Slice.Eq.bytes_eq-Decides}
 use Rattle.std.specs.Prelude.{option_map, is_some, IsTrue}
 use Rattle.std.specs.Str.{bytes_eq}
-use Rattle.std.proofs.lemmas.Slice.Eq.{bytes_eq-Decides}
 use Rattle.irig_text.specs.Shelved.{GrowsBy}
-use Rattle.irig_disk.specs.Disk.{Disk, IsPlace}
-use Rattle.irig_disk.specs.Held.{Held}
-use Rattle.irig_disk.specs.Put.{IsKept, TriesOne}
-use Rattle.irig_disk.specs.Trail.{Moved, NotMoved, Synced}
-use Rattle.irig_files.specs.Once.{FailsToPut, PutsOnce}
+use Rattle.irig_disk.specs.{Disk.Disk, Disk.IsPlace, Held.Held, Put.IsKept, Put.TriesOne, Trail.Moved, Trail.NotMoved, Trail.Synced}
 use Rattle.irig_files.specs.Puts.{with_text, texts_of, texts_at, writes_on}
-use Rattle.irig_files.specs.Writes.{Write, write, writes_in}
-use Rattle.irig_files.specs.Going.{writes_more}
+use Rattle.irig_files.specs.{Once.FailsToPut, Once.PutsOnce, Writes.Write, Writes.write, Writes.writes_in, Going.writes_more}
 
 -- a text at the end of others, whose first is at the path or is not, and was kept or was not
 behind : (here is_kept : Bool) (first text : List ℕ) (xs ys : Option (List (List ℕ))) → ys ≡ option_map (λ ts. ts ++ text ∷ []) xs

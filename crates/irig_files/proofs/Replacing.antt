@@ -1,12 +1,10 @@
 -- One write is a run of writes.
-use Rattle.std.proofs.Common.{◌≡◌, ◌≢◌, ◌⊎◌, inl, inr, ⊎_elim, refl, sym, ◌∙◌, ap, subst, arith, ℕ, List, [], ◌∷◌, ◌++◌, Option, Some, None, Result, Ok, Err, ◌≤◌}
+use Rattle.std.proofs.Common.{◌≡◌, ◌≢◌, ◌⊎◌, inl, inr, ⊎_elim, refl, sym, ◌∙◌, ap, subst, arith, ℕ, List, [], ◌∷◌, ◌++◌, Option, Some, None, Result, Ok, Err}
+use Rattle.std.proofs.Common.{◌≤◌}
 use Rattle.std.proofs.lemmas.List.{append-nil}
 use Rattle.irig_disk.specs.Disk.{Disk, IsPlace, seen_under, MayLeave, LeavesOnly}
-use Rattle.irig_disk.specs.Held.{Held}
 use Rattle.irig_disk.specs.Put.{IsKept, IsPut, OldIfThere, OldOrNewIfThere, SeenSameIfThere, TriesNone, TriesOne}
-use Rattle.irig_disk.specs.Stays.{Stays}
-use Rattle.irig_disk.specs.Trail.{Step, Moved, NotMoved, Synced}
-use Rattle.irig_disk.specs.Writing.{IsUnchanged}
+use Rattle.irig_disk.specs.{Held.Held, Stays.Stays, Trail.Step, Trail.Moved, Trail.NotMoved, Trail.Synced, Writing.IsUnchanged}
 use Rattle.irig_disk.proofs.Names.{same_or_not}
 use Rattle.irig_files.specs.Once.{FailsToPut, PutsOnce, Replaces}
 use Rattle.irig_files.specs.Writes.{AreAt, EachIsKept, Goes, IsLeftBy, IsMeant, Write, write, writes_in}

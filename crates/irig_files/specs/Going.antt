@@ -1,10 +1,11 @@
 -- Writes one after another.
-use Rattle.std.proofs.Common.{◌≡◌, ◌≢◌, ◌⊎◌, inl, inr, ⊎_elim, refl, sym, ◌∙◌, ap, subst, arith, ℕ, List, [], ◌∷◌, ◌++◌, append_assoc, Option, Some, None, ◌≤◌}
+use Rattle.std.proofs.Common.{◌≡◌, ◌≢◌, ◌⊎◌, inl, inr, ⊎_elim, refl, sym, ◌∙◌, ap, subst, arith, ℕ}
+use Rattle.std.proofs.Common.{List, [], ◌∷◌, ◌++◌, append_assoc, Option, Some, None, ◌≤◌}
 use Rattle.std.proofs.lemmas.List.{append-nil}
-use Rattle.irig_disk.specs.Disk.{Disk, MayLeave}
-use Rattle.irig_disk.specs.Held.{Held}
 use Rattle.irig_disk.specs.Trail.{Step, Moved, NotMoved, Synced}
-use Rattle.irig_files.specs.Writes.{AreAt, EachIsKept, Goes, IsKeptIfDone, IsLeftBy, IsMeant, Write, kept_by, write, writes_in}
+use Rattle.irig_disk.specs.{Disk.Disk, Disk.MayLeave, Held.Held}
+use Rattle.irig_files.specs.Writes.{AreAt, EachIsKept, Goes, IsKeptIfDone, IsLeftBy, IsMeant, Write}
+use Rattle.irig_files.specs.Writes.{kept_by, write, writes_in}
 
 kept_by_more : (xs ys : List Step) → kept_by ys ≡ None → kept_by (xs ++ ys) ≡ kept_by xs
 kept_by_more [] ys none = none

@@ -1,9 +1,8 @@
 -- What one write makes of a disk. This project's own.
 use Rattle.std.specs.Prelude.{◌≡◌, ◌⊎◌, ℕ, List, Option, Some, None, Result, OnOk, OnErr}
 use Rattle.irig_disk.specs.Disk.{Disk, IsPlace, LeavesOnly}
-use Rattle.irig_disk.specs.Held.{Held}
 use Rattle.irig_disk.specs.Put.{IsKept, IsPut, OldOrNewIfThere, SeenSameIfThere, TriesOne}
-use Rattle.irig_disk.specs.Writing.{IsUnchanged}
+use Rattle.irig_disk.specs.{Held.Held, Writing.IsUnchanged}
 
 -- what a write that does not succeed leaves at its place
 pub record FailsToPut (old new : Disk) (place : List ℕ) (held : Held) : Type 0 where

@@ -3,9 +3,8 @@ use Rattle.std.specs.Prelude.{ℕ, List, [], ◌∷◌, Bool, true, false, Optio
 use Rattle.std.specs.Prelude.{if◌then◌else◌, is_some}
 use Rattle.std.specs.Str.{bytes_eq}
 use Rattle.irig_disk.specs.Disk.{Disk}
-use Rattle.irig_files.specs.Writes.{Write, writes_in}
-use Rattle.irig_files.specs.declared.written.Written.{Written}
 use Rattle.irig_files.specs.declared.written.Written.TheVariants.{Whole, InPlace}
+use Rattle.irig_files.specs.{Writes.Write, Writes.writes_in, declared.written.Written.Written}
 
 -- the texts with that of one more write before them, if it succeeded
 abbrev pub with_text : Bool → List ℕ → Option (List (List ℕ)) → Option (List (List ℕ))

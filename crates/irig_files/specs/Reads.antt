@@ -2,12 +2,10 @@
 use Rattle.std.specs.Global.{Vec}
 use Rattle.std.specs.Prelude.{◌≡◌, ◌≤◌, ◌+◌, ◌++◌, ◌^◌, ℕ, List, Option, Result, Ok, Err, IfOk}
 use Rattle.std.specs.Prelude.{IfSome, length}
-use Rattle.irig_vcd.specs.Answer.{Gives, bytes_of}
 use Rattle.irig_vcd.specs.Code.DumpReader.{HasRead, bytes_read}
-use Rattle.irig_vcd.specs.Parts.{dump_parts}
+use Rattle.irig_vcd.specs.{Answer.Gives, Answer.bytes_of, Parts.dump_parts}
+use Rattle.irig_vcd.specs.{declared.fault.VcdFault.VcdFault, declared.progress.Progress.Progress}
 use Rattle.irig_recording.specs.Recording.{RecordingView}
-use Rattle.irig_vcd.specs.declared.fault.VcdFault.{VcdFault}
-use Rattle.irig_vcd.specs.declared.progress.Progress.{Progress}
 use Rattle.irig_files.specs.declared.intake.Intake.{Intake}
 
 -- these bytes of a dump are read; or the dump has this fault, whatever comes after them

@@ -1,8 +1,7 @@
 -- How a text is written to what a path leads to. This project's own.
 use Rattle.std.specs.Prelude.{◌≡◌, ℕ, List, Option, None}
-use Rattle.irig_files.specs.Paths.{LeadsTo}
-use Rattle.irig_files.specs.declared.way.Way.{Way}
 use Rattle.irig_files.specs.declared.way.Way.TheVariants.{Replaced, Output, Other}
+use Rattle.irig_files.specs.{Paths.LeadsTo, declared.way.Way.Way}
 
 -- only what is no place of a regular file is not replaced
 abbrev pub IsWay : (List ℕ → Option (List ℕ)) → (List ℕ → Type 0)

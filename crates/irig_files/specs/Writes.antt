@@ -1,9 +1,8 @@
 -- The writes that were tried on a disk, and what a crash leaves of them. This project's own.
-use Rattle.std.specs.Prelude.{◌≡◌, ◌≢◌, ◌⊎◌, ◌≤◌, ◌++◌, Bool, IsTrue, ℕ, List, [], ◌∷◌, Option, Some}
-use Rattle.std.specs.Prelude.{None}
-use Rattle.irig_disk.specs.Disk.{Disk, MayLeave}
-use Rattle.irig_disk.specs.Held.{Held}
+use Rattle.std.specs.Prelude.{◌≡◌, ◌≢◌, ◌⊎◌, ◌≤◌, ◌++◌, Bool, IsTrue, ℕ, List, [], ◌∷◌, Option}
+use Rattle.std.specs.Prelude.{Some, None}
 use Rattle.irig_disk.specs.Trail.{Step, Moved, NotMoved, Synced}
+use Rattle.irig_disk.specs.{Disk.Disk, Disk.MayLeave, Held.Held}
 
 -- a write that was tried: its place, what it was to leave there, and the moment at which it had
 -- succeeded, if it did

@@ -3,11 +3,8 @@
 ghost use Rattle.std.specs.Prelude.{◌≡◌, ◌<◌, ◌≤◌, ◌^◌, Bool, ℕ, List, Option, IfOk, IfSome};
 ghost use Rattle.std.specs.Prelude.{IsErrOf, IsTrue, length};
 ghost use Rattle.irig_vcd.specs.Answer.{name_of};
-ghost use Rattle.irig_disk.specs.Disk.{Disk, MayLeave};
-ghost use Rattle.irig_disk.specs.Held.{Held};
-ghost use Rattle.irig_files.specs.Once.{PutsOnce};
-ghost use Rattle.irig_files.specs.Puts.{count_of};
-ghost use Rattle.irig_files.specs.Reads.{IsReadOf};
+ghost use Rattle.irig_disk.specs.{Disk.Disk, Disk.MayLeave, Held.Held};
+ghost use Rattle.irig_files.specs.{Once.PutsOnce, Puts.count_of, Reads.IsReadOf};
 
 use crate::dump_file::DumpFileFault;
 use crate::intake::Parts;

@@ -1,11 +1,10 @@
 //! The dump in a file, read in parts.
 
-ghost use Rattle.std.specs.Prelude.{◌≡◌, ◌≢◌, ◌<◌, ◌^◌, ◌↔◌, ℕ, List, None, IfOk, OnOk};
-ghost use Rattle.std.specs.Prelude.{IfErr, IfSome, IsErrOf, IsOk, IsTrue, MatchResult, true, false};
+ghost use Rattle.std.specs.Prelude.{◌≡◌, ◌≢◌, ◌<◌, ◌^◌, ◌↔◌, ℕ, List, None, IfOk, OnOk, IfErr};
+ghost use Rattle.std.specs.Prelude.{IfSome, IsErrOf, IsOk, IsTrue, MatchResult, true, false};
 ghost use Rattle.std.specs.Prelude.{length};
-ghost use Rattle.std.specs.IoError.{error_kind};
-ghost use Rattle.std.specs.Fs.{IsFile, file_type, metadata_len};
 ghost use Rattle.std.specs.Io.KnownBytes.{Consumes, IsAtEnd};
+ghost use Rattle.std.specs.{IoError.error_kind, Fs.IsFile, Fs.file_type, Fs.metadata_len};
 ghost use Rattle.irig_vcd.specs.Answer.{name_of};
 ghost use Rattle.irig_files.specs.Reads.{IsCounted, IsReadOf, Takes};
 ghost use Rattle.irig_files.specs.declared.dump_file.DumpFileFault.TheVariants.{TooLong};

@@ -4,8 +4,7 @@ ghost use Rattle.std.specs.Prelude.{◌≡◌, ◌∷◌, IsTrue, refl};
 ghost use Rattle.std.proofs.Common.{◌∙◌};
 ghost use Rattle.irig_text.specs.Shelved.{shelved};
 ghost use Rattle.irig_files.specs.Going.{goes_by_both, goes_nowhere};
-ghost use Rattle.irig_files.specs.Puts.{texts_at, writes_on};
-ghost use Rattle.irig_files.specs.Writes.{Goes};
+ghost use Rattle.irig_files.specs.{Puts.texts_at, Puts.writes_on, Writes.Goes};
 
 use crate::disk::Disk;
 use crate::room::Room;

@@ -5,8 +5,7 @@ ghost use Rattle.std.specs.Prelude.{IsErrOf, IsTrue, MatchOption, OnOk, codes, f
 ghost use Rattle.std.specs.Prelude.{option_map, true, ⊤};
 ghost use Rattle.std.specs.Path.{path_buf_bytes};
 ghost use Rattle.irig_vcd.specs.Answer.{name_of};
-ghost use Rattle.irig_files.specs.Paths.{IsFolderOf, followed};
-ghost use Rattle.irig_files.specs.Reads.{IsReadOf};
+ghost use Rattle.irig_files.specs.{Paths.IsFolderOf, Paths.followed, Reads.IsReadOf};
 
 use crate::described::Described;
 use crate::dump_file::DumpFileFault;

@@ -1,13 +1,10 @@
 //! The dump in a file, as far as it is taken in.
 
-ghost use Rattle.std.specs.Prelude.{◌≡◌, ◌≢◌, ◌≤◌, ◌<◌, ◌⊎◌, [], ℕ, List, Option, None};
-ghost use Rattle.std.specs.Prelude.{Ok, Err, IfOk, IfErr, IsOk, IsErrOf, OnOk, OnErr, length, min};
-ghost use Rattle.irig_vcd.specs.Answer.{Gives, name_of};
-ghost use Rattle.irig_vcd.specs.Declarations.{declarations_of};
-ghost use Rattle.irig_vcd.specs.Parts.{dump_parts};
-ghost use Rattle.irig_vcd.specs.Words.{words_of};
-ghost use Rattle.irig_vcd.specs.declared.fault.VcdFault.{VcdFault};
+ghost use Rattle.std.specs.Prelude.{◌≡◌, ◌≢◌, ◌≤◌, ◌<◌, ◌⊎◌, [], ℕ, List, Option, None, Ok, Err};
+ghost use Rattle.std.specs.Prelude.{IfOk, IfErr, IsOk, IsErrOf, OnOk, OnErr, length, min};
 ghost use Rattle.irig_vcd.specs.declared.fault.VcdFault.TheVariants.{OutOfMemory};
+ghost use Rattle.irig_vcd.specs.{Declarations.declarations_of, declared.fault.VcdFault.VcdFault};
+ghost use Rattle.irig_vcd.specs.{Answer.Gives, Answer.name_of, Parts.dump_parts, Words.words_of};
 ghost use Rattle.irig_files.specs.Reads.{HasFewBytes, HasTaken, IsCounted, Takes, parts_of};
 ghost use Rattle.irig_files.specs.declared.dump_file.DumpFileFault.TheVariants as file;
 

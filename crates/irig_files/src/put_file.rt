@@ -1,12 +1,10 @@
 //! Finds the file that a path leads to, and how it is written: replaced whole, or in place.
 
-ghost use Rattle.std.specs.Prelude.{◌≡◌, ℕ, List, length, None, Some, IfOk, IsTrue};
-ghost use Rattle.std.specs.Prelude.{◌≢◌, IsErr, IsOk, OnErr, OnOk, false, true};
+ghost use Rattle.std.specs.Prelude.{◌≡◌, ℕ, List, length, None, Some, IfOk, IsTrue, ◌≢◌, IsErr};
+ghost use Rattle.std.specs.Prelude.{IsOk, OnErr, OnOk, false, true};
 ghost use Rattle.std.specs.Path.{path_buf_bytes};
-ghost use Rattle.irig_files.specs.Once.{PutsOnce};
 ghost use Rattle.irig_files.specs.Paths.{LeadsTo, folder_of};
-ghost use Rattle.irig_files.specs.Puts.{count_of};
-ghost use Rattle.irig_files.specs.Ways.{IsWay};
+ghost use Rattle.irig_files.specs.{Once.PutsOnce, Puts.count_of, Ways.IsWay};
 
 use crate::described::Described;
 use crate::file_system::FileSystem;

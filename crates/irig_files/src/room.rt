@@ -1,8 +1,7 @@
 //! The memory of a write.
 
 ghost use Rattle.std.specs.Prelude.{◌≡◌, ◌≤◌, ◌+◌, [], IfOk, string_capacity};
-ghost use Rattle.std.specs.Path.{path_buf_cap};
-ghost use Rattle.std.specs.Vec.{vec_capacity};
+ghost use Rattle.std.specs.{Path.path_buf_cap, Vec.vec_capacity};
 ghost use Rattle.irig_text.specs.declared.block.TheConstants.{ENOUGH};
 ghost use Rattle.irig_files.specs.declared.room.TheConstants.{NAME};
 

@@ -1,8 +1,7 @@
 //! A text written whole to a regular file.
 
 ghost use Rattle.std.specs.Prelude.{◌≡◌, length, Ok, IfOk, OnErr, IsErr, IsTrue};
-ghost use Rattle.irig_disk.specs.Name.{IsName};
-ghost use Rattle.irig_disk.specs.Put.{held};
+ghost use Rattle.irig_disk.specs.{Name.IsName, Put.held};
 ghost use Rattle.irig_files.specs.Once.{Replaces};
 
 use irig_disk::{Folder, Kept, put_text};

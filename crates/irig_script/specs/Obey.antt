@@ -2,9 +2,11 @@
 pub mod Machine
 pub mod PulseNumbers
 pub mod Replies
+pub mod Asked
 pub mod Obeying
 pub mod Answer
 pub mod Desk
+pub mod Numbers
 pub mod Run
 pub mod Reading
 pub mod OneRun

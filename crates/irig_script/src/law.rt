@@ -3,8 +3,7 @@
 ghost use Rattle.irig_edit.specs.Opened.GoingOn.{IsShort};
 ghost use Rattle.irig_lines.specs.OneCommand.{OneCommand};
 ghost use Rattle.irig_script.specs.Obey.OneDumpRun.{OneDumpRun};
-ghost use Rattle.irig_script.specs.Obey.OneRun.{OneRun};
-ghost use Rattle.irig_script.specs.Obey.SavedRun.{RunsOn};
+ghost use Rattle.irig_script.specs.{Obey.OneRun.OneRun, Obey.SavedRun.RunsOn};
 
 use irig_edit::{Session, calls_give_back, saved_goes_on};
 

@@ -15,3 +15,4 @@ pub use obey::engine::run;
 pub use obey::obeying::obey as obey_command;
 pub use obey::status::{RunFault, Status};
 pub use print::reply::Reply;
+pub use print::verdict_text::put_verdict_text;

@@ -11,3 +11,4 @@ pub mod pulse_line;
 pub mod pulse_lines;
 pub mod reply;
 pub mod row;
+pub mod verdict_text;

@@ -5,4 +5,5 @@ pub mod helpers;
 mod refused_growths;
 mod row;
 mod rows;
+mod stopped_disks;
 mod stops;

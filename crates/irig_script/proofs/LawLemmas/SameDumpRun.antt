@@ -1,10 +1,8 @@
 -- A script runs on a dump in one way.
 use Rattle.std.proofs.Common.{refl}
 use Rattle.irig_edit.specs.Session.Runs.{OneOutcome}
-use Rattle.irig_script.specs.Obey.OneDumpRun.{OneDumpRun, run_in}
-use Rattle.irig_script.specs.Obey.OneRun.{BeginTheSame}
-use Rattle.irig_script.proofs.LawLemmas.SameOpening.{opened_one}
-use Rattle.irig_script.proofs.LawLemmas.SameRun.{one_run}
+use Rattle.irig_script.specs.{Obey.OneDumpRun.OneDumpRun, Obey.OneDumpRun.run_in, Obey.OneRun.BeginTheSame}
+use Rattle.irig_script.proofs.{LawLemmas.SameOpening.opened_one, LawLemmas.SameRun.one_run}
 
 pub one_dump_run : OneOutcome → OneDumpRun
 one_dump_run outcome wire chosen source script one other printed put met =

@@ -3,17 +3,13 @@ use Rattle.std.proofs.Common.{◌≡◌, ℕ, List, [], Option, Some, None, reve
 use Rattle.std.specs.Prelude.{Result, Ok}
 use Rattle.irig_codes.specs.Format.{FormatView}
 use Rattle.irig_saved.proofs.Unique.{same_saved}
-use Rattle.irig_saved.specs.SavedText.{journal_text}
-use Rattle.irig_saved.specs.declared.saved.Saved.{Saved}
+use Rattle.irig_saved.specs.{SavedText.journal_text, declared.saved.Saved.Saved}
 use Rattle.irig_track.proofs.Sets.{edges_of-inj}
 use Rattle.irig_recording.specs.Recording.{RecordingView}
 use Rattle.irig_vcd.specs.declared.fault.VcdFault.{VcdFault}
-use Rattle.irig_edit.specs.Opened.Opened.{IsAccepted, state_of}
 use Rattle.irig_edit.specs.Opened.Openings.{IsOpened, IsStart, IsTextOf}
-use Rattle.irig_edit.specs.Session.Session.{started_work, work_in}
-use Rattle.irig_edit.specs.Session.Work.{Work}
-use Rattle.irig_edit.specs.State.State.{State, recording_of, state}
-use Rattle.irig_edit.specs.Opened.Taken.{steps_of}
+use Rattle.irig_edit.specs.{Opened.Opened.IsAccepted, Opened.Opened.state_of, Session.Session.started_work, Session.Session.work_in, Session.Work.Work}
+use Rattle.irig_edit.specs.{State.State.State, State.State.recording_of, State.State.state, Opened.Taken.steps_of}
 use Rattle.irig_script.specs.Obey.Machine.{Machine}
 
 -- the parts of a dump

@@ -2,23 +2,15 @@
 use Rattle.std.proofs.Common.{◌≡◌, ◌++◌, ◌∷◌, [], ℕ, Option, Some, None, List, map, refl, sym, ap, ap₂, ◌∙◌, subst, arith, ◌⊎◌, inl, inr}
 use Rattle.std.specs.Prelude.{IsSome}
 use Rattle.std.specs.Io.KnownBytes.{Appends}
-use Rattle.irig_edit.specs.Session.Runs.{OneOutcome}
-use Rattle.irig_edit.specs.Saved.SavedSession.{saved_text}
-use Rattle.irig_edit.specs.Session.Session.{work_in}
+use Rattle.irig_edit.specs.{Session.Runs.OneOutcome, Saved.SavedSession.saved_text, Session.Session.work_in}
 use Rattle.irig_script.specs.Obey.Answer.{Answered, IsBad, IsObeyedAs, IsTooLong, Step, texts_of}
-use Rattle.irig_script.specs.Obey.Desk.{status_after}
-use Rattle.irig_text.specs.Shelved.{GrowsBy}
-use Rattle.irig_script.specs.Obey.Machine.{Machine}
-use Rattle.irig_script.specs.Obey.Obeying.{Obeys}
-use Rattle.irig_script.specs.Obey.OneRun.{OneRun, tells_failed_put, wants_memory}
-use Rattle.irig_script.specs.Obey.Replies.{texts_put}
-use Rattle.irig_script.specs.Obey.Run.{Runs}
 use Rattle.irig_script.specs.Print.Listings.{info_text, list_text, marks_text}
 use Rattle.irig_script.specs.Print.Printed.{Answer, frames_text, printed, reply_text}
-use Rattle.irig_lines.specs.Lines.{script_lines}
-use Rattle.irig_script.specs.declared.print.reply.Reply.{Reply}
+use Rattle.irig_script.specs.{Obey.Desk.status_after, Obey.Machine.Machine, Obey.Obeying.Obeys, Obey.OneRun.OneRun, Obey.OneRun.tells_failed_put}
+use Rattle.irig_script.specs.{Obey.OneRun.wants_memory, Obey.Replies.texts_put, Obey.Run.Runs, declared.print.reply.Reply.Reply}
+use Rattle.irig_text.specs.Shelved.{GrowsBy}
+use Rattle.irig_lines.specs.{Lines.script_lines, declared.command.Command.Command}
 use Rattle.irig_script.specs.declared.print.reply.Reply.TheVariants as told
-use Rattle.irig_lines.specs.declared.command.Command.{Command}
 use Rattle.irig_lines.specs.declared.command.Command.TheVariants as command
 use Rattle.irig_lines.proofs.LineOrders.{means_one}
 use Rattle.irig_script.proofs.LawLemmas.SameReply.{bare, dump_same, obeys_one, stays}

@@ -1,11 +1,7 @@
 -- A script runs on a saved session in one way.
 use Rattle.std.proofs.Common.{sym, ◌∙◌}
-use Rattle.irig_edit.specs.Opened.GoingOn.{GoesOn}
-use Rattle.irig_edit.specs.Session.Runs.{OneOutcome}
-use Rattle.irig_script.specs.Obey.Machine.{Machine}
-use Rattle.irig_script.specs.Obey.OneDumpRun.{run_in}
-use Rattle.irig_script.specs.Obey.OneRun.{BeginTheSame}
-use Rattle.irig_script.specs.Obey.SavedRun.{RunsOn}
+use Rattle.irig_edit.specs.{Opened.GoingOn.GoesOn, Session.Runs.OneOutcome}
+use Rattle.irig_script.specs.{Obey.Machine.Machine, Obey.OneDumpRun.run_in, Obey.OneRun.BeginTheSame, Obey.SavedRun.RunsOn}
 use Rattle.irig_script.proofs.LawLemmas.SameRun.{one_run}
 
 pub runs_on : OneOutcome → (m : Machine) → GoesOn m → RunsOn m

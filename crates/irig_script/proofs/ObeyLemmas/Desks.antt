@@ -2,12 +2,10 @@
 use Rattle.std.proofs.Common.{◌≡◌, ◌+◌, ◌++◌, ◌∷◌, [], ℕ, Option, Some, None, List, refl, ap, sym, ◌∙◌, subst, append_assoc, arith}
 use Rattle.std.proofs.KnownBytes.{Appends-nil, Appends-trans}
 use Rattle.std.specs.Io.KnownBytes.{Appends}
-use Rattle.std.proofs.lemmas.List.{append-nil}
-use Rattle.std.proofs.lemmas.Grind.{flat_map-append}
-use Rattle.irig_script.specs.Print.Printed.{Answer, printed}
-use Rattle.irig_text.specs.Shelved.{Shelved, Puts, GrowsBy}
+use Rattle.std.proofs.lemmas.{List.append-nil, Grind.flat_map-append}
 use Rattle.irig_script.specs.Obey.Desk.{Desk, Tells, failures_in, failures_of, status_after}
-use Rattle.irig_script.specs.declared.obey.status.Status.{Status}
+use Rattle.irig_script.specs.{Print.Printed.Answer, Print.Printed.printed, declared.obey.status.Status.Status}
+use Rattle.irig_text.specs.Shelved.{Shelved, Puts, GrowsBy}
 
 grows_none : {T : Type 0} (a : Option (List T)) → GrowsBy a a []
 grows_none None = tt

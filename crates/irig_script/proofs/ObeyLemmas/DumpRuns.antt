@@ -1,16 +1,12 @@
 -- A run on a dump, by the run of its script.
 use Rattle.std.proofs.Common.{◌≡◌, ℕ, List, Option, Result, Ok, Err, MatchResult, subst, sym, ◌∙◌}
 use Rattle.irig_codes.specs.Format.{FormatView}
-use Rattle.irig_vcd.specs.Parts.{dump_parts}
+use Rattle.irig_vcd.specs.{Parts.dump_parts, declared.fault.VcdFault.VcdFault}
 use Rattle.irig_recording.specs.Recording.{RecordingView}
-use Rattle.irig_vcd.specs.declared.fault.VcdFault.{VcdFault}
 use Rattle.irig_vcd.proofs.WholeDump.{no_parts}
-use Rattle.irig_script.specs.Obey.Desk.{Desk}
-use Rattle.irig_script.specs.Obey.DumpRun.{RanOnDump, RunsOnDump, TellsHeading}
-use Rattle.irig_script.specs.declared.obey.status.Status.{Status}
-use Rattle.irig_script.specs.declared.obey.status.RunFault.{RunFault}
-use Rattle.irig_script.specs.declared.obey.dump_run.DumpRunFault.{DumpRunFault}
 use Rattle.irig_script.specs.declared.obey.dump_run.DumpRunFault.TheVariants.{Dump, Run}
+use Rattle.irig_script.specs.{Obey.Desk.Desk, Obey.DumpRun.RanOnDump, Obey.DumpRun.RunsOnDump, Obey.DumpRun.TellsHeading, declared.obey.status.Status.Status}
+use Rattle.irig_script.specs.{declared.obey.status.RunFault.RunFault, declared.obey.dump_run.DumpRunFault.DumpRunFault}
 
 -- a script that ran on a dump that was opened
 pub ran_on_dump : (wire : Option (List ℕ)) (chosen : FormatView) (source : List ℕ) (script left : Option (List ℕ)) (from to : Desk)

@@ -1,9 +1,7 @@
 -- Bytes that are known, over several calls.
-use Rattle.std.proofs.Common.{[], ◌≢◌, ℕ, List, Option, ap, sym, ◌∙◌, subst, length, take, drop, ◌-◌, ◌+◌, ◌<◌}
-use Rattle.std.proofs.Common.{arith}
-use Rattle.std.proofs.Math.Seq.{take-add}
+use Rattle.std.proofs.Common.{[], ◌≢◌, ℕ, List, Option, ap, sym, ◌∙◌, subst, length, take, drop, ◌-◌, ◌+◌, ◌<◌, arith}
+use Rattle.std.proofs.{Math.Seq.take-add, KnownBytes.Appends-trans}
 use Rattle.std.proofs.lemmas.List.{length-drop}
-use Rattle.std.proofs.KnownBytes.{Appends-trans}
 use Rattle.std.specs.Io.KnownBytes.{Appends}
 use Rattle.irig_lines.proofs.WordLemmas.{rest_whole}
 

@@ -1,14 +1,9 @@
 -- The last line of a script, which is obeyed as if it ended with a newline.
 use Rattle.std.proofs.Common.{◌≡◌, ◌++◌, ◌∷◌, [], ℕ, Bool, Some, true, false, List, refl, ap, sym, ◌∙◌, subst}
 use Rattle.std.proofs.lemmas.List.{append-nil}
-use Rattle.irig_script.specs.Obey.Machine.{Machine}
+use Rattle.irig_script.specs.{Obey.Machine.Machine, Obey.Desk.Desk, Obey.Progress.Obeyed, Obey.Progress.BrokeIn, Obey.Reads.with_end, Obey.Run.Ran}
+use Rattle.irig_script.specs.{Obey.Run.Broke, Obey.Run.IsPlain, declared.obey.status.Status.Status, declared.obey.line.Line.Line}
 use Rattle.irig_lines.specs.Lines.{until_quit, script_lines}
-use Rattle.irig_script.specs.Obey.Desk.{Desk}
-use Rattle.irig_script.specs.Obey.Progress.{Obeyed, BrokeIn}
-use Rattle.irig_script.specs.Obey.Reads.{with_end}
-use Rattle.irig_script.specs.Obey.Run.{Ran, Broke, IsPlain}
-use Rattle.irig_script.specs.declared.obey.status.Status.{Status}
-use Rattle.irig_script.specs.declared.obey.line.Line.{Line}
 use Rattle.irig_script.proofs.ObeyLemmas.Lines.{first_line, last_line, lines_and, plain_first}
 use Rattle.irig_script.proofs.ObeyLemmas.Runs.{run_quit, run_broke}
 

@@ -2,18 +2,13 @@
 use Rattle.std.proofs.Common.{◌≡◌, ◌≢◌, ◌==◌, ◌+◌, ◌<◌, ◌++◌, ◌∷◌, [], ℕ, Option, Bool, true, false, List, length, take, drop, get_or, refl, ap, sym, ◌∙◌}
 use Rattle.std.proofs.Common.{subst, append_assoc}
 use Rattle.std.specs.List.{AllByRecursion}
-use Rattle.std.proofs.lemmas.List.{append-nil, take-append-drop, take_more}
-use Rattle.std.proofs.lemmas.Grind.{flat_map-append}
-use Rattle.irig_script.specs.Obey.Machine.{Machine}
-use Rattle.irig_lines.specs.Lines.{lines_of, until_quit, script_lines, is_quit}
-use Rattle.irig_script.specs.Obey.Answer.{Answered}
-use Rattle.irig_script.specs.Print.Printed.{Answer, printed}
-use Rattle.irig_script.specs.Obey.Desk.{Desk, desk, Tells, status_after}
-use Rattle.irig_text.specs.Shelved.{Shelved}
+use Rattle.std.proofs.lemmas.{List.append-nil, List.take-append-drop, List.take_more, Grind.flat_map-append}
 use Rattle.irig_script.specs.Obey.Run.{Runs, Goes, IsPlain, IsObeyed, unlines}
 use Rattle.irig_script.specs.Obey.Progress.{Holds, Ends, Obeyed, BrokeIn}
-use Rattle.irig_script.specs.declared.obey.status.Status.{Status}
-use Rattle.irig_script.specs.declared.obey.line.Line.{Line}
+use Rattle.irig_script.specs.{Obey.Machine.Machine, Obey.Answer.Answered, Print.Printed.Answer, Print.Printed.printed, Obey.Desk.Desk, Obey.Desk.desk}
+use Rattle.irig_script.specs.{Obey.Desk.Tells, Obey.Desk.status_after, declared.obey.status.Status.Status, declared.obey.line.Line.Line}
+use Rattle.irig_lines.specs.Lines.{lines_of, until_quit, script_lines, is_quit}
+use Rattle.irig_text.specs.Shelved.{Shelved}
 use Rattle.irig_script.proofs.ObeyLemmas.Desks.{status_after-append, tells_none, tells-answers, tells-part}
 
 -- a byte before a text that has no newline

@@ -1,23 +1,13 @@
 -- Which lines end a script.
 use Rattle.std.proofs.Common.{◌≡◌, ◌≢◌, ◌<◌, ◌≤◌, ◌∷◌, ◌++◌, [], ℕ, true, false, not, List, length, nat_lt, refl, sym, ap, ◌∙◌, subst, arith, inl, inr}
-use Rattle.std.proofs.lemmas.Bool.Decides.{nat_tests}
-use Rattle.std.proofs.lemmas.Bool.{and_parts, false_from_ne_true}
-use Rattle.irig_lines.specs.Commands.{Asks}
-use Rattle.irig_lines.specs.Grammar.{AsksIn, Does, IsOrder, Means}
-use Rattle.irig_lines.specs.Keywords.{keyword_of}
-use Rattle.irig_lines.specs.Lines.{are_quit, is_quit, is_quit_word}
-use Rattle.irig_lines.specs.Words.{before, onward, words_of}
+use Rattle.std.proofs.lemmas.{Bool.Decides.nat_tests, Bool.and_parts, Bool.false_from_ne_true}
 use Rattle.irig_lines.specs.declared.cutting.Until.TheVariants.{Blank, Text}
-use Rattle.irig_lines.specs.declared.keyword.Keyword.{Keyword}
+use Rattle.irig_lines.specs.{Commands.Asks, Grammar.AsksIn, Grammar.Does, Grammar.IsOrder, Grammar.Means, Keywords.keyword_of, Lines.are_quit, Lines.is_quit}
+use Rattle.irig_lines.specs.{Lines.is_quit_word, Words.before, Words.onward, Words.words_of, declared.keyword.Keyword.Keyword, declared.command.Command.Command}
 use Rattle.irig_lines.specs.declared.keyword.Keyword.TheVariants as word
-use Rattle.irig_lines.specs.declared.command.Command.{Command}
 use Rattle.irig_lines.specs.declared.command.Command.TheVariants as command
-use Rattle.irig_lines.proofs.KnownWords.{next_word}
-use Rattle.irig_lines.proofs.LineReading.{order_of}
-use Rattle.irig_lines.proofs.OrderParts.{found_words}
 use Rattle.irig_lines.proofs.LineOrders.{means_one, means_onward}
-use Rattle.irig_lines.proofs.Spacing.{words_onward}
-use Rattle.irig_lines.proofs.WordLemmas.{words_split}
+use Rattle.irig_lines.proofs.{KnownWords.next_word, LineReading.order_of, OrderParts.found_words, Spacing.words_onward, WordLemmas.words_split}
 
 -- no other word asks for the end of a script
 only_quit : (k : Keyword) (range : List ℕ) (args : List (List ℕ)) → Asks k range args command.Quit → k ≡ word.Quit

@@ -2,12 +2,8 @@
 use Rattle.std.proofs.Common.{◌≤◌, ◌+◌, ◌^◌, ◌++◌, [], ℕ, Option, List, false, length, refl, arith}
 use Rattle.std.proofs.KnownBytes.{Consumes-nil}
 use Rattle.std.specs.Io.KnownBytes.{Consumes}
-use Rattle.irig_script.specs.Obey.Machine.{Machine}
-use Rattle.irig_script.specs.Obey.Desk.{Desk}
-use Rattle.irig_script.specs.Obey.Progress.{Obeyed}
 use Rattle.irig_script.specs.Obey.Reading.{HasNoEnd, ReadsTo}
-use Rattle.irig_script.specs.declared.obey.status.Status.{Status}
-use Rattle.irig_script.specs.declared.obey.line.Line.{Line}
+use Rattle.irig_script.specs.{Obey.Machine.Machine, Obey.Desk.Desk, Obey.Progress.Obeyed, declared.obey.status.Status.Status, declared.obey.line.Line.Line}
 
 -- bytes that were obeyed and do not end the script
 no_end : (a b : Desk) (st su : Status) (s t : Machine) (bytes : List ℕ) (line : Line) → Obeyed false a b st su s t bytes line → HasNoEnd bytes

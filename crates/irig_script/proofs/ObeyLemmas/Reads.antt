@@ -3,21 +3,14 @@ use Rattle.std.proofs.Common.{◌≡◌, ◌==◌, ◌≤◌, ◌<◌, ◌^◌, 
 use Rattle.std.specs.Prelude.{Ok, Err}
 use Rattle.std.proofs.KnownBytes.{Consumes-kept, Consumes-nil, Consumes-trans}
 use Rattle.std.specs.Io.KnownBytes.{Consumes, IsAtEnd, Keeps}
-use Rattle.std.proofs.lemmas.Bool.Decides.{nat_tests}
-use Rattle.std.proofs.lemmas.List.{append-nil}
-use Rattle.irig_script.specs.Obey.Machine.{Machine}
-use Rattle.irig_script.specs.Obey.Desk.{Desk}
-use Rattle.irig_script.specs.Obey.Progress.{Holds, Obeyed, BrokeIn}
-use Rattle.irig_script.specs.Obey.Reading.{ReadsTo}
+use Rattle.std.proofs.lemmas.{Bool.Decides.nat_tests, List.append-nil}
 use Rattle.irig_script.specs.Obey.Reads.{IsUnderway, HasEnded, GoesOn, with_end}
-use Rattle.irig_script.specs.declared.obey.status.Status.{Status}
-use Rattle.irig_script.specs.declared.obey.status.Status.TheVariants.{AllAccepted}
 use Rattle.irig_script.specs.declared.obey.status.RunFault.TheVariants.{ReadFailed, PrintFailed}
-use Rattle.irig_script.specs.declared.obey.line.Line.{Line}
+use Rattle.irig_script.specs.{Obey.Machine.Machine, Obey.Desk.Desk, Obey.Progress.Holds, Obey.Progress.Obeyed, Obey.Progress.BrokeIn, Obey.Reading.ReadsTo}
+use Rattle.irig_script.specs.{declared.obey.status.Status.Status, declared.obey.status.Status.TheVariants.AllAccepted, declared.obey.line.Line.Line}
 use Rattle.irig_script.proofs.ObeyLemmas.LastLines.{ran_last, broke_last}
-use Rattle.irig_script.proofs.ObeyLemmas.Lines.{obeyed_more, broke_more}
-use Rattle.irig_script.proofs.ObeyLemmas.Reading.{reads_to}
 use Rattle.irig_script.proofs.ObeyLemmas.Runs.{run_ended, run_quit, run_broke, run_broken}
+use Rattle.irig_script.proofs.{ObeyLemmas.Lines.obeyed_more, ObeyLemmas.Lines.broke_more, ObeyLemmas.Reading.reads_to}
 
 -- the newline is missing only if some byte of the line has come
 pub end_none : (text : List ℕ) → (length text == 0) ≡ true → [] ≡ with_end text []

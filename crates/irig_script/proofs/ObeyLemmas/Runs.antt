@@ -3,14 +3,10 @@ use Rattle.std.proofs.Common.{◌≡◌, ◌++◌, ◌∷◌, [], ℕ, Option, S
 use Rattle.std.specs.Prelude.{IfSome}
 use Rattle.std.specs.Io.KnownBytes.{Consumes, IsAtEnd}
 use Rattle.std.proofs.lemmas.List.{append-nil}
-use Rattle.irig_script.specs.Obey.Machine.{Machine}
-use Rattle.irig_lines.specs.Lines.{until_quit, script_lines, lines_of}
-use Rattle.irig_script.specs.Print.Printed.{Answer}
-use Rattle.irig_script.specs.Obey.Desk.{Desk, status_after}
-use Rattle.irig_script.specs.Obey.Run.{Runs, Ran, Broke, unlines}
 use Rattle.irig_script.specs.Obey.Progress.{Holds, Obeyed, BrokeIn}
-use Rattle.irig_script.specs.declared.obey.status.Status.{Status}
-use Rattle.irig_script.specs.declared.obey.line.Line.{Line}
+use Rattle.irig_script.specs.{Obey.Machine.Machine, Print.Printed.Answer, Obey.Desk.Desk, Obey.Desk.status_after, Obey.Run.Runs, Obey.Run.Ran, Obey.Run.Broke}
+use Rattle.irig_script.specs.{Obey.Run.unlines, declared.obey.status.Status.Status, declared.obey.line.Line.Line}
+use Rattle.irig_lines.specs.Lines.{until_quit, script_lines, lines_of}
 use Rattle.irig_script.proofs.ObeyLemmas.Desks.{tells-answers, tells-part, status_after-append}
 use Rattle.irig_script.proofs.ObeyLemmas.Lines.{first_line, lines_and, until_ended, runs-runs}
 

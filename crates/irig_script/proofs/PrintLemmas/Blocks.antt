@@ -3,8 +3,7 @@ use Rattle.std.proofs.Common.{[], ◌∷◌, ◌≢◌, ◌++◌, ℕ, List, Opt
 use Rattle.std.proofs.KnownBytes.{Appends-trans}
 use Rattle.std.specs.Io.KnownBytes.{Appends}
 use Rattle.std.specs.Prelude.{Result, Ok, Err}
-use Rattle.irig_script.specs.Print.Blocks.{Sends}
-use Rattle.irig_script.specs.Print.Front.{AppendsFront, Prints}
+use Rattle.irig_script.specs.{Print.Blocks.Sends, Print.Front.AppendsFront, Print.Front.Prints}
 
 -- what is missing of a text is missing of a longer one
 missing_longer : (x y : List ℕ) → x ≢ [] → x ++ y ≢ []

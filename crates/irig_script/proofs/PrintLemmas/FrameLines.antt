@@ -1,10 +1,7 @@
 -- The records of frames.
 use Rattle.std.proofs.Common.{◌≡◌, ◌+◌, ◌-◌, ◌<◌, ℕ, List, Some, length, get_or, slice_get, ap, ◌∙◌, subst, arith}
-use Rattle.std.proofs.lemmas.List.Elements.{Contains-get_or}
-use Rattle.std.proofs.lemmas.Option.{get_or_from_slice_get, slice_get-get_or, slice_get_within}
-use Rattle.irig_index.specs.declared.record.Record.{Record}
-use Rattle.irig_index.specs.declared.record.Cause.TheVariants.{Ended}
-use Rattle.irig_index.specs.declared.record.Verdict.TheVariants.{Broken}
+use Rattle.std.proofs.lemmas.{List.Elements.Contains-get_or, Option.get_or_from_slice_get, Option.slice_get-get_or, Option.slice_get_within}
+use Rattle.irig_index.specs.{declared.record.Record.Record, declared.record.Cause.TheVariants.Ended, declared.record.Verdict.TheVariants.Broken}
 use Rattle.irig_index.proofs.MarkerLaws.{frames_are_the_markers}
 use Rattle.irig_edit.specs.State.State.{State, frames_of}
 use Rattle.irig_script.specs.Print.Printed.{record_line}

@@ -1,8 +1,6 @@
 -- The marks a to z, one after another.
-use Rattle.std.proofs.Common.{◌≡◌, ◌+◌, ◌-◌, ◌<◌, ℕ, List, Option, None, Some, length, take, get_or, slice_get, ap₂, sym, subst, ◌∙◌}
-use Rattle.std.proofs.Common.{arith}
-use Rattle.std.proofs.lemmas.List.{get_or-take, length-take, take_all}
-use Rattle.std.proofs.lemmas.Option.{get_or_from_slice_get, slice_get_within}
+use Rattle.std.proofs.Common.{◌≡◌, ◌+◌, ◌-◌, ◌<◌, ℕ, List, Option, None, Some, length, take, get_or, slice_get, ap₂, sym, subst, ◌∙◌, arith}
+use Rattle.std.proofs.lemmas.{List.get_or-take, List.length-take, List.take_all, Option.get_or_from_slice_get, Option.slice_get_within}
 use Rattle.irig_script.specs.Print.Listings.{mark_line}
 
 pub few_marks : (marks : List (Option ℕ)) → take 26 (take 26 marks) ≡ take 26 marks

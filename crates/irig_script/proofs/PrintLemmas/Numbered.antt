@@ -1,9 +1,7 @@
 -- Numbered lines, one after another, sent through a block.
 use Rattle.std.proofs.Common.{◌≡◌, ◌+◌, ◌<◌, ◌++◌, ◌∷◌, [], ℕ, suc, zero, List, Option, length, take, get_or, refl, ap, sym, ◌∙◌, subst, append_assoc, arith}
 use Rattle.std.proofs.lemmas.List.{append-nil}
-use Rattle.irig_script.specs.Print.Blocks.{Sends}
-use Rattle.irig_script.specs.Print.Front.{AppendsFront}
-use Rattle.irig_script.specs.Print.Numbered.{numbered}
+use Rattle.irig_script.specs.{Print.Blocks.Sends, Print.Front.AppendsFront, Print.Numbered.numbered}
 use Rattle.irig_script.proofs.PrintLemmas.Blocks.{front_longer, sends_front, sends_more}
 
 -- one more line

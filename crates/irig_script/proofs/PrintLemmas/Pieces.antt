@@ -1,18 +1,14 @@
 -- Listings of pulses, piece by piece.
 use Rattle.std.proofs.Common.{◌≡◌, ◌+◌, ◌-◌, ◌≤◌, ◌++◌, ℕ, suc, zero, List, ◌∷◌, Option, Some, length, drop, take, get_or, slice_get, min, ap, sym, ◌∙◌, subst}
 use Rattle.std.proofs.Common.{append_assoc, arith}
-use Rattle.std.proofs.lemmas.List.{length-drop, take_min}
-use Rattle.std.proofs.lemmas.Option.{slice_get-get_or}
+use Rattle.std.proofs.lemmas.{List.length-drop, List.take_min, Option.slice_get-get_or}
 use Rattle.std.proofs.KnownBytes.{Appends-trans}
 use Rattle.std.specs.Io.KnownBytes.{Appends}
 use Rattle.irig_recording.specs.declared.pulse.Pulse.{Pulse}
-use Rattle.irig_track.specs.Edges.{pulse}
-use Rattle.irig_track.specs.Splices.{piece}
+use Rattle.irig_track.specs.{Edges.pulse, Splices.piece}
 use Rattle.irig_track.proofs.Items.{drop-item}
 use Rattle.irig_edit.specs.State.State.{State}
-use Rattle.irig_script.specs.Print.Front.{AppendsFront}
-use Rattle.irig_script.specs.Print.Listings.{list_text, pulse_line}
-use Rattle.irig_script.specs.Print.Numbered.{numbered}
+use Rattle.irig_script.specs.{Print.Front.AppendsFront, Print.Listings.list_text, Print.Listings.pulse_line, Print.Numbered.numbered}
 use Rattle.irig_lines.proofs.WordLemmas.{rest_whole}
 use Rattle.irig_script.proofs.PrintLemmas.Blocks.{front_behind, front_longer}
 

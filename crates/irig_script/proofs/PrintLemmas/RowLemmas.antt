@@ -1,10 +1,8 @@
 -- Digits of printed numbers.
 use Rattle.std.proofs.Common.{◌≡◌, ◌+◌, ◌-◌, ◌*◌, ◌/◌, ◌%◌, ◌^◌, ◌<◌, ◌≤◌, ◌==◌, [], ℕ, suc, zero, List, length, false, refl, ap, sym, subst, ◌∙◌, arith, drop}
 use Rattle.std.proofs.Common.{slice_set}
-use Rattle.std.proofs.lemmas.Bool.Decides.{nat_tests}
-use Rattle.std.proofs.lemmas.Grind.{drop-set_at}
-use Rattle.std.proofs.Math.ListN.{drop_of_length-le}
-use Rattle.std.proofs.Math.Nat.{pow-suc}
+use Rattle.std.proofs.lemmas.{Bool.Decides.nat_tests, Grind.drop-set_at}
+use Rattle.std.proofs.{Math.ListN.drop_of_length-le, Math.Nat.pow-suc}
 use Rattle.std.specs.Fmt.{digits, digits_onto, digit_glyph}
 
 -- what is left to write before the digits that are at the end of the buffer

@@ -1,16 +1,12 @@
 -- What the session answers to a line of a script. This project's own.
 use Rattle.std.specs.Prelude.{◌≡◌, ◌<◌, ◌≤◌, ◌⊎◌, ℕ, List, [], ◌∷◌, length}
-use Rattle.irig_edit.specs.Saved.SavedSession.{saved_text}
-use Rattle.irig_edit.specs.Session.Session.{work_in}
-use Rattle.irig_script.specs.Obey.Machine.{Machine}
-use Rattle.irig_lines.specs.Grammar.{Means}
-use Rattle.irig_script.specs.Obey.Obeying.{Obeys}
-use Rattle.irig_script.specs.Obey.Replies.{dump_text, texts_put}
+use Rattle.irig_edit.specs.{Saved.SavedSession.saved_text, Session.Session.work_in}
 use Rattle.irig_script.specs.Print.Printed.{Answer, reply_text}
-use Rattle.irig_lines.specs.declared.command.Command.{Command}
-use Rattle.irig_lines.specs.declared.command.Command.TheVariants as command
-use Rattle.irig_script.specs.declared.print.reply.Reply.{Reply}
 use Rattle.irig_script.specs.declared.print.reply.Reply.TheVariants.{BadLine, LineTooLong}
+use Rattle.irig_script.specs.{Obey.Machine.Machine, Obey.Obeying.Obeys, Obey.Replies.dump_text}
+use Rattle.irig_script.specs.{Obey.Replies.texts_put, declared.print.reply.Reply.Reply}
+use Rattle.irig_lines.specs.{Grammar.Means, declared.command.Command.Command}
+use Rattle.irig_lines.specs.declared.command.Command.TheVariants as command
 
 -- the line is too long, which is reported before anything else of it
 abbrev pub IsTooLong : Machine → List ℕ → Reply → List (List ℕ) → Machine → Type 0

@@ -1,16 +1,13 @@
 -- What lies round a session: what was printed, the texts written to the shelf, and how often it
 -- failed. And the status that answers make. This project's own.
-use Rattle.std.specs.Prelude.{◌+◌, ℕ, Bool, true, false, List, [], ◌∷◌, Option}
-use Rattle.std.specs.Prelude.{if◌then◌else◌}
+use Rattle.std.specs.Prelude.{◌+◌, ℕ, Bool, true, false, List, [], ◌∷◌, Option, if◌then◌else◌}
 use Rattle.std.specs.Io.KnownBytes.{Appends}
-use Rattle.irig_script.specs.Print.Printed.{Answer}
-use Rattle.irig_text.specs.Shelved.{Shelved, Puts}
-use Rattle.irig_script.specs.declared.print.reply.Reply.{Reply}
-use Rattle.irig_script.specs.declared.print.reply.Reply.TheVariants.{Written, Refused}
-use Rattle.irig_script.specs.declared.print.reply.Reply.TheVariants.{BadLine, LineTooLong}
-use Rattle.irig_script.specs.declared.print.reply.Reply.TheVariants.{WriteFailed}
+use Rattle.irig_script.specs.declared.print.reply.Reply.TheVariants.{Written, Refused, BadLine}
+use Rattle.irig_script.specs.declared.print.reply.Reply.TheVariants.{LineTooLong, WriteFailed}
 use Rattle.irig_script.specs.declared.obey.status.Status.{Status}
 use Rattle.irig_script.specs.declared.obey.status.Status.TheVariants.{SomeRefused}
+use Rattle.irig_script.specs.{Print.Printed.Answer, declared.print.reply.Reply.Reply}
+use Rattle.irig_text.specs.Shelved.{Shelved, Puts}
 
 -- how many failures of the shelf a reply reports
 abbrev pub failures_of : Reply → ℕ

@@ -1,13 +1,11 @@
 -- How a run ends, and what it leaves. This project's own.
 use Rattle.std.specs.Prelude.{◌^◌, ℕ, List, Option, Result, Ok, Err, IfSome}
-use Rattle.irig_script.specs.Obey.Machine.{Machine}
-use Rattle.irig_script.specs.Obey.Desk.{Desk}
-use Rattle.irig_script.specs.Obey.Run.{Ran, Broke, Stopped}
-use Rattle.irig_script.specs.declared.obey.status.Status.{Status}
 use Rattle.irig_script.specs.declared.obey.status.Status.TheVariants.{AllAccepted}
-use Rattle.irig_script.specs.declared.obey.status.RunFault.{RunFault}
 use Rattle.irig_script.specs.declared.obey.status.RunFault.TheVariants.{ReadFailed, TooManyReads}
 use Rattle.irig_script.specs.declared.obey.status.RunFault.TheVariants.{PrintFailed}
+use Rattle.irig_script.specs.{Obey.Machine.Machine, Obey.Desk.Desk, Obey.Run.Ran, Obey.Run.Broke}
+use Rattle.irig_script.specs.{Obey.Run.Stopped, declared.obey.status.Status.Status}
+use Rattle.irig_script.specs.{declared.obey.status.RunFault.RunFault}
 
 -- the whole script was obeyed; or just the lines that were read, of at least 2^32 bytes if there
 -- were too many reads; or the lines to one whose answer was not printed whole

@@ -2,11 +2,10 @@
 -- write. This project's own.
 use Rattle.std.specs.Prelude.{◌≡◌, ℕ, List, Option, Some, Ok}
 use Rattle.irig_codes.specs.Format.{FormatView}
-use Rattle.irig_script.specs.Obey.Desk.{Desk}
-use Rattle.irig_script.specs.Obey.DumpRun.{RanOnDump}
 use Rattle.irig_script.specs.Obey.OneRun.{EndTheSame, MeetTheSame, RunOf}
 use Rattle.irig_script.specs.declared.obey.status.Status.{Status}
 use Rattle.irig_script.specs.declared.obey.status.Status.TheVariants.{AllAccepted}
+use Rattle.irig_script.specs.{Obey.Desk.Desk, Obey.DumpRun.RanOnDump}
 
 -- a whole script that ran on a dump, with what lay round before and afterwards
 pub record DumpRunOf (wire : Option (List ℕ)) (chosen : FormatView) (source script : List ℕ) : Type

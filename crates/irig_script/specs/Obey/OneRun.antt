@@ -3,13 +3,10 @@
 use Rattle.std.specs.Prelude.{◌≡◌, ℕ, Bool, true, false, List, map, IsSome}
 use Rattle.irig_edit.specs.Session.Session.{work_in}
 use Rattle.irig_edit.specs.declared.session.refusal.Refusal.TheVariants.{OutOfMemory}
-use Rattle.irig_script.specs.Obey.Machine.{Machine}
-use Rattle.irig_script.specs.Obey.Desk.{Desk}
-use Rattle.irig_script.specs.Obey.Run.{Ran}
-use Rattle.irig_script.specs.Print.Printed.{Answer}
 use Rattle.irig_script.specs.declared.obey.status.Status.{Status}
-use Rattle.irig_script.specs.declared.print.reply.Reply.{Reply}
 use Rattle.irig_script.specs.declared.print.reply.Reply.TheVariants.{Refused, WriteFailed}
+use Rattle.irig_script.specs.{Obey.Machine.Machine, Obey.Desk.Desk, Obey.Run.Ran}
+use Rattle.irig_script.specs.{Print.Printed.Answer, declared.print.reply.Reply.Reply}
 
 -- the reply reports that memory ran out
 abbrev pub wants_memory : Reply → Bool

@@ -2,16 +2,13 @@
 -- own.
 use Rattle.std.specs.Prelude.{◌≡◌, ◌≢◌, ℕ, Bool, true, false, List, [], ◌∷◌, ◌++◌, length, take}
 use Rattle.std.specs.Prelude.{min, nat_lt, Option, Some, None}
-use Rattle.irig_script.specs.Obey.Machine.{Machine}
-use Rattle.irig_lines.specs.Lines.{is_quit}
-use Rattle.irig_script.specs.Obey.Answer.{Step}
 use Rattle.irig_script.specs.Print.Printed.{Answer, printed}
 use Rattle.irig_script.specs.Obey.Desk.{Desk, Tells, failures_of, status_after}
-use Rattle.irig_script.specs.Obey.Run.{Goes, IsPlain}
+use Rattle.irig_script.specs.{Obey.Machine.Machine, Obey.Answer.Step, Obey.Run.Goes}
+use Rattle.irig_script.specs.{Obey.Run.IsPlain, declared.print.reply.Reply.Reply}
+use Rattle.irig_script.specs.{declared.obey.status.Status.Status, declared.obey.line.Line.Line}
+use Rattle.irig_lines.specs.Lines.{is_quit}
 use Rattle.irig_text.specs.Shelved.{Shelved, Puts}
-use Rattle.irig_script.specs.declared.print.reply.Reply.{Reply}
-use Rattle.irig_script.specs.declared.obey.status.Status.{Status}
-use Rattle.irig_script.specs.declared.obey.line.Line.{Line}
 
 -- the line buffer holds the text, as far as it has room
 pub record Holds (text : List ℕ) (line : Line) : Type 0 where

@@ -1,7 +1,6 @@
 -- How far a run reads its script. This project's own.
 use Rattle.std.specs.Prelude.{◌≡◌, ◌≤◌, ◌+◌, ◌^◌, ℕ, List, ◌++◌, Option, length}
-use Rattle.std.specs.List.{AllByRecursion}
-use Rattle.std.specs.Io.KnownBytes.{Consumes}
+use Rattle.std.specs.{List.AllByRecursion, Io.KnownBytes.Consumes}
 use Rattle.irig_script.specs.Obey.Run.{IsObeyed, IsPlain, unlines}
 
 -- the bytes have no whole line that ends the script

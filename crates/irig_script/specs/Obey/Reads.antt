@@ -2,15 +2,11 @@
 use Rattle.std.specs.Prelude.{◌≡◌, ◌≤◌, ◌+◌, ◌*◌, ℕ, Bool, true, false, List, [], ◌∷◌, Option}
 use Rattle.std.specs.Prelude.{length, Result, Ok, Err}
 use Rattle.std.specs.Io.KnownBytes.{Consumes}
-use Rattle.irig_script.specs.Obey.Machine.{Machine}
-use Rattle.irig_script.specs.Obey.Desk.{Desk}
-use Rattle.irig_script.specs.Obey.Ending.{EndsAs}
-use Rattle.irig_script.specs.Obey.Progress.{Obeyed}
-use Rattle.irig_script.specs.Obey.Reading.{ReadsTo}
-use Rattle.irig_script.specs.declared.obey.status.Status.{Status}
 use Rattle.irig_script.specs.declared.obey.status.Status.TheVariants.{AllAccepted}
 use Rattle.irig_script.specs.declared.obey.status.RunFault.{RunFault}
-use Rattle.irig_script.specs.declared.obey.line.Line.{Line}
+use Rattle.irig_script.specs.{Obey.Machine.Machine, Obey.Desk.Desk, Obey.Ending.EndsAs}
+use Rattle.irig_script.specs.{Obey.Progress.Obeyed, Obey.Reading.ReadsTo}
+use Rattle.irig_script.specs.{declared.obey.status.Status.Status, declared.obey.line.Line.Line}
 
 -- what a read gave after the front of a line; of no bytes, the newline that the line lacks
 abbrev pub with_end : List ℕ → List ℕ → List ℕ

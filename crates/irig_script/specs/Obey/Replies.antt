@@ -1,20 +1,15 @@
--- What the session replies to a call, a listing, a write and a choice of format: memory may run
--- out, and the shelf may fail. This project's own.
-use Rattle.std.specs.Prelude.{◌≡◌, ◌+◌, ◌-◌, ℕ, Bool, true, false, List, [], length, Result, Ok}
-use Rattle.std.specs.Prelude.{Err}
+-- What the session replies to a call, a listing and a write: memory may run out, and the shelf may
+-- fail. This project's own.
+use Rattle.std.specs.Prelude.{◌≡◌, ◌+◌, ◌-◌, ℕ, List, [], length, Result, Ok, Err, if◌then◌else◌}
 use Rattle.irig_recording.specs.FileText.{file_text}
-use Rattle.irig_codes.specs.Format.{FormatView}
-use Rattle.irig_codes.specs.declared.format.Kind.{Kind}
-use Rattle.irig_edit.specs.State.State.{recording_of}
-use Rattle.irig_edit.specs.Session.Calls.{Call, Edit}
-use Rattle.irig_edit.specs.Edits.Conditions.{are_pulses}
-use Rattle.irig_edit.specs.Session.Session.{Steps}
-use Rattle.irig_edit.specs.declared.session.refusal.Refusal.{Refusal}
+use Rattle.irig_codes.specs.{Format.FormatView, declared.format.Kind.Kind}
+use Rattle.irig_edit.specs.State.State.{State, recording_of}
+use Rattle.irig_edit.specs.{Session.Calls.Call, Session.Calls.Edit, Edits.Conditions.are_pulses}
+use Rattle.irig_edit.specs.{Session.Session.Steps, declared.session.refusal.Refusal.Refusal}
 use Rattle.irig_edit.specs.declared.session.refusal.Refusal.TheVariants as refusal
-use Rattle.irig_script.specs.Obey.Machine.{Machine}
-use Rattle.irig_script.specs.declared.print.reply.Reply.{Reply}
 use Rattle.irig_script.specs.declared.print.reply.Reply.TheVariants.{Silent, Written, Listed}
 use Rattle.irig_script.specs.declared.print.reply.Reply.TheVariants.{Refused, WriteFailed}
+use Rattle.irig_script.specs.{Obey.Machine.Machine, declared.print.reply.Reply.Reply}
 
 -- a call of the session was accepted in silence, or refused
 abbrev pub Calls : Call → Machine → Reply → Machine → Type 0
@@ -46,12 +41,10 @@ abbrev pub reply_to : Result (Unit {0}) Refusal → Reply
 reply_to (Ok done) = Silent
 reply_to (Err why) = Refused why
 
--- pulses i to j are listed, or there are no such pulses
-abbrev pub Lists : ℕ → ℕ → Machine → Reply → Type 0
-Lists i j m (Listed before count) =
-    (are_pulses i j m.state ≡ true) × (before ≡ i - 1) × (count ≡ j + 1 - i)
-Lists i j m (Refused why) = (are_pulses i j m.state ≡ false) × (why ≡ refusal.NoPulse)
-Lists i j m _ = ⊥
+-- the reply to a listing: pulses i to j, if they are there
+abbrev pub listed : ℕ → ℕ → State → Reply
+listed i j s =
+    if are_pulses i j s then Listed (i - 1) (j + 1 - i) else Refused refusal.NoPulse
 
 -- the cursor goes to pulse i, which is listed, or there is no such pulse
 abbrev pub Shows : ℕ → Machine → Reply → Machine → Type 0
@@ -63,8 +56,3 @@ Shows i old _ new = ⊥
 -- a kind with an expression, permitted or not
 abbrev pub format : Kind → ℕ → FormatView
 format kind n = record { kind = kind; expression = n }
-
--- a format is set that permits the expression, or the pair is none
-abbrev pub Formats : Bool → FormatView → Machine → Reply → Machine → Type 0
-Formats true f old reply new = Makes (Edit.SetFormat f) old reply new
-Formats false f old reply new = (reply ≡ Refused refusal.BadExpression) × (new ≡ old)

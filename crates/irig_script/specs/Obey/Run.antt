@@ -2,14 +2,11 @@
 -- that a failed read or write has ended. This project's own.
 use Rattle.std.specs.Prelude.{◌≡◌, ◌≢◌, ◌==◌, ◌≤◌, ℕ, true, false, not, List, [], ◌∷◌, ◌++◌, Option}
 use Rattle.std.specs.Prelude.{length}
-use Rattle.std.specs.List.{list_all, flat_map, AllByRecursion}
-use Rattle.std.specs.Io.KnownBytes.{Consumes}
-use Rattle.irig_script.specs.Obey.Machine.{Machine}
-use Rattle.irig_lines.specs.Lines.{is_quit, script_lines}
-use Rattle.irig_script.specs.Obey.Answer.{Answered}
-use Rattle.irig_script.specs.Print.Printed.{Answer, printed}
+use Rattle.std.specs.{List.list_all, List.flat_map, List.AllByRecursion, Io.KnownBytes.Consumes}
 use Rattle.irig_script.specs.Obey.Desk.{Desk, Tells, status_after}
-use Rattle.irig_script.specs.declared.obey.status.Status.{Status}
+use Rattle.irig_script.specs.{Obey.Machine.Machine, Obey.Answer.Answered, Print.Printed.Answer}
+use Rattle.irig_script.specs.{Print.Printed.printed, declared.obey.status.Status.Status}
+use Rattle.irig_lines.specs.Lines.{is_quit, script_lines}
 
 -- the session may give these answers to these lines and write these texts
 abbrev pub Runs : Machine → List (List ℕ) → List Answer → List (List ℕ) → Machine → Type 0

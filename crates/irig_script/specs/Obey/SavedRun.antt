@@ -3,8 +3,7 @@
 use Rattle.std.specs.Prelude.{◌≡◌, ℕ, List, None}
 use Rattle.irig_codes.specs.Format.{FormatView}
 use Rattle.irig_edit.specs.Saved.SavedSession.{saved_text}
-use Rattle.irig_edit.specs.Session.Session.{work_in}
-use Rattle.irig_edit.specs.Session.Work.{with_floor}
+use Rattle.irig_edit.specs.{Session.Session.work_in, Session.Work.with_floor}
 use Rattle.irig_script.specs.Obey.Machine.{Machine}
 use Rattle.irig_script.specs.Obey.OneDumpRun.{DumpRunOf, run_in}
 use Rattle.irig_script.specs.Obey.OneRun.{EndTheSame, MeetTheSame, RunOf}

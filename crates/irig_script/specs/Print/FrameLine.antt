@@ -1,15 +1,13 @@
 -- The line that the command `frames` prints of a record. This project's own.
 use Rattle.std.specs.Prelude.{ℕ, List, [], ◌++◌, Option, Some, None, codes, decimal}
 use Rattle.irig_codes.specs.declared.fields.Fields.{Fields}
-use Rattle.irig_codes.specs.declared.note.Name.{Name}
 use Rattle.irig_codes.specs.declared.note.Name.TheVariants.{Hundredths, Seconds, Minutes, Hours}
 use Rattle.irig_codes.specs.declared.note.Name.TheVariants.{Days, Year}
-use Rattle.irig_codes.specs.declared.note.Note.{Note}
 use Rattle.irig_codes.specs.declared.note.Note.TheVariants.{Fine, Field, SbsDisagrees, Stray}
-use Rattle.irig_index.specs.declared.record.Cause.{Cause}
+use Rattle.irig_codes.specs.{declared.note.Name.Name, declared.note.Note.Note}
 use Rattle.irig_index.specs.declared.record.Cause.TheVariants.{Ended, Step, Class}
-use Rattle.irig_index.specs.declared.record.Verdict.{Verdict}
 use Rattle.irig_index.specs.declared.record.Verdict.TheVariants.{Broken, Read}
+use Rattle.irig_index.specs.{declared.record.Cause.Cause, declared.record.Verdict.Verdict}
 use Rattle.irig_script.specs.Print.Row.{padded, hexadecimal}
 
 -- why a frame is broken, in a word

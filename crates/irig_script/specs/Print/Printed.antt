@@ -6,15 +6,13 @@ use Rattle.irig_index.specs.declared.record.Record.{Record}
 use Rattle.irig_edit.specs.State.State.{State, frames_of}
 use Rattle.irig_edit.specs.declared.session.refusal.Refusal.{Refusal}
 use Rattle.irig_edit.specs.declared.session.refusal.Refusal.TheVariants as refusal
-use Rattle.irig_script.specs.Print.FrameLine.{frame_line}
 use Rattle.irig_script.specs.Print.Listings.{list_text, marks_text, info_text}
-use Rattle.irig_script.specs.Obey.Machine.{Machine}
-use Rattle.irig_script.specs.Print.Numbered.{numbered}
-use Rattle.irig_script.specs.declared.print.reply.Reply.{Reply}
 use Rattle.irig_script.specs.declared.print.reply.Reply.TheVariants.{Silent, Written, Listed}
 use Rattle.irig_script.specs.declared.print.reply.Reply.TheVariants.{Frames, Marks, Info, Refused}
 use Rattle.irig_script.specs.declared.print.reply.Reply.TheVariants.{BadLine, LineTooLong}
 use Rattle.irig_script.specs.declared.print.reply.Reply.TheVariants.{WriteFailed}
+use Rattle.irig_script.specs.{Print.FrameLine.frame_line, Obey.Machine.Machine}
+use Rattle.irig_script.specs.{Print.Numbered.numbered, declared.print.reply.Reply.Reply}
 
 -- why a command is refused, as a line
 abbrev pub refusal_text : Refusal → List ℕ

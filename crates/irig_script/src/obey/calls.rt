@@ -1,12 +1,8 @@
 //! Commands as calls of the session: addresses and times are taken as it is before them.
 
-ghost use Rattle.std.specs.Prelude.{◌≡◌, Some, None};
-ghost use Rattle.irig_codes.specs.Format.{is_permitted};
-ghost use Rattle.irig_edit.specs.Session.Calls.{Call, Edit};
-ghost use Rattle.irig_script.specs.Obey.Replies.{Calls, Formats, Lists, Makes, Shows, format};
-ghost use Rattle.irig_script.specs.Obey.Replies.{reply_to};
-ghost use Rattle.irig_script.specs.Obey.PulseNumbers.{number_at, first_of, last_of, join_last_of};
-ghost use Rattle.irig_script.specs.Obey.PulseNumbers.{time_of};
+ghost use Rattle.std.specs.Prelude.{◌≡◌};
+ghost use Rattle.irig_lines.specs.declared.command.Command.{Command};
+ghost use Rattle.irig_script.specs.{Obey.Obeying.Obeys, Obey.Replies.reply_to};
 
 use crate::obey::pulse_numbers::{ends, join_ends, number_at, time};
 use crate::print::reply::Reply;
@@ -28,7 +24,7 @@ fn reply_to(outcome: Result<(), Refusal>) -> Reply
 
 /// Moves the cursor to a pulse, and lists it.
 pub fn show(session: &mut Session, address: Address) -> Reply
-    ensures { Shows (number_at address session.old) session.old result session.new }
+    ensures { Obeys (Command.Show address) session.old result session.new }
 {
     let number = number_at(session, &address);
     match session.go(number) {
@@ -39,7 +35,7 @@ pub fn show(session: &mut Session, address: Address) -> Reply
 
 /// Lists pulses.
 pub fn list(session: &Session, range: Range) -> Reply
-    ensures { Lists (first_of range session.now) (last_of range session.now) session.now result }
+    ensures { Obeys (Command.List range) session.now result session.now }
 {
     let (i, j) = ends(session, &range);
     if i == 0 || i > j || j > session.len() {
@@ -51,8 +47,7 @@ pub fn list(session: &Session, range: Range) -> Reply
 
 /// Removes pulses.
 pub fn delete(session: &mut Session, range: Range) -> Reply
-    ensures { Makes (Edit.Delete (first_of range session.old) (last_of range session.old))
-        session.old result session.new }
+    ensures { Obeys (Command.Delete range) session.old result session.new }
 {
     let (i, j) = ends(session, &range);
     reply_to(session.delete(i, j))
@@ -60,8 +55,7 @@ pub fn delete(session: &mut Session, range: Range) -> Reply
 
 /// Moves pulses.
 pub fn shift(session: &mut Session, range: Range, by: i64) -> Reply
-    ensures { Makes (Edit.Shift (first_of range session.old) (last_of range session.old) by)
-        session.old result session.new }
+    ensures { Obeys (Command.Shift range by) session.old result session.new }
 {
     let (i, j) = ends(session, &range);
     reply_to(session.shift(i, j, by))
@@ -69,8 +63,7 @@ pub fn shift(session: &mut Session, range: Range, by: i64) -> Reply
 
 /// Makes one pulse of several.
 pub fn join(session: &mut Session, range: Range) -> Reply
-    ensures { Makes (Edit.Join (first_of range session.old) (join_last_of range session.old))
-        session.old result session.new }
+    ensures { Obeys (Command.Join range) session.old result session.new }
 {
     let (i, j) = join_ends(session, &range);
     reply_to(session.join(i, j))
@@ -78,8 +71,7 @@ pub fn join(session: &mut Session, range: Range) -> Reply
 
 /// Makes the level low inside of a pulse.
 pub fn split(session: &mut Session, address: Address, from: Time, to: Time) -> Reply
-    ensures { Makes (Edit.Split (number_at address session.old) (time_of from session.old)
-        (time_of to session.old)) session.old result session.new }
+    ensures { Obeys (Command.Split address from to) session.old result session.new }
 {
     let i = number_at(session, &address);
     let (a, b) = (time(session, &from), time(session, &to));
@@ -88,8 +80,7 @@ pub fn split(session: &mut Session, address: Address, from: Time, to: Time) -> R
 
 /// Gives a pulse the width of an element.
 pub fn force(session: &mut Session, address: Address, element: Element) -> Reply
-    ensures { Makes (Edit.Force (number_at address session.old) element)
-        session.old result session.new }
+    ensures { Obeys (Command.Force address element) session.old result session.new }
 {
     let i = number_at(session, &address);
     reply_to(session.force(i, element))
@@ -97,8 +88,7 @@ pub fn force(session: &mut Session, address: Address, element: Element) -> Reply
 
 /// Inserts a pulse.
 pub fn insert(session: &mut Session, from: Time, to: Time) -> Reply
-    ensures { Makes (Edit.Insert (time_of from session.old) (time_of to session.old))
-        session.old result session.new }
+    ensures { Obeys (Command.Insert from to) session.old result session.new }
 {
     let (a, b) = (time(session, &from), time(session, &to));
     reply_to(session.insert(a, b))
@@ -106,8 +96,7 @@ pub fn insert(session: &mut Session, from: Time, to: Time) -> Reply
 
 /// Inverts the level between two times.
 pub fn invert(session: &mut Session, from: Time, to: Time) -> Reply
-    ensures { Makes (Edit.Invert (time_of from session.old) (time_of to session.old))
-        session.old result session.new }
+    ensures { Obeys (Command.Invert from to) session.old result session.new }
 {
     let (a, b) = (time(session, &from), time(session, &to));
     reply_to(session.invert(a, b))
@@ -115,8 +104,7 @@ pub fn invert(session: &mut Session, from: Time, to: Time) -> Reply
 
 /// Generates frames.
 pub fn regen(session: &mut Session, start: Time, frames: u64, from: Moment, control: u64) -> Reply
-    ensures { Makes (Edit.Regen (time_of start session.old) frames from control)
-        session.old result session.new }
+    ensures { Obeys (Command.Regen start frames from control) session.old result session.new }
 {
     let start = time(session, &start);
     reply_to(session.regen(start, frames, from, control))
@@ -124,8 +112,7 @@ pub fn regen(session: &mut Session, start: Time, frames: u64, from: Moment, cont
 
 /// Reads frames in another format.
 pub fn set_format(session: &mut Session, kind: Kind, expression: u8) -> Reply
-    ensures { Formats (is_permitted kind expression) (format kind expression)
-        session.old result session.new }
+    ensures { Obeys (Command.Format kind expression) session.old result session.new }
 {
     match Format::new(kind, expression) {
         Ok(format) => reply_to(session.format(format)),
@@ -135,8 +122,7 @@ pub fn set_format(session: &mut Session, kind: Kind, expression: u8) -> Reply
 
 /// Sets a mark.
 pub fn mark(session: &mut Session, letter: Letter, at: Time) -> Reply
-    ensures { Makes (Edit.SetMark letter (Some (time_of at session.old)))
-        session.old result session.new }
+    ensures { Obeys (Command.Mark letter at) session.old result session.new }
 {
     let time = time(session, &at);
     reply_to(session.mark(letter.byte(), Some(time)))
@@ -144,42 +130,42 @@ pub fn mark(session: &mut Session, letter: Letter, at: Time) -> Reply
 
 /// Clears a mark.
 pub fn unmark(session: &mut Session, letter: Letter) -> Reply
-    ensures { Makes (Edit.SetMark letter None) session.old result session.new }
+    ensures { Obeys (Command.Unmark letter) session.old result session.new }
 {
     reply_to(session.mark(letter.byte(), None))
 }
 
 /// Undoes the newest step.
 pub fn undo(session: &mut Session) -> Reply
-    ensures { Calls Call.Undo session.old result session.new }
+    ensures { Obeys Command.Undo session.old result session.new }
 {
     reply_to(session.undo())
 }
 
 /// Redoes the step that was undone last.
 pub fn redo(session: &mut Session) -> Reply
-    ensures { Calls Call.Redo session.old result session.new }
+    ensures { Obeys Command.Redo session.old result session.new }
 {
     reply_to(session.redo())
 }
 
 /// Opens a group.
 pub fn begin(session: &mut Session) -> Reply
-    ensures { Calls Call.Begin session.old result session.new }
+    ensures { Obeys Command.Begin session.old result session.new }
 {
     reply_to(session.begin())
 }
 
 /// Makes one step of what was done since the group was opened.
 pub fn end(session: &mut Session) -> Reply
-    ensures { Calls Call.End session.old result session.new }
+    ensures { Obeys Command.End session.old result session.new }
 {
     reply_to(session.end())
 }
 
 /// Undoes what was done since the group was opened.
 pub fn abort(session: &mut Session) -> Reply
-    ensures { Calls Call.Abort session.old result session.new }
+    ensures { Obeys Command.Abort session.old result session.new }
 {
     reply_to(session.abort())
 }

@@ -4,16 +4,11 @@ ghost use Rattle.std.specs.Prelude.{◌≡◌, ◌≢◌, ◌⊎◌, ◌≤◌, 
 ghost use Rattle.std.specs.Prelude.{IfSome, MatchResult};
 ghost use Rattle.irig_codes.specs.Format.{FormatView};
 ghost use Rattle.irig_edit.specs.Opened.Openings.{IsOpened, MayBeShort};
-ghost use Rattle.irig_vcd.specs.Answer.{bytes_of, name_of};
-ghost use Rattle.irig_vcd.specs.Dump.{changes_before};
-ghost use Rattle.irig_vcd.specs.Level.{HasEdge};
-ghost use Rattle.irig_vcd.specs.Parts.{dump_parts};
-ghost use Rattle.irig_vcd.specs.declared.fault.VcdFault.{VcdFault};
 ghost use Rattle.irig_vcd.specs.declared.fault.VcdFault.TheVariants.{OutOfMemory};
-ghost use Rattle.irig_script.specs.Obey.Desk.{desk};
-ghost use Rattle.irig_script.specs.Obey.DumpRun.{RunsOnDump};
-ghost use Rattle.irig_script.specs.Obey.Reading.{ReadsTo};
+ghost use Rattle.irig_vcd.specs.{Answer.bytes_of, Answer.name_of, Dump.changes_before};
+ghost use Rattle.irig_vcd.specs.{Level.HasEdge, Parts.dump_parts, declared.fault.VcdFault.VcdFault};
 ghost use Rattle.irig_script.specs.declared.obey.dump_run.DumpRunFault.TheVariants.{Dump, Run};
+ghost use Rattle.irig_script.specs.{Obey.Desk.desk, Obey.DumpRun.RunsOnDump, Obey.Reading.ReadsTo};
 
 use crate::obey::engine;
 use crate::obey::status::{RunFault, Status};

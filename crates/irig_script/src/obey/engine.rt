@@ -2,17 +2,14 @@
 
 ghost use Rattle.std.specs.Prelude.{◌≡◌, ◌<◌, ◌≤◌, ◌^◌, ◌++◌, ◌∷◌, [], ℕ, List, Option, IfOk};
 ghost use Rattle.std.specs.Prelude.{IfErr, OnErr, length, take};
-ghost use Rattle.std.specs.Io.{ReadsAtMost};
-ghost use Rattle.std.specs.Io.KnownBytes.{ReadConsumes};
+ghost use Rattle.std.specs.{Io.ReadsAtMost, Io.KnownBytes.ReadConsumes};
 ghost use Rattle.irig_script.specs.declared.obey.status.RunFault.TheVariants.{ReadFailed};
 ghost use Rattle.irig_script.specs.Print.Printed.{answer_with, reply_text};
 ghost use Rattle.irig_script.specs.Obey.Desk.{Desk, desk, status_after};
-ghost use Rattle.irig_script.specs.Obey.Ending.{EndsAs};
-ghost use Rattle.irig_script.specs.Obey.Reading.{ReadsTo};
-ghost use Rattle.irig_script.specs.Obey.Machine.{Machine};
 ghost use Rattle.irig_script.specs.Obey.Progress.{BrokeIn, Holds, Obeyed};
 ghost use Rattle.irig_script.specs.Obey.Reads.{GoesOn, IsUnderway, with_end};
-ghost use Rattle.irig_script.specs.Print.Front.{Prints};
+ghost use Rattle.irig_script.specs.{Obey.Ending.EndsAs, Obey.Reading.ReadsTo, Obey.Machine.Machine};
+ghost use Rattle.irig_script.specs.{Obey.Numbers.IsNumberOf, Print.Front.Prints};
 
 use crate::obey::line::Line;
 use crate::obey::obeying::obey_line;
@@ -179,20 +176,24 @@ fn obey_byte<W: Write, S: Shelf>(
     let Some(reply) = obey_line(line, session, shelf) else {
         return Ok(true);
     };
-    let Ok(()) = answer(reply, session, out, status) else {
+    let Ok(()) = answer(reply, session, shelf, out, status) else {
         return Err(PrintFault);
     };
     line.clear();
     Ok(false)
 }
 
-/// Prints a reply, and notes a refusal in the status.
-fn answer<W: Write>(
+/// Prints a reply, and notes a refusal in the status. The shelf, as it is now, has the text of which
+/// a number is printed.
+fn answer<W: Write, S: Shelf>(
     reply: Reply,
     session: &Session,
+    shelf: &S,
     out: &mut W,
     status: &mut Status,
 ) -> Result<(), PrintFault>
+    requires number { (before : S) × S.since before shelf.now
+        × IsNumberOf (S.known before) (S.known shelf.now) reply }
     ensures text { Prints (W.contents out.old) (W.contents out.new)
         (reply_text session.now reply) result }
     ensures status { status.new ≡ status_after status.old (answer_with session.now reply ∷ []) }

@@ -2,6 +2,7 @@
 
 ghost use Rattle.std.specs.Prelude.{◌≡◌, ◌+◌, ◌-◌};
 ghost use Rattle.irig_track.specs.Shifts.{ahead, back};
+ghost use Rattle.irig_script.specs.Obey.Machine.{present_in};
 ghost use Rattle.irig_script.specs.Obey.PulseNumbers.{mark_of, base_of, pulse_at, number_at};
 ghost use Rattle.irig_script.specs.Obey.PulseNumbers.{first_of, last_of, join_last_of, time_of};
 
@@ -11,14 +12,14 @@ use irig_saved::Letter;
 
 /// The time of a mark in microseconds, if it is set.
 fn mark(session: &Session, letter: &Letter) -> Option<u64>
-    ensures { result ≡ mark_of letter.now session.now }
+    ensures { result ≡ mark_of letter.now (present_in session.now) }
 {
     session.mark_time(letter.byte())
 }
 
 /// The number that an address counts from, if there is one.
 fn base(session: &Session, base: &Base) -> Option<u64>
-    ensures { result ≡ base_of base.now session.now }
+    ensures { result ≡ base_of base.now (present_in session.now) }
 {
     match base {
         Base::Number(number) => Some(*number),
@@ -46,7 +47,7 @@ fn counted(number: u64, by: u64, offset: i64) -> u128
 
 /// The pulse that is `by` pulses after an address, from 1; 0 if there is none.
 fn pulse_at(session: &Session, by: u64, address: &Address) -> usize
-    ensures { result ≡ pulse_at by address.now session.now }
+    ensures { result ≡ pulse_at by address.now (present_in session.now) }
 {
     let Some(number) = base(session, &address.base) else {
         return 0;
@@ -61,14 +62,17 @@ fn pulse_at(session: &Session, by: u64, address: &Address) -> usize
 
 /// The pulse of an address, from 1; 0 if there is none.
 pub fn number_at(session: &Session, address: &Address) -> usize
-    ensures { result ≡ number_at address.now session.now }
+    ensures { result ≡ number_at address.now (present_in session.now) }
 {
     pulse_at(session, 0, address)
 }
 
 /// The first and the last pulse of a range, from 1; 0 if there is none.
 pub fn ends(session: &Session, range: &Range) -> (usize, usize)
-    ensures { result ≡ (first_of range.now session.now, last_of range.now session.now) }
+    ensures { result ≡ (
+      first_of range.now (present_in session.now),
+      last_of range.now (present_in session.now),
+    ) }
 {
     match range {
         Range::One(address) => {
@@ -81,7 +85,10 @@ pub fn ends(session: &Session, range: &Range) -> (usize, usize)
 
 /// The first and the last pulse that are joined, from 1; 0 if there is none.
 pub fn join_ends(session: &Session, range: &Range) -> (usize, usize)
-    ensures { result ≡ (first_of range.now session.now, join_last_of range.now session.now) }
+    ensures { result ≡ (
+      first_of range.now (present_in session.now),
+      join_last_of range.now (present_in session.now),
+    ) }
 {
     match range {
         Range::One(address) => (number_at(session, address), pulse_at(session, 1, address)),
@@ -91,7 +98,7 @@ pub fn join_ends(session: &Session, range: &Range) -> (usize, usize)
 
 /// A time in microseconds; that of a mark which is not set is beyond every length.
 pub fn time(session: &Session, time: &Time) -> u64
-    ensures { result ≡ time_of time.now session.now }
+    ensures { result ≡ time_of time.now (present_in session.now) }
 {
     match time {
         Time::At(micros) => *micros,

@@ -116,7 +116,7 @@ fn put_parts(row: &mut Row, fields: &Fields)
 }
 
 /// Writes what is reported of a frame.
-fn put_verdict(row: &mut Row, verdict: &Verdict)
+pub fn put_verdict(row: &mut Row, verdict: &Verdict)
     requires room { length row.old ≤ 80 }
     ensures text { row.new ≡ row.old ++ verdict_text verdict.now }
     ensures short { length row.new ≤ length row.old + 150 }

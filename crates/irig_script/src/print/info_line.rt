@@ -3,8 +3,7 @@
 ghost use Rattle.std.specs.Prelude.{◌≡◌, ◌≤◌, ◌+◌, ◌++◌, [], codes, length, decimal};
 ghost use Rattle.irig_codes.specs.Words.{kind_word};
 ghost use Rattle.irig_edit.specs.State.State.{frames_of};
-ghost use Rattle.irig_script.specs.Print.Front.{Prints};
-ghost use Rattle.irig_script.specs.Print.Listings.{info_text};
+ghost use Rattle.irig_script.specs.{Print.Front.Prints, Print.Listings.info_text};
 
 use crate::print::output::{PrintFault, put_all};
 use crate::print::row::Row;

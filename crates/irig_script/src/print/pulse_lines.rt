@@ -1,8 +1,7 @@
 //! The listing of pulses.
 
 ghost use Rattle.std.specs.Prelude.{◌≡◌, ◌≤◌, ◌-◌, ◌*◌, length, drop};
-ghost use Rattle.irig_script.specs.Print.Front.{Prints};
-ghost use Rattle.irig_script.specs.Print.Listings.{list_text};
+ghost use Rattle.irig_script.specs.{Print.Front.Prints, Print.Listings.list_text};
 
 use crate::print::output::{PrintFault, put_all};
 use crate::print::pulse_line::{LINE_ROOM, write_pulse};

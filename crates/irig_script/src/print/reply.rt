@@ -2,9 +2,7 @@
 
 ghost use Rattle.std.specs.Prelude.{◌≡◌, ◌++◌, ◌∷◌, [], true, decimal};
 ghost use Rattle.irig_script.specs.Print.Printed.{refusal_text, reply_text};
-ghost use Rattle.irig_script.specs.Obey.Desk.{is_refusal};
-ghost use Rattle.irig_script.specs.Obey.Machine.{Machine};
-ghost use Rattle.irig_script.specs.Print.Front.{Prints};
+ghost use Rattle.irig_script.specs.{Obey.Desk.is_refusal, Obey.Machine.Machine, Print.Front.Prints};
 
 use crate::print::info_line::print_info;
 use crate::print::listing::print_frames;

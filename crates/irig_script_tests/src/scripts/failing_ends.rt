@@ -146,7 +146,7 @@ fn a_failed_write_ends_the_run(rt: HostRuntime) {
 }
 
 /// What the script of two writes prints, by the write that fails, from 1.
-static REFUSED: [(u64, &[u8]); 2] = [
+pub static REFUSED: [(u64, &[u8]); 2] = [
     (
         1,
         b"1 100 110 zero\n2 120 200 position\n3 250 280 zero\n? S3 WriteFailed\n1 100 120 zero\n\

@@ -1,8 +1,8 @@
 use Rattle.std.proofs.Common.{⊎_elim}
 use Rattle.irig_disk.proofs.KeptFiles.{made_spoils, append_spoils, mode_spoils, passes_make, passes_append, passes_mode, passes_sync, passes_names}
-use Rattle.irig_disk.proofs.left.+is_kept.Goals as goal
 use Rattle.irig_disk.proofs.left.+is_kept.Goals.{in_default-call-via-in-Make+else-older-number, in_default-call-via-in-SyncFile+else-file-number}
 use Rattle.irig_disk.proofs.left.+is_kept.Goals.{in_default-call-via-in_default-call, in_default-call-via-in-Append+else-file-number-2}
+use Rattle.irig_disk.proofs.left.+is_kept.Goals as goal
 
 pub returns-in-Make-clause-only : goal.returns-in-Make-clause-only
 returns-in-Make-clause-only t c all = absurd (made_spoils _ _ _ _ _ _ c.in-Some.ensures.cases.0 c.in-Make.is c.if-older-number.true all)

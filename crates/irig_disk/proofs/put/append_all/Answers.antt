@@ -1,6 +1,5 @@
 use Rattle.std.proofs.Common.{◌+◌, ◌++◌, ◌∙◌, ap, length}
-use Rattle.irig_disk.proofs.Parts.{more_text, whole_text, more_count}
-use Rattle.irig_disk.proofs.Adding.{adds_more, spoils_later}
+use Rattle.irig_disk.proofs.{Parts.more_text, Parts.whole_text, Parts.more_count, Adding.adds_more, Adding.spoils_later}
 use Rattle.irig_disk.proofs.put.append_all.Goals as goal
 
 pub returns-in-Ok-true-clause-count : goal.returns-in-Ok-true-clause-count

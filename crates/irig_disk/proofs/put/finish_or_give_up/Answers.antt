@@ -1,3 +1,4 @@
+use Rattle.std.proofs.Common.{Err, ap}
 use Rattle.irig_disk.specs.declared.kept.Kept.{Kept}
 use Rattle.irig_disk.proofs.Steps.{comes_to_its_end, comes_to_nothing}
 use Rattle.irig_disk.proofs.put.finish_or_give_up.Goals as goal
@@ -13,3 +14,6 @@ returns-in-Err-clause-err g c = rw c.in-Err.is (λ told mode text start so_far w
     (c.give_up.ensures.any_moment told mode start so_far w)
     (c.give_up.ensures.ok told mode start so_far w) (c.give_up.ensures.err told mode start so_far w) (c.give_up.ensures.rest told mode start so_far w)
     c.fault_after.ensures)
+
+pub returns-in-Err-clause-fault : goal.returns-in-Err-clause-fault
+returns-in-Err-clause-fault g c = rw c.in-Err.is (c.give_up.result, ap Err c.fault_after.ensures)

@@ -1,7 +1,6 @@
 use Rattle.std.proofs.Common.{◌++◌, refl, ap}
 use Rattle.irig_disk.specs.Put.{first_mode, held}
-use Rattle.irig_disk.proofs.Results.{either_way}
-use Rattle.irig_disk.proofs.Steps.{called}
+use Rattle.irig_disk.proofs.{Results.either_way, Steps.called}
 use Rattle.irig_disk.proofs.put.put_begun.Goals as goal
 
 pub returns-in-Ok-clause-put : goal.returns-in-Ok-clause-put

@@ -1,12 +1,9 @@
 use Rattle.std.specs.Prelude.{IsTrue}
 use Rattle.std.proofs.Common.{[], refl, ap, IfOk}
-use Rattle.irig_disk.specs.Parts.{ComesTo}
-use Rattle.irig_disk.specs.Put.{first_mode, held}
-use Rattle.irig_disk.proofs.Results.{if_ok_by, both_ok}
-use Rattle.irig_disk.proofs.Steps.{called, comes_to_either, taken_at_first}
+use Rattle.irig_disk.specs.{Parts.ComesTo, Put.first_mode, Put.held}
+use Rattle.irig_disk.proofs.{Results.if_ok_by, Results.both_ok, Steps.called, Steps.comes_to_either, Steps.taken_at_first, put.put_text.Goals.After-name-1}
 use Rattle.irig_disk.proofs.put.put_text.Given as given
 use Rattle.irig_disk.proofs.put.put_text.Goals as goal
-use Rattle.irig_disk.proofs.put.put_text.Goals.{After-name-1}
 
 -- what a write that has its new file comes to
 comes : (g : given.Over) (c : After-name-1 g) → IsTrue g.F.Folder.is_told → IfOk c.begin-begun.result

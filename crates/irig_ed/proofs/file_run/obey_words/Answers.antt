@@ -1,10 +1,8 @@
 use Rattle.std.specs.Prelude.{List, Ok}
 use Rattle.clap.specs.Words.{Text}
-use Rattle.irig_settings.specs.Settings.{Reads}
-use Rattle.irig_ed.specs.Ending.{Ends, Files, EndsBy, Obeys}
-use Rattle.irig_settings.specs.declared.chosen.Settings.{Settings}
-use Rattle.irig_ed.specs.declared.ending.Ending.{Ending}
+use Rattle.irig_settings.specs.{Settings.Reads, declared.chosen.Settings.Settings}
 use Rattle.irig_ed.specs.declared.ending.Ending.TheVariants.{Usage, Unread, Ran}
+use Rattle.irig_ed.specs.{Ending.Ends, Ending.Files, Ending.EndsBy, Ending.Obeys, declared.ending.Ending.Ending}
 use Rattle.std.proofs.Common.{refl}
 use Rattle.irig_files.specs.Going.{goes_nowhere}
 use Rattle.irig_ed.proofs.file_run.obey_words.Goals as goal

@@ -1,8 +1,6 @@
 use Rattle.std.proofs.Common.{rules, ◌∷◌, ◌∙◌, ap, drop, List, ℕ, subst, sym}
 use Rattle.irig_files.proofs.PutsAt.{texts_where}
-use Rattle.irig_files.specs.Going.{goes_nowhere}
-use Rattle.irig_files.specs.Puts.{texts_at, writes_on}
-use Rattle.irig_files.specs.Writes.{GoesTo}
+use Rattle.irig_files.specs.{Going.goes_nowhere, Puts.texts_at, Puts.writes_on, Writes.GoesTo}
 use Rattle.irig_edit.specs.Opened.Openings.{MayBeShort}
 use Rattle.irig_ed.specs.Ending.{files}
 use Rattle.irig_ed.proofs.RunsBy.{fails_by, runs_by}

@@ -1,8 +1,7 @@
 use Rattle.std.proofs.Common.{rules, ◌≡◌, ◌∙◌, ℕ, List, [], ap, refl, subst, sym, ⊎_elim, inl, inr}
-use Rattle.std.proofs.lemmas.Paths.{path_join_absolute, path_join_relative}
+use Rattle.std.proofs.lemmas.{Paths.path_join_absolute, Paths.path_join_relative, Bool.cases_eq}
 use Rattle.std.specs.Path.{path_buf_bytes, path_join, slash}
 use Rattle.std.specs.Prelude.{slice_index}
-use Rattle.std.proofs.lemmas.Bool.{cases_eq}
 use Rattle.irig_files.proofs.links.follow_links.Goals as goal
 
 -- a path in no folder

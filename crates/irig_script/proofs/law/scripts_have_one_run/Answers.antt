@@ -1,5 +1,4 @@
-use Rattle.irig_script.proofs.LawLemmas.SameDumpRun.{one_dump_run}
-use Rattle.irig_script.proofs.LawLemmas.SameRun.{one_run}
+use Rattle.irig_script.proofs.{LawLemmas.SameDumpRun.one_dump_run, LawLemmas.SameRun.one_run}
 use Rattle.irig_script.proofs.law.scripts_have_one_run.Goals as goal
 
 pub returns-clause-same : goal.returns-clause-same

@@ -1,8 +1,6 @@
 use Rattle.std.proofs.Common.{◌≡◌, rules, None, arith}
 use Rattle.std.proofs.lemmas.Grind.{common_steps}
-use Rattle.irig_disk.specs.Calls.{mode_made}
-use Rattle.irig_disk.specs.Log.{leads_in}
-use Rattle.irig_disk.specs.declared.memory.TheConstants.{USUAL}
+use Rattle.irig_disk.specs.{Calls.mode_made, Log.leads_in, declared.memory.TheConstants.USUAL}
 use Rattle.irig_disk.proofs.memory.MemoryFolder.make.Goals as goal
 
 pub returns-clause-done : goal.returns-clause-done

@@ -1,6 +1,5 @@
 use Rattle.std.proofs.Common.{take}
-use Rattle.irig_disk.proofs.Results.{on_err}
-use Rattle.irig_disk.proofs.Steps.{wrote}
+use Rattle.irig_disk.proofs.{Results.on_err, Steps.wrote}
 use Rattle.irig_disk.proofs.new_text.NewText.append.Goals as goal
 
 pub returns-clause-ok : goal.returns-clause-ok

@@ -1,8 +1,7 @@
 use Rattle.irig_text.specs.declared.shelf.ShelfFault.{ShelfFault}
 use Rattle.irig_files.specs.declared.written.Written.{Written}
 use Rattle.std.proofs.Common.{refl, arith}
-use Rattle.irig_files.proofs.PutsAt.{texts_at-put, texts_at-none}
-use Rattle.irig_files.proofs.Replacing.{goes_once}
+use Rattle.irig_files.proofs.{PutsAt.texts_at-put, PutsAt.texts_at-none, Replacing.goes_once}
 use Rattle.irig_files.proofs.file_shelf.FileShelfShelf.put.Goals as goal
 
 pub returns-in-Ok-clause-ok : goal.returns-in-Ok-clause-ok

@@ -1,8 +1,6 @@
 use Rattle.std.proofs.Common.{◌≡◌, None, Result, ap, subst, sym}
 use Rattle.std.specs.Prelude.{Ok, Err, IfOk}
-use Rattle.irig_vcd.specs.Code.DumpReader.{HasRead}
-use Rattle.irig_vcd.specs.declared.fault.VcdFault.{VcdFault}
-use Rattle.irig_vcd.specs.declared.progress.Progress.{Progress}
+use Rattle.irig_vcd.specs.{Code.DumpReader.HasRead, declared.fault.VcdFault.VcdFault, declared.progress.Progress.Progress}
 use Rattle.irig_files.specs.Reads.{AreRead}
 use Rattle.irig_files.proofs.Intakes.{fault_at_end, fault_of_heading, handed_on}
 use Rattle.irig_files.proofs.intake.Intake.end.Goals as goal

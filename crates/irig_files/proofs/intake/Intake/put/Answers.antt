@@ -1,10 +1,8 @@
 use Rattle.std.proofs.Common.{rules, arith, ◌++◌, ◌∙◌, Result, length-append, subst, sym}
-use Rattle.irig_vcd.specs.declared.fault.VcdFault.{VcdFault}
-use Rattle.irig_vcd.specs.declared.progress.Progress.{Progress}
+use Rattle.irig_vcd.specs.{declared.fault.VcdFault.VcdFault, declared.progress.Progress.Progress}
 use Rattle.irig_files.specs.Reads.{AreRead}
-use Rattle.irig_files.proofs.Intakes.{still_faulty}
+use Rattle.irig_files.proofs.{Intakes.still_faulty, intake.Intake.put.Goals.in-Ok+in_ok-dump-in-Ok, intake.Intake.put.Goals.in-Err}
 use Rattle.irig_files.proofs.intake.Intake.put.Goals as goal
-use Rattle.irig_files.proofs.intake.Intake.put.Goals.{in-Ok+in_ok-dump-in-Ok, in-Err}
 
 pub returns-clause-taken : goal.returns-clause-taken
 returns-clause-taken c = λ wire bytes h.

@@ -1,7 +1,6 @@
 use Rattle.std.proofs.Common.{refl}
 use Rattle.irig_vcd.specs.declared.fault.VcdFault.TheVariants.{OutOfMemory}
-use Rattle.irig_script.proofs.ObeyLemmas.Reading.{reads_none}
-use Rattle.irig_script.proofs.ObeyLemmas.DumpRuns.{read_heading}
+use Rattle.irig_script.proofs.{ObeyLemmas.Reading.reads_none, ObeyLemmas.DumpRuns.read_heading}
 use Rattle.irig_script.proofs.obey.dump_run.run_on_parts.Goals as goal
 
 pub returns-in-Err-clause-reads : goal.returns-in-Err-clause-reads

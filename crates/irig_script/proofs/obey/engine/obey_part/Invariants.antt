@@ -1,6 +1,5 @@
 use Rattle.std.proofs.Common.{List, ℕ, take, false, ◌++◌}
-use Rattle.irig_script.specs.Obey.Desk.{desk}
-use Rattle.irig_script.specs.Obey.Progress.{Holds, Obeyed}
+use Rattle.irig_script.specs.{Obey.Desk.desk, Obey.Progress.Holds, Obey.Progress.Obeyed}
 use Rattle.irig_script.proofs.obey.engine.obey_part.Given as goal
 
 abbrev pub invariant-loop-byte : goal.invariant-loop-byte

@@ -1,7 +1,6 @@
 use Rattle.std.proofs.Common.{◌≤◌, ◌+◌, ◌^◌, ◌<◌, [], length, arith}
 use Rattle.std.proofs.KnownBytes.{Consumes-nil, Consumes-trans}
-use Rattle.irig_script.proofs.ObeyLemmas.Lines.{obeyed_none}
-use Rattle.irig_script.proofs.ObeyLemmas.Reading.{reads_to}
+use Rattle.irig_script.proofs.{ObeyLemmas.Lines.obeyed_none, ObeyLemmas.Reading.reads_to}
 use Rattle.irig_script.proofs.obey.engine.run.Goals as goal
 
 pub loop-reads-init : goal.loop-reads-init

@@ -1,5 +1,4 @@
-use Rattle.irig_script.specs.Obey.Desk.{desk}
-use Rattle.irig_script.specs.Obey.Reads.{IsUnderway}
+use Rattle.irig_script.specs.{Obey.Desk.desk, Obey.Reads.IsUnderway}
 use Rattle.irig_script.proofs.obey.engine.run.Given as goal
 
 abbrev pub invariant-loop-reads : goal.invariant-loop-reads

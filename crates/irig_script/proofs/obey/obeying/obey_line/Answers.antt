@@ -1,8 +1,6 @@
 use Rattle.std.proofs.Common.{rules, ◌≢◌, [], refl, List, ℕ, subst, inl, inr}
-use Rattle.irig_script.specs.Obey.Answer.{texts_of}
-use Rattle.irig_script.specs.Obey.Replies.{texts_put}
-use Rattle.irig_lines.specs.Grammar.{Means}
-use Rattle.irig_lines.specs.declared.command.Command.{Command}
+use Rattle.irig_script.specs.{Obey.Answer.texts_of, Obey.Replies.texts_put}
+use Rattle.irig_lines.specs.{Grammar.Means, declared.command.Command.Command}
 use Rattle.irig_lines.specs.declared.command.Command.TheVariants as command
 use Rattle.irig_script.proofs.ObeyLemmas.Desks.{puts_none}
 use Rattle.irig_script.proofs.ObeyLemmas.Quits.{bad_goes_on, long_goes_on, other_goes_on, quit_ends}

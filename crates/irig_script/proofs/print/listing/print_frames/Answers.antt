@@ -1,11 +1,9 @@
 use Rattle.std.proofs.Common.{rules, ◌≡◌, ◌<◌, length}
 use Rattle.std.proofs.Math.Seq.{take-length}
 use Rattle.irig_edit.specs.State.State.{frames_of}
-use Rattle.irig_script.specs.Print.Numbered.{numbered}
-use Rattle.irig_script.specs.Print.Printed.{record_line}
-use Rattle.irig_script.proofs.PrintLemmas.Blocks.{prints_end}
+use Rattle.irig_script.specs.{Print.Numbered.numbered, Print.Printed.record_line}
 use Rattle.irig_script.proofs.PrintLemmas.FrameLines.{no_record, frame_listed}
-use Rattle.irig_script.proofs.PrintLemmas.Numbered.{listed_front, listed_more}
+use Rattle.irig_script.proofs.{PrintLemmas.Blocks.prints_end, PrintLemmas.Numbered.listed_front, PrintLemmas.Numbered.listed_more}
 use Rattle.irig_script.proofs.print.listing.print_frames.Goals as goal
 
 pub returns-in_default : goal.returns-in_default

@@ -1,6 +1,5 @@
 use Rattle.std.proofs.Common.{rules, ◌≡◌, ◌-◌, ◌++◌, ◌∷◌, [], ℕ, List, drop, decimal, ap, sym, ◌∙◌, append_assoc, arith}
-use Rattle.irig_codes.specs.Width.{class_of}
-use Rattle.irig_codes.specs.Words.{class_word}
+use Rattle.irig_codes.specs.{Width.class_of, Words.class_word}
 use Rattle.irig_script.proofs.print.pulse_line.write_pulse.Goals as goal
 
 -- a part of a line that goes from after it to its end

@@ -1,0 +1,107 @@
+//! The writes of a script to a disk in memory, stopped after each call and failed at each.
+
+use crate::scripts::failing_ends::REFUSED;
+use crate::scripts::helpers::two_pulses;
+use crate::scripts::stops::INVERTED;
+use irig_disk::{Call, Memory, bytes_of, file_at, is_kept};
+use irig_edit::Session;
+use irig_files::{FileShelf, Files, Room};
+use irig_script::{RunFault, Status, run};
+use std::alloc::Global;
+
+/// How many calls the first write makes: make, append, sync the file, rename, sync the folder.
+const FIRST: u64 = 5;
+
+/// How many calls both writes make: the second one gives the new file the mode of the old one.
+const BOTH: u64 = 11;
+
+/// How many bytes the texts of the two writes have.
+const TEXTS: [usize; 2] = [179, 163];
+
+/// Runs the script of two writes to the name `t`.
+fn run_on_files(
+    session: &mut Session,
+    files: &mut Files<Memory>,
+    room: &mut Room,
+    out: &mut Vec<u8>,
+) -> Result<Status, RunFault> {
+    let mut script = INVERTED.script;
+    let mut shelf = FileShelf::new(files, "t", room);
+    run(session, &mut script, out, &mut shelf)
+}
+
+/// How many bytes a crash leaves at the name, if it leaves the file there as it is seen.
+fn left(alloc: Global, calls: &[Call]) -> Option<usize> {
+    let file = file_at(calls, b"t")?;
+    let held = bytes_of(alloc, calls, file).ok()?;
+    is_kept(calls, file).then_some(held.len())
+}
+
+/// Whether the names were kept by one of the calls.
+fn is_named(calls: &[Call]) -> bool {
+    for call in calls {
+        if matches!(call, Call::SyncNames) {
+            return true;
+        }
+    }
+    false
+}
+
+/// Whether after these calls one of the texts is there, whole, or none if no name was kept.
+fn is_whole(alloc: Global, calls: &[Call]) -> bool {
+    match left(alloc, calls) {
+        Some(bytes) => TEXTS.contains(&bytes),
+        None => !is_named(calls) && file_at(calls, b"t").is_none(),
+    }
+}
+
+/// Whether it is so after each of the calls, of which the newest is the first.
+fn is_whole_at_each_stop(alloc: Global, calls: &[Call]) -> bool {
+    for left_out in 0..=calls.len() {
+        match calls.get(left_out..) {
+            Some(before) if is_whole(alloc, before) => {}
+            _ => return false,
+        }
+    }
+    true
+}
+
+/// Whether the run with one call that fails, told by its number from 0, prints this, and leaves a
+/// whole text at each stop.
+fn is_run(alloc: Global, session: &mut Session, fails: u64, printed: &[u8]) -> bool {
+    let Ok(mut room) = Room::new(alloc) else {
+        return false;
+    };
+    let mut memory = Memory::new(alloc);
+    memory.fail(fails, fails.saturating_add(1));
+    let mut files = Files::new(memory, ());
+    let mut out = Vec::new(alloc);
+    run_on_files(session, &mut files, &mut room, &mut out).is_ok()
+        && out.as_slice() == printed
+        && is_whole_at_each_stop(alloc, files.system().calls())
+}
+
+/// Whether it is so on a session of its own.
+fn is_run_once(alloc: Global, fails: u64, printed: &[u8]) -> bool {
+    match two_pulses(alloc) {
+        Some(mut session) => is_run(alloc, &mut session, fails, printed),
+        None => false,
+    }
+}
+
+/// What is printed if this call fails.
+fn printed_without(fails: u64) -> &'static [u8] {
+    match fails {
+        0..FIRST => REFUSED[0].1,
+        FIRST..BOTH => REFUSED[1].1,
+        _ => INVERTED.printed,
+    }
+}
+
+// A crash after each call, and a call that fails, leave a whole text at the path.
+#[test]
+fn the_writes_of_a_script_are_whole_at_each_stop(rt: HostRuntime) {
+    for fails in 0..=BOTH {
+        assert!(rt; is_run_once(rt.alloc(), fails, printed_without(fails)));
+    }
+}
