@@ -1,8 +1,7 @@
 -- Bytes that are printed in several writes.
 use Rattle.std.proofs.Common.{◌≡◌, ◌-◌, ◌+◌, ℕ, List, Option, length, take, drop, sym, subst, arith}
-use Rattle.std.proofs.Math.Seq.{take-add}
+use Rattle.std.proofs.{Math.Seq.take-add, KnownBytes.Appends-trans}
 use Rattle.std.proofs.lemmas.List.{length-drop, take_all, take-append-drop}
-use Rattle.std.proofs.KnownBytes.{Appends-trans}
 use Rattle.std.specs.Io.KnownBytes.{Appends}
 use Rattle.irig_diff.specs.Printing.{AppendsFront}
 

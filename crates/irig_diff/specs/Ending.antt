@@ -1,29 +1,44 @@
 -- What the program does for the words of its command line: from two files to the patch that is
 -- printed. This project's own.
-use Rattle.std.specs.Prelude.{◌≡◌, ◌↔◌, ◌⊎◌, Bool, true, ℕ, List, Option, Ok, Err}
+use Rattle.std.specs.Prelude.{◌≡◌, ◌↔◌, ◌⊎◌, Bool, true, ℕ, List, Option, Some, None, Ok, Err}
 use Rattle.std.specs.Io.KnownBytes.{Appends}
 use Rattle.clap.specs.Words.{Text}
+use Rattle.irig_codes.specs.Format.{FormatView}
+use Rattle.irig_comments.specs.{Framed.framed, Parts.commented_text}
 use Rattle.irig_difference.specs.PatchText.{patch_text}
 use Rattle.irig_recording.specs.Recording.{RecordingView}
-use Rattle.irig_diff.specs.Printing.{AppendsFront}
-use Rattle.irig_diff.specs.Settings.{Reads}
-use Rattle.irig_diff.specs.Tracks.{HasFault, Says, name_in}
-use Rattle.irig_diff.specs.declared.chosen.Settings.{Settings}
-use Rattle.irig_diff.specs.declared.ending.Ending.{Ending}
-use Rattle.irig_diff.specs.declared.ending.Ending.TheVariants.{Usage, Unread, Compared, Unprinted}
-use Rattle.irig_diff.specs.declared.ending.TrackFault.{TrackFault}
+use Rattle.irig_diff.specs.declared.command_line.UsageFault.TheVariants.{Words, Value as of_value}
+use Rattle.irig_diff.specs.declared.ending.Ending.TheVariants.{Usage, Value, Unread, Compared}
+use Rattle.irig_diff.specs.declared.ending.Ending.TheVariants.{Unprinted}
+use Rattle.irig_diff.specs.{Printing.AppendsFront, Settings.Reads, Tracks.HasFault, Tracks.Says}
+use Rattle.irig_diff.specs.{Tracks.name_in, declared.chosen.Settings.Settings}
+use Rattle.irig_diff.specs.{declared.ending.Ending.Ending, declared.ending.TrackFault.TrackFault}
+use Rattle.irig_diff.specs.{declared.ending.TrackFault.TheVariants.File}
+use Rattle.irig_files.specs.declared.dump_file.DumpFileFault.TheVariants.{OutOfMemory}
 
 -- what the files hold, by their paths
 abbrev pub Held : Type 0
 Held = List ℕ → Option (List ℕ)
 
--- the patch between two recordings was printed, and they are the same or not; or the output failed
-abbrev pub PrintsPatch : RecordingView → RecordingView → Option (List ℕ) → Option (List ℕ)
-    → Ending → Type 0
-PrintsPatch before after old new (Compared same) =
-    Appends old new (patch_text before after) × (same ≡ true ↔ before ≡ after)
-PrintsPatch before after old new Unprinted = AppendsFront old new (patch_text before after)
-PrintsPatch before after old new _ = ⊥
+-- the patch between two recordings: plain, or with comments that show frames in a format
+abbrev pub text_between : Option FormatView → RecordingView → RecordingView → List ℕ
+text_between None before after = patch_text before after
+text_between (Some f) before after = commented_text (framed f before) (framed f after)
+
+-- the text was printed, and the recordings are the same or not; or the output failed
+abbrev pub PrintsText : List ℕ → RecordingView → RecordingView → Option (List ℕ)
+    → Option (List ℕ) → Ending → Type 0
+PrintsText text before after old new (Compared same) =
+    Appends old new text × (same ≡ true ↔ before ≡ after)
+PrintsText text before after old new Unprinted = AppendsFront old new text
+PrintsText text before after old new _ = ⊥
+
+-- the same; or memory ran out for the frames of one of the tracks, and nothing was printed
+abbrev pub PrintsIfRoom : Settings → List ℕ → RecordingView → RecordingView → Option (List ℕ)
+    → Option (List ℕ) → Ending → Type 0
+PrintsIfRoom chosen text before after old new (Unread path fault) =
+    ((path ≡ chosen.before) ⊎ (path ≡ chosen.after)) × (fault ≡ File OutOfMemory) × (new ≡ old)
+PrintsIfRoom chosen text before after old new ending = PrintsText text before after old new ending
 
 -- the patch between the tracks of the settings was printed, and they are the same or not
 pub record Compares (held : Held) (chosen : Settings) (old new : Option (List ℕ)) (same : Bool)
@@ -32,7 +47,7 @@ pub record Compares (held : Held) (chosen : Settings) (old new : Option (List �
   pub after : RecordingView
   pub of_before : Says (held chosen.before.now) (name_in chosen.wire) before
   pub of_after : Says (held chosen.after.now) (name_in chosen.wire_after) after
-  pub printed : Appends old new (patch_text before after)
+  pub printed : Appends old new (text_between chosen.frames before after)
   pub told : same ≡ true ↔ before ≡ after
 
 -- only a front of that patch was printed
@@ -41,7 +56,7 @@ pub record Breaks (held : Held) (chosen : Settings) (old new : Option (List ℕ)
   pub after : RecordingView
   pub of_before : Says (held chosen.before.now) (name_in chosen.wire) before
   pub of_after : Says (held chosen.after.now) (name_in chosen.wire_after) after
-  pub printed : AppendsFront old new (patch_text before after)
+  pub printed : AppendsFront old new (text_between chosen.frames before after)
 
 -- a track of the settings has this fault
 abbrev pub HasFaultAt : Held → Settings → List ℕ → TrackFault → Type 0
@@ -56,9 +71,11 @@ Obeys held chosen old new (Unread path fault) =
     HasFaultAt held chosen path.now fault × (new ≡ old)
 Obeys held chosen old new Unprinted = Breaks held chosen old new
 Obeys held chosen old new (Usage error) = ⊥
+Obeys held chosen old new (Value fault) = ⊥
 
 -- the settings are those of the words, and they were obeyed; or the words have none
 abbrev pub EndsBy : List Text → Held → Option (List ℕ) → Option (List ℕ) → Ending → Type 0
-EndsBy words held old new (Usage error) = Reads words (Err error) × (new ≡ old)
+EndsBy words held old new (Usage error) = Reads words (Err (Words error)) × (new ≡ old)
+EndsBy words held old new (Value fault) = Reads words (Err (of_value fault)) × (new ≡ old)
 EndsBy words held old new ending =
     (chosen : Settings) × Reads words (Ok chosen) × Obeys held chosen old new ending

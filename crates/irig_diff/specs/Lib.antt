@@ -1,4 +1,5 @@
 pub mod Options
+pub mod Chosen
 pub mod Settings
 pub mod Printing
 pub mod Tracks

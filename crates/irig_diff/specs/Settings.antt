@@ -1,22 +1,36 @@
--- What a command line asks for. This project's own.
-use Rattle.std.specs.Prelude.{◌≡◌, List, codes, Some, Result, Ok, Err, option_map}
-use Rattle.clap.specs.Words.{Text, first_value, found_of}
-use Rattle.clap.specs.declared.error.Error.{Error}
+-- What the words of a command line ask for. This project's own.
+use Rattle.std.specs.Prelude.{◌≡◌, List, true, false, codes, None, Some, Result, Ok, Err}
+use Rattle.std.specs.Prelude.{option_map}
+use Rattle.clap.specs.Words.{Text, first_value, found_of, one_text}
 use Rattle.clap.specs.declared.parser.matches.Found.{Found}
 use Rattle.clap.specs.declared.parser.matches.ArgMatches.{ArgMatches}
 use Rattle.irig_words.specs.Errors.{MayRefuse}
-use Rattle.irig_diff.specs.Options.{IsParsed, the_command}
-use Rattle.irig_diff.specs.declared.chosen.Settings.{Settings}
+use Rattle.irig_diff.specs.declared.command_line.UsageFault.{UsageFault}
+use Rattle.irig_diff.specs.declared.command_line.UsageFault.TheVariants.{Words, Value}
+use Rattle.irig_diff.specs.{Chosen.HasFault, Chosen.IsChosen, Options.IsParsed, Options.the_command}
+use Rattle.irig_diff.specs.{declared.asked.Asked.Asked, declared.chosen.Settings.Settings}
 
--- the settings are the values of the matches
-pub record AreValues (f : Found) (s : Settings) : Type 0 where
-  pub before : first_value f (codes "BEFORE") ≡ Some s.before.now
-  pub wire : first_value f (codes "wire") ≡ option_map (λ w. w.now) s.wire
-  pub after : first_value f (codes "AFTER") ≡ Some s.after.now
-  pub wire_after : first_value f (codes "wire-after") ≡ option_map (λ w. w.now) s.wire_after
+-- the values are those of the matches
+pub record AreValues (f : Found) (a : Asked) : Type 0 where
+  pub before : first_value f (codes "BEFORE") ≡ Some a.before.now
+  pub after : first_value f (codes "AFTER") ≡ Some a.after.now
+  pub wire : first_value f (codes "wire") ≡ option_map (λ w. w.now) a.wire
+  pub wire_after : first_value f (codes "wire-after") ≡ option_map (λ w. w.now) a.wire_after
+  pub format : first_value f (codes "format") ≡ option_map (λ w. w.now) a.format
+  pub expression : first_value f (codes "expression") ≡ option_map (λ w. w.now) a.expression
+  pub shown : one_text f (codes "frames") ≡ Some (codes "true") → a.frames ≡ true
+  pub not_shown : one_text f (codes "frames") ≡ Some (codes "false") → a.frames ≡ false
+  pub not_asked : one_text f (codes "frames") ≡ None → a.frames ≡ false
 
--- there are matches that a parse of the words may give, and the settings are theirs; or the error
--- is one that the parse may give
-abbrev pub Reads : List Text → Result Settings Error → Type 0
-Reads words (Ok s) = (matches : ArgMatches) × IsParsed words matches × AreValues (found_of matches) s
-Reads words (Err error) = MayRefuse the_command words error
+-- there are matches that a parse of the words may give, and these are their values
+pub record Values (words : List Text) (asked : Asked) : Type 0 where
+  pub matches : ArgMatches
+  pub parsed : IsParsed words matches
+  pub values : AreValues (found_of matches) asked
+
+-- what the words ask for; or the error is one that the parse may give, or an option has a value
+-- that it cannot have
+abbrev pub Reads : List Text → Result Settings UsageFault → Type 0
+Reads words (Ok s) = (asked : Asked) × Values words asked × IsChosen asked s
+Reads words (Err (Words error)) = MayRefuse the_command words error
+Reads words (Err (Value fault)) = (asked : Asked) × Values words asked × HasFault asked fault

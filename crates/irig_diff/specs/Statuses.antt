@@ -1,14 +1,13 @@
 -- The statuses of the program as a process, after diff(1) of POSIX. This project's own.
-use Rattle.std.specs.Prelude.{◌≡◌, ◌⊎◌, ℕ, List, codes, true, false}
+use Rattle.std.specs.Prelude.{◌≡◌, ◌⊎◌, ℕ, List, codes, true, false, Option}
 use Rattle.clap.specs.Words.{Text}
 use Rattle.irig_files.specs.declared.dump_file.DumpFileFault.{DumpFileFault}
 use Rattle.irig_files.specs.declared.dump_file.DumpFileFault.TheVariants.{CannotBeRead, TooLong}
 use Rattle.irig_files.specs.declared.dump_file.DumpFileFault.TheVariants.{OutOfMemory}
-use Rattle.irig_diff.specs.Ending.{EndsBy, Held}
+use Rattle.irig_diff.specs.declared.ending.Ending.TheVariants.{Usage, Value, Unread, Compared}
+use Rattle.irig_diff.specs.declared.ending.Ending.TheVariants.{Unprinted}
+use Rattle.irig_diff.specs.{Ending.EndsBy, Ending.Held, declared.ending.Ending.Ending}
 use Rattle.irig_words.specs.Errors.{IsHelp, IsMistake}
-use Rattle.irig_diff.specs.declared.ending.Ending.{Ending}
-use Rattle.irig_diff.specs.declared.ending.Ending.TheVariants.{Usage, Unread, Compared, Unprinted}
-use Rattle.std.specs.Prelude.{Option}
 
 -- what the program says of a file that it did not read
 abbrev pub unread_text : DumpFileFault → List ℕ
@@ -23,6 +22,7 @@ HasStatus (Compared true) status = status ≡ 0
 HasStatus (Compared false) status = status ≡ 1
 HasStatus (Usage error) status =
     (IsMistake error → status ≡ 2) × (IsHelp error → (status ≡ 0) ⊎ (status ≡ 2))
+HasStatus (Value fault) status = status ≡ 2
 HasStatus (Unread path fault) status = status ≡ 2
 HasStatus Unprinted status = status ≡ 2
 

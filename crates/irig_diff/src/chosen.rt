@@ -1,5 +1,8 @@
 //! What a command line asks for.
 
+use irig_codes::Format;
+use thiserror::Error;
+
 /// What a command line asks for.
 #[derive(Drop)]
 pub struct Settings<'a> {
@@ -11,4 +14,20 @@ pub struct Settings<'a> {
     pub after: &'a str,
     /// The name of its wire, if one is given.
     pub wire_after: Option<&'a str>,
+    /// The format of the frames that comments show, if they are asked for.
+    pub frames: Option<Format>,
+}
+
+/// An option with a value that it cannot have.
+#[derive(Clone, Copy, Debug, Error)]
+pub enum OptionFault {
+    /// The letter of no format.
+    #[error("--format: not A, B, E or G")]
+    Format,
+    /// No expression, or one that the format does not permit.
+    #[error("--expression: not one of the format")]
+    Expression,
+    /// A format, and no frames that are shown.
+    #[error("--format, --expression: no frames are shown without --frames")]
+    Alone,
 }

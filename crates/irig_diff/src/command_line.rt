@@ -2,22 +2,49 @@
 
 ghost use Rattle.std.specs.Prelude.{◌≡◌, IfErr, IfOk, None, false, map, string_bytes};
 ghost use Rattle.clap.specs.Words.{app_of, found_of, rule_of};
-ghost use Rattle.irig_diff.specs.Options.{IsCommand, IsParsed, IsWired, the_command};
-ghost use Rattle.irig_diff.specs.Settings.{AreValues, Reads};
+ghost use Rattle.irig_diff.specs.Options.{IsCommand, IsParsed, IsShowing, IsWired, flag};
+ghost use Rattle.irig_diff.specs.Options.{the_command};
+ghost use Rattle.irig_diff.specs.Settings.{AreValues, Reads, Values};
 ghost use Rattle.irig_words.specs.Arguments.{option};
 ghost use Rattle.irig_words.specs.Errors.{IsMistake, MayRefuse, WantsMemory};
 
-use crate::chosen::Settings;
-use clap::{Arg, ArgMatches, Command, Error};
+use crate::asked::Asked;
+use crate::chosen::{OptionFault, Settings};
+use crate::options::settings_of;
+use clap::{Arg, ArgAction, ArgMatches, Command, Error};
 use irig_words::{matches_of, needed_arg, option_arg};
 use std::alloc::{AllocError, Global};
 
+/// Why a command line asks for nothing.
+#[derive(Drop)]
+pub enum UsageFault {
+    /// The words are not those of the command line, or ask for help.
+    Words(Error),
+    /// An option has a value that it cannot have.
+    Value(OptionFault),
+}
+
 /// What the words of a command line ask for, the program's name being the first.
-pub fn settings<'a>(alloc: Global, words: &'a [String]) -> Result<Settings<'a>, Error>
+pub fn settings<'a>(alloc: Global, words: &'a [String]) -> Result<Settings<'a>, UsageFault>
     ensures { Reads (map string_bytes words.entry.now) result }
 {
+    let asked = match asked(alloc, words) {
+        Ok(asked) => asked,
+        Err(error) => return Err(UsageFault::Words(error)),
+    };
+    match settings_of(&asked) {
+        Ok(chosen) => Ok(chosen),
+        Err(fault) => Err(UsageFault::Value(fault)),
+    }
+}
+
+/// The values of a command line.
+fn asked<'a>(alloc: Global, words: &'a [String]) -> Result<Asked<'a>, Error>
+    ensures values { IfOk result (Values (map string_bytes words.entry.now)) }
+    ensures refused { IfErr result (MayRefuse the_command (map string_bytes words.entry.now)) }
+{
     match parse_words(alloc, words) {
-        Ok(matches) => chosen_of(&matches),
+        Ok(matches) => values_of(&matches),
         Err(error) => Err(error),
     }
 }
@@ -29,8 +56,8 @@ pub fn not_text(alloc: Global) -> Error
     irig_words::not_text(command(alloc))
 }
 
-/// What the matches ask for.
-fn chosen_of<'a>(matches: &ArgMatches<'a>) -> Result<Settings<'a>, Error>
+/// The values of the matches.
+fn values_of<'a>(matches: &ArgMatches<'a>) -> Result<Asked<'a>, Error>
     ensures values { IfOk result (AreValues (found_of matches.now)) }
     ensures memory { IfErr result WantsMemory }
 {
@@ -40,11 +67,14 @@ fn chosen_of<'a>(matches: &ArgMatches<'a>) -> Result<Settings<'a>, Error>
     let Some(after) = matches.get_str("AFTER") else {
         return Err(AllocError.into());
     };
-    Ok(Settings {
+    Ok(Asked {
         before,
-        wire: matches.get_str("wire"),
         after,
+        wire: matches.get_str("wire"),
         wire_after: matches.get_str("wire-after"),
+        format: matches.get_str("format"),
+        expression: matches.get_str("expression"),
+        frames: matches.get_flag("frames"),
     })
 }
 
@@ -62,7 +92,19 @@ fn command<'a>(alloc: Global) -> Result<Command<'a>, AllocError>
 {
     let before = needed_arg(alloc, "BEFORE", "the dump of the track before");
     let after = needed_arg(alloc, "AFTER", "the dump of the track after");
-    wired(alloc)?.arg(before)?.arg(after)
+    showing(alloc)?.arg(before)?.arg(after)
+}
+
+/// Its options: the wires, and how frames are shown.
+fn showing<'a>(alloc: Global) -> Result<Command<'a>, AllocError>
+    ensures { IfOk result (λ c. IsShowing (app_of c)) }
+{
+    let format = option_arg(alloc, "format", "FORMAT", "A, B, E or G: B");
+    let expression = option_arg(alloc, "expression", "NUMBER", "of the format: 2");
+    wired(alloc)?
+        .arg(frames_arg(alloc))?
+        .arg(format)?
+        .arg(expression)
 }
 
 /// Its options, which name the wires.
@@ -80,4 +122,15 @@ fn wire_arg<'a>(alloc: Global, name: &'a str, help: &'a str) -> Arg<'a>
     ensures local { result.global ≡ false }
 {
     option_arg(alloc, name, "NAME", help)
+}
+
+/// Whether comments show what stretches do to the frames.
+fn frames_arg<'a>(alloc: Global) -> Arg<'a>
+    ensures rule { rule_of result ≡ flag }
+    ensures local { result.global ≡ false }
+{
+    Arg::new(alloc, "frames")
+        .long("frames")
+        .help("show in comments what the lines do to the frames")
+        .action(ArgAction::SetTrue)
 }

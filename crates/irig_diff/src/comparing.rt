@@ -1,14 +1,18 @@
 //! The tracks of two dumps are compared, as the words of a command line ask.
 
 ghost use Rattle.std.specs.Prelude.{◌≡◌, map, option_map, string_bytes};
+ghost use Rattle.irig_comments.specs.{Framed.framed, Parts.commented_text};
+ghost use Rattle.irig_difference.specs.PatchText.{patch_text};
 ghost use Rattle.irig_vcd.specs.Answer.{name_of};
-ghost use Rattle.irig_diff.specs.Ending.{EndsBy, Obeys, PrintsPatch};
+ghost use Rattle.irig_diff.specs.Ending.{EndsBy, Obeys, PrintsIfRoom, PrintsText, text_between};
 ghost use Rattle.irig_diff.specs.Tracks.{IsTrackOf, name_in};
 
 use crate::chosen::Settings;
-use crate::command_line::settings;
+use crate::command_line::{UsageFault, settings};
 use crate::ending::{Ending, TrackFault};
 use crate::printing::print;
+use irig_codes::Format;
+use irig_comments::{CommentedPatch, Framed};
 use irig_difference::{PatchText, Recording};
 use irig_files::{Disk, DumpFileFault};
 use irig_text::new_block;
@@ -28,7 +32,8 @@ pub fn compare_words<'a, D: Disk, W: Write>(
 {
     match settings(alloc, words) {
         Ok(chosen) => compare_files(alloc, &chosen, disk, out),
-        Err(error) => Ending::Usage(error),
+        Err(UsageFault::Words(error)) => Ending::Usage(error),
+        Err(UsageFault::Value(fault)) => Ending::Value(fault),
     }
 }
 
@@ -66,7 +71,63 @@ fn compare_with_block<'a, D: Disk, W: Write>(
         Ok(after) => after,
         Err(fault) => return Ending::Unread(chosen.after, fault),
     };
-    print_patch(&before, &after, out, block)
+    compare_recordings(alloc, chosen, before, after, out, block)
+}
+
+/// Prints the patch between two recordings, with comments if frames are asked for.
+fn compare_recordings<'a, W: Write>(
+    alloc: Global,
+    chosen: &Settings<'a>,
+    before: Recording,
+    after: Recording,
+    out: &mut W,
+    block: &mut Vec<u8>,
+) -> Ending<'a>
+    ensures { PrintsIfRoom chosen.now (text_between chosen.now.frames before after) before after
+        (W.contents out.old) (W.contents out.new) result }
+{
+    match chosen.frames {
+        None => print_patch(&before, &after, out, block),
+        Some(format) => compare_frames(alloc, chosen, format, before, after, out, block),
+    }
+}
+
+/// Prints the patch between two recordings with comments that show their frames.
+fn compare_frames<'a, W: Write>(
+    alloc: Global,
+    chosen: &Settings<'a>,
+    format: Format,
+    before: Recording,
+    after: Recording,
+    out: &mut W,
+    block: &mut Vec<u8>,
+) -> Ending<'a>
+    ensures { PrintsIfRoom chosen.now (commented_text (framed format before) (framed format after))
+        before after (W.contents out.old) (W.contents out.new) result }
+{
+    let Ok(before) = Framed::new(alloc, before, format) else {
+        return Ending::Unread(chosen.before, TrackFault::File(DumpFileFault::OutOfMemory));
+    };
+    let Ok(after) = Framed::new(alloc, after, format) else {
+        return Ending::Unread(chosen.after, TrackFault::File(DumpFileFault::OutOfMemory));
+    };
+    print_frames(&before, &after, out, block)
+}
+
+/// Prints the patch with comments between two recordings.
+fn print_frames<'a, W: Write>(
+    before: &Framed,
+    after: &Framed,
+    out: &mut W,
+    block: &mut Vec<u8>,
+) -> Ending<'a>
+    ensures { PrintsText (commented_text before.now after.now) before.now.recording
+        after.now.recording (W.contents out.old) (W.contents out.new) result }
+{
+    match print(out, &mut CommentedPatch::between(before, after), block) {
+        Ok(same) => Ending::Compared(same),
+        Err(_) => Ending::Unprinted,
+    }
 }
 
 /// Prints the patch between two recordings.
@@ -76,7 +137,8 @@ fn print_patch<'a, W: Write>(
     out: &mut W,
     block: &mut Vec<u8>,
 ) -> Ending<'a>
-    ensures { PrintsPatch before.now after.now (W.contents out.old) (W.contents out.new) result }
+    ensures { PrintsText (patch_text before.now after.now) before.now after.now
+        (W.contents out.old) (W.contents out.new) result }
 {
     match print(out, &mut PatchText::between(before, after), block) {
         Ok(same) => Ending::Compared(same),

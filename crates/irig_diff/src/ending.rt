@@ -1,5 +1,6 @@
 //! How the program ends.
 
+use crate::chosen::OptionFault;
 use irig_files::DumpFileFault;
 use irig_vcd::VcdFault;
 
@@ -17,6 +18,8 @@ pub enum TrackFault {
 pub enum Ending<'a> {
     /// The command line asks for no comparison.
     Usage(clap::Error),
+    /// An option has a value that it cannot have.
+    Value(OptionFault),
     /// The track at this path was not read.
     Unread(&'a str, TrackFault),
     /// The patch between the two tracks was printed. It says whether they are the same.

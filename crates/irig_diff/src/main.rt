@@ -1,10 +1,12 @@
 //! What differs between two recorded time tracks, as a script that makes the one of the other.
 #![tactic(auto)]
 
+mod asked;
 mod chosen;
 mod command_line;
 mod comparing;
 mod ending;
+mod options;
 mod printing;
 mod statuses;
 

@@ -16,6 +16,7 @@ pub fn report<R: Print + Eprint>(rt: &R, ending: &Ending<'_>) -> ExitCode
 {
     match ending {
         Ending::Usage(error) => explain(rt, error),
+        Ending::Value(fault) => tell(rt, fault),
         Ending::Unread(path, TrackFault::File(fault)) => tell_of(rt, path, &unread_text(*fault)),
         Ending::Unread(path, TrackFault::Dump(fault)) => tell_of(rt, path, fault),
         Ending::Compared(true) => ExitCode::SUCCESS,

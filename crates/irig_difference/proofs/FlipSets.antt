@@ -2,9 +2,9 @@
 use Rattle.std.proofs.Common.{◌≡◌, ℕ, ◌+◌, ◌≤◌, Bool, true, false, not, List, [], ◌∷◌, length, refl, sym, ap, ◌∙◌, arith, inl, inr, subst}
 use Rattle.std.proofs.lemmas.Bool.{cases_eq}
 use Rattle.irig_recording.specs.Recording.{RisesFrom}
-use Rattle.irig_track.specs.Edges.{has}
-use Rattle.irig_track.specs.Toggles.{flipped}
-use Rattle.irig_track.proofs.RisingLists.{three, flip_low, flip_same, flip_high, has_here, has_there, has_none, has-flipped_same, has-flipped_other, RisesFrom-flipped}
+use Rattle.irig_track.specs.{Edges.has, Toggles.flipped}
+use Rattle.irig_track.proofs.RisingLists.{three, flip_low, flip_same, flip_high, has_here, has_there, has_none, has-flipped_same, has-flipped_other}
+use Rattle.irig_track.proofs.RisingLists.{RisesFrom-flipped}
 use Rattle.irig_track.proofs.Sets.{only_list}
 use Rattle.irig_difference.specs.Flips.{unlike, flips}
 use Rattle.irig_difference.proofs.FlipLists.{RisesFrom-flips}

@@ -1,14 +1,12 @@
 -- The level of a symmetric difference, and the stretches in which it is high.
-use Rattle.std.proofs.Common.{◌≡◌, ℕ, ◌+◌, ◌<◌, Bool, true, false, not, cond, List, [], ◌∷◌, ◌||◌, ◌&&◌, nat_le, nat_lt, filter, refl, sym, ap, ◌∙◌, arith, inl, inr}
+use Rattle.std.proofs.Common.{◌≡◌, ℕ, ◌+◌, ◌<◌, Bool, true, false, not, cond, List, [], ◌∷◌, ◌||◌, ◌&&◌, nat_le, nat_lt, filter, refl, sym, ap, ◌∙◌, arith, inl}
+use Rattle.std.proofs.Common.{inr}
 use Rattle.std.proofs.Math.Bool.{not-not}
 use Rattle.std.proofs.lemmas.Bool.{cases_lt, lt-ltb, le-ltb, lt-leb, le-leb}
-use Rattle.irig_recording.specs.Recording.{RisesFrom, is_even_long, level_by_edges}
-use Rattle.irig_recording.specs.declared.pulse.Pulse.{Pulse}
-use Rattle.irig_track.specs.Edges.{edges_of}
-use Rattle.irig_track.specs.Toggles.{flipped}
+use Rattle.irig_recording.specs.{Recording.RisesFrom, Recording.is_even_long, Recording.level_by_edges, declared.pulse.Pulse.Pulse}
+use Rattle.irig_track.specs.{Edges.edges_of, Toggles.flipped}
 use Rattle.irig_track.proofs.RisingLists.{three, flip_low, flip_same, flip_high}
-use Rattle.irig_difference.specs.Flips.{unlike, flips}
-use Rattle.irig_difference.specs.Stretches.{is_within}
+use Rattle.irig_difference.specs.{Flips.unlike, Flips.flips, Stretches.is_within}
 
 -- an edge more at or before a time turns its level
 level-cons : (t x : ℕ) (xs : List ℕ) → level_by_edges t (x ∷ xs) ≡ cond (nat_le x t) (not (level_by_edges t xs)) (level_by_edges t xs)

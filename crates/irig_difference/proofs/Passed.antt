@@ -1,13 +1,11 @@
 -- Two rising lists, gone through from their fronts on.
-use Rattle.std.proofs.Common.{◌≡◌, ℕ, ◌+◌, ◌<◌, List, false, [], ◌∷◌, ◌++◌, drop, take, subst, slice_get, Some, None, refl, sym, ap, ◌∙◌, arith}
+use Rattle.std.proofs.Common.{◌≡◌, ℕ, ◌+◌, ◌<◌, List, true, false, [], ◌∷◌, ◌++◌, length, drop, take, subst, slice_get, Some, None, refl, sym, ap, ◌∙◌, arith}
 use Rattle.std.proofs.lemmas.List.{take-append-drop}
-use Rattle.irig_recording.specs.Recording.{RisesFrom}
-use Rattle.irig_recording.specs.declared.pulse.Pulse.{Pulse}
+use Rattle.irig_recording.specs.{Recording.RisesFrom, declared.pulse.Pulse.Pulse}
 use Rattle.irig_recording.proofs.PulseEdges.{edges_of-append}
 use Rattle.irig_track.specs.Edges.{edges_of}
 use Rattle.irig_track.proofs.RisingLists.{rises_more, rises_right}
-use Rattle.irig_difference.specs.EdgesLeft.{edges_left, PassCommon}
-use Rattle.irig_difference.specs.Flips.{flips}
+use Rattle.irig_difference.specs.{EdgesLeft.edges_left, EdgesLeft.PassCommon, Flips.flips}
 use Rattle.irig_difference.proofs.FlipLists.{flips_both, flips_first, flips_second}
 
 -- the rest of a rising list rises
@@ -76,11 +74,17 @@ common_passed old new old2 new2 p h i = record {
   second = rises_right 0 p.common new2 (subst (RisesFrom 0) p.second i);
 }
 
+-- between pulses all edges are left
+low : (ps : List Pulse) → edges_left ps false ≡ edges_of ps
+low [] = refl
+low (p ∷ ps) = refl
+
+-- a fall is past
+pub passed_fall : (ps : List Pulse) → 0 < length (edges_left ps true) → edges_left (drop 1 ps) false ≡ drop 1 (edges_left ps true)
+passed_fall [] lt = absurd (omega arith)
+passed_fall (p ∷ ps) lt = low ps
+
 -- edges between pulses, with some pulses at the front gone
 pub edges_left-dropped : (n : ℕ) (ps : List Pulse) → edges_left ps false ≡ edges_of (take n ps) ++ edges_left (drop n ps) false
 edges_left-dropped n ps =
     low ps ∙ ap edges_of (sym (take-append-drop n ps)) ∙ edges_of-append (take n ps) (drop n ps) ∙ ap (λ (es : List ℕ). edges_of (take n ps) ++ es) (sym (low (drop n ps)))
-  where
-    low : (ps : List Pulse) → edges_left ps false ≡ edges_of ps
-    low [] = refl
-    low (p ∷ ps) = refl

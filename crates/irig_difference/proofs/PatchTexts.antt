@@ -1,12 +1,10 @@
 -- Patches that have no byte.
 use Rattle.std.proofs.Common.{◌≡◌, ℕ, List, [], ◌∷◌, ◌++◌, ◌∙◌, ap, sym, refl, inl, inr, if◌then◌else◌, codes}
 use Rattle.std.proofs.lemmas.Bool.{cases_eq, ne_eqb, eq-eqb}
-use Rattle.irig_recording.specs.declared.pulse.Pulse.{Pulse}
-use Rattle.irig_recording.specs.Recording.{RecordingView, recording_view, IsRecording}
+use Rattle.irig_recording.specs.{declared.pulse.Pulse.Pulse, Recording.RecordingView, Recording.recording_view, Recording.IsRecording}
 use Rattle.irig_difference.specs.PatchText.{line_of, script_of, length_note, patch_text}
 use Rattle.irig_difference.specs.Stretches.{pairs, stretches_between}
-use Rattle.irig_difference.proofs.FlipSets.{flips-same}
-use Rattle.irig_difference.proofs.Patches.{no_stretches}
+use Rattle.irig_difference.proofs.{FlipSets.flips-same, Patches.no_stretches}
 
 no_line : (ps : List Pulse) → script_of ps ≡ [] → ps ≡ []
 no_line [] e = refl

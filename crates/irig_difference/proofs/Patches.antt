@@ -1,16 +1,12 @@
 -- Stretches as a script of inverts: it leads from the one to the other, and none is shorter.
 use Rattle.std.proofs.Common.{◌≡◌, ℕ, ◌*◌, ◌≤◌, true, List, [], ◌∷◌, length, refl, sym, ap, ◌∙◌, arith}
 use Rattle.std.proofs.Math.Bool.{not-not}
-use Rattle.irig_recording.specs.Recording.{RisesFrom, is_even_long}
-use Rattle.irig_recording.specs.declared.pulse.Pulse.{Pulse}
+use Rattle.irig_recording.specs.{Recording.RisesFrom, Recording.is_even_long, declared.pulse.Pulse.Pulse}
 use Rattle.irig_recording.proofs.PulseEdges.{length-edges_of}
-use Rattle.irig_track.specs.Edges.{edges_of}
-use Rattle.irig_track.specs.Toggles.{flipped, toggled}
+use Rattle.irig_track.specs.{Edges.edges_of, Toggles.flipped, Toggles.toggled}
 use Rattle.irig_track.proofs.RisingLists.{RisesFrom-flipped}
-use Rattle.irig_difference.specs.Flips.{flips, patched}
-use Rattle.irig_difference.specs.Stretches.{pairs}
-use Rattle.irig_difference.proofs.FlipLists.{even-flips}
-use Rattle.irig_difference.proofs.FlipSets.{flips-flips, flips-same, length-flips_least}
+use Rattle.irig_difference.specs.{Flips.flips, Flips.patched, Stretches.pairs}
+use Rattle.irig_difference.proofs.{FlipLists.even-flips, FlipSets.flips-flips, FlipSets.flips-same, FlipSets.length-flips_least}
 
 -- numbers two by two, one after the other
 pub edges_of-pairs : (xs : List ℕ) → is_even_long xs ≡ true → edges_of (pairs xs) ≡ xs

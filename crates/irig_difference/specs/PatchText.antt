@@ -1,7 +1,6 @@
 -- The patch between two recordings, as lines of the editor's language. This project's own.
 use Rattle.std.specs.Prelude.{ℕ, ◌==◌, ◌++◌, Bool, List, [], ◌∷◌, codes, decimal, if◌then◌else◌}
-use Rattle.irig_recording.specs.declared.pulse.Pulse.{Pulse}
-use Rattle.irig_recording.specs.Recording.{RecordingView}
+use Rattle.irig_recording.specs.{declared.pulse.Pulse.Pulse, Recording.RecordingView}
 use Rattle.irig_difference.specs.Stretches.{stretches_between}
 
 -- a word and two numbers on a line

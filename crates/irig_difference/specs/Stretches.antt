@@ -1,8 +1,7 @@
 -- The stretches in which two recordings differ, as pulses that are high where they do. This
 -- project's own.
 use Rattle.std.specs.Prelude.{ℕ, Bool, false, List, [], ◌∷◌, ◌||◌, ◌&&◌, nat_le, nat_lt}
-use Rattle.irig_recording.specs.declared.pulse.Pulse.{Pulse}
-use Rattle.irig_recording.specs.Recording.{RecordingView}
+use Rattle.irig_recording.specs.{declared.pulse.Pulse.Pulse, Recording.RecordingView}
 use Rattle.irig_track.specs.Edges.{pulse}
 use Rattle.irig_difference.specs.Flips.{flips}
 

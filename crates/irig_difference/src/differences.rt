@@ -23,8 +23,7 @@ impl<'a> Model for Differences<'a> {
     ghost use Rattle.std.specs.Prelude.{◌≡◌, true, List};
     ghost use Rattle.irig_recording.specs.Recording.{RisesFrom, is_even_long};
     ghost use Rattle.irig_recording.specs.declared.pulse.Pulse.{Pulse};
-    ghost use Rattle.irig_difference.specs.Flips.{flips};
-    ghost use Rattle.irig_difference.specs.Stretches.{pairs};
+    ghost use Rattle.irig_difference.specs.{Flips.flips, Stretches.pairs};
 
     ghost Value = { List Pulse };
 

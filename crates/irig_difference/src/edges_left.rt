@@ -1,36 +1,44 @@
 //! The edges of pulses, one after the other.
 
-ghost use Rattle.std.specs.Prelude.{◌≡◌, ◌<◌, ◌≤◌, length, slice_get, drop, take, true};
+ghost use Rattle.std.specs.Prelude.{◌≡◌, ◌+◌, ◌^◌, ◌<◌, ◌≤◌, length, slice_get, drop, take, true};
 ghost use Rattle.irig_track.specs.Edges.{edges_of};
 ghost use Rattle.irig_difference.specs.EdgesLeft.{PassCommon};
 
+use irig_gap::Gap;
 use irig_recording::Pulse;
 use std::marker::Model;
 
-/// The edges of pulses that are still to come.
+/// The edges of pulses that are still to come. The pulses are left of their buffer's place.
 #[derive(Drop)]
 pub struct EdgesLeft<'a> {
-    pulses: &'a [Pulse],
-    // Whether the rise of the first pulse is past.
+    pulses: &'a Gap<Pulse>,
+    // How many pulses are past.
+    past: usize,
+    // Whether the rise of the next one is past, too.
     is_high: bool,
 }
 
 impl<'a> Model for EdgesLeft<'a> {
-    ghost use Rattle.std.specs.Prelude.{ℕ, List};
+    ghost use Rattle.std.specs.Prelude.{ℕ, List, ◌≡◌, ◌≤◌, drop, length};
     ghost use Rattle.irig_difference.specs.EdgesLeft.{edges_left};
 
     ghost Value = { List ℕ };
 
-    ghost view = { λ e. edges_left e.pulses.now e.is_high };
+    ghost view = { λ e. edges_left (drop e.past e.pulses.now.items) e.is_high };
+
+    ghost invariant = { λ e. (e.pulses.now.place ≡ length e.pulses.now.items)
+        × (e.past ≤ length e.pulses.now.items) };
 }
 
 impl<'a> EdgesLeft<'a> {
     /// All edges of pulses.
-    pub fn new(pulses: &'a [Pulse]) -> EdgesLeft<'a>
-        ensures { result ≡ edges_of pulses.now }
+    pub fn new(pulses: &'a Gap<Pulse>) -> EdgesLeft<'a>
+        requires { pulses.now.place ≡ length pulses.now.items }
+        ensures { result ≡ edges_of pulses.now.items }
     {
         EdgesLeft {
             pulses,
+            past: 0,
             is_high: false,
         }
     }
@@ -40,11 +48,11 @@ impl<'a> EdgesLeft<'a> {
     pub fn first(&self) -> Option<u64>
         ensures { result ≡ slice_get self.now 0 }
     {
-        match self.pulses {
-            [first, ..] if self.is_high => Some(first.fall),
-            [first, ..] => Some(first.rise),
-            [] => None,
+        if self.past == self.pulses.gap_at() {
+            return None;
         }
+        let next = self.pulses.get_left(self.past);
+        Some(if self.is_high { next.fall } else { next.rise })
     }
 
     /// Goes past the next edge.
@@ -53,10 +61,14 @@ impl<'a> EdgesLeft<'a> {
         requires { 0 < length self.old }
         ensures { self.new ≡ drop 1 self.old }
     {
+        // Read for its bound alone.
+        let _count = self.pulses.gap_at();
         if self.is_high {
-            self.pulses = &self.pulses[1..];
+            self.past += 1;
+            self.is_high = false;
+        } else {
+            self.is_high = true;
         }
-        self.is_high = !self.is_high;
     }
 
     /// Goes past the pulses that both begin with, if both are between pulses.
@@ -66,21 +78,24 @@ impl<'a> EdgesLeft<'a> {
         if self.is_high || other.is_high {
             return;
         }
-        let count = common(self.pulses, other.pulses);
-        self.pulses = &self.pulses[count..];
-        other.pulses = &other.pulses[count..];
+        let count = common(self.pulses, self.past, other.pulses, other.past);
+        self.past += count;
+        other.past += count;
     }
 }
 
-/// With how many of the same pulses two lists begin.
-fn common(before: &[Pulse], after: &[Pulse]) -> usize
-    ensures before { result ≤ length before.now }
-    ensures after { result ≤ length after.now }
-    ensures same { take result before.now ≡ take result after.now }
+/// How many of the same pulses two buffers have, from these places on and left of their own ones.
+fn common(before: &Gap<Pulse>, i: usize, after: &Gap<Pulse>, j: usize) -> usize
+    requires before { i ≤ before.now.place }
+    requires after { j ≤ after.now.place }
+    ensures before { i + result ≤ before.now.place }
+    ensures after { j + result ≤ after.now.place }
+    ensures fits { (i + result < 2 ^ 64) × (j + result < 2 ^ 64) }
+    ensures same { take result (drop i before.now.items) ≡ take result (drop j after.now.items) }
 {
-    let most = before.len().min(after.len());
+    let most = (before.gap_at() - i).min(after.gap_at() - j);
     let mut count = 0;
-    while count < most && is_same(&before[count], &after[count]) {
+    while count < most && is_same(before.get_left(i + count), after.get_left(j + count)) {
         count += 1;
     }
     count
@@ -88,8 +103,8 @@ fn common(before: &[Pulse], after: &[Pulse]) -> usize
 
 /// Whether two pulses are the same.
 #[inline(always)]
-fn is_same(one: &Pulse, other: &Pulse) -> bool
-    ensures { result ≡ true → one.now ≡ other.now }
+fn is_same(one: Pulse, other: Pulse) -> bool
+    ensures { result ≡ true → one ≡ other }
 {
     one.rise == other.rise && one.fall == other.fall
 }

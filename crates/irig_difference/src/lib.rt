@@ -7,4 +7,4 @@ mod patch_text;
 
 pub use differences::Differences;
 pub use irig_recording::{Pulse, Recording};
-pub use patch_text::PatchText;
+pub use patch_text::{PatchText, put_line, put_note, put_number};

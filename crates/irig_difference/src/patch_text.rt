@@ -1,8 +1,7 @@
 //! The patch between two recordings, as a text in parts.
 
 ghost use Rattle.std.specs.Prelude.{◌≡◌, ◌↔◌, ◌≤◌, ◌++◌, ◌∷◌, [], true, false, IfOk, OnOk, decimal};
-ghost use Rattle.std.specs.Prelude.{drop, length};
-ghost use Rattle.std.specs.Prelude.{vec_len};
+ghost use Rattle.std.specs.Prelude.{drop, length, vec_len};
 ghost use Rattle.irig_difference.specs.PatchText.{length_note, line_of, patch_text, script_of};
 
 use crate::differences::Differences;
@@ -62,7 +61,7 @@ impl Text for PatchText<'_> {
 }
 
 /// Writes the comment with two lengths, unless they are the same.
-fn put_note(block: &mut Vec<u8>, before: u64, after: u64) -> Result<(), AllocError>
+pub fn put_note(block: &mut Vec<u8>, before: u64, after: u64) -> Result<(), AllocError>
     ensures { OnOk result (block.new.items ≡ block.old.items ++ length_note before after) }
 {
     if before == after {
@@ -92,7 +91,7 @@ fn put_lines(
 }
 
 /// Writes a word and two numbers on a line.
-fn put_line(block: &mut Vec<u8>, word: &[u8], a: u64, b: u64) -> Result<(), AllocError>
+pub fn put_line(block: &mut Vec<u8>, word: &[u8], a: u64, b: u64) -> Result<(), AllocError>
     ensures { OnOk result (block.new.items ≡ block.old.items ++ line_of word.now a b) }
 {
     block.extend_from_slice(word)?;
@@ -102,7 +101,7 @@ fn put_line(block: &mut Vec<u8>, word: &[u8], a: u64, b: u64) -> Result<(), Allo
 }
 
 /// Writes a space and a number in decimal.
-fn put_number(block: &mut Vec<u8>, number: u64) -> Result<(), AllocError>
+pub fn put_number(block: &mut Vec<u8>, number: u64) -> Result<(), AllocError>
     ensures { OnOk result (block.new.items ≡ block.old.items ++ 32 ∷ decimal number) }
 {
     let mut digits = [0; ROOM];

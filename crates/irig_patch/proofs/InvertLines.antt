@@ -1,15 +1,9 @@
 -- A line that inverts, and what it asks for.
-use Rattle.std.proofs.Common.{◌≡◌, ◌≢◌, ◌<◌, ◌≤◌, ◌^◌, ◌++◌, ◌∷◌, ◌==◌, ◌&&◌, ◌∙◌, nat_lt, ℕ, Bool, true, false, not, List, [], length, length-append, decimal, codes, refl, sym, ap, inl, arith, lit<, append_assoc, inr}
+use Rattle.std.proofs.Common.{◌≡◌, ◌≢◌, ◌<◌, ◌≤◌, ◌^◌, ◌++◌, ◌∷◌, ◌==◌, ◌&&◌, ◌∙◌, nat_lt, ℕ, Bool, true, false, not, List, [], length, length-append, decimal}
+use Rattle.std.proofs.Common.{codes, refl, sym, ap, inl, arith, lit<, append_assoc, inr}
 use Rattle.std.specs.List.{list_all}
-use Rattle.std.proofs.lemmas.Bool.{and_from, and_parts}
-use Rattle.std.proofs.lemmas.Bool.Decides.{nat_tests}
-use Rattle.std.proofs.lemmas.Fmt.{length-decimal-le}
-use Rattle.std.proofs.lemmas.List.{append-nil}
-use Rattle.std.proofs.lemmas.List.Folds.{list_all-append}
-use Rattle.irig_lines.specs.Grammar.{AreWords, IsWord, Means}
-use Rattle.irig_lines.specs.Lines.{is_quit, are_quit}
-use Rattle.irig_lines.specs.Numbers.{IsNumber, is_digit}
-use Rattle.irig_lines.specs.Words.{is_space}
+use Rattle.std.proofs.lemmas.{Bool.and_from, Bool.and_parts, Bool.Decides.nat_tests, Fmt.length-decimal-le, List.append-nil, List.Folds.list_all-append}
+use Rattle.irig_lines.specs.{Grammar.AreWords, Grammar.IsWord, Grammar.Means, Lines.is_quit, Lines.are_quit, Numbers.IsNumber, Numbers.is_digit, Words.is_space}
 use Rattle.irig_lines.specs.declared.command.Command.TheVariants as command
 use Rattle.irig_lines.specs.declared.time.Time.TheVariants as time
 use Rattle.irig_lines.proofs.Spacing.{words_found}

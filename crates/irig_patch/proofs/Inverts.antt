@@ -1,29 +1,17 @@
 -- One invert after the other.
-use Rattle.std.proofs.Common.{◌≡◌, ◌+◌, ◌<◌, ◌≤◌, ◌∙◌, ℕ, Bool, true, false, not, List, [], ◌∷◌, length, Some, None, Ok, Err, sym, ap, refl, arith, inl, inr, subst, if◌then◌else◌, ◌&&◌, ◌||◌, ◌^◌}
-use Rattle.std.proofs.lemmas.Bool.{and_from, lt-leb, lt-ltb, le-leb}
-use Rattle.std.proofs.lemmas.Option.{none-some}
-use Rattle.irig_recording.specs.Recording.{RecordingView, IsRecording, RisesFrom, UpTo}
-use Rattle.irig_recording.specs.declared.pulse.Pulse.{Pulse}
+use Rattle.std.proofs.Common.{◌≡◌, ◌+◌, ◌<◌, ◌≤◌, ◌∙◌, ℕ, Bool, true, false, not, List, [], ◌∷◌, length, Some, None, Ok, Err, sym, ap, refl, arith, inl, inr}
+use Rattle.std.proofs.Common.{subst, if◌then◌else◌, ◌&&◌, ◌||◌, ◌^◌}
+use Rattle.std.proofs.lemmas.{Bool.and_from, Bool.lt-leb, Bool.lt-ltb, Bool.le-leb, Option.none-some}
+use Rattle.irig_recording.specs.{Recording.RecordingView, Recording.IsRecording, Recording.RisesFrom, Recording.UpTo, declared.pulse.Pulse.Pulse}
 use Rattle.irig_recording.proofs.PulseEdges.{length-edges_of}
-use Rattle.irig_track.specs.Edges.{edges_of, is_edge}
-use Rattle.irig_track.specs.Toggles.{flipped, toggled}
-use Rattle.irig_track.proofs.Laws.{has-toggled}
-use Rattle.irig_track.proofs.RisingLists.{RisesFrom-flipped, rises_more}
-use Rattle.irig_track.proofs.Sets.{only_list}
-use Rattle.irig_difference.specs.Flips.{patched}
-use Rattle.irig_difference.specs.Stretches.{stretches_between}
-use Rattle.irig_difference.proofs.FlipLists.{RisesFrom-flips, UpTo-flips}
-use Rattle.irig_difference.proofs.FlipSets.{length-flipped_most}
-use Rattle.irig_difference.proofs.Patches.{edges_of-stretches}
+use Rattle.irig_track.specs.{Edges.edges_of, Edges.is_edge, Toggles.flipped, Toggles.toggled}
+use Rattle.irig_track.proofs.{Laws.has-toggled, RisingLists.RisesFrom-flipped, RisingLists.rises_more, Sets.only_list}
+use Rattle.irig_difference.specs.{Flips.patched, Stretches.stretches_between}
+use Rattle.irig_difference.proofs.{FlipLists.RisesFrom-flips, FlipLists.UpTo-flips, FlipSets.length-flipped_most, Patches.edges_of-stretches}
 use Rattle.irig_edit.specs.Edits.Conditions.{is_full, is_range, is_overfull}
-use Rattle.irig_edit.specs.Edits.Edits.{IsAfter}
-use Rattle.irig_edit.specs.Edits.Refusals.{first_holding, tests_of}
-use Rattle.irig_edit.specs.Session.Calls.Call.{Make}
-use Rattle.irig_edit.specs.Session.Calls.Edit.{Invert}
-use Rattle.irig_edit.specs.Session.Session.{SessionView, Steps}
-use Rattle.irig_edit.specs.State.State.{State}
-use Rattle.irig_edit.specs.declared.session.refusal.Refusal.{Refusal}
 use Rattle.irig_edit.specs.declared.session.refusal.Refusal.TheVariants.{OutOfRange, TooMany, OutOfMemory}
+use Rattle.irig_edit.specs.{Edits.Edits.IsAfter, Edits.Refusals.first_holding, Edits.Refusals.tests_of, Session.Calls.Call.Make, Session.Calls.Edit.Invert}
+use Rattle.irig_edit.specs.{Session.Session.SessionView, Session.Session.Steps, State.State.State, declared.session.refusal.Refusal.Refusal}
 use Rattle.irig_patch.specs.Patched.{AreStretches, Patches, StopsPatch}
 
 -- what an accepted invert makes of the edges

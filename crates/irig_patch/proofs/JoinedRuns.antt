@@ -1,37 +1,25 @@
 -- A patch that was printed, and run with `write` after it.
-use Rattle.std.proofs.Common.{◌≡◌, ◌+◌, ◌<◌, ◌≤◌, ◌^◌, ◌++◌, ◌∷◌, ◌∙◌, ℕ, Bool, true, false, List, [], Option, Some, None, Ok, Err, codes, refl, sym, ap, subst, arith, inl, inr, append_assoc, Result, if◌then◌else◌}
+use Rattle.std.proofs.Common.{◌≡◌, ◌+◌, ◌<◌, ◌≤◌, ◌^◌, ◌++◌, ◌∷◌, ◌∙◌, ℕ, Bool, true, false, List, [], Option, Some, None, Ok, Err, codes, refl, sym, ap, subst}
+use Rattle.std.proofs.Common.{arith, inl, inr, append_assoc, Result, if◌then◌else◌}
 use Rattle.std.specs.List.{AllByRecursion}
 use Rattle.std.proofs.lemmas.Option.{none-some}
 use Rattle.irig_text.specs.Shelved.{Puts}
 use Rattle.irig_codes.specs.Format.{FormatView}
-use Rattle.irig_recording.specs.FileText.{file_text}
-use Rattle.irig_recording.specs.Recording.{RecordingView, UpTo}
-use Rattle.irig_recording.specs.declared.pulse.Pulse.{Pulse}
+use Rattle.irig_recording.specs.{FileText.file_text, Recording.RecordingView, Recording.UpTo, declared.pulse.Pulse.Pulse}
 use Rattle.irig_track.specs.Edges.{edges_of}
-use Rattle.irig_vcd.specs.Parts.{dump_parts}
-use Rattle.irig_vcd.specs.declared.fault.VcdFault.{VcdFault}
-use Rattle.irig_edit.specs.Opened.Openings.{IsOpened}
-use Rattle.irig_edit.specs.Session.Calls.Edit.{Invert}
-use Rattle.irig_edit.specs.State.State.{recording_of}
-use Rattle.irig_lines.specs.Lines.{script_lines}
-use Rattle.irig_lines.specs.declared.command.Command.{Command}
+use Rattle.irig_vcd.specs.{Parts.dump_parts, declared.fault.VcdFault.VcdFault}
+use Rattle.irig_edit.specs.{Opened.Openings.IsOpened, Session.Calls.Edit.Invert, State.State.recording_of}
+use Rattle.irig_lines.specs.{Lines.script_lines, declared.command.Command.Command}
 use Rattle.irig_lines.specs.declared.command.Command.TheVariants as command
 use Rattle.irig_lines.proofs.LineOrders.{means_one}
-use Rattle.irig_script.specs.Obey.Answer.{Answered}
 use Rattle.irig_script.specs.Obey.Desk.{failures_in, failures_of, is_refusal, status_after}
-use Rattle.irig_script.specs.Obey.Machine.{Machine}
-use Rattle.irig_script.specs.Obey.Obeying.{Obeys}
-use Rattle.irig_script.specs.Obey.Replies.{Makes, Writes, dump_text}
-use Rattle.irig_script.specs.Obey.Run.{Runs}
-use Rattle.irig_script.specs.Print.Printed.{Answer}
-use Rattle.irig_script.specs.declared.obey.status.Status.{Status}
 use Rattle.irig_script.specs.declared.obey.status.Status.TheVariants.{AllAccepted, SomeRefused}
-use Rattle.irig_script.specs.declared.print.reply.Reply.{Reply}
 use Rattle.irig_script.specs.declared.print.reply.Reply.TheVariants.{Silent, Refused, Written, WriteFailed}
+use Rattle.irig_script.specs.{Obey.Answer.Answered, Obey.Machine.Machine, Obey.Obeying.Obeys, Obey.Replies.Makes, Obey.Replies.Writes, Obey.Replies.dump_text}
+use Rattle.irig_script.specs.{Obey.Run.Runs, Print.Printed.Answer, declared.obey.status.Status.Status, declared.print.reply.Reply.Reply}
 use Rattle.irig_difference.specs.Stretches.{stretches_between}
-use Rattle.irig_patch.specs.Joined.{JoinedRun, PatchesJoin}
-use Rattle.irig_patch.specs.Patched.{made_of}
 use Rattle.irig_patch.specs.Scripts.{AreGranted, IsGranted, RunOf, patch_and_write}
+use Rattle.irig_patch.specs.{Joined.JoinedRun, Joined.PatchesJoin, Patched.made_of}
 use Rattle.irig_patch.proofs.ScriptLines.{answered, invert_lines, write_means}
 use Rattle.irig_patch.proofs.ScriptRuns.{run_writes_by, small, write_its}
 

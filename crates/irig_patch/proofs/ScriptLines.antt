@@ -1,29 +1,23 @@
 -- The lines of a patch as a script, and the answers to them.
-use Rattle.std.proofs.Common.{◌≡◌, ◌==◌, Bool, true, false, ◌<◌, ◌≤◌, ◌^◌, ◌++◌, ◌∷◌, ◌∙◌, ℕ, List, [], codes, refl, sym, ap, subst, arith, append_assoc, inl, inr, if◌then◌else◌}
+use Rattle.std.proofs.Common.{◌≡◌, ◌==◌, Bool, true, false, ◌<◌, ◌≤◌, ◌^◌, ◌++◌, ◌∷◌, ◌∙◌, ℕ, List, [], codes, refl, sym, ap, subst, arith, append_assoc, inl}
+use Rattle.std.proofs.Common.{inr, if◌then◌else◌}
 use Rattle.std.specs.List.{AllByRecursion}
 use Rattle.std.proofs.lemmas.List.{append-nil}
-use Rattle.irig_recording.specs.Recording.{UpTo}
-use Rattle.irig_recording.specs.declared.pulse.Pulse.{Pulse}
+use Rattle.irig_recording.specs.{Recording.UpTo, declared.pulse.Pulse.Pulse}
 use Rattle.irig_track.specs.Edges.{edges_of}
 use Rattle.irig_edit.specs.Session.Calls.Edit.{Invert}
-use Rattle.irig_lines.specs.Grammar.{Means}
-use Rattle.irig_lines.specs.Lines.{lines_of, script_lines, until_quit}
-use Rattle.irig_lines.specs.declared.command.Command.{Command}
+use Rattle.irig_lines.specs.{Grammar.Means, Lines.lines_of, Lines.script_lines, Lines.until_quit, declared.command.Command.Command}
 use Rattle.irig_lines.specs.declared.command.Command.TheVariants as command
 use Rattle.irig_lines.specs.declared.time.Time.TheVariants as time
 use Rattle.irig_lines.proofs.LineOrders.{means_one}
-use Rattle.irig_script.specs.Obey.Answer.{Answered, texts_of}
-use Rattle.irig_script.specs.Obey.Machine.{Machine}
-use Rattle.irig_script.specs.Obey.Obeying.{Obeys}
-use Rattle.irig_script.specs.Obey.Replies.{Makes, Writes, dump_text, texts_put}
-use Rattle.irig_script.specs.Obey.Run.{Runs}
-use Rattle.irig_script.specs.Print.Printed.{Answer}
-use Rattle.irig_script.specs.declared.print.reply.Reply.{Reply}
 use Rattle.irig_script.specs.declared.print.reply.Reply.TheVariants.{Silent, Written}
+use Rattle.irig_script.specs.{Obey.Answer.Answered, Obey.Answer.texts_of, Obey.Machine.Machine, Obey.Obeying.Obeys, Obey.Replies.Makes, Obey.Replies.Writes}
+use Rattle.irig_script.specs.{Obey.Replies.dump_text, Obey.Replies.texts_put, Obey.Run.Runs, Print.Printed.Answer, declared.print.reply.Reply.Reply}
 use Rattle.irig_script.proofs.ObeyLemmas.Lines.{first_line, until_obeyed}
 use Rattle.irig_difference.specs.PatchText.{line_of, length_note, script_of}
 use Rattle.irig_patch.specs.Scripts.{IsGranted}
-use Rattle.irig_patch.proofs.InvertLines.{note_line, note_means, note_goes_on, note_plain, note_short, invert_line, invert_means, invert_goes_on, invert_plain, invert_short}
+use Rattle.irig_patch.proofs.InvertLines.{note_line, note_means, note_goes_on, note_plain, note_short, invert_line, invert_means, invert_goes_on, invert_plain}
+use Rattle.irig_patch.proofs.InvertLines.{invert_short}
 
 -- the lines of stretches
 abbrev pub invert_lines : List Pulse → List (List ℕ)

@@ -2,32 +2,21 @@
 use Rattle.std.proofs.Common.{◌≡◌, ◌+◌, ◌<◌, ◌≤◌, ◌^◌, ◌++◌, ◌∷◌, ◌∙◌, ℕ, List, [], Ok, Err, codes, sym, ap, subst, arith, append_assoc}
 use Rattle.std.specs.List.{AllByRecursion}
 use Rattle.std.proofs.lemmas.List.{append-nil}
-use Rattle.irig_recording.specs.FileText.{file_text}
 use Rattle.irig_recording.specs.Recording.{RisesFrom, UpTo, IsRecording, recording_view, RecordingView}
-use Rattle.irig_recording.specs.declared.pulse.Pulse.{Pulse}
+use Rattle.irig_recording.specs.{FileText.file_text, declared.pulse.Pulse.Pulse}
 use Rattle.irig_track.specs.Edges.{edges_of}
-use Rattle.irig_edit.specs.Session.Calls.Call.{Make}
-use Rattle.irig_edit.specs.Session.Calls.Edit.{Invert}
-use Rattle.irig_edit.specs.Session.Session.{Steps}
-use Rattle.irig_edit.specs.State.State.{recording_of}
-use Rattle.irig_edit.specs.declared.session.refusal.Refusal.{Refusal}
-use Rattle.irig_edit.specs.declared.session.refusal.Refusal.TheVariants.{OutOfMemory}
+use Rattle.irig_edit.specs.{Session.Calls.Call.Make, Session.Calls.Edit.Invert, Session.Session.Steps, State.State.recording_of}
+use Rattle.irig_edit.specs.{declared.session.refusal.Refusal.Refusal, declared.session.refusal.Refusal.TheVariants.OutOfMemory}
 use Rattle.irig_lines.specs.Lines.{script_lines}
-use Rattle.irig_script.specs.Obey.Machine.{Machine}
-use Rattle.irig_script.specs.Obey.Replies.{Makes, dump_text}
-use Rattle.irig_script.specs.Obey.Run.{Runs}
-use Rattle.irig_script.specs.Print.Printed.{Answer}
-use Rattle.irig_script.specs.declared.print.reply.Reply.{Reply}
-use Rattle.irig_script.specs.declared.print.reply.Reply.TheVariants.{Silent, Refused}
-use Rattle.irig_difference.specs.Flips.{patched}
-use Rattle.irig_difference.specs.PatchText.{length_note, script_of, patch_text}
-use Rattle.irig_difference.specs.Stretches.{stretches_between}
-use Rattle.irig_difference.proofs.FlipLists.{UpTo-more}
-use Rattle.irig_difference.proofs.Patches.{patched-stretches}
+use Rattle.irig_script.specs.{Obey.Machine.Machine, Obey.Replies.Makes, Obey.Replies.dump_text, Obey.Run.Runs, Print.Printed.Answer}
+use Rattle.irig_script.specs.{declared.print.reply.Reply.Reply, declared.print.reply.Reply.TheVariants.Silent, declared.print.reply.Reply.TheVariants.Refused}
+use Rattle.irig_difference.specs.{Flips.patched, PatchText.length_note, PatchText.script_of, PatchText.patch_text, Stretches.stretches_between}
+use Rattle.irig_difference.proofs.{FlipLists.UpTo-more, Patches.patched-stretches}
 use Rattle.irig_patch.specs.Patched.{AreStretches, Patches, made_of}
 use Rattle.irig_patch.specs.Scripts.{IsGranted, AreGranted, MayStop, RunOf, patch_and_write}
 use Rattle.irig_patch.proofs.Inverts.{stretches_fit, Goes, none_made, one_made, all_made, refused_by}
-use Rattle.irig_patch.proofs.ScriptLines.{AfterNote, after_note, answered, invert_lines, note_lines, script_lines-more, script_lines-note, script_lines-script, write_answered}
+use Rattle.irig_patch.proofs.ScriptLines.{AfterNote, after_note, answered, invert_lines, note_lines, script_lines-more, script_lines-note, script_lines-script}
+use Rattle.irig_patch.proofs.ScriptLines.{write_answered}
 
 -- what is known where some stretches are made and other lines are left
 record GoesTo (all : List Pulse) (start : Machine) (rest : List (List ℕ)) (texts : List (List ℕ)) (new : Machine) : Type 0 where

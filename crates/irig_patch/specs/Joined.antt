@@ -8,9 +8,8 @@ use Rattle.irig_recording.specs.FileText.{file_text}
 use Rattle.irig_recording.specs.Recording.{RecordingView, IsRecording, UpTo}
 use Rattle.irig_vcd.specs.Parts.{dump_parts}
 use Rattle.irig_difference.specs.PatchText.{patch_text}
-use Rattle.irig_script.specs.Obey.Desk.{Desk}
-use Rattle.irig_script.specs.Obey.DumpRun.{RunsOnDump}
 use Rattle.irig_script.specs.declared.obey.status.Status.TheVariants.{AllAccepted}
+use Rattle.irig_script.specs.{Obey.Desk.Desk, Obey.DumpRun.RunsOnDump}
 use Rattle.irig_patch.specs.Patched.{made_of}
 
 -- two recordings, the first of them that of a dump without a journal, and no edge of the second

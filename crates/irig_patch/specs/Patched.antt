@@ -4,10 +4,9 @@ use Rattle.irig_recording.specs.Recording.{RecordingView, RisesFrom, UpTo, recor
 use Rattle.irig_recording.specs.declared.pulse.Pulse.{Pulse}
 use Rattle.irig_track.specs.Edges.{edges_of}
 use Rattle.irig_difference.specs.Flips.{patched}
-use Rattle.irig_edit.specs.Session.Session.{SessionView}
-use Rattle.irig_edit.specs.State.State.{State}
 use Rattle.irig_edit.specs.declared.session.refusal.Refusal.{Refusal}
 use Rattle.irig_edit.specs.declared.session.refusal.Refusal.TheVariants.{TooMany, OutOfMemory}
+use Rattle.irig_edit.specs.{Session.Session.SessionView, State.State.State}
 
 -- the edges of the one recording in the length of the other: no line changes a length. If both are
 -- as long, it is the second one

@@ -3,15 +3,12 @@ use Rattle.std.specs.Prelude.{◌≡◌, ◌++◌, List, [], ◌∷◌, ℕ, cod
 use Rattle.std.specs.List.{AllByRecursion}
 use Rattle.irig_recording.specs.FileText.{file_text}
 use Rattle.irig_recording.specs.Recording.{RecordingView, IsRecording, UpTo}
-use Rattle.irig_difference.specs.PatchText.{patch_text}
-use Rattle.irig_difference.specs.Stretches.{stretches_between}
+use Rattle.irig_difference.specs.{PatchText.patch_text, Stretches.stretches_between}
 use Rattle.irig_edit.specs.State.State.{recording_of}
 use Rattle.irig_lines.specs.Lines.{script_lines}
-use Rattle.irig_script.specs.Obey.Machine.{Machine}
-use Rattle.irig_script.specs.Obey.Run.{Runs}
-use Rattle.irig_script.specs.Print.Printed.{Answer}
 use Rattle.irig_script.specs.declared.print.reply.Reply.{Reply}
 use Rattle.irig_script.specs.declared.print.reply.Reply.TheVariants.{Silent, Refused, Written}
+use Rattle.irig_script.specs.{Obey.Machine.Machine, Obey.Run.Runs, Print.Printed.Answer}
 use Rattle.irig_patch.specs.Patched.{Patches, StopsPatch, made_of}
 
 -- two recordings, no edge of the second above the length of the first, and a run of a script that

@@ -2,10 +2,8 @@
 use Rattle.std.proofs.Common.{◌≡◌, List, Result, Ok, Err, true, inr, refl}
 use Rattle.std.specs.Prelude.{IfErr}
 use Rattle.clap.specs.Words.{App, FailsBy, Text, fault_of, is_simple_and_free, kind_of, takes}
-use Rattle.clap.specs.declared.error.Error.{Error}
-use Rattle.clap.specs.declared.error.kind.ErrorKind.TheVariants.{OutOfMemory}
-use Rattle.irig_time.specs.Errors.{MayRefuse}
-use Rattle.irig_time.specs.Options.{the_command}
+use Rattle.clap.specs.{declared.error.Error.Error, declared.error.kind.ErrorKind.TheVariants.OutOfMemory}
+use Rattle.irig_time.specs.{Errors.MayRefuse, Options.the_command}
 
 command_is_free : is_simple_and_free the_command ≡ true
 command_is_free = refl

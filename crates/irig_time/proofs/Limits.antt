@@ -2,8 +2,7 @@
 use Rattle.std.proofs.Common.{◌≡◌, ◌&&◌, ◌^◌, ◌<◌, ℕ, Bool, Option, Some, None, min, ap, sym, ◌∙◌, inl, inr, arith, nat_le}
 use Rattle.std.specs.Prelude.{option_map, if◌then◌else◌}
 use Rattle.std.proofs.Math.Bool.{and-false}
-use Rattle.std.proofs.lemmas.Bool.{cases_lt, lt-leb}
-use Rattle.std.proofs.lemmas.Option.{none-some, same_Some}
+use Rattle.std.proofs.lemmas.{Bool.cases_lt, Bool.lt-leb, Option.none-some, Option.same_Some}
 use Rattle.irig_time.specs.Values.{within}
 
 past : (first last v : ℕ) → last < v → within first last (Some v) ≡ None

@@ -1,19 +1,15 @@
 -- What a command line asks for, and which value it cannot have. This project's own.
 use Rattle.std.specs.Prelude.{◌≡◌, ◌⊎◌, ◌&&◌, ◌||◌, ◌+◌, ◌/◌, ◌^◌, ◌<◌, ◌≤◌, ℕ, Bool, true, false}
-use Rattle.std.specs.Prelude.{nat_lt, not}
-use Rattle.std.specs.Prelude.{Option, Some, None, IfSome, codes, is_some}
+use Rattle.std.specs.Prelude.{nat_lt, not, Option, Some, None, IfSome, codes, is_some}
 use Rattle.std.specs.Str.{bytes_eq}
 use Rattle.irig_codes.specs.Format.{FormatView, is_permitted}
-use Rattle.irig_codes.specs.Words.{kind_named}
-use Rattle.irig_codes.specs.declared.format.Kind.{Kind}
-use Rattle.irig_stamps.specs.declared.settings.Form.{Form}
+use Rattle.irig_codes.specs.{Words.kind_named, declared.format.Kind.Kind}
 use Rattle.irig_stamps.specs.declared.settings.Form.TheVariants.{Ordinal, Calendar, Seconds}
-use Rattle.irig_stamps.specs.declared.settings.Settings.{Settings}
-use Rattle.irig_time.specs.Values.{comma_named, digit_named, form_named, offset_named}
-use Rattle.irig_time.specs.Values.{places_named, text_or, whole_between}
-use Rattle.irig_time.specs.declared.asked.Asked.{Asked}
-use Rattle.irig_time.specs.declared.chosen.Chosen.{Chosen}
+use Rattle.irig_stamps.specs.{declared.settings.Form.Form, declared.settings.Settings.Settings}
+use Rattle.irig_time.specs.Values.{comma_named, digit_named, form_named, offset_named, places_named}
+use Rattle.irig_time.specs.Values.{text_or, whole_between}
 use Rattle.irig_time.specs.declared.chosen.OptionFault.{OptionFault}
+use Rattle.irig_time.specs.{declared.asked.Asked.Asked, declared.chosen.Chosen.Chosen}
 use Rattle.irig_time.specs.declared.chosen.OptionFault.TheVariants as fault
 
 -- the format is the one of the letter and the number: B and 2, if they are not given

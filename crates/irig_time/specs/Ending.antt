@@ -3,16 +3,12 @@
 use Rattle.std.specs.Prelude.{◌≡◌, ℕ, Bool, true, false, List, Option, Ok, Err}
 use Rattle.clap.specs.Words.{Text}
 use Rattle.irig_recording.specs.Recording.{RecordingView}
-use Rattle.irig_stamps.specs.Aligned.{Aligns}
-use Rattle.irig_stamps.specs.Tables.{ListsRecording}
-use Rattle.irig_time.specs.Settings.{Reads}
-use Rattle.irig_time.specs.Tracks.{HasFault, Says, name_in}
-use Rattle.irig_time.specs.declared.chosen.Chosen.{Chosen}
-use Rattle.irig_time.specs.declared.command_line.UsageFault.TheVariants.{Words}
-use Rattle.irig_time.specs.declared.command_line.UsageFault.TheVariants.{Value as of_value}
-use Rattle.irig_time.specs.declared.ending.Ending.{Ending}
+use Rattle.irig_stamps.specs.{Aligned.Aligns, Tables.ListsRecording}
+use Rattle.irig_time.specs.declared.command_line.UsageFault.TheVariants.{Words, Value as of_value}
 use Rattle.irig_time.specs.declared.ending.Ending.TheVariants.{Usage, Value, Unread, Aligned}
 use Rattle.irig_time.specs.declared.ending.Ending.TheVariants.{Listed, Broken}
+use Rattle.irig_time.specs.{Settings.Reads, Tracks.HasFault, Tracks.Says, Tracks.name_in}
+use Rattle.irig_time.specs.{declared.chosen.Chosen.Chosen, declared.ending.Ending.Ending}
 
 -- what the files hold, by their paths
 abbrev pub Held : Type 0

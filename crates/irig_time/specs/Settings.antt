@@ -3,13 +3,10 @@ use Rattle.std.specs.Prelude.{◌≡◌, List, codes, Some, Result, Ok, Err, opt
 use Rattle.clap.specs.Words.{Text, first_value, found_of}
 use Rattle.clap.specs.declared.parser.matches.Found.{Found}
 use Rattle.clap.specs.declared.parser.matches.ArgMatches.{ArgMatches}
-use Rattle.irig_time.specs.Chosen.{HasFault, IsChosen}
-use Rattle.irig_time.specs.Errors.{MayRefuse}
-use Rattle.irig_time.specs.Options.{IsParsed}
-use Rattle.irig_time.specs.declared.asked.Asked.{Asked}
-use Rattle.irig_time.specs.declared.chosen.Chosen.{Chosen}
 use Rattle.irig_time.specs.declared.command_line.UsageFault.{UsageFault}
 use Rattle.irig_time.specs.declared.command_line.UsageFault.TheVariants.{Words, Value}
+use Rattle.irig_time.specs.{Chosen.HasFault, Chosen.IsChosen, Errors.MayRefuse, Options.IsParsed}
+use Rattle.irig_time.specs.{declared.asked.Asked.Asked, declared.chosen.Chosen.Chosen}
 
 -- the values are those of the matches
 pub record AreValues (f : Found) (a : Asked) : Type 0 where

@@ -1,12 +1,11 @@
 -- The values of the command line. This project's own.
-use Rattle.std.specs.Prelude.{◌==◌, ◌&&◌, ◌^◌, ◌-◌, ℕ, Bool, not, nat_le, List, [], ◌∷◌}
-use Rattle.std.specs.Prelude.{Option, Some, None, codes, if◌then◌else◌, option_map, unwrap_or}
+use Rattle.std.specs.Prelude.{◌==◌, ◌&&◌, ◌^◌, ◌-◌, ℕ, Bool, not, nat_le, List, [], ◌∷◌, Option}
+use Rattle.std.specs.Prelude.{Some, None, codes, if◌then◌else◌, option_map, unwrap_or}
 use Rattle.std.specs.Str.{bytes_eq}
 use denote.Ref.{Bor}
-use Rattle.irig_stamps.specs.Columns.{is_digit}
 use Rattle.irig_stamps.specs.Numbers.{number_in, whole_in}
-use Rattle.irig_stamps.specs.declared.settings.Form.{Form}
 use Rattle.irig_stamps.specs.declared.settings.Form.TheVariants.{Ordinal, Calendar, Seconds}
+use Rattle.irig_stamps.specs.{Columns.is_digit, declared.settings.Form.Form}
 
 -- the text of an option, or another one if it is not given
 abbrev pub text_or : Option (Bor (List ℕ)) → List ℕ → List ℕ

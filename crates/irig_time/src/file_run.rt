@@ -2,9 +2,8 @@
 
 ghost use Rattle.std.specs.Prelude.{◌≡◌, map, option_map, string_bytes};
 ghost use Rattle.irig_vcd.specs.Answer.{name_of};
-ghost use Rattle.irig_time.specs.Chosen.{IsSound};
 ghost use Rattle.irig_time.specs.Ending.{AlignsAs, EndsBy, ListsAs, Obeys, RunsAs};
-ghost use Rattle.irig_time.specs.Tracks.{IsTrackOf, name_in};
+ghost use Rattle.irig_time.specs.{Chosen.IsSound, Tracks.IsTrackOf, Tracks.name_in};
 
 use crate::chosen::Chosen;
 use crate::command_line::{UsageFault, chosen};

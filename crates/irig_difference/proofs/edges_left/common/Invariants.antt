@@ -1,8 +1,11 @@
-use Rattle.std.proofs.Common.{◌≡◌, ◌≤◌, ◌-◌, take}
+use Rattle.std.proofs.Common.{◌≡◌, ◌≤◌, ◌-◌, drop, take}
 use Rattle.irig_difference.proofs.edges_left.common.Given as goal
 
 abbrev pub invariant-loop-count : goal.invariant-loop-count
-invariant-loop-count l = record { within : l.count ≤ l.most; same : take l.count l.before ≡ take l.count l.after }
+invariant-loop-count l = record {
+  within : l.count ≤ l.most;
+  same : take l.count (drop l.i l.before.items) ≡ take l.count (drop l.j l.after.items);
+}
 
 abbrev pub decreases-loop-count : goal.decreases-loop-count
 decreases-loop-count l = l.most - l.count

@@ -1,6 +1,5 @@
 use Rattle.std.proofs.Common.{◌≡◌, ◌≤◌, ◌+◌, ◌-◌, ◌∷◌, ◌∙◌, ◌++◌, length, decimal, drop, List, ℕ, arith, ap, lit<}
-use Rattle.std.proofs.lemmas.Fmt.{length-decimal-le}
-use Rattle.std.proofs.lemmas.List.{append-nil, drop_all, drop-set}
+use Rattle.std.proofs.lemmas.{Fmt.length-decimal-le, List.append-nil, List.drop_all, List.drop-set}
 use Rattle.irig_difference.proofs.patch_text.put_digits.Goals as goal
 
 pub write_digits-start-requires : goal.write_digits-start-requires

@@ -1,5 +1,4 @@
-use Rattle.irig_patch.proofs.JoinedRuns.{patches_join}
-use Rattle.irig_patch.proofs.ScriptRuns.{as_long, run_made, run_stops, run_writes}
+use Rattle.irig_patch.proofs.{JoinedRuns.patches_join, ScriptRuns.as_long, ScriptRuns.run_made, ScriptRuns.run_stops, ScriptRuns.run_writes}
 use Rattle.irig_patch.proofs.law.patches_are_scripts.Goals as goal
 
 pub returns : goal.returns

@@ -1,11 +1,9 @@
 use Rattle.std.proofs.Common.{refl, ◌∙◌, ap, sym, subst, max, arith}
 use Rattle.irig_recording.specs.Recording.{RisesFrom, UpTo, level_by_edges}
-use Rattle.irig_difference.specs.Flips.{flips}
-use Rattle.irig_difference.specs.Stretches.{pairs}
+use Rattle.irig_difference.specs.{Flips.flips, Stretches.pairs}
 use Rattle.irig_difference.proofs.FlipLists.{RisesFrom-flips, UpTo-flips, UpTo-more, even-flips}
-use Rattle.irig_difference.proofs.FlipSets.{flips-same}
-use Rattle.irig_difference.proofs.Levels.{level-flips, level-stretches}
 use Rattle.irig_difference.proofs.Patches.{edges_of-stretches, patched-stretches, least_patch, no_stretches}
+use Rattle.irig_difference.proofs.{FlipSets.flips-same, Levels.level-flips, Levels.level-stretches}
 use Rattle.irig_difference.proofs.differences.Differences.between.Goals as goal
 
 pub invariant_of-result : goal.invariant_of-result

@@ -1,0 +1,4 @@
+pub mod Begun
+pub mod FramedViews
+pub mod PlainTexts
+pub mod PartTexts

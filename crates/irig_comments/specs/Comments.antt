@@ -1,0 +1,41 @@
+-- The comment that says what stretches do to the frames. This project's own.
+use Rattle.std.specs.Prelude.{◌≡◌, ◌⊎◌, ◌==◌, ◌++◌, ℕ, List, [], ◌∷◌, codes, decimal, Option, Some}
+use Rattle.std.specs.Prelude.{None, if◌then◌else◌, not, true}
+use Rattle.std.specs.List.{list_all}
+use Rattle.irig_script.specs.Print.FrameLine.{verdict_text}
+use Rattle.irig_comments.specs.declared.shown.Shown.{Shown}
+
+-- a frame with its number, from 1, and the rise of its marker in microseconds
+abbrev pub whole_text : Shown → List ℕ
+whole_text s =
+    codes "frame " ++ decimal s.number ++ codes " at " ++ decimal s.rise ++ codes ": "
+    ++ verdict_text s.verdict
+
+-- the frame before
+abbrev pub before_text : Option Shown → List ℕ
+before_text None = codes "no frame"
+before_text (Some b) = whole_text b
+
+-- the frame after one: what is reported of it, if both begin at the same time
+abbrev pub change_text : Shown → Shown → List ℕ
+change_text b a = if b.rise == a.rise then verdict_text a.verdict else whole_text a
+
+-- the frame after
+abbrev pub after_text : Option Shown → Option Shown → List ℕ
+after_text _ None = codes "none"
+after_text None (Some a) = whole_text a
+after_text (Some b) (Some a) = change_text b a
+
+-- the comment of stretches that are in these two frames
+abbrev pub comment_text : Option Shown → Option Shown → List ℕ
+comment_text b a =
+    codes "# " ++ before_text b ++ codes ", then " ++ after_text b a ++ codes "\n"
+
+-- the text has no newline in it
+abbrev pub IsPlain : List ℕ → Type 0
+IsPlain text = list_all (λ b. not (b == 10)) text ≡ true
+
+-- nothing, or a line that begins with `#`: the editor passes over it
+abbrev pub IsComment : List ℕ → Type 0
+IsComment text =
+    (text ≡ []) ⊎ ((inside : List ℕ) × IsPlain inside × (text ≡ 35 ∷ (inside ++ 10 ∷ [])))

@@ -1,0 +1,14 @@
+//! A frame, as a comment shows it.
+
+use irig_index::Verdict;
+
+/// A frame, as a comment shows it.
+#[derive(Clone, Copy)]
+pub struct Shown {
+    /// Its number, from 1.
+    pub number: usize,
+    /// When its marker rises, in microseconds.
+    pub rise: u64,
+    /// What it says, or where it is broken.
+    pub verdict: Verdict,
+}
