@@ -1,8 +1,7 @@
 -- What the command refuses.
 use Rattle.std.proofs.Common.{◌≡◌, List, Result, ap, subst, true}
 use Rattle.std.specs.Prelude.{IfErr}
-use Rattle.clap.specs.Words.{App, Text, is_simple_and_free}
-use Rattle.clap.specs.declared.error.Error.{Error}
+use Rattle.clap.specs.{Words.App, Words.Text, Words.is_simple_and_free, declared.error.Error.Error}
 use Rattle.irig_words.specs.Errors.{MayRefuse}
 use Rattle.irig_guard.specs.Options.{the_command}
 

@@ -1,19 +1,13 @@
 -- An edit on the shelf of a file, as one by the settings.
 use Rattle.std.proofs.Common.{◌≡◌, [], ℕ, List, Option, Result, Err, inl, refl, subst}
 use Rattle.std.specs.Prelude.{option_map}
-use Rattle.irig_vcd.specs.Parts.{dump_parts}
-use Rattle.irig_vcd.specs.declared.fault.VcdFault.{VcdFault}
+use Rattle.irig_vcd.specs.{Parts.dump_parts, declared.fault.VcdFault.VcdFault}
 use Rattle.irig_vcd.proofs.WholeDump.{fails_now}
-use Rattle.irig_script.specs.Obey.Desk.{Desk, desk}
-use Rattle.irig_guarding.specs.GuardedRun.{GuardsOnDump}
+use Rattle.irig_script.specs.{Obey.Desk.Desk, Obey.Desk.desk, declared.obey.status.Status.Status}
+use Rattle.irig_guarding.specs.{GuardedRun.GuardsOnDump, declared.product.GuardFault.GuardFault, declared.product.GuardFault.TheVariants.Dump}
 use Rattle.irig_text.specs.Shelved.{shelved}
-use Rattle.irig_script.specs.declared.obey.status.Status.{Status}
-use Rattle.irig_guarding.specs.declared.product.GuardFault.{GuardFault}
-use Rattle.irig_guarding.specs.declared.product.GuardFault.TheVariants.{Dump}
-use Rattle.irig_guard.specs.Ending.{Ends, Files, RunsBy, ends, place_of, product_of}
-use Rattle.irig_files.specs.Puts.{texts_at}
-use Rattle.irig_files.specs.Writes.{Write}
-use Rattle.irig_guard.specs.declared.chosen.Settings.{Settings}
+use Rattle.irig_guard.specs.{Ending.Ends, Ending.Files, Ending.RunsBy, Ending.ends, Ending.place_of, Ending.product_of, declared.chosen.Settings.Settings}
+use Rattle.irig_files.specs.{Puts.texts_at, Writes.Write}
 
 -- the wire of the settings
 abbrev wire_in : Settings → Option (List ℕ)

@@ -5,11 +5,9 @@ use Rattle.std.specs.Prelude.{unwrap_or}
 use Rattle.std.specs.Str.{bytes_eq}
 use denote.Ref.{Bor}
 use Rattle.irig_codes.specs.Format.{FormatView, is_permitted}
-use Rattle.irig_codes.specs.Words.{kind_named}
-use Rattle.irig_codes.specs.declared.format.Kind.{Kind}
-use Rattle.irig_guard.specs.declared.asked.Asked.{Asked}
-use Rattle.irig_guard.specs.declared.chosen.Settings.{Settings}
+use Rattle.irig_codes.specs.{Words.kind_named, declared.format.Kind.Kind}
 use Rattle.irig_guard.specs.declared.chosen.OptionFault.{OptionFault}
+use Rattle.irig_guard.specs.{declared.asked.Asked.Asked, declared.chosen.Settings.Settings}
 use Rattle.irig_guard.specs.declared.chosen.OptionFault.TheVariants as fault
 
 -- the text of an option, or another one if it is not given

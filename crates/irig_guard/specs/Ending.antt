@@ -3,23 +3,17 @@
 use Rattle.std.specs.Prelude.{◌≡◌, ◌<◌, ◌^◌, ℕ, List, Option, Result, Ok, Err, IfSome, length}
 use Rattle.std.specs.Prelude.{if◌then◌else◌, is_some, not, option_map, unwrap_or}
 use Rattle.clap.specs.Words.{Text}
-use Rattle.irig_script.specs.Obey.Desk.{desk}
-use Rattle.irig_guarding.specs.GuardedRun.{GuardsOnDump}
+use Rattle.irig_script.specs.{Obey.Desk.desk, declared.obey.status.Status.Status}
 use Rattle.irig_guarding.specs.declared.product.GuardFault.{GuardFault}
-use Rattle.irig_guarding.specs.declared.product.Product.{Product}
+use Rattle.irig_guarding.specs.{GuardedRun.GuardsOnDump, declared.product.Product.Product}
 use Rattle.irig_guarding.specs.declared.product.Product.TheVariants as product
 use Rattle.irig_text.specs.Shelved.{shelved}
-use Rattle.irig_script.specs.declared.obey.status.Status.{Status}
-use Rattle.irig_files.specs.Puts.{texts_at}
-use Rattle.irig_files.specs.Writes.{Write}
-use Rattle.irig_guard.specs.Statuses.{HasStatus}
-use Rattle.irig_guard.specs.Settings.{Reads}
-use Rattle.irig_guard.specs.declared.chosen.Settings.{Settings}
-use Rattle.irig_guard.specs.declared.command_line.UsageFault.TheVariants.{Words}
-use Rattle.irig_guard.specs.declared.command_line.UsageFault.TheVariants.{Value as of_value}
-use Rattle.irig_guard.specs.declared.ending.Ending.{Ending}
-use Rattle.irig_guard.specs.declared.ending.Ending.TheVariants.{Usage, Value, Unread, Ran}
 use Rattle.irig_files.specs.declared.dump_file.DumpFileFault.TheVariants.{TooLong}
+use Rattle.irig_files.specs.{Puts.texts_at, Writes.Write}
+use Rattle.irig_guard.specs.declared.chosen.Settings.{Settings}
+use Rattle.irig_guard.specs.declared.command_line.UsageFault.TheVariants.{Words, Value as of_value}
+use Rattle.irig_guard.specs.declared.ending.Ending.TheVariants.{Usage, Value, Unread, Ran}
+use Rattle.irig_guard.specs.{Statuses.HasStatus, Settings.Reads, declared.ending.Ending.Ending}
 
 -- what is known of the ends of the program: what was printed, what was written, and what is left of
 -- the script

@@ -4,12 +4,11 @@ use Rattle.std.specs.Prelude.{option_map}
 use Rattle.clap.specs.Words.{Text, first_value, found_of, one_text}
 use Rattle.clap.specs.declared.parser.matches.Found.{Found}
 use Rattle.clap.specs.declared.parser.matches.ArgMatches.{ArgMatches}
-use Rattle.irig_guard.specs.Chosen.{HasFault, IsChosen}
 use Rattle.irig_guard.specs.Options.{IsParsed, the_command}
-use Rattle.irig_guard.specs.declared.asked.Asked.{Asked}
 use Rattle.irig_guard.specs.declared.chosen.Settings.{Settings}
 use Rattle.irig_guard.specs.declared.command_line.UsageFault.{UsageFault}
 use Rattle.irig_guard.specs.declared.command_line.UsageFault.TheVariants.{Words, Value}
+use Rattle.irig_guard.specs.{Chosen.HasFault, Chosen.IsChosen, declared.asked.Asked.Asked}
 use Rattle.irig_words.specs.Errors.{MayRefuse}
 
 -- the values are those of the matches

@@ -1,12 +1,10 @@
 //! A script run under guard on the file of a dump, as the words of a command line ask.
 
 ghost use Rattle.std.specs.Prelude.{◌≡◌, ℕ, List, map, option_map, string_bytes};
-ghost use Rattle.irig_vcd.specs.Answer.{Gives, name_of};
-ghost use Rattle.irig_vcd.specs.Parts.{dump_parts};
+ghost use Rattle.irig_vcd.specs.{Answer.Gives, Answer.name_of, Parts.dump_parts};
 ghost use Rattle.irig_guard.specs.Ending.{EndsBy, Obeys, RunsBy, ends, files, place_of, product_of};
-ghost use Rattle.irig_files.specs.Puts.{writes_on};
 ghost use Rattle.irig_files.specs.Reads.{HasFewBytes, parts_of};
-ghost use Rattle.irig_files.specs.Writes.{GoesTo};
+ghost use Rattle.irig_files.specs.{Puts.writes_on, Writes.GoesTo};
 
 use crate::chosen::Settings;
 use crate::command_line::{UsageFault, settings};

@@ -12,8 +12,7 @@ mod statuses;
 ghost use Rattle.std.specs.Prelude.{◌≡◌, map, string_bytes};
 ghost use Rattle.std.specs.Process.{exit_status};
 ghost use Rattle.irig_guard.specs.Ending.{Serves, ends, files};
-ghost use Rattle.irig_files.specs.Puts.{writes_on};
-ghost use Rattle.irig_files.specs.Writes.{GoesTo};
+ghost use Rattle.irig_files.specs.{Puts.writes_on, Writes.GoesTo};
 
 use command_line::not_text;
 use file_run::obey_words;

@@ -1,31 +1,13 @@
 -- A line does the same in a session with another future and other looks.
-use Rattle.std.proofs.Common.{◌≡◌, ℕ, List, [], ◌∷◌, Option, Some, None, length, option_map, refl, ap, sym, ◌∙◌, subst}
+use Rattle.std.proofs.Common.{◌≡◌, ℕ, List, [], ◌∷◌, Option, Some, None, option_map, refl, ap, sym, ◌∙◌, subst}
 use Rattle.irig_journal.specs.Groups.{Floor, Grouped, floored, joined_over, over}
-use Rattle.irig_journal.specs.History.{Step, states_along}
-use Rattle.irig_journal.specs.Machine.{Kept, Machine as Track}
-use Rattle.irig_journal.specs.declared.opening.Opening.{Opening}
+use Rattle.irig_journal.specs.{History.Step, History.states_along, Machine.Kept, Machine.Machine as Track, declared.opening.Opening.Opening}
 use Rattle.irig_saved.specs.declared.change.Change.{Change}
-use Rattle.irig_edit.specs.Changes.Delta.{turned}
-use Rattle.irig_edit.specs.Session.Calls.{Edit}
-use Rattle.irig_edit.specs.Session.Calls.Call.{Begin, End}
-use Rattle.irig_edit.specs.Session.Machine.{Accepts}
-use Rattle.irig_edit.specs.Session.Session.{work_in}
-use Rattle.irig_edit.specs.Session.Work.{Work, grouped_in, joined_since}
-use Rattle.irig_edit.specs.State.State.{State}
+use Rattle.irig_edit.specs.{Changes.Delta.turned, Session.Calls.Edit, Session.Calls.Call.Begin, Session.Calls.Call.End, Session.Machine.Accepts}
+use Rattle.irig_edit.specs.{Session.Session.work_in, Session.Work.Work, Session.Work.grouped_in, Session.Work.joined_since, State.State.State}
 use Rattle.irig_lines.specs.declared.command.Command.{Command}
 use Rattle.irig_lines.specs.declared.command.Command.TheVariants as command
-use Rattle.irig_lines.specs.declared.address.Address.{Address}
-use Rattle.irig_lines.specs.declared.address.Base.{Base}
-use Rattle.irig_lines.specs.declared.address.Base.TheVariants.{Number, Current, Last, Mark}
-use Rattle.irig_lines.specs.declared.range.Range.{Range}
-use Rattle.irig_lines.specs.declared.range.Range.TheVariants.{One, Two}
-use Rattle.irig_lines.specs.declared.time.Time.{Time}
-use Rattle.irig_lines.specs.declared.time.Time.TheVariants as time
-use Rattle.irig_script.specs.Obey.Machine.{Machine}
-use Rattle.irig_script.specs.Obey.PulseNumbers.{base_of, counted, first_of, join_last_of, last_of, pulse_at, time_of}
-use Rattle.irig_script.specs.Obey.Obeying.{Obeys}
-use Rattle.irig_script.specs.Obey.Replies.{Makes}
-use Rattle.irig_script.specs.declared.print.reply.Reply.TheVariants.{Silent}
+use Rattle.irig_script.specs.{Obey.Machine.Machine, Obey.Obeying.Obeys, Obey.Replies.Makes, declared.print.reply.Reply.TheVariants.Silent}
 use Rattle.irig_guarding.specs.Repair.{Agrees, Asks, IsPrinted, IsRepair, Obeyed, ObeyedAll}
 use Rattle.irig_guarding.proofs.RepairLemmas.{edit_of, made_by, makes, some_same}
 
@@ -108,49 +90,6 @@ ends_beside future a b h =
         go None e = absurd (cc)
         go (Some o) e = ap (λ (w : Work). w.state) (some_same _ _ _ e refl)
 
--- so addresses and times mean the same
-module _ (future : List (Step Change)) (looks last : ℕ) (s : Machine) where
-  abbrev other : Machine
-  other = beside future looks last s
-
-  base_beside : (b : Base) → base_of b other ≡ base_of b s
-  base_beside (Number n) = refl
-  base_beside Current = refl
-  base_beside Last = refl
-  base_beside (Mark letter) = refl
-
-  pulse_beside : (by : ℕ) (a : Address) → pulse_at by a other ≡ pulse_at by a s
-  pulse_beside by a = ap (λ b. counted b by a.offset (length s.state.pulses)) (base_beside a.base)
-
-  first_beside : (r : Range) → first_of r other ≡ first_of r s
-  first_beside (One a) = pulse_beside 0 a
-  first_beside (Two a b) = pulse_beside 0 a
-
-  last_beside : (r : Range) → last_of r other ≡ last_of r s
-  last_beside (One a) = pulse_beside 0 a
-  last_beside (Two a b) = pulse_beside 0 b
-
-  join_beside : (r : Range) → join_last_of r other ≡ join_last_of r s
-  join_beside (One a) = pulse_beside 1 a
-  join_beside (Two a b) = pulse_beside 0 b
-
-  time_beside : (t : Time) → time_of t other ≡ time_of t s
-  time_beside (time.At t) = refl
-  time_beside (time.Mark letter) = refl
-
-  same_edit : (c : Command) → IsRepair c → edit_of c other ≡ edit_of c s
-  same_edit (command.Delete r) is = λ i. Edit.Delete (first_beside r i) (last_beside r i)
-  same_edit (command.Shift r d) is = λ i. Edit.Shift (first_beside r i) (last_beside r i) d
-  same_edit (command.Join r) is = λ i. Edit.Join (first_beside r i) (join_beside r i)
-  same_edit (command.Split a t u) is = λ i. Edit.Split (pulse_beside 0 a i) (time_beside t i) (time_beside u i)
-  same_edit (command.Force a e) is = λ i. Edit.Force (pulse_beside 0 a i) e
-  same_edit (command.Insert t u) is = λ i. Edit.Insert (time_beside t i) (time_beside u i)
-  same_edit (command.Invert t u) is = λ i. Edit.Invert (time_beside t i) (time_beside u i)
-  same_edit (command.Regen t frames moment control) is = λ i. Edit.Regen (time_beside t i) frames moment control
-  same_edit (command.Mark letter t) is = λ i. Edit.SetMark letter (Some (time_beside t i))
-  same_edit (command.Unmark letter) is = refl
-  same_edit _ is = absurd is
-
 makes_beside : (edit : Edit) (future : List (Step Change)) (looks last : ℕ) (a b : Machine) → Makes edit a Silent b → Makes edit (beside future looks last a) Silent b
 makes_beside edit future looks last a b h =
     (h.0, record { after = h.1.after; cursor = h.1.cursor; fits = h.1.fits; states = h.1.states; steps = h.1.steps })
@@ -168,8 +107,7 @@ repaired_again c line future looks last a b is printed asks h = (
     asks,
     printed,
     made_by c (beside future looks last a) b Silent is
-        (subst (λ (e : Edit). Makes e (beside future looks last a) Silent b) (sym (same_edit future looks last a c is))
-        (makes_beside (edit_of c a) future looks last a b (makes c a b Silent is h))),
+        (makes_beside (edit_of c a) future looks last a b (makes c a b Silent is h)),
   ),
   record { state = refl; cursor = refl; past = refl; floor = refl },
 )

@@ -1,27 +1,20 @@
 -- What is printed of a guarded script, and what it leads to.
-use Rattle.std.proofs.Common.{◌≡◌, ◌≢◌, ◌+◌, ◌-◌, ◌≤◌, ◌++◌, ◌==◌, ◌&&◌, ℕ, zero, suc, Bool, true, false, List, [], ◌∷◌, Option, Some, None, Result, Ok, Err, length, drop, take, get_or, map, refl, ap, sym, ◌∙◌, subst, inl, inr, arith}
-use Rattle.std.proofs.Common.{append_assoc}
+use Rattle.std.proofs.Common.{◌≡◌, ◌≢◌, ◌+◌, ◌-◌, ◌<◌, ◌≤◌, ◌++◌, ◌==◌, ◌&&◌, ℕ, zero, suc, Bool, true, false, List, [], ◌∷◌, Option, Some, None, Result, Ok}
+use Rattle.std.proofs.Common.{Err, length, drop, take, get_or, map, refl, ap, sym, ◌∙◌, subst, inl, inr, arith, append_assoc, length-take}
 use Rattle.std.specs.Prelude.{IfSome, OnOk, not}
 use Rattle.std.specs.List.{AllByRecursion, list_all}
-use Rattle.std.proofs.lemmas.List.{append-nil, map-append, take_all, take_more}
-use Rattle.std.proofs.lemmas.Grind.{flat_map-append}
+use Rattle.std.proofs.lemmas.{List.append-nil, List.map-append, List.take_all, List.take_more, Grind.flat_map-append}
 use Rattle.irig_codes.specs.Format.{FormatView}
 use Rattle.irig_edit.specs.State.State.{State}
-use Rattle.irig_lines.specs.Lines.{script_lines}
-use Rattle.irig_lines.specs.declared.command.Command.{Command}
+use Rattle.irig_lines.specs.{Lines.script_lines, declared.command.Command.Command}
 use Rattle.irig_lines.specs.declared.command.Command.TheVariants as command
-use Rattle.irig_script.specs.Obey.Machine.{Machine}
-use Rattle.irig_script.specs.Obey.Run.{IsObeyed, IsPlain, Runs, unlines}
-use Rattle.irig_script.proofs.ObeyLemmas.Lines.{lines_and}
-use Rattle.irig_script.proofs.ObeyLemmas.Quits.{other_goes_on}
-use Rattle.irig_guarding.specs.Guarded.{IsGuarded, IsRemark, IsSafeAfter, Stands, silence}
-use Rattle.irig_guarding.specs.Reading.{fine_frames}
-use Rattle.irig_guarding.specs.Repair.{Agrees, Asks, IsGroup, IsPrinted, ObeyedAll, texts}
-use Rattle.irig_safety.specs.Safety.{IsSafe, IsSafeFrom}
-use Rattle.irig_guarding.specs.declared.line.Line.{Line}
-use Rattle.irig_safety.specs.declared.shown.Shown.{Shown}
-use Rattle.irig_guarding.proofs.AgainLemmas.{obeyed_again}
-use Rattle.irig_guarding.proofs.RepairLemmas.{obeyed_then}
+use Rattle.irig_script.specs.{Obey.Machine.Machine, Obey.Run.IsObeyed, Obey.Run.IsPlain, Obey.Run.Runs, Obey.Run.unlines}
+use Rattle.irig_script.proofs.{ObeyLemmas.Lines.lines_and, ObeyLemmas.Quits.other_goes_on}
+use Rattle.irig_guarding.specs.{Guarded.IsGuarded, Guarded.IsRemark, Guarded.IsSafeAfter, Guarded.Stands, Guarded.silence, Reading.fine_frames, Repair.Agrees}
+use Rattle.irig_guarding.specs.{Repair.Asks, Repair.IsGroup, Repair.IsPrinted, Repair.ObeyedAll, Repair.texts, Trials.AreRemarksOf, Trials.IsIdle}
+use Rattle.irig_guarding.specs.{Trials.IsRemarkOf, Trials.Shows, Trials.Tries, declared.reason.Reason.Reason, declared.line.Line.Line}
+use Rattle.irig_safety.specs.{Safety.IsSafe, Safety.IsSafeFrom, Safety.NoneIsSpoiled, declared.shown.Shown.Shown}
+use Rattle.irig_guarding.proofs.{AgainLemmas.obeyed_again, RepairLemmas.obeyed_then}
 
 pub on_ok : {V E : Type 0} {P Q : Type 0} (r : Result V E) → OnOk r P → (P → Q) → OnOk r Q
 on_ok (Ok v) p f = f p
@@ -57,16 +50,6 @@ unlines-append xs ys = flat_map-append (λ line. line ++ 10 ∷ []) xs ys
 
 pub unlines_one : (line : List ℕ) → unlines (line ∷ []) ≡ line ++ 10 ∷ []
 unlines_one line = append-nil (line ++ 10 ∷ [])
-
--- one more remark
-pub remarks_more : (old mid new : List ℕ) → ((rs : List (List ℕ)) × AllByRecursion IsRemark rs × (mid ≡ old ++ unlines rs))
-    → ((r : List ℕ) × IsRemark r × (new ≡ mid ++ (r ++ 10 ∷ []))) → (rs : List (List ℕ)) × AllByRecursion IsRemark rs × (new ≡ old ++ unlines rs)
-remarks_more old mid new h k = (
-  h.0 ++ k.0 ∷ [],
-  all-append IsRemark h.0 (k.0 ∷ []) h.1 (k.1, tt),
-  k.2 ∙ (ap (λ l. l ++ (k.0 ++ 10 ∷ [])) h.2 ∙ (append_assoc old (unlines h.0) (k.0 ++ 10 ∷ [])
-      ∙ ap (λ l. old ++ l) (ap (λ l. unlines h.0 ++ l) (sym (unlines_one k.0)) ∙ sym (unlines-append h.0 (k.0 ∷ []))))),
-)
 
 -- the first, those between and the last of a list
 pub ends_of : {X : Type 0} (xs : List X) (a b : X) → 2 ≤ length xs → a ≡ get_or xs 0 a → b ≡ get_or xs (length xs - 1) b
@@ -106,7 +89,7 @@ stands_more first a b old new lines plain h text s =
       same = on.2;
     }
 
-remarks_plain : (remarks : List (List ℕ)) → AllByRecursion IsRemark remarks → AllByRecursion IsPlain remarks
+pub remarks_plain : (remarks : List (List ℕ)) → AllByRecursion IsRemark remarks → AllByRecursion IsPlain remarks
 remarks_plain [] h = tt
 remarks_plain (r ∷ rs) h = (h.0.plain, remarks_plain rs h.1)
 
@@ -171,12 +154,89 @@ stands_guarded first now script s safe =
       safe = safe;
     }
 
--- comments are obeyed, and do nothing
-pub remarks_asked : (m : Machine) (lines : List (List ℕ)) → AllByRecursion (Asks command.Nothing) lines → ObeyedAll m lines m
-remarks_asked m [] h = refl
-remarks_asked m (line ∷ lines) h = (m, (command.Nothing, h.0, tt, (refl, refl)), remarks_asked m lines h.1)
+-- a comment is obeyed, and does nothing
+pub idle_obeyed : (m : Machine) (lines : List (List ℕ)) → IsIdle lines → ObeyedAll m lines m
+idle_obeyed m lines h = subst (λ (l : List (List ℕ)). ObeyedAll m l m) (sym h.1) (m, (command.Nothing, h.2, tt, (refl, refl)), refl)
+
+pub unspoiled_self : (xs : List Shown) → NoneIsSpoiled xs xs
+unspoiled_self [] = tt
+unspoiled_self (x ∷ xs) = inl (refl, unspoiled_self xs)
+
+pub safe_list : (s : State) (frames : List Shown) → frames ≡ fine_frames s → IsSafe s.format frames (fine_frames s)
+safe_list s frames e = subst (λ (l : List Shown). IsSafe s.format l (fine_frames s)) (sym e) (safe_whole s.format (fine_frames s))
+
+pub safe_then : (first now : State) (frames : List Shown) → frames ≡ fine_frames first → now.format ≡ first.format → IsSafe now.format frames (fine_frames now)
+    → IsSafeAfter first now
+safe_then first now frames e same h = record {
+  format = same;
+  frames = subst (λ (f : FormatView). IsSafe f (fine_frames first) (fine_frames now)) same (subst (λ (l : List Shown). IsSafe now.format l (fine_frames now)) e h);
+}
+
+-- nothing was printed yet
+pub stands_none : (m : Machine) (out : List ℕ) → out ≡ [] → Stands m out m
+stands_none m out e =
+    record { lines = []; plain = tt; cut = e; left = m; obeyed = refl; same = record { state = refl; cursor = refl; past = refl; floor = refl } }
+
+few_taken : (n : ℕ) (xs : List ℕ) → length (take n xs) ≤ n
+few_taken n xs = omega (arith, length-take n xs)
+
+remark_of : (line r : List ℕ) → IsRemarkOf line r → IsPlain r → IsRemark r
+remark_of line r (inl h) plain = record { plain = plain; asks = subst (Asks command.Nothing) (sym h.1) h.0 }
+remark_of line r (inr h) plain =
+    let few = few_taken 900 line in
+    record { plain = plain; asks = subst (Asks command.Nothing) (sym h.1) (omega (arith, few), ([], 35 ∷ 32 ∷ take 900 line, refl, refl, inl (refl, refl))) }
+
+remarks_of : (lines rs : List (List ℕ)) → AreRemarksOf lines rs → AllByRecursion IsPlain rs → AllByRecursion IsRemark rs
+remarks_of [] [] h plain = tt
+remarks_of [] (r ∷ rs) h plain = absurd h
+remarks_of (l ∷ lines) [] h plain = absurd h
+remarks_of (l ∷ lines) (r ∷ rs) h plain = (remark_of l r h.0 plain.0, remarks_of lines rs h.1 plain.1)
+
+-- the lines of a repair that was kept were printed
+pub shows_kept : (lines : List (List ℕ)) (dropped : Option Reason) (old new : List ℕ) → dropped ≡ None → AllByRecursion IsPlain lines
+    → new ≡ old ++ unlines lines → Shows lines dropped old new
+shows_kept lines dropped old new e plain text = subst (λ (d : Option Reason). Shows lines d old new) (sym e) (lines, refl, plain, text)
+
+pub shows_dropped : (lines : List (List ℕ)) (dropped : Option Reason) (reason : Reason) (old new : List ℕ) → dropped ≡ Some reason
+    → ((rs : List (List ℕ)) × AllByRecursion IsRemark rs × AreRemarksOf lines rs × (new ≡ old ++ unlines rs)) → Shows lines dropped old new
+shows_dropped lines dropped reason old new e r = subst (λ (d : Option Reason). Shows lines d old new) (sym e) (r.0, r.2, remarks_plain r.0 r.1, r.3)
+
+-- one more repair was tried and printed
+pub stands_tried : (first : Machine) (frames : List Shown) (a b : Machine) (lines : List (List ℕ)) (dropped : Option Reason) (old new : List ℕ)
+    → Tries frames a lines dropped b → Shows lines dropped old new → Stands first old a → Stands first new b
+stands_tried first frames a b lines None old new h shown s =
+    stands_more first a b old new lines (subst (AllByRecursion IsPlain) shown.1 shown.2) h.obeyed
+    (shown.3 ∙ ap (λ l. old ++ unlines l) shown.1) s
+stands_tried first frames a b lines (Some reason) old new h shown s =
+    stands_remarks first a b old new (shown.0, remarks_of lines shown.0 shown.1 shown.2, shown.3) h.0 s
 
 -- all bytes of a script, if they are known
 pub read_whole : (known : Option (List ℕ)) (old new : List ℕ) → old ≡ [] → IfSome known (λ xs. new ≡ old ++ xs) → IfSome known (λ all. new ≡ all)
 read_whole None old new e h = tt
 read_whole (Some xs) old new e h = h ∙ ap (λ l. l ++ xs) e
+
+-- one more line as a comment
+pub remarks_of_more : (lines remarks : List (List ℕ)) (line remark : List ℕ) → AreRemarksOf lines remarks → IsRemarkOf line remark
+    → AreRemarksOf (lines ++ line ∷ []) (remarks ++ remark ∷ [])
+remarks_of_more [] [] line remark h k = (k, tt)
+remarks_of_more [] (r ∷ remarks) line remark h k = absurd h
+remarks_of_more (l ∷ lines) [] line remark h k = absurd h
+remarks_of_more (l ∷ lines) (r ∷ remarks) line remark h k = (h.0, remarks_of_more lines remarks line remark h.1 k)
+
+pub texts_more : (xs : List Line) (i : ℕ) (x : Line) → i < length xs → x ≡ get_or xs i x → texts (take (i + 1) xs) ≡ texts (take i xs) ++ x.bytes.items ∷ []
+texts_more xs i x within is =
+    ap texts (take_more xs i x within) ∙ (map-append (λ line. line.bytes.items) (take i xs) (get_or xs i x ∷ [])
+    ∙ ap (λ (y : Line). texts (take i xs) ++ y.bytes.items ∷ []) (sym is))
+
+-- the lines so far as comments, and one more
+pub remarked_more : (xs : List Line) (i : ℕ) (x : Line) (old mid new : List ℕ) → i < length xs → x ≡ get_or xs i x
+    → ((rs : List (List ℕ)) × AllByRecursion IsRemark rs × AreRemarksOf (texts (take i xs)) rs × (mid ≡ old ++ unlines rs))
+    → ((r : List ℕ) × IsRemark r × IsRemarkOf x.bytes.items r × (new ≡ mid ++ (r ++ 10 ∷ [])))
+    → (rs : List (List ℕ)) × AllByRecursion IsRemark rs × AreRemarksOf (texts (take (i + 1) xs)) rs × (new ≡ old ++ unlines rs)
+remarked_more xs i x old mid new within is h k = (
+  h.0 ++ k.0 ∷ [],
+  all-append IsRemark h.0 (k.0 ∷ []) h.1 (k.1, tt),
+  subst (λ (l : List (List ℕ)). AreRemarksOf l (h.0 ++ k.0 ∷ [])) (sym (texts_more xs i x within is)) (remarks_of_more (texts (take i xs)) h.0 x.bytes.items k.0 h.2 k.2),
+  k.3 ∙ (ap (λ l. l ++ (k.0 ++ 10 ∷ [])) h.3 ∙ (append_assoc old (unlines h.0) (k.0 ++ 10 ∷ [])
+      ∙ ap (λ l. old ++ l) (ap (λ l. unlines h.0 ++ l) (sym (unlines_one k.0)) ∙ sym (unlines-append h.0 (k.0 ∷ []))))),
+)

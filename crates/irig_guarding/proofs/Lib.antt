@@ -1,5 +1,7 @@
-pub mod RepairLemmas
 pub mod AgainLemmas
+pub mod DropLemmas
 pub mod GuardLemmas
-pub mod RisingFrames
 pub mod PrintedLemmas
+pub mod RepairLemmas
+pub mod RisingFrames
+pub mod TrialLemmas

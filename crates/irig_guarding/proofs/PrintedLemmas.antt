@@ -1,16 +1,11 @@
 -- The script that was printed has one run.
 use Rattle.std.proofs.Common.{◌≡◌, ℕ, Bool, false, List, [], ◌∷◌, map, refl, ap, sym, ◌∙◌, arith}
 use Rattle.std.specs.List.{AllByRecursion}
-use Rattle.irig_edit.specs.Session.Runs.{OneOutcome}
-use Rattle.irig_edit.specs.Session.Work.{Work}
+use Rattle.irig_edit.specs.{Session.Runs.OneOutcome, Session.Work.Work}
 use Rattle.irig_lines.specs.Lines.{script_lines}
-use Rattle.irig_script.specs.Obey.Desk.{Desk, Tells, failures_in, status_after}
-use Rattle.irig_script.specs.Obey.Machine.{Machine}
-use Rattle.irig_script.specs.Obey.OneRun.{RunOf, tells_failed_put, wants_memory}
-use Rattle.irig_script.specs.Obey.Run.{Runs}
-use Rattle.irig_script.specs.Print.Printed.{Answer, printed}
-use Rattle.irig_script.proofs.LawLemmas.SameRun.{one_run}
-use Rattle.irig_script.proofs.ObeyLemmas.Desks.{tells_none}
+use Rattle.irig_script.specs.{Obey.Desk.Desk, Obey.Desk.Tells, Obey.Desk.failures_in, Obey.Desk.status_after, Obey.Machine.Machine, Obey.OneRun.RunOf}
+use Rattle.irig_script.specs.{Obey.OneRun.tells_failed_put, Obey.OneRun.wants_memory, Obey.Run.Runs, Print.Printed.Answer, Print.Printed.printed}
+use Rattle.irig_script.proofs.{LawLemmas.SameRun.one_run, ObeyLemmas.Desks.tells_none}
 use Rattle.irig_guarding.specs.Guarded.{PrintedIsObeyed, silence}
 
 none_printed : (lines : List (List ℕ)) → printed (map silence lines) ≡ []

@@ -1,38 +1,24 @@
 -- What the calls of a repair leave.
-use Rattle.std.proofs.Common.{◌≡◌, ◌+◌, ◌-◌, ◌++◌, ℕ, Bool, true, false, List, [], ◌∷◌, Option, Some, None, option_map, Result, Ok, Err, length, drop, refl, ap, sym, ◌∙◌, subst, arith}
-use Rattle.std.proofs.Common.{append_assoc, length-append}
-use Rattle.std.proofs.Common.{◌<◌, get_or, map, take}
+use Rattle.std.proofs.Common.{◌≡◌, ◌+◌, ◌-◌, ◌++◌, ℕ, Bool, true, false, List, [], ◌∷◌, Option, Some, None, option_map, Result, Ok, Err, length, drop, refl, ap}
+use Rattle.std.proofs.Common.{sym, ◌∙◌, subst, arith, append_assoc, length-append, ◌<◌, get_or, map, take}
 use Rattle.std.specs.Prelude.{IsTrue, IsFalse, is_some, not}
 use Rattle.std.proofs.lemmas.List.{map-append, take_more}
 use Rattle.std.proofs.Math.Seq.{drop-append_seam}
 use Rattle.irig_journal.specs.Groups.{Floor, Grouped, dropped_over, over, recorded_over, undone_over}
-use Rattle.irig_journal.specs.History.{Step, step, turned_back}
-use Rattle.irig_journal.specs.Joining.{farthest}
-use Rattle.irig_journal.specs.Machine.{Kept, kept}
-use Rattle.irig_journal.specs.declared.opening.Opening.{Opening}
+use Rattle.irig_journal.specs.{History.Step, History.step, History.turned_back, Joining.farthest, Machine.Kept, Machine.kept, declared.opening.Opening.Opening}
 use Rattle.irig_saved.specs.declared.change.Change.{Change}
-use Rattle.irig_edit.specs.Changes.Delta.{turned}
-use Rattle.irig_edit.specs.Edits.Changes.{change_by}
-use Rattle.irig_edit.specs.Edits.Edits.{format_after}
-use Rattle.irig_edit.specs.Edits.Refusals.{first_holding, refusal_of}
-use Rattle.irig_edit.specs.Session.Calls.{Call, Edit}
 use Rattle.irig_edit.specs.Session.Calls.Call.{Make, Undo, Begin, End, Abort}
-use Rattle.irig_edit.specs.Session.Calls.Edit.{Insert, Delete, Split, Join, Shift, Invert, Force, Regen, SetMark}
-use Rattle.irig_edit.specs.Session.Machine as whole
-use Rattle.irig_edit.specs.Session.Machine.{MayWantMemory}
-use Rattle.irig_edit.specs.Session.Session.{Steps, work_in}
 use Rattle.irig_edit.specs.Session.Work.{Work, dropped_since, gone_back, grouped_in, joined_since, work_over}
-use Rattle.irig_edit.specs.State.State.{State}
-use Rattle.irig_edit.specs.declared.session.refusal.Refusal.{Refusal}
+use Rattle.irig_edit.specs.{Changes.Delta.turned, Edits.Changes.change_by, Edits.Edits.format_after, Edits.Refusals.first_holding, Edits.Refusals.refusal_of}
+use Rattle.irig_edit.specs.{Session.Calls.Call, Session.Calls.Edit, Session.Calls.Edit.Delete, Session.Machine.MayWantMemory, Session.Session.Steps}
+use Rattle.irig_edit.specs.{Session.Session.work_in, State.State.State, declared.session.refusal.Refusal.Refusal}
+use Rattle.irig_edit.specs.Session.Machine as whole
 use Rattle.irig_edit.specs.declared.session.refusal.Refusal.TheVariants as refusal
 use Rattle.irig_edit.proofs.SessionLemmas.CallRuns.{refused_same}
 use Rattle.irig_lines.specs.declared.command.Command.{Command}
 use Rattle.irig_lines.specs.declared.command.Command.TheVariants as command
-use Rattle.irig_script.specs.Obey.Machine.{Machine}
-use Rattle.irig_script.specs.Obey.Obeying.{Obeys}
-use Rattle.irig_script.specs.Obey.PulseNumbers.{first_of, join_last_of, last_of, number_at, time_of}
-use Rattle.irig_script.specs.Obey.Replies.{Calls, Makes}
-use Rattle.irig_script.specs.declared.print.reply.Reply.{Reply}
+use Rattle.irig_script.specs.{Obey.Asked.Asked, Obey.Asked.asked, Obey.Asked.edited, Obey.Asked.Asked.Called, Obey.Machine.Machine, Obey.Machine.present_in}
+use Rattle.irig_script.specs.{Obey.Obeying.Gives, Obey.Obeying.Obeys, Obey.Replies.Calls, Obey.Replies.Makes, declared.print.reply.Reply.Reply}
 use Rattle.irig_script.specs.declared.print.reply.Reply.TheVariants as told
 use Rattle.irig_guarding.specs.Repair.{Agrees, IsBeyond, IsPrinted, IsRepair, Obeyed, ObeyedAll}
 
@@ -44,45 +30,33 @@ agrees_work new old e = record {
   floor = ap (λ (w : Work). w.floor) e;
 }
 
+-- the edit that is asked for, if one is
+abbrev edit_in : Asked → Edit
+edit_in (Called (Make edit)) = edit
+edit_in _ = Delete 0 0
+
 -- the edit that a command of a repair makes
 abbrev pub edit_of : Command → Machine → Edit
-edit_of (command.Delete r) m = Delete (first_of r m) (last_of r m)
-edit_of (command.Shift r d) m = Shift (first_of r m) (last_of r m) d
-edit_of (command.Join r) m = Join (first_of r m) (join_last_of r m)
-edit_of (command.Split a s t) m = Split (number_at a m) (time_of s m) (time_of t m)
-edit_of (command.Force a e) m = Force (number_at a m) e
-edit_of (command.Insert s t) m = Insert (time_of s m) (time_of t m)
-edit_of (command.Invert s t) m = Invert (time_of s m) (time_of t m)
-edit_of (command.Regen s frames moment control) m = Regen (time_of s m) frames moment control
-edit_of (command.Mark letter t) m = SetMark letter (Some (time_of t m))
-edit_of (command.Unmark letter) m = SetMark letter None
-edit_of _ m = Delete 0 0
+edit_of c m = edit_in (asked c (present_in m))
+
+asks_edit : (c : Command) (m : Machine) → IsRepair c → asked c (present_in m) ≡ edited (edit_of c m)
+asks_edit (command.Delete r) m is = refl
+asks_edit (command.Shift r d) m is = refl
+asks_edit (command.Join r) m is = refl
+asks_edit (command.Split a s t) m is = refl
+asks_edit (command.Force a e) m is = refl
+asks_edit (command.Insert s t) m is = refl
+asks_edit (command.Invert s t) m is = refl
+asks_edit (command.Regen s frames moment control) m is = refl
+asks_edit (command.Mark letter t) m is = refl
+asks_edit (command.Unmark letter) m is = refl
+asks_edit _ m is = absurd is
 
 pub makes : (c : Command) (old new : Machine) (r : Reply) → IsRepair c → Obeys c old r new → Makes (edit_of c old) old r new
-makes (command.Delete r) old new reply is h = h
-makes (command.Shift r d) old new reply is h = h
-makes (command.Join r) old new reply is h = h
-makes (command.Split a s t) old new reply is h = h
-makes (command.Force a e) old new reply is h = h
-makes (command.Insert s t) old new reply is h = h
-makes (command.Invert s t) old new reply is h = h
-makes (command.Regen s frames moment control) old new reply is h = h
-makes (command.Mark letter t) old new reply is h = h
-makes (command.Unmark letter) old new reply is h = h
-makes _ old new reply is h = absurd is
+makes c old new r is h = subst (λ (x : Asked). Gives x old r new) (asks_edit c old is) h
 
 pub made_by : (c : Command) (old new : Machine) (r : Reply) → IsRepair c → Makes (edit_of c old) old r new → Obeys c old r new
-made_by (command.Delete r) old new reply is h = h
-made_by (command.Shift r d) old new reply is h = h
-made_by (command.Join r) old new reply is h = h
-made_by (command.Split a s t) old new reply is h = h
-made_by (command.Force a e) old new reply is h = h
-made_by (command.Insert s t) old new reply is h = h
-made_by (command.Invert s t) old new reply is h = h
-made_by (command.Regen s frames moment control) old new reply is h = h
-made_by (command.Mark letter t) old new reply is h = h
-made_by (command.Unmark letter) old new reply is h = h
-made_by _ old new reply is h = absurd is
+made_by c old new r is h = subst (λ (x : Asked). Gives x old r new) (sym (asks_edit c old is)) h
 
 -- none of them changes the format
 format_stays : (c : Command) (m : Machine) (s : State) → IsRepair c → format_after (edit_of c m) s ≡ s.format
@@ -200,6 +174,13 @@ undone_agrees c a b d (Err why) is closed h k =
     let floor : b.floor ≡ None = ap (λ (w : Work). w.floor) made.steps ∙ closed in
     let none : refusal_of Undo (work_in b) ≡ None = rw (past, floor) refl in
     absurd (never_refused Undo (work_in b) (work_in d) why none (λ w. w) k)
+
+-- where no group is open, a begin is accepted
+pub begun_so : (a b : Machine) (r : Result Unit Refusal) → a.floor ≡ None → Steps Begin a r b → Calls Begin a told.Silent b
+begun_so a b (Ok u) closed h = h
+begun_so a b (Err why) closed h =
+    let none : refusal_of Begin (work_in a) ≡ None = rw closed refl in
+    absurd (never_refused Begin (work_in a) (work_in b) why none (λ w. w) h)
 
 -- what a begin leaves
 pub record Begun (a b : Machine) : Type 0 where

@@ -4,22 +4,16 @@ use Rattle.std.specs.Prelude.{AllPairs}
 use Rattle.std.specs.List.{AllByRecursion, flat_map}
 use Rattle.std.proofs.lemmas.Option.{slice_get-get_or}
 use Rattle.irig_codes.specs.declared.note.Note.TheVariants.{Fine, Field, SbsDisagrees, Stray}
-use Rattle.irig_recording.specs.Recording.{RisesFrom}
-use Rattle.irig_recording.specs.declared.pulse.Pulse.{Pulse}
-use Rattle.irig_track.specs.Edges.{edges_of, pulse}
-use Rattle.irig_track.specs.Track.{IsTrack}
-use Rattle.irig_index.specs.declared.record.Record.{Record}
-use Rattle.irig_index.specs.declared.record.Verdict.{Verdict}
+use Rattle.irig_codes.specs.Format.{FormatView}
+use Rattle.irig_recording.specs.{Recording.RisesFrom, declared.pulse.Pulse.Pulse}
+use Rattle.irig_track.specs.{Edges.edges_of, Edges.pulse, Track.IsTrack}
 use Rattle.irig_index.specs.declared.record.Verdict.TheVariants.{Broken, Read}
+use Rattle.irig_index.specs.{declared.record.Record.Record, declared.record.Verdict.Verdict}
 use Rattle.irig_index.proofs.MarkerLaws.{markers_rise}
 use Rattle.irig_edit.specs.State.State.{State, frames_of}
 use Rattle.irig_script.proofs.PrintLemmas.FrameLines.{marker_within}
-use Rattle.irig_codes.specs.Format.{FormatView}
-use Rattle.irig_safety.specs.Safety.{IsSafe, IsSafeFrom}
-use Rattle.irig_safety.specs.Meaning.{AreRising}
-use Rattle.irig_guarding.specs.Meaning.{SafeStatesMean}
-use Rattle.irig_guarding.specs.Reading.{fine_frames, shown_at, shown_by}
-use Rattle.irig_safety.specs.declared.shown.Shown.{Shown}
+use Rattle.irig_safety.specs.{Safety.IsSafe, Safety.IsSafeFrom, Meaning.AreRising, declared.shown.Shown.Shown}
+use Rattle.irig_guarding.specs.{Meaning.SafeStatesMean, Reading.fine_frames, Reading.shown_at, Reading.shown_by}
 use Rattle.irig_safety.proofs.MeaningLemmas.{safe_means}
 
 -- pulses rise one after the other

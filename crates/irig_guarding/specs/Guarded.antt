@@ -1,17 +1,14 @@
 -- What a guarded run prints and leaves. This project's own.
 use Rattle.std.specs.Prelude.{◌≡◌, ℕ, false, List, [], map}
 use Rattle.std.specs.List.{AllByRecursion}
-use Rattle.irig_script.specs.Obey.Machine.{Machine}
 use Rattle.irig_script.specs.Obey.OneRun.{RunOf, tells_failed_put, wants_memory}
 use Rattle.irig_script.specs.Obey.Run.{IsPlain, Runs, unlines}
-use Rattle.irig_script.specs.Print.Printed.{Answer}
 use Rattle.irig_script.specs.declared.print.reply.Reply.TheVariants.{Silent}
+use Rattle.irig_script.specs.{Obey.Machine.Machine, Print.Printed.Answer}
 use Rattle.irig_lines.specs.Lines.{script_lines}
 use Rattle.irig_lines.specs.declared.command.Command.TheVariants as command
-use Rattle.irig_edit.specs.Session.Session.{work_in}
-use Rattle.irig_edit.specs.State.State.{State}
-use Rattle.irig_guarding.specs.Reading.{fine_frames}
-use Rattle.irig_guarding.specs.Repair.{Agrees, Asks, ObeyedAll}
+use Rattle.irig_edit.specs.{Session.Session.work_in, State.State.State}
+use Rattle.irig_guarding.specs.{Reading.fine_frames, Repair.Agrees, Repair.Asks, Repair.ObeyedAll}
 use Rattle.irig_safety.specs.Safety.{IsSafe}
 
 -- the line is accepted, and prints nothing

@@ -3,20 +3,15 @@ use Rattle.std.specs.Prelude.{◌≡◌, ℕ, List, [], ◌∷◌, Option, Resul
 use Rattle.std.specs.Io.KnownBytes.{Appends}
 use Rattle.irig_codes.specs.Format.{FormatView}
 use Rattle.irig_edit.specs.Opened.Openings.{IsOpened, IsUnopened}
-use Rattle.irig_edit.specs.Saved.SavedSession.{saved_text}
-use Rattle.irig_edit.specs.Session.Session.{work_in}
-use Rattle.irig_script.specs.Obey.Desk.{Desk}
-use Rattle.irig_script.specs.Obey.Machine.{Machine}
-use Rattle.irig_script.specs.Obey.Replies.{dump_text}
-use Rattle.irig_script.specs.Print.Front.{AppendsFront}
-use Rattle.irig_script.specs.declared.obey.status.Status.{Status}
+use Rattle.irig_edit.specs.{Saved.SavedSession.saved_text, Session.Session.work_in}
+use Rattle.irig_script.specs.{Obey.Desk.Desk, Obey.Machine.Machine, Obey.Replies.dump_text}
+use Rattle.irig_script.specs.{Print.Front.AppendsFront, declared.obey.status.Status.Status}
 use Rattle.irig_text.specs.Shelved.{Puts}
-use Rattle.irig_guarding.specs.Guarded.{IsGuarded}
 use Rattle.irig_guarding.specs.declared.product.GuardFault.{GuardFault}
 use Rattle.irig_guarding.specs.declared.product.GuardFault.TheVariants.{Dump, ReadFailed}
 use Rattle.irig_guarding.specs.declared.product.GuardFault.TheVariants.{OutOfMemory, PrintFailed}
 use Rattle.irig_guarding.specs.declared.product.GuardFault.TheVariants.{WriteFailed}
-use Rattle.irig_guarding.specs.declared.product.Product.{Product}
+use Rattle.irig_guarding.specs.{Guarded.IsGuarded, Trials.IsTried, declared.product.Product.Product}
 use Rattle.irig_guarding.specs.declared.product.Product.TheVariants as product
 
 -- the texts that are written of what a run leaves
@@ -25,21 +20,25 @@ product_texts product.Nothing m = []
 product_texts product.Track m = dump_text m ∷ []
 product_texts product.Session m = saved_text (work_in m) ∷ []
 
--- the proposed script was run under guard: what it printed, and what it left
+-- the proposed script was run under guard, repair by repair: what it printed, what it left, and its
+-- status
 pub record Guards (first : Machine) (script : Option (List ℕ)) : Type 0 where
   pub proposal : List ℕ
   pub whole : IfSome script (λ all. proposal ≡ all)
   pub printed : List ℕ
   pub last : Machine
   pub guarded : IsGuarded first printed last
+  pub status : Status
+  pub tried : IsTried first proposal printed status last
 
--- it was run, its result was printed, and what is asked for was written; or memory ran out, or a
+-- it was run, its result was printed, what is asked for was written, and the status says whether all
+-- of it was kept; or memory ran out, or a
 -- read failed, and nothing was printed or written; or the printing failed, and nothing was written;
 -- or the writing failed
 abbrev pub RunsUnderGuard : Product → Machine → Option (List ℕ) → Desk → Desk
     → Result Status GuardFault → Type 0
 RunsUnderGuard asked first script from to (Ok status) =
-    (run : Guards first script) × Appends from.out to.out run.printed
+    (run : Guards first script) × (run.status ≡ status) × Appends from.out to.out run.printed
     × Puts from.shelf to.shelf (product_texts asked run.last) 0
 RunsUnderGuard asked first script from to (Err PrintFailed) =
     (run : Guards first script) × AppendsFront from.out to.out run.printed

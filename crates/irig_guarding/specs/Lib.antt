@@ -3,3 +3,4 @@ pub mod GuardedRun
 pub mod Meaning
 pub mod Reading
 pub mod Repair
+pub mod Trials

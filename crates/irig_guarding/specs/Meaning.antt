@@ -4,8 +4,7 @@ use Rattle.std.specs.List.{AllByRecursion}
 use Rattle.irig_track.specs.Track.{IsTrack}
 use Rattle.irig_edit.specs.State.State.{State}
 use Rattle.irig_safety.specs.Meaning.{IsKept, IsTold}
-use Rattle.irig_guarding.specs.Guarded.{IsSafeAfter}
-use Rattle.irig_guarding.specs.Reading.{fine_frames}
+use Rattle.irig_guarding.specs.{Guarded.IsSafeAfter, Reading.fine_frames}
 
 -- a state that is safe by another in which some frame reads well: each frame that reads well in the
 -- other does so in it, at the same time and with the same fields, or was wrong and is mended; and

@@ -4,9 +4,8 @@ use Rattle.std.specs.List.{flat_map}
 use Rattle.irig_codes.specs.declared.note.Note.TheVariants.{Fine}
 use Rattle.irig_recording.specs.declared.pulse.Pulse.{Pulse}
 use Rattle.irig_track.specs.Edges.{pulse}
-use Rattle.irig_index.specs.declared.record.Record.{Record}
-use Rattle.irig_index.specs.declared.record.Verdict.{Verdict}
 use Rattle.irig_index.specs.declared.record.Verdict.TheVariants.{Read}
+use Rattle.irig_index.specs.{declared.record.Record.Record, declared.record.Verdict.Verdict}
 use Rattle.irig_edit.specs.State.State.{State, frames_of}
 use Rattle.irig_safety.specs.declared.shown.Shown.{Shown}
 

@@ -1,18 +1,13 @@
 -- What the lines of a repair do to a session. This project's own.
 use Rattle.std.specs.Prelude.{◌≡◌, ◌≤◌, ◌++◌, ℕ, List, [], ◌∷◌, length, map}
-use Rattle.irig_edit.specs.Session.Calls.{Call}
+use Rattle.irig_edit.specs.{Session.Calls.Call, Session.Session.work_in, Session.Work.grouped_in}
 use Rattle.irig_journal.specs.History.{Step}
 use Rattle.irig_saved.specs.declared.change.Change.{Change}
-use Rattle.irig_edit.specs.Session.Session.{work_in}
-use Rattle.irig_edit.specs.Session.Work.{grouped_in}
-use Rattle.irig_lines.specs.Grammar.{Means}
-use Rattle.irig_lines.specs.declared.command.Command.{Command}
+use Rattle.irig_lines.specs.{Grammar.Means, declared.command.Command.Command}
 use Rattle.irig_lines.specs.declared.command.Command.TheVariants as command
-use Rattle.irig_script.specs.Obey.Machine.{Machine}
-use Rattle.irig_script.specs.Obey.Obeying.{Obeys}
-use Rattle.irig_script.specs.Obey.Replies.{Calls}
-use Rattle.irig_guarding.specs.declared.line.Line.{Line}
 use Rattle.irig_script.specs.declared.print.reply.Reply.TheVariants.{Silent}
+use Rattle.irig_script.specs.{Obey.Machine.Machine, Obey.Obeying.Obeys, Obey.Replies.Calls}
+use Rattle.irig_guarding.specs.declared.line.Line.{Line}
 
 -- state, cursor, past and floor are the same; what can be redone may differ
 pub record Agrees (one other : Machine) : Type 0 where

@@ -1,8 +1,9 @@
 //! What the lines of a proposed script ask for.
 
-ghost use Rattle.std.specs.Prelude.{◌≡◌, IfSome, IsTrue};
-ghost use Rattle.std.specs.List.{AllByRecursion};
+ghost use Rattle.std.specs.Prelude.{◌≡◌, ◌↔◌, ◌⊎◌, IsTrue, MatchOption};
 ghost use Rattle.irig_guarding.specs.Repair.{Asks, IsRepair, texts};
+ghost use Rattle.irig_guarding.specs.Trials.{IsClosing, IsIdle};
+ghost use Rattle.irig_lines.specs.declared.command.Command.{Command as SomeCommand};
 ghost use Rattle.irig_lines.specs.declared.command.Command.TheVariants as command;
 
 use crate::line::Line;
@@ -12,8 +13,17 @@ use irig_lines::{Command, parse_line};
 const LINE_LIMIT: usize = 1000;
 
 /// What a line asks for, if it is valid and not too long.
-pub fn command_of(line: &[u8]) -> Option<Command>
-    ensures { IfSome result (λ asked. Asks asked line.now) }
+pub fn command_of(line: &Line) -> Option<Command>
+    ensures { MatchOption result ((asked : SomeCommand) → Asks asked line.now.bytes.items → ⊥)
+        (λ asked. Asks asked line.now.bytes.items) }
+{
+    command_in(line.bytes.as_slice())
+}
+
+/// The same of the bytes of a line.
+fn command_in(line: &[u8]) -> Option<Command>
+    ensures { MatchOption result ((asked : SomeCommand) → Asks asked line.now → ⊥)
+        (λ asked. Asks asked line.now) }
 {
     if line.len() > LINE_LIMIT {
         return None;
@@ -26,7 +36,7 @@ pub fn command_of(line: &[u8]) -> Option<Command>
 
 /// Whether a repair may consist of the command: it edits pulses or marks.
 pub fn is_repair(command: &Command) -> bool
-    ensures { IsTrue result → IsRepair command.now }
+    ensures { IsTrue result ↔ IsRepair command.now }
 {
     matches!(
         command,
@@ -44,37 +54,79 @@ pub fn is_repair(command: &Command) -> bool
 }
 
 /// Whether a line opens a group.
-pub fn begins(line: &[u8]) -> bool
-    ensures { IsTrue result → Asks command.Begin line.now }
+pub fn begins(line: &Line) -> bool
+    ensures { IsTrue result ↔ Asks command.Begin line.now.bytes.items }
 {
-    matches!(command_of(line), Some(Command::Begin))
+    match command_of(line) {
+        Some(command) => is_begin(&command),
+        None => false,
+    }
+}
+
+/// Whether a command opens a group.
+fn is_begin(command: &Command) -> bool
+    ensures { IsTrue result ↔ (command.now ≡ Command.Begin) }
+{
+    matches!(command, Command::Begin)
 }
 
 /// Whether a line ends a group.
-pub fn ends(line: &[u8]) -> bool
-    ensures { IsTrue result → Asks command.End line.now }
+pub fn ends(line: &Line) -> bool
+    ensures { IsTrue result ↔ Asks command.End line.now.bytes.items }
 {
-    matches!(command_of(line), Some(Command::End))
+    match command_of(line) {
+        Some(command) => is_end(&command),
+        None => false,
+    }
+}
+
+/// Whether a command ends a group.
+fn is_end(command: &Command) -> bool
+    ensures { IsTrue result ↔ (command.now ≡ Command.End) }
+{
+    matches!(command, Command::End)
 }
 
 /// Whether a line closes a group.
-pub fn closes(line: &[u8]) -> bool {
-    matches!(command_of(line), Some(Command::End | Command::Abort))
+pub fn closes(line: &Line) -> bool
+    ensures { IsTrue result ↔ IsClosing line.now.bytes.items }
+{
+    match command_of(line) {
+        Some(command) => is_closing(&command),
+        None => false,
+    }
+}
+
+/// Whether a command closes a group.
+fn is_closing(command: &Command) -> bool
+    ensures { IsTrue result ↔ ((command.now ≡ Command.End) ⊎ (command.now ≡ Command.Abort)) }
+{
+    matches!(command, Command::End | Command::Abort)
 }
 
 /// Whether a line is a comment, or blank.
-pub fn is_comment(line: &[u8]) -> bool
-    ensures { IsTrue result → Asks command.Nothing line.now }
+pub fn is_comment(line: &Line) -> bool
+    ensures { IsTrue result ↔ Asks command.Nothing line.now.bytes.items }
 {
-    matches!(command_of(line), Some(Command::Nothing))
+    match command_of(line) {
+        Some(command) => is_nothing(&command),
+        None => false,
+    }
+}
+
+/// Whether a command asks for nothing.
+fn is_nothing(command: &Command) -> bool
+    ensures { IsTrue result ↔ (command.now ≡ Command.Nothing) }
+{
+    matches!(command, Command::Nothing)
 }
 
 /// Whether the lines are one comment, or blank line.
 pub fn are_remarks(lines: &[Line]) -> bool
-    ensures { IsTrue result → AllByRecursion (Asks command.Nothing) (texts lines.now) }
+    ensures { IsTrue result ↔ IsIdle (texts lines.now) }
 {
     match lines {
-        [line] => is_comment(line.bytes.as_slice()),
+        [line] => is_comment(line),
         _ => false,
     }
 }

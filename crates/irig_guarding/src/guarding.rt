@@ -1,10 +1,12 @@
 //! A proposed script, run repair by repair.
 
-ghost use Rattle.std.specs.Prelude.{◌≡◌, ◌<◌, ◌≤◌, ◌↔◌, IfOk, None, OnOk, length, true};
+ghost use Rattle.std.specs.Prelude.{◌≡◌, ◌<◌, ◌≤◌, ◌-◌, [], IfOk, None, OnOk, drop, is_none};
+ghost use Rattle.std.specs.Prelude.{length, take, if◌then◌else◌};
 ghost use Rattle.irig_guarding.specs.Guarded.{IsGuarded, IsSafeAfter, Stands};
-ghost use Rattle.irig_guarding.specs.Reading.{fine_frames};
-ghost use Rattle.irig_script.specs.Obey.Machine.{Machine};
-ghost use Rattle.irig_script.specs.declared.obey.status.Status.TheVariants.{AllAccepted};
+ghost use Rattle.irig_guarding.specs.Trials.{IsCutBefore, IsTried, IsTriedBefore, Shows, Tries};
+ghost use Rattle.irig_guarding.specs.{Reading.fine_frames, Repair.texts};
+ghost use Rattle.irig_safety.specs.Safety.{IsSafe};
+ghost use Rattle.irig_script.specs.declared.obey.status.Status.TheVariants.{SomeRefused};
 
 use crate::commands::{are_remarks, begins, closes};
 use crate::line::Line;
@@ -12,6 +14,7 @@ use crate::lines::lines_of;
 use crate::mending::take;
 use crate::printing::{put_lines, put_remarks};
 use crate::reading::fine_frames;
+use crate::reason::Reason;
 use irig_edit::Session;
 use irig_safety::Shown;
 use irig_script::Status;
@@ -26,7 +29,9 @@ pub fn guard(
     script: &[u8],
 ) -> Result<(Vec<u8>, Status), AllocError>
     requires { session.old.floor ≡ None }
-    ensures { IfOk result (λ done. IsGuarded session.old done.0.items session.new) }
+    ensures guarded { IfOk result (λ done. IsGuarded session.old done.0.items session.new) }
+    ensures tried { IfOk result (λ done. IsTried session.old script.now done.0.items done.1
+        session.new) }
 {
     let opened = fine_frames(alloc, session)?;
     let lines = lines_of(alloc, script)?;
@@ -51,26 +56,31 @@ fn guard_lines(
 ) -> Result<Status, AllocError>
     requires closed { session.old.floor ≡ None }
     requires opened { opened.now ≡ fine_frames session.old.state }
-    requires empty { Stands session.old out.old.items session.old }
+    requires empty { out.old.items ≡ [] }
     ensures stands { OnOk result (Stands session.old out.new.items session.new) }
-    ensures safe { IsSafeAfter session.old.state session.new.state }
+    ensures safe { OnOk result (IsSafeAfter session.old.state session.new.state) }
+    ensures tried { IfOk result (λ status. IsTriedBefore session.old (texts lines.now) []
+        out.new.items status session.new) }
 {
     let mut at = 0;
     let mut status = Status::AllAccepted;
     while at < lines.len() {
         let end = repair_end(lines, at);
-        let kept = guard_repair(alloc, session, opened, &lines[at..end], out)?;
-        status = status_with(status, kept);
+        let dropped = guard_repair(alloc, session, opened, &lines[at..end], out)?;
+        status = status_with(status, dropped);
         at = end;
     }
     Ok(status)
 }
 
 /// The status after one more repair.
-fn status_with(status: Status, kept: bool) -> Status
-    ensures { result ≡ AllAccepted ↔ ((status ≡ AllAccepted) × (kept ≡ true)) }
+fn status_with(status: Status, dropped: Option<Reason>) -> Status
+    ensures { result ≡ if is_none dropped then status else SomeRefused }
 {
-    if kept { status } else { Status::SomeRefused }
+    match dropped {
+        None => status,
+        Some(_) => Status::SomeRefused,
+    }
 }
 
 /// The place after a repair that begins at a place.
@@ -78,44 +88,74 @@ fn repair_end(lines: &[Line], at: usize) -> usize
     requires { at < length lines.now }
     ensures more { at < result }
     ensures within { result ≤ length lines.now }
+    ensures cut { IsCutBefore (texts (take (result - at) (drop at lines.now)))
+        (texts (drop result lines.now)) }
 {
-    if !begins(lines[at].bytes.as_slice()) {
+    if !begins(&lines[at]) {
         return at + 1;
     }
     for place in at + 1..lines.len() {
-        if closes(lines[place].bytes.as_slice()) {
+        if closes(&lines[place]) {
             return place + 1;
         }
     }
     lines.len()
 }
 
-/// Tries one repair, and prints it. Returns whether it was kept.
+/// Tries one repair, and prints it. Returns why it was dropped, if it was.
 fn guard_repair(
     alloc: Global,
     session: &mut Session,
     opened: &[Shown],
     repair: &[Line],
     out: &mut Vec<u8>,
-) -> Result<bool, AllocError>
-    requires { session.old.floor ≡ None }
-    ensures stands { OnOk result ((first : Machine) → Stands first out.old.items session.old
-        → Stands first out.new.items session.new) }
-    ensures safe { (first : Machine) → opened.now ≡ fine_frames first.state
-        → IsSafeAfter first.state session.old.state
-        → IsSafeAfter first.state session.new.state }
+) -> Result<Option<Reason>, AllocError>
+    requires closed { session.old.floor ≡ None }
+    requires safe { IsSafe session.old.state.format opened.now (fine_frames session.old.state) }
+    ensures safe { IsSafe session.new.state.format opened.now (fine_frames session.new.state) }
     ensures closed { session.new.floor ≡ None }
+    ensures format { session.new.state.format ≡ session.old.state.format }
+    ensures tried { IfOk result (λ dropped. Tries opened.now session.old (texts repair.now) dropped
+        session.new) }
+    ensures printed { IfOk result (λ dropped. Shows (texts repair.now) dropped out.old.items
+        out.new.items) }
+{
+    let dropped = try_repair(alloc, session, opened, repair)?;
+    put_repair(out, repair, dropped)?;
+    Ok(dropped)
+}
+
+/// Tries one repair. Returns why it was dropped, if it was.
+fn try_repair(
+    alloc: Global,
+    session: &mut Session,
+    opened: &[Shown],
+    repair: &[Line],
+) -> Result<Option<Reason>, AllocError>
+    requires closed { session.old.floor ≡ None }
+    requires safe { IsSafe session.old.state.format opened.now (fine_frames session.old.state) }
+    ensures safe { IsSafe session.new.state.format opened.now (fine_frames session.new.state) }
+    ensures closed { session.new.floor ≡ None }
+    ensures format { session.new.state.format ≡ session.old.state.format }
+    ensures tried { IfOk result (λ dropped. Tries opened.now session.old (texts repair.now) dropped
+        session.new) }
 {
     if are_remarks(repair) {
-        put_lines(out, repair)?;
-        return Ok(true);
+        return Ok(None);
     }
     let last = fine_frames(alloc, session)?;
-    if take(alloc, session, opened, last.as_slice(), repair) {
-        put_lines(out, repair)?;
-        Ok(true)
-    } else {
-        put_remarks(out, repair)?;
-        Ok(false)
+    match take(alloc, session, opened, last.as_slice(), repair) {
+        Ok(()) => Ok(None),
+        Err(reason) => Ok(Some(reason)),
+    }
+}
+
+/// Prints a repair: its lines, or if it was dropped those as comments.
+fn put_repair(out: &mut Vec<u8>, repair: &[Line], dropped: Option<Reason>) -> Result<(), AllocError>
+    ensures { OnOk result (Shows (texts repair.now) dropped out.old.items out.new.items) }
+{
+    match dropped {
+        None => put_lines(out, repair),
+        Some(_) => put_remarks(out, repair),
     }
 }

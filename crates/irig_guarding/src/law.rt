@@ -1,7 +1,6 @@
 //! What holds of states that are safe, and of the script that is printed.
 
-ghost use Rattle.irig_guarding.specs.Guarded.{PrintedIsObeyed};
-ghost use Rattle.irig_guarding.specs.Meaning.{SafeStatesMean};
+ghost use Rattle.irig_guarding.specs.{Guarded.PrintedIsObeyed, Meaning.SafeStatesMean};
 
 use irig_edit::calls_give_back;
 

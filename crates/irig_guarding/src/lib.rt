@@ -11,6 +11,7 @@ mod output;
 mod printing;
 mod product;
 mod reading;
+mod reason;
 mod run;
 
 pub use law::{printed_scripts_are_obeyed, safe_states_are_kept_or_borne_out};

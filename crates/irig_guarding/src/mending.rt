@@ -1,94 +1,118 @@
 //! Repairs that are tried, and kept if they are safe.
 
-ghost use Rattle.std.specs.Prelude.{◌≡◌, IsTrue, IsFalse, None, Some, IfSome};
-ghost use Rattle.irig_edit.specs.Session.Calls.{Call};
-ghost use Rattle.irig_edit.specs.Session.Session.{work_in};
-ghost use Rattle.irig_guarding.specs.Reading.{fine_frames};
+ghost use Rattle.std.specs.Prelude.{◌≡◌, ◌≢◌, ◌∷◌, ◌++◌, [], ℕ, List, None, IfErr, OnErr, OnOk};
+ghost use Rattle.irig_edit.specs.{Session.Calls.Call, Session.Session.work_in};
 ghost use Rattle.irig_guarding.specs.Repair.{Agrees, Asks, IsBeyond, IsGroup, IsRepair, Obeyed};
 ghost use Rattle.irig_guarding.specs.Repair.{ObeyedAll, texts};
-ghost use Rattle.irig_safety.specs.Safety.{IsSafe, NoneIsSpoiled};
-ghost use Rattle.irig_script.specs.Obey.Obeying.{Obeys};
-ghost use Rattle.irig_script.specs.Obey.Replies.{Calls};
+ghost use Rattle.irig_guarding.specs.Trials.{Drops, Holds, IsIdle, MayStay, StopsAt, StopsIn};
+ghost use Rattle.irig_guarding.specs.Trials.{Sways};
+ghost use Rattle.irig_lines.specs.declared.command.Command.TheVariants as command;
 ghost use Rattle.irig_script.specs.declared.print.reply.Reply.TheVariants.{Silent};
+ghost use Rattle.irig_script.specs.{Obey.Obeying.Obeys, Obey.Replies.Calls};
 
 use crate::commands::{begins, command_of, ends, is_repair};
 use crate::line::Line;
 use crate::reading::fine_frames;
+use crate::reason::Reason;
 use irig_edit::Session;
 use irig_lines::Command;
 use irig_safety::{Shown, is_safe, none_is_spoiled};
 use irig_script::{Reply, obey_command};
 use std::alloc::Global;
 
-/// Obeys an edit, and returns whether it was accepted.
-fn edit(session: &mut Session, command: Command) -> bool
+/// Obeys an edit. If it is refused, nothing has changed.
+fn edit(session: &mut Session, command: Command) -> Result<(), Reason>
     requires { IsRepair command }
-    ensures made { IsTrue result → Obeys command session.old Silent session.new }
-    ensures refused { IsFalse result → work_in session.new ≡ work_in session.old }
+    ensures made { OnOk result (Obeys command session.old Silent session.new) }
+    ensures stops { (line : List ℕ) → Asks command line
+        → IfErr result (StopsAt session.old line) }
+    ensures unmade { OnErr result (work_in session.new ≡ work_in session.old) }
 {
-    matches!(obey_command(command, session), Reply::Silent)
+    match obey_command(command, session) {
+        Reply::Silent => Ok(()),
+        Reply::Refused(why) => Err(Reason::Refused(why)),
+        _ => unreachable!(),
+    }
 }
 
-/// Obeys a line in a group, an edit or a comment, and returns whether it was accepted.
-fn mend(session: &mut Session, line: &[u8]) -> bool
-    ensures made { IsTrue result → Obeyed session.old line.now session.new }
+/// Obeys a line in a group: an edit or a comment.
+fn mend(session: &mut Session, line: &Line) -> Result<(), Reason>
+    ensures made { OnOk result (Obeyed session.old line.now.bytes.items session.new) }
+    ensures stops { IfErr result (StopsAt session.old line.now.bytes.items) }
     ensures beyond { IsBeyond session.old session.new }
 {
     match command_of(line) {
-        Some(Command::Nothing) => true,
-        Some(command) => {
-            if is_repair(&command) {
-                edit(session, command)
-            } else {
-                false
-            }
-        }
-        None => false,
+        Some(Command::Nothing) => Ok(()),
+        Some(command) => mend_by(session, command),
+        None => Err(Reason::NoRepair),
     }
 }
 
-/// Obeys lines in a group up to the first that is not accepted, and returns whether all were.
-fn mend_all(session: &mut Session, lines: &[Line]) -> bool
-    ensures made { IsTrue result
-        → ObeyedAll session.old (texts lines.now) session.new }
+/// Obeys a command in a group if it is an edit.
+fn mend_by(session: &mut Session, command: Command) -> Result<(), Reason>
+    requires { command ≢ Command.Nothing }
+    ensures made { (line : List ℕ) → Asks command line
+        → OnOk result (Obeyed session.old line session.new) }
+    ensures stops { (line : List ℕ) → Asks command line
+        → IfErr result (StopsAt session.old line) }
+    ensures beyond { IsBeyond session.old session.new }
+{
+    if is_repair(&command) {
+        edit(session, command)
+    } else {
+        Err(Reason::NoRepair)
+    }
+}
+
+/// Obeys lines in a group up to the first that stops it.
+fn mend_all(session: &mut Session, lines: &[Line]) -> Result<(), Reason>
+    ensures made { OnOk result (ObeyedAll session.old (texts lines.now) session.new) }
+    ensures stops { IfErr result (StopsIn session.old (texts lines.now)) }
     ensures beyond { IsBeyond session.old session.new }
 {
     for line in lines {
-        if !mend(session, line.bytes.as_slice()) {
-            return false;
+        if let Err(reason) = mend(session, line) {
+            return Err(reason);
         }
     }
-    true
+    Ok(())
 }
 
-/// Whether what the frames show is safe, by what they showed at first. It is not if memory runs
-/// out.
-fn is_safe_now(alloc: Global, session: &Session, opened: &[Shown], before: &[Shown]) -> bool
-    ensures safe { IsTrue result → IsSafe session.now.state.format opened.now
-        (fine_frames session.now.state) }
-    ensures unspoiled { IsTrue result → NoneIsSpoiled before.now (fine_frames session.now.state) }
+/// Whether what the frames show may stay: it is safe by what they showed at first, and none is
+/// spoiled of those that read well before.
+fn check(alloc: Global, session: &Session, opened: &[Shown], before: &[Shown]) -> Result<(), Reason>
+    ensures stays { OnOk result (MayStay opened.now before.now session.now.state) }
+    ensures sways { IfErr result (Sways opened.now before.now session.now.state) }
 {
-    match fine_frames(alloc, session) {
-        Ok(frames) => {
-            is_safe(session.current_format(), opened, frames.as_slice())
-                && none_is_spoiled(before, frames.as_slice())
-        }
-        Err(_) => false,
+    let Ok(frames) = fine_frames(alloc, session) else {
+        return Err(Reason::OutOfMemory);
+    };
+    if is_safe(session.current_format(), opened, frames.as_slice())
+        && none_is_spoiled(before, frames.as_slice())
+    {
+        Ok(())
+    } else {
+        Err(Reason::NotSafe)
     }
 }
 
-/// Ends the open group if what the frames show is safe, and returns whether it did.
-fn end_safely(alloc: Global, session: &mut Session, opened: &[Shown], before: &[Shown]) -> bool
-    ensures ended { IsTrue result → Calls Call.End session.old Silent session.new }
-    ensures safe { IsTrue result → IsSafe session.old.state.format opened.now
-        (fine_frames session.old.state) }
-    ensures unspoiled { IsTrue result → NoneIsSpoiled before.now (fine_frames session.old.state) }
-    ensures open { IsFalse result → work_in session.new ≡ work_in session.old }
+/// Ends the open group if what the frames show may stay.
+fn end_safely(
+    alloc: Global,
+    session: &mut Session,
+    opened: &[Shown],
+    before: &[Shown],
+) -> Result<(), Reason>
+    ensures ended { OnOk result (Calls Call.End session.old Silent session.new) }
+    ensures stays { OnOk result (MayStay opened.now before.now session.old.state) }
+    ensures holds { IfErr result (Holds opened.now before.now session.old) }
+    ensures open { OnErr result (work_in session.new ≡ work_in session.old) }
 {
-    if !is_safe_now(alloc, session, opened, before) {
-        return false;
+    check(alloc, session, opened, before)?;
+    match session.end() {
+        Ok(()) => Ok(()),
+        Err(why) => Err(Reason::Refused(why)),
     }
-    session.end().is_ok()
 }
 
 /// Obeys the lines of a group and keeps what they did if it is safe. If not, all is as it was but
@@ -99,25 +123,29 @@ fn mend_group(
     opened: &[Shown],
     before: &[Shown],
     lines: &[Line],
-) -> bool
+) -> Result<(), Reason>
     requires { session.old.floor ≡ None }
-    ensures made { IsTrue result
-        → IsGroup session.old (texts lines.now) session.new }
-    ensures safe { IsTrue result → IsSafe session.new.state.format opened.now
-        (fine_frames session.new.state) }
-    ensures unspoiled { IsTrue result → NoneIsSpoiled before.now (fine_frames session.new.state) }
-    ensures refused { IsFalse result → Agrees session.new session.old }
+    ensures made { OnOk result (IsGroup session.old (texts lines.now) session.new) }
+    ensures stays { OnOk result (MayStay opened.now before.now session.new.state) }
+    ensures drops { (first last : List ℕ) → Asks command.Begin first → Asks command.End last
+        → IfErr result (Drops opened.now before.now session.old
+        (first ∷ (texts lines.now ++ last ∷ []))) }
+    ensures undone { OnErr result (Agrees session.new session.old) }
     ensures closed { session.new.floor ≡ None }
     ensures format { session.new.state.format ≡ session.old.state.format }
 {
-    let Ok(()) = session.begin() else {
-        return false;
-    };
-    if mend_all(session, lines) && end_safely(alloc, session, opened, before) {
-        return true;
+    if let Err(why) = session.begin() {
+        return Err(Reason::Refused(why));
     }
-    let _ = session.abort();
-    false
+    if let Err(reason) = mend_all(session, lines) {
+        let _ = session.abort();
+        return Err(reason);
+    }
+    if let Err(reason) = end_safely(alloc, session, opened, before) {
+        let _ = session.abort();
+        return Err(reason);
+    }
+    Ok(())
 }
 
 /// Obeys an edit and keeps what it did if it is safe. If not, all is as it was but for what can be
@@ -128,25 +156,25 @@ fn mend_one(
     opened: &[Shown],
     before: &[Shown],
     command: Command,
-) -> bool
+) -> Result<(), Reason>
     requires one { IsRepair command }
     requires closed { session.old.floor ≡ None }
-    ensures made { IsTrue result → Obeys command session.old Silent session.new }
-    ensures safe { IsTrue result → IsSafe session.new.state.format opened.now
-        (fine_frames session.new.state) }
-    ensures unspoiled { IsTrue result → NoneIsSpoiled before.now (fine_frames session.new.state) }
-    ensures refused { IsFalse result → Agrees session.new session.old }
+    ensures made { OnOk result (Obeys command session.old Silent session.new) }
+    ensures stays { OnOk result (MayStay opened.now before.now session.new.state) }
+    ensures drops { (line : List ℕ) → Asks command line
+        → IfErr result (Drops opened.now before.now session.old (line ∷ [])) }
+    ensures undone { OnErr result (Agrees session.new session.old) }
     ensures closed { session.new.floor ≡ None }
     ensures format { session.new.state.format ≡ session.old.state.format }
 {
-    if !edit(session, command) {
-        return false;
+    if let Err(reason) = edit(session, command) {
+        return Err(reason);
     }
-    if is_safe_now(alloc, session, opened, before) {
-        return true;
+    if let Err(reason) = check(alloc, session, opened, before) {
+        let _ = session.undo();
+        return Err(reason);
     }
-    let _ = session.undo();
-    false
+    Ok(())
 }
 
 /// Obeys one line if it is an edit, and keeps what it did if it is safe.
@@ -155,14 +183,14 @@ fn take_line(
     session: &mut Session,
     opened: &[Shown],
     before: &[Shown],
-    line: &[u8],
-) -> bool
+    line: &Line,
+) -> Result<(), Reason>
     requires { session.old.floor ≡ None }
-    ensures made { IsTrue result → Obeyed session.old line.now session.new }
-    ensures safe { IsTrue result → IsSafe session.new.state.format opened.now
-        (fine_frames session.new.state) }
-    ensures unspoiled { IsTrue result → NoneIsSpoiled before.now (fine_frames session.new.state) }
-    ensures refused { IsFalse result → Agrees session.new session.old }
+    ensures made { OnOk result (Obeyed session.old line.now.bytes.items session.new) }
+    ensures stays { OnOk result (MayStay opened.now before.now session.new.state) }
+    ensures drops { (Asks command.Nothing line.now.bytes.items → ⊥)
+        → IfErr result (Drops opened.now before.now session.old (line.now.bytes.items ∷ [])) }
+    ensures undone { OnErr result (Agrees session.new session.old) }
     ensures closed { session.new.floor ≡ None }
     ensures format { session.new.state.format ≡ session.old.state.format }
 {
@@ -171,10 +199,10 @@ fn take_line(
             if is_repair(&command) {
                 mend_one(alloc, session, opened, before, command)
             } else {
-                false
+                Err(Reason::NoRepair)
             }
         }
-        None => false,
+        None => Err(Reason::NoRepair),
     }
 }
 
@@ -186,25 +214,27 @@ pub fn take(
     opened: &[Shown],
     before: &[Shown],
     repair: &[Line],
-) -> bool
+) -> Result<(), Reason>
     requires { session.old.floor ≡ None }
-    ensures made { IsTrue result → ObeyedAll session.old (texts repair.now) session.new }
-    ensures safe { IsTrue result → IsSafe session.new.state.format opened.now
-        (fine_frames session.new.state) }
-    ensures unspoiled { IsTrue result → NoneIsSpoiled before.now (fine_frames session.new.state) }
-    ensures refused { IsFalse result → Agrees session.new session.old }
+    ensures made { OnOk result (ObeyedAll session.old (texts repair.now) session.new) }
+    ensures stays { OnOk result (MayStay opened.now before.now session.new.state) }
+    ensures drops { (IsIdle (texts repair.now) → ⊥)
+        → IfErr result (Drops opened.now before.now session.old (texts repair.now)) }
+    ensures undone { OnErr result (Agrees session.new session.old) }
     ensures closed { session.new.floor ≡ None }
     ensures format { session.new.state.format ≡ session.old.state.format }
 {
     match repair {
-        [line] => take_line(alloc, session, opened, before, line.bytes.as_slice()),
+        [line] => take_line(alloc, session, opened, before, line),
         [first, inner @ .., last] => {
-            if begins(first.bytes.as_slice()) && ends(last.bytes.as_slice()) {
-                mend_group(alloc, session, opened, before, inner)
+            if !begins(first) {
+                Err(Reason::NoRepair)
+            } else if !ends(last) {
+                Err(Reason::NoRepair)
             } else {
-                false
+                mend_group(alloc, session, opened, before, inner)
             }
         }
-        [] => false,
+        [] => Err(Reason::NoRepair),
     }
 }

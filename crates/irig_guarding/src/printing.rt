@@ -2,8 +2,9 @@
 
 ghost use Rattle.std.specs.Prelude.{◌≡◌, ◌++◌, ◌∷◌, [], ℕ, List, OnOk};
 ghost use Rattle.std.specs.List.{AllByRecursion};
-ghost use Rattle.irig_guarding.specs.Guarded.{IsRemark};
-ghost use Rattle.irig_guarding.specs.Repair.{texts};
+ghost use Rattle.irig_guarding.specs.Trials.{AreRemarksOf, IsRemarkOf};
+ghost use Rattle.irig_guarding.specs.{Guarded.IsRemark, Repair.Asks, Repair.texts};
+ghost use Rattle.irig_lines.specs.declared.command.Command.TheVariants as command;
 ghost use Rattle.irig_script.specs.Obey.Run.{IsPlain, unlines};
 
 use crate::commands::is_comment;
@@ -36,12 +37,11 @@ pub fn put_lines(out: &mut Vec<u8>, lines: &[Line]) -> Result<(), AllocError>
 /// Prints a line as a comment: a comment as it is, of any other line the front after a number
 /// sign.
 fn put_remark(out: &mut Vec<u8>, line: &Line) -> Result<(), AllocError>
-    ensures { OnOk result ((remark : List ℕ) × IsRemark remark
+    ensures { OnOk result ((remark : List ℕ) × IsRemark remark × IsRemarkOf line.now.bytes.items remark
         × (out.new.items ≡ out.old.items ++ (remark ++ 10 ∷ []))) }
 {
-    let bytes = line.bytes.as_slice();
-    if is_comment(bytes) {
-        put_line(out, bytes)
+    if is_comment(line) {
+        put_line(out, line.bytes.as_slice())
     } else {
         put_front(out, line)
     }
@@ -49,7 +49,8 @@ fn put_remark(out: &mut Vec<u8>, line: &Line) -> Result<(), AllocError>
 
 /// Prints the front of a line after a number sign.
 fn put_front(out: &mut Vec<u8>, line: &Line) -> Result<(), AllocError>
-    ensures { OnOk result ((remark : List ℕ) × IsRemark remark
+    requires { Asks command.Nothing line.now.bytes.items → ⊥ }
+    ensures { OnOk result ((remark : List ℕ) × IsRemark remark × IsRemarkOf line.now.bytes.items remark
         × (out.new.items ≡ out.old.items ++ (remark ++ 10 ∷ []))) }
 {
     let bytes = line.bytes.as_slice();
@@ -60,6 +61,7 @@ fn put_front(out: &mut Vec<u8>, line: &Line) -> Result<(), AllocError>
 /// Prints lines as comments.
 pub fn put_remarks(out: &mut Vec<u8>, lines: &[Line]) -> Result<(), AllocError>
     ensures { OnOk result ((remarks : List (List ℕ)) × AllByRecursion IsRemark remarks
+        × AreRemarksOf (texts lines.now) remarks
         × (out.new.items ≡ out.old.items ++ unlines remarks)) }
 {
     for line in lines {

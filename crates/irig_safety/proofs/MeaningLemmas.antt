@@ -1,11 +1,10 @@
 -- Frames that are safe are kept, mended, or borne out.
-use Rattle.std.proofs.Common.{◌≡◌, ◌<◌, ◌++◌, ◌-◌, ℕ, suc, List, [], ◌∷◌, Option, Some, length, slice_get, inl, inr, refl, ap, sym, ◌∙◌}
-use Rattle.std.proofs.Common.{append_assoc, length-append, subst, arith}
+use Rattle.std.proofs.Common.{◌≡◌, ◌<◌, ◌++◌, ◌-◌, ℕ, suc, List, [], ◌∷◌, Option, Some, length, slice_get, inl, inr, refl, ap, sym, ◌∙◌, append_assoc}
+use Rattle.std.proofs.Common.{length-append, subst, arith}
 use Rattle.std.specs.List.{AllByRecursion}
 use Rattle.irig_codes.specs.Format.{FormatView}
 use Rattle.irig_safety.specs.Meaning.{AreRising, IsKept, IsOneOf, IsTold, SafeMeans}
-use Rattle.irig_safety.specs.Safety.{IsSafeFrom, behind}
-use Rattle.irig_safety.specs.declared.shown.Shown.{Shown}
+use Rattle.irig_safety.specs.{Safety.IsSafeFrom, Safety.behind, declared.shown.Shown.Shown}
 
 all_map : {X : Type 0} (P Q : X → Type 0) → ((x : X) → P x → Q x) → (xs : List X) → AllByRecursion P xs → AllByRecursion Q xs
 all_map P Q f [] h = tt

@@ -1,16 +1,12 @@
 -- What is left to be found safe, at a place of the frames from before and of those from after.
-use Rattle.std.proofs.Common.{◌≡◌, ◌↔◌, ◌+◌, ◌-◌, ◌<◌, ◌≤◌, ℕ, zero, suc, Bool, true, false, List, [], ◌∷◌, Option, Some, None, length, drop, slice_get, drop-cons}
-use Rattle.std.proofs.Common.{inl, inr, refl, ap, sym, ◌∙◌, subst, add-one, arith, if◌then◌else◌}
+use Rattle.std.proofs.Common.{◌≡◌, ◌↔◌, ◌+◌, ◌-◌, ◌<◌, ◌≤◌, ℕ, zero, suc, Bool, true, false, List, [], ◌∷◌, Option, Some, None, length, drop, slice_get}
+use Rattle.std.proofs.Common.{drop-cons, inl, inr, refl, ap, sym, ◌∙◌, subst, add-one, arith, if◌then◌else◌}
 use Rattle.std.proofs.Math.Seq.{drop-nil}
 use Rattle.std.specs.Prelude.{IfSome, IsTrue, MatchOption, eqb}
-use Rattle.std.proofs.lemmas.Bool.Decides.{eqb_tells}
-use Rattle.std.proofs.lemmas.List.{drop_all}
-use Rattle.std.proofs.lemmas.Option.{get_or_from_slice_get, slice_get_within}
+use Rattle.std.proofs.lemmas.{Bool.Decides.eqb_tells, List.drop_all, Option.get_or_from_slice_get, Option.slice_get_within}
 use Rattle.irig_codes.specs.Format.{FormatView}
-use Rattle.irig_safety.specs.Bearing.{leads}
 use Rattle.irig_safety.specs.Safety.{Comes, IsSafeAt, IsSafeFrom, LeadOn, NoneIsSpoiled, Stays, behind, is_mended}
-use Rattle.irig_safety.specs.Witnesses.{is_borne}
-use Rattle.irig_safety.specs.declared.shown.Shown.{Shown}
+use Rattle.irig_safety.specs.{Bearing.leads, Witnesses.is_borne, declared.shown.Shown.Shown}
 
 -- from a place on: what is there, and what follows
 drop-item : (xs : List Shown) (i : ℕ) (x : Shown) → slice_get xs i ≡ Some x → drop i xs ≡ x ∷ drop (i + 1) xs

@@ -1,11 +1,8 @@
 -- Worked values of what bears out a frame, in format B with expression 4 (a period of 1 s, an interval of 10 ms).
 use Rattle.std.proofs.Common.{◌≡◌, ℕ, true, false, None, Some, refl}
-use Rattle.irig_codes.specs.Format.{FormatView}
-use Rattle.irig_codes.specs.declared.fields.Fields.{Fields}
-use Rattle.irig_codes.specs.declared.format.Kind.TheVariants.{B}
+use Rattle.irig_codes.specs.{Format.FormatView, declared.fields.Fields.Fields, declared.format.Kind.TheVariants.B}
 use Rattle.irig_safety.specs.Bearing.{clock_of, is_far, is_later, leads, periods, shows_clock, slack, stray}
-use Rattle.irig_safety.specs.Witnesses.{is_borne}
-use Rattle.irig_safety.specs.declared.shown.Shown.{Shown}
+use Rattle.irig_safety.specs.{Witnesses.is_borne, declared.shown.Shown.Shown}
 
 abbrev b4 : FormatView
 b4 = record { kind = B; expression = 4 }

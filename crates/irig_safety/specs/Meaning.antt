@@ -4,8 +4,7 @@ use Rattle.std.specs.Prelude.{slice_get}
 use Rattle.std.specs.List.{AllByRecursion}
 use Rattle.irig_codes.specs.Format.{FormatView}
 use Rattle.irig_safety.specs.Safety.{IsSafeFrom, behind, is_mended}
-use Rattle.irig_safety.specs.Witnesses.{is_borne}
-use Rattle.irig_safety.specs.declared.shown.Shown.{Shown}
+use Rattle.irig_safety.specs.{Witnesses.is_borne, declared.shown.Shown.Shown}
 
 -- it is one of the frames
 pub record IsOneOf (x : Shown) (frames : List Shown) : Type 0 where

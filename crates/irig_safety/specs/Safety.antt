@@ -1,11 +1,10 @@
 -- When what frames show after an edit is safe, by what they showed when the recording was opened.
 -- This project's own.
-use Rattle.std.specs.Prelude.{◌≡◌, ◌≤◌, ◌<◌, ◌⊎◌, ◌&&◌, ◌-◌, ℕ, zero, suc, Bool, true, false, not, List}
-use Rattle.std.specs.Prelude.{[], ◌∷◌, Option, Some, None, drop, length, slice_get}
+use Rattle.std.specs.Prelude.{◌≡◌, ◌≤◌, ◌<◌, ◌⊎◌, ◌&&◌, ◌-◌, ℕ, zero, suc, Bool, true, false, not}
+use Rattle.std.specs.Prelude.{List, [], ◌∷◌, Option, Some, None, drop, length, slice_get}
 use Rattle.irig_codes.specs.Format.{FormatView}
 use Rattle.irig_safety.specs.Bearing.{allows, leads}
-use Rattle.irig_safety.specs.Witnesses.{is_borne}
-use Rattle.irig_safety.specs.declared.shown.Shown.{Shown}
+use Rattle.irig_safety.specs.{Witnesses.is_borne, declared.shown.Shown.Shown}
 
 -- the frame before a place, if there is one
 abbrev pub behind : ℕ → List Shown → Option Shown

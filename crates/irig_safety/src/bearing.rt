@@ -2,9 +2,9 @@
 
 ghost use Rattle.std.specs.Prelude.{◌≡◌, ◌+◌, ◌*◌, ◌%◌, ◌==◌, ◌^◌, ◌<◌};
 ghost use Rattle.irig_safety.specs.Bearing.{allows, apart, clock_after, clock_of, distance};
-ghost use Rattle.irig_safety.specs.Bearing.{inserted_of, is_by_clock, is_far, is_in_time};
-ghost use Rattle.irig_safety.specs.Bearing.{is_later, is_near_year, is_shown, leads, periods};
-ghost use Rattle.irig_safety.specs.Bearing.{shows_clock, slack, stray, turn_of, year_of};
+ghost use Rattle.irig_safety.specs.Bearing.{inserted_of, is_by_clock, is_far, is_in_time, is_later};
+ghost use Rattle.irig_safety.specs.Bearing.{is_near_year, is_shown, leads, periods, shows_clock};
+ghost use Rattle.irig_safety.specs.Bearing.{slack, stray, turn_of, year_of};
 ghost use Rattle.irig_moment.specs.Generated.{period_of};
 
 use crate::shown::Shown;

@@ -4,8 +4,7 @@ ghost use Rattle.std.specs.Prelude.{◌≡◌, ◌↔◌, ◌-◌, ◌≤◌, �
 ghost use Rattle.std.specs.Prelude.{IfSome, MatchOption, drop, if◌then◌else◌, slice_get};
 ghost use Rattle.irig_safety.specs.Safety.{AreOfThemselves, IsSafe, IsSafeAt, IsSafeFrom, LeadOn};
 ghost use Rattle.irig_safety.specs.Safety.{NoneIsSpoiled, Stays, behind, is_mended};
-ghost use Rattle.irig_safety.specs.Witnesses.{is_borne};
-ghost use Rattle.irig_safety.specs.declared.shown.Shown.{Shown as ShownFrame};
+ghost use Rattle.irig_safety.specs.{Witnesses.is_borne, declared.shown.Shown.Shown as ShownFrame};
 
 use crate::bearing::{allows, leads};
 use crate::shown::{Shown, is_same};

@@ -1,10 +1,8 @@
 use Rattle.std.specs.Prelude.{List, Ok}
 use Rattle.clap.specs.Words.{Text}
-use Rattle.irig_guard.specs.Settings.{Reads}
 use Rattle.irig_guard.specs.Ending.{Ends, Files, EndsBy, Obeys}
-use Rattle.irig_guard.specs.declared.chosen.Settings.{Settings}
-use Rattle.irig_guard.specs.declared.ending.Ending.{Ending}
 use Rattle.irig_guard.specs.declared.ending.Ending.TheVariants.{Usage, Value, Unread, Ran}
+use Rattle.irig_guard.specs.{Settings.Reads, declared.chosen.Settings.Settings, declared.ending.Ending.Ending}
 use Rattle.std.proofs.Common.{refl, rules}
 use Rattle.irig_files.specs.Going.{goes_nowhere}
 use Rattle.irig_guard.proofs.file_run.obey_words.Goals as goal

@@ -1,8 +1,6 @@
 use Rattle.std.proofs.Common.{rules, ◌≡◌, ◌∷◌, ◌∙◌, ap, drop, List, ℕ}
 use Rattle.irig_files.proofs.PutsAt.{texts_where}
-use Rattle.irig_files.specs.Going.{goes_nowhere}
-use Rattle.irig_files.specs.Puts.{texts_at, writes_on}
-use Rattle.irig_files.specs.Writes.{GoesTo}
+use Rattle.irig_files.specs.{Going.goes_nowhere, Puts.texts_at, Puts.writes_on, Writes.GoesTo}
 use Rattle.irig_guard.specs.Ending.{files, place_of}
 use Rattle.irig_guard.proofs.RunsBy.{fails_by, runs_by}
 use Rattle.irig_guard.proofs.file_run.run_on_read.Goals as goal

@@ -1,8 +1,6 @@
-use Rattle.std.proofs.Common.{refl}
-use Rattle.std.proofs.Common.{rules, ◌≡◌, ◌<◌, ◌^◌, length}
+use Rattle.std.proofs.Common.{refl, rules, ◌≡◌, ◌<◌, ◌^◌, length}
 use Rattle.std.specs.Prelude.{IfSome}
-use Rattle.irig_files.specs.Going.{goes_nowhere}
-use Rattle.irig_files.specs.declared.dump_file.DumpFileFault.TheVariants.{TooLong}
+use Rattle.irig_files.specs.{Going.goes_nowhere, declared.dump_file.DumpFileFault.TheVariants.TooLong}
 use Rattle.irig_guard.proofs.file_run.run_with_room.Goals as goal
 
 pub returns-in-Ok : goal.returns-in-Ok

@@ -1,5 +1,33 @@
-use Rattle.irig_guarding.proofs.GuardLemmas.{safe_first}
+use Rattle.std.proofs.Common.{◌∙◌, arith, refl}
+use Rattle.irig_guarding.proofs.GuardLemmas.{safe_list, safe_then, stands_none, stands_tried}
+use Rattle.irig_guarding.proofs.TrialLemmas.{tried_all, tried_none, tried_step}
 use Rattle.irig_guarding.proofs.guarding.guard_lines.Goals as goal
 
 pub loop-at-init : goal.loop-at-init
-loop-at-init c = (c.requires.empty, safe_first _, c.requires.closed)
+loop-at-init c = (
+  stands_none c.args.session.now _ c.requires.empty,
+  safe_list c.args.session.now.state _ c.requires.opened,
+  refl,
+  c.requires.closed,
+  omega arith,
+  tried_none c.args.session.now _ _ c.requires.empty,
+)
+
+pub loop-at-preserved : goal.loop-at-preserved
+loop-at-preserved c =
+    let s = c.loop-at.invariant in (
+      stands_tried c.args.session.now c.args.opened.now _ _ _ _ _ _ c.in_ok-dropped.ensures.tried c.in_ok-dropped.ensures.printed s.0,
+      c.guard_repair.ensures.safe,
+      c.guard_repair.ensures.format ∙ s.2,
+      c.guard_repair.ensures.closed,
+      c.repair_end-end.ensures.within,
+      tried_step c.args.session.now c.args.opened.now c.args.lines.now _ _ _ _ _ _ _ _ _ c.requires.opened c.repair_end-end.ensures.more s.5 c.repair_end-end.ensures.cut
+          c.in_ok-dropped.ensures.tried c.in_ok-dropped.ensures.printed c.status_with-status.ensures,
+    )
+
+pub returns-clause-safe : goal.returns-clause-safe
+returns-clause-safe c =
+    let s = c.loop-at.invariant in safe_then c.args.session.now.state _ c.args.opened.now c.requires.opened s.2 s.1
+
+pub returns-clause-tried : goal.returns-clause-tried
+returns-clause-tried c = tried_all c.args.session.now c.args.lines.now _ _ _ _ c.loop-at-test.false c.loop-at.invariant.5

@@ -1,6 +1,14 @@
-use Rattle.irig_guarding.proofs.RepairLemmas.{undone_agrees}
+use Rattle.std.proofs.Common.{refl}
+use Rattle.irig_guarding.proofs.{DropLemmas.line_stopped, DropLemmas.line_swayed, RepairLemmas.printed_repair, RepairLemmas.undone_agrees}
 use Rattle.irig_guarding.proofs.mending.mend_one.Goals as goal
 
-pub returns-clause-refused : goal.returns-clause-refused
-returns-clause-refused c = λ f.
-    undone_agrees c.args.command _ _ _ _ c.requires.one c.requires.closed (c.edit.ensures.made c.if-not-edit.false) c.undo.ensures.step
+pub returns-in-Err-clause-drops : goal.returns-in-Err-clause-drops
+returns-in-Err-clause-drops c = λ line asks. line_stopped c.args.opened.now c.args.before.now _ line _ (c.in-Err.ensures.stops line asks)
+
+pub returns-in-Err-check-clause-drops : goal.returns-in-Err-check-clause-drops
+returns-in-Err-check-clause-drops c = λ line asks.
+    line_swayed c.args.opened.now c.args.before.now c.args.session.now c.edit.new.session line _
+    (c.edit.new.session, (c.args.command, asks, printed_repair c.args.command c.requires.one, c.in_default.ensures.made), refl) c.in-Err-check.ensures.sways
+
+pub returns-in-Err-check-clause-undone : goal.returns-in-Err-check-clause-undone
+returns-in-Err-check-clause-undone c = undone_agrees c.args.command _ _ _ _ c.requires.one c.requires.closed c.in_default.ensures.made c.undo.ensures.step

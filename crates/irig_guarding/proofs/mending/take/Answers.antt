@@ -1,17 +1,37 @@
-use Rattle.std.proofs.Common.{List, ℕ, subst, sym}
-use Rattle.irig_lines.specs.declared.command.Command.TheVariants as command
-use Rattle.irig_guarding.specs.Repair.{Asks, ObeyedAll}
-use Rattle.irig_guarding.proofs.GuardLemmas.{ends_of, group_obeyed, texts_of_ends}
+use Rattle.std.proofs.Common.{◌≡◌, ◌∙◌, List, ℕ, true, false, subst, sym}
+use Rattle.std.specs.Prelude.{IfErr, OnOk}
+use Rattle.irig_guarding.specs.{Repair.ObeyedAll, Trials.Drops, Trials.MayBeKept}
+use Rattle.irig_guarding.proofs.{DropLemmas.group_no_repair, GuardLemmas.ends_of, GuardLemmas.group_obeyed, GuardLemmas.on_ok, GuardLemmas.texts_of_ends}
 use Rattle.irig_guarding.proofs.mending.take.Goals as goal
 
-pub returns-then-ends-clause-made : goal.returns-then-ends-clause-made
-returns-then-ends-clause-made c = λ t.
+pub returns-then-not-begins-clause-drops : goal.returns-then-not-begins-clause-drops
+returns-then-not-begins-clause-drops c = λ other.
     let xs = c.args.repair.now in
     let cut = ends_of xs c.first-item.result c.last-item.result c.in-len2-up.len_at_least c.first-item.is c.last-item.is in
     let all = texts_of_ends xs _ c.first-item.result c.last-item.result cut in
-    let first : Asks command.Begin c.first-item.result.bytes.items =
-    subst (λ (l : List ℕ). Asks command.Begin l) c.as_slice-in-len2-up.ensures.value (c.begins.ensures c.if-begins.true) in
-    let last : Asks command.End c.last-item.result.bytes.items =
-    subst (λ (l : List ℕ). Asks command.End l) c.as_slice-then-begins.ensures.value (c.ends.ensures c.if-ends.true) in
-    subst (λ (l : List (List ℕ)). ObeyedAll c.args.session.now l c.mend_group.new.session) (sym all)
-    (group_obeyed _ _ _ _ _ first last (c.mend_group.ensures.made t))
+    subst (λ (l : List (List ℕ)). MayBeKept l → ⊥) (sym all) (group_no_repair _ _ _
+    (λ begins _ _. let bad : true ≡ false = sym (c.begins.ensures.1 begins) ∙ c.if-not-begins.true in cc))
+
+pub returns-then-not-ends-clause-drops : goal.returns-then-not-ends-clause-drops
+returns-then-not-ends-clause-drops c = λ other.
+    let xs = c.args.repair.now in
+    let cut = ends_of xs c.first-item.result c.last-item.result c.in-len2-up.len_at_least c.first-item.is c.last-item.is in
+    let all = texts_of_ends xs _ c.first-item.result c.last-item.result cut in
+    subst (λ (l : List (List ℕ)). MayBeKept l → ⊥) (sym all) (group_no_repair _ _ _
+    (λ _ ends _. let bad : true ≡ false = sym (c.ends.ensures.1 ends) ∙ c.if-not-ends.true in cc))
+
+pub returns-else-not-ends-clause-made : goal.returns-else-not-ends-clause-made
+returns-else-not-ends-clause-made c =
+    let xs = c.args.repair.now in
+    let cut = ends_of xs c.first-item.result c.last-item.result c.in-len2-up.len_at_least c.first-item.is c.last-item.is in
+    let all = texts_of_ends xs _ c.first-item.result c.last-item.result cut in
+    subst (λ (l : List (List ℕ)). OnOk c.mend_group.result (ObeyedAll c.args.session.now l c.mend_group.new.session)) (sym all)
+    (on_ok c.mend_group.result c.mend_group.ensures.made (λ g. group_obeyed _ _ _ _ _ (c.begins.ensures.0 c.if-not-begins.false) (c.ends.ensures.0 c.if-not-ends.false) g))
+
+pub returns-else-not-ends-clause-drops : goal.returns-else-not-ends-clause-drops
+returns-else-not-ends-clause-drops c = λ other.
+    let xs = c.args.repair.now in
+    let cut = ends_of xs c.first-item.result c.last-item.result c.in-len2-up.len_at_least c.first-item.is c.last-item.is in
+    let all = texts_of_ends xs _ c.first-item.result c.last-item.result cut in
+    subst (λ (l : List (List ℕ)). IfErr c.mend_group.result (Drops c.args.opened.now c.args.before.now c.args.session.now l)) (sym all)
+    (c.mend_group.ensures.drops _ _ (c.begins.ensures.0 c.if-not-begins.false) (c.ends.ensures.0 c.if-not-ends.false))

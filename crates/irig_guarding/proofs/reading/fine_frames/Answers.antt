@@ -1,8 +1,6 @@
 use Rattle.std.proofs.Common.{◌≡◌, ◌+◌, ◌-◌, ◌++◌, ◌∷◌, [], get_or, slice_get, take, arith, sym, ap, ◌∙◌}
 use Rattle.std.specs.List.{flat_map}
-use Rattle.std.proofs.lemmas.List.{append-nil, take_more}
-use Rattle.std.proofs.lemmas.Grind.{flat_map-append}
-use Rattle.std.proofs.lemmas.Option.{slice_get-get_or}
+use Rattle.std.proofs.lemmas.{List.append-nil, List.take_more, Grind.flat_map-append, Option.slice_get-get_or}
 use Rattle.irig_edit.specs.State.State.{frames_of}
 use Rattle.irig_script.proofs.PrintLemmas.FrameLines.{no_record}
 use Rattle.irig_guarding.specs.Reading.{shown_by}

@@ -1,4 +1,5 @@
-use Rattle.std.proofs.Common.{rules, refl}
+use Rattle.std.proofs.Common.{ℕ, List, rules, refl, subst}
+use Rattle.irig_guarding.specs.Trials.{IsTried}
 use Rattle.irig_guarding.proofs.GuardLemmas.{read_whole}
 use Rattle.irig_guarding.proofs.run.guard_session.Goals as goal
 
@@ -9,7 +10,9 @@ returns-in_default-put_all-clause-ends g c = (
     whole = read_whole (g.R.Read.remaining c.args.script.now) c.new-bytes.result.items c.read_to_end.new.buf.items c.new-bytes.ensures.items c.in-Ok.ensures.bytes;
     printed = c.in-Ok-guard.printed.items;
     last = c.guard.new.session;
-    guarded = c.in-Ok-guard.ensures;
+    guarded = c.in-Ok-guard.ensures.guarded;
+    status = c.in-Ok-guard.status;
+    tried = subst (λ (l : List ℕ). IsTried c.args.session.now l c.in-Ok-guard.printed.items c.in-Ok-guard.status c.guard.new.session) c.as_slice.ensures.value c.in-Ok-guard.ensures.tried;
   },
   search rules,
   refl,
@@ -22,8 +25,11 @@ returns-in-Ok-write_product-clause-ends g c = (
     whole = read_whole (g.R.Read.remaining c.args.script.now) c.new-bytes.result.items c.read_to_end.new.buf.items c.new-bytes.ensures.items c.in-Ok.ensures.bytes;
     printed = c.in-Ok-guard.printed.items;
     last = c.guard.new.session;
-    guarded = c.in-Ok-guard.ensures;
+    guarded = c.in-Ok-guard.ensures.guarded;
+    status = c.in-Ok-guard.status;
+    tried = subst (λ (l : List ℕ). IsTried c.args.session.now l c.in-Ok-guard.printed.items c.in-Ok-guard.status c.guard.new.session) c.as_slice.ensures.value c.in-Ok-guard.ensures.tried;
   },
+  refl,
   search rules,
   search rules,
 )
@@ -35,7 +41,9 @@ returns-clause-ends g c = (
     whole = read_whole (g.R.Read.remaining c.args.script.now) c.new-bytes.result.items c.read_to_end.new.buf.items c.new-bytes.ensures.items c.in-Ok.ensures.bytes;
     printed = c.in-Ok-guard.printed.items;
     last = c.guard.new.session;
-    guarded = c.in-Ok-guard.ensures;
+    guarded = c.in-Ok-guard.ensures.guarded;
+    status = c.in-Ok-guard.status;
+    tried = subst (λ (l : List ℕ). IsTried c.args.session.now l c.in-Ok-guard.printed.items c.in-Ok-guard.status c.guard.new.session) c.as_slice.ensures.value c.in-Ok-guard.ensures.tried;
   },
   search rules,
   search rules,

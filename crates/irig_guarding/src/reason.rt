@@ -1,0 +1,16 @@
+//! Why a repair is not kept.
+
+use irig_edit::Refusal;
+
+/// Why a repair is not kept.
+#[derive(Clone, Copy, PartialEq, Eq)]
+pub enum Reason {
+    /// It is no edit, and no group of edits.
+    NoRepair,
+    /// The editor refuses a line of it.
+    Refused(Refusal),
+    /// Memory ran out for the frames that it leads to.
+    OutOfMemory,
+    /// The frames that it leads to would not be safe.
+    NotSafe,
+}
