@@ -131,8 +131,12 @@ def step_is_seen(rng):
     share = rng.choice((0, 0, 0.002, 0.01))
     if share:
         damages.jitter(rng, pulses, interval, share)
-    least = max(2, 2.93 * share * interval)  # half of the distances are off by more than 0.586 of the jitter
-    by = round(least * rng.choice((0.3, 0.4, 1.4, 2, 5, 20))) * rng.choice((-1, 1))
+    # half of the distances are off by more than 0.586 of the jitter; the limit is five times that, from whole microseconds
+    exactly, rounded = 2.93 * share * interval, 5 * round(0.586 * share * interval)
+    least, most = max(2, min(exactly, rounded)), max(2, exactly, rounded)
+    # a step of a whole interval is an element that is missing, or there twice
+    large = (min(size * most, 0.45 * interval) for size in (1.4, 2, 5, 20))
+    by = round(rng.choice((0.3 * least, 0.4 * least, *large))) * rng.choice((-1, 1))
     at = rng.randrange(120, len(pulses) - 120)
     for pulse in pulses[at:]:
         pulse[0], pulse[1] = pulse[0] + by, pulse[1] + by
@@ -141,7 +145,7 @@ def step_is_seen(rng):
     if abs(by) < least:
         return not seen
     way = "late" if by > 0 else "early"
-    return len(seen) == 1 and seen[0][1] == way and abs(int(seen[0][0]) - abs(by)) <= least
+    return len(seen) == 1 and seen[0][1] == way and abs(int(seen[0][0]) - abs(by)) <= most
 
 
 def _damage(recording, pulses, length):
@@ -149,7 +153,7 @@ def _damage(recording, pulses, length):
     with tempfile.NamedTemporaryFile("w", suffix=".vcd") as file:
         file.write(damages.dump(pulses, length))
         file.flush()
-        return damage.find(editor.Editor([*recording.options(), file.name]), lambda text: None)
+        return damage.look(editor.Editor([*recording.options(), file.name]), lambda text: None).damages
 
 
 def silence_is_sound(rng):

@@ -175,7 +175,7 @@ def lines_of(pulses, length):
     with tempfile.TemporaryDirectory() as folder:
         path = written(folder, pulses, length)
         return [
-            each.line() for each in damage.find(editor.Editor(["--expression", "4", path]), lambda text: None)
+            each.line() for each in damage.look(editor.Editor(["--expression", "4", path]), lambda text: None).damages
         ]
 
 
@@ -474,7 +474,7 @@ def no_line_refused(top):
         with tempfile.TemporaryDirectory() as folder:
             path = written(folder, pulses, 400 * interval)
             opened = editor.Editor(["--format", kind, path])
-            damage.find(opened, lambda text: None)
+            damage.look(opened, lambda text: None).damages
             script = mend.propose(opened, lambda text: None)
             refused = opened.ask([repair.lines() for repair in script]).refused
         yield same("hostile track %d" % number, refused, set())

@@ -457,14 +457,39 @@ def no_sound():
     for data, status, text in (
             (b"fLaC\0\0", 2, "'flac -dc FILE | irig_demodulate -' reads it"), (b"OggS", 2, "'sox FILE -t wav - |"),
             (b"\x25\xeb\0\1", 2, "IRIG 106 Chapter 10"), (b"$date now $end", 2, "'irig_what FILE' finds"),
-            (b"hello", 2, "--raw reads samples without a head"), (riff(b"abcd", 2), 2, "in the form 2; 'sox FILE"),
-            (riff(b"abcd", rate=0), 2, "has 1 channels and 0 samples in a second"), (riff(b"")[:40], 2, "has no samples"),
-            (riff(b"", channels=0, size=0), 2, "has 0 channels"), (riff(b"abcdefg", said=9), 1, "the file is cut off"),
+            (b"hello", 2, "--raw reads samples without a head, --table a table"), (riff(b"abcd", 2), 2, "in the form 2; 'sox FILE"),
+            (riff(b"abcd", rate=0), 2, "says that it has 1 channel and 0 samples in a second; --raw"),
+            (riff(b"")[:40], 2, "has no samples: its chunk of data is missing"),
+            (riff(b"").replace(b"\x10\0\0\0", b"\4\0\0\0"), 2, "does not say how its samples are written"),
+            (riff(b"", channels=0, size=0), 2, "says that it has 0 channels"), (riff(b"abcdefg", said=9), 1, "the file is cut off"),
             (riff(struct.pack("<4f", 1, 2, math.nan, 3), 3, 4), 2, "is no number from -1e30 to 1e30"),
             (riff(struct.pack("<2d", 1e300, -1e300), 3, 8), 2, "is no number from -1e30 to 1e30")):
         got, _, said = run("irig_demodulate", ["-"], data)
         results.append(got == status and text in said and said.startswith("irig_demodulate: "))
         results[-1] or print("FAILED irig_demodulate of %r: %d %s" % (data[:12], got, said))
+    return results
+
+
+def said_of():
+    """What is said to do next: of options that do not fit, of several channels, and if no pulse is found."""
+    silent, two = wav(array("h", [0] * 8000), 8000), wav(array("h", [0] * 16000), 8000, 2, 2)
+    results = []
+    for words, data, status, text in (
+            (["--level", "--carrier=1000"], silent, 2, "--level and --carrier exclude each other"),
+            (["--threshold=0"], silent, 2, "--threshold needs --level"),
+            (["--rate=8000"], silent, 2, "--rate needs --raw or --table"),
+            (["--raw=s16", "--rate=8000", "--channel=2"], b"", 2, "--channel is for sound files"),
+            (["--format=G"], silent, 2, "--format G is read as a level, with --level"),
+            (["--channel=3"], two, 2, "has 2 channels, and no channel 3"),
+            ([], two, 1, "channel 1 of 2 was read (--channel N reads another)"),
+            (["--channel=2"], two, 1, "channel 2 of 2 was read"), ([], silent, 1, "use --level"),
+            (["--level"], silent, 1, "if the code is on a carrier, leave out --level; low and high have to be further apart"),
+            (["--table"], b"Time [s],A\n0,0\n1,0\n", 1, "the column has no 1; --column names another"),
+            (["--format=A"], silent, 2, "too few for a carrier of 10000 Hz: it needs at least 40000"),
+            (["--raw=s16", "--rate=9000000"], b"", 2, "'sox FILE -r 48000 NEW.wav' makes fewer")):
+        got, _, said = run("irig_demodulate", [*words, "-"], data)
+        results.append((got, text in said) == (status, True))
+        results[-1] or print("FAILED irig_demodulate %s: %d %s" % (words, got, said))
     return results
 
 
@@ -498,4 +523,4 @@ def cases(_):
         ("ratios", ratios), ("silence of a carrier", no_carrier), ("shares", shares),
         ("a clock that is off", slope), ("few pulses", few), ("a level that dips", hysteresis),
         ("forms of samples", forms), ("silence of a level", silences), ("stretches of a level", stretches),
-        ("sound files", sound_files), ("no sound files", no_sound), ("what is refused", refused))]
+        ("sound files", sound_files), ("no sound files", no_sound), ("what is said", said_of), ("what is refused", refused))]

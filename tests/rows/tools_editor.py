@@ -22,7 +22,7 @@ def other_release(top):
             for tool in ("irig_damage", "irig_mend", "irig_what"):
                 status, printed, said = shell(top, folder, tool + " rec.vcd", IRIG_ED=path)
                 good = (status, printed, said.count("\n")) == (2, "", 1)
-                good = good and "answers '%s', as this release does not" % answer in said
+                good = good and "%s is of another release: it answers '%s'" % (path, answer) in said
                 good or print("FAILED %s and an editor that says %s: %d %s" % (tool, answer, status, said))
                 yield good
 
@@ -55,7 +55,7 @@ def complaints(top):
         filled(folder)
         with open(os.path.join(folder, "junk"), "w", encoding="ascii") as file:
             file.write("hello world")
-        text = "%s: is no dump: no declaration is found"
+        text = "%s: is no dump: no declaration is found; samples and tables are for irig_demodulate"
         for tool in ("irig_damage", "irig_mend"):
             for words, name in (("junk", "junk"), ("- < junk", "standard input"), ("/dev/stdin < junk", "/dev/stdin"),
                                 ("/dev/fd/5 5< junk", "/dev/fd/5")):
@@ -111,7 +111,8 @@ def silent(top):
             file.writelines("0c%d\n" % number for number in range(40000))
             file.write("#1000000\n")
         ended = shell(top, folder, "ulimit -v 110000; irig_what silent.vcd")
-        good = ended == (1, "no wire of 40000 carries time code of format A, B, E or G\n", "")
+        good = ended == (1, "no wire of 40000 carries time code of format A, B, E or G; the unit of time is 1us "
+                         "(--timescale UNIT takes another)\n", "")
         good or print("FAILED 40,000 silent wires: %s" % (ended,))
         yield good
 

@@ -6,7 +6,7 @@ import tempfile
 
 from cases import case
 from rows.tools_carrier import wav
-from rows.tools_what import B, dump
+from rows.tools_what import B, SCOPES, bus, dump
 
 DAMAGED = (B[0][:60] + B[0][62:], B[1])  # one pulse is missing
 
@@ -75,35 +75,60 @@ def refused(top):
         yield good
 
 
-# name of the file, its text, options, how the last line begins, frames that are fine after it
+# name of the file, its text, how the last line begins
 PROPOSED = (
-    ("one.vcd", dump(*B), "", "irig_ed --format B --expression 2 --out new.vcd one.vcd"),
-    ("new.vcd", dump(*B), "", "irig_ed --format B --expression 2 --out new-2.vcd new.vcd"),
-    ("one.vcd", dump(*B, upside=True), "", "irig_wire --invert one.vcd > one-2.vcd && irig_ed --format B"),
-    ("one.vcd", dump(*B, unit="", scale=1000), "", "irig_wire --timescale=1ns one.vcd > one-2.vcd && irig_ed "),
-    ("one.vcd", dump(*B) + dump(*B), "", "irig_wire --dump=1 one.vcd > one-2.vcd && irig_ed "),
-    ("one.vcd", dump(*DAMAGED), "", "irig_mend --format B --expression 2 one.vcd > repair.ed"),
-    ("repair.ed", dump(*DAMAGED), "", "irig_mend --format B --expression 2 repair.ed > repair-2.ed"),
-    ("one.vcd", dump(*DAMAGED, upside=True), "", "irig_wire --invert one.vcd > one-2.vcd && irig_mend --format B"),
+    ("one.vcd", dump(*B), "irig_ed --format B --expression 2 --out new.vcd one.vcd"),
+    ("new.vcd", dump(*B), "irig_ed --format B --expression 2 --out new-2.vcd new.vcd"),
+    ("one.vcd", dump(*B, upside=True), "irig_wire --invert one.vcd > one-2.vcd && irig_ed --format B"),
+    ("one.vcd", dump(*B, unit="", scale=1000), "irig_wire --timescale=1ns one.vcd > one-2.vcd && irig_ed "),
+    ("one.vcd", dump(*B) + dump(*B), "irig_wire --dump=1 one.vcd > one-2.vcd && irig_ed "),
 )
+MEND = "--format B --expression 2 --apply "
+# the same for damaged recordings: the file that is written has no damage
+MENDED = (
+    ("one.vcd", dump(*DAMAGED), "irig_mend " + MEND + "new.vcd one.vcd"),
+    ("new.vcd", dump(*DAMAGED), "irig_mend " + MEND + "new-2.vcd new.vcd"),
+    ("one.vcd", dump(*DAMAGED, upside=True), "irig_wire --invert one.vcd > one-2.vcd && irig_mend " + MEND + "new.vcd one-2.vcd"),
+    ("one.vcd", dump(*DAMAGED, unit="", scale=1000), "irig_mend --timescale=1ns " + MEND + "new.vcd one.vcd"),
+    ("one.vcd", dump(*DAMAGED) + dump(*B), "irig_mend --dump=1 " + MEND + "new.vcd one.vcd"),
+    ("one.vcd", dump(*DAMAGED, declared=SCOPES).replace("#0 0!", "#0 0! Uc"), "irig_mend --wire=irig " + MEND + "new.vcd one.vcd"),
+    ("one.vcd", bus(DAMAGED[0]), "irig_mend --wire='bus[2]' " + MEND + "new.vcd one.vcd"),
+)
+
+
+def continued(top, name, text):
+    """What irig_what prints of a file, how its last line ends, and whether the files that were there are as they were;
+    and the status of irig_damage for the new file, if there is one."""
+    with tempfile.TemporaryDirectory() as folder:
+        filled(folder)
+        with open(os.path.join(folder, name), "w", encoding="ascii") as file:
+            file.write(text)
+        before = contents(folder)
+        lines = shell(top, folder, "irig_what " + name)[1].splitlines()
+        status, printed, _ = shell(top, folder, lines[-1])
+        new = sorted(path for path in contents(folder) if path not in before and path.startswith("new"))
+        sound = [shell(top, folder, "irig_damage --expression 2 " + path)[0] for path in new]
+        return lines, status, printed, {path: contents(folder).get(path) for path in before} == before, sound
 
 
 def proposed(top):
     """The last line of irig_what leaves each file that is there, and leads to a track that can be edited."""
-    for name, text, words, begin in PROPOSED:
-        with tempfile.TemporaryDirectory() as folder:
-            filled(folder)
-            with open(os.path.join(folder, name), "w", encoding="ascii") as file:
-                file.write(text)
-            before = contents(folder)
-            lines = shell(top, folder, "irig_what %s %s" % (words, name))[1].splitlines()
-            edits = "(cat repair" in lines[-2] and lines[-2].partition("then: ")[2]
-            ended = [shell(top, folder, lines[-1])[0] < 2, not edits or shell(top, folder, edits)[0] == 0]
-            after = contents(folder)
-        good = lines[-1].startswith(begin) and all(ended)
-        good = good and {name: after.get(name) for name in before} == before
-        good = good and (not edits or "new.vcd" in after)
-        good or print("FAILED irig_what %s: %s %s" % (name, lines[-2:], ended))
+    for name, text, begin in PROPOSED:
+        lines, status, _, is_left, _ = continued(top, name, text)
+        good = lines[-1].startswith(begin) and status < 2 and is_left and not any("damaged" in line for line in lines)
+        good or print("FAILED irig_what %s: %s %s" % (name, lines[-2:], status))
+        yield good
+
+
+def mended(top):
+    """For a damaged recording it is one command, which writes the repaired one as a new file; the line before says so."""
+    for name, text, command in MENDED:
+        lines, status, printed, is_left, sound = continued(top, name, text)
+        good = lines[-1] == command and (status, is_left, sound) == (0, True, [0]) and "1 place found, 1 repaired" in printed
+        new = command.split("--apply ")[1].split()[0]
+        told = "damaged: irig_mend has 1 repair; the next line writes the repaired recording as %s (without --apply" % new
+        good = good and lines[-2].startswith(told) and ("--into one.vcd" in lines[-2]) == ("--wire" in command)
+        good or print("FAILED irig_what %s: %s %s %s" % (name, lines[-2:], status, printed))
         yield good
 
 
@@ -114,7 +139,7 @@ def whole(top):
         os.mkdir(os.path.join(folder, "dir"))
         before = contents(folder)
         for command, text in (("irig_damage --page dir rec.vcd", "irig_damage: %s/dir: Is a directory\n" % folder),
-                              ("irig_damage --page none/a rec.vcd", "No such file or directory\n"),
+                              ("irig_damage --page none/a rec.vcd", "irig_damage: none/a: No such file or directory\n"),
                               ("irig_damage --page /dev/full rec.vcd", "irig_damage: No space left on device\n")):
             status, printed, said = shell(top, folder, command)
             good = (status, printed) == (2, "") and said.endswith(text) and contents(folder) == before
@@ -135,4 +160,5 @@ def whole(top):
 def cases(top):
     """Each part by its name."""
     return [case("outputs: refused", refused, top), case("outputs: proposed commands", proposed, top),
+            case("outputs: proposed repairs", mended, top),
             case("outputs: whole files", whole, top)]

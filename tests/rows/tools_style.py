@@ -21,8 +21,8 @@ def commands(top):
     """Each checker with its command."""
     programs = sorted(path for path in glob.glob(os.path.join(top, "tools", "irig_*")) if os.path.isfile(path))
     return (
-        ("flake8", ["flake8", "tools", "tests", *TESTS, *programs]),
-        ("mypy", ["mypy", "--strict", "--cache-dir=/dev/null", "tools/irig_tools"]),
+        ("flake8", ["flake8", "build", "tools", "tests", *TESTS, *programs]),
+        ("mypy", ["mypy", "--strict", "--cache-dir=/dev/null", "build", "tools/irig_tools"]),
         ("mypy", ["mypy", "--strict", "--cache-dir=/dev/null", *TYPED_TESTS]),
         ("shellcheck", ["shellcheck", "-s", "bash", *SHELL]),
     )

@@ -113,8 +113,8 @@ def refused():
             ([], head + "0,0\n1,x\n", "line 3 has no number in column 2"), ([], head + "0,0\n1\n", "line 3 has no number in column 2"),
             ([], head + "0,0\n2,1\n1,0\n", "line 4 has a time before that of the last row"),
             ([], head + "0,0\n" * 20000 + "1,2\n", "line 20002 has no level of 0 or 1"),
-            ([], head + "0,0.5\n1,1\n5,2\n6,2\n", "the times of its volts are not even, first in row 3"),
-            ([], head + "0,5\n", "its times show no rate"), ([], head + "0,nan\n", "no row of numbers"),
+            ([], head + "0,0.5\n1,1\n5,2\n6,2\n", "its samples do not come at even times, first in row 3; with --rate"),
+            ([], head + "0,5\n", "all the same, so they show no rate"), ([], head + "0,nan\n", "no row of numbers"),
             ([], "5" * 20000, "is too long"), (["--raw=text"], head, "--table has no --raw")):
         status, _, shown = run("irig_demodulate", ["--table", *words, "-"], text.encode())
         results.append(status == 2 and said in shown)

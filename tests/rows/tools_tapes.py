@@ -74,6 +74,18 @@ def shown(kind, number):
     return "12:34:%02d" % second + (".%02d" % (10 * number % 100) if kind == "A" else "")
 
 
+def distances(made, found):
+    """How far each true rise is from the nearest of those that were found, in cycles of the carrier."""
+    for time, speed in made.rises:
+        at = bisect_left(found, time)
+        yield min((abs(other - time) for other in found[max(0, at - 1):at + 1]), default=1e9) * made.hertz * speed / 1e6
+
+
+def allowed(made):
+    """How far a rise that is near can be: a dump has whole microseconds."""
+    return NEAR + made.hertz / 2e6
+
+
 def measured(make, decibels, name, seed):
     """Counts of one signal: frames, those that are right, rises, those that are near, and pulses that are none."""
     rng = random.Random("%s, %d dB, %d" % (name, decibels, seed))
@@ -84,11 +96,9 @@ def measured(make, decibels, name, seed):
     _, dump, said = run("irig_demodulate", words, wav(made.values, rate))
     found, counted = rises_of(dump), Counter(signals=1)
     counts, steady = whole_rises(tape, made)
-    for (time, speed), wanted in zip(made.rises, counts):
-        at = bisect_left(found, time)
-        error = min((abs(other - time) for other in found[max(0, at - 1):at + 1]), default=1e9) * made.hertz * speed / 1e6
+    for distance, wanted in zip(distances(made, found), counts):
         counted["rises"] += wanted
-        counted["near"] += wanted and error <= NEAR + made.hertz / 2e6  # a dump has whole microseconds
+        counted["near"] += wanted and distance <= allowed(made)
     listed = frames_of(dump, kind)
     for number in range(frames):
         if all(steady[100 * number:100 * number + 101]) and len(steady) > 100 * number + 100:
@@ -119,6 +129,24 @@ def holds(name, make, decibels, signals, share):
     return good
 
 
+def soon(kind, rate, start):
+    """Whether each rise is near although a tape comes to its speed that fast, almost without noise."""
+    tape = tapes.Tape(0.02, start=start, silence=0.1)
+    made = tapes.recorded(tape, kind, 2, rate, 40, random.Random(1))
+    _, dump, _ = run("irig_demodulate", ["--format=" + kind, "--no-swap", "-"], wav(made.values, rate))
+    counts, _ = whole_rises(tape, made)
+    far = [distance for distance, wanted in zip(distances(made, rises_of(dump)), counts) if wanted and distance > allowed(made)]
+    far and print("FAILED irig_demodulate, a tape that starts within %.2f seconds: %s" % (start, far))
+    return not far and any(counts)
+
+
+def slowly(seed):
+    """Whether no pulse is found while a tape is slower than six tenths of its speed."""
+    made = tapes.recorded(tapes.Tape(start=1.0, silence=0.05), "B", 1, 8000, 20, random.Random(seed))
+    _, dump, _ = run("irig_demodulate", ["--no-swap", "-"], wav(made.values[:4800], made.rate))
+    return not rises_of(dump)
+
+
 def whole():
     """Prints the rates on large samples, as docs/WAY_IN.md has them."""
     for name, make, decibels, _, signals, _ in KINDS:
@@ -128,5 +156,7 @@ def whole():
 
 
 def cases(_):
-    return [case("tape: %s, %d dB" % (name, decibels), holds, name, make, decibels, signals, share)
-            for name, make, decibels, signals, _, share in KINDS]
+    random_tapes = [case("tape: %s, %d dB" % (name, decibels), holds, name, make, decibels, signals, share)
+                    for name, make, decibels, signals, _, share in KINDS]
+    quick = [case("tape: at its speed in %.2f seconds" % start, soon, "A", 48000, start) for start in (0.12, 0.14, 0.16, 0.2)]
+    return random_tapes + quick + [case("tape: slower than six tenths, %d" % seed, slowly, seed) for seed in (9, 24, 31)]

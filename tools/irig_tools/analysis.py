@@ -15,15 +15,19 @@ from .layout import Layout
 from .remarks import remarks
 from .script import Repair
 from .slots import link, parts, sure_parts
-from .steps import Step, apart, cut, step_zones, stretches, turned
+from .steps import Step, apart, cut_by_a_step, step_zones, turned
 from .threshold import level
 from .track import Track
+from .units import Microseconds, number_of
+
+START = Microseconds(0)
+OTHER_WIRE = "is it another wire?"
+OTHER_FORMAT = "is it another format, or another wire?"
 
 
 @dataclass
 class Part:
-    """A part of the recording whose runs are linked. If `copies` is not empty they go first, and `faults`
-    comes after."""
+    """A part of the recording whose runs are linked. If `copies` is not empty they go first, and `faults` comes after."""
 
     track: Track
     times: Times
@@ -43,6 +47,9 @@ class Findings:
     parts: List[Part] = field(default_factory=list)  # from the last to the first
     remarks: List[Remark] = field(default_factory=list)
 
+    def remark(self, at: Microseconds, seen: str, choice: str) -> None:
+        self.remarks.append(Remark(at, seen, choice))
+
 
 def looks(obeyed: Callable[[], Listing], progress: Progress, script: Sequence[Repair], steady: bool = False,
           move: bool = False) -> Iterator[Tuple[Listing, Findings]]:
@@ -58,104 +65,82 @@ def looks(obeyed: Callable[[], Listing], progress: Progress, script: Sequence[Re
 
 
 def examine(listing: Listing, steady: bool = False, move: bool = False) -> Findings:
-    """What is found; if `move`, a rest that comes late is to be moved, and else both sides of a step are parts
-    of their own."""
-    layout = Layout(listing.kind, listing.expression)
-    layout.steady = steady
-    findings = Findings(layout)
-    if len(listing.rises) < limits.SURE_RUN:
-        findings.remarks.append(
-            Remark(0, "%d pulses are too few to make a frame" % len(listing.rises), "is it another wire?")
-        )
-        return findings
-    upright, turned = share_in_step(listing.rises, layout.interval), share_in_step(
-        listing.falls, layout.interval
-    )
-    if turned > limits.UPSIDE_DOWN and turned > upright + limits.MORE_THAN_UPRIGHT:
+    """What is found; if `move`, a rest that comes late is to be moved, and else both sides of a step are parts of their
+    own."""
+    findings = Findings(Layout(listing.kind, listing.expression, steady))
+    interval, many = findings.layout.interval, len(listing.rises)
+    upright, turned_share = (share_in_step(times, interval) for times in (listing.rises, listing.falls))
+    if many < limits.SURE_RUN:
+        findings.remark(START, "%d pulses are too few to make a frame" % many, OTHER_WIRE)
+    elif turned_share > max(limits.UPSIDE_DOWN, upright + limits.MORE_THAN_UPRIGHT):
         why = "the falls come at one distance, the rises do not: the wire is upside down"
-        findings.turned, findings.whole = True, [repair_of(0, [why], [Edit("invert", (0, listing.length))])]
+        findings.turned, findings.whole = True, [repair_of(START, [why], [Edit("invert", (0, listing.length))])]
     elif upright < limits.FIT:
-        findings.remarks.append(
-            Remark(
-                0,
-                "most pulses do not follow each other by %d" % layout.interval,
-                "is it another format, or another wire?",
-            )
-        )
+        findings.remark(START, "most pulses do not follow each other by %d" % interval, OTHER_FORMAT)
     else:
-        findings.whole = level(listing, layout)
+        findings.whole = level(listing, findings.layout)
         if not findings.whole:
-            _examine_parts(listing, findings, move)
+            _examine_parts(Clock(listing, interval), findings, move)
     return findings
 
 
-def _examine_parts(listing: Listing, findings: Findings, move: bool) -> None:
-    clock = findings.clock = Clock(listing, findings.layout.interval)
-    found = parts(clock, listing.classes)
+def _examine_parts(clock: Clock, findings: Findings, move: bool) -> None:
+    findings.clock = clock
+    found = parts(clock)
     for runs in reversed(found):
-        cost, linked = link(clock, runs, listing.classes, findings.layout.unused)
+        cost, linked = link(clock, runs, findings.layout.unused)
         if cost > limits.FAULTS_AT_LEAST + limits.FAULTS_A_PULSE * sum(run.count for run in runs):
-            at = listing.rises[runs[0].first]
-            seen = "from pulse %d on the position identifiers are not ten apart" % (runs[0].first + 1)
-            findings.remarks.append(Remark(at, seen, "is it another format, or another wire?"))
+            seen = "from pulse %d on the position identifiers are not ten apart" % number_of(runs[0].first)
+            findings.remark(clock.rises[runs[0].first], seen, OTHER_FORMAT)
         else:
             for part in reversed(sure_parts(linked)):
-                look = _moved if move else _kept
-                findings.parts += look(listing, findings.layout, clock, part)
-            findings.remarks += [_of_unsure(listing, run) for run in linked if run.others]
+                track = Track(findings.layout, clock, part)
+                findings.parts += _moved(track) if move else _kept(track)
+            for run in linked:
+                if run.others:
+                    _remark_unsure(findings, clock, run)
     for before, after in zip(found, found[1:]):
         elements = round((after[0].begin - before[-1].end) / clock.interval) - 1
-        findings.remarks.append(
-            Remark(
-                listing.rises[before[-1].last],
-                "after that %d elements cannot be read" % elements,
-                "that is too much to repair",
-            )
-        )
+        seen = "after that %d elements cannot be read" % elements
+        findings.remark(clock.rises[before[-1].last], seen, "that is too much to repair")
     if not found:
-        findings.remarks.append(Remark(0, "no pulses follow each other in step", "is it another wire?"))
+        findings.remark(START, "no pulses follow each other in step", OTHER_WIRE)
 
 
-def _of_unsure(listing: Listing, run: Run) -> Remark:
-    """A run that is left alone, since nothing decides its place."""
-    elements = sorted({run.place % 100, *run.others})
-    seen = "pulses %d to %d may begin with element %s, and nothing decides which" % (
-        run.first + 1,
-        run.last + 1,
-        " or ".join(map(str, elements)),
-    )
+def _remark_unsure(findings: Findings, clock: Clock, run: Run) -> None:
+    """A run is left alone, since nothing decides its place."""
+    elements = " or ".join(map(str, sorted({run.place % 100, *run.others})))
+    ends = number_of(run.first), number_of(run.last)
+    seen = "pulses %d to %d may begin with element %s, and nothing decides which" % (*ends, elements)
     choice = "they are left, and what comes before and after them is mended for itself"
-    return Remark(listing.rises[run.first], seen, choice)
+    findings.remark(clock.rises[run.first], seen, choice)
 
 
-def _moved(listing: Listing, layout: Layout, clock: Clock, runs: List[Run]) -> List[Part]:
+def _moved(track: Track) -> List[Part]:
     """The part if what comes late is to be moved."""
-    track = Track(listing, layout, clock, runs)
     times = Times(track)
     copies = take_out(track, times)
     if not copies:
         again = settled(track, times)
-        if again != runs:
-            track = Track(listing, layout, clock, again)
+        if again != track.runs:
+            track = Track(track.layout, track.clock, again)
             times = Times(track)
     return [Part(track, times, copies, Faults(track, times), remarks(track, times))]
 
 
-def _kept(listing: Listing, layout: Layout, clock: Clock, runs: List[Run]) -> List[Part]:
+def _kept(whole: Track) -> List[Part]:
     """The parts, from the last to the first, if all times are kept: what is between two steps is one."""
-    whole = Track(listing, layout, clock, runs)
-    times = Times(whole)
-    steps = step_zones(whole)
+    times, steps = Times(whole), step_zones(whole)
     if not steps:
         return [_part(whole, times)]
-    tracks = [Track(listing, layout, clock, own) for own in apart(whole, steps)]
-    parts, between = [_part(track, Times(track)) for track in tracks], stretches(whole, steps)
-    for zone, left, right, part in zip(steps, between, between[1:], parts[1:]):
+    tracks = [Track(whole.layout, whole.clock, runs) for runs in apart(whole, steps)]
+    found, between = [_part(track, Times(track)) for track in tracks], whole.parted_at(steps)
+    for zone, left, right, part in zip(steps, between, between[1:], found[1:]):
         part.remarks.append(Step(whole, times, zone, left, right).remark(part.faults))
-    return parts[::-1]
+    return found[::-1]
 
 
 def _part(track: Track, times: Times) -> Part:
     """Frames that a step cuts, or near which the times go on elsewhere, stay as they are."""
-    left = {*cut(track), *turned(times)}
+    left = {*cut_by_a_step(track), *turned(times)}
     return Part(track, times, [], Faults(track, times, left), remarks(track, times))

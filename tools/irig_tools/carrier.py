@@ -30,6 +30,9 @@ SOON, LATE = 50, 1000  # steps of the amplitude: the way can be chosen, and has 
 FEW = 20  # steps; fewer in a whole recording do not show the way
 SHARP = 0.75  # of the steps, in the right way
 GAP = 10  # elements without a carrier that are named
+USUAL = 48  # samples in a cycle: enough
+FEW_SAMPLES = "%d samples a second are too few for a carrier of %d Hz: it needs at least %d"
+MANY_SAMPLES = "%d samples a second are too many for a carrier of %d Hz; 'sox FILE -r %d NEW.wav' makes fewer of a WAV file"
 
 
 class Carrier:
@@ -41,11 +44,10 @@ class Carrier:
         self.samples, self.hertz = samples, hertz
         self.cycle = samples.rate / hertz  # in samples
         if self.cycle < FEWEST:
-            raise Problem("%d samples a second are too few for a carrier of %d Hz" % (samples.rate, hertz))
+            raise Problem(FEW_SAMPLES % (samples.rate, hertz, FEWEST * hertz))
         self.size = round(CYCLES * self.cycle)
         if self.size > MOST:
-            text = "%d samples a second are too many for a carrier of %d Hz; resample them, as sox does"
-            raise Problem(text % (samples.rate, hertz))
+            raise Problem(MANY_SAMPLES % (samples.rate, hertz, USUAL * hertz))
         half = max(3, round(HALF * math.sqrt(hertz / 1000)))
         self.tracker = Tracker(samples.rate, hertz, half)
         self.back = BACK * 2 * half + 2 * NEAR

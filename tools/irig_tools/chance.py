@@ -7,7 +7,7 @@ from .edit import of_pulse
 from .edits import Item
 from .faults import Faults
 from .layout import READABLE
-from .units import frame_of
+from .units import PlaceNumber, PulseIndex, frame_of, place_in
 from .zones import Zone
 
 
@@ -23,25 +23,22 @@ def misread(faults: Faults) -> List[Item]:
     return found
 
 
-def _markers(faults: Faults, zone: Zone) -> List[int]:
+def _markers(faults: Faults, zone: Zone) -> List[PulseIndex]:
     """The pulses of a run with which a frame begins that can be read, and that ends after the run."""
     left, right, classes = zone.left, zone.right, faults.track.classes
     if not (left and right and right.glued and right.first - left.last == zone.straight()):
         return []
-    return [
-        pulse
-        for pulse in range(max(left.first + 1, left.last - 98), left.last + 1)
-        if classes[pulse - 1] == "P" and READABLE.fullmatch(classes, pulse, pulse + 100)
-    ]
+    near = map(PulseIndex, range(max(left.first + 1, left.last - 98), left.last + 1))
+    return [pulse for pulse in near if classes[pulse - 1] == "P" and READABLE.fullmatch(classes, pulse, pulse + 100)]
 
 
-def _place(zone: Zone, pulse: int) -> int:
+def _place(zone: Zone, pulse: PulseIndex) -> PlaceNumber:
     """Its place if nothing were missing."""
     assert zone.left
-    return zone.left.place + pulse - zone.left.first
+    return PlaceNumber(zone.left.place + pulse - zone.left.first)
 
 
-def _other(faults: Faults, zone: Zone, marker: int) -> Optional[int]:
+def _other(faults: Faults, zone: Zone, marker: PulseIndex) -> Optional[PulseIndex]:
     """The first pulse, in a frame that shows a time, that is not of the time that its neighbours lead to."""
     text, number = faults.track.classes[marker:marker + 100], frame_of(_place(zone, marker))
     moment = faults.times.moment(number)
@@ -49,15 +46,15 @@ def _other(faults: Faults, zone: Zone, marker: int) -> Optional[int]:
         return None
     due = faults.layout.encode(faults.times.calendar.fields(moment))
     unlike = [each for each in faults.layout.carried if text[each] != due[each]]
-    if not unlike or any(100 * number + each in faults.wanted for each in unlike):  # is repaired first
+    if not unlike or any(place_in(number, each) in faults.wanted for each in unlike):  # is repaired first
         return None
-    return marker + unlike[0]
+    return PulseIndex(marker + unlike[0])
 
 
-def _broken(faults: Faults, place: int, marker: int, other: int) -> Item:
+def _broken(faults: Faults, place: PlaceNumber, marker: PulseIndex, other: PulseIndex) -> Item:
     why = (
-        "%s, pulse %d: elements are missing before it, and from pulse %d on all reads as a frame of another "
-        "time; pulse %d is deleted, so that no time is read there"
+        "%s, pulse %d: elements are missing before it, so from pulse %d on pieces of two frames read as one frame with a wrong "
+        "time; pulse %d is deleted, so that this frame is broken"
         % (faults.name(place), other + 1, marker + 1, other + 1)
     )
     return Item(place, place, [of_pulse("delete", other)], why)

@@ -9,12 +9,12 @@ from __future__ import annotations
 import re
 from bisect import bisect_left
 from dataclasses import dataclass
-from itertools import combinations, compress, count
+from itertools import combinations
 from typing import Dict, Iterator, List, NamedTuple, Optional, Sequence, Tuple
 
 from . import limits
 from .editor import Listing
-from .interval import distances
+from .interval import breaks, distances
 from .layout import Layout
 from .moments import DAY, Calendar
 from .script import Repair
@@ -37,7 +37,7 @@ class Moved:
     def __init__(self, script: Sequence[Repair] = ()) -> None:
         self.steps: List[Tuple[int, int, int]] = []  # from when on, by how much, and how long a part goes
         for repair in script:
-            self.steps += [(repair.at, by, repair.removed[2]) for by in repair.moves]
+            self.steps += [(repair.at, by, repair.removed) for by in repair.moves]
 
     def time(self, at: int) -> Optional[int]:
         """None if the script takes it out."""
@@ -61,23 +61,20 @@ class Frames:
 
     def __init__(self, listing: Listing, layout: Layout, moved: Moved) -> None:
         calendar, interval = Calendar(layout), layout.interval
-        apart = distances(listing.rises)
-        odd = {each for each in set(apart) if abs(each - interval) > limits.IN_STEP * interval}
-        breaks = list(compress(count(1), map(odd.__contains__, apart)))
+        broken_at = breaks(distances(listing.rises), interval, limits.IN_STEP * interval)
         found: Dict[int, Frame] = {}
         for match in MARKED.finditer(listing.classes):
             marker = match.start() + 1
-            text, broken = listing.classes[marker:marker + 100], bisect_left(breaks, marker)
+            text, broken = listing.classes[marker:marker + 100], bisect_left(broken_at, marker)
             at, told = moved.time(listing.rises[marker]), layout.shown(text)
-            if at is not None and told and (broken == len(breaks) or breaks[broken] >= marker + 100):
-                found[at] = Frame(at, calendar.number(told), text)
+            if at is not None and told and broken_at[broken] >= marker + 100:
+                found[at] = Frame(at, calendar.moment_of(told), text)
         self.all = [found[at] for at in sorted(found)]
-        self.times = sorted(found)
 
     def near(self, at: int, within: float) -> Optional[Frame]:
         """The frame whose marker is no farther from a time than that."""
-        place = bisect_left(self.times, at - within)
-        return self.all[place] if place < len(self.all) and self.times[place] <= at + within else None
+        place = bisect_left(self.all, (at - within,))
+        return self.all[place] if place < len(self.all) and self.all[place].at <= at + within else None
 
 
 def around(frames: Sequence[Frame], at: int, many: int) -> List[Frame]:
@@ -87,15 +84,12 @@ def around(frames: Sequence[Frame], at: int, many: int) -> List[Frame]:
 
 
 class Check:
-    """What a script does to the frames of a track; `steps` are the times at which those of the repaired track
-    step."""
+    """What a script does to the frames of a track; `steps` are the times at which those of the repaired track step."""
 
-    def __init__(
-        self, layout: Layout, interval: float, steps: Sequence[int], listings: Tuple[Listing, Listing], moved: Moved
-    ) -> None:
+    def __init__(self, layout: Layout, interval: float, steps: Sequence[int], listings: Tuple[Listing, Listing],
+                 moved: Moved) -> None:
         self.layout, self.interval, self.steps, self.moved = layout, interval, sorted(steps), moved
         self.old, self.new = Frames(listings[0], layout, moved), Frames(listings[1], layout, Moved())
-        self.with_year = layout.with_year
         self.kept = [frame for frame in self.old.all if self._stays(frame)]
 
     def harms(self) -> Iterator[Harm]:
@@ -154,5 +148,5 @@ class Check:
         apart = high.moment - low.moment
         stepped = bisect_left(self.steps, low.at) != bisect_left(self.steps, high.at)
         most = limits.AT_STEP if stepped else min(limits.AT_STEP, limits.ON_CLOCK + limits.CLOCK_DRIFT * elements)
-        years = (0,) if self.with_year else (0, 365 * DAY, 366 * DAY)
+        years = (0,) if self.layout.with_year else (0, 365 * DAY, 366 * DAY)
         return any(abs(elements - 100 * (apart + year) / self.layout.period) <= most for year in years)

@@ -17,6 +17,8 @@ NEAR = 0.2  # of the way from low to high: the half cycles before and after a sh
 LATER = 15  # cycles that are decided with those after them
 FEWEST = 10  # cycles that have a low and a high amplitude
 ELEMENTS = 4  # elements that always have them; fewer are read by those of before
+FAST = 0.15  # cycles: the speed changes fast if that puts the phase so far off in half a window
+PART = 3  # there one in three of the cycles around says what the phase is ahead, since it is not the same over all of them
 
 Edge = Tuple[float, int]  # in samples, and the level after it
 
@@ -40,6 +42,7 @@ class Cycles:
     def _open(self) -> None:
         """A carrier begins."""
         self.knot: Optional[Knot] = None
+        self.fast: List[Tuple[float, float]] = []  # where the speed changes fast: from phase to phase
         self.starts: List[float] = []  # of cycles; the last is the end of the last cycle
         self.values: List[complex] = []  # of these, as `Window.along` has them
         self.first = self.known = 0  # the number of the first of these, and how many are decided already
@@ -77,6 +80,8 @@ class Cycles:
                 if numbers and not self.starts and not found:
                     self.first = numbers[0]
                 found += between(self.knot, knot, [number + self.shift for number in numbers])
+                if change(self.knot, knot) * self.half * self.half >= FAST:
+                    self.fast.append((self.knot.phase - self.half, knot.phase + self.half))
             self.knot = knot
         least, most = -CUT * knots[0].cycle, length + CUT * knots[0].cycle
         early = 0 if self.starts else sum(1 for place in found if place < least)
@@ -99,6 +104,7 @@ class Cycles:
         over = max(0, end - self.half)
         del self.starts[:over], self.values[:over]
         self.first, self.known = self.first + over, end - over
+        self.fast = [(begin, after) for begin, after in self.fast if after > self.first]
 
     def _found(self, heights: Sequence[float], end: int) -> Iterator[Edge]:
         """The edges of the first of the cycles that are not decided, up to an end."""
@@ -121,7 +127,9 @@ class Cycles:
 
     def _refined(self, place: int, sums: Sequence[complex]) -> float:
         """Where a cycle begins, by what the phase of those around it is ahead."""
-        around = sums[min(len(sums) - 1, place + self.half)] - sums[max(0, place - self.half)]
+        fast = any(begin < self.first + place < after for begin, after in self.fast)
+        half = self.half // PART if fast else self.half
+        around = sums[min(len(sums) - 1, place + half)] - sums[max(0, place - half)]
         ahead = around.imag / around.real / (2 * math.pi) if around.real > 0 else 0.0
         return self.starts[place] - ahead * (self.starts[place + 1] - self.starts[place])
 
@@ -145,6 +153,11 @@ def between(one: Knot, other: Knot, phases: Sequence[float]) -> List[float]:
     first, time = one.phase, one.time
     steps = [(phase - first) / wide for phase in phases]
     return [time + step * (slope + step * (bend + step * twist)) for step in steps]
+
+
+def change(one: Knot, other: Knot) -> float:
+    """The share by which the length of a cycle changes from one cycle to the next."""
+    return abs(other.cycle - one.cycle) / (other.phase - one.phase) / one.cycle
 
 
 def levels_of(heights: Sequence[float]) -> Tuple[float, float, float]:

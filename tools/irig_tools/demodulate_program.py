@@ -58,6 +58,10 @@ HEAD = "$timescale 1 us $end\n$scope module irig $end\n$var wire 1 ! irig $end\n
 MOST_GAPS = 20  # that are named
 Reader = Union[Levels, Carrier, Steps]
 ENOUGH = 0.9  # of the pulses that a format has in that time
+# what to do if no pulse is found
+ADVICE = {Carrier: "if the code is not on a carrier but a level, use --level",
+          Levels: "if the code is on a carrier, leave out --level; low and high have to be further apart than --threshold",
+          Steps: "the column has no 1; --column names another"}
 
 
 def samples_of(given: Given, swapped: bool) -> Samples:
@@ -65,19 +69,31 @@ def samples_of(given: Given, swapped: bool) -> Samples:
     return kind(given.names[0], given.number(CHANNEL) or 1, given.text(KIND) or "", given.number(RATE) or 0)
 
 
-def table_of(given: Given) -> Table:
-    if given.has(KIND) or given.has(CHANNEL):
+def check(given: Given) -> None:
+    """Refuses options that exclude each other, and those that another one needs: none is left out in silence."""
+    for one, other in ((SWAP, NO_SWAP), (LEVEL, CARRIER)):
+        if given.has(one) and given.has(other):
+            raise Usage("%s and %s exclude each other" % (one.name, other.name))
+    if given.has(TABLE) and (given.has(KIND) or given.has(CHANNEL)):
         raise Usage("--table has no --raw and no --channel; --column names a column")
+    if given.has(KIND) and given.has(CHANNEL):
+        raise Usage("--channel is for sound files; --raw has one channel")
+    if not given.has(TABLE) and (given.has(TIME_COLUMN) or given.has(COLUMN)):
+        raise Usage("--time-column and --column need --table")
+    if given.has(RATE) and not given.has(KIND) and not given.has(TABLE):
+        raise Usage("--rate needs --raw or --table; a sound file has its own")
+    if given.values.get(THRESHOLD.name) is not None and not given.has(LEVEL):
+        raise Usage("--threshold needs --level")
+
+
+def table_of(given: Given) -> Table:
     swapped = given.has(SWAP) and given.has(LEVEL)
     return Table(given.names[0], given.text(TIME_COLUMN), given.text(COLUMN), given.number(RATE) or 0, swapped)
 
 
 def reader_of(given: Given) -> Reader:
-    if given.has(SWAP) and given.has(NO_SWAP):
-        raise Usage("--swap and --no-swap exclude each other")
+    check(given)
     if not given.has(TABLE):
-        if given.has(TIME_COLUMN) or given.has(COLUMN):
-            raise Usage("--time-column and --column need --table")
         return reader_of_samples(given, lambda swapped: samples_of(given, swapped))
     table = table_of(given)
     return Steps(table, given.has(SWAP)) if table.is_levels else reader_of_samples(given, lambda _: table)
@@ -89,7 +105,7 @@ def reader_of_samples(given: Given, samples: Callable[[bool], Samples]) -> Reade
         threshold = given.values.get(THRESHOLD.name)
         return Levels(samples(given.has(SWAP)), threshold)
     if name not in CARRIERS:
-        raise Usage("--format is A, B or E; G is read as a level")
+        raise Usage("--format G is read as a level, with --level; on a carrier it is A, B or E")
     known = given.has(SWAP) or given.has(NO_SWAP)
     hertz = given.number(CARRIER) or CARRIERS[name][0]
     return Carrier(samples(False), hertz, name, given.has(SWAP) if known else None)
@@ -152,8 +168,8 @@ def work(given: Given) -> int:
     say("%d pulses in %.3f seconds" % (pulses, seconds))
     if isinstance(reader, Carrier):
         say_few(given.text(FORMAT) or "B", pulses, seconds)
-    if isinstance(reader, Carrier) and not pulses:
-        say("if the code is not on a carrier but a level, use --level")
+    if not pulses:
+        say(ADVICE[type(reader)])
     return SOUND if pulses else FOUND
 
 

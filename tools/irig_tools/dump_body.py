@@ -56,7 +56,8 @@ class Body:
         self.begun = 0  # the first time that is not 0
         self.more = ""  # "header" or "backward" if something follows
         self.counts: Counter[str] = Counter()
-        self.strange: Optional[str] = None
+        self.strange: Optional[str] = None  # the first word that means no change, and the last time before it
+        self.strange_at = 0
 
     def changes(self) -> Iterator[Change]:
         """The wanted changes; `now` is the last time that was read."""
@@ -142,4 +143,4 @@ class Body:
     def _strange(self, word: bytes) -> None:
         self.counts["strange"] += 1
         if self.strange is None:
-            self.strange = shown(word[:40])
+            self.strange, self.strange_at = shown(word[:40]), self.now

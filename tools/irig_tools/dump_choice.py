@@ -76,7 +76,7 @@ def choose(header: Header, name: Optional[str]) -> Signal:
         raise Problem("%s has %d bits; name one of them, as '%s[%d]'" % (
             wide[0].path, wide[0].size, wide[0].path, wide[0].last))
     if wide:
-        raise Problem("%s is not made of bits" % wide[0].path)
+        raise Problem("%s is not made of bits; name a wire or a bit of a vector" % wide[0].path)
     listed = _listed([
         "%s (code %s), %d bit%s" % (wire.path, shown(wire.code), wire.size, "s" * (wire.size != 1))
         for wire in header.wires])

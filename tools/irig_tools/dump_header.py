@@ -15,6 +15,7 @@ BODY = {b"$dumpvars", b"$dumpall", b"$dumpon", b"$dumpoff", b"$dumpports", b"$du
         b"$dumpportsoff"}
 NO_BITS = {"real", "realtime", "event", "parameter", "string", "shortreal"}
 MOST_BEFORE = 10000  # words before the header
+ENDLESS = ": is no dump: the declarations do not end; the file is cut off, or it has no $enddefinitions"
 
 
 def shown(word: bytes) -> str:
@@ -98,7 +99,7 @@ class Reader:
                 self._note("words between the declarations were left out, the first '%s'" % shown(word[:40]))
             elif word != b"$end":
                 self._declare(word, self._section())
-        raise Problem("%s: is no dump: the declarations do not end" % self.source.path)
+        raise Problem(self.source.path + ENDLESS)
 
     def _note(self, text: str) -> None:
         if text not in self.header.notes and len(self.header.notes) < 5:
@@ -116,7 +117,7 @@ class Reader:
             before.append(word)
             if len(before) > MOST_BEFORE:
                 break
-        raise Problem("%s: is no dump: no declaration is found" % self.source.path)
+        raise Problem("%s: is no dump: no declaration is found; samples and tables are for irig_demodulate" % self.source.path)
 
     def _section(self) -> List[bytes]:
         """The words up to `$end`; a declaration that is not closed ends at the next one."""
@@ -126,11 +127,11 @@ class Reader:
                 return words
             if word in HEADS:
                 self.source.give_back(word)
-                self._note("a declaration has no $end")
+                self._note("a declaration has no $end, and was ended at the next one")
                 return words
             if len(words) < MOST_BEFORE:
                 words.append(word)
-        raise Problem("%s: is no dump: the declarations do not end" % self.source.path)
+        raise Problem(self.source.path + ENDLESS)
 
     def _declare(self, section: bytes, words: List[bytes]) -> None:
         if section == b"$timescale":

@@ -40,7 +40,7 @@ def unit_of(text: str) -> Unit:
     name = (found[2].replace("\u00b5", "u").replace("\u03bc", "u") or "") + "s"
     size = Fraction(found[1] or "1") * FEMTOSECONDS[name]
     if not size or size.denominator != 1:
-        raise Problem("the unit '%s' is no whole number of femtoseconds" % text[:60])
+        raise Problem("the unit '%s' is no whole number of femtoseconds; give another one, as --timescale 1ns" % text[:60])
     exact = re.fullmatch("(1|10|100) ?([munpf]?s)", text.strip())
     if exact:
         return Unit("%s %s" % (exact[1], exact[2]), int(size))

@@ -5,30 +5,31 @@ from dataclasses import dataclass
 from typing import List, Optional, Sequence, Tuple, Union
 
 from .script import Repair
+from .units import Microseconds, PulseIndex, number_of
 
-THE_LAST = -1  # instead of a pulse: the last one of the track
+THE_LAST = PulseIndex(-1)  # instead of a pulse: the last one of the track
 
 
 @dataclass(frozen=True)
 class Edit:
-    """A word of the editor, the pulses that it concerns (from 0; `first` can be a mark), and its values."""
+    """A word of the editor, the pulses that it concerns (`first` can be a mark), and its values."""
 
     word: str
     values: Tuple[Union[int, str], ...] = ()
-    first: Union[int, str, None] = None
-    last: Optional[int] = None  # if it is not the first
+    first: Union[PulseIndex, str, None] = None
+    last: Optional[PulseIndex] = None  # if it is not the first
 
     def line(self) -> str:
-        """As the editor reads it: pulses are counted from 1."""
+        """As the editor reads it."""
         return " ".join([*self._address(), self.word, *map(str, self.values)])
 
     def _address(self) -> List[str]:
         if self.first is None:
             return []
-        first = self.first if isinstance(self.first, str) else str(self.first + 1)
+        first = self.first if isinstance(self.first, str) else str(number_of(self.first))
         if self.last in (None, self.first):
             return [first]
-        return ["%s,%s" % (first, "$" if self.last == THE_LAST else (self.last or 0) + 1)]
+        return ["%s,%s" % (first, "$" if self.last == THE_LAST else number_of(self.last or PulseIndex(0)))]
 
     @property
     def move(self) -> int:
@@ -36,20 +37,24 @@ class Edit:
         return int(self.values[0]) if self.word == "shift" and self.last == THE_LAST else 0
 
 
-def of_pulses(word: str, first: int, last: int, *values: Union[int, str]) -> Edit:
-    return Edit(word, values, first, last)
+def of_pulses(word: str, first: PulseIndex, last: PulseIndex) -> Edit:
+    return Edit(word, (), first, last)
 
 
-def of_pulse(word: str, pulse: int, *values: Union[int, str]) -> Edit:
+def of_pulse(word: str, pulse: PulseIndex, *values: Union[int, str]) -> Edit:
     return Edit(word, values, pulse)
 
 
-def moved_rest(first: int, by: int) -> Edit:
+def inserted(rise: Microseconds, width: int) -> Edit:
+    return Edit("insert", (rise, rise + width))
+
+
+def moved_rest(first: PulseIndex, by: int) -> Edit:
     """Moves a pulse and all after it."""
     return Edit("shift", (by,), first, THE_LAST)
 
 
-def moved_from(at: int, by: int) -> List[Edit]:
+def moved_from(at: Microseconds, by: int) -> List[Edit]:
     """Moves all from a time on, whatever the numbers of the pulses are then."""
     return [Edit("mark", ("z", at)), Edit("shift", (by,), "'z", THE_LAST), Edit("unmark", ("z",))]
 
@@ -58,8 +63,8 @@ def lines_of(edits: Sequence[Edit]) -> List[str]:
     return [edit.line() for edit in edits]
 
 
-def repair_of(at: int, comments: Sequence[str], edits: Sequence[Edit], until: int = 0,
-              removed: Tuple[int, int, int] = (0, 0, 0), instead: Sequence[Edit] = ()) -> Repair:
+def repair_of(at: Microseconds, comments: Sequence[str], edits: Sequence[Edit], until: Microseconds = Microseconds(0),
+              removed: int = 0, instead: Sequence[Edit] = ()) -> Repair:
     """The edits that belong together, with what they move."""
     moves = [edit.move for edit in edits if edit.move]
     return Repair(at, list(comments), lines_of(edits), removed, lines_of(instead), until, moves)

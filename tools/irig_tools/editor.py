@@ -8,6 +8,8 @@ import tempfile
 from dataclasses import dataclass, field
 from typing import IO, Callable, List, Optional, Sequence, Set
 
+from .units import Microseconds
+
 CLASSES = {b"zero": "0", b"one": "1", b"position": "P", b"bad": "b"}
 BLOCK = 1 << 22  # bytes that are read at once
 
@@ -22,11 +24,11 @@ class Problem(Exception):
 class Listing:
     """What the editor prints of a track after some repairs."""
 
-    length: int = 0  # microseconds
+    length: Microseconds = Microseconds(0)
     kind: str = "B"
     expression: int = 2
-    rises: List[int] = field(default_factory=list)
-    falls: List[int] = field(default_factory=list)
+    rises: List[Microseconds] = field(default_factory=list)
+    falls: List[Microseconds] = field(default_factory=list)
     classes: str = ""  # a letter each pulse: 0, 1, P, b
     refused: Set[int] = field(default_factory=set)  # which of the blocks, from 0, had a refused line
 
@@ -54,7 +56,7 @@ def find_editor() -> str:
 class Info:
     """An answer of the editor to `info`."""
 
-    length: int  # microseconds
+    length: Microseconds
     pulses: int
     kind: str
     expression: int
@@ -65,15 +67,14 @@ def info_of(words: Sequence[bytes]) -> Info:
     try:
         if list(words[0:8:2]) != [b"length", b"pulses", b"frames", b"format"]:
             raise ValueError
-        return Info(int(words[1]), int(words[3]), words[7].decode("ascii"), int(words[8]))
+        return Info(Microseconds(int(words[1])), int(words[3]), words[7].decode("ascii"), int(words[8]))
     except (ValueError, IndexError) as error:
         raise _other_release(words) from error
 
 
 def _other_release(words: Sequence[bytes]) -> Problem:
     said = b" ".join(words)[:60].decode(errors="replace")
-    return Problem("irig_ed (%s) answers '%s', as this release does not; IRIG_ED can name another" % (
-        find_editor(), said))
+    return Problem("%s is of another release: it answers '%s'; let IRIG_ED name the editor of these tools" % (find_editor(), said))
 
 
 class Editor:
@@ -137,8 +138,8 @@ def _read_pulses(answers: IO[bytes], listing: Listing) -> None:
         if not words or words[0] == b"?":
             break
         try:
-            listing.rises.extend(map(int, words[1::4]))
-            listing.falls.extend(map(int, words[2::4]))
+            listing.rises.extend(map(Microseconds, map(int, words[1::4])))
+            listing.falls.extend(map(Microseconds, map(int, words[2::4])))
             blocks.append("".join(map(CLASSES.__getitem__, words[3::4])))
         except (KeyError, ValueError) as error:
             raise _other_release(words[:4]) from error

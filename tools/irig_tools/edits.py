@@ -5,11 +5,10 @@ from dataclasses import dataclass, field
 from typing import Dict, List, Optional, Sequence, Tuple
 
 from . import limits
-from .edit import Edit, of_pulse, of_pulses
+from .edit import Edit, inserted, of_pulse, of_pulses
 from .faults import Faults
 from .layout import NAMES
-
-NOTHING_DONE = -1 << 60
+from .units import Microseconds, PlaceNumber, PulseIndex, places
 
 
 @dataclass
@@ -22,59 +21,60 @@ class Item:
     why: str
     lost: bool = False  # a pulse that is missing and that follows
     single: bool = False  # it gives each of its places the pulse that is wanted
-    targets: Dict[int, str] = field(default_factory=dict)  # the classes of a frame that is generated again
+    targets: Dict[PlaceNumber, str] = field(default_factory=dict)  # the classes of a frame that is generated again
 
 
 def items(faults: Faults) -> List[Item]:
     """One item for each faulty place, or for several over which one pulse reaches."""
     found: List[Item] = []
-    done: float = NOTHING_DONE
     for place in sorted(faults.wanted):
-        if place > done:
+        if not found or place > found[-1].high:
             item = _item(faults, place)
             if item:
                 found.append(item)
-                done = item.high
     return found
 
 
-def _item(faults: Faults, place: int) -> Optional[Item]:
+def _item(faults: Faults, place: PlaceNumber) -> Optional[Item]:
     pulses, target = faults.track.pulses_at(place), faults.wanted[place]
     if not pulses:
-        rise = faults.track.rise_at(place)
         why = "%s: no pulse; %s" % (faults.where(place), faults.reason(place))
-        insert = Edit("insert", (rise, rise + faults.width(target)))
+        insert = inserted(faults.track.rise_at(place), faults.width(target))
         return Item(place, place, [insert], why, place not in faults.guesses, True)
     many = faults.track.spans(place, pulses[-1])
     return _divide(faults, place, many, pulses) if many else _reduce(faults, place, pulses, target)
 
 
-def _divide(faults: Faults, place: int, many: int, pulses: Sequence[int]) -> Optional[Item]:
+def _divide(faults: Faults, place: PlaceNumber, many: int, pulses: Sequence[PulseIndex]) -> Optional[Item]:
     """Parts one pulse that reaches over several places."""
-    if any(place + k not in faults.wanted for k in range(many + 1)):
+    over = places(place, place + many)
+    if any(each not in faults.wanted for each in over):
         return None
-    track, first, last = faults.track, pulses[0], place + many
+    track, last = faults.track, over[-1]
     edits: List[Edit] = []
-    extra = [pulse for k in range(1, many + 1) for pulse in track.pulses_at(place + k)]
+    extra = [pulse for each in over[1:] for pulse in track.pulses_at(each)]
     if extra:
         edits.append(of_pulses("delete", extra[0], extra[-1]))
     if len(pulses) > 1:
-        edits.append(of_pulses("join", first, pulses[-1]))
-    for k in range(many):
-        fall = track.rise_at(place + k) + faults.width(faults.wanted[place + k])
-        edits.append(of_pulse("split", first + k, fall, track.rise_at(place + k + 1)))
-    if abs(track.falls[pulses[-1]] - track.rise_at(last) - faults.width(faults.wanted[last])) > (
-        limits.UNLIKE * faults.layout.interval
-    ):
-        edits.append(of_pulse("force", first + many, NAMES[faults.wanted[last]]))
-    reasons = ", then ".join(faults.reason(place + k) for k in range(many + 1))
+        edits.append(of_pulses("join", pulses[0], pulses[-1]))
+    parts = [PulseIndex(pulses[0] + k) for k in range(many + 1)]
+    for pulse, each, after in zip(parts, over, over[1:]):
+        fall = track.rise_at(each) + faults.width(faults.wanted[each])
+        edits.append(of_pulse("split", pulse, fall, track.rise_at(after)))
+    if _is_unlike(faults, track.falls[pulses[-1]] - track.rise_at(last), faults.wanted[last]):
+        edits.append(of_pulse("force", parts[-1], NAMES[faults.wanted[last]]))
+    reasons = ", then ".join(map(faults.reason, over))
     why = "%s: %s; %s" % (faults.where(place), faults.seen(place), reasons)
     return Item(place, last, edits, why, single=True)
 
 
-def _choose(faults: Faults, pulses: Sequence[int], begin: int, target: str) -> Tuple[int, int, bool, bool]:
-    """Which pulses are joined to the one that is wanted, and whether it is then off in time, and of a wrong
-    class."""
+def _is_unlike(faults: Faults, width: int, target: str) -> bool:
+    """Whether a pulse that is edited anyway gets its width, too."""
+    return abs(width - faults.width(target)) > limits.UNLIKE * faults.layout.interval
+
+
+def _choose(faults: Faults, pulses: Sequence[PulseIndex], begin: Microseconds, target: str) -> Tuple[int, int, bool, bool]:
+    """Which pulses are joined to the one that is wanted, and whether it is then off in time, and of a wrong class."""
     width, choices = faults.width(target), []
     for first in range(len(pulses)):
         for last in range(first, len(pulses)):
@@ -85,7 +85,7 @@ def _choose(faults: Faults, pulses: Sequence[int], begin: int, target: str) -> T
     return min(choices)[2:]
 
 
-def _reduce(faults: Faults, place: int, pulses: Sequence[int], target: str) -> Item:
+def _reduce(faults: Faults, place: PlaceNumber, pulses: Sequence[PulseIndex], target: str) -> Item:
     """Of the pulses of a place the one that is wanted: some joined, others deleted."""
     begin = faults.track.rise_at(place)
     first, last, off, wrong = _choose(faults, pulses, begin, target)
@@ -96,12 +96,10 @@ def _reduce(faults: Faults, place: int, pulses: Sequence[int], target: str) -> I
         edits.append(of_pulses("join", pulses[first], pulses[last]))
     if first > 0:
         edits.append(of_pulses("delete", pulses[0], pulses[first - 1]))
-    move = begin - faults.rises[pulses[first]]
-    width = faults.falls[pulses[last]] - faults.rises[pulses[first]]
-    if (edits or off) and abs(width - faults.width(target)) > limits.UNLIKE * faults.layout.interval:
-        wrong = True  # it is edited anyway, so it gets its width, too
-    force, shift = of_pulse("force", pulses[0], NAMES[target]), of_pulse("shift", pulses[0], move)
+    rise, fall = faults.rises[pulses[first]], faults.falls[pulses[last]]
+    wrong = wrong or (bool(edits or off) and _is_unlike(faults, fall - rise, target))
+    force, shift = of_pulse("force", pulses[0], NAMES[target]), of_pulse("shift", pulses[0], begin - rise)
     change = [force] * wrong + [shift] * off
-    edits += change if move > 0 else reversed(change)
+    edits += change if begin > rise else reversed(change)
     why = "%s: %s; %s" % (faults.where(place), faults.seen(place), faults.reason(place))
     return Item(place, place, edits, why, single=True)

@@ -54,6 +54,8 @@ def _known(error: Exception, program: str) -> int:
     if isinstance(error, OSError):
         text = str(error.strerror or error)
         text = "%s: %s" % (error.filename, text) if error.filename else text
+    if text.startswith("-: "):
+        text = "standard input" + text[1:]
     _last_words(text, program)
     return NOT_READ
 

@@ -7,9 +7,9 @@ from typing import Iterator, List
 from .analysis import Findings, Part
 from .editor import Listing
 from .frames import Times
-from .interval import Clock, Run
+from .interval import Clock
 from .layout import NAMES
-from .units import FrameNumber
+from .units import FrameNumber, PlaceNumber, number_of
 
 
 def explained(listing: Listing, findings: Findings) -> List[str]:
@@ -34,14 +34,11 @@ def _of_runs(part: Part) -> Iterator[str]:
     before = 0.0
     for run in part.track.runs:
         glued = ", glued" if run.glued else ""
+        others = ", or from element " + " or ".join(map(str, run.others)) if run.others else ""
         yield "run: pulses %d to %d, places %d to %d; step %d%s, %.0f late; cost %.1f, and %.1f in all; lead %.1f%s" % (
-            run.first + 1, run.last + 1, run.place, run.last_place, run.step, glued, run.late, run.cost - before,
-            run.cost, run.lead, _others(run))
+            number_of(run.first), number_of(run.last), run.place, run.last_place, run.step, glued, run.late,
+            run.cost - before, run.cost, run.lead, others)
         before = run.cost
-
-
-def _others(run: Run) -> str:
-    return ", or from element " + " or ".join(map(str, run.others)) if run.others else ""
 
 
 def _of_times(times: Times) -> Iterator[str]:
@@ -50,33 +47,30 @@ def _of_times(times: Times) -> Iterator[str]:
             span.first, span.last, span.base, times.calendar.name(span.base))
     for number, text in times.texts.items():
         if number not in times.sound:
-            yield "frame %d: %s, %s; %s" % (number, text, _own(times, number), _votes(times, number))
-
-
-def _own(times: Times, number: FrameNumber) -> str:
-    own = times.own.get(number)
-    return "not read" if own is None else "reads base %d" % own
+            own = "reads base %d" % times.own[number] if number in times.own else "not read"
+            yield "frame %d: %s, %s; %s" % (number, text, own, _votes(times, number))
 
 
 def _votes(times: Times, number: FrameNumber) -> str:
     """How its elements vote on each base that a span has."""
     bases = sorted({span.base for span in times.spans})
-    votes = [(base, times.votes(number, base).values()) for base in bases]
-    said = ["of %d votes on base %d %d against it" % (len(each), base, list(each).count(-1)) for base, each in votes]
+    votes = [(base, *times.counted(number, base)) for base in bases]
+    said = ["of %d votes on base %d %d against it" % (agree + differ, base, differ) for base, agree, differ in votes]
     return ", ".join(said) or "no base"
 
 
 def _of_places(part: Part) -> Iterator[str]:
     """What is wanted at each faulty place; those without a pulse one after the other are one line."""
-    faults, lost = part.faults, ""
+    faults, track, lost = part.faults, part.track, ""
     for place, name in sorted(faults.wanted.items()):
+        after = PlaceNumber(place + 1)
         lost += name
-        if faults.track.pulses_at(place):
-            lost = ""
+        if track.pulses_at(place):
+            guess = ", a guess" if place in faults.guesses else ""
             yield "place %d, at %d: %s; %s is wanted%s" % (
-                place, faults.track.rise_at(place), faults.seen(place), NAMES[name],
-                ", a guess" if place in faults.guesses else "")
-        elif place + 1 not in faults.wanted or faults.track.pulses_at(place + 1):
-            first = place + 1 - len(lost)
-            yield "places %d to %d, from %d on: no pulse; wanted are %s" % (first, place, faults.track.rise_at(first), lost)
+                place, track.rise_at(place), faults.seen(place), NAMES[name], guess)
+            lost = ""
+        elif after not in faults.wanted or track.pulses_at(after):
+            first = PlaceNumber(after - len(lost))
+            yield "places %d to %d, from %d on: no pulse; wanted are %s" % (first, place, track.rise_at(first), lost)
             lost = ""

@@ -8,6 +8,7 @@ from typing import Dict, Optional, Sequence, Tuple
 from .damage import Damage
 from .dump_offset import Offset
 from .script import Repair
+from .units import number_of
 
 Object = Dict[str, object]
 # what is seen, and what kind of damage it is
@@ -62,9 +63,8 @@ def step_of(text: str) -> Optional[int]:
 def of_damage(damage: Damage, offset: Optional[Offset]) -> Object:
     """A place of damage, or a remark."""
     place = place_of(damage.name)
-    first, last = damage.pulses
-    if first <= last:
-        place["pulses"] = [first + 1, last + 1]
+    if damage.pulses:
+        place["pulses"] = list(map(number_of, damage.pulses))
     kind = kind_of(damage.seen)
     return {"time": damage.at, "until": max(damage.at, damage.until), **_original(damage.at, offset), "kind": kind,
             "damage": not damage.is_remark, **place, "seen": damage.seen, "step": step_of(damage.seen)}

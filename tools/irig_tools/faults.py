@@ -10,14 +10,14 @@ from .frames import Times
 from .layout import NAMES, POSITIONS, READABLE, SHARE
 from .texts import counted
 from .track import Track
-from .units import FrameNumber, frame_of
+from .units import FrameNumber, Microseconds, PlaceNumber, PulseIndex, frame_of, number_of, place_in, places
 
 
 @dataclass
 class Remark:
     """Damage that no edit repairs for sure: where, what is seen, and what the choices are."""
 
-    at: int  # microseconds
+    at: Microseconds
     seen: str
     choice: str = ""
     name: str = ""  # its frame and element, if they are to be named
@@ -26,16 +26,21 @@ class Remark:
         return "undecided: at %d: %s%s" % (self.at, self.seen, "; " + self.choice if self.choice else "")
 
 
+def numbered(first: PulseIndex, last: PulseIndex) -> str:
+    """Pulses as their users know them."""
+    return "pulse %d" % number_of(first) if first == last else "pulses %d to %d" % (number_of(first), number_of(last))
+
+
 class Faults:
     """The places whose pulse is not what follows, each with the class that has to be there."""
 
-    def __init__(self, track: Track, times: Times, left: Iterable[int] = ()) -> None:
+    def __init__(self, track: Track, times: Times, left: Iterable[FrameNumber] = ()) -> None:
         """`left` are frames that are to stay as they are."""
         self.track, self.layout, self.clock, self.times = track, track.layout, track.clock, times
         self.left = set(left)
         self.rises, self.falls = track.rises, track.falls
-        self.wanted: Dict[int, str] = {}
-        self.guesses: Dict[int, str] = {}  # places of control functions that nothing says
+        self.wanted: Dict[PlaceNumber, str] = {}
+        self.guesses: Dict[PlaceNumber, str] = {}  # places of control functions that nothing says
         self.remarks: List[Remark] = []
         self.usual = times.usual() if self.layout.steady else {}
         for number, text in times.texts.items():
@@ -43,30 +48,23 @@ class Faults:
             if number not in times.sound:
                 self._look_at(number, text, times.expected(number))
 
-    def without(self, places: Container[int]) -> Faults:
-        """The same, as if nothing were wrong at these places."""
-        found = copy.copy(self)
-        found.wanted = {place: name for place, name in self.wanted.items() if place not in places}
+    def without(self, places: Container[PlaceNumber]) -> Faults:
+        """The same, as if nothing were wrong at these places, and in frames that are to stay as they are."""
+        found, kept = copy.copy(self), [place for place in self.wanted if frame_of(place) not in self.left]
+        found.wanted = {place: self.wanted[place] for place in kept if place not in places}
         return found
-
-    def in_left_frames(self) -> List[int]:
-        """The faulty places of frames that are to stay as they are."""
-        return [place for place in self.wanted if frame_of(place) in self.left]
 
     def _look_at(self, number: FrameNumber, text: str, expected: str) -> None:
         """Compares a frame with what follows for it."""
         if number not in self.times.spliced and self._contradicts(number, text, expected):
             return
         if self.times.moment(number) is None and READABLE.fullmatch(text) and number not in self.times.own:
-            at = self.track.rise_at(100 * number)
-            self.remarks.append(
-                Remark(at, "a frame whose fields contradict each other", "nothing says which is right")
-            )
+            self._remark(place_in(number), "a frame whose fields contradict each other", "nothing says which is right")
         unknown = []
         for element, (told, follows) in enumerate(zip(text, expected)):
             if told == "~" or told == follows or (follows == "." and told in "01"):
                 continue
-            place = 100 * number + element
+            place = place_in(number, element)
             target = follows if follows != "." else self._decide(place, element in self.times.kept)
             if target:
                 self.wanted[place] = target
@@ -74,42 +72,37 @@ class Faults:
                 unknown.append(element)
         self._doubt_control(number, text)
         if unknown and number not in self.left:
-            at = self.track.rise_at(100 * number + unknown[0])
-            seen = "%s, element %s: nothing says whether zero or one" % (
-                self.times.name(number),
-                ", ".join(map(str, unknown)),
-            )
-            self.remarks.append(Remark(at, seen, "force or insert what is right"))
+            elements = self.times.name(number), ", ".join(map(str, unknown))
+            seen = "%s, element %s: neither its shape nor another frame says whether it is a zero or a one" % elements
+            self._remark(place_in(number, unknown[0]), seen, "force or insert the right one")
+
+    def _remark(self, place: PlaceNumber, seen: str, choice: str) -> None:
+        self.remarks.append(Remark(self.track.rise_at(place), seen, choice))
 
     def _contradicts(self, number: FrameNumber, text: str, expected: str) -> bool:
         """Whether a frame shows another time than its neighbours lead to, too clearly to be damage."""
-        against = [
-            element
-            for element in self.layout.carried
-            if text[element] in "01" and expected[element] in "01" and text[element] != expected[element]
-        ]
+        told = [element for element in self.layout.carried if text[element] in "01" and expected[element] in "01"]
+        against = [element for element in told if text[element] != expected[element]]
         binary = {element for element, _ in self.layout.fields.get("binary", ())}
         twice_told = number in self.times.own and not binary.isdisjoint(against)
         if len(against) <= (0 if twice_told or self.times.turns_at(number) else limits.MOST_CONTRARY):
             return False
-        at = self.track.rise_at(max(self.track.first, 100 * number))
-        seen = "%s: %s show%s another time than the one its neighbours lead to" % (
-            self.times.name(number),
-            counted(len(against), "element"),
-            "" if against[1:] else "s",
-        )
-        self.remarks.append(Remark(at, seen, "it is left; regen gives it the time of its neighbours"))
+        seen = "%s: %s contradict%s the time that the frames next to it lead to" % (
+            self.times.name(number), counted(len(against), "element"), "" if against[1:] else "s")
+        first = max(self.track.first, place_in(number))
+        self._remark(first, seen, "the frame is left as it is; regen gives it the time to which the others lead")
         return True
 
-    def _decide(self, place: int, control: bool) -> Optional[str]:
-        """Zero or one if nothing follows for a place: by its shape, else by its neighbours, else a guess that
-        is named as one."""
+    def _decide(self, place: PlaceNumber, control: bool) -> Optional[str]:
+        """Zero or one if nothing follows for a place: by its shape, else by its neighbours, else a guess that is named as
+        one."""
         pulses, number, element = self.track.pulses_at(place), frame_of(place), place % 100
         if element in self.usual:
             return self.usual[element]
         near = self.times.neighbours(number, element) if control else None
-        own, burst = self._shape_of(place), control and self._in_burst(place)
-        if own and not burst and (not near or self._is_nominal(pulses[0], own)):
+        own = self.layout.class_of(self.width_of(pulses[0])) if len(pulses) == 1 else ""
+        burst = control and self._in_burst(place)
+        if own in ("0", "1") and not burst and (not near or self._is_nominal(pulses[0], own)):
             return own
         cost = {target: self.difference(place, target) for target in "01"}
         best = min("01", key=lambda target: cost[target])
@@ -124,47 +117,43 @@ class Faults:
         """If control functions never change, one that most frames do not have is damage."""
         for element, usual in self.usual.items():
             if text[element] in "01" and text[element] != usual:
-                self.wanted[100 * number + element] = usual
+                self.wanted[place_in(number, element)] = usual
 
-    def _shape_of(self, place: int) -> Optional[str]:
-        """Zero or one if there is a single pulse of such a width."""
-        pulses = self.track.pulses_at(place)
-        own = self.layout.class_of(self.falls[pulses[0]] - self.rises[pulses[0]]) if len(pulses) == 1 else ""
-        return own if own in ("0", "1") else None
-
-    def _in_burst(self, place: int) -> bool:
+    def _in_burst(self, place: PlaceNumber) -> bool:
         """Whether places on both sides, or two on one side, are damaged."""
         at = place - self.track.first
         near = self.track.told[max(0, at - 2):max(0, at)] + self.track.told[at + 1:at + 3]
         return sum(letter not in "01P~" for letter in near) >= limits.BURST
 
-    def _is_nominal(self, pulse: int, name: str) -> bool:
-        return abs(self.falls[pulse] - self.rises[pulse] - self.width(name)) <= limits.NOMINAL * self.layout.interval
+    def width_of(self, pulse: PulseIndex) -> int:
+        return self.falls[pulse] - self.rises[pulse]
+
+    def _is_nominal(self, pulse: PulseIndex, name: str) -> bool:
+        return abs(self.width_of(pulse) - self.width(name)) <= limits.NOMINAL * self.layout.interval
 
     def _doubt_control(self, number: FrameNumber, text: str) -> None:
-        """A control function next to damage that has no nominal width is damage, too, if its neighbours say
-        otherwise."""
+        """A control function next to damage that has no nominal width is damage, too, if its neighbours say otherwise."""
         for element in self.times.kept:
-            place, told = 100 * number + element, text[element]
+            place, told = place_in(number, element), text[element]
             beside = place - 1 in self.wanted or place + 1 in self.wanted
             if told in "01" and beside and place in self.track.zone_of:
                 near = self.times.neighbours(number, element)
                 if near and near != told and not self._is_sound(place, told):
                     self.wanted[place] = near
 
-    def _is_sound(self, place: int, told: str) -> bool:
+    def _is_sound(self, place: PlaceNumber, told: str) -> bool:
         """Whether a pulse next to damage has the width of its class, and in a burst its place, too."""
         if self._in_burst(place):
             return self.difference(place, told) < limits.LIKE_IN_BURST * self.layout.interval
         return self._is_nominal(self.track.pulses_at(place)[0], told)
 
-    def difference(self, place: int, target: str) -> float:
+    def difference(self, place: PlaceNumber, target: str) -> float:
         """For how many microseconds the level is not that of the target, within its interval."""
         begin = self.track.rise_at(place)
         end, fall = begin + round(limits.INTERVAL_SEEN * self.clock.interval), begin + self.width(target)
-        nearby = range(max(self.track.first, place - 3), min(self.track.last, place + 1) + 1)
+        nearby = places(self.track.within(place - 3), self.track.within(place + 1))
         high = both = 0
-        for pulse in {pulse for near in nearby for pulse in self.track.pulses_at(near)}:
+        for pulse in self.track.pulses_of(nearby):
             low, top = max(begin, self.rises[pulse]), min(end, self.falls[pulse])
             high += max(0, top - low)
             both += max(0, min(top, fall) - low)
@@ -176,24 +165,21 @@ class Faults:
 
     # in words
 
-    def name(self, place: int) -> str:
+    def name(self, place: PlaceNumber) -> str:
         return "%s, element %d" % (self.times.name(frame_of(place)), place % 100)
 
-    def where(self, place: int) -> str:
+    def where(self, place: PlaceNumber) -> str:
         """The frame, the element, and the pulses with their numbers, or else when one should rise."""
-        pulses = [pulse + 1 for pulse in self.track.pulses_at(place)]
+        pulses = self.track.pulses_at(place)
         if not pulses:
             return "%s, at %d" % (self.name(place), self.track.rise_at(place))
-        return "%s, pulse%s" % (
-            self.name(place),
-            " %d" % pulses[0] if len(pulses) == 1 else "s %d to %d" % (pulses[0], pulses[-1]),
-        )
+        return "%s, %s" % (self.name(place), numbered(pulses[0], pulses[-1]))
 
-    def reason(self, place: int) -> str:
+    def reason(self, place: PlaceNumber) -> str:
         """Why this class has to be there."""
         target, element = NAMES[self.wanted[place]], place % 100
         if place in self.guesses:
-            return "undecided whether zero or one: nothing says it, and a %s is written" % target
+            return "undecided whether zero or one: nothing says it, so this %s is a guess" % target
         if element in self.usual:
             return "a %s as in most frames" % target
         if element in self.times.kept:
@@ -201,10 +187,10 @@ class Faults:
         if element in POSITIONS or element in self.layout.unused:
             return "a %s has to be there" % target
         if frame_of(place) in self.times.spliced:
-            return "a %s follows from the frames before; this one begins with their time, and ends with another" % target
+            return "a %s follows from the frames before: this frame was cut, and keeps the time with which it begins" % target
         return "a %s follows from the frames around it" % target
 
-    def seen(self, place: int) -> str:
+    def seen(self, place: PlaceNumber) -> str:
         """What is at a place."""
         pulses = self.track.pulses_at(place)
         if not pulses:
@@ -214,10 +200,9 @@ class Faults:
             return "%d pulses have run together" % (over + 1)
         if len(pulses) > 1:
             return "%d pulses where one has to be" % len(pulses)
-        rise, width = self.rises[pulses[0]], self.falls[pulses[0]] - self.rises[pulses[0]]
-        name = self.layout.class_of(width)
-        words = "%d wide, %s" % (width, "which is no class" if name == "b" else "a " + NAMES[name])
-        off = rise - self.track.rise_at(place)
+        name = self.track.classes[pulses[0]]
+        words = "%d wide, %s" % (self.width_of(pulses[0]), "which is no class" if name == "b" else "a " + NAMES[name])
+        off = self.rises[pulses[0]] - self.track.rise_at(place)
         if abs(off) > self.clock.stray:
             words += ", and %d %s" % (abs(off), "late" if off > 0 else "early")
         return words

@@ -4,17 +4,17 @@ from __future__ import annotations
 from bisect import bisect_left
 from collections import Counter
 from operator import itemgetter
-from typing import Dict, List, Optional, Sequence, Tuple
+from typing import Dict, List, Mapping, Optional, Sequence, Tuple
 
 from . import limits
 from .interval import Run
 from .layout import READABLE
 from .moments import DAY
-from .spans import Span, fit
+from .spans import Bases, Span, fit
 from .splices import spliced
 from .steadiness import Steadiness
 from .track import Track
-from .units import Base, FrameNumber, Hundredths
+from .units import Base, FrameNumber, Hundredths, frame_of
 from .votes import Votes
 
 
@@ -45,49 +45,37 @@ class Times(Votes):
             and READABLE.fullmatch(self.texts[number])
         }
 
-    def _find_bases(self) -> Dict[FrameNumber, Optional[Base]]:
-        """The base of each frame: if two neighbours agree, theirs; between such frames the one that fits
-        best."""
-        read = sorted(self.own)
-        before: List[Optional[FrameNumber]] = [None, *read]
-        after: List[Optional[FrameNumber]] = [*read[1:], None]
-        bases: Dict[FrameNumber, Optional[Base]] = {}
-        for left, number, right in zip(before, read, after):
-            if self.own[number] in (
-                left is not None and self.own[left],
-                right is not None and self.own[right],
-            ):
-                bases[number] = self.own[number]
-        return self._filled(bases)
+    def _find_bases(self) -> Bases:
+        """The base of each frame: if two neighbours agree, theirs; between such frames the one that fits best."""
+        own = list(self.own.values())
+        near = zip(self.own.items(), [None, *own], [*own[1:], None])
+        return self._filled({number: base for (number, base), *around in near if base in around})
 
-    def _filled(self, known: Dict[FrameNumber, Optional[Base]]) -> Dict[FrameNumber, Optional[Base]]:
+    def _filled(self, known: Mapping[FrameNumber, Base]) -> Bases:
         """The base of every frame; those of some are known."""
-        bases = dict(known)
+        bases: Bases = {**known}
         apart = {
-            zone.right.place // 100
+            frame_of(zone.right.place)
             for zone in self.track.zones
             if zone.glued and zone.right and not 0 < (zone.right.gone or 0) <= limits.LONGEST_CUT
         }
         gap: List[FrameNumber] = []
         left: Optional[Base] = None
         for number in self.texts:
-            if number in apart:  # no time continues over that
-                bases.update(fit(self, gap, left, None))
-                gap, left = [], None
-            if number not in bases:
+            if number in apart or number in known:  # no time continues over a frame of `apart`
+                bases.update(fit(self, gap, left, None if number in apart else known[number]))
+                gap, left = [], known.get(number)
+            if number not in known:
                 gap.append(number)
-                continue
-            bases.update(fit(self, gap, left, bases[number]))
-            gap, left = [], bases[number]
         bases.update(fit(self, gap, left, None))
         return bases
 
-    def _find_spans(self, bases: Dict[FrameNumber, Optional[Base]]) -> List[Span]:
+    def _find_spans(self, bases: Bases) -> List[Span]:
         spans: List[Span] = []
         for number in self.texts:
             base = bases[number]
             if base is not None and spans and spans[-1].base == base:
-                spans[-1] = Span(spans[-1].first, number, base)
+                spans[-1] = spans[-1]._replace(last=number)
             elif base is not None:
                 spans.append(Span(number, number, base))
         return spans
@@ -104,13 +92,11 @@ class Times(Votes):
 
     def _read_within(self, runs: Sequence[Run]) -> List[FrameNumber]:
         """The frames that could be read from the first to the last of these runs."""
-        numbers = [number for number, _ in self.read]
         first, last = -(-runs[0].place // 100), (runs[-1].last_place + 1) // 100
-        return numbers[bisect_left(numbers, first):bisect_left(numbers, last)]
+        return [number for number in self.own if first <= number < last]
 
     def frames_between(self, left: Sequence[Run], right: Sequence[Run]) -> Optional[int]:
-        """By how many frames the times of these runs are farther apart than their places; None if they do not
-        say."""
+        """By how many frames the times of these runs are farther apart than their places; None if they do not say."""
         before, after = self._agreed(self._read_within(left)[-3:]), self._agreed(self._read_within(right)[:3])
         if before is None or after is None:
             return None
@@ -126,30 +112,23 @@ class Times(Votes):
     def expected(self, number: FrameNumber) -> str:
         """The 100 classes that follow for a frame; `.` if nothing follows."""
         moment = self.moment(number)
-        if moment is None:
-            text = self.layout.encode(dict.fromkeys(self.layout.fields, 0))
-            for element in self.layout.carried:
-                text[element] = "."
-        else:
-            text = self.layout.encode(self.calendar.fields(moment))
-        for element in self.kept:
+        told = dict.fromkeys(self.layout.fields, 0) if moment is None else self.calendar.fields(moment)
+        text = self.layout.encode(told)
+        for element in (*self.kept, *(self.layout.carried if moment is None else ())):
             text[element] = "."
         return "".join(text)
 
     def _nearest(self, number: FrameNumber, element: int) -> Tuple[List[FrameNumber], List[FrameNumber]]:
         """Two frames before this one, and two after it, whose element is sound."""
-        having = self._frames_having(element)
+        if element not in self._having:
+            self._having[element] = [each for each, text in self.texts.items() if text[element] in "01"]
+        having = self._having[element]
         at = bisect_left(having, number)
         return having[max(0, at - 2):at], having[at + (having[at:at + 1] == [number]):][:2]
 
-    def _frames_having(self, element: int) -> List[FrameNumber]:
-        if element not in self._having:
-            self._having[element] = [each for each, text in self.texts.items() if text[element] in "01"]
-        return self._having[element]
-
     def neighbours(self, number: FrameNumber, element: int) -> Optional[str]:
-        """What an element has that no field decides: what the two nearest frames on both sides have, if all
-        four agree and the element is steady; else None."""
+        """What an element has that no field decides: what the two nearest frames on both sides have, if all four agree
+        and the element is steady; else None."""
         before, after = self._nearest(number, element)
         near = {self.texts[each][element] for each in (*before, *after)}
         if len(before) < 2 or len(after) < 2 or len(near) > 1:

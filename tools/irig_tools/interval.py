@@ -1,5 +1,4 @@
-"""The real interval of a recording: how far apart its elements are, how much rises stray, and the runs of
-pulses in step."""
+"""The real interval of a recording: how far apart its elements are, how much rises stray, and the runs of pulses in step."""
 from __future__ import annotations
 
 import statistics
@@ -7,25 +6,25 @@ from collections import Counter
 from dataclasses import dataclass, replace
 from itertools import compress, count, islice
 from operator import sub
-from typing import Iterator, List, Optional, Sequence, Tuple
+from typing import List, Optional, Sequence, Tuple
 
 from . import limits
 from .editor import Listing
 from .phases import turns
+from .units import PlaceNumber, PulseIndex
 
 
 @dataclass(frozen=True)
 class Run:
-    """Pulses `first` to `last` (counted from 0) that follow each other in step. `interval` finds them, `slots` gives
-    them their places."""
+    """Pulses that follow each other in step. `interval` finds them, `slots` gives them their places."""
 
-    first: int
-    last: int
+    first: PulseIndex
+    last: PulseIndex
     begin: float = 0  # when the first should rise, by those near it
     end: float = 0  # when the last should rise
     begin_interval: Optional[float] = None  # of the pulses near the first, if there are enough
     end_interval: Optional[float] = None
-    place: int = 0  # of the first pulse: 100 * frame + element
+    place: PlaceNumber = PlaceNumber(0)  # of the first pulse
     step: int = 0  # elements from the last pulse of the run before to the first
     late: float = 0  # how much it came late
     glued: bool = False  # it follows the run before at once, but with another element
@@ -33,21 +32,31 @@ class Run:
     cost: float = 0  # of the cheapest way up to it, in faults
     lead: float = 0  # how much dearer it is to give it another phase
     others: Tuple[int, ...] = ()  # the elements that it may as well begin with
-    # `<` or `>` if nothing says the phase of the pulses before or after it; `[` or `]` if those are left
-    # alone
-    ends: str = ""
+    ends: str = ""  # `<` or `>` if nothing says the phase of the pulses before or after it; `[` or `]` if those are left alone
 
     @property
     def count(self) -> int:
         return self.last - self.first + 1
 
     @property
-    def last_place(self) -> int:
-        return self.place + self.last - self.first
+    def last_place(self) -> PlaceNumber:
+        return PlaceNumber(self.place + self.last - self.first)
+
+
+def run_of(first: int, beyond: int, glued: bool = False) -> Run:
+    """The pulses from one up to another."""
+    return Run(PulseIndex(first), PulseIndex(beyond - 1), glued=glued)
 
 
 def distances(times: Sequence[int]) -> List[int]:
     return list(map(sub, islice(times, 1, None), times))
+
+
+def breaks(apart: Sequence[int], interval: float, margin: float) -> List[int]:
+    """The pulses that do not follow the one before by an interval, and in the end the one after the last."""
+    low, high = interval - margin, interval + margin
+    odd = {each for each in set(apart) if not low <= each <= high}
+    return [*compress(count(1), map(odd.__contains__, apart)), len(apart) + 1]
 
 
 def share_in_step(times: Sequence[int], interval: int) -> float:
@@ -68,44 +77,38 @@ def _in_step(apart: Sequence[int], interval: int) -> List[int]:
 
 
 def _grid(listing: Listing, between: Sequence[int], interval: float) -> int:
-    """How far apart the samples of the recorder were, in microseconds, if distances are off by one sample now
-    and then; else 0."""
+    """How far apart the samples of the recorder were, in microseconds, if distances are off by one now and then; else 0."""
     off = Counter(int(abs(each - interval)) for each in between if abs(each - interval) >= limits.LEAST_STEP)
     size, many = min(((size, many) for size, many in off.items() if many >= limits.OFF_BY_SAMPLE), default=(0, 0))
-    if not many or any(time % size for time in _since_first(listing)):
+    first = listing.rises[0]
+    if not many or any((time - first) % size for times in (listing.rises, listing.falls) for time in times):
         return 0
     return size
-
-
-def _since_first(listing: Listing) -> Iterator[int]:
-    first = listing.rises[0]
-    return (time - first for times in (listing.rises, listing.falls) for time in times)
 
 
 class Clock:
     """The interval as it was recorded, how far rises stray from it, and the runs."""
 
     def __init__(self, listing: Listing, nominal: int) -> None:
-        self.nominal = nominal
+        self.listing, self.nominal = listing, nominal
+        self.rises, self.classes = listing.rises, listing.classes
         apart = distances(listing.rises)
         between = _in_step(apart, nominal)
         self.interval: float = statistics.median_low(between) if between else nominal
-        self.noise: float = (
-            statistics.median([abs(each - self.interval) for each in between]) if between else 0
-        )
+        self.noise: float = statistics.median([abs(each - self.interval) for each in between]) if between else 0
         # what counts as in step, and how far one pulse may be off
         self.margin = self._within(limits.LEAST_MARGIN, limits.MARGIN_BY_NOISE, limits.MOST_MARGIN)
         self.stray = self._within(limits.LEAST_STRAY, limits.STRAY_BY_NOISE, limits.MOST_STRAY)
         self.grid = _grid(listing, between, self.interval)
         self.least_step = self._find_least_step(between)
-        steady = [part for run in self._find_runs(apart) for part in self._stepped(run, listing.rises, apart)]
-        self.runs = [part for run in steady for part in parted(run, listing.classes)]
-        self._measure([listing.rises[run.last] - listing.rises[run.first] for run in self.runs])
-        self.runs = [self.fit(run, listing.rises) for run in self.runs]
+        steady = [part for run in self._find_runs(apart) for part in self._stepped(run, apart)]
+        self.runs = [part for run in steady for part in self._parted(run)]
+        self._measure([self.rises[run.last] - self.rises[run.first] for run in self.runs])
+        self.runs = list(map(self.fit, self.runs))
         # again, as now no pulse that strays at an end of a run counts
         self._measure([run.end - run.begin for run in self.runs])
-        self.runs = [self.fit(run, listing.rises) for run in self.runs]
-        self.doubt = self._find_doubt(listing.rises)
+        self.runs = list(map(self.fit, self.runs))
+        self.doubt = self._find_doubt()
 
     def _within(self, least: float, by_noise: float, most: float) -> float:
         """That many times the noise, between two shares of the interval, in microseconds."""
@@ -123,15 +126,14 @@ class Clock:
         self.interval = self._to_nominal(self.interval)
         self.exact = self.interval == self.nominal and self.noise == 0
 
-    def _find_doubt(self, rises: Sequence[int]) -> float:
+    def _find_doubt(self) -> float:
         """By how much the interval within a hole may differ from the one next to it."""
         if self.exact:
             return 0
-        long = limits.FAR
-        if sum(run.count // long for run in self.runs) < limits.STRETCHES:
-            long = limits.LOCAL
+        many = sum(run.count // limits.FAR for run in self.runs)
+        long = limits.FAR if many >= limits.STRETCHES else limits.LOCAL
         local = [
-            (rises[at + long] - rises[at]) / long
+            (self.rises[at + long] - self.rises[at]) / long
             for run in self.runs
             for at in range(run.first, run.last - long + 1, long)
         ]
@@ -141,55 +143,64 @@ class Clock:
         return max(limits.LEAST_STEP / limits.FAR, limits.EIGHT_OF_TEN * (high - low))
 
     def _find_runs(self, apart: Sequence[int]) -> List[Run]:
-        low, high = self.interval - self.margin, self.interval + self.margin
-        odd = {distance for distance in set(apart) if not low <= distance <= high}
-        breaks = list(compress(count(1), map(odd.__contains__, apart)))
-        return [Run(first, after - 1) for first, after in zip([0] + breaks, breaks + [len(apart) + 1])]
+        ends = breaks(apart, self.interval, self.margin)
+        return [run_of(first, beyond) for first, beyond in zip([0, *ends], ends)]
 
     def _find_least_step(self, between: Sequence[int]) -> float:
-        """A step within a run shows from this many microseconds on, as the distances of the recording are
-        spread."""
+        """A step within a run shows from this many microseconds on, as the distances of the recording are spread."""
         off = sorted(abs(each - self.interval) for each in between)
         spread = max(self.noise, off[len(off) * 9 // 10] / limits.NINE_OF_TEN) if off else 0
         return max(limits.LEAST_STEP, limits.SPREADS * spread, limits.BY_GRID * self.grid)
 
-    def _stepped(self, run: Run, rises: Sequence[int], apart: Sequence[int]) -> List[Run]:
-        """The run, or its parts if all that follow a pulse come late or early by a step too small to end a
-        run."""
-        found, first = [], run.first
-        for after in self._odd(run, apart):
-            if min(after - first, run.last - after + 1) >= limits.SIDE:
-                if abs(self._step_at(first, after, run.last, rises)) >= self.least_step:
-                    found.append(Run(first, after - 1))
-                    first = after
-        return found + [Run(first, run.last)]
-
-    def _odd(self, run: Run, apart: Sequence[int]) -> List[int]:
-        """The pulses of a run, but the first, whose distance from the one before may be a step."""
+    def _stepped(self, run: Run, apart: Sequence[int]) -> List[Run]:
+        """The run, or its parts if all that follow a pulse come late or early by a step too small to end a run."""
+        found: List[Run] = []
+        first: int = run.first
         low, high = self.interval - self.least_step, self.interval + self.least_step
-        return [
-            at for at, each in enumerate(apart[run.first:run.last], run.first + 1) if not low < each < high
-        ]
+        odd = [at for at, each in enumerate(apart[run.first:run.last], run.first + 1) if not low < each < high]
+        for after in odd:
+            if min(after - first, run.last - after + 1) >= limits.SIDE:
+                if abs(self._step_at(first, after, run.last)) >= self.least_step:
+                    found.append(run_of(first, after))
+                    first = after
+        return found + [run_of(first, run.last + 1)]
 
-    def _step_at(self, first: int, after: int, last: int, rises: Sequence[int]) -> float:
+    def _parted(self, run: Run) -> List[Run]:
+        """The run, or the parts of it that have one phase each."""
+        if run.count < limits.LONG_RUN:
+            return [run]
+        parts: List[Run] = []
+        first: int = run.first
+        for low, high in turns(self.text(run)):
+            if run.first + low > first and high < run.count:
+                parts.append(run_of(first, run.first + low, glued=bool(parts)))
+                first = run.first + high
+        return parts + [run_of(first, run.last + 1, glued=bool(parts))]
+
+    def text(self, run: Run) -> str:
+        """The classes of its pulses."""
+        return self.classes[run.first:run.last + 1]
+
+    def _step_at(self, first: int, after: int, last: int) -> float:
         """By how much the pulses from `after` on come late, by those near it on both sides."""
-        many = min(after - first, last - after + 1, limits.NEAR)
+        rises, many = self.rises, min(after - first, last - after + 1, limits.NEAR)
         low, high = max(first, after - limits.FAR), min(last, after + limits.FAR - 1)
         interval = (rises[after - 1] - rises[low] + rises[high] - rises[after]) / (high - low - 1)
         before = statistics.median([rises[after - 1 - k] + k * interval for k in range(many)])
         beyond = statistics.median([rises[after + k] - k * interval for k in range(many)])
         return beyond - before - interval
 
-    def fit(self, run: Run, rises: Sequence[int]) -> Run:
+    def fit(self, run: Run) -> Run:
         """The run with when its ends should rise, and the interval there."""
-        near = (min(run.count, limits.NEAR) - 1) // 2 * 2 + 1
+        rises, near = self.rises, (min(run.count, limits.NEAR) - 1) // 2 * 2 + 1
         begin = statistics.median_low([rises[run.first + k] - k * self.interval for k in range(near)])
         end = statistics.median_low([rises[run.last - k] + k * self.interval for k in range(near)])
+        found = replace(run, begin=begin, end=end)
         if run.count <= limits.LOCAL or self.exact:
-            return replace(run, begin=begin, end=end)
+            return found
         far = min(run.count - 1, limits.FAR)
         first, last = (rises[run.first + far] - begin) / far, (end - rises[run.last - far]) / far
-        return replace(run, begin=begin, end=end, begin_interval=first, end_interval=last)
+        return replace(found, begin_interval=first, end_interval=last)
 
     def interval_between(self, left: Optional[Run], right: Optional[Run]) -> float:
         """The interval near these two runs."""
@@ -212,16 +223,3 @@ class Clock:
         spread = max(limits.LEAST_STEP, limits.SPREADS * self.noise) + self.doubt * steps
         least = 1 if self.exact else min(limits.MOST_SLACK * self.nominal, spread)
         return max(least, limits.BY_GRID * self.grid)
-
-
-def parted(run: Run, classes: str) -> List[Run]:
-    """The run, or the parts of it that have one phase each."""
-    if run.count < limits.LONG_RUN:
-        return [run]
-    parts: List[Run] = []
-    first = run.first
-    for low, high in turns(classes[run.first:run.last + 1]):
-        if run.first + low > first and high < run.count:
-            parts.append(Run(first, run.first + low - 1, glued=bool(parts)))
-            first = run.first + high
-    return parts + [Run(first, run.last, glued=bool(parts))]

@@ -19,37 +19,31 @@ Fields = Dict[str, int]
 
 
 class Layout:
-    """Which element has which weight in which field. A frame is a text of 100 classes: 0, 1, P, b and others
-    for damage."""
+    """Which element has which weight in which field. A frame is a text of 100 classes: 0, 1, P, b and others for damage."""
 
-    def __init__(self, kind: str, expression: int) -> None:
-        self.kind, self.expression = kind, expression
+    def __init__(self, kind: str, expression: int, steady: bool = False) -> None:
+        """If `steady`, control functions never change in this recording."""
+        self.kind, self.expression, self.steady = kind, expression, steady
         self.interval, self.period = INTERVAL[kind], PERIOD[kind]
         self.fields: Dict[str, List[Tuple[int, int]]] = {}
         self._known: Dict[Tuple[str, str], int] = {}
-        self._within: Dict[Tuple[str, str], int] = {}
-        self._add_time()
-        self._add_rest()
+        self._add_fields()
         with_control = expression in (0, 1, 4, 5)
         tens = CONTROL[kind][expression >= 4:] if with_control else ()
-        self.steady = False  # whether control functions never change in this recording
         self.control = [ten + unit for ten in tens for unit in range(9)]
         self.carried = sorted(element for rows in self.fields.values() for element, _ in rows)
         used = {*self.carried, *self.control, *POSITIONS}
         self.unused = [element for element in range(100) if element not in used]
         self._carried_of = itemgetter(*self.carried)
         self._unused_of = itemgetter(*self.unused)
-        self._parts = [(name, rows[0][0], rows[-1][0] + 1) for name, rows in self.fields.items()]
 
-    def _add_time(self) -> None:
+    def _add_fields(self) -> None:
         if self.kind != "E":
             self._add("seconds", range(1, 5), DECIMAL)
         self._add("seconds", range(6, 9), DECIMAL[4:])
         self._add("minutes", (10, 11, 12, 13, 15, 16, 17), DECIMAL)
         self._add("hours", (20, 21, 22, 23, 25, 26), DECIMAL)
         self._add("days", (30, 31, 32, 33, 35, 36, 37, 38, 40, 41), DECIMAL)
-
-    def _add_rest(self) -> None:
         if self.kind in "AG":
             self._add("hundredths", range(45, 49), DECIMAL[4:])
         if self.kind == "G":
@@ -79,34 +73,17 @@ class Layout:
             self._known[name, part] = -1 if above else sum(ones)
         return self._known[name, part]
 
-    def _value_within(self, name: str, part: str, text: str) -> int:
-        """The number in a field, or -1 if it is out of range; `part` is the field's part of the frame."""
-        known = self._within.get((name, part))
-        if known is None:
-            known = self.value(name, text)
-            known = known if known <= MOST[name] else -1
-            if name != "binary":  # that is another one in each second
-                self._within[name, part] = known
-        return known
-
     def decode(self, text: str) -> Optional[Fields]:
-        """The fields of a frame, or None if an element is damaged, a field is out of range, or two fields
-        disagree."""
+        """The fields of a frame, or None if an element is damaged, a field is out of range, or two fields disagree."""
         if not set(self._carried_of(text)) <= {"0", "1"}:
             return None
-        told = {
-            name: self._value_within(name, text[first:beyond], text) for name, first, beyond in self._parts
-        }
-        if min(told.values()) < 0 or not told["days"]:
+        told = {name: self.value(name, text) for name in self.fields}
+        if not told["days"] or not all(0 <= value <= MOST[name] for name, value in told.items()):
             return None
         if told["seconds"] == 60 and (told["minutes"], told["hours"]) != (59, 23):
             return None
-        if (
-            "binary" in told
-            and told["binary"] != 3600 * told["hours"] + 60 * told["minutes"] + told["seconds"]
-        ):
-            return None
-        return told
+        of_day = 3600 * told["hours"] + 60 * told["minutes"] + told["seconds"]
+        return told if told.get("binary", of_day) == of_day else None
 
     def shown(self, text: str) -> Optional[Fields]:
         """The fields of a frame that is fine; None if it has a one that the expression does not use."""

@@ -4,12 +4,11 @@ An interval is the time from element to element; a fault is the unit of the firs
 the tolerance of irig_ed, which reads a frame only if each rise is within a tenth of an interval (IN_STEP, and what is below
 it); a probability (EIGHT_OF_TEN, NINE_OF_TEN, CHANCE, CHANCES); the reasons in the tables of docs/METHOD.md (the costs); or
 the end of a search (what says `most`, `longest` or `search`). `[28, 26]`: halved and doubled (of a small whole number one
-less and one more), that many first looks at 332 recordings at random are others. The numbers of the clock, of phases, of runs
-and of places without it changed none there: tests/rows/tools_parts.py has rows for the rarer faults that they are for.
+less and one more), that many first looks at 332 recordings at random are others; from UPSIDE_DOWN on at 99, and from ROUNDS
+on that many scripts. Those without it changed none: tests/rows/tools_parts.py has rows for the rarer faults they are for.
 """
 
 # the clock (interval)
-
 IN_STEP = 0.1  # intervals: neighbours whose distance is so near the nominal one follow each other [12, 3]
 MOST_SAMPLED = 50000  # distances that are looked at for the interval
 SAME_CLOCK = 0.0001  # a clock that is less off, as a share, is nominal [0, 1]
@@ -33,7 +32,6 @@ SIDE = 5  # pulses on each side of a step [0, 1]
 LONG_RUN = 40  # pulses of a run that can have two phases, or whose position identifiers say its phase
 
 # phases
-
 NO_WHOLE_FRAME = 4  # faults: what a phase costs with which no frame is whole, if another phase has one
 MOSTLY = 0.9  # the share of frames that have a class if it is usual there [0, 9]
 LONGEST_TURN = 3000  # elements: in a longer text no turn is looked for
@@ -42,7 +40,6 @@ FEWER_AFTER_ONE = 3  # the same if one side's phase is known
 FEWER_AT_MARKER = 2  # the same if also a marker says it, and nothing speaks against it
 
 # the first shortest path: runs (slots)
-
 SURE_RUN = 5  # pulses: a run of that many is no accident [13, 11]
 UNLIKELY = 12  # faults: a way that costs that much more than the cheapest is not followed, so that the search stays short
 MOST_LATE = 12  # elements: a rest can be that late; one that is later is moved only if both sides are unmistakable
@@ -65,71 +62,61 @@ FAULTS_A_PULSE = 1 / 18  # a way that costs more by pulse is that of another for
 FAULTS_AT_LEAST = 5  # faults: what any way may cost
 
 # places between runs (zones, track)
-
 BEFORE_ITS_RISE = 0.2  # intervals: a pulse belongs to a place from that much before its rise on [11, 18 of 111]
 EXACT = 0.005  # intervals: on an exact clock a pulse that is no more off keeps its time
 EITHER_SIDE = 300  # pulses on each side of a glued run that may be of the other side
 REACH = 2.5  # intervals: a pulse that is farther from the last one is of no frame
 OVERLAP = 0.02  # intervals: a pulse that reaches so far beyond the next rise covers it
 
-# the whole recording (analysis, threshold)
-
-UPSIDE_DOWN, MORE_THAN_UPRIGHT = 0.8, 0.1  # the share of falls in step, and by how much more than rises
-FIT = 0.5  # the share of rises in step without which it is no such recording
-THRESHOLD_SHIFTS = range(-17, 28)  # hundredths of an interval by which all pulses can be longer
+# the whole recording (analysis, threshold): pulses are 20, 50 or 80 hundredths wide, and classes end at 5, 35, 65 and 95
+UPSIDE_DOWN, MORE_THAN_UPRIGHT = 0.8, 0.1  # the share of falls in step, as of upright zeros; by how much more than rises
+FIT = 0.5  # the share of rises in step without which it is no such recording: damage of half of them is not mended [0, 1]
+THRESHOLD_SHIFTS = range(-17, 28)  # hundredths of an interval by which all can be longer: a zero is left, a one no position [2, 0]
 WIDEST_PEAK = 98  # hundredths of an interval: no pulse gets as long as the interval
-PEAK = 6  # hundredths of an interval: what is nearer to a peak counts for it
-LEAST_SHIFT = 6  # hundredths of an interval: a smaller shift changes no class
-AT_PEAK = 7  # hundredths of an interval: a width that is no farther from a peak has its class
-SOME_BAD, MOST_BAD = 0.01, 0.3  # the share of bad pulses from which a threshold is looked for, and after it
-MOST_EDITS = 10000  # edits in one group
+PEAK = 6  # hundredths of an interval: what is nearer to a peak counts for it; the peaks are 30 apart
+LEAST_SHIFT = 6  # hundredths of an interval: a smaller shift changes no class, as classes end 15 from their pulses
+AT_PEAK = 7  # hundredths of an interval: a width that is no farther from a peak has its class, half of the way to the end
+SOME_BAD, MOST_BAD = 0.01, 0.3  # the share of bad pulses from which a threshold is looked for; a mended one has fewer
+MOST_EDITS = 10000  # edits in one group, which is undone at once
 
 # times of frames, and the second shortest path (frames, spans, pieces)
-
-LONGEST_CUT = 3000  # elements: after more than that the places are not counted on
-STRAY_ONES, STRAY_SHARE = 2, 0.1  # frames with ones that are not used, and their share, from which the expression is doubtful
+LONGEST_CUT = 3000  # elements: the end of a search; after more than that the places are not counted on
+STRAY_ONES, STRAY_SHARE = 2, 0.1  # frames with ones that are not used, and their share: more is another expression
 CHANGE = 3  # elements: what it costs that the time goes on elsewhere
-MOST_BASES = 12  # bases that are looked at in one gap
-MOST_AGAINST, FEWEST_FOR = 1, 19  # elements of a frame that bears a base out
-WITNESSES = 2  # frames that have to say a field
+MOST_BASES = 12  # bases that are looked at in one gap: the end of a search
+WITNESSES = 2  # frames that have to say a field or a base: one can be damaged [4, 0]
 
 # what is steady (steadiness)
-
-CHANCE = 0.001  # that an element differs from its neighbours, if it is said to be steady
-CHANCES = 24  # times that an element could have changed: if it never did, it differs by a smaller chance
+CHANCE = 0.001  # that an element differs from its neighbours, if it is said to be steady [0, 1]
+CHANCES = 24  # times that an element could have changed: if it never did, it differs by about CHANCE [2, 1]
 
 # stretches that are there twice (copies, steps)
-
-UNLIKE_IN_COPY = 25  # a copy has at most one element in that many that differs
-UNLIKE_WITHIN = 50  # the same if the times of the frames alone say that there is one
-ALIKE_IN_COPY = 2  # and at least one in that many that is the same
+UNLIKE_IN_COPY = 25  # a copy has at most one element in that many that differs: more is no copy, but frames alike [0, 1]
+ALIKE_IN_COPY = 2  # and at least one in that many that is the same: the rest can be damaged [3, 0]
 LEAST_COPY = 10  # elements; fewer are alike by chance
 
 # what is wrong (faults, edits, wholes, repairs)
-
-LIKE = 0.08  # intervals: a level that differs from a class for less than that is this class
-LIKE_IN_BURST = 0.03  # intervals: the same in a burst of damage, which can look like a class by chance
-NOMINAL = 0.03  # intervals: a width that is no more off is the one of its class
-BURST = 2  # of the two places before and the two after one, at least that many are damaged in a burst
+LIKE = 0.08  # intervals: a level that differs from a class for less is this class: two classes are 0.3 apart [1, 0]
+LIKE_IN_BURST = 0.03  # intervals: the same in a burst of damage, which can look like a class by chance: a tenth of the way
+NOMINAL = 0.03  # intervals: a width that is no more off is the one of its class: a tenth of the way to the next class
+BURST = 2  # of the two places before and the two after one, at least that many are damaged in a burst: one is by chance
 MOST_CONTRARY = 3  # elements: a frame of which more say another time than its neighbours is no damage
-INTERVAL_SEEN = 0.95  # intervals of a place whose level is looked at
-UNLIKE = 0.02  # intervals: a width that is more off is changed if the pulse is edited anyway
-FEWEST_LOST = 8  # lost elements of a frame that is generated again
-MOST_AGAIN = 2000  # places that are written again one by one
+INTERVAL_SEEN = 0.95  # intervals of a place whose level is looked at: the rest can be an early pulse
+UNLIKE = 0.02  # intervals: a width that is more off is changed if the pulse is edited anyway [2, 0]
+FEWEST_LOST = 8  # lost elements of a frame that is generated again: fewer are fewer lines one by one [7, 8]
+MOST_AGAIN = 2000  # places that are written again one by one: the end of a search
 
 # what is said (damage), and how often it is looked at (damage, mend)
-
-DRIFT = 0.001  # intervals: a clock that is less off is sound
-TREMBLE = 0.005  # intervals: rises that stray less are sound
-SILENCE = 1.5  # intervals: less is no silence
-TOGETHER = 3  # that many faulty places one after the other are one line
-ROUNDS = 5  # after that many the script is as it is
-MOST_CHECKS = 5  # after that many no repair is left
+DRIFT = 0.001  # intervals: a clock that is less off is sound: it is off by a tenth of an interval in a frame
+TREMBLE = 0.005  # intervals: rises that stray less are sound: beyond, steps of 0.025 do not show (SPREADS) [0, 6]
+SILENCE = 1.5  # intervals: less is no silence: no pulse is missing for sure [92, 30]
+TOGETHER = 3  # that many faulty places one after the other are one line [7, 9]
+ROUNDS = 5  # after that many the script is as it is: the end of a search
+MOST_CHECKS = 5  # after that many no repair is left: the end of a search
 
 # frames before and after the script (check)
-
-MOVED = 0.2  # intervals: a marker that is moved by less is the same
-ON_CLOCK = 0.5  # intervals: by how much less than a whole number of frames apart are the frames of one clock
-CLOCK_DRIFT = 0.002  # intervals: the same for each interval between them
-AT_STEP = 30  # intervals: the same if there is a step between them
-OUTVOTED = 3  # frames of the result that outvote one that was fine
+MOVED = 0.2  # intervals: a marker that is moved by less is the same: twice what irig_ed tolerates
+ON_CLOCK = 0.5  # intervals: frames of one clock are off by no more: what is nearer is the right element
+CLOCK_DRIFT = 0.002  # the same for each interval between them: a clock is off by less from place to place
+AT_STEP = 30  # intervals: the same if there is a step between them: less than half a frame, so that no frame is skipped
+OUTVOTED = 3  # frames of the result that outvote one that was fine: three of four

@@ -9,34 +9,37 @@ from . import limits
 from .analysis import Findings, looks
 from .check import Check, Harm, Moved
 from .editor import Editor, Listing, Progress
+from .faults import Remark
 from .repairs import repairs
 from .script import BY_LINE, Repair
+from .units import Microseconds
 
 
 def called_for(findings: Findings) -> List[Repair]:
     """The repairs, and the remarks as repairs without edits."""
-    found = list(findings.whole)
-    found += [Repair(remark.at, [remark.comment()]) for remark in findings.remarks]
+    found = findings.whole + _said(findings.remarks)
     for part in findings.parts:  # from the last to the first
         if part.copies:
             found += part.copies
-            continue
-        edits, left = repairs(part.faults)
-        said = part.remarks + part.faults.remarks + left
-        found += [Repair(remark.at, [remark.comment()]) for remark in said] + edits
+        else:
+            edits, left = repairs(part.faults)
+            found += _said(part.remarks + part.faults.remarks + left) + edits
     return found
 
 
+def _said(remarks: Sequence[Remark]) -> List[Repair]:
+    return [Repair(remark.at, [remark.comment()]) for remark in remarks]
+
+
 def obeyed(editor: Editor, script: List[Repair], refused: Set[str]) -> Listing:
-    """The listing after the script; a repair that the editor refuses goes another way, or becomes a
-    remark."""
-    listing = editor.ask([repair.lines() for repair in script])
-    while listing.refused:
-        for at in listing.refused:
-            refused.add("\n".join(script[at].edits))
-            script[at] = script[at].refused()
+    """The listing after the script; a repair that the editor refuses goes another way, or becomes a remark."""
+    while True:
         listing = editor.ask([repair.lines() for repair in script])
-    return listing
+        if not listing.refused:
+            return listing
+        for at in listing.refused:
+            refused.add(script[at].text())
+            script[at] = script[at].refused()
 
 
 @dataclass
@@ -66,7 +69,7 @@ class _Mending:
         found = called_for(findings)
         self.looks.append((len(self.script), listing, findings))
         self.remarks = [each for each in found if not each.edits]
-        self.script += [each for each in found if each.edits and "\n".join(each.edits) not in self.refused]
+        self.script += [each for each in found if each.edits and each.text() not in self.refused]
 
     def harms(self) -> List[Harm]:
         """What the script makes worse, if the pulses had their classes before it."""
@@ -74,15 +77,18 @@ class _Mending:
         done, before, first = next((look for look in self.looks if not look[2].whole), self.looks[-1])
         if first.clock is None or last.clock is None or not self.script[done:]:
             return []
-        steps = [part.track.rises[part.track.runs[0].first] for part in last.parts]
-        steps += [zone.right.first for part in last.parts for zone in part.track.zones if zone.late and zone.right]
         moved = Moved(self.script[done:])
-        return list(Check(first.layout, first.clock.interval, steps, (before, self.after), moved).harms())
+        return list(Check(first.layout, first.clock.interval, steps_of(last), (before, self.after), moved).harms())
 
 
-def propose(
-    editor: Editor, progress: Progress, steady: bool = False, move: bool = False
-) -> List[Repair]:
+def steps_of(findings: Findings) -> List[Microseconds]:
+    """When the parts of a track begin, and each rest that is late or early and is left."""
+    tracks = [part.track for part in findings.parts]
+    late = [(track, zone.right) for track in tracks for zone in track.zones if zone.late and zone.right]
+    return [track.rises[run.first] for track, run in [(track, track.runs[0]) for track in tracks] + late]
+
+
+def propose(editor: Editor, progress: Progress, steady: bool = False, move: bool = False) -> List[Repair]:
     """The script that repairs what the editor's track has; no line of it is refused, and none makes a frame worse.
     If control functions are `steady`, no frame has others than most. If not `move`, no pulse in step is moved.
 
@@ -96,7 +102,7 @@ def propose(
         if not harms:
             break
         for repair, harm in _blamed(mending.script, harms, turn + 1 == limits.MOST_CHECKS):
-            refused.add("\n".join(repair.edits))
+            refused.add(repair.text())
             taken[repair.at] = _left_out(repair, harm)
     else:
         mending.script = []
@@ -107,21 +113,13 @@ def propose(
 def _blamed(script: Sequence[Repair], harms: Sequence[Harm], all_of_them: bool) -> List[Tuple[Repair, Harm]]:
     """The repairs that make something worse: those that touch it, or all."""
     edits = [repair for repair in script if repair.edits]
-    found = [
-        (repair, harm)
-        for repair in edits
-        for harm in harms
-        if repair.at <= harm.until and harm.at <= max(repair.at, repair.until)
-    ]
+    found = [(repair, harm) for repair in edits for harm in harms if repair.touches(harm.at, harm.until)]
     return found if found and not all_of_them else [(repair, harms[0]) for repair in edits]
 
 
 def _left_out(repair: Repair, harm: Harm) -> Repair:
-    said = "undecided: at %d: with these lines %s, so they are left out: %s" % (
-        repair.at,
-        harm.seen,
-        "; ".join(repair.edits)[:BY_LINE],
-    )
+    lines = "; ".join(repair.edits)[:BY_LINE]
+    said = "undecided: at %d: with these lines %s, so they are left out: %s" % (repair.at, harm.seen, lines)
     return Repair(repair.at, [said])
 
 

@@ -12,6 +12,8 @@ from .wire_words import Own, Scalars
 NEVER = 1 << 300  # later than all times
 UNLIKE = ("the track is %d microseconds long, and the dump is %s: if it was cut out by --from or --to, give the same "
           "again; else it was made of another dump")
+COARSE = ("the unit %s of the dump is too coarse for an edge at %d microseconds: move the edge in irig_ed, or keep the track as a "
+          "file of its own")
 
 
 class Level(NamedTuple):
@@ -220,7 +222,7 @@ class Merger:
         self.written = letter
         at, rest = self.time_of(micro)
         if rest:
-            raise Problem("the unit %s is too coarse for an edge at %d microseconds" % (self.unit.text, micro))
+            raise Problem(COARSE % (self.unit.text, micro))
         value = self.words.value(letter, self.bits) + b"\n"
         if micro != self.micro_of(self.begin) or self.many == self.first or at < self.begin:
             self.front.append(b"#%d\n" % at + value)

@@ -11,7 +11,6 @@ from .units import Base, FrameNumber, Hundredths
 DAY = 8640000  # hundredths of a second
 SECOND = 100
 
-
 # of each year of two digits, counted since year 1
 FIRST_DAYS = [datetime.date(2000 + year, 1, 1).toordinal() for year in range(100)]
 
@@ -30,55 +29,43 @@ class Calendar:
 
     def base(self, number: FrameNumber, told: Fields) -> Base:
         """The time of frame 0, if frame `number` shows this one and the clock had run all along."""
-        base = self.number(told) - number * self.layout.period
+        base = self.moment_of(told) - number * self.layout.period
         return Base(Hundredths(base if self.with_year else (base - DAY) % (self.days * DAY) + DAY))
 
     def moment(self, number: FrameNumber, base: Base) -> Hundredths:
         """That of a frame, by a base."""
         return Hundredths(base + number * self.layout.period)
 
-    def number(self, told: Fields) -> Hundredths:
-        within = 100 * (3600 * told["hours"] + 60 * told["minutes"] + told["seconds"]) + told.get(
-            "hundredths", 0
-        )
+    def moment_of(self, told: Fields) -> Hundredths:
+        within = 100 * (3600 * told["hours"] + 60 * told["minutes"] + told["seconds"]) + told.get("hundredths", 0)
         first = FIRST_DAYS[told.get("year", 0)] if self.with_year else 1
-        plain = (first + told["days"] - 1) * DAY + within
-        if self.leap is None:
-            return Hundredths(plain)
-        plain = self._near_leap(plain)
-        return Hundredths(plain + SECOND * (plain >= self.leap and told["seconds"] != 60))
+        plain = self._near_leap((first + told["days"] - 1) * DAY + within)
+        return Hundredths(plain if self.leap is None else plain + SECOND * (plain >= self.leap and told["seconds"] != 60))
 
-    def _near_leap(self, number: int) -> int:
+    def _near_leap(self, moment: int) -> int:
         """Without a year the first day follows the last one."""
         if self.with_year or self.leap is None:
-            return number
+            return moment
         year = self.days * DAY
-        return (number - self.leap + year // 2) % year - year // 2 + self.leap
+        return (moment - self.leap + year // 2) % year - year // 2 + self.leap
 
-    def within_leap(self, number: Hundredths) -> bool:
+    def within_leap(self, moment: Hundredths) -> bool:
         """Whether this moment is in a second 60."""
-        return self.leap is not None and 0 <= self._near_leap(number) - self.leap < SECOND
+        return self.leap is not None and 0 <= self._near_leap(moment) - self.leap < SECOND
 
-    def after_leap(self, number: Hundredths) -> bool:
-        return self.leap is not None and self._near_leap(number) >= self.leap + SECOND
+    def after_leap(self, moment: Hundredths) -> bool:
+        return self.leap is not None and self._near_leap(moment) >= self.leap + SECOND
 
-    def fields(self, number: Hundredths) -> Fields:
-        if self.within_leap(number):
-            told = self._plain_fields(number - SECOND)
-            told["seconds"], told["binary"] = 60, 86400
-            return told
-        return self._plain_fields(number - SECOND * self.after_leap(number))
+    def fields(self, moment: Hundredths) -> Fields:
+        if self.within_leap(moment):
+            return {**self._plain_fields(moment - SECOND), "seconds": 60, "binary": 86400}
+        return self._plain_fields(moment - SECOND * self.after_leap(moment))
 
-    def _plain_fields(self, number: int) -> Fields:
-        day, within = divmod(number, DAY)
+    def _plain_fields(self, moment: int) -> Fields:
+        day, within = divmod(moment, DAY)
         seconds = within // 100
-        told = {
-            "hundredths": within % 100,
-            "seconds": seconds % 60,
-            "minutes": seconds // 60 % 60,
-            "hours": seconds // 3600,
-            "binary": seconds,
-        }
+        told = {"hundredths": within % 100, "seconds": seconds % 60, "minutes": seconds // 60 % 60,
+                "hours": seconds // 3600, "binary": seconds}
         if self.with_year:
             date = datetime.date.fromordinal(max(1, day))
             told["year"], told["days"] = date.year % 100, date.timetuple().tm_yday
@@ -86,20 +73,14 @@ class Calendar:
             told["days"] = (day - 1) % self.days + 1
         return told
 
-    def text(self, number: Hundredths) -> str:
+    def text(self, moment: Hundredths) -> str:
         """The moment as the editor's `regen` takes it."""
-        told = self.fields(number)
+        told = self.fields(moment)
         long = self.days == 366 or told["days"] == 366
-        year = 2000 + told["year"] if self.with_year else 2024 if long else 2023
-        text = "%04d-%03dT%02d:%02d:%02d" % (
-            year,
-            told["days"],
-            told["hours"],
-            told["minutes"],
-            told["seconds"],
-        )
+        told["year"] = 2000 + told["year"] if self.with_year else 2024 if long else 2023
+        text = "%(year)04d-%(days)03dT%(hours)02d:%(minutes)02d:%(seconds)02d" % told
         return text + (".%02d" % told["hundredths"] if "hundredths" in self.layout.fields else "")
 
-    def name(self, number: Hundredths) -> str:
+    def name(self, moment: Hundredths) -> str:
         """The moment for people; without the year if the format has none."""
-        return self.text(number)[0 if self.with_year else 5:]
+        return self.text(moment)[0 if self.with_year else 5:]

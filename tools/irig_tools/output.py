@@ -47,13 +47,17 @@ def _identity(place: Place) -> Optional[Tuple[int, int]]:
 @contextmanager
 def new_file(path: str) -> Iterator[IO[bytes]]:
     """A file that is written as a whole: it has its name only at the end, and after an error not at all."""
+    named = path
     path = os.path.realpath(path)
     if os.path.exists(path) and not os.path.isfile(path):
         with open(path, "wb") as straight:
             yield straight
         return
     folder, name = os.path.split(path)
-    number, beside = tempfile.mkstemp(prefix="." + name[:100], dir=folder)
+    try:
+        number, beside = tempfile.mkstemp(prefix="." + name[:100], dir=folder)
+    except OSError as error:  # nobody knows the name of the new file
+        raise OSError(error.errno, error.strerror, named) from error
     try:
         with os.fdopen(number, "wb") as new:
             yield new

@@ -1,14 +1,16 @@
 """A recording, its damage and its repairs as the data that a page or a picture shows."""
 from __future__ import annotations
 
-from typing import Dict, List, Optional, Sequence, Set, Tuple
+from collections import Counter
+from typing import Iterator, Optional, Sequence, Tuple
 
 from .analysis import Part
 from .damage import Damage, Seen
 from .editor import Listing
 from .script import Repair
 from .sheet import DAMAGED, LOST, SOUND, Place, Sheet, Stretch, Wave, cut, merged
-from .steps import cut as cut_by_a_step
+from .steps import cut_by_a_step
+from .units import frame_of
 
 AROUND = 4  # intervals that are shown on both sides of a place
 
@@ -19,82 +21,41 @@ def sheet_of(name: str, seen: Seen, script: Sequence[Repair] = (), after: Option
     notes = [each for each in seen.damages if each.is_remark or each.name == "the whole recording"]
     places = [_place(seen, each, script, after) for each in seen.damages if each not in notes]
     lines = tuple(line for repair in script for line in repair.lines())
-    return Sheet(
-        name,
-        seen.listing.length,
-        layout.interval,
-        "%s %d" % (layout.kind, layout.expression),
-        _stretches(seen),
-        tuple(places),
-        lines,
-        tuple(each.seen for each in notes),
-    )
+    kind = "%s %d" % (layout.kind, layout.expression)
+    said = tuple(each.seen for each in notes)
+    return Sheet(name, seen.listing.length, layout.interval, kind, _stretches(seen), tuple(places), lines, said)
 
 
 def _place(seen: Seen, damage: Damage, script: Sequence[Repair], after: Optional[Listing]) -> Place:
-    around = AROUND * seen.findings.layout.interval
-    start, end = max(0, damage.at - around), min(seen.listing.length, max(damage.until, damage.at) + around)
-    repairs = [each for each in script if each.at <= damage.at <= max(each.at, each.until)]
+    around, until = AROUND * seen.findings.layout.interval, max(damage.until, damage.at)
+    start, end = max(0, damage.at - around), min(seen.listing.length, until + around)
+    repairs = [each for each in script if each.touches(damage.at, damage.at)]
     lines = tuple(line for repair in repairs[:1] for line in repair.lines())
-    moved = _moved(script, damage.at)
+    moved = sum(sum(repair.moves) for repair in script if repair.at < damage.at)  # rests that begin before it
     wave: Optional[Wave] = None
     if after and repairs and repairs[0].edits:
         cut_out = cut(after.rises, after.falls, after.classes, start + moved, end + moved)
         wave = tuple((rise - moved, fall - moved, name) for rise, fall, name in cut_out)
     listing = seen.listing
     before = cut(listing.rises, listing.falls, listing.classes, start, end)
-    title = damage.seen.partition(";")[0]
-    return Place(
-        damage.at, max(damage.until, damage.at), title, damage.seen, before, wave, lines, damage.name
-    )
-
-
-def _moved(script: Sequence[Repair], at: int) -> int:
-    """By how much the script moves what is at this time: rests that begin before it."""
-    return sum(sum(repair.moves) for repair in script if repair.at < at)
+    return Place(damage.at, until, damage.seen.partition(";")[0], damage.seen, before, wave, lines, damage.name)
 
 
 def _stretches(seen: Seen) -> Tuple[Stretch, ...]:
-    found: List[Stretch] = []
-    for part in reversed(seen.findings.parts):
-        found += _of_part(part)
-    if not found:
-        return (Stretch(0, seen.listing.length, DAMAGED),)
-    return merged(found)
+    found = [stretch for part in reversed(seen.findings.parts) for stretch in _of_part(part)]
+    return merged(found) if found else (Stretch(0, seen.listing.length, DAMAGED),)
 
 
-def _of_part(part: Part) -> List[Stretch]:
+def _of_part(part: Part) -> Iterator[Stretch]:
     """A stretch for each frame."""
-    track = part.track
-    found: List[Stretch] = []
-    faulty: Dict[int, int] = {}
-    for place in part.faults.wanted:
-        faulty[place // 100] = faulty.get(place // 100, 0) + (not track.pulses_at(place))
-    remarked, cut_by_steps = _remarked(part), set(cut_by_a_step(track))
+    track, done = part.track, part.track.rise_at(part.track.first)
+    empty = Counter(frame_of(place) for place in part.faults.wanted if not track.pulses_at(place))
+    damaged = {*map(frame_of, part.faults.wanted), *cut_by_a_step(track)}
+    undecided = [remark.at for remark in part.remarks + part.faults.remarks]
     for number in track.frames():
-        first, beyond = max(track.first, 100 * number), min(track.last, 100 * number + 100)
-        start, end = track.rise_at(first), track.rise_at(beyond)
-        state = (
-            LOST
-            if faulty.get(number, 0) > 50
-            else DAMAGED
-            if number in faulty or number in remarked or number in cut_by_steps
-            else SOUND
-        )
-        if found and start < found[-1].end:
-            start = found[-1].end
+        start, end = (track.rise_at(track.within(100 * each)) for each in (number, number + 1))
+        is_damaged = number in damaged or any(start <= at < end for at in undecided)
+        start = max(start, done)
         if start < end:
-            found.append(Stretch(start, end, state))
-    return found
-
-
-def _remarked(part: Part) -> Set[int]:
-    """The frames in which there is something that nothing decides."""
-    times = sorted(remark.at for remark in part.remarks + part.faults.remarks)
-    found: Set[int] = set()
-    for number in part.track.frames() if times else ():
-        start = part.track.rise_at(max(part.track.first, 100 * number))
-        end = part.track.rise_at(min(part.track.last, 100 * number + 100))
-        if any(start <= at < end for at in times):
-            found.add(number)
-    return found
+            yield Stretch(start, end, LOST if empty[number] > 50 else DAMAGED if is_damaged else SOUND)
+            done = end

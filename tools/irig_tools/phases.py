@@ -1,15 +1,13 @@
-"""Position identifiers in a run of classes: with which element it begins, and where it continues with
-another one.
+"""Position identifiers in a run of classes: with which element it begins, and where it continues with another one.
 
-A phase is the element, 0 to 99, of the first pulse of a text. `P` has to be at elements 0, 9, 19, .. 99 and
-nowhere else.
+A phase is the element, 0 to 99, of the first pulse of a text. `P` has to be at elements 0, 9, 19, .. 99 and nowhere else.
 """
 from __future__ import annotations
 
 from collections import Counter
 from itertools import accumulate, cycle, islice
 from operator import add, ne
-from typing import Callable, Container, Iterable, List, Optional, Sequence, Tuple
+from typing import Callable, Container, Iterable, List, Sequence, Tuple
 
 from . import limits
 from .layout import POSITIONS
@@ -18,7 +16,7 @@ ONLY_P = str.maketrans("01b", "---")
 NO_DIGITS = str.maketrans("01", "--")
 PATTERN = "".join("P" if element in POSITIONS else "-" for element in range(100))
 
-Place = Tuple[int, int]
+Turn = Tuple[int, int]  # the first and the last place in a text at which the phase may change
 
 
 def whole_frames(classes: str) -> List[int]:
@@ -40,13 +38,10 @@ class Marks:
         self.count = len(text)
         self.places = [text[place::100].count("P") for place in range(100)]
         self.many = sum(self.places)
-        self.whole: Container[int] = (
-            {-start % 100 for start in whole_frames(text)} if self.count > 100 else ()
-        )
+        self.whole: Container[int] = {-start % 100 for start in whole_frames(text)} if self.count > 100 else ()
 
     def faults(self, phase: int) -> int:
-        """How many pulses are position identifiers by mistake, or are none by mistake, if the first is
-        element `phase`;
+        """How many pulses are position identifiers by mistake, or are none by mistake, if the first is element `phase`;
         some more if frames that are whole say otherwise."""
         cycles, rest = divmod(self.count, 100)
         hits = wanted = 0
@@ -91,18 +86,14 @@ def _mask(counted: Sequence[Counter[str]], name: str) -> int:
 
 
 def faults_along(text: str, phase: int) -> List[int]:
-    """How many faults are before each pulse, and in all, if the first is element `phase`. The text has `P`
-    and `-` alone."""
+    """How many faults are before each pulse, and in all, if the first is element `phase`; in a text of `P` and `-` alone."""
     return list(accumulate(map(ne, text, islice(cycle(PATTERN), phase, None)), initial=0))
 
 
 def parting(text: str, lefts: Iterable[int], rights: Iterable[int]) -> Tuple[int, int, int, int, int]:
-    """Where the text is parted best: its faults then, the first and the last such place, and the phases of
-    both sides."""
-    before = {phase: faults_along(text, phase) for phase in lefts}
-    after = {
-        phase: [row[-1] - faults for faults in row] for phase in rights for row in [faults_along(text, phase)]
-    }
+    """Where the text is parted best: its faults then, the first and the last such place, and the phases of both sides."""
+    before, rest = ({phase: faults_along(text, phase) for phase in phases} for phases in (lefts, rights))
+    after = {phase: [row[-1] - faults for faults in row] for phase, row in rest.items()}
     total = list(map(add, map(min, zip(*before.values())), map(min, zip(*after.values()))))
     least = min(total)
     low, high = total.index(least), len(total) - 1 - total[::-1].index(least)
@@ -115,42 +106,34 @@ def _has_marker(phase: int, count: int) -> bool:
     return (99 - phase) % 100 + 1 < count
 
 
-def _turn(text: str, lefts: Sequence[int], rights: Sequence[int]) -> Optional[Place]:
-    """The first and last place at which the phase may change in a text. At most one side's phase is known."""
+def _turn(text: str, lefts: Sequence[int], rights: Sequence[int], at: int = 0) -> List[Turn]:
+    """Where the phase may change in a text that begins at a place, if it does. At most one side's phase is known."""
     marks = Marks(text)
     whole = min(map(marks.faults, lefts if len(lefts) <= len(rights) else rights))
     if whole < 2 or len(text) > limits.LONGEST_TURN:
-        return None
+        return []
     least, low, high, left, right = parting(text, lefts, rights)
     one_known = len(lefts) + len(rights) == 101
     if whole - least >= (limits.FEWER_AFTER_ONE if one_known else limits.FEWER_FAULTS):
-        return low, high
+        return [(at + low, at + high)]
     # position identifiers that are ten apart agree on both sides but for the marker
     ten_apart = left != right and (left - right) % 10 == 0 and least == 0 and one_known
     marked = _has_marker(left, low) if len(lefts) > 1 else _has_marker((right + high) % 100, len(text) - high)
-    return (low, high) if whole - least >= limits.FEWER_AT_MARKER and ten_apart and marked else None
+    return [(at + low, at + high)] if whole - least >= limits.FEWER_AT_MARKER and ten_apart and marked else []
 
 
-def turns(classes: str) -> List[Place]:
-    """The places (first, last) at which a run continues with another phase: between whole frames, before and
-    after them."""
+def turns(classes: str) -> List[Turn]:
+    """Where a run continues with another phase: between whole frames, before and after them."""
     whole = whole_frames(classes)
     text, every = classes.translate(ONLY_P), range(100)
     if not whole:
-        alone = _turn(text, every, every)
-        return [alone] if alone else []
-    found: List[Place] = []
-    ahead = _turn(text[: whole[0] + 100], every, [-whole[0] % 100])
-    if ahead:
-        found.append(ahead)
+        return _turn(text, every, every)
+    found = _turn(text[:whole[0] + 100], every, [-whole[0] % 100])
     for before, after in zip(whole, whole[1:]):
         if (after - before) % 100:
             _, low, high, _, _ = parting(text[before:after + 100], [0], [(before - after) % 100])
             found.append((before + low, before + high))
-    beyond = _turn(text[whole[-1]:], [0], every)
-    if beyond:
-        found.append((whole[-1] + beyond[0], whole[-1] + beyond[1]))
-    return found
+    return found + _turn(text[whole[-1]:], [0], every, whole[-1])
 
 
 def tells_phase(text: str) -> bool:

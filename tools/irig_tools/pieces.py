@@ -2,7 +2,7 @@
 from __future__ import annotations
 
 from collections import Counter
-from typing import Callable, Dict, Optional, Sequence
+from typing import Callable, Optional, Sequence
 
 from . import limits
 from .moments import DAY
@@ -10,12 +10,7 @@ from .units import Base, FrameNumber, Hundredths
 from .votes import Votes
 
 # each field with how many hundredths of a second one of it is, and after how many it begins again
-LEVELS = (
-    ("hundredths", 1, 100),
-    ("seconds", 100, 6000),
-    ("minutes", 6000, 360000),
-    ("hours", 360000, DAY),
-)
+LEVELS = (("hundredths", 1, 100), ("seconds", 100, 6000), ("minutes", 6000, 360000), ("hours", 360000, DAY))
 
 
 class _Pieces:
@@ -24,21 +19,13 @@ class _Pieces:
     def __init__(self, votes: Votes, numbers: Sequence[FrameNumber]) -> None:
         self.votes, self.layout, self.numbers = votes, votes.layout, numbers
 
-    def _read(self, name: str) -> Dict[FrameNumber, int]:
-        """What the frames say of a field."""
-        rows = self.layout.fields[name]
-        said: Dict[FrameNumber, int] = {}
-        for number in self.numbers:
-            text = self.votes.texts[number]
-            if all(text[element] in "01" for element, _ in rows):
-                value = self.layout.value(name, text)
-                if value >= 0:
-                    said[number] = value
-        return said
-
     def _vote(self, name: str, means: Callable[[int, int], int]) -> Optional[int]:
         """What most frames mean by a field; None if too few say it, or as many say another thing."""
-        often = Counter(means(number, value) for number, value in self._read(name).items()).most_common(2)
+        rows = self.layout.fields[name]
+        texts = [(number, self.votes.texts[number]) for number in self.numbers]
+        read = [(number, text) for number, text in texts if all(text[element] in "01" for element, _ in rows)]
+        values = [(number, self.layout.value(name, text)) for number, text in read]
+        often = Counter(means(number, value) for number, value in values if value >= 0).most_common(2)
         if not often or often[0][1] < limits.WITNESSES or (len(often) > 1 and often[1][1] == often[0][1]):
             return None
         return often[0][0]
@@ -70,14 +57,13 @@ class _Pieces:
         def means(number: int, value: int) -> int:
             """The base by the day of the year that a frame has."""
             later = number * self.layout.period
-            return self.votes.calendar.number({**midnight, "days": value}) + (start + later) % DAY - later
+            return self.votes.calendar.moment_of({**midnight, "days": value}) + (start + later) % DAY - later
 
         base = self._vote("days", means)
         return None if base is None else Base(Hundredths(base))
 
 
 def pieced(votes: Votes, numbers: Sequence[FrameNumber]) -> Optional[Base]:
-    """The base that these frames lead to together: two of them say each field, and no element is outvoted.
-    """
+    """The base that these frames lead to together: two of them say each field, and no element is outvoted."""
     base = _Pieces(votes, numbers).base() if len(numbers) > 1 else None
     return base if base is not None and votes.is_borne(numbers, base) else None

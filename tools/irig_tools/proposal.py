@@ -24,8 +24,8 @@ def no_option(path: str) -> str:
 
 @dataclass
 class Proposal:
-    """What `irig_ed` or `irig_mend` has to be given. If the editor does not read the wire of the dump as it is, a
-    dump of the wire is made first, by these words of `irig_wire`."""
+    """What `irig_ed` or `irig_mend` has to be given. If it does not read the wire of the dump as it is, a dump of the
+    wire is made first, by these words of `irig_wire`."""
 
     path: str
     wire: Optional[str]
@@ -34,21 +34,26 @@ class Proposal:
     extraction: Optional[Sequence[str]] = None
     repairs: int = 0  # that irig_mend proposes
     remarks: int = 0
+    choice: Sequence[str] = ()  # the options of irig_mend for the unit and the dump
 
     def lines(self) -> List[str]:
         """The command is the last line; before it is what it is for, if the recording is damaged."""
         new = shlex.quote(free_name("new.vcd"))
         if not self.repairs + self.remarks:
             return [self._first() + "irig_ed %s --out %s %s" % (self._options(), new, self._track())]
-        script = shlex.quote(free_name("repair.ed"))
-        edit = "(cat %s; echo write) | irig_ed %s --out %s %s" % (script, self._options(), new, self._track())
-        told = "damaged: irig_mend has %s; after the next line read %s, then: %s"
-        mend = "irig_mend %s %s > %s" % (self._options(), self._track(), script)
-        return [told % (self._counted(), script, edit), self._first() + mend]
+        told = "damaged: irig_mend has %s; the next line writes the repaired recording as %s (without --apply %s it prints the script%s)"
+        mend = "irig_mend %s --apply %s %s" % (self._options(), new, self._track())
+        return [told % (self._counted(), new, new, self._into()), self._first() + mend]
 
     def _counted(self) -> str:
         parts = (self.repairs, "repair"), (self.remarks, "remark")
         return " and ".join("%d %s%s" % (many, noun, "s" * (many > 1)) for many, noun in parts if many)
+
+    def _into(self) -> str:
+        """How the other wires of the dump are kept."""
+        if self.wire is None or self.extraction is not None or self.path == "-":
+            return ""
+        return ", and with --into %s it keeps the other wires" % self._track()
 
     def _first(self) -> str:
         if self.extraction is None:
@@ -60,5 +65,8 @@ class Proposal:
         return shlex.quote(no_option(self.path) if self.extraction is None else free_name("one.vcd"))
 
     def _options(self) -> str:
-        wire = "--wire=%s " % shlex.quote(self.wire) if self.wire is not None and self.extraction is None else ""
-        return "%s--format %s --expression %d" % (wire, self.kind, self.expression)
+        code = "--format %s --expression %d" % (self.kind, self.expression)
+        if self.extraction is not None:
+            return code
+        named = [] if self.wire is None else ["--wire=" + shlex.quote(self.wire)]
+        return " ".join([*named, *self.choice, code])

@@ -85,7 +85,7 @@ class PutBack:
         self.source.copy(len(self.source.taken))
         self.report.done += self.source.notes
         if dumps > 1 and not self.wish.dump:
-            text = "the file has %d dumps, one after the other; the track was put back into number 1 (--dump N)"
+            text = "the file has %d dumps, one after the other; the track was put back into number 1 (--dump N names another)"
             self.report.doubtful.append(text % dumps)
         return self.report
 
@@ -122,8 +122,11 @@ class PutBack:
             return self.wish.start
         before = self.header.offset.femtoseconds if self.header.offset else 0
         start, rest = divmod(self.track.offset.femtoseconds - before, self.unit.femtoseconds * self.unit.factor)
-        if start < 0 or rest or self.wish.start not in (None, start):
-            raise Problem("the track was cut out at %s, and not of this dump or not at --from" % self.track.offset.text())
+        text = "the track was cut out at %s, " % self.track.offset.text()
+        if start < 0 or rest:
+            raise Problem(text + "and this dump has no such time: it was cut out of another one")
+        if self.wish.start not in (None, start):
+            raise Problem(text + "and not at --from %s; leave out --from" % self.wish.start)
         return start
 
     def _check_end(self, body: Body) -> None:
@@ -136,8 +139,9 @@ class PutBack:
 
     def _say(self) -> None:
         merger, length = self.merger, self.track.level.length
-        say = "the track differs in %d stretch%s, %d microseconds in all, and the wire has it there now"
-        self.report.done.append(say % (merger.stretches, "es" * (merger.stretches != 1), merger.differ))
+        text = "%s of the wire %s replaced by the track, %d microseconds in all; the rest is as it was"
+        many = ("1 stretch", "was") if merger.stretches == 1 else ("%d stretches" % merger.stretches, "were")
+        self.report.done.append(text % (*many, merger.differ))
         if merger.place and merger.place.start:
             self.report.done.append("the track begins at %d of the dump's unit" % merger.place.start)
         if 2 * merger.differ > length:

@@ -1,24 +1,23 @@
-"""The repairs of a track, with their reasons, from its end to its beginning, so that numbers of pulses stay
-true."""
+"""The repairs of a track, with their reasons, from its end to its beginning, so that numbers of pulses stay true."""
 from __future__ import annotations
 
 from typing import Dict, List, Tuple
 
 from . import limits
 from .chance import misread
-from .edit import Edit, of_pulses, repair_of
+from .edit import Edit, inserted, of_pulses, repair_of
 from .edits import Item, items
 from .faults import Faults, Remark
 from .layout import SHARE
 from .script import Repair
+from .units import PlaceNumber, places
 from .wholes import late_zones, left_rest, lost_frames, shift
 
 
 def repairs(seen: Faults) -> Tuple[List[Repair], List[Remark]]:
     """What the faults call for, and what is said of a rest that is left. What is close together is one repair."""
     moved, left = late_zones(seen)
-    between = [place for zone in left for place in range(zone.first + 1, zone.last)]
-    faults = seen.without({*seen.in_left_frames(), *between})
+    faults = seen.without({place for zone in left for place in places(zone.first + 1, zone.last - 1)})
     whole = lost_frames(faults)
     single = faults.without({place for item in whole for place in item.targets})
     found = [shift(faults, zone) for zone in moved] + whole + misread(single) + items(single)
@@ -41,8 +40,8 @@ def _repair(faults: Faults, group: List[Item]) -> Repair:
         comments += _of_lost(faults, lost) + [item.why]
         lost = []
     comments += _of_lost(faults, lost)
-    at = faults.track.rise_at(max(faults.track.first, int(group[-1].low + 0.5)))
-    until = faults.track.rise_at(min(faults.track.last, int(group[0].high + 0.5)))
+    track = faults.track
+    at, until = (track.rise_at(track.within(int(place + 0.5))) for place in (group[-1].low, group[0].high))
     edits, instead = [edit for item in group for edit in item.edits], _written_again(faults, group)
     if all(item.single for item in group) and 0 < len(instead) < len(edits):
         return repair_of(at, comments, instead, until)
@@ -50,36 +49,29 @@ def _repair(faults: Faults, group: List[Item]) -> Repair:
 
 
 def _written_again(faults: Faults, group: List[Item]) -> List[Edit]:
-    """Deletes all pulses from the first to the last faulty place and inserts those that are wanted; nothing
-    if more than that is to be done, or if a class is not known there."""
+    """Deletes all pulses from the first to the last faulty place and inserts those that are wanted; nothing if more than
+    that is to be done, or if a class is not known there."""
     if not all(item.targets or item.single or item.low in faults.wanted for item in group):
         return []
-    targets: Dict[int, str] = {}
+    targets: Dict[PlaceNumber, str] = {}
     for item in group:
-        targets.update(item.targets or _wanted(faults, item))
-    places = range(min(targets), max(targets) + 1)
-    for place in places[:limits.MOST_AGAIN]:
-        targets.setdefault(place, faults.track.told[place - faults.track.first])
-    if len(places) > limits.MOST_AGAIN or not set(targets.values()) <= set(SHARE):
+        own = places(int(item.low), int(item.high))
+        targets.update(item.targets or {place: faults.wanted[place] for place in own if place in faults.wanted})
+    written = places(min(targets), max(targets))
+    if len(written) > limits.MOST_AGAIN:
         return []
-    pulses = sorted({pulse for place in places for pulse in faults.track.pulses_at(place)})
+    for place in written:
+        targets.setdefault(place, faults.track.told[place - faults.track.first])
+    if not set(targets.values()) <= set(SHARE):
+        return []
+    pulses = faults.track.pulses_of(written)
     edits = [of_pulses("delete", pulses[0], pulses[-1])] if pulses else []
-    for place in reversed(places):
-        rise = faults.track.rise_at(place)
-        edits.append(Edit("insert", (rise, rise + faults.width(targets[place]))))
-    return edits
-
-
-def _wanted(faults: Faults, item: Item) -> Dict[int, str]:
-    places = range(int(item.low), int(item.high) + 1)
-    return {place: faults.wanted[place] for place in places if place in faults.wanted}
+    return edits + [inserted(faults.track.rise_at(place), faults.width(targets[place])) for place in reversed(written)]
 
 
 def _of_lost(faults: Faults, lost: List[Item]) -> List[str]:
     """One sentence for pulses that are missing one after the other."""
     if len(lost) < 2:
         return [item.why for item in lost]
-    return [
-        "%d pulses are missing, from %s on; each follows from the frames around it"
-        % (len(lost), faults.where(int(lost[-1].low)))
-    ]
+    first = faults.where(PlaceNumber(int(lost[-1].low)))
+    return ["%d pulses are missing, from %s on; each follows from the frames around it" % (len(lost), first)]

@@ -6,6 +6,7 @@ import sys
 from array import array
 from typing import IO, Iterator, List, Optional, Sequence, Tuple, cast
 
+from . import texts
 from .editor import Problem
 from .ending import Usage
 from .progress import counted
@@ -57,8 +58,10 @@ class Samples:
         form = Reader(self.stream, self.path).form()
         self.kind, self.channels, self.rate, self.left = form.kind, form.channels, form.rate, form.size
         if self.channel > self.channels:
-            text = "%s: has %d channels, and no channel %d"
-            raise Problem(text % (self.path, self.channels, self.channel))
+            text = "%s: has %d channel%s, and no channel %d"
+            raise Problem(text % (self.path, self.channels, "s" * (self.channels > 1), self.channel))
+        if self.channels > 1:
+            self.notes.append("channel %d of %d was read (--channel N reads another)" % (self.channel, self.channels))
 
     def chunks(self, length: int) -> Iterator[Sequence[float]]:
         """Stretches of this many samples; the last may be shorter."""
@@ -69,7 +72,7 @@ class Samples:
         for data in self._whole(length * step, step):
             values = numbers_of(data, self.kind)[self.channel - 1 if self.channels > 1 else 0::self.channels]
             if self.kind.startswith("f") and not _is_sound(values):
-                raise Problem("%s: a sample is no number from -1e30 to 1e30" % self.path)
+                raise Problem("%s: a sample is no number from -1e30 to 1e30; if it is raw, is --raw KIND right?" % self.path)
             yield values
 
     def _read(self, size: int) -> bytes:
@@ -92,7 +95,7 @@ class Samples:
                 yield data[:len(data) - over]
             data = self._read(size)
         if self.left:
-            self.notes.append("the file is cut off: it has %d bytes of samples less than it says" % self.left)
+            self.notes.append("the file is cut off: it has %s of samples less than it says" % texts.counted(self.left, "byte"))
 
     def _in_lines(self, length: int) -> Iterator[Sequence[float]]:
         values: List[float] = []

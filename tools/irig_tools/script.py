@@ -2,7 +2,9 @@
 from __future__ import annotations
 
 from dataclasses import dataclass, field
-from typing import List, Tuple
+from typing import List
+
+from .units import Microseconds
 
 LONGEST = 395  # letters of a comment; the editor refuses lines that are far longer
 BY_LINE = 200
@@ -10,16 +12,22 @@ BY_LINE = 200
 
 @dataclass
 class Repair:
-    """Sentences, and the edits that belong together. `at` is where it is, in microseconds."""
+    """Sentences, and the edits that belong together."""
 
-    at: int
+    at: Microseconds
     comments: List[str]
     edits: List[str] = field(default_factory=list)
-    # first pulse, pulses and microseconds of a stretch that is taken out
-    removed: Tuple[int, int, int] = (0, 0, 0)
+    removed: int = 0  # microseconds of a stretch that it takes out
     instead: List[str] = field(default_factory=list)  # what also does it, if an edit is refused
-    until: int = 0  # where it ends, in microseconds
+    until: Microseconds = Microseconds(0)  # where it ends
     moves: List[int] = field(default_factory=list)  # by how many microseconds it moves all that follow, edit by edit
+
+    def text(self) -> str:
+        """Its edits, by which it is known."""
+        return "\n".join(self.edits)
+
+    def touches(self, begin: int, end: int) -> bool:
+        return self.at <= end and begin <= max(self.at, self.until)
 
     def lines(self) -> List[str]:
         edits = ["begin", *self.edits, "end"] if len(self.edits) > 1 else self.edits

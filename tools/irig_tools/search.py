@@ -116,7 +116,7 @@ def search(path: str, unit: str, number: int) -> Found:
         probe.votes = probe.in_units.get(found.unit, probe.votes)
     found.probes = [probe for probe in found.probes if probe.votes]
     if not found.looked_at:
-        raise Problem("%s: has no wire of bits" % path)
+        raise Problem("%s: has no wire of bits, and only such a wire can carry time code" % path)
     return found
 
 

@@ -35,13 +35,13 @@ def blocks(stream: IO[bytes], path: str) -> Iterator[bytes]:
             yield _head(capture, unit)
             yield from _changes(folder, capture, many)
     except (zipfile.BadZipFile, zlib.error, EOFError, NotImplementedError, RuntimeError, UnicodeError, configparser.Error) as error:
-        raise Problem("%s: is a packed folder that cannot be read: %s" % (path, error)) from error
+        raise Problem("%s: is a ZIP archive that cannot be read: %s" % (path, error)) from error
 
 
 def _capture(folder: zipfile.ZipFile, path: str) -> Capture:
     names = folder.namelist()
     if "metadata" not in names:
-        raise Problem("%s: is a packed folder that sigrok did not write" % path)
+        raise Problem("%s: is a ZIP archive that sigrok did not write; unpack it" % path)
     with folder.open("metadata") as file:
         told = configparser.ConfigParser(interpolation=None)
         told.read_string(file.read(LONGEST).decode())

@@ -1,26 +1,22 @@
-"""Runs get their places: linked from the first to the last, so that position identifiers are where they have
-to be."""
+"""Runs get their places: linked from the first to the last, so that position identifiers are where they have to be."""
 from __future__ import annotations
 
 from dataclasses import replace
+from functools import lru_cache
 from math import inf
 from typing import Callable, Dict, Iterator, List, NamedTuple, Optional, Sequence, Tuple
 
 from . import limits
 from .interval import Clock, Run
 from .phases import Marks, Usual, tells_phase
+from .units import PlaceNumber
 
 # what a phase costs, the phase of the run before, the elements between, how late it comes
 Choice = Tuple[float, Optional[int], int, float]
 
 
-def _classes(run: Run, classes: str) -> str:
-    return classes[run.first:run.last + 1]
-
-
-def parts(clock: Clock, classes: str) -> List[List[Run]]:
-    """The sure runs, parted at holes too long to fill. At the ends shorter ones count that are on the same
-    clock."""
+def parts(clock: Clock) -> List[List[Run]]:
+    """The sure runs, parted at holes too long to fill. At the ends shorter ones count that are on the same clock."""
     sure = [at for at, run in enumerate(clock.runs) if run.count >= limits.SURE_RUN]
     if not sure:
         return []
@@ -36,14 +32,14 @@ def parts(clock: Clock, classes: str) -> List[List[Run]]:
         if run.begin - before.end > limits.LONGEST_HOLE * clock.interval:
             found.append([])
         found[-1].append(run)
-    return [_trim(each, classes) for each in found]
+    return [_trim(clock, each) for each in found]
 
 
-def _trim(runs: List[Run], classes: str) -> List[Run]:
+def _trim(clock: Clock, runs: List[Run]) -> List[Run]:
     """Leaves runs at either end alone that are glued to their neighbour and too short to show their phase."""
-    while len(runs) > 1 and runs[-1].glued and not tells_phase(_classes(runs[-1], classes)):
+    while len(runs) > 1 and runs[-1].glued and not tells_phase(clock.text(runs[-1])):
         runs = _without_last(runs)
-    while len(runs) > 1 and runs[1].glued and not tells_phase(_classes(runs[0], classes)):
+    while len(runs) > 1 and runs[1].glued and not tells_phase(clock.text(runs[0])):
         runs = _without_first(runs)
         runs[0] = replace(runs[0], glued=False)
     return runs
@@ -60,8 +56,7 @@ def _without_first(runs: Sequence[Run]) -> List[Run]:
 
 
 def _hop(clock: Clock, distance: float, interval: float, step: int) -> Tuple[int, float, float]:
-    """Elements to go on by (`step` modulo 100), how late what follows then is, and what it costs to believe
-    that."""
+    """Elements to go on by (`step` modulo 100), how late what follows then is, and what it costs to believe that."""
     # of all whole frames those from which the run is the least late or early
     steps = step + 100 * max(0, round((distance / interval - step) / 100))
     late = distance - steps * interval
@@ -74,8 +69,7 @@ def _hop(clock: Clock, distance: float, interval: float, step: int) -> Tuple[int
 
 
 def _jump(distance: float, interval: float, step: int) -> Tuple[int, float, float]:
-    """As `_hop`, for a run that is glued to the one before: as if more than a frame were missing between
-    them."""
+    """As `_hop`, for a run that is glued to the one before: as if more than a frame were missing between them."""
     straight = round(distance / interval)
     steps = straight + 100 + (step - straight) % 100
     same = steps == straight + 100
@@ -102,28 +96,22 @@ class _Way(NamedTuple):
 class _Linker:
     """The cheapest way through all runs, with the fewest faults, late rests and holes."""
 
-    def __init__(self, clock: Clock, runs: Sequence[Run], classes: str, usual: Usual) -> None:
-        self.clock, self.runs, self.classes, self.usual = clock, runs, classes, usual
+    def __init__(self, clock: Clock, runs: Sequence[Run], usual: Usual) -> None:
+        self.clock, self.runs, self.usual = clock, runs, usual
         marks, price = self._marks(runs[0])
         first = marks.best(limits.WITHIN, 100 if runs[0].count < limits.TELLING else limits.MOST_PHASES)
         self.table: List[Dict[int, Choice]] = [{phase: (price(phase), None, 0, 0) for phase in first}]
         self.ways: List[_Way] = []
         for before, run in zip(runs, runs[1:]):
             self.ways.append(self._way(before, run))
-            self.table.append(self._choices(before, run))
+            self.table.append(self._choices())
 
     def _marks(self, run: Run) -> Tuple[Marks, Callable[[int], float]]:
         """The position identifiers of a run, and what each phase costs."""
-        text = _classes(run, self.classes)
-        marks, known = Marks(text), {}
+        text = self.clock.text(run)
+        marks = Marks(text)
         unlike = self.usual.unlike(text) if run.count < 100 else lambda phase: 0
-
-        def price(phase: int) -> float:
-            if phase not in known:
-                known[phase] = marks.faults(phase) + limits.UNUSUAL * unlike(phase)
-            return known[phase]
-
-        return marks, price
+        return marks, lru_cache(None)(lambda phase: marks.faults(phase) + limits.UNUSUAL * unlike(phase))
 
     def _onward(self, at: int, old: int) -> Iterator[Tuple[int, int, float, float]]:
         """From a phase of run `at` to the next run: each phase, the step, how late it is, and its price."""
@@ -138,7 +126,8 @@ class _Linker:
             )
             yield phase, step, late, cost + way.price(phase)
 
-    def _choices(self, before: Run, run: Run) -> Dict[int, Choice]:
+    def _choices(self) -> Dict[int, Choice]:
+        """The phases of the next run."""
         choices: Dict[int, Choice] = {}
         for old, told in self.table[-1].items():
             for phase, step, late, cost in self._onward(len(self.table) - 1, old):
@@ -153,21 +142,22 @@ class _Linker:
         distance, interval = run.begin - before.end, self.clock.interval_between(before, run)
         straight = round(distance / interval)
         if not run.glued and abs(distance - straight * interval) <= self.clock.least_late(straight):
-            if self._follows(marks, run.count, before.count - 1 + straight):
+            if self._follows(marks, before.count - 1 + straight):
                 return _Way(price, distance, interval, [straight], ())
         steps = {1, *range(max(1, straight - limits.MOST_LATE), straight + 1)}.union({0} if straight == 0 else ())
         within = limits.WITHIN if run.count >= limits.TELLING else 0
         own = marks.best(within, limits.MOST_PHASES) if within or marks.many else ()
         return _Way(price, distance, interval, sorted(steps), own)
 
-    def _follows(self, marks: Marks, count: int, onward: int) -> bool:
+    def _follows(self, marks: Marks, onward: int) -> bool:
         """Whether a run goes on from the cheapest phase so far, that many elements on, beyond doubt."""
         costs = sorted((told[0], old) for old, told in self.table[-1].items())
         faults = marks.faults((costs[0][1] + onward) % 100)
         if not faults:
             alone = len(costs) == 1 or costs[1][0] > costs[0][0] + limits.UNLIKELY
-            return count >= limits.LONG_RUN or alone
-        return count >= limits.LONG_RUN and faults <= min(1 + count // 100, 1 + marks.faults(marks.best(0, 1)[0]))
+            return marks.count >= limits.LONG_RUN or alone
+        most = 1 + min(marks.count // 100, marks.faults(marks.best(0, 1)[0]))
+        return marks.count >= limits.LONG_RUN and faults <= most
 
     def follow(self) -> Linked:
         """The cheapest way, from its end to its beginning: each run has its phase as its place."""
@@ -183,22 +173,20 @@ class _Linker:
             so_far, phase, step, late = choices[own]
             lead = min(others.values(), default=cost + limits.UNLIKELY) - cost
             near = tuple(other for other, each in sorted(others.items()) if each < cost + limits.LEAST_LEAD)
-            runs.append(replace(
-                self.runs[at], place=own, step=step, late=late, cost=so_far, lead=lead, others=near))
+            runs.append(replace(self.runs[at], place=PlaceNumber(own), step=step, late=late, cost=so_far, lead=lead, others=near))
         return Linked(cost, runs[::-1])
 
     def _least_rest(self, at: int, old: int, rest: Dict[int, float]) -> float:
-        """What the cheapest way from a phase of run `at` to the last run costs; `rest` is that of the next
-        run."""
+        """What the cheapest way from a phase of run `at` to the last run costs; `rest` is that of the next run."""
         costs = [each + rest[phase] for phase, _, _, each in self._onward(at, old) if phase in rest]
         return min(costs, default=inf)
 
 
-def _without_stray(clock: Clock, runs: List[Run], classes: str) -> List[Run]:
+def _without_stray(clock: Clock, runs: List[Run]) -> List[Run]:
     """Drops a run at an end whose phase nothing says, if it is not on the clock of the others."""
-    if len(runs) > 1 and _is_off(clock, runs[1]) and _says_nothing(runs[0], classes):
+    if len(runs) > 1 and _is_off(clock, runs[1]) and "P" not in clock.text(runs[0]):
         return _without_first(runs)
-    if len(runs) > 1 and _is_off(clock, runs[-1]) and _says_nothing(runs[-1], classes):
+    if len(runs) > 1 and _is_off(clock, runs[-1]) and "P" not in clock.text(runs[-1]):
         return _without_last(runs)
     return runs
 
@@ -208,17 +196,13 @@ def _is_off(clock: Clock, run: Run) -> bool:
     return abs(run.late) > clock.least_late(run.step)
 
 
-def _says_nothing(run: Run, classes: str) -> bool:
-    return "P" not in _classes(run, classes)
-
-
-def _follow(clock: Clock, runs: List[Run], classes: str, unused: Sequence[int]) -> Linked:
+def _follow(clock: Clock, runs: List[Run], unused: Sequence[int]) -> Linked:
     """The cheapest way; if it leads by little, again with the classes that most frames have."""
-    found = _Linker(clock, runs, classes, Usual(unused)).follow()
+    found = _Linker(clock, runs, Usual(unused)).follow()
     if all(run.lead >= limits.LEAD and not _is_off(clock, run) for run in found.runs):
         return found
-    leading = ((_classes(run, classes), run.place) for run in found.runs if run.lead >= limits.LEAD)
-    return _Linker(clock, runs, classes, Usual(unused, leading)).follow()
+    leading = ((clock.text(run), run.place) for run in found.runs if run.lead >= limits.LEAD)
+    return _Linker(clock, runs, Usual(unused, leading)).follow()
 
 
 def sure_parts(runs: Sequence[Run]) -> List[List[Run]]:
@@ -235,24 +219,24 @@ def sure_parts(runs: Sequence[Run]) -> List[List[Run]]:
     return [part for part in found if part]
 
 
-def link(clock: Clock, runs: List[Run], classes: str, unused: Sequence[int]) -> Linked:
+def link(clock: Clock, runs: List[Run], unused: Sequence[int]) -> Linked:
     """The runs with their places, and what it costs to believe them."""
-    way = _follow(clock, runs, classes, unused)
-    kept = _without_stray(clock, way.runs, classes)
+    way = _follow(clock, runs, unused)
+    kept = _without_stray(clock, way.runs)
     while len(kept) < len(way.runs):
-        way = _follow(clock, kept, classes, unused)
-        kept = _without_stray(clock, way.runs, classes)
+        way = _follow(clock, kept, unused)
+        kept = _without_stray(clock, way.runs)
     found = way.runs[:1]
     for run in way.runs[1:]:
-        run = _glued(clock, run, tells_phase(_classes(run, classes)))
-        found.append(replace(run, place=found[-1].last_place + run.step))
+        run = _glued(clock, run)
+        found.append(replace(run, place=PlaceNumber(found[-1].last_place + run.step)))
     return Linked(way.cost, found)
 
 
-def _glued(clock: Clock, run: Run, tells: bool) -> Run:
+def _glued(clock: Clock, run: Run) -> Run:
     """A run that is glued if elements are missing for which there is no time, and only then."""
     whole = 100 * clock.interval
-    if run.late < -limits.NO_TIME * clock.interval and not run.glued and tells:
+    if run.late < -limits.NO_TIME * clock.interval and not run.glued and tells_phase(clock.text(run)):
         return replace(run, glued=True, step=run.step + 100, late=run.late - whole)
     if run.glued and abs(run.late + whole) <= clock.slack(run.step):  # the phase is the same after all
         return replace(run, glued=False, step=run.step - 100, late=run.late + whole)

@@ -10,11 +10,13 @@ from dataclasses import dataclass
 from typing import IO, Iterator, Optional, Tuple
 
 from .editor import Problem
+from .texts import counted
 
 PCM, FLOAT, EXTENSIBLE = 1, 3, 0xfffe  # forms of samples
 KINDS = {(PCM, 1): "u8", (PCM, 2): "s16", (PCM, 3): "s24", (PCM, 4): "s32", (FLOAT, 4): "f32", (FLOAT, 8): "f64"}
 W64_RIFF = b"riff\x2e\x91\xcf\x11\xa5\xd6\x28\xdb\x04\xc1\x00\x00"
 LONGEST = 1 << 20  # bytes of the chunk that describes the samples
+EMPTY = "says that it has %s and %s in a second; --raw reads the samples without the head"
 UNKNOWN = 0xffffffff, 0xffffffffffffffff  # sizes that say nothing
 SOX = "'sox FILE -t wav - | irig_demodulate -' reads it"
 OTHERS = (
@@ -58,7 +60,7 @@ class Reader:
                 described = self._described(body)
             elif name == b"ds64" and len(body) >= 16:
                 self.long_size = struct.unpack_from("<Q", body, 8)[0] or None
-        raise self._problem("has no samples")
+        raise self._problem("has no samples: its chunk of data is missing")
 
     def _problem(self, text: str) -> Problem:
         return Problem("%s: %s" % (self.path, text))
@@ -74,7 +76,7 @@ class Reader:
         for magic, what in OTHERS:
             if head.startswith(magic):
                 raise self._problem("is no WAV file but %s" % what)
-        raise self._problem("is no WAV file; --raw reads samples without a head")
+        raise self._problem("is no WAV file; --raw reads samples without a head, --table a table")
 
     def _chunks(self) -> Iterator[Tuple[bytes, int]]:
         """The name and the size of each chunk; who takes one reads its body."""
@@ -97,14 +99,14 @@ class Reader:
 
     def _described(self, body: bytes) -> Form:
         if len(body) < 16:
-            raise self._problem("its samples are not described")
+            raise self._problem("does not say how its samples are written; --raw reads them without the head")
         tag, channels, rate, _, step, bits = struct.unpack_from(self.order + "HHIIHH", body)
         if tag == EXTENSIBLE and len(body) >= 26:
             tag = struct.unpack_from(self.order + "H", body, 24)[0]
         size = step // channels if channels and step % channels == 0 and step else (bits + 7) // 8
         kind = KINDS.get((tag, size))
         if not channels or not rate:
-            raise self._problem("has %d channels and %d samples in a second" % (channels, rate))
+            raise self._problem(EMPTY % (counted(channels, "channel"), counted(rate, "sample")))
         if kind is None:
             raise self._problem("has samples of %d bits in the form %d; %s" % (bits, tag, SOX))
         return Form(kind + "be" if self.order == ">" and size > 1 else kind, channels, rate)

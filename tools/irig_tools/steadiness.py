@@ -1,7 +1,7 @@
 """Which elements that no field decides are steady: how often each changes from frame to frame."""
 from __future__ import annotations
 
-from typing import Dict, Sequence
+from typing import Sequence
 
 from . import limits
 
@@ -12,18 +12,14 @@ class Steadiness:
     """The changes of each element, among the frames that show it."""
 
     def __init__(self, elements: Sequence[int], texts: Sequence[str]) -> None:
-        shown = {
-            element: "".join([text[element] for text in texts]).translate(UNSOUND) for element in elements
-        }
-        self._could: Dict[int, int] = {element: max(0, len(row) - 1) for element, row in shown.items()}
-        self._did: Dict[int, int] = {
-            element: row.count("01") + row.count("10") for element, row in shown.items()
-        }
+        shown = {element: "".join([text[element] for text in texts]).translate(UNSOUND) for element in elements}
+        self._could = {element: max(0, len(row) - 1) for element, row in shown.items()}
+        self._did = {element: row.count("01") + row.count("10") for element, row in shown.items()}
         self._none_did = not any(self._did.values())
 
     def holds(self, element: int, before: int, after: int) -> bool:
-        """Whether an element is as in the frames that far before and after, which agree: it never changed, or
-        so seldom that two changes between them have a small chance."""
+        """Whether an element is as in the frames that far before and after, which agree: it never changed, or so seldom
+        that two changes between them have a small chance."""
         did, could = self._did[element], self._could[element]
         if not did and (self._none_did or could >= limits.CHANCES):
             return True

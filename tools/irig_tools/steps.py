@@ -3,7 +3,7 @@ with all its wires or the time code alone, so both sides are looked at on their 
 from __future__ import annotations
 
 from dataclasses import replace
-from typing import Iterator, List
+from typing import Iterator, List, Sequence
 
 from . import limits
 from .copies import copy_between, without_copy
@@ -11,7 +11,9 @@ from .edit import lines_of, moved_from
 from .faults import Faults, Remark
 from .frames import Times
 from .interval import Run
+from .remarks import missing
 from .track import Track
+from .units import FrameNumber, PlaceNumber, PulseIndex, frame_of, number_of
 from .zones import Zone
 
 RECORDER = "that is left: if the recorder slipped, all its wires did, and these times are right"
@@ -23,41 +25,30 @@ class Step:
 
     def __init__(self, track: Track, times: Times, zone: Zone, left: List[Run], right: List[Run]) -> None:
         self.track, self.zone = track, zone
-        assert self.zone.border is not None
-        self.pulse = self.zone.border  # the first one after the step, from 0
+        assert zone.border is not None
+        self.pulse = zone.border  # the first one after the step
         self.at = track.rises[self.pulse]
         frames = times.frames_between(left, right)
         self.known = frames is not None  # whether the times on both sides say how many frames passed
         self.elements = right[0].step + 100 * (frames or 0)  # from the last pulse before to the first after
-        self.late = round(right[0].begin - left[-1].end - self.elements * self.zone.interval)
-        copy = copy_between(track, times, left, right) if self.late > limits.LEAST_COPY * self.zone.interval else None
-        self.copy = without_copy(track, *copy) if copy and self._is_dense() else None
+        self.late = round(right[0].begin - left[-1].end - self.elements * zone.interval)
+        is_copied = self._is_dense() and self.late > limits.LEAST_COPY * zone.interval
+        self.copy = without_copy(track, copy_between(track, times, left, right)) if is_copied else None
 
     def remark(self, right: Faults) -> Remark:
         """What is said of it; `right` is what comes after it."""
         if self.copy:
-            seen = self.copy.comments[0].partition("; ")[0]
-            return Remark(self.copy.at, seen, _choice(self.copy.edits))
-        missing = self._missing()
-        if missing:
-            return Remark(self.at, missing, _choice(self._edits()))
-        place = right.track.first - round((right.track.rise_at(right.track.first) - self.at) / self.zone.interval)
+            return Remark(self.copy.at, self.copy.comments[0].partition("; ")[0], _choice(self.copy.edits))
+        if self.zone.glued and self._is_dense() and not (self.known and self.late > 0):
+            many = self.elements - self.zone.straight() if self.known else None
+            return Remark(self.at, missing(self.zone, many), _choice(self._edits()))
+        first = right.track.first
+        place = PlaceNumber(first - round((right.track.rise_at(first) - self.at) / self.zone.interval))
         return Remark(self.at, self._moved(), _choice(self._edits()), right.name(place))
-
-    def _missing(self) -> str:
-        """How many elements are missing if a pulse follows the other; else nothing."""
-        if not self.zone.glued or not self._is_dense() or (self.known and self.late > 0):
-            return ""
-        if self.known:
-            many = "%d elements are missing by the times of the frames" % (self.elements - self.zone.straight())
-        else:
-            many = "%d elements are missing, not counting whole frames" % (self.zone.skipped() % 100)
-        return many + ", and the rest follows at once"
 
     def _moved(self) -> str:
         """By how much the rest comes late or early."""
-        way = "late" if self.late > 0 else "early"
-        seen = "from pulse %d at %d on all comes %d %s" % (self.pulse + 1, self.at, abs(self.late), way)
+        seen = rest_comes(self.pulse, self.at, self.late)
         if self.elements > 1 and not self._is_dense():
             seen += ", and %d elements before it are missing or damaged" % (self.elements - 1)
         return seen if self.known else seen + ", not counting whole frames"
@@ -69,9 +60,16 @@ class Step:
 
     def _edits(self) -> List[str]:
         """The lines that move the rest back; none if it does not fit the recording."""
-        if self.late < 0 and self.track.falls[-1] - self.late > self.track.listing.length:
-            return []
-        return lines_of(moved_from(self.at, -self.late))
+        return lines_of(moved_from(self.at, -self.late)) if has_room(self.track, self.late) else []
+
+
+def rest_comes(pulse: PulseIndex, at: int, late: int) -> str:
+    return "from pulse %d at %d on all comes %d %s" % (number_of(pulse), at, abs(late), "late" if late > 0 else "early")
+
+
+def has_room(track: Track, late: float) -> bool:
+    """Whether a rest that came late or early fits the recording if it is moved back."""
+    return late >= 0 or track.falls[-1] - late <= track.listing.length
 
 
 def _choice(edits: List[str]) -> str:
@@ -84,19 +82,9 @@ def step_zones(track: Track) -> List[Zone]:
     return [zone for zone in track.zones if zone.left and zone.right and (zone.glued or abs(zone.late) > 0.5)]
 
 
-def stretches(track: Track, steps: List[Zone]) -> List[List[Run]]:
-    """The runs, parted at each step."""
-    firsts, found = {id(zone.right) for zone in steps}, [[track.runs[0]]]
-    for run in track.runs[1:]:
-        if id(run) in firsts:
-            found.append([])
-        found[-1].append(run)
-    return found
-
-
-def apart(track: Track, steps: List[Zone]) -> List[List[Run]]:
-    """The same, each as runs of its own, without the pulses that may be of either side."""
-    found = stretches(track, steps)
+def apart(track: Track, steps: Sequence[Zone]) -> List[List[Run]]:
+    """The runs between these steps, without the pulses that may be of either side."""
+    found = track.parted_at(steps)
     for zone, left, right in zip(steps, found, found[1:]):
         left[-1] = _trimmed(track, left[-1], 0, zone.tail)
         left[-1] = replace(left[-1], ends=left[-1].ends + "]")
@@ -110,19 +98,19 @@ def _trimmed(track: Track, run: Run, head: int, tail: int) -> Run:
     head, tail = min(head, run.count - 1), min(tail, run.count - 1)
     if not head and not tail:
         return run
-    shorter = replace(run, first=run.first + head, last=run.last - tail, place=run.place + head)
-    return track.clock.fit(shorter, track.rises)
+    first, last = PulseIndex(run.first + head), PulseIndex(run.last - tail)
+    return track.clock.fit(replace(run, first=first, last=last, place=PlaceNumber(run.place + head)))
 
 
-def cut(track: Track) -> Iterator[int]:
+def cut_by_a_step(track: Track) -> Iterator[FrameNumber]:
     """The frames of a stretch that a step cuts."""
     if "[" in track.runs[0].ends and track.first % 100:
-        yield track.first // 100
+        yield frame_of(track.first)
     if "]" in track.runs[-1].ends and track.last % 100 != 99:
-        yield track.last // 100
+        yield frame_of(track.last)
 
 
-def turned(times: Times) -> Iterator[int]:
+def turned(times: Times) -> Iterator[FrameNumber]:
     """The frames from which, or to which, the times of a stretch go on elsewhere."""
     for before, after in zip(times.spans, times.spans[1:]):
-        yield from range(before.last, after.first + 1)
+        yield from map(FrameNumber, range(before.last, after.first + 1))

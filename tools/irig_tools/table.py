@@ -30,7 +30,7 @@ class Table(Samples):
         self.rate = rate or rate_of(heads)
         self.form = Heads(heads, first, path).form(time, value, bool(rate))
         if self.form.time is None and not self.rate:
-            raise Problem("%s: has no column of times; name it by --time-column, or give --rate" % path)
+            raise Problem("%s: has no column of times; name it by --time-column, or give --rate, in samples a second" % path)
         rows = self._rows(first)
         looked = list(islice(rows, LOOKED_AT))
         self.rows = chain(looked, rows)
@@ -54,7 +54,7 @@ class Table(Samples):
             heads.append(line)
             if len(heads) > MOST_HEADS:
                 break
-        raise Problem("%s: is no table: no row of numbers is found" % self.path)
+        raise Problem("%s: is no table: no row of numbers is found; the columns are parted by , ; or a tab" % self.path)
 
     def _rows(self, first: str) -> Iterator[Row]:
         """The rows; the first is at time 0."""
@@ -84,10 +84,10 @@ class Table(Samples):
         """The samples in a second, by the first times."""
         wide = looked[-1][0] / (len(looked) - 1) if len(looked) > 1 else 0.0
         if not wide:
-            raise Problem("%s: its times show no rate; give --rate" % self.path)
+            raise Problem("%s: its times are all the same, so they show no rate; give --rate, in samples a second" % self.path)
         for number, (one, other) in enumerate(zip(looked, looked[1:])):
             if abs(other[0] - one[0] - wide) > EVEN * wide:
-                text = "%s: the times of its volts are not even, first in row %d; --rate takes them as even"
+                text = "%s: its samples do not come at even times, first in row %d; with --rate they are taken as even"
                 raise Problem(text % (self.path, number + 2))
         rate = float("%.3g" % (1 / wide))
         return max(1, round(rate if abs(rate * wide - 1) < ROUND else 1 / wide))
@@ -112,7 +112,8 @@ class Steps:
         level = 0
         for time, value in self.samples.rows:
             if value not in (0.0, 1.0):
-                raise Problem("%s: line %d has no level of 0 or 1" % (self.samples.path, self.samples.number))
+                text = "%s: line %d has no level of 0 or 1, as the first %d rows have; --column names another column"
+                raise Problem(text % (self.samples.path, self.samples.number, LOOKED_AT))
             self.length = time * self.samples.rate
             if int(value) ^ self.swapped != level:
                 level = 1 - level

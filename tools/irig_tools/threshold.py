@@ -9,11 +9,11 @@ from .edit import Edit, of_pulse, repair_of
 from .editor import Listing
 from .layout import NAMES, READABLE, SHARE, Layout
 from .script import Repair
+from .units import Microseconds, PulseIndex
 
 
 def _peaks(shift: int) -> List[Tuple[str, int]]:
-    """(Class, width) in hundredths of an interval, if every pulse is that much longer; none gets as long as
-    the interval."""
+    """(Class, width) in hundredths of an interval, if every pulse is that much longer; none gets as long as the interval."""
     return [(name, min(limits.WIDEST_PEAK, round(100 * share) + shift)) for name, share in SHARE.items()]
 
 
@@ -38,8 +38,7 @@ def _classes_by(shift: int) -> Dict[int, str]:
 
 
 def level(listing: Listing, layout: Layout) -> List[Repair]:
-    """Gives each pulse the class that its width has among all others, if the classes as they are make few
-    frames."""
+    """Gives each pulse the class that its width has among all others, if the classes as they are make few frames."""
     if listing.classes.count("b") < limits.SOME_BAD * len(listing.classes):
         return []
     interval = layout.interval
@@ -57,21 +56,16 @@ def level(listing: Listing, layout: Layout) -> List[Repair]:
         "that %d frames can be read, without %d; each pulse gets its own class"
         % (abs(shift) * interval // 100, way, cause, after, before)
     )
-    return _groups(_forced(listing, layout, classes), [why], ["pulses that are %s, as above" % way])
+    edits, again = _forced(listing, layout, classes), "pulses that are %s, as above" % way
+    groups = [edits[at:at + limits.MOST_EDITS] for at in range(0, len(edits), limits.MOST_EDITS)]
+    return [repair_of(Microseconds(0), [again if number else why], group) for number, group in enumerate(groups)]
 
 
 def _forced(listing: Listing, layout: Layout, classes: str) -> List[Edit]:
     """The edits for all pulses that have a class and room for it."""
-    beyond = listing.rises[1:] + [listing.length + 1]
+    beyond = [*listing.rises[1:], listing.length + 1]
     return [
-        of_pulse("force", pulse, NAMES[name])
+        of_pulse("force", PulseIndex(pulse), NAMES[name])
         for pulse, (name, rise, end) in enumerate(zip(classes, listing.rises, beyond))
         if name != "b" and rise + SHARE[name] * layout.interval < end
-    ]
-
-
-def _groups(edits: List[Edit], first: List[str], others: List[str]) -> List[Repair]:
-    return [
-        repair_of(0, others if at else first, edits[at:at + limits.MOST_EDITS])
-        for at in range(0, len(edits), limits.MOST_EDITS)
     ]

@@ -16,7 +16,7 @@ FAR = 0.08  # of the frequency: a carrier that is off by more is not followed
 ALIKE = 0.3  # of the sums of nominal cycles: what adds up in one phase is at least this; of noise it is a tenth
 WIDE, NEAR = 10, 20  # cycles before and after the middle of a window with which that is judged, and those of others
 JUMP = 0.25  # cycles: a phase that is as far from the expected one is no longer that of one carrier
-FEWEST = 3  # windows of a carrier
+FEWEST, ALONE = 3, 5  # windows of a carrier; of one with no other just before or after it, since by chance it can seem to be there
 FINE = 1000  # steps of a frequency in the tables
 
 
@@ -209,7 +209,8 @@ class Run:
 
     def close(self, jumps: bool) -> Iterator[Piece]:
         opens = self.done == 0
-        if len(self.times) >= FEWEST:
+        alone = opens and self.begin == 1 and not jumps
+        if len(self.times) >= (ALONE if alone else FEWEST):
             knots = self._knots(len(self.times))
             after = self._beyond(knots[:-3:-1], 0.5 if jumps else 1.0)
             yield Piece([self._beyond(knots[:2], self.begin), *knots, after] if opens else [*knots, after], opens, True, jumps)

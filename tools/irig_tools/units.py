@@ -1,13 +1,29 @@
 """Numbers that must not be taken for each other: each is an int, and a type of its own for mypy."""
 from __future__ import annotations
 
-from typing import NewType
+from typing import List, NewType
 
+Microseconds = NewType("Microseconds", int)  # a time, since the recording began
+PulseIndex = NewType("PulseIndex", int)  # of a listing: from 0
+PulseNumber = NewType("PulseNumber", int)  # the same as the editor and its users count: from 1
 FrameNumber = NewType("FrameNumber", int)  # of a part of a recording: from 0, and negative before it
+PlaceNumber = NewType("PlaceNumber", int)  # 100 times the number of the frame, and the element
 Hundredths = NewType("Hundredths", int)  # of a second: a moment, since year 1 or since the year began
 Base = NewType("Base", Hundredths)  # the moment of frame 0 that a frame leads to
 
 
+def number_of(pulse: PulseIndex) -> PulseNumber:
+    return PulseNumber(pulse + 1)
+
+
 def frame_of(place: float) -> FrameNumber:
-    """The frame of a place, which is 100 times its frame and its element."""
     return FrameNumber(int(place // 100))
+
+
+def place_in(frame: FrameNumber, element: int = 0) -> PlaceNumber:
+    return PlaceNumber(100 * frame + element)
+
+
+def places(first: int, last: int) -> List[PlaceNumber]:
+    """From the first to the last."""
+    return list(map(PlaceNumber, range(first, last + 1)))

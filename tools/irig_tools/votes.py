@@ -37,15 +37,13 @@ class Votes:
         read = [element for element in self.layout.carried if text[element] in "01"]
         return {element: 1 if text[element] == wanted[element] else -1 for element in read}
 
-    def against(self, number: FrameNumber, base: Base) -> Tuple[int, int]:
-        """How many elements of a frame speak against a base, and, negative, how many for it."""
-        votes = self.votes(number, base).values()
-        wrong = sum(each < 0 for each in votes)
-        return wrong, wrong - len(votes)
+    def counted(self, number: FrameNumber, base: Base) -> Tuple[int, int]:
+        """How many elements of a frame speak for a base, and how many against it."""
+        votes = list(self.votes(number, base).values())
+        return votes.count(1), votes.count(-1)
 
     def is_borne(self, numbers: Sequence[FrameNumber], base: Base) -> bool:
-        """Whether at least one element of these frames speaks for a base, and each that speaks against it is
-        outvoted."""
+        """Whether at least one element of these frames speaks for a base, and each that speaks against it is outvoted."""
         votes: Counter[int] = Counter()
         for number in numbers:
             votes.update(self.votes(number, base))

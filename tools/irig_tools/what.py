@@ -14,7 +14,7 @@ from .opening import needed_name, wire_name
 from .proposal import Proposal, no_option
 from .readings import Reading, Readings, best, is_read, read
 from .script import Repair
-from .search import Found, Probe, search
+from .search import TRIED, Found, Probe, search
 from .wire import Extract, Wish, extract_all
 
 OFTEN = 8  # wires that are read; the others are only named
@@ -72,13 +72,13 @@ class Carrier:
         texts = [row.text() for row in fine]
         others = " ".join(str(row.expression) for row in rows if not row.fine)
         if rows and not fine:
-            return ["no frame is fine under any expression"]
+            return ["no frame is fine under any expression; %d is only a guess" % self.expression]
         if others:
             texts.append("other expressions (%s): no frame is fine" % others)
-        alike = [row for row in fine[1:] if row.fine == fine[0].fine]
-        if alike:
-            text = "the first fits as well as the next %d, and has just the fields that are used"
-            texts.append(text % len(alike))
+        alike = [str(row.expression) for row in fine if row.fine == fine[0].fine]
+        if len(alike) > 1:
+            text = "expressions %s and %s fit equally; %s is first, because it has no unused fields"
+            texts.append(text % (", ".join(alike[:-1]), alike[-1], alike[0]))
         return texts
 
 
@@ -117,14 +117,19 @@ class What:
     def lines(self) -> List[str]:
         found = self.found
         lines = [line for carrier in self.carriers for line in carrier.lines()]
-        lines += ["wire %s may carry time code, and was not read" % probe.signal.text()
+        lines += ["wire %s may carry time code, too; only %d wires are read" % (probe.signal.text(), OFTEN)
                   for probe in found.probes[OFTEN:]]
         if not found.header.unit and not self.unit and found.probes:
             lines.append("the dump names no unit of time; %s makes time code of it" % found.unit)
         if found.dumps > 1:
-            lines.append("the file has %d dumps, one after the other; this is number %d (--dump N)" % (
+            lines.append("the file has %d dumps, one after the other; this is number %d (--dump N reads another)" % (
                 found.dumps, self.dump))
         return lines
+
+    def unit_text(self) -> str:
+        """In what unit time code was looked for."""
+        named = self.unit or self.found.header.unit
+        return "the unit of time is %s" % named if named else "no unit of time is named, and these were tried: " + ", ".join(TRIED)
 
     def sure(self) -> bool:
         """Whether just one wire carries time code, and some frame is fine."""
@@ -133,22 +138,27 @@ class What:
     def proposal(self) -> Proposal:
         """How to continue, for the wire with the most fine frames."""
         carrier = self.carriers[0]
-        name = self._wire_option()
-        extraction = None if self._is_read(carrier, name) else self._extraction(carrier, name)
-        edits = sum(1 for repair in carrier.script if repair.edits)
-        return Proposal(self.shown_path, name, carrier.kind, carrier.expression, extraction, edits,
-                        len(carrier.script) - edits)
+        name, edits = self._wire_option(), sum(1 for repair in carrier.script if repair.edits)
+        is_read = not carrier.inverted if carrier.script else self._is_read(carrier, name)
+        return Proposal(self.shown_path, name, carrier.kind, carrier.expression,
+                        None if is_read else self._extraction(carrier, name), edits, len(carrier.script) - edits, self._choice())
 
     def _is_read(self, carrier: Carrier, name: Optional[str]) -> bool:
+        """Whether the editor reads the wire of the dump as it is; irig_mend does, if it is upright."""
         whole = not carrier.inverted and self.found.dumps == 1 and not self.unit
         return whole and self.shown_path != "-" and is_read(self.path, name, carrier.readings.pulses)
 
-    def _extraction(self, carrier: Carrier, name: Optional[str]) -> List[str]:
-        words = ["--invert"] if carrier.inverted else []
+    def _choice(self) -> List[str]:
+        """The options for the unit and the dump, if those of the dump do not say it."""
+        words = []
         if self.unit or not self.found.header.unit:
             words.append("--timescale=" + self.found.unit.replace(" ", ""))
         if self.found.dumps > 1:
             words.append("--dump=%d" % self.dump)
+        return words
+
+    def _extraction(self, carrier: Carrier, name: Optional[str]) -> List[str]:
+        words = ["--invert"] * carrier.inverted + self._choice()
         if (name or "").startswith("--"):
             words.append("--")
         words.append(no_option(self.shown_path))

@@ -14,7 +14,7 @@ COMMAND = Command("irig_what", ("DUMP",), """\
 Says which wires of a value change dump carry IRIG 200-04 time code, upright or
 upside down, in which format, and for each coded expression how many frames are
 fine, with the time of the first and of the last. The last line is the command to
-go on with: irig_mend for a damaged recording, else irig_ed. It writes over no
+continue with: irig_mend for a damaged recording, else irig_ed. It writes over no
 file that is there. DUMP is any dump that irig_wire reads; - is standard input.
 """, (TIMESCALE, DUMP, JSON), """\
 The editor is the program that IRIG_ED names, or irig_ed on the path.
@@ -38,7 +38,8 @@ def as_text(what: What) -> str:
     if what.carriers:
         lines += what.proposal().lines()
     else:
-        lines.append("no wire of %d carries time code of format A, B, E or G" % what.found.looked_at)
+        text = "no wire of %d carries time code of format A, B, E or G; %s (--timescale UNIT takes another)"
+        lines.append(text % (what.found.looked_at, what.unit_text()))
     return "".join(line + "\n" for line in lines)
 
 

@@ -9,14 +9,16 @@ from . import limits
 from .edit import Edit, moved_from, moved_rest
 from .edits import Item
 from .faults import Faults, Remark
-from .units import Base, FrameNumber, frame_of
+from .steps import has_room, rest_comes
+from .units import Base, FrameNumber, Microseconds, PlaceNumber, frame_of, place_in, places
 from .zones import Zone
 
 
 def late_zones(faults: Faults) -> Tuple[List[Zone], List[Zone]]:
     """Those after which the rest is moved, and those after which it is left, with all that is between."""
-    late = [zone for zone in faults.track.zones if round(zone.late) and not zone.glued]
-    return [zone for zone in late if not _why_not(faults, zone)], [zone for zone in late if _why_not(faults, zone)]
+    zones = [zone for zone in faults.track.zones if round(zone.late) and not zone.glued]
+    late = [(zone, _why_not(faults, zone)) for zone in zones]
+    return [zone for zone, why in late if not why], [zone for zone, why in late if why]
 
 
 def left_rest(faults: Faults, zone: Zone) -> Remark:
@@ -31,11 +33,10 @@ def shift(faults: Faults, zone: Zone) -> Item:
     """Moves the rest back to where it should be."""
     assert zone.right and zone.border is not None
     late, at, between = round(zone.late), faults.rises[zone.border], zone.right.step - 1
-    way = "late" if late > 0 else "early"
-    why = "from pulse %d at %d on all comes %d %s" % (zone.border + 1, at, abs(late), way)
+    why = rest_comes(zone.border, at, late)
     if between:
         why += ", and %d elements before it are missing or damaged" % between
-    if late > 0 and any(place in faults.wanted for place in range(zone.first, zone.border_place)):
+    if late > 0 and any(place in faults.wanted for place in places(zone.first, zone.border_place - 1)):
         # what is before it is repaired first, and that may change the numbers of pulses
         return Item(zone.first - 0.5, zone.border_place - 0.5, moved_from(at, -late), why)
     return Item(zone.border_place - 0.5, zone.border_place - 0.5, [moved_rest(zone.border, -late)], why)
@@ -44,10 +45,10 @@ def shift(faults: Faults, zone: Zone) -> Item:
 def _why_not(faults: Faults, zone: Zone) -> str:
     """Why a rest is not moved, or an empty text."""
     assert zone.left and zone.right
-    if zone.late < 0 and faults.falls[-1] - zone.late > faults.track.listing.length:
+    if not has_room(faults.track, zone.late):
         return "the recording is too short to move the rest back"
     sure = min(zone.left.lead, zone.right.lead) >= limits.LEAD
-    timed = any(100 * number + 99 <= zone.first for number, _ in faults.times.read)
+    timed = any(place_in(number, 99) <= zone.first for number in faults.times.own)
     if abs(zone.late) > limits.MOST_LATE * zone.interval and zone.right.step > 1 and not (sure and timed):
         return "that is too uncertain to move the rest"
     return ""
@@ -56,58 +57,48 @@ def _why_not(faults: Faults, zone: Zone) -> str:
 def _control_of(faults: Faults, number: FrameNumber) -> int:
     """The control functions that a frame has after its repairs."""
     text = faults.times.texts[number]
-    return sum(
-        (faults.wanted.get(100 * number + element, text[element]) == "1") << bit
-        for bit, element in enumerate(faults.layout.control)
-    )
+    told = [faults.wanted.get(place_in(number, element), text[element]) for element in faults.layout.control]
+    return sum((each == "1") << bit for bit, each in enumerate(told))
 
 
 def _can_generate(faults: Faults, number: FrameNumber) -> bool:
     """Whether `regen` of a frame takes away nothing but its damage."""
-    track, places = faults.track, range(100 * number, 100 * number + 100)
-    if places[0] < track.first or places[-1] > track.last or faults.clock.interval != faults.layout.interval:
+    track, own, moment = faults.track, places(place_in(number), place_in(number, 99)), faults.times.moment(number)
+    if own[0] < track.first or own[-1] > track.last or faults.clock.interval != faults.layout.interval:
         return False
-    lost = sum(place in faults.wanted for place in places)
-    moment = faults.times.moment(number)
+    lost = sum(place in faults.wanted for place in own)
     if lost < limits.FEWEST_LOST or (lost < 100 and not faults.clock.exact) or moment is None:
         return False
-    begin = track.rise_at(places[0])
+    begin = track.rise_at(own[0])
     return (
         not faults.times.calendar.within_leap(moment)
         and begin + 100 * faults.clock.interval <= track.listing.length
-        and not any(zone.late and places[0] < zone.border_place <= places[-1] for zone in track.zones)
-        and _stands_alone(faults, places, begin)
-        and all(_as_generated(faults, place, begin) for place in places)
+        and not any(zone.late and own[0] < zone.border_place <= own[-1] for zone in track.zones)
+        and _stands_alone(faults, own, begin)
+        and all(_as_generated(faults, place, begin) for place in own)
     )
 
 
-def _stands_alone(faults: Faults, places: range, begin: int) -> bool:
+def _stands_alone(faults: Faults, own: List[PlaceNumber], begin: Microseconds) -> bool:
     """Whether no pulse of another frame reaches into this one, or is taken away with it."""
     track, end = faults.track, begin + 100 * faults.clock.interval
     before, after = bisect_left(faults.rises, begin) - 1, bisect_left(faults.rises, end)
-    if before >= 0 and (faults.falls[before] >= begin or before in track.pulses_at(places[0])):
+    if before >= 0 and (faults.falls[before] >= begin or before in track.pulses_at(own[0])):
         return False
-    return places[-1] == track.last or after <= min(track.pulses_at(places[-1] + 1), default=after)
+    return own[-1] == track.last or after <= min(track.pulses_at(PlaceNumber(own[-1] + 1)), default=after)
 
 
-def _as_generated(faults: Faults, place: int, begin: int) -> bool:
+def _as_generated(faults: Faults, place: PlaceNumber, begin: Microseconds) -> bool:
     """Whether the pulse of a place is, or is to be, just as `regen` writes it."""
     element, track = place % 100, faults.track
     pulses, due = track.pulses_at(place), begin + element * faults.clock.interval
-    must_be_zero = element in faults.layout.unused
+    told = faults.wanted.get(place, faults.times.texts[frame_of(place)][element])
+    if told not in "01P" or (element in faults.layout.unused and told != "0"):
+        return False
     if place in faults.wanted:
-        return (
-            not (pulses and element + track.spans(place, pulses[-1]) > 99)
-            and track.rise_at(place) == due
-            and not (must_be_zero and faults.wanted[place] != "0")
-        )
-    told = faults.times.texts[frame_of(place)][element]
-    return (
-        told in "01P"
-        and faults.rises[pulses[0]] == due
-        and not (must_be_zero and told != "0")
-        and faults.falls[pulses[0]] - faults.rises[pulses[0]] == faults.width(told)
-    )
+        reaches_beyond = pulses and element + track.spans(place, pulses[-1]) > 99
+        return not reaches_beyond and track.rise_at(place) == due
+    return faults.rises[pulses[0]] == due and faults.width_of(pulses[0]) == faults.width(told)
 
 
 @dataclass
@@ -116,60 +107,44 @@ class _Frames:
 
     number: FrameNumber
     many: int
-    control: int
-    base: Optional[Base]
-    rise: int
-    leapt: bool
-
-
-def _lost_frames(faults: Faults) -> List[_Frames]:
-    spans: List[_Frames] = []
-    for number in sorted({frame_of(place) for place in faults.wanted}):
-        if not _can_generate(faults, number):
-            continue
-        moment = faults.times.moment(number)
-        new = _Frames(
-            number,
-            1,
-            _control_of(faults, number),
-            faults.times.bases[number],
-            faults.track.rise_at(100 * number),
-            moment is not None and faults.times.calendar.after_leap(moment),
-        )
-        last = spans[-1] if spans else None
-        if (
-            last
-            and number == last.number + last.many
-            and (new.control, new.base, new.leapt) == (last.control, last.base, last.leapt)
-            and new.rise == last.rise + 100 * last.many * faults.clock.interval
-        ):
-            last.many += 1
-        else:
-            spans.append(new)
-    return spans
+    rise: Microseconds
+    shown: Tuple[int, Optional[Base], bool]  # the control functions, the base, and whether a leap second is over
 
 
 def lost_frames(faults: Faults) -> List[Item]:
     """Whole frames that are generated again; their places are then not repaired one by one."""
-    return [_generate(faults, frames) for frames in _lost_frames(faults)]
+    found: List[_Frames] = []
+    for number in sorted({frame_of(place) for place in faults.wanted}):
+        moment = faults.times.moment(number)
+        if moment is None or not _can_generate(faults, number):
+            continue
+        rise, base = faults.track.rise_at(place_in(number)), faults.times.bases[number]
+        shown = _control_of(faults, number), base, faults.times.calendar.after_leap(moment)
+        last = found[-1] if found else None
+        if (
+            last
+            and (number, shown) == (last.number + last.many, last.shown)
+            and rise == last.rise + 100 * last.many * faults.clock.interval
+        ):
+            last.many += 1
+        else:
+            found.append(_Frames(number, 1, rise, shown))
+    return [_generate(faults, frames) for frames in found]
 
 
 def _generate(faults: Faults, frames: _Frames) -> Item:
-    first, beyond = 100 * frames.number, 100 * (frames.number + frames.many)
-    lost = {place: faults.wanted[place] for place in range(first, beyond) if place in faults.wanted}
+    own = places(place_in(frames.number), place_in(frames.number) + 100 * frames.many - 1)
+    lost = {place: faults.wanted[place] for place in own if place in faults.wanted}
     moment = faults.times.moment(frames.number)
     assert moment is not None
     values = frames.rise, frames.many, faults.times.calendar.text(moment)
+    name = faults.times.name(frames.number)
     why = "%d elements of %d frame(s) from %d on are lost or damaged; the frames around them lead to %s" % (
-        len(lost),
-        frames.many,
-        frames.rise,
-        faults.times.name(frames.number),
-    )
-    control = ["%x" % frames.control] if frames.control else []
+        len(lost), frames.many, frames.rise, name)
+    control = ["%x" % frames.shown[0]] if frames.shown[0] else []
     if control:
         why += " and to the control functions " + control[0]
-    guessed = sorted({place % 100 for place in faults.guesses if first <= place < beyond})
+    guessed = sorted({place % 100 for place in faults.guesses if own[0] <= place <= own[-1]})
     if guessed:
         why += "; undecided are the control elements %s" % ", ".join(map(str, guessed))
-    return Item(first, beyond - 1, [Edit("regen", (*values, *control))], why, targets=lost)
+    return Item(own[0], own[-1], [Edit("regen", (*values, *control))], why, targets=lost)

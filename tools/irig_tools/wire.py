@@ -150,7 +150,7 @@ class Extract:
         number = self.wish.dump or 1
         dumps = each_dump(self.source, number, self._write)
         if dumps > 1:
-            text = "the file has %d dumps, one after the other; this is number %d (--dump N)"
+            text = "the file has %d dumps, one after the other; this is number %d (--dump N reads another)"
             named = self.report.done if self.wish.dump else self.report.doubtful
             named.append(text % (dumps, number))
         return self.report
@@ -190,20 +190,20 @@ class Extract:
     def _say_body(self, body: Body, writer: Writer) -> None:
         say, doubt, counts = self.report.done.append, self.report.doubtful.append, body.counts
         if writer.offset:
-            say("%d of the dump's unit was taken off all times" % writer.offset)
+            say("%d of the dump's unit was subtracted from all times; a comment in the new dump has it" % writer.offset)
         if counts["letters"]:
-            say("letters other than 0 1 x z, %d of them: H is 1, L is 0, the rest is x" % counts["letters"])
+            say("letters other than 0 1 x z were read %d times: H as 1, L as 0, the others as x" % counts["letters"])
         if counts["ports"]:
-            say("the changes are those of an extended dump (of ports)")
+            say("the dump is an extended one: the states of ports were read as levels")
         if counts["journals"]:
             say("the history of a saved session was left out")
         if counts["unclosed"]:
             doubt("a comment has no $end, and the rest of the file was left out with it")
         if counts["strange"]:
-            text = "%d words that mean no change were left out, the first '%s'"
-            doubt(text % (counts["strange"], body.strange))
+            text = "words that mean no change were left out, %d of them; the first is '%s', after time %d"
+            doubt(text % (counts["strange"], body.strange, body.strange_at))
         if not writer.edges:
-            doubt("the wire never changes")
+            doubt("the wire never changes; irig_what finds the wires with time code")
 
     def _say_limits(self, writer: Writer) -> None:
         report = self.report

@@ -36,9 +36,9 @@ def work(given: Given) -> int:
     if start is not None and end is not None and end < start:
         raise Usage("--to %d is before --from %d" % (end, start))
     if into is None and given.has(WIRE):
-        raise Usage("--wire is only for --into; the wire of %s comes after it" % given.names[0])
+        raise Usage("--wire is only for --into; without it WIRE comes after DUMP")
     if into == given.names[0] == "-":
-        raise Usage("both files are standard input")
+        raise Usage("DUMP and ORIGINAL are both standard input; only one can be")
     for source in filter(None, (given.names[0], into)):
         check_apart(source, [(OUT.name, given.text(OUT))])
     chosen = name if into is None else given.text(WIRE)

@@ -5,9 +5,9 @@ from math import floor
 from typing import Dict, List, Optional, Tuple
 
 from . import limits
-from .editor import Listing
 from .interval import Clock, Run
 from .phases import ONLY_P, faults_along
+from .units import Microseconds, PlaceNumber, PulseIndex, places
 
 
 def whole_steps(distance: float, interval: float) -> int:
@@ -16,56 +16,56 @@ def whole_steps(distance: float, interval: float) -> int:
 
 
 class Zone:
-    """The places from the last of one run to the first of the next, and the pulses there. Either run may be
-    missing."""
+    """The places from the last of one run to the first of the next, and the pulses there. Either run may be missing."""
 
-    def __init__(self, clock: Clock, listing: Listing, left: Optional[Run], right: Optional[Run]) -> None:
+    def __init__(self, clock: Clock, left: Optional[Run], right: Optional[Run]) -> None:
         self.clock, self.left, self.right = clock, left, right
         self.interval = clock.interval_between(left, right)
-        self.rises = listing.rises
+        self.rises = clock.rises
         self.late: float = 0
         if left and right and abs(right.late) > clock.least_late(right.step):
             self.late = right.late
-        self.border: Optional[int] = None  # the first pulse that came late
-        self.border_place = 0
+        self.border: Optional[PulseIndex] = None  # the first pulse that came late
+        self.border_place = PlaceNumber(0)
         if self.late and left and right:
             self.border = self._find_border(left, right)
             self.border_place = self.place_of(self.border)
-        first, last = self._ends(listing)
-        self.first, self.last = self._places(first, last)
-        self.head, self.tail = self._unsure(listing.classes) if left and right and right.glued else (0, 0)
-        self.pulses: Dict[int, List[int]] = {place: [] for place in range(self.first, self.last + 1)}
-        for pulse in range(first, last + 1):
+        pulses = self._find_pulses()
+        self.first, self.last = self._ends(pulses)
+        self.head, self.tail = self._unsure() if left and right and right.glued else (0, 0)
+        self.pulses: Dict[PlaceNumber, List[PulseIndex]] = {place: [] for place in places(self.first, self.last)}
+        for pulse in pulses:
             self.pulses[min(self.last, max(self.first, self.place_of(pulse)))].append(pulse)
 
     @property
     def glued(self) -> bool:
         return bool(self.left and self.right and self.right.glued)
 
-    def _ends(self, listing: Listing) -> Tuple[int, int]:
-        """The first and the last pulse of this zone."""
+    def _find_pulses(self) -> List[PulseIndex]:
+        """The last of the left run, the first of the right one, and what is between; at an end all that belong to a frame."""
         left, right = self.left, self.right
-        if left and right:
-            return left.last, right.first
-        if right:
-            first = right.first if {"<", "["} & set(right.ends) else self._reach(listing, right.first, -1)
-            return first, right.first
-        assert left
-        return left.last, left.last if {">", "]"} & set(left.ends) else self._reach(listing, left.last, 1)
+        first, last = left.last if left else -1, right.first if right else -1
+        if right and not left:
+            first = right.first if {"<", "["} & set(right.ends) else self._reach(right.first, -1)
+        if left and not right:
+            last = left.last if {">", "]"} & set(left.ends) else self._reach(left.last, 1)
+        return list(map(PulseIndex, range(first, last + 1)))
 
-    def _places(self, first: int, last: int) -> Tuple[int, int]:
-        near = [self.place_of(pulse) for pulse in range(first, last + 1) if self._in_step(pulse)]
-        low = self.left.last_place if self.left else min([self.right.place if self.right else 0, *near])
-        high = self.right.place if self.right else max([self.left.last_place if self.left else 0, *near])
+    def _ends(self, pulses: List[PulseIndex]) -> Tuple[PlaceNumber, PlaceNumber]:
+        """The first and the last place."""
+        known = [(self.place_of(pulse), self.rises[pulse]) for pulse in pulses]
+        near = [place for place, rise in known if abs(rise - self.rise_at(place)) <= self.clock.stray]
+        zero = PlaceNumber(0)
+        low = self.left.last_place if self.left else min([self.right.place if self.right else zero, *near])
+        high = self.right.place if self.right else max([self.left.last_place if self.left else zero, *near])
         return low, max(low, high)
 
-    def _unsure(self, classes: str) -> Tuple[int, int]:
-        """How many pulses at the head of the right run may belong to the left one, and at the tail of the
-        left to the right."""
+    def _unsure(self) -> Tuple[int, int]:
+        """How many pulses at the head of the right run may belong to the left one, and at the tail of the left to the
+        right."""
         assert self.left and self.right
-        heads, tails = (min(limits.EITHER_SIDE, run.count - 1) for run in (self.right, self.left))
-        head = classes[self.right.first:self.right.first + heads].translate(ONLY_P)
-        tail = classes[self.left.last - tails + 1:self.left.last + 1].translate(ONLY_P)
+        head = self.clock.text(self.right)[:-1][:limits.EITHER_SIDE].translate(ONLY_P)
+        tail = self.clock.text(self.left)[1:][-limits.EITHER_SIDE:].translate(ONLY_P)
         onward = self.left.last_place + self.straight()
         back = self.right.place - self.straight() - len(tail) + 1
         behind = faults_along(tail, back % 100)
@@ -81,26 +81,22 @@ class Zone:
         assert self.right
         return self.right.step - self.straight()
 
-    def _reach(self, listing: Listing, pulse: int, way: int) -> int:
-        """The last pulse this way that is not far from the one before it, nor cut by the end of the
-        recording."""
-        rises, beyond = listing.rises, pulse + way
+    def _reach(self, pulse: int, way: int) -> int:
+        """The last pulse this way that is not far from the one before it, nor cut by the end of the recording."""
+        rises, beyond = self.rises, pulse + way
         while (
             0 <= beyond < len(rises)
             and abs(rises[beyond] - rises[pulse]) < limits.REACH * self.interval
             and rises[beyond] > 0
-            and listing.falls[beyond] < listing.length
+            and self.clock.listing.falls[beyond] < self.clock.listing.length
         ):
             pulse, beyond = beyond, beyond + way
         return pulse
 
-    def _in_step(self, pulse: int) -> bool:
-        return abs(self.rises[pulse] - self.rise_at(self.place_of(pulse))) <= self.clock.stray
-
-    def _find_border(self, left: Run, right: Run) -> int:
+    def _find_border(self, left: Run, right: Run) -> PulseIndex:
         """Goes back from the right run while pulses keep its time and not that of the left run."""
         border, margin = right.first, (limits.EXACT if self.clock.exact else self.clock.margin / self.interval)
-        for pulse in range(right.first - 1, left.last, -1):
+        for pulse in map(PulseIndex, range(right.first - 1, left.last, -1)):
             back = (right.begin - self.rises[pulse]) / self.interval
             onward = (self.rises[pulse] - left.end) / self.interval
             if (
@@ -110,15 +106,17 @@ class Zone:
                 border = pulse
         return border
 
-    def _place_by_right(self, pulse: int) -> int:
+    def _place_by_right(self, pulse: PulseIndex) -> PlaceNumber:
         assert self.right
-        return self.right.place + whole_steps(self.rises[pulse] - self.right.begin, self.interval)
+        return PlaceNumber(self.right.place + whole_steps(self.rises[pulse] - self.right.begin, self.interval))
 
-    def place_of(self, pulse: int) -> int:
+    def place_of(self, pulse: PulseIndex) -> PlaceNumber:
         if not self.left or (self.border is not None and pulse >= self.border):
             return self._place_by_right(pulse)
         place = self.left.last_place + whole_steps(self.rises[pulse] - self.left.end, self._local_interval())
-        return min(place, self.right.place - 1) if self.late and self.right and self.right.step > 0 else place
+        if self.late and self.right and self.right.step > 0:
+            place = min(place, self.right.place - 1)
+        return PlaceNumber(place)
 
     def _local_interval(self) -> float:
         """Between two runs on one clock the distance is shared out."""
@@ -126,9 +124,9 @@ class Zone:
             return (self.right.begin - self.left.end) / self.right.step
         return self.interval
 
-    def rise_at(self, place: int) -> int:
+    def rise_at(self, place: PlaceNumber) -> Microseconds:
         """When the pulse of a place should rise, in the track as it is before a late rest is moved."""
         if self.right and (not self.left or (self.late and place >= self.border_place)):
-            return round(self.right.begin - (self.right.place - place) * self.interval)
+            return Microseconds(round(self.right.begin - (self.right.place - place) * self.interval))
         assert self.left
-        return round(self.left.end + (place - self.left.last_place) * self._local_interval())
+        return Microseconds(round(self.left.end + (place - self.left.last_place) * self._local_interval()))
