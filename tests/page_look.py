@@ -5,7 +5,7 @@ from pathlib import Path
 
 from browser import Browser, BrowserFailed, PageFailed
 from irig_tools.page import page
-from page_rows import WHOLE_DAY, check, hostile, recording
+from page_rows import WHOLE_DAY, check, hostile, recording, repaired
 
 
 def shown(browser: Browser) -> object:
@@ -102,6 +102,63 @@ def copies(browser: Browser) -> None:
     check("the whole script is copied", script, browser.run("window.got"))
 
 
+def picked(browser: Browser) -> object:
+    """The stretch that is looked at, the place, whether the strip has its frame, and the address."""
+    return browser.run("""[document.querySelector("#changes [aria-selected=true] code").textContent,
+        byId("place-title").textContent, picked.frame === null ? "no frame" : view.start <= picked.frame
+            && view.end >= picked.frame + 100 * held.interval && view.end - view.start < 2e6, location.hash]""")
+
+
+def changes(browser: Browser, address: str) -> None:
+    """What was changed: its lines, its marks, and how both lead to the frame and to the place."""
+    sheet = repaired().changes
+    assert sheet is not None
+    browser.open(address + "#changed-2")
+    lines = "[...document.querySelectorAll('#changes code')].map((line) => line.textContent)"
+    check("the list has the lines of irig_diff", sheet.lines, browser.run(lines))
+    words = ["low → high, 2000 µs; place 1", "low → high, 40 µs; place 2", "low → high, 4000 µs; 1 edge in it stays",
+             "high → low, 990 µs"]
+    how = "[...document.querySelectorAll('#changes .how')].map((each) => each.textContent)"
+    check("and what became of the levels", words, browser.run(how))
+    check("the address picks a stretch", ["invert 10500900 10500940", "2. A pulse is in two", True, "#changed-2"], picked(browser))
+    browser.run("byId('changes').focus()")
+    browser.press("ArrowDown")
+    check("a key picks the next", ["invert 30190000 30194000", "2. A pulse is in two", True, "#changed-3"], picked(browser))
+    browser.press("ArrowDown")
+    check("a stretch in no frame", ["invert 59999000 59999990", "2. A pulse is in two", "no frame", "#changed-4"], picked(browser))
+    browser.click("#changes .in-frame")
+    check("the line of a frame leads to its first", ["invert 500000 502000", "1. A pulse is missing", True, "#changed-1"], picked(browser))
+    browser.click("#whole")
+    counts = "['.now-high', '.now-low'].map((name) => document.querySelectorAll('#strip ' + name).length)"
+    check("each stretch has a mark", [3, 1], browser.run(counts))
+    titles = "[...document.querySelectorAll('#strip .now-high title')].map((title) => title.textContent)"
+    title = "invert 10500900 10500940: low → high, 40 µs\n# frame 11 at 10000000: broken 50 step, then 061 12:00:10 fine"
+    check("that says what it is", title, browser.run(titles)[1])
+    rest = """[held.changes.rest.push([40e6, 41e6, 7]), paintStrip(view, selected),
+        ...[...document.querySelectorAll('#strip .hidden-part title')].map((title) => title.textContent)].slice(2)"""
+    check("what is not listed has a mark", ["7 more from 40000000 to 41000000"], browser.run(rest))
+    x, y = browser.run("""[document.querySelectorAll('#strip .now-high')[2].getBoundingClientRect()].map((box) =>
+        [box.x + 1, box.y + 4])[0]""")
+    for kind in ("mousePressed", "mouseReleased"):
+        browser.mouse(kind, x, y, button="left", clickCount=1)
+    browser.settle()
+    check("a click on a mark picks it", "#changed-3", browser.run("location.hash"))
+    browser.run("navigator.clipboard.writeText = async (words) => { window.got = words; }")
+    browser.click("#copy-changes")
+    check("the lines are copied", "\n".join(sheet.lines) + "\n", browser.run("window.got"))
+    browser.click("#copy-command")
+    check("the command is copied", sheet.command + "\n", browser.run("window.got"))
+    browser.run("addEventListener('beforeprint', () => { window.printed = paper.textContent; })")
+    browser.paper()
+    printed = browser.run("window.printed")
+    check("on paper are the lines and the command", [True, True], ["\n".join(sheet.lines) in printed, sheet.command in printed])
+    for width in (1500, 420):
+        browser.size(width, 900)
+        browser.settle()
+        check("it fits %d pixels" % width, True, browser.run("document.documentElement.scrollWidth <= innerWidth"))
+    browser.size(1500, 950)
+
+
 def attack(browser: Browser, address: str) -> None:
     """Hostile text is shown as it is, and does nothing."""
     browser.open(address)
@@ -118,7 +175,7 @@ def visit(path: str, screenshot: str) -> None:
     """Goes through all pages, and leaves a screenshot if it has a name."""
     with tempfile.TemporaryDirectory() as folder, Browser(path) as browser:
         addresses = []
-        for number, sheet in enumerate((recording(WHOLE_DAY, 500), recording(60, 6), hostile())):
+        for number, sheet in enumerate((recording(WHOLE_DAY, 500), recording(60, 6), hostile(), repaired())):
             made = Path(folder, "%d.html" % number)
             made.write_text(page(sheet), encoding="utf-8")
             addresses.append(made.as_uri())
@@ -128,6 +185,7 @@ def visit(path: str, screenshot: str) -> None:
         browser.open(addresses[1] + "#place-2")
         copies(browser)
         looks(browser, screenshot or str(Path(folder, "screenshot.png")))
+        changes(browser, addresses[3])
         attack(browser, addresses[2])
 
 

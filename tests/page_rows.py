@@ -1,7 +1,7 @@
 """Recordings made by hand for the tests of the page and the picture."""
 import dataclasses
 
-from irig_tools.sheet import DAMAGED, LOST, SOUND, Place, Pulse, Sheet, Stretch
+from irig_tools.sheet import DAMAGED, LOST, SOUND, Changes, Place, Pulse, Sheet, Stretch
 
 INTERVAL = 10000                        # microseconds from element to element: format B
 WHOLE_DAY = 86400                       # frames of format B
@@ -57,6 +57,18 @@ def recording(frames: int, count: int, name: str = "track.vcd") -> Sheet:
         stretches.append(Stretch(frame * 100 * INTERVAL, (frame + 1) * 100 * INTERVAL, state))
     length = frames * 100 * INTERVAL
     return Sheet(name, length, INTERVAL, "B 4", tuple(stretches), places, script, ("No drift.",))
+
+
+def repaired() -> Sheet:
+    """A recording of 60 frames with six places, two of them repaired, and what irig_diff prints of it: a missing pulse, one
+    whose halves are joined, one that is late by its width and so has an edge that stays, and a stretch without a place."""
+    lines = ["# frame 1 at 0: broken 50 step, then 061 12:00:00 fine", "invert 500000 502000",
+             "# frame 11 at 10000000: broken 50 step, then 061 12:00:10 fine", "invert 10500900 10500940",
+             "# frame 31 at 30000000: broken 19 class, then frame 32 at 30100000: 061 12:00:30 fine",
+             "invert 30190000 30194000", "# no frame, then none", "invert 59999000 59999990"]
+    command = "irig_diff --frames --format=B --expression=4 'a <b>.vcd' new.vcd"
+    changes = Changes(command, lines, [0, 0, 2, 1], [], 4, 7030)
+    return dataclasses.replace(recording(60, 6), changes=changes)
 
 
 def hostile() -> Sheet:

@@ -12,7 +12,7 @@ from .damage import Damage
 from .dump_header import Reader
 from .dump_choice import choose, singles
 from .dump_source import Source
-from .editor import Problem, find_editor
+from .editor import Problem, find_beside, find_editor
 from .facts import STEPS, is_undecided, kind_of
 from .opening import Opened
 from .output import output
@@ -63,17 +63,10 @@ def summary(before: Sequence[Damage], after: Sequence[Damage], script: Sequence[
                    sum(bool(each.edits) for each in doubts), refused, frames[0], frames[1])
 
 
-def find_guard() -> Optional[str]:
-    """The path of irig_guard: the one next to the editor, else the one of the repository, if it is built."""
-    tools = os.path.dirname(os.path.dirname(os.path.realpath(__file__)))
-    beside = os.path.join(os.path.dirname(shutil.which(find_editor()) or ""), "irig_guard")
-    return shutil.which(beside) or shutil.which(os.path.join(tools, "../crates/irig_guard/out/irig_guard"))
-
-
 def run_script(track: Opened, lines: Sequence[str], save: bool, out: str, is_guarded: bool) -> int:
     """Runs a script on the track and writes a file, with its history if `save`; how many lines were refused. Which
     program runs it is decided here alone: irig_guard, if it is there and the script moves nothing, else the editor."""
-    guard = find_guard() if is_guarded else None
+    guard = find_beside("irig_guard") if is_guarded else None
     if guard:
         return _refused_by_guard(lines, _run([guard, *track.options, *["--save"] * save], track, lines, out))
     said = _run([find_editor(), *track.options], track, [*lines, "save" if save else "write"], out)

@@ -52,6 +52,13 @@ def find_editor() -> str:
     return found
 
 
+def find_beside(name: str) -> Optional[str]:
+    """The path of another proved program: the one next to the editor, else the one of the repository, if it is built."""
+    tools = os.path.dirname(os.path.dirname(os.path.realpath(__file__)))
+    beside = os.path.join(os.path.dirname(shutil.which(find_editor()) or ""), name)
+    return shutil.which(beside) or shutil.which(os.path.join(tools, "../crates/%s/out/%s" % (name, name)))
+
+
 @dataclass(frozen=True)
 class Info:
     """An answer of the editor to `info`."""
@@ -73,8 +80,13 @@ def info_of(words: Sequence[bytes]) -> Info:
 
 
 def _other_release(words: Sequence[bytes]) -> Problem:
-    said = b" ".join(words)[:60].decode(errors="replace")
-    return Problem("%s is of another release: it answers '%s'; let IRIG_ED name the editor of these tools" % (find_editor(), said))
+    return other_release(find_editor(), b" ".join(words))
+
+
+def other_release(program: str, line: bytes) -> Problem:
+    """What is said of a program that prints a line of another form."""
+    said = line.rstrip()[:60].decode(errors="replace")
+    return Problem("%s is of another release: it answers '%s'; let IRIG_ED name the editor of these tools" % (program, said))
 
 
 class Editor:

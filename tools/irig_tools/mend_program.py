@@ -4,12 +4,15 @@ from __future__ import annotations
 import gc
 import os
 import sys
+from contextlib import ExitStack
 from typing import List, Optional
 
+from .again import Names, again
 from .analysis import examine
+from .changes import changes_of, find_differ
 from .command import kept, run
 from .apply import Summary, Target, as_object, run_script, sound_frames, summary, temporary
-from .damage import look
+from .damage import Seen, look
 from .damage_program import say
 from .editor import Editor, Progress, progress_to
 from .ending import FOUND, SOUND, Usage, complain
@@ -18,13 +21,13 @@ from .facts import UNDECIDED, lines, repairs
 from .mend import called_for, propose, text
 from .opening import Opened, is_of_one_wire, opened
 from .options import DUMP, EDITOR, JSON, TIMESCALE, WIRE, Command, Given, Option, a_file
-from .output import check_apart, output, write
+from .output import check_apart, new_file, output, write
 from .overview import sheet_of
 from .page import page
 from .script import Repair
 
 PAGE = Option("--page", "FILE", "also writes a page (HTML) to look at: the whole recording, each place before and "
-              "after its repair, and the script", a_file)
+              "after its repair, and the script; with --apply what was changed, as irig_diff prints it", a_file)
 STEADY = Option("--steady", about="the control functions never change: what one frame alone has is damage")
 MOVE = Option("--move", about="moves the rest if it comes late, and takes out what is there twice: only if the time "
               "code has a clock of its own, and no other wire slipped with it")
@@ -58,6 +61,8 @@ track was not read, and 70 if memory ran out or the tool has a defect. With
 def work(given: Given) -> int:
     name = given.names[0]
     check(given)
+    if given.has(PAGE) and given.has(APPLY):
+        find_differ()  # without it nothing is written
     progress = progress_to(sys.stderr)
     with kept(name) as path, opened(path, name, given, wire_of(given)) as track:
         say(track, COMMAND.name)
@@ -65,9 +70,10 @@ def work(given: Given) -> int:
         if given.has(EXPLAIN):
             return explain(editor, given)
         script = propose(editor, progress, given.has(STEADY), given.has(MOVE))
-        draw(given, editor, script, progress)
         if given.has(APPLY):
             done = apply(given, track, script, progress)
+        else:
+            draw(given, editor, script, progress)
     if given.has(OUT) or not given.has(APPLY):
         with output(given.text(OUT)) as out:
             out.write((repairs(script, track.offset) if given.has(JSON) else text(script)).encode("utf-8"))
@@ -112,7 +118,7 @@ def wire_of(given: Given) -> Optional[str]:
 
 
 def draw(given: Given, editor: Editor, script: List[Repair], progress: Progress) -> None:
-    """Writes the page, if it is asked for."""
+    """Writes the page of what is proposed, if it is asked for."""
     path = given.text(PAGE)
     if path is not None:
         after = editor.ask([repair.lines() for repair in script])
@@ -130,9 +136,22 @@ def apply(given: Given, track: Opened, script: List[Repair], progress: Progress)
         before = look(Editor(track.words), progress, given.has(STEADY))
         after = look(Editor([*track.code, repaired]), progress, given.has(STEADY))
         frames = sound_frames(track.options, track.path), sound_frames(track.code, repaired)
-        for note in target.write(repaired, track):
-            complain(note, COMMAND.name)
+        with ExitStack() as stack:
+            if given.has(PAGE):
+                drawn = drawing(given, track, script, before, after, repaired)
+                stack.enter_context(new_file(given.text(PAGE) or "")).write(drawn.encode("utf-8"))
+            for note in target.write(repaired, track):
+                complain(note, COMMAND.name)
     return summary(before.damages, after.damages, script, frames, refused)
+
+
+def drawing(given: Given, track: Opened, script: List[Repair], before: Seen, after: Seen, repaired: str) -> str:
+    """The page of what was repaired."""
+    rules = [option.name for option in (STEADY, MOVE) if given.has(option)]
+    names = Names(given.names[0], given.text(APPLY) or "", given.text(INTO), given.number(DUMP), rules)
+    changes = changes_of(track, before.listing, repaired)
+    changes.command = again(names, track, before.listing)
+    return page(sheet_of(os.path.basename(given.names[0]), before, script, after.listing, changes))
 
 
 def report(given: Given, script: List[Repair], done: Summary) -> None:

@@ -30,11 +30,17 @@ class Opened:
     notes: List[str] = field(default_factory=list)
 
     is_as_it_is: bool = False  # the file of the user, and not a dump of its wire
+    unit: Optional[str] = None  # that was chosen, if not the one of the file
 
     @property
     def options(self) -> List[str]:
         """The options for the editor."""
-        return _wire(self.wire) + self.code if self.is_as_it_is else self.code
+        return self.named + self.code
+
+    @property
+    def named(self) -> List[str]:
+        """The option that names the wire for the editor."""
+        return _wire(self.wire) if self.is_as_it_is else []
 
     @property
     def words(self) -> List[str]:
@@ -84,10 +90,12 @@ def opened(path: str, name: str, given: Given, wire: Optional[str]) -> Iterator[
         yield Opened(path, code, wire, _offset(path), notes, True)
         return
     with tempfile.NamedTemporaryFile(suffix=".vcd") as track:
-        wish = Wish(wire, taken.found.unit if taken else given.text(TIMESCALE), given.number(DUMP))
+        unit = given.text(TIMESCALE)
+        wish = Wish(wire, taken.found.unit if taken else unit, given.number(DUMP))
         notes += Extract(path, wish, track).run().doubtful
         track.flush()
-        yield Opened(track.name, code, wire, _offset(track.name), notes)
+        found = taken.found.unit if taken and not taken.found.header.unit else None
+        yield Opened(track.name, code, wire, _offset(track.name), notes, unit=unit or found)
 
 
 def _wire(name: Optional[str]) -> List[str]:

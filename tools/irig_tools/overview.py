@@ -2,28 +2,37 @@
 from __future__ import annotations
 
 from collections import Counter
+from dataclasses import replace
 from typing import Iterator, Optional, Sequence, Tuple
 
 from .analysis import Part
 from .damage import Damage, Seen
 from .editor import Listing
 from .script import Repair
-from .sheet import DAMAGED, LOST, SOUND, Place, Sheet, Stretch, Wave, cut, merged
+from .sheet import DAMAGED, LOST, SOUND, Changes, Place, Sheet, Stretch, Wave, cut, merged
 from .steps import cut_by_a_step
 from .units import frame_of
 
 AROUND = 4  # intervals that are shown on both sides of a place
 
 
-def sheet_of(name: str, seen: Seen, script: Sequence[Repair] = (), after: Optional[Listing] = None) -> Sheet:
-    """The data of a recording; `after` is the listing after the script."""
+def sheet_of(name: str, seen: Seen, script: Sequence[Repair] = (), after: Optional[Listing] = None,
+             changes: Optional[Changes] = None) -> Sheet:
+    """The data of a recording; `after` is the listing after the script, or after what was made of it, with its changes."""
     layout = seen.findings.layout
     notes = [each for each in seen.damages if each.is_remark or each.name == "the whole recording"]
     places = [_place(seen, each, script, after) for each in seen.damages if each not in notes]
     lines = tuple(line for repair in script for line in repair.lines())
     kind = "%s %d" % (layout.kind, layout.expression)
     said = tuple(each.seen for each in notes)
-    return Sheet(name, seen.listing.length, layout.interval, kind, _stretches(seen), tuple(places), lines, said)
+    if changes:
+        places = [_made(place) for place in places]
+    return Sheet(name, seen.listing.length, layout.interval, kind, _stretches(seen), tuple(places), lines, said, changes)
+
+
+def _made(place: Place) -> Place:
+    """A place without a repair that was proposed for it and not made."""
+    return place if place.after != place.before else replace(place, after=None)
 
 
 def _place(seen: Seen, damage: Damage, script: Sequence[Repair], after: Optional[Listing]) -> Place:

@@ -10,7 +10,8 @@ const view = new View(byId("strip"), 0, held.length, Math.min(held.length, 20 * 
   paintStrip(now, selected);
   const words = `${seconds(Math.round(now.start))} to ${seconds(Math.round(now.end))}`;
   byId("range").textContent = words;
-  now.picture.setAttribute("aria-label", `${places.length} places of damage; shown are ${words}`);
+  const made = held.changes ? `, ${held.changes.count} stretches changed` : "";
+  now.picture.setAttribute("aria-label", `${places.length} places of damage${made}; shown are ${words}`);
   paintOverview();
 });
 
@@ -30,7 +31,9 @@ function paintOverview() {
   picture.classList.toggle("idle", view.end - view.start >= held.length);
 }
 
-view.click = (time) => {
+view.click = (time, y) => {
+  const change = held.changes && y >= UNDER ? changeAt(view, time) : null;
+  if (change) { pick(change); return; }
   const far = (place) => Math.max(place.at - time, time - place.end, 0);
   const near = places.reduce((best, place) => best && far(best) <= far(place) ? best : place, null);
   if (near && far(near) * view.width < 12 * (view.end - view.start)) select(near);
@@ -54,10 +57,7 @@ function select(place) {
   const item = itemOf(place);
   item.setAttribute("aria-selected", "true");
   list.setAttribute("aria-activedescendant", item.id);
-  const above = item.offsetTop - list.offsetTop;
-  const below = above + item.offsetHeight;
-  if (above < list.scrollTop) list.scrollTop = above;
-  if (below > list.scrollTop + list.clientHeight) list.scrollTop = below - list.clientHeight;
+  reveal(list, item);
   writeAddress(`#place-${places.indexOf(place) + 1}`);
   showPlace(place);
   showLines(place);
@@ -69,6 +69,34 @@ function select(place) {
 // A page that has no address of its own cannot have a fragment either: then there is none.
 function writeAddress(fragment) {
   try { history.replaceState(null, "", fragment); } catch (refused) { return; }
+}
+
+// Shows a stretch that was changed with its frame in the strip, and its place of damage.
+function pick(change) {
+  if (picked) byId(`change-${stretches.indexOf(picked) + 1}`).setAttribute("aria-selected", "false");
+  picked = change;
+  const item = byId(`change-${stretches.indexOf(change) + 1}`);
+  item.setAttribute("aria-selected", "true");
+  byId("changes").setAttribute("aria-activedescendant", item.id);
+  reveal(byId("changes"), item);
+  select(placeOf(change));
+  writeAddress(`#changed-${stretches.indexOf(change) + 1}`);
+  const start = change.frame === null ? change.start : Math.min(change.frame, change.start);
+  view.show(start - 2 * held.interval, Math.max(change.end, start + 100 * held.interval) + 2 * held.interval);
+  view.ask();
+}
+
+const pickStep = (far) => {
+  const index = stretches.indexOf(picked) + far;
+  if (stretches.length) pick(stretches[Math.min(stretches.length - 1, Math.max(0, index))]);
+};
+
+// Scrolls a list so that an item of it is seen.
+function reveal(list, item) {
+  const above = item.offsetTop - list.offsetTop;
+  const below = above + item.offsetHeight;
+  if (above < list.scrollTop) list.scrollTop = above;
+  if (below > list.scrollTop + list.clientHeight) list.scrollTop = below - list.clientHeight;
 }
 
 const itemOf = (place) => list.children[places.indexOf(place)];
@@ -138,17 +166,17 @@ byId("strip").addEventListener("keydown", (event) => {
 byId("place").addEventListener("keydown", (event) => { if (event.key === "Escape") list.focus(); });
 
 // Copies by the clipboard; if the browser does not allow it, the words are selected for the user to copy.
-async function copy(words, from) {
+async function copy(words, from, said = byId("copied")) {
   try {
     await navigator.clipboard.writeText(words);
-    byId("copied").textContent = "Copied.";
+    said.textContent = "Copied.";
   } catch (refused) {
     const range = document.createRange();
     range.selectNodeContents(from);
     getSelection().removeAllRanges();
     getSelection().addRange(range);
     const done = document.execCommand("copy");
-    byId("copied").textContent = done ? "Copied." : "Selected: press Ctrl and C.";
+    said.textContent = done ? "Copied." : "Selected: press Ctrl and C.";
   }
 }
 
@@ -160,8 +188,24 @@ for (const [name, deed] of Object.entries({
 })) byId(name).addEventListener("click", deed);
 
 function fromAddress() {
-  const found = /^#place-([0-9]+)$/.exec(location.hash);
-  select(places[found ? found[1] - 1 : 0] || places[0]);
+  const [, name, index] = /^#(place|changed)-([0-9]+)$/.exec(location.hash) || [];
+  select(places[name === "place" ? index - 1 : 0] || places[0]);
+  if (name === "changed" && stretches[index - 1]) pick(stretches[index - 1]);
+}
+
+// The list of what was changed, if a repair was made.
+function showChanges() {
+  const said = byId("copied-changes");
+  listChanges(pick);
+  byId("strip").classList.add("with-changes");
+  byId("copy-changes").addEventListener("click", () => copy(held.changes.lines.join("\n") + "\n", byId("changes"), said));
+  byId("copy-command").addEventListener("click", () => copy(held.changes.command + "\n", byId("command"), said));
+  byId("changes").addEventListener("keydown", (event) => {
+    const deeds = {ArrowDown: 1, ArrowUp: -1, Home: -stretches.length, End: stretches.length};
+    if (!deeds[event.key]) return;
+    event.preventDefault();
+    pickStep(deeds[event.key]);
+  });
 }
 
 byId("more").textContent = held.more ? `${held.more} more places are not on this page.` : "";
@@ -169,6 +213,7 @@ byId("script").hidden = !held.script.length;
 byId("desk").classList.toggle("plain", !held.script.length);
 showLines(null);
 byId("place").classList.toggle("none", !places.length);
+if (held.changes) showChanges();
 addEventListener("hashchange", fromAddress);
 addEventListener("beforeprint", fillPaper);
 addEventListener("afterprint", () => byId("paper").replaceChildren());

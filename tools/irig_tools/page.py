@@ -6,14 +6,14 @@ import base64
 import hashlib
 import json
 import re
-from collections.abc import Iterator, Sequence
+from collections.abc import Iterator, Mapping, Sequence
 from pathlib import Path
 
-from .sheet import STATES, Place, Sheet, Wave, frames_in, merged, window
+from .sheet import STATES, Changes, Place, Sheet, Wave, frames_in, merged, window
 from .texts import counted, escaped, plain, seconds
 
 FILES = Path(__file__).resolve().parent
-CODE = ("page_time.js", "page_strip.js", "page_wave.js", "page_place.js", "page.js")
+CODE = ("page_time.js", "page_strip.js", "page_wave.js", "page_place.js", "page_changes.js", "page.js")
 MOST = 2000                             # places that a page holds
 PULSES = 30000                          # pulses that a page holds, about
 CAPS = (400, 200, 100, 60, 40)          # and how many of one waveform: the first that keeps to that
@@ -33,11 +33,17 @@ def page(sheet: Sheet, most: int = MOST) -> str:
         "FACTS": escaped(facts),
         "NOTES": "".join("<p>%s</p>" % escaped(note) for note in sheet.notes),
         "LEGEND": "".join(legend(sheet)),
+        "CHANGES": changed(sheet.changes) if sheet.changes else "",
         "STYLE": style,
         "CODE": code,
         "DATA": data(sheet, most),
     }
-    return re.sub("@([A-Z]+)@", lambda found: parts[found[1]], file_text("page.html"))
+    return filled("page.html", parts)
+
+
+def filled(name: str, parts: Mapping[str, str]) -> str:
+    """A skeleton with its parts."""
+    return re.sub("@([A-Z]+)@", lambda found: parts[found[1]], file_text(name))
 
 
 def file_text(name: str) -> str:
@@ -55,6 +61,23 @@ def legend(sheet: Sheet) -> Iterator[str]:
     for state in STATES:
         yield '<li><span class="key %s"></span>%s: %s</li>' % (
             state, state, escaped(counted(frames_in(sheet, state), "frame")))
+    if sheet.changes:
+        yield '<li><span class="key changed"></span>changed: %s; up is now high, down is now low</li>' % (
+            escaped(counted(sheet.changes.stretches, "stretch", "stretches")))
+
+
+def changed(changes: Changes) -> str:
+    """The part of the page that says what was changed."""
+    differ = "The recording and the repaired one differ in %s, %s in all. At every other microsecond they are the same." % (
+        counted(changes.stretches, "stretch", "stretches"), counted(changes.time, "microsecond"))
+    more = changes.stretches - len(changes.levels)
+    parts = {
+        "FACTS": differ if changes.stretches else "Nothing was changed: the levels are the same at every microsecond.",
+        "COMMAND": escaped(changes.command),
+        "MORE": "%s more %s not in this list. Their marks are grey, and the command prints them." % (
+            format(more, ","), "is" if more == 1 else "are") if more else "",
+    }
+    return filled("page_changes.html", parts)
 
 
 def data(sheet: Sheet, most: int) -> str:
@@ -62,7 +85,7 @@ def data(sheet: Sheet, most: int) -> str:
     places = sheet.places[:most]
     pulses = cap([len(wave) for place in places for wave in (place.before, place.after or ())])
     starts = parts_of(sheet.script, places)
-    found = {
+    found: dict[str, object] = {
         "length": max(1, sheet.length),
         "interval": sheet.interval,
         "strip": strip_words(sheet),
@@ -70,6 +93,10 @@ def data(sheet: Sheet, most: int) -> str:
         "more": len(sheet.places) - len(places),
         "script": [plain(line) for line in sheet.script],
     }
+    if sheet.changes:
+        kept = sheet.changes
+        found["changes"] = {"command": plain(kept.command), "count": kept.stretches,
+                            "lines": [plain(line) for line in kept.lines], "levels": kept.levels, "rest": kept.rest}
     words = json.dumps(found, ensure_ascii=False, separators=(",", ":"))
     return words.replace("<", "\\u003c").replace("\u2028", "\\u2028").replace("\u2029", "\\u2029")
 

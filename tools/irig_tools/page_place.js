@@ -16,7 +16,8 @@ function shownPlace(place) {
   const facts = [make("p", {class: "times"}, times(place))];
   if (!place.reason.includes(place.frame)) facts.push(make("p", {}, "In " + place.frame));
   facts.push(make("p", {class: "reason"}, place.reason));
-  const open = "No repair is proposed: this place is left to you.";
+  const open = held.changes ? "Nothing was changed here: this place is left to you."
+    : "No repair is proposed: this place is left to you.";
   if (!place.after && held.script.length) facts.push(make("p", {class: "open"}, open));
   return {picture, facts};
 }
@@ -27,8 +28,9 @@ function fillPaper() {
   const whole = draw("svg", {class: "strip"});
   paper.replaceChildren(whole);
   const view = {start: 0, end: held.length, width: 720, picture: whole, x: View.prototype.x};
-  whole.setAttribute("viewBox", "0 0 720 112");
+  whole.setAttribute("viewBox", `0 0 720 ${112 + rowHigh}`);
   paintStrip(view, null);
+  if (held.changes) paper.append(changesOnPaper());
   places.forEach((place, index) => {
     const {picture, facts} = shownPlace(place);
     const [start, end] = place.window;

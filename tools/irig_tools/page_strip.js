@@ -68,8 +68,8 @@ class View {
     };
     const stop = (now) => {
       this.picture.removeEventListener("pointermove", follow);
-      const at = now.clientX - this.picture.getBoundingClientRect().left;
-      if (!moved && this.click) this.click(this.time(at));
+      const box = this.picture.getBoundingClientRect();
+      if (!moved && this.click) this.click(this.time(now.clientX - box.left), now.clientY - box.top);
     };
     this.picture.setPointerCapture(event.pointerId);
     this.picture.addEventListener("pointermove", follow);
@@ -158,8 +158,10 @@ function signs(view, selected, top) {
   return made;
 }
 
+const BARS = 42;        // where the bars of the strip begin, and where those below them end
+const UNDER = BARS + 34;
+
 function paintStrip(view, selected) {
-  const top = 42;
-  view.picture.replaceChildren(
-    axis(view, top, top + 32), bars(view, top, 25, 6), signs(view, selected, top - 8));
+  view.picture.replaceChildren(axis(view, BARS, BARS + 32 + rowHigh), bars(view, BARS, 25, 6),
+    changeMarks(view, UNDER), signs(view, selected, BARS - 8));
 }

@@ -4,7 +4,7 @@ All times are in microseconds from the start of the recording, as in the editor.
 """
 from bisect import bisect_left, bisect_right
 from collections.abc import Iterable, Sequence
-from dataclasses import dataclass
+from dataclasses import dataclass, field
 from typing import Optional
 
 SOUND, DAMAGED, LOST = "sound", "damaged", "lost"
@@ -39,6 +39,19 @@ class Place:
     frame: str = ""                     # the frame it is in, as the user reads it
 
 
+@dataclass
+class Changes:
+    """All stretches in which a recording and the repaired one differ."""
+
+    command: str = ""                   # that prints the lines again
+    lines: list[str] = field(default_factory=list)      # of irig_diff, up to the last stretch that is listed
+    levels: list[int] = field(default_factory=list)     # of each listed stretch: the level with which it begins as it is,
+    # 0 or 1, and twice the edges in it; both recordings have these
+    rest: list[tuple[int, int, int]] = field(default_factory=list)  # where the others are, from, to, and how many
+    stretches: int = 0
+    time: int = 0                       # of all stretches together
+
+
 @dataclass(frozen=True)
 class Sheet:
     """A whole recording, as a picture or a page shows it."""
@@ -51,6 +64,7 @@ class Sheet:
     places: tuple[Place, ...]           # in the order of time
     script: tuple[str, ...] = ()        # the whole script, line by line; empty if none is proposed
     notes: tuple[str, ...] = ()         # what holds for the whole recording: a clock that drifts, jitter
+    changes: Optional[Changes] = None   # by the repair, if one was made
 
 
 def merged(stretches: Iterable[Stretch]) -> tuple[Stretch, ...]:

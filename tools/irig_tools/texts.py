@@ -16,9 +16,9 @@ def escaped(words: str) -> str:
     return html.escape(plain(words), quote=True)
 
 
-def counted(count: int, noun: str) -> str:
-    """A count with its noun: `1 frame`, `86,400 frames`."""
-    return "%s %s%s" % (format(count, ","), noun, "" if count == 1 else "s")
+def counted(count: int, noun: str, nouns: str = "") -> str:
+    """A count with its noun: `1 frame`, `86,400 frames`; `nouns` is what more than one are called, if not with an s."""
+    return "%s %s" % (format(count, ","), noun if count == 1 else nouns or noun + "s")
 
 
 def seconds(time: int) -> str:

@@ -1,0 +1,121 @@
+// What a repair changed, as irig_diff prints it: marks below the strip, and the list of its lines.
+
+const MARKS = 22;       // height of the marks below the strip
+
+// The stretches of the lines, each with the last frame that the comment before it names.
+function readChanges({lines, levels}) {
+  const found = [];
+  let [frame, about] = [null, ""];
+  for (const line of lines) {
+    const ends = /^invert ([0-9]+) ([0-9]+)$/.exec(line);
+    if (!ends) {
+      const begins = [...line.matchAll(/frame [0-9]+ at ([0-9]+): /g)].pop();
+      [frame, about] = [begins ? Number(begins[1]) : null, line];
+      continue;
+    }
+    const level = levels[found.length];
+    found.push({start: Number(ends[1]), end: Number(ends[2]), level: level % 2, kept: Math.floor(level / 2), line,
+      frame, about});
+  }
+  return found;
+}
+
+const stretches = held.changes ? readChanges(held.changes) : [];
+const rowHigh = held.changes ? MARKS : 0;
+let picked = null;      // the stretch that is looked at
+
+function wordsOf({start, end, level, kept}) {
+  const edges = kept ? `; ${kept} ${kept === 1 ? "edge" : "edges"} in it ${kept === 1 ? "stays" : "stay"}` : "";
+  return (level ? "high → low" : "low → high") + `, ${end - start} µs${edges}`;
+}
+
+// What a mark says to the mouse.
+const titleOf = (change) => `${change.line}: ${wordsOf(change)}${change.about ? "\n" + change.about : ""}`;
+
+// The stretches in sight of one kind of mark, those on the same pixels as one.
+function marksOf(view, level) {
+  const found = [];
+  for (const change of stretches) {
+    if (change.level !== level || change.end < view.start || change.start > view.end) continue;
+    const left = Math.max(SIDE, Math.floor(view.x(change.start)));
+    const right = Math.min(view.width - SIDE + 2, Math.max(left + 2, view.x(change.end)));
+    const last = found[found.length - 1];
+    if (last && left < last.right + 1) {
+      last.right = Math.max(last.right, right);
+      last.of.push(change);
+    } else found.push({left, right, of: [change]});
+  }
+  return found;
+}
+
+// A mark for each stretch: up if it is high now, down if it is low now; and where there are those that are not listed.
+function changeMarks(view, top) {
+  const made = draw("g", {class: "changes"});
+  if (!held.changes) return made;
+  const middle = top + MARKS / 2;
+  for (const [start, end, count] of held.changes.rest) {
+    if (end < view.start || start > view.end) continue;
+    const left = Math.max(SIDE, view.x(start));
+    const wide = Math.max(2, Math.min(view.width - SIDE, view.x(end)) - left);
+    made.append(draw("rect", {x: left, y: top + 2, width: wide, height: MARKS - 4, class: "hidden-part"},
+      draw("title", {}, `${count} more from ${start} to ${end}`)));
+  }
+  for (const level of [0, 1]) {
+    for (const {left, right, of} of marksOf(view, level)) {
+      const words = of.length === 1 ? titleOf(of[0]) : `${of.length} stretches, the first: ${titleOf(of[0])}`;
+      made.append(draw("rect", {x: left, y: level ? middle : top + 2, width: right - left, height: MARKS / 2 - 2,
+        class: level ? "now-low" : "now-high"}, draw("title", {}, words)));
+    }
+  }
+  made.append(draw("path", {d: `M${SIDE} ${middle}H${view.width - SIDE}`}));
+  if (picked && picked.end >= view.start && picked.start <= view.end) {
+    made.append(draw("path", {d: `M${view.x((picked.start + picked.end) / 2).toFixed(1)} ${top - 4}v${MARKS + 8}`, class: "needle"}));
+  }
+  return made;
+}
+
+// The stretch whose mark is at a time, if one is.
+function changeAt(view, time) {
+  const far = (change) => Math.max(change.start - time, time - change.end, 0);
+  const near = stretches.reduce((best, change) => best && far(best) <= far(change) ? best : change, null);
+  return near && far(near) * view.width < 8 * (view.end - view.start) ? near : null;
+}
+
+// The place of damage that a stretch is in, or next to.
+function placeOf(change) {
+  const near = held.interval;
+  return places.find((place) => place.at - near <= change.end && change.start <= place.end + near);
+}
+
+// The lines as irig_diff prints them. A line of a frame leads to its first stretch.
+function listChanges(pick) {
+  const lists = byId("changes");
+  let index = 0;
+  for (const line of held.changes.lines) {
+    const change = stretches[index];
+    const item = make("li", {}, make("code", {}, line));
+    if (change && line === change.line) {
+      index += 1;
+      const place = placeOf(change);
+      const words = wordsOf(change) + (place ? `; place ${places.indexOf(place) + 1}` : "");
+      for (const [key, value] of [["role", "option"], ["id", `change-${index}`], ["aria-selected", "false"]]) {
+        item.setAttribute(key, value);
+      }
+      item.append(make("span", {class: "how"}, words));
+    } else {
+      item.setAttribute("role", "presentation");
+      item.className = "in-frame";
+    }
+    if (change) item.addEventListener("click", () => pick(change));
+    lists.append(item);
+  }
+}
+
+// On paper: the lines and what was counted.
+function changesOnPaper() {
+  const section = byId("changed");
+  const facts = [...section.querySelectorAll("p, #command")].map((part) => part.cloneNode(true));
+  facts.forEach((part) => part.removeAttribute("id"));
+  return make("article", {}, make("h3", {}, "What was changed"), ...facts,
+    make("pre", {}, held.changes.lines.join("\n")));
+}
