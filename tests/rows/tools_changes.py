@@ -163,7 +163,7 @@ def commanded(top, words, replaced, begin):
 
 # a program instead of irig_diff, and what is said
 TROUBLE = (
-    ("", "irig_diff is not found next to irig_ed, and --page with --apply shows what it prints"),
+    ("", "irig_diff is not found next to irig_ed, and --page with --apply shows what it prints; in a clone ./build makes it"),
     ("echo 'irig_diff: no room' >&2; exit 2", "irig_diff: no room"),
     ("echo invert 1 2; exit 2", "irig_diff ended with status 2"),
     ("kill -9 $$", "irig_diff ended with status -9"),
@@ -180,6 +180,7 @@ def troubled(top):
             shutil.copytree(top + "/tools", folder + "/share/irig_ed/tools")
             os.unlink(folder + "/bin/irig_ed")
             shutil.copy(os.environ["IRIG_ED"], folder + "/bin/irig_ed")
+            shutil.copy(top + "/crates/irig_guard/out/irig_guard", folder + "/bin")
             if code:
                 with open(folder + "/bin/irig_diff", "w", encoding="ascii") as file:
                     file.write("#!/bin/sh\n%s\n" % code)
@@ -193,6 +194,22 @@ def troubled(top):
             good or print("FAILED irig_diff that does '%s': %d %r %r" % (code, status, out, said))
             yield good
             yield same("without a page: " + code, shell(top, folder, tool % "--apply new.vcd ")[0] in (0, 1), True)
+
+
+def unguarded(top):
+    """Without irig_guard nothing is written, unless frames are moved; one line says why."""
+    with tempfile.TemporaryDirectory() as folder:
+        filled(folder)
+        shutil.copytree(top + "/tools", folder + "/share/irig_ed/tools")
+        os.unlink(folder + "/bin/irig_ed")
+        shutil.copy(os.environ["IRIG_ED"], folder + "/bin/irig_ed")
+        before = contents(folder)
+        tool = "unset IRIG_ED; python3 share/irig_ed/tools/irig_mend --expression 2 --apply new.vcd %srec.vcd"
+        text = "irig_guard is not found next to irig_ed, and --apply tries each repair in it; in a clone ./build makes it\n"
+        status, out, said = shell(top, folder, tool % "")
+        yield same("no irig_guard", (status, out, said.count("\n"), said.endswith(text)), (2, "", 1, True))
+        yield same("no irig_guard, the files", contents(folder), before)
+        yield same("no irig_guard, but frames are moved", shell(top, folder, tool % "--move ")[0] in (0, 1), True)
 
 
 def unwritten(top):
@@ -254,5 +271,5 @@ def cases(top):
     found = [case("mend: changes: " + row[0], worked, top, *row) for row in WORKED]
     found += [case("mend: changes: damaged %d" % seed, damaged, top, seed) for seed in range(RANDOM)]
     found += [case("mend: changes: irig_mend " + row[0], commanded, top, *row) for row in COMMANDS]
-    found += [case("mend: changes: " + part.__name__, part, top) for part in (troubled, unwritten, dropped)]
+    found += [case("mend: changes: " + part.__name__, part, top) for part in (troubled, unguarded, unwritten, dropped)]
     return found + [case("mend: changes: " + part.__name__, part) for part in (proposed, counted)]

@@ -63,12 +63,16 @@ def summary(before: Sequence[Damage], after: Sequence[Damage], script: Sequence[
                    sum(bool(each.edits) for each in doubts), refused, frames[0], frames[1])
 
 
+def find_guard() -> str:
+    """The path of irig_guard."""
+    return find_beside("irig_guard", "--apply tries each repair in it")
+
+
 def run_script(track: Opened, lines: Sequence[str], save: bool, out: str, is_guarded: bool) -> int:
     """Runs a script on the track and writes a file, with its history if `save`; how many lines were refused. Which
-    program runs it is decided here alone: irig_guard, if it is there and the script moves nothing, else the editor."""
-    guard = find_beside("irig_guard") if is_guarded else None
-    if guard:
-        return _refused_by_guard(lines, _run([guard, *track.options, *["--save"] * save], track, lines, out))
+    program runs it is decided here alone: irig_guard, or if the script moves frames the editor."""
+    if is_guarded:
+        return _refused_by_guard(lines, _run([find_guard(), *track.options, *["--save"] * save], track, lines, out))
     said = _run([find_editor(), *track.options], track, [*lines, "save" if save else "write"], out)
     return sum(line.startswith("? ") for line in said)
 

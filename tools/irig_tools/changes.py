@@ -19,10 +19,7 @@ PARTS = 2000  # of the recording: stretches after those are joined if they are n
 
 def find_differ() -> str:
     """The path of irig_diff."""
-    found = find_beside("irig_diff")
-    if found is None:
-        raise Problem("irig_diff is not found next to irig_ed, and --page with --apply shows what it prints")
-    return found
+    return find_beside("irig_diff", "--page with --apply shows what it prints")
 
 
 def changes_of(track: Opened, listing: Listing, repaired: str) -> Changes:

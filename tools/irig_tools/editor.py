@@ -52,11 +52,14 @@ def find_editor() -> str:
     return found
 
 
-def find_beside(name: str) -> Optional[str]:
+def find_beside(name: str, need: str) -> str:
     """The path of another proved program: the one next to the editor, else the one of the repository, if it is built."""
     tools = os.path.dirname(os.path.dirname(os.path.realpath(__file__)))
     beside = os.path.join(os.path.dirname(shutil.which(find_editor()) or ""), name)
-    return shutil.which(beside) or shutil.which(os.path.join(tools, "../crates/%s/out/%s" % (name, name)))
+    found = shutil.which(beside) or shutil.which(os.path.join(tools, "../crates/%s/out/%s" % (name, name)))
+    if not found:
+        raise Problem("%s is not found next to irig_ed, and %s; in a clone ./build makes it" % (name, need))
+    return found
 
 
 @dataclass(frozen=True)

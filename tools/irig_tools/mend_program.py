@@ -11,7 +11,7 @@ from .again import Names, again
 from .analysis import examine
 from .changes import changes_of, find_differ
 from .command import kept, run
-from .apply import Summary, Target, as_object, run_script, sound_frames, summary, temporary
+from .apply import Summary, Target, as_object, find_guard, run_script, sound_frames, summary, temporary
 from .damage import Seen, look
 from .damage_program import say
 from .editor import Editor, Progress, progress_to
@@ -58,11 +58,18 @@ track was not read, and 70 if memory ran out or the tool has a defect. With
 """)
 
 
+def find_programs(given: Given) -> None:
+    """Without the programs that --apply needs nothing is read or written."""
+    if given.has(APPLY) and not given.has(MOVE):
+        find_guard()
+    if given.has(APPLY) and given.has(PAGE):
+        find_differ()
+
+
 def work(given: Given) -> int:
     name = given.names[0]
     check(given)
-    if given.has(PAGE) and given.has(APPLY):
-        find_differ()  # without it nothing is written
+    find_programs(given)
     progress = progress_to(sys.stderr)
     with kept(name) as path, opened(path, name, given, wire_of(given)) as track:
         say(track, COMMAND.name)
