@@ -9,7 +9,8 @@ use Rattle.irig_saved.specs.declared.change.Change.TheVariants.{One, Group}
 use Rattle.irig_saved.specs.{declared.change.Change.Change, declared.single.Single.Single, declared.step.Step.Step as SavedStep}
 use Rattle.irig_edit.specs.Changes.Delta.{Fits, gathered, singles_of, turned}
 use Rattle.irig_edit.specs.Opened.Walk.{changed, gone_on, walk}
-use Rattle.irig_edit.specs.{Changes.Single.FitsSingle, Changes.Single.turned_single, Opened.Taken.CanTake, Opened.Taken.step_of, State.State.State}
+use Rattle.irig_edit.specs.Opened.Taken.{CanTake, FirstFits, step_of}
+use Rattle.irig_edit.specs.{Changes.Single.FitsSingle, Changes.Single.turned_single, State.State.State}
 
 -- single changes made one after another, each a step of its own
 abbrev pub made_along : History State Change → List Single → History State Change
@@ -101,6 +102,20 @@ made_stops h now names left x so_far none fit =
     ap (λ (w : History State Change). w.state) so_far.stands ∙ state_along h so_far.done in
     no_more h.state so_far.done x left (subst (λ (l : List Single). FitAll FitsSingle turned_single h.state l) so_far.all fit)
     (λ can. none (subst (λ (s : State). FitsSingle s x) (sym there) can))
+
+-- the first of those that were made, or that comes next, can be made
+first_fits : (s : State) (done left : List Single) (x : Single) → FitAll FitsSingle turned_single s done
+    → FitsSingle (left_by turned_single s done) x → FirstFits s (done ++ x ∷ left)
+first_fits s [] left x fit can = can
+first_fits s (d ∷ ds) left x fit can = fit.0
+
+pub made_first : (h now : History State Change) (names left : List Single) (x : Single) → MadeSoFar h names now (x ∷ left)
+    → FitsSingle now.state x → FirstFits h.state names
+made_first h now names left x so_far can =
+    let there : now.state ≡ left_by turned_single h.state so_far.done =
+    ap (λ (w : History State Change). w.state) so_far.stands ∙ state_along h so_far.done in
+    subst (FirstFits h.state) (sym so_far.all)
+    (first_fits h.state so_far.done left x so_far.fit (subst (λ (s : State). FitsSingle s x) there can))
 
 -- as many steps were made as there are changes
 names_done : (h now : History State Change) (names : List Single) (so_far : MadeSoFar h names now []) → length so_far.done ≡ length names

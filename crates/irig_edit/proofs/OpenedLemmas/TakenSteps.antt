@@ -4,7 +4,9 @@ use Rattle.std.proofs.Math.Seq.{take-append-add, take-append_seam}
 use Rattle.std.proofs.lemmas.List.{length-append, map-append, reverse-append}
 use Rattle.irig_saved.specs.{SavedText.step_lines, SavedText.steps_lines, declared.step.Step.Step as SavedStep, declared.change.Change.Change}
 use Rattle.irig_journal.specs.History.{History, Step}
-use Rattle.irig_edit.specs.Opened.Taken.{CanTake, CanTakeAll, step_of, steps_of}
+use Rattle.irig_saved.specs.declared.change.Change.TheVariants.{One, Group}
+use Rattle.irig_edit.specs.Opened.Taken.{CanBegin, CanTake, CanTakeAll, FirstFits, step_of, steps_of}
+use Rattle.irig_edit.specs.Changes.Delta.{Fits, singles_of}
 use Rattle.irig_edit.specs.{State.State.State, Opened.Stops.StopsAt, Opened.Walk.gone_along, Opened.Walk.gone_on}
 use Rattle.irig_edit.proofs.OpenedLemmas.Walks.{can_take-append, can_take-next, gone_along-append}
 
@@ -79,6 +81,36 @@ taken_stops h now names left before behind s so_far none counted few =
           ∙ ap (λ (l : List SavedStep). length (steps_lines l)) (sym more));
       few = omega (arith, so_far.lines, ap (λ (l : List SavedStep). length (steps_lines l)) so_far.all, lines-append done (s ∷ left));
     }
+
+-- of a change that can be made so can the first single change
+fits_first : (s : State) (d : Change) → Fits s d → FirstFits s (singles_of d)
+fits_first s (One single) fits = fits
+fits_first s (Group []) fits = tt
+fits_first s (Group (single ∷ singles)) fits = fits.0
+
+-- steps begin with those that were taken, or with the next, whose first single change can be made
+begin_so : (h : History State Change) (done left : List SavedStep) (s : SavedStep) → CanTakeAll h.state (steps_of done)
+    → FirstFits (gone_along h (steps_of done)).state (singles_of s.change) → CanBegin h.state (steps_of (done ++ s ∷ left))
+begin_so h [] left s can first = first
+begin_so h (d ∷ ds) left s can first = fits_first h.state d.change can.0.fits
+
+pub taken_begin : (h now : History State Change) (names left : List SavedStep) (before : ℕ) (s : SavedStep)
+    → TakenSoFar h names now (s ∷ left) before → FirstFits now.state (singles_of s.change) → CanBegin h.state (steps_of names)
+taken_begin h now names left before s so_far first =
+    let there : now.state ≡ (gone_along h (steps_of so_far.done)).state = ap (λ (x : History State Change). x.state) so_far.stands in
+    subst (λ (l : List SavedStep). CanBegin h.state (steps_of l)) (sym so_far.all)
+    (begin_so h so_far.done left s so_far.can (subst (λ (x : State). FirstFits x (singles_of s.change)) there first))
+
+-- steps and others begin as the first of them
+pub begin_more : (s : State) (ss ts : List SavedStep) → CanBegin s (steps_of ss) → CanBegin s (steps_of (ss ++ ts))
+begin_more s [] ts begin = absurd begin
+begin_more s (x ∷ xs) ts begin = begin
+
+-- if they can be taken, as the others if there are none
+pub begin_after : (s : State) (ss ts : List SavedStep) → CanTakeAll s (steps_of ss) → CanBegin s (steps_of ts)
+    → CanBegin s (steps_of (ss ++ ts))
+begin_after s [] ts can begin = begin
+begin_after s (x ∷ xs) ts can begin = fits_first s x.change can.0.fits
 
 -- the next of what is left
 pub taken_next : (h now : History State Change) (names steps rest : List SavedStep) (s : SavedStep) (before : ℕ)

@@ -3,7 +3,7 @@ use Rattle.std.specs.Prelude.{◌≡◌, ◌<◌, ◌^◌, ◌+◌, ℕ, List, l
 use Rattle.irig_saved.specs.declared.step.Step.{Step as SavedStep}
 use Rattle.irig_saved.specs.{SavedText.steps_lines, declared.change.Change.Change}
 use Rattle.irig_journal.specs.History.{History}
-use Rattle.irig_edit.specs.Opened.Taken.{CanTakeAll, StopsAfter, steps_of}
+use Rattle.irig_edit.specs.Opened.Taken.{CanBegin, CanTakeAll, StopsAfter, steps_of}
 use Rattle.irig_edit.specs.declared.opened.taking.NotTaken.{NotTaken}
 use Rattle.irig_edit.specs.declared.opened.taking.NotTaken.TheVariants.{At, Memory}
 use Rattle.irig_edit.specs.{State.State.State, Opened.Walk.walk}
@@ -16,10 +16,10 @@ pub record StopsAt (s : State) (saves : List SavedStep) (before behind : ℕ) : 
   pub behind_are : behind ≡ length (steps_lines (take (count + 1) saves))
   pub few : before < 2 ^ 63
 
--- if memory runs out nothing is said
+-- at a step that is not taken; or memory runs out, which it does not before the steps begin
 abbrev pub IsNotTaken : State → List SavedStep → NotTaken → Type 0
 IsNotTaken s saves (At before behind) = StopsAt s saves before behind
-IsNotTaken s saves Memory = Unit {0}
+IsNotTaken s saves Memory = CanBegin s (steps_of saves)
 
 -- saved steps back and forward can be taken, and are the past and the future of the state
 pub record HasTaken (old : History State Change) (past future : List SavedStep)

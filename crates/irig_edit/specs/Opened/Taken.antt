@@ -2,7 +2,9 @@
 use Rattle.std.specs.Prelude.{◌≤◌, ◌<◌, ◌+◌, ℕ, List, [], ◌∷◌, length, map, take}
 use Rattle.irig_journal.specs.History.{Step, step}
 use Rattle.irig_saved.specs.{declared.step.Step.Step as SavedStep, declared.change.Change.Change}
-use Rattle.irig_edit.specs.{Changes.Delta.Fits, Changes.Delta.turned, State.State.State}
+use Rattle.irig_saved.specs.declared.single.Single.{Single}
+use Rattle.irig_edit.specs.Changes.Delta.{Fits, singles_of, turned}
+use Rattle.irig_edit.specs.{Changes.Single.FitsSingle, State.State.State}
 
 -- a saved step, as a session keeps it
 abbrev pub step_of : SavedStep → Step Change
@@ -28,3 +30,13 @@ pub record StopsAfter (s : State) (saves : List SavedStep) (count : ℕ) : Type 
   pub there : count < length saves
   pub taken : CanTakeAll s (steps_of (take count saves))
   pub refused : CanTakeAll s (steps_of (take (count + 1) saves)) → ⊥
+
+-- the first of single changes can be made, if there is one
+abbrev pub FirstFits : State → List Single → Type 0
+FirstFits s [] = Unit {0}
+FirstFits s (single ∷ singles) = FitsSingle s single
+
+-- there is a step, and the first single change of the first one can be made: memory is taken for it
+abbrev pub CanBegin : State → List (Step Change) → Type 0
+CanBegin s [] = ⊥
+CanBegin s (step ∷ steps) = FirstFits s (singles_of step.change)

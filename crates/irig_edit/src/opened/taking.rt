@@ -1,19 +1,22 @@
 //! The steps of a saved journal, taken one after another.
 
-ghost use Rattle.std.specs.Prelude.{◌≡◌, ◌+◌, ◌≤◌, ◌<◌, ◌^◌, List, [], IfErr, IfOk, None};
+ghost use Rattle.std.specs.Prelude.{◌≡◌, ◌+◌, ◌≤◌, ◌<◌, ◌^◌, ◌++◌, List, [], Err, IfErr, IfOk, None};
 ghost use Rattle.std.specs.Prelude.{MatchBool, MatchResult, OnOk, length, reverse};
 ghost use Rattle.irig_journal.specs.{History.History, History.Step, Turns.FitAll};
 ghost use Rattle.irig_saved.specs.SavedText.{mark_lines, saved_lines, steps_lines};
 ghost use Rattle.irig_saved.specs.declared.change.Change.{Change};
 ghost use Rattle.irig_saved.specs.declared.change.Change.TheVariants.{One, Group};
+ghost use Rattle.irig_vcd.specs.declared.fault.VcdFault.TheVariants.{OutOfMemory};
 ghost use Rattle.irig_edit.specs.Changes.Single.{FitsSingle, turned_single};
 ghost use Rattle.irig_edit.specs.Opened.Opened.{IsAccepted, IsLineAtFault, IsStepAtFault};
 ghost use Rattle.irig_edit.specs.Opened.Opened.{head_fault};
 ghost use Rattle.irig_edit.specs.State.State.{IsState, State};
 ghost use Rattle.irig_edit.specs.Opened.Stops.{HasTaken, IsNotTaken};
-ghost use Rattle.irig_edit.specs.Opened.Taken.{CanTake, CanTakeAll, step_of, steps_of};
+ghost use Rattle.irig_edit.specs.Opened.Taken.{CanBegin, CanTake, CanTakeAll, FirstFits, step_of};
+ghost use Rattle.irig_edit.specs.Opened.Taken.{steps_of};
 ghost use Rattle.irig_edit.specs.Opened.Walk.{ahead_of, changed, gone_along, gone_on, walk};
-ghost use Rattle.irig_edit.specs.{Changes.Delta.Fits, Opened.Openings.IsBad};
+ghost use Rattle.irig_edit.specs.{Changes.Delta.Fits, Changes.Delta.singles_of};
+ghost use Rattle.irig_edit.specs.Opened.Openings.{IsBad};
 
 use crate::opened::walk::Walk;
 use crate::session::session::Session;
@@ -63,6 +66,8 @@ impl Walk {
         requires short { length (saved_lines saved) ≤ 2 ^ 28 }
         ensures opened { IfOk result (IsAccepted self.state saved) }
         ensures fault { IfErr result (IsBad (IsLineAtFault self.state saved)) }
+        ensures memory { result ≡ Err OutOfMemory
+            → CanBegin self.state (steps_of (reverse saved.past ++ saved.future)) }
     {
         let Saved { past, future, .. } = saved;
         let line = line + past.lines() + 1;
@@ -87,6 +92,8 @@ impl Walk {
             × (length (steps_lines future) < 2 ^ 63) }
         ensures taken { OnOk result (HasTaken self.old past future self.new) }
         ensures fault { IfErr result (IsBad (IsStepAtFault self.old.state past future line)) }
+        ensures memory { result ≡ Err OutOfMemory
+            → CanBegin self.old.state (steps_of (reverse past ++ future)) }
     {
         match self.follow(alloc, past) {
             Ok(()) => {}
@@ -138,12 +145,14 @@ impl Walk {
     }
 
     /// Takes a step, and returns whether it can be taken. If not, nothing is said of what it
-    /// leaves.
+    /// leaves. Memory is taken only after its first change is found right.
     fn take(&mut self, alloc: Global, step: irig_saved::Step) -> Result<bool, AllocError>
         requires ahead { self.old.future ≡ [] }
-        ensures { IfOk result (λ taken. MatchBool taken
+        ensures { MatchResult result
+            (λ taken. MatchBool taken
             (CanTake self.old.state (step_of step) × (self.new ≡ gone_on self.old (step_of step)))
-            (CanTake self.old.state (step_of step) → ⊥)) }
+            (CanTake self.old.state (step_of step) → ⊥))
+            (λ _. FirstFits self.old.state (singles_of step.change)) }
     {
         let irig_saved::Step { cursor, change } = step;
         if !self.make(alloc, change)? {
@@ -159,9 +168,11 @@ impl Walk {
     /// Makes the change of a step, stays at its cursor, and returns whether the change can be made.
     fn make(&mut self, alloc: Global, change: Change) -> Result<bool, AllocError>
         requires ahead { self.old.future ≡ [] }
-        ensures { IfOk result (λ made. MatchBool made
+        ensures { MatchResult result
+            (λ made. MatchBool made
             (Fits self.old.state change × (self.new ≡ changed self.old change))
-            (Fits self.old.state change → ⊥)) }
+            (Fits self.old.state change → ⊥))
+            (λ _. FirstFits self.old.state (singles_of change)) }
     {
         match change {
             Change::One(single) => self.make_one(alloc, single),
@@ -171,9 +182,11 @@ impl Walk {
 
     /// Makes a single change.
     fn make_one(&mut self, alloc: Global, single: Single) -> Result<bool, AllocError>
-        ensures { IfOk result (λ made. MatchBool made
+        ensures { MatchResult result
+            (λ made. MatchBool made
             (FitsSingle self.old.state single × (self.new ≡ changed self.old (One single)))
-            (FitsSingle self.old.state single → ⊥)) }
+            (FitsSingle self.old.state single → ⊥))
+            (λ _. FitsSingle self.old.state single) }
     {
         if !self.present.allows(&single) {
             return Ok(false);
@@ -185,10 +198,12 @@ impl Walk {
     /// Makes single changes one after another, and makes one group of them.
     fn make_all(&mut self, alloc: Global, mut singles: Vec<Single>) -> Result<bool, AllocError>
         requires ahead { self.old.future ≡ [] }
-        ensures { IfOk result (λ made. MatchBool made
+        ensures { MatchResult result
+            (λ made. MatchBool made
             (FitAll FitsSingle turned_single self.old.state singles.items
             × (self.new ≡ changed self.old (Group singles.items)))
-            (FitAll FitsSingle turned_single self.old.state singles.items → ⊥)) }
+            (FitAll FitsSingle turned_single self.old.state singles.items → ⊥))
+            (λ _. FirstFits self.old.state singles.items) }
     {
         let count = singles.len();
         singles.reverse();

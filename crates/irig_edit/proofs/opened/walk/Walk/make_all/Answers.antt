@@ -1,7 +1,7 @@
 use Rattle.std.proofs.Common.{rules, ◌≡◌, ◌∷◌, [], List, reverse, ap, sym, subst, ◌∙◌, arith}
 use Rattle.std.proofs.lemmas.{Bool.MatchBool-at_false, Bool.MatchBool-at_true, List.reverse-append, List.reverse-reverse}
 use Rattle.irig_saved.specs.declared.single.Single.{Single}
-use Rattle.irig_edit.proofs.OpenedLemmas.TakenGroups.{MadeSoFar, enough_made, group_made, made_more, made_none, made_stops}
+use Rattle.irig_edit.proofs.OpenedLemmas.TakenGroups.{MadeSoFar, enough_made, group_made, made_first, made_more, made_none, made_stops}
 use Rattle.irig_edit.proofs.opened.walk.Walk.make_all.Goals.{In-Some}
 use Rattle.irig_edit.proofs.opened.walk.Walk.make_all.Goals as goal
 
@@ -21,6 +21,11 @@ pub returns-in-Ok-false : goal.returns-in-Ok-false
 returns-in-Ok-false c =
     made_stops c.args.self.now c.loop-single.self c.args.singles.items (reverse c.pop.new.self.items) c.in-Some.single
     (next (goal.at.returns-in-Ok-false c).In-Some) (MatchBool-at_false _ _ c.in-Ok-false.field-0-test c.in-Ok-false.ensures)
+
+pub returns-in-Err : goal.returns-in-Err
+returns-in-Err c =
+    made_first c.args.self.now c.loop-single.self c.args.singles.items (reverse c.pop.new.self.items) c.in-Some.single
+    (next (goal.at.returns-in-Err c).In-Some) c.in-Err.ensures
 
 pub loop-single-preserved : goal.loop-single-preserved
 loop-single-preserved c =

@@ -3,7 +3,7 @@ use Rattle.std.proofs.lemmas.Bool.{MatchBool-at_false, MatchBool-at_true}
 use Rattle.irig_journal.specs.History.{History}
 use Rattle.irig_saved.specs.{declared.change.Change.Change, SavedText.step_lines}
 use Rattle.irig_edit.specs.{Opened.Taken.steps_of, State.State.State}
-use Rattle.irig_edit.proofs.OpenedLemmas.TakenSteps.{TakenSoFar, lines_short, taken_more, taken_next, taken_stops}
+use Rattle.irig_edit.proofs.OpenedLemmas.TakenSteps.{TakenSoFar, lines_short, taken_begin, taken_more, taken_next, taken_stops}
 use Rattle.irig_edit.proofs.{OpenedLemmas.Walks.future_gone, opened.walk.Walk.take_all.Goals.In-Some}
 use Rattle.irig_edit.proofs.opened.walk.Walk.take_all.Goals as goal
 
@@ -47,3 +47,8 @@ returns-in-Ok-false c =
     taken_stops c.args.self.now c.loop-step.self (reverse c.args.steps) (reverse c.pop.new.self) c.loop-step.before (c.loop-step.before + c.lines.result)
     c.in-Some.step (so_far (goal.at.returns-in-Ok-false c).In-Some) (MatchBool-at_false _ _ is c.in-Ok-false.ensures)
     (ap (λ n. c.loop-step.before + n) c.lines.ensures) c.requires.lines
+
+pub returns-in-Err : goal.returns-in-Err
+returns-in-Err c =
+    taken_begin c.args.self.now c.loop-step.self (reverse c.args.steps) (reverse c.pop.new.self) c.loop-step.before c.in-Some.step
+    (so_far (goal.at.returns-in-Err c).In-Some) c.in-Err.ensures
