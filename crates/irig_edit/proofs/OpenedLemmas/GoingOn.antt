@@ -5,7 +5,7 @@ use Rattle.std.specs.List.{AllByRecursion}
 use Rattle.std.proofs.lemmas.{Bool.Decides.nat_tests, List.length-append, List.reverse-append, List.reverse-reverse, List.take-map}
 use Rattle.irig_codes.specs.Format.{FormatView}
 use Rattle.irig_journal.specs.History.{Step}
-use Rattle.irig_saved.specs.{Faults.IsFault, Ranges.IsSaved, SavedText.journal_text, declared.saved.Saved.Saved, declared.step.Step.Step as SavedStep}
+use Rattle.irig_saved.specs.{Faults.IsFault, Ranges.IsSaved, SavedText.journal_text, declared.saved.Saved.Saved, declared.step.SavedStep.SavedStep}
 use Rattle.irig_saved.specs.{Numbers.NumbersOfStep, declared.change.Change.Change}
 use Rattle.irig_saved.proofs.JournalTexts.{journal_is_text, section_is_comment}
 use Rattle.irig_saved.proofs.{Counts.saved_of_parts, FaultFacts.journal_not_at_fault, Rows.all-append, Unique.same_journal}

@@ -1,7 +1,7 @@
 -- The steps of a saved journal, taken one after another from a state. This project's own.
 use Rattle.std.specs.Prelude.{◌≤◌, ◌<◌, ◌+◌, ℕ, List, [], ◌∷◌, length, map, take}
 use Rattle.irig_journal.specs.History.{Step, step}
-use Rattle.irig_saved.specs.{declared.step.Step.Step as SavedStep, declared.change.Change.Change}
+use Rattle.irig_saved.specs.{declared.step.SavedStep.SavedStep, declared.change.Change.Change}
 use Rattle.irig_edit.specs.{Changes.Delta.Fits, Changes.Delta.turned, State.State.State}
 
 -- a saved step, as a session keeps it

@@ -17,7 +17,7 @@ ghost use Rattle.irig_edit.specs.{Changes.Delta.Fits, Opened.Openings.IsBad};
 
 use crate::opened::walk::Walk;
 use crate::session::session::Session;
-use irig_saved::{Change, Saved, Single, Steps};
+use irig_saved::{Change, Saved, SavedStep, Single, Steps};
 use irig_vcd::VcdFault;
 use std::alloc::{AllocError, Global};
 
@@ -139,13 +139,13 @@ impl Walk {
 
     /// Takes a step, and returns whether it can be taken. If not, nothing is said of what it
     /// leaves.
-    fn take(&mut self, alloc: Global, step: irig_saved::Step) -> Result<bool, AllocError>
+    fn take(&mut self, alloc: Global, step: SavedStep) -> Result<bool, AllocError>
         requires ahead { self.old.future ≡ [] }
         ensures { IfOk result (λ taken. MatchBool taken
             (CanTake self.old.state (step_of step) × (self.new ≡ gone_on self.old (step_of step)))
             (CanTake self.old.state (step_of step) → ⊥)) }
     {
-        let irig_saved::Step { cursor, change } = step;
+        let SavedStep { cursor, change } = step;
         if !self.make(alloc, change)? {
             return Ok(false);
         }
