@@ -6,6 +6,7 @@ use Rattle.std.specs.List.{AllByRecursion, list_all}
 use Rattle.std.proofs.lemmas.{List.append-nil, List.map-append, List.take_all, List.take_more, Grind.flat_map-append}
 use Rattle.irig_codes.specs.Format.{FormatView}
 use Rattle.irig_edit.specs.State.State.{State}
+use Rattle.irig_saved.proofs.Rows.{all-append}
 use Rattle.irig_lines.specs.{Lines.script_lines, declared.command.Command.Command}
 use Rattle.irig_lines.specs.declared.command.Command.TheVariants as command
 use Rattle.irig_script.specs.{Obey.Machine.Machine, Obey.Run.IsObeyed, Obey.Run.IsPlain, Obey.Run.Runs, Obey.Run.unlines}
@@ -40,10 +41,6 @@ plain_take (suc n) (b ∷ text) h =
 -- a front after a number sign is a remark
 pub front_remark : (text : List ℕ) → IsPlain text → length text ≤ 900 → IsRemark (35 ∷ 32 ∷ text)
 front_remark text h few = record { plain = h; asks = (omega arith, ([], 35 ∷ 32 ∷ text, refl, refl, inl (refl, refl))) }
-
-pub all-append : {X : Type 0} (P : X → Type 0) (xs ys : List X) → AllByRecursion P xs → AllByRecursion P ys → AllByRecursion P (xs ++ ys)
-all-append P [] ys h k = k
-all-append P (x ∷ xs) ys h k = (h.0, all-append P xs ys h.1 k)
 
 pub unlines-append : (xs ys : List (List ℕ)) → unlines (xs ++ ys) ≡ unlines xs ++ unlines ys
 unlines-append xs ys = flat_map-append (λ line. line ++ 10 ∷ []) xs ys

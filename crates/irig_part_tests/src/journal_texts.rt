@@ -5,8 +5,8 @@ ghost use Rattle.std.specs.Prelude.{◌<◌, ◌^◌, length};
 
 use irig_codes::{Format, Kind};
 use irig_saved::{
-    Change, Fault, Letter, Pulses, Saved, Single, SingleLines, Step, parse, put_future, put_head,
-    put_step,
+    Change, Fault, Letter, Pulses, Saved, SavedStep, Single, SingleLines, parse, put_future,
+    put_head, put_step,
 };
 use irig_track::Pulse;
 use std::alloc::{AllocError, Global};
@@ -124,7 +124,7 @@ fn the_first_line_at_fault_in_a_step_is_told(rt: HostRuntime) {
 }
 
 /// Whether a step leads to the second pulse and inserts the one that was deleted.
-fn is_splice(step: &Step) -> bool {
+fn is_splice(step: &SavedStep) -> bool {
     let Change::One(Single::Splice { at, count, put }) = &step.change else {
         return false;
     };
@@ -132,7 +132,7 @@ fn is_splice(step: &Step) -> bool {
 }
 
 /// Whether a step leads to the first pulse and sets the mark a.
-fn is_mark(step: &Step) -> bool {
+fn is_mark(step: &SavedStep) -> bool {
     let Change::One(Single::SetMark { letter, time }) = &step.change else {
         return false;
     };

@@ -4,7 +4,7 @@ use Rattle.irig_saved.specs.SavedText.{put_of, pulse_lines, single_lines, single
 use Rattle.irig_saved.specs.Ranges.{IsNumber, IsSingle, IsChange, IsStep, AreSingles, ManySteps, AreSteps}
 use Rattle.irig_saved.specs.declared.change.Change.TheVariants.{One, Group}
 use Rattle.irig_saved.specs.{Lines.line, Lines.numbered, Lines.text_of, ChangeWords.head_of, ChangeWords.words_of, ChangeWords.single_line, Reading.Reads}
-use Rattle.irig_saved.specs.{Reading.Stops, Reading.Lacks, declared.single.Single.Single, declared.change.Change.Change, declared.step.Step.Step}
+use Rattle.irig_saved.specs.{Reading.Stops, Reading.Lacks, declared.single.Single.Single, declared.change.Change.Change, declared.step.SavedStep.SavedStep}
 use Rattle.irig_saved.proofs.{Cuts.IsWord, Decimals.number_is_word, Decimals.same_number, SameWords.head_is_word, SameWords.word_at, SameWords.words_are_words}
 use Rattle.irig_saved.proofs.{Unique.lined, Unique.no_group, Unique.same_step, Bytes.dark_lacks, Clean.newline, Clean.counted_lacks, Clean.first_lacks}
 use Rattle.irig_saved.proofs.{Clean.step_clean, Carried.Differs, Carried.carried, Carried.first_line_stops, Carried.other_line, Carried.lineless, Rows.step_row}
@@ -76,10 +76,10 @@ no_change_stops text lacks = first_line_stops IsChange change_lines text (One no
 abbrev at_lines : ℕ → List (List ℕ)
 at_lines n = number_lines (codes "at") n
 
-step : ℕ → Change → Step
+step : ℕ → Change → SavedStep
 step cursor change = record { cursor = cursor; change = change }
 
-no_step : Step
+no_step : SavedStep
 no_step = record { cursor = 0; change = One no_change }
 
 no_step_lawful : IsStep no_step
@@ -120,7 +120,7 @@ step_family = record {
 pub no_steps_lawful : AreSteps []
 no_steps_lawful = (lit< tt, tt)
 
-pub counted_reads : (head text l mid rest : List ℕ) (n : ℕ) (ss : List Step) → text ≡ l ++ 10 ∷ mid → IsNumber n → l ≡ numbered head (n ∷ [])
+pub counted_reads : (head text l mid rest : List ℕ) (n : ℕ) (ss : List SavedStep) → text ≡ l ++ 10 ∷ mid → IsNumber n → l ≡ numbered head (n ∷ [])
     → Reads (ManySteps n) steps_lines mid ss rest → Reads AreSteps (counted_lines head) text ss rest
 counted_reads head text l mid rest n ss cut h e r = record {
   lawful = (subst IsNumber (sym r.lawful.0) h, r.lawful.1);

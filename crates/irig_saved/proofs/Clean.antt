@@ -7,7 +7,8 @@ use Rattle.irig_saved.specs.SavedText.{counted_lines, saved_lines}
 use Rattle.irig_saved.specs.Ranges.{IsNumber, IsTime, IsPulse, IsSingle, IsChange, IsStep, AreSteps, IsSaved}
 use Rattle.irig_saved.specs.{ChangeWords.head_of, ChangeWords.words_of, ChangeWords.single_line, declared.change.Change.TheVariants.One}
 use Rattle.irig_saved.specs.{declared.change.Change.TheVariants.Group, Lines.behind, Lines.line, Lines.numbered, Reading.Lacks, declared.single.Single.Single}
-use Rattle.irig_saved.specs.{declared.single.Single.TheVariants.Splice, declared.change.Change.Change, declared.step.Step.Step, declared.saved.Saved.Saved}
+use Rattle.irig_saved.specs.{declared.single.Single.TheVariants.Splice, declared.change.Change.Change, declared.saved.Saved.Saved}
+use Rattle.irig_saved.specs.declared.step.SavedStep.{SavedStep}
 use Rattle.irig_codes.specs.{Words.kind_word, declared.format.Kind.Kind}
 use Rattle.irig_recording.specs.declared.pulse.Pulse.{Pulse}
 use Rattle.irig_saved.proofs.SameWords.{byte_is_plain, small_is_number, kind_is_plain, head_is_plain, words_are_plain}
@@ -104,14 +105,14 @@ change_clean : {b : ℕ} → IsAside b → (c : Change) → IsChange c → AllLa
 change_clean a (One x) h = single_clean a x h
 change_clean a (Group xs) h = (counted_lacks a (codes "group") (length xs) (plain_lacks a (codes "group") refl) h.0, singles_clean a xs h.1)
 
-pub step_clean : {b : ℕ} → IsAside b → (s : Step) → IsStep s → AllLack b (step_lines s)
+pub step_clean : {b : ℕ} → IsAside b → (s : SavedStep) → IsStep s → AllLack b (step_lines s)
 step_clean a s h = (counted_lacks a (codes "at") s.cursor (plain_lacks a (codes "at") refl) h.0, change_clean a s.change h.1)
 
-steps_clean : {b : ℕ} → IsAside b → (ss : List Step) → AllByRecursion IsStep ss → AllLack b (steps_lines ss)
+steps_clean : {b : ℕ} → IsAside b → (ss : List SavedStep) → AllByRecursion IsStep ss → AllLack b (steps_lines ss)
 steps_clean a [] h = tt
 steps_clean {b} a (s ∷ ss) h = all_append b (step_lines s) (steps_lines ss) (step_clean a s h.0) (steps_clean a ss h.1)
 
-pub counted_clean : {b : ℕ} → IsAside b → (head : List ℕ) (ss : List Step) → Lacks b head → AreSteps ss → AllLack b (counted_lines head ss)
+pub counted_clean : {b : ℕ} → IsAside b → (head : List ℕ) (ss : List SavedStep) → Lacks b head → AreSteps ss → AllLack b (counted_lines head ss)
 counted_clean a head ss hh h = (counted_lacks a head (length ss) hh h.0, steps_clean a ss h.1)
 
 marks_clean : {b : ℕ} → IsAside b → (x : ℕ) (ms : List (Option ℕ)) → 36 < x → AllByRecursion IsTime ms → AllLack b (mark_lines x ms)

@@ -5,7 +5,8 @@ use Rattle.irig_saved.specs.SavedText.{single_lines, singles_lines, change_lines
 use Rattle.irig_saved.specs.Ranges.{IsNumber, IsTime, IsSingle, IsChange, IsStep, AreSteps, IsSaved}
 use Rattle.irig_saved.specs.declared.change.Change.TheVariants.{One, Group}
 use Rattle.irig_saved.specs.{Numbers.NumbersOfChange, Numbers.NumbersOfSingle, Numbers.NumbersOfStep, declared.single.Single.Single}
-use Rattle.irig_saved.specs.{declared.single.Single.TheVariants.Splice, declared.change.Change.Change, declared.step.Step.Step, declared.saved.Saved.Saved}
+use Rattle.irig_saved.specs.{declared.single.Single.TheVariants.Splice, declared.change.Change.Change, declared.saved.Saved.Saved}
+use Rattle.irig_saved.specs.declared.step.SavedStep.{SavedStep}
 use Rattle.irig_saved.proofs.{Rows.Row, Rows.length_next, Rows.single_row, Rows.step_row, Texts.length-pulse_lines, FaultLines.lines_fit}
 
 -- parts in a row
@@ -38,10 +39,10 @@ change_of_numbers (Group xs) few h = (
 
 -- steps
 
-pub step_of_numbers : (t : Step) → IsNumber (length (step_lines t)) → NumbersOfStep t → IsStep t
+pub step_of_numbers : (t : SavedStep) → IsNumber (length (step_lines t)) → NumbersOfStep t → IsStep t
 step_of_numbers t few h = (h.0, change_of_numbers t.change (omega (arith, few)) h.1)
 
-pub steps_of_numbers : (ss : List Step) → IsNumber (length (steps_lines ss)) → AllByRecursion NumbersOfStep ss → AreSteps ss
+pub steps_of_numbers : (ss : List SavedStep) → IsNumber (length (steps_lines ss)) → AllByRecursion NumbersOfStep ss → AreSteps ss
 steps_of_numbers ss few h = (
   omega (arith, few, row_fits step_lines steps_lines step_row (λ s. omega arith) ss),
   row_of_numbers step_lines steps_lines step_row NumbersOfStep IsStep step_of_numbers ss few h,

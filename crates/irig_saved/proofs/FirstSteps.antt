@@ -7,7 +7,7 @@ use Rattle.irig_codes.specs.declared.format.Kind.{Kind}
 use Rattle.irig_saved.specs.SavedText.{change_lines, counted_lines, mark_lines, saved_lines, step_lines, steps_lines}
 use Rattle.irig_saved.specs.{Lines.numbered, Lines.text_of, Ranges.IsNumber, Ranges.IsSaved, Ranges.IsStep, Ranges.AreSteps, Ranges.ManySteps, Values.IsFormat}
 use Rattle.irig_saved.specs.{Reading.Reads, Leading.BeginsSome, Leading.BeginsStep, Leading.BeginsSteps, Leading.Leads, Leading.head_text, Faults.Begins}
-use Rattle.irig_saved.specs.{Faults.ReachesSteps, declared.change.Change.TheVariants.One, declared.saved.Saved.Saved, declared.step.Step.Step}
+use Rattle.irig_saved.specs.{Faults.ReachesSteps, declared.change.Change.TheVariants.One, declared.saved.Saved.Saved, declared.step.SavedStep.SavedStep}
 use Rattle.irig_saved.proofs.ChangeParts.{no_steps_lawful, onward, step_family}
 use Rattle.irig_saved.proofs.SavedParts.{cursor_line, format_line, head_same}
 use Rattle.irig_saved.proofs.{Unique.regroup, Repeats.so_many, SingleParts.no_change, SingleParts.no_change_lawful, MarkParts.lead_same, MarkParts.lead_times}
@@ -20,7 +20,7 @@ at_line n = numbered (codes "at") (n ∷ [])
 pub begins_step : (text l mid : List ℕ) (n : ℕ) → text ≡ l ++ 10 ∷ mid → IsNumber n → l ≡ at_line n → BeginsStep text
 begins_step text l mid n cut h e = record { cursor = n; number = h; more = mid; same = cut ∙ ap (λ (w : List ℕ). w ++ 10 ∷ mid) e }
 
-pub step_begins : (text rest : List ℕ) (s : Step) → Reads IsStep step_lines text s rest → BeginsStep text
+pub step_begins : (text rest : List ℕ) (s : SavedStep) → Reads IsStep step_lines text s rest → BeginsStep text
 step_begins text rest s r = record {
   cursor = s.cursor;
   number = r.lawful.0;
@@ -29,7 +29,7 @@ step_begins text rest s r = record {
 }
 
 -- the first of several
-pub steps_begin : (k : ℕ) (text : List ℕ) (done : List Step) (mid : List ℕ) → Reads (ManySteps k) steps_lines text done mid
+pub steps_begin : (k : ℕ) (text : List ℕ) (done : List SavedStep) (mid : List ℕ) → Reads (ManySteps k) steps_lines text done mid
     → BeginsStep mid → BeginsStep text
 steps_begin k text [] mid r b = let P : List ℕ → Type 0 = λ t. BeginsStep t in subst P (sym r.same) b
 steps_begin k text (d ∷ ds) mid r b =
@@ -43,7 +43,7 @@ counted_begins head text l mid n cut h e some =
 
 -- this many steps; the first has a cursor
 record Many (cursor count : ℕ) : Type 0 where
-  steps : List Step
+  steps : List SavedStep
   others : List (List ℕ)
   long : length steps ≡ count
   lawful : AllByRecursion IsStep steps
@@ -88,7 +88,7 @@ reached text placed rest s ls others lawful some head lines same long =
     record { saved = s; lawful = lawful; some = some; begins = subst P all (begins_by n whole others text rest few stands) }
 
 -- the line of a number, and the first of the steps that it counts
-counted_same : (head text : List ℕ) (b : BeginsSteps head text) (ss : List Step) → length ss ≡ b.count
+counted_same : (head text : List ℕ) (b : BeginsSteps head text) (ss : List SavedStep) → length ss ≡ b.count
     → text ≡ text_of (numbered head (length ss ∷ []) ∷ at_line b.some.1.cursor ∷ []) ++ b.some.1.more
 counted_same head text b ss long =
     onward text (numbered head (b.count ∷ [])) b.mid (numbered head (length ss ∷ [])) b.some.1.more (at_line b.some.1.cursor ∷ []) b.same
@@ -124,7 +124,7 @@ past_reached text placed marked kind expression cursor ms head small number lett
 
 -- the steps forward are reached
 pub future_reached : (text placed marked : List ℕ) (kind : Kind) (expression cursor : ℕ) (ms : List (Option ℕ)) (undone : List ℕ)
-    (past : List Step)
+    (past : List SavedStep)
     → text ≡ head_text (kind, expression) cursor placed → IsFormat (kind, expression) → IsNumber cursor → length ms ≡ 26 → Leads 97 ms placed marked
     → Reads AreSteps (counted_lines (codes "past")) marked past undone
     → BeginsSteps (codes "future") undone → ReachesSteps text

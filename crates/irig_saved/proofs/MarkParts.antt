@@ -3,7 +3,7 @@ use Rattle.std.proofs.Common.{◌≡◌, ◌<◌, ◌+◌, ◌++◌, ◌∷◌, 
 use Rattle.std.proofs.Common.{◌∙◌, append_assoc, arith}
 use Rattle.std.specs.List.{AllByRecursion}
 use Rattle.irig_saved.specs.{Lines.text_of, SavedText.mark_lines, SavedText.counted_lines, Ranges.IsNumber, Ranges.IsTime, Reading.Lacks, Leading.mark_line}
-use Rattle.irig_saved.specs.{Leading.LacksMark, Leading.Leads, declared.step.Step.Step}
+use Rattle.irig_saved.specs.{Leading.LacksMark, Leading.Leads, declared.step.SavedStep.SavedStep}
 use Rattle.irig_saved.proofs.{Decimals.same_number, SameWords.byte_at, SameWords.byte_is_word, SameWords.word_at, Unique.lined, Unique.mark_words}
 use Rattle.irig_saved.proofs.{Clean.newline, Clean.mark_lacks, Bytes.cut_at, Bytes.not_lacking, Bytes.dark_lacks}
 
@@ -54,14 +54,14 @@ other_lacks x text l rest high cut whole none = λ t more small e.
 -- the lines up to the one after them determine them
 
 -- the steps after the marks
-abbrev pub step_sections : List Step → List Step → List (List ℕ)
+abbrev pub step_sections : List SavedStep → List SavedStep → List (List ℕ)
 step_sections past future = counted_lines (codes "past") past ++ counted_lines (codes "future") future
 
 one_line : (u : List ℕ) (ls : List (List ℕ)) (more : List ℕ) → text_of (u ∷ ls) ++ more ≡ u ++ 10 ∷ (text_of ls ++ more)
 one_line u ls more = append_assoc u (10 ∷ text_of ls) more
 
-not_later : (x y t n : ℕ) (ns : List (Option ℕ)) (past future : List Step) (text mid more : List ℕ) → 32 < x → x < y → IsNumber t → AllByRecursion IsTime ns
-    → text ≡ mark_line x t ++ 10 ∷ mid → text ≡ text_of (take (suc n) (mark_lines y ns ++ step_sections past future)) ++ more → ⊥
+not_later : (x y t n : ℕ) (ns : List (Option ℕ)) (past future : List SavedStep) (text mid more : List ℕ) → 32 < x → x < y → IsNumber t
+    → AllByRecursion IsTime ns → text ≡ mark_line x t ++ 10 ∷ mid → text ≡ text_of (take (suc n) (mark_lines y ns ++ step_sections past future)) ++ more → ⊥
 not_later x y t n [] past future text mid more high less small hn one e =
     let bad : 109 ≡ 112 = byte_at 0 _ _ (sym one ∙ e) in omega (arith, bad)
 not_later x y t n (None ∷ ns) past future text mid more high less small hn one e =
@@ -73,7 +73,7 @@ not_later x y t n (Some u ∷ ns) past future text mid more high less small hn o
     let same : x ≡ y = byte_at 0 _ _ (word_at 0 _ _ l.words) in
     omega (arith, same, less)
 
-pub lead_tells : (x : ℕ) (ms ns : List (Option ℕ)) (past future : List Step) (text rest more : List ℕ) (n : ℕ) → 32 < x → length ms ≡ length ns
+pub lead_tells : (x : ℕ) (ms ns : List (Option ℕ)) (past future : List SavedStep) (text rest more : List ℕ) (n : ℕ) → 32 < x → length ms ≡ length ns
     → AllByRecursion IsTime ns
     → Leads x ms text rest → length (mark_lines x ms) < n → text ≡ text_of (take n (mark_lines x ns ++ step_sections past future)) ++ more → ms ≡ ns
 lead_tells x ms ns past future text rest more zero high same hn h few e = absurd (omega (arith, few))

@@ -4,7 +4,7 @@ use Rattle.std.specs.List.{AllByRecursion}
 use Rattle.std.proofs.lemmas.List.{append-nil}
 use Rattle.irig_saved.specs.{Lines.text_of, Reading.Reads, Reading.Stops}
 use Rattle.irig_saved.proofs.Sequences.{Both, both, first_stops, second_stops, determined}
-use Rattle.irig_saved.proofs.{Clean.AreLines, Rows.Row, Unique.Same, Unique.regroup, Carried.carried}
+use Rattle.irig_saved.proofs.{Clean.AreLines, Rows.Row, Rows.all-append, Unique.Same, Unique.regroup, Carried.carried}
 
 -- what is known of one part, and of the lines of a list of them
 pub record Family {X : Type 0} (Is : X → Type 0) (lines : X → List (List ℕ)) (all : List X → List (List ℕ)) : Type 0 where
@@ -31,10 +31,6 @@ module _ {X : Type 0} (Is : X → Type 0) (lines : X → List (List ℕ)) (all :
   all_push (d ∷ ds) x = family.row.next d (ds ++ x ∷ []) ∙ ap (λ (l : List (List ℕ)). lines d ++ l) (all_push ds x)
       ∙ sym (append_assoc (lines d) (all ds) (lines x)) ∙ ap (λ (l : List (List ℕ)). l ++ lines x) (sym (family.row.next d ds))
 
-  are_push : (done : List X) (x : X) → AllByRecursion Is done → Is x → AllByRecursion Is (done ++ x ∷ [])
-  are_push [] x h hx = (hx, tt)
-  are_push (d ∷ ds) x h hx = (h.0, are_push ds x h.1 hx)
-
   -- before the first
   pub row_begins : (text : List ℕ) → Reads (AreSo 0) all text [] text
   row_begins text = record {
@@ -46,7 +42,7 @@ module _ {X : Type 0} (Is : X → Type 0) (lines : X → List (List ℕ)) (all :
   pub row_next : (k : ℕ) (text : List ℕ) (done : List X) (mid : List ℕ) (x : X) (rest : List ℕ) → Reads (AreSo k) all text done mid → Reads Is lines mid x rest
       → Reads (AreSo (k + 1)) all text (done ++ x ∷ []) rest
   row_next k text done mid x rest before one = record {
-    lawful = (length-append done (x ∷ []) ∙ ap (λ n. n + 1) before.lawful.0, are_push done x before.lawful.1 one.lawful);
+    lawful = (length-append done (x ∷ []) ∙ ap (λ n. n + 1) before.lawful.0, all-append Is done (x ∷ []) before.lawful.1 (one.lawful, tt));
     same = before.same ∙ ap (λ (l : List ℕ). text_of (all done) ++ l) one.same ∙ sym (regroup (all done) (lines x) rest)
         ∙ ap (λ (l : List (List ℕ)). text_of l ++ rest) (sym (all_push done x));
   }

@@ -1,5 +1,6 @@
 -- Parts in a row: a text has the lines of each, one after another.
 use Rattle.std.proofs.Common.{◌≡◌, ◌+◌, ◌++◌, ◌∷◌, [], ℕ, List, length, refl, ap, ◌∙◌, length-append}
+use Rattle.std.specs.List.{AllByRecursion}
 use Rattle.irig_saved.specs.SavedText.{pulse_line, pulse_lines, single_lines, singles_lines, step_lines, steps_lines}
 use Rattle.irig_recording.specs.declared.pulse.Pulse.{Pulse}
 
@@ -26,3 +27,8 @@ step_row = record { none = refl; next = λ x xs. refl }
 pub length_next : {X : Type 0} (lines : X → List (List ℕ)) (all : List X → List (List ℕ)) → Row lines all → (x : X) (xs : List X)
     → length (all (x ∷ xs)) ≡ length (lines x) + length (all xs)
 length_next lines all row x xs = ap length (row.next x xs) ∙ length-append (lines x) (all xs)
+
+-- what holds of each of two lists holds of each of both
+pub all-append : {X : Type 0} (P : X → Type 0) (xs ys : List X) → AllByRecursion P xs → AllByRecursion P ys → AllByRecursion P (xs ++ ys)
+all-append P [] ys one other = other
+all-append P (x ∷ xs) ys one other = (one.0, all-append P xs ys one.1 other)

@@ -4,7 +4,7 @@ use Rattle.std.specs.List.{AllByRecursion}
 use Rattle.irig_codes.specs.{declared.format.Kind.Kind, declared.format.Kind.TheVariants.A}
 use Rattle.irig_saved.specs.{Lines.line, Lines.numbered, Lines.text_of, SavedText.mark_lines, SavedText.counted_lines, SavedText.saved_lines, Ranges.IsNumber}
 use Rattle.irig_saved.specs.{Ranges.IsTime, Ranges.AreSteps, Ranges.IsSaved, Values.IsFormat, Values.words_of_format, Reading.Reads, Reading.Stops}
-use Rattle.irig_saved.specs.{Reading.Lacks, Leading.Leads, Leading.head_text, declared.step.Step.Step, declared.saved.Saved.Saved}
+use Rattle.irig_saved.specs.{Reading.Lacks, Leading.Leads, Leading.head_text, declared.step.SavedStep.SavedStep, declared.saved.Saved.Saved}
 use Rattle.irig_saved.proofs.Sequences.{Both, both, first_stops, second_stops, behind_stops, determined, line_behind_stops}
 use Rattle.irig_saved.proofs.{SameWords.kind_is_word, SameWords.same_kind, SameWords.small_is_number, SameWords.word_at, Clean.newline, Clean.counted_lacks}
 use Rattle.irig_saved.proofs.{Clean.format_lacks, Clean.counted_clean, ChangeParts.no_steps_lawful, ChangeParts.onward, ChangeParts.same_count, Cuts.AreWords}
@@ -14,7 +14,7 @@ use Rattle.irig_saved.proofs.{Carried.first_line_stops, MarkParts.lead_times, Ma
 -- the steps
 
 abbrev pub Ends : Type 0
-Ends = List Step × List Step
+Ends = List SavedStep × List SavedStep
 
 abbrev pub AreEnds : Ends → Type 0
 AreEnds e = Both AreSteps (λ _. AreSteps) (counted_lines (codes "past")) (counted_lines (codes "future")) e
@@ -26,7 +26,7 @@ pub past_stops : (text rest : List ℕ) → Stops AreSteps (counted_lines (codes
 past_stops text rest s =
     first_stops AreSteps (λ _. AreSteps) (counted_lines (codes "past")) (counted_lines (codes "future")) text rest (λ x h. ([], no_steps_lawful)) s
 
-pub future_stops : (text mid rest : List ℕ) (past : List Step) → Reads AreSteps (counted_lines (codes "past")) text past mid
+pub future_stops : (text mid rest : List ℕ) (past : List SavedStep) → Reads AreSteps (counted_lines (codes "past")) text past mid
     → Stops AreSteps (counted_lines (codes "future")) mid rest → Stops AreEnds end_lines text rest
 future_stops text mid rest past r s =
     second_stops AreSteps (λ _. AreSteps) (counted_lines (codes "past")) (counted_lines (codes "future")) past text mid rest r.lawful r.same

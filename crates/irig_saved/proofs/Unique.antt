@@ -7,7 +7,8 @@ use Rattle.irig_saved.specs.SavedText.{saved_lines, journal_text}
 use Rattle.irig_saved.specs.Ranges.{IsNumber, IsTime, IsPulse, IsSingle, IsChange, IsStep, AreSteps, IsSaved}
 use Rattle.irig_saved.specs.declared.change.Change.TheVariants.{One, Group}
 use Rattle.irig_saved.specs.{Lines.line, Lines.numbered, Lines.text_of, ChangeWords.head_of, ChangeWords.words_of, declared.single.Single.Single}
-use Rattle.irig_saved.specs.{declared.single.Single.TheVariants.Splice, declared.change.Change.Change, declared.step.Step.Step, declared.saved.Saved.Saved}
+use Rattle.irig_saved.specs.{declared.single.Single.TheVariants.Splice, declared.change.Change.Change, declared.saved.Saved.Saved}
+use Rattle.irig_saved.specs.declared.step.SavedStep.{SavedStep}
 use Rattle.irig_codes.specs.{Words.kind_word, declared.format.Kind.Kind}
 use Rattle.irig_recording.specs.declared.pulse.Pulse.{Pulse}
 use Rattle.irig_saved.proofs.Rows.{Row, one_line, pulse_row, single_row, step_row}
@@ -119,14 +120,14 @@ same_change (Group xs) (Group ys) r s hc hd e =
 
 -- steps
 
-step : ℕ → Change → Step
+step : ℕ → Change → SavedStep
 step cursor change = record { cursor = cursor; change = change }
 
-same_parts : (x y : Step) → x.cursor ≡ y.cursor → x.change ≡ y.change → x ≡ y
+same_parts : (x y : SavedStep) → x.cursor ≡ y.cursor → x.change ≡ y.change → x ≡ y
 unfolding step
 same_parts x y cursor change = ap₂ step cursor change
 
-pub same_step : (x y : Step) (r s : List ℕ) → IsStep x → IsStep y
+pub same_step : (x y : SavedStep) (r s : List ℕ) → IsStep x → IsStep y
     → text_of (step_lines x) ++ r ≡ text_of (step_lines y) ++ s → Same x y r s
 same_step x y r s hx hy e =
     let l = lined (codes "at") (codes "at") (decimal x.cursor ∷ []) (decimal y.cursor ∷ []) (change_lines x.change) (change_lines y.change) r s
@@ -135,7 +136,7 @@ same_step x y r s hx hy e =
     record { value = same_parts x y (same_number x.cursor y.cursor hx.0 hy.0 (word_at 0 _ _ l.words)) t.value; rest = t.rest }
 
 -- a word, how many steps there are, and the steps
-pub same_counted : (h : List ℕ) (xs ys : List Step) (r s : List ℕ) → IsWord h → AreSteps xs → AreSteps ys
+pub same_counted : (h : List ℕ) (xs ys : List SavedStep) (r s : List ℕ) → IsWord h → AreSteps xs → AreSteps ys
     → text_of (counted_lines h xs) ++ r ≡ text_of (counted_lines h ys) ++ s → Same xs ys r s
 same_counted h xs ys r s hh hx hy e =
     let l = lined h h (decimal (length xs) ∷ []) (decimal (length ys) ∷ []) (steps_lines xs) (steps_lines ys) r s
@@ -184,7 +185,7 @@ same_marks x (Some a ∷ ms) (Some b ∷ ns) r s high n hm hn pr ps e =
 
 -- the whole
 
-unfoldable pub saved : Kind → ℕ → ℕ → List (Option ℕ) → List Step → List Step → Saved
+unfoldable pub saved : Kind → ℕ → ℕ → List (Option ℕ) → List SavedStep → List SavedStep → Saved
 saved kind expression cursor marks past future =
     record { kind = kind; expression = expression; cursor = cursor; marks = marks; past = past; future = future }
 
@@ -194,7 +195,7 @@ unfolding saved
 same_fields s t kind expression cursor marks past future =
     ap₂ (λ k n. saved k n s.cursor s.marks s.past s.future) kind expression
     ∙ ap₂ (λ n (ms : List (Option ℕ)). saved t.kind t.expression n ms s.past s.future) cursor marks
-    ∙ ap₂ (λ (ps fs : List Step). saved t.kind t.expression t.cursor t.marks ps fs) past future
+    ∙ ap₂ (λ (ps fs : List SavedStep). saved t.kind t.expression t.cursor t.marks ps fs) past future
 
 -- the text of the steps, and what is after it
 abbrev after : Saved → List ℕ → List ℕ

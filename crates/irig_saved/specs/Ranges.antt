@@ -7,7 +7,7 @@ use Rattle.irig_saved.specs.declared.single.Single.TheVariants.{Splice, Toggle, 
 use Rattle.irig_saved.specs.declared.single.Single.TheVariants.{SetMark}
 use Rattle.irig_saved.specs.declared.change.Change.TheVariants.{One, Group}
 use Rattle.irig_saved.specs.{declared.single.Single.Single, declared.change.Change.Change}
-use Rattle.irig_saved.specs.{declared.step.Step.Step, declared.saved.Saved.Saved}
+use Rattle.irig_saved.specs.{declared.step.SavedStep.SavedStep, declared.saved.Saved.Saved}
 
 -- a number of 64 bits
 abbrev pub IsNumber : ℕ → Type 0
@@ -42,7 +42,7 @@ IsChange (One x) = IsSingle x
 IsChange (Group xs) = IsNumber (length xs) × AllByRecursion IsSingle xs
 
 -- a cursor of 64 bits, and the change
-abbrev pub IsStep : Step → Type 0
+abbrev pub IsStep : SavedStep → Type 0
 IsStep s = IsNumber s.cursor × IsChange s.change
 
 -- this many pulses
@@ -54,11 +54,11 @@ abbrev pub AreSingles : ℕ → List Single → Type 0
 AreSingles count xs = (length xs ≡ count) × AllByRecursion IsSingle xs
 
 -- this many steps
-abbrev pub ManySteps : ℕ → List Step → Type 0
+abbrev pub ManySteps : ℕ → List SavedStep → Type 0
 ManySteps count ss = (length ss ≡ count) × AllByRecursion IsStep ss
 
 -- a count of steps that fits 64 bits
-abbrev pub AreSteps : List Step → Type 0
+abbrev pub AreSteps : List SavedStep → Type 0
 AreSteps ss = IsNumber (length ss) × AllByRecursion IsStep ss
 
 -- what can be saved: an expression 0 to 7, and numbers of 64 bits

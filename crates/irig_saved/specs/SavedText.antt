@@ -5,7 +5,7 @@ use Rattle.irig_saved.specs.declared.single.Single.TheVariants.{Splice}
 use Rattle.irig_saved.specs.declared.change.Change.TheVariants.{One, Group}
 use Rattle.irig_saved.specs.{Lines.line, Lines.numbered, Lines.text_of, ChangeWords.single_line}
 use Rattle.irig_saved.specs.{declared.single.Single.Single, declared.change.Change.Change}
-use Rattle.irig_saved.specs.{declared.step.Step.Step, declared.saved.Saved.Saved}
+use Rattle.irig_saved.specs.{declared.step.SavedStep.SavedStep, declared.saved.Saved.Saved}
 use Rattle.irig_codes.specs.{Words.kind_word, declared.format.Kind.Kind}
 use Rattle.irig_recording.specs.declared.pulse.Pulse.{Pulse}
 
@@ -37,7 +37,7 @@ change_lines (One x) = single_lines x
 change_lines (Group xs) = numbered (codes "group") (length xs ∷ []) ∷ singles_lines xs
 
 -- at CURSOR, and the change
-abbrev pub step_lines : Step → List (List ℕ)
+abbrev pub step_lines : SavedStep → List (List ℕ)
 step_lines s = numbered (codes "at") (s.cursor ∷ []) ∷ change_lines s.change
 
 -- the lines of a step before those of its changes: of a group also how many there are
@@ -47,7 +47,7 @@ step_head cursor true changes =
 step_head cursor false changes = numbered (codes "at") (cursor ∷ []) ∷ []
 
 -- the lines of steps, one after another
-abbrev pub steps_lines : List Step → List (List ℕ)
+abbrev pub steps_lines : List SavedStep → List (List ℕ)
 steps_lines [] = []
 steps_lines (s ∷ ss) = step_lines s ++ steps_lines ss
 
@@ -59,7 +59,7 @@ mark_lines x (Some t ∷ ms) =
     line (codes "mark") ((x ∷ []) ∷ decimal t ∷ []) ∷ mark_lines (x + 1) ms
 
 -- a word with how many steps there are, and the steps
-abbrev pub counted_lines : List ℕ → List Step → List (List ℕ)
+abbrev pub counted_lines : List ℕ → List SavedStep → List (List ℕ)
 counted_lines head steps = numbered head (length steps ∷ []) ∷ steps_lines steps
 
 -- the lines before the steps, from the one that names the journal on: a format, a cursor and marks

@@ -31,6 +31,6 @@ pub use saved::Saved;
 pub use single::Single;
 pub use single_lines::SingleLines;
 pub use singles::Singles;
-pub use step::Step;
+pub use step::SavedStep;
 pub use steps::Steps;
 pub use writer::{put_future, put_head, put_step};

@@ -17,7 +17,7 @@ use crate::lines::{counted, mark, pulse, short, splice};
 use crate::pulses::Pulses;
 use crate::single::Single;
 use crate::singles::Singles;
-use crate::step::Step;
+use crate::step::SavedStep;
 use crate::steps::Steps;
 use crate::stop::Stop;
 use std::alloc::Global;
@@ -101,7 +101,7 @@ pub fn change(alloc: Global, text: &[u8]) -> Result<(Change, &[u8]), Stop<'_>>
 }
 
 /// A cursor and a change.
-pub fn step(alloc: Global, text: &[u8]) -> Result<(Step, &[u8]), Stop<'_>>
+pub fn step(alloc: Global, text: &[u8]) -> Result<(SavedStep, &[u8]), Stop<'_>>
     ensures { Parses IsStep step_lines BeginsStep text.now result }
 {
     let Some((line, next)) = line_of(text) else {
@@ -111,7 +111,7 @@ pub fn step(alloc: Global, text: &[u8]) -> Result<(Step, &[u8]), Stop<'_>>
         return Err(Stop::At(text));
     };
     match change(alloc, next) {
-        Ok((change, rest)) => Ok((Step { cursor, change }, rest)),
+        Ok((change, rest)) => Ok((SavedStep { cursor, change }, rest)),
         Err(stop) => Err(stop),
     }
 }

@@ -7,14 +7,14 @@ use crate::change::Change;
 
 /// A change with the cursor of the state that it leads to: a pulse, from 1, or 0.
 #[derive(Drop)]
-pub struct Step {
+pub struct SavedStep {
     /// The cursor, from 1; 0 if there is no pulse.
     pub cursor: u64,
     /// The change.
     pub change: Change,
 }
 
-impl Step {
+impl SavedStep {
     /// How many lines it has.
     pub fn lines(&self) -> usize
         requires { length (step_lines self.now) < 2 ^ 63 }

@@ -4,21 +4,21 @@ ghost use Rattle.std.specs.Prelude.{◌≡◌, ◌<◌, ◌^◌, ◌++◌, ◌�
 ghost use Rattle.std.specs.Prelude.{reverse};
 ghost use Rattle.irig_saved.specs.SavedText.{steps_lines};
 
-use crate::step::Step;
+use crate::step::SavedStep;
 use std::alloc::{AllocError, Global};
 use std::marker::Model;
 
 /// Steps in the order of the text.
 #[derive(Drop)]
 pub struct Steps {
-    items: Vec<Step>,
+    items: Vec<SavedStep>,
 }
 
 impl Model for Steps {
     ghost use Rattle.std.specs.Prelude.{List};
-    ghost use Rattle.irig_saved.specs.declared.step.Step.{Step};
+    ghost use Rattle.irig_saved.specs.declared.step.SavedStep.{SavedStep};
 
-    ghost Value = { List Step };
+    ghost Value = { List SavedStep };
 
     ghost view = { λ steps. steps.items.items };
 }
@@ -41,14 +41,14 @@ impl Steps {
     }
 
     /// The steps, in order.
-    pub fn as_slice(&self) -> &[Step]
+    pub fn as_slice(&self) -> &[SavedStep]
         ensures { result.now ≡ self.now }
     {
         self.items.as_slice()
     }
 
     /// Adds a step after the last.
-    pub fn push(&mut self, step: Step) -> Result<(), AllocError>
+    pub fn push(&mut self, step: SavedStep) -> Result<(), AllocError>
         ensures pushed { OnOk result (self.new ≡ self.old ++ step ∷ []) }
         ensures unchanged { OnErr result (self.new ≡ self.old) }
     {
@@ -57,7 +57,7 @@ impl Steps {
     }
 
     /// Removes the last step; None if there is none.
-    pub fn pop(&mut self) -> Option<Step>
+    pub fn pop(&mut self) -> Option<SavedStep>
         ensures { MatchOption result ((self.old ≡ []) × (self.new ≡ []))
             (λ step. self.old ≡ self.new ++ step ∷ []) }
     {

@@ -21,6 +21,7 @@ pub fn scripts_have_one_run()
     ensures same { OneRun }
     ensures on_dumps { OneDumpRun }
 {
+    // Its contract is what the proof of this one begins with: calls have one outcome.
     calls_give_back();
 }
 
@@ -32,6 +33,7 @@ pub fn scripts_have_one_run()
 pub fn saved_sessions_run_on(session: &Session)
     ensures same { IsShort session.now → RunsOn session.now }
 {
+    // The proof begins with their contracts: calls have one outcome, and the saved text opens.
     calls_give_back();
     saved_goes_on(session);
 }

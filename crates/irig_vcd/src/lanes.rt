@@ -98,12 +98,14 @@ fn digits_count(source: &[u8], from: usize) -> usize
     found.trailing_zeros() as usize
 }
 
-/// Where the digits from a place on end, and the number that they spell: none of them if they
-/// are more than 15.
+/// Where the digits from a place on end, and the number that they spell; the place itself and 0 if
+/// they are more than 15.
+///
+/// It reads the sixteen bytes from the place on, and the sixteen up to the end of the digits.
 #[inline(always)]
 pub fn lanes_end(source: &[u8], from: usize) -> (usize, u64)
     requires back { 16 ≤ from }
-    requires room { from + 18 < length source.now }
+    requires room { from + 16 ≤ length source.now }
     ensures { Spells source.now from result.0 result.1 }
 {
     let count = digits_count(source, from);

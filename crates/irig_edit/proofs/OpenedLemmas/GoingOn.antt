@@ -5,10 +5,10 @@ use Rattle.std.specs.List.{AllByRecursion}
 use Rattle.std.proofs.lemmas.{Bool.Decides.nat_tests, List.length-append, List.reverse-append, List.reverse-reverse, List.take-map}
 use Rattle.irig_codes.specs.Format.{FormatView}
 use Rattle.irig_journal.specs.History.{Step}
-use Rattle.irig_saved.specs.{Faults.IsFault, Ranges.IsSaved, SavedText.journal_text, declared.saved.Saved.Saved, declared.step.Step.Step as SavedStep}
+use Rattle.irig_saved.specs.{Faults.IsFault, Ranges.IsSaved, SavedText.journal_text, declared.saved.Saved.Saved, declared.step.SavedStep.SavedStep}
 use Rattle.irig_saved.specs.{Numbers.NumbersOfStep, declared.change.Change.Change}
 use Rattle.irig_saved.proofs.JournalTexts.{journal_is_text, section_is_comment}
-use Rattle.irig_saved.proofs.{Counts.saved_of_parts, FaultFacts.journal_not_at_fault, Unique.same_journal}
+use Rattle.irig_saved.proofs.{Counts.saved_of_parts, FaultFacts.journal_not_at_fault, Rows.all-append, Unique.same_journal}
 use Rattle.irig_track.proofs.Recordings as track
 use Rattle.irig_vcd.specs.{Answer.IsFaultOf, Parts.dump_parts, declared.fault.VcdFault.VcdFault}
 use Rattle.irig_recording.specs.{FileText.file_text, Comments.comment_text, Recording.RecordingView}
@@ -27,12 +27,6 @@ use Rattle.irig_edit.proofs.SavedLemmas.Numbers.{change_small, digit_permitted, 
 steps_of-saved : (ds : List (Step Change)) → steps_of (map saved_step ds) ≡ ds
 steps_of-saved [] = refl
 steps_of-saved (d ∷ ds) = ap (λ (l : List (Step Change)). d ∷ l) (steps_of-saved ds)
-
--- what holds of each of two lists holds of each of both
-all-append : {X : Type 0} (P : X → Type 0) (xs ys : List X) → AllByRecursion P xs → AllByRecursion P ys
-    → AllByRecursion P (xs ++ ys)
-all-append P [] ys one other = other
-all-append P (x ∷ xs) ys one other = (one.0, all-append P xs ys one.1 other)
 
 -- what holds of each of a list holds of each in the opposite order
 all-reverse : {X : Type 0} (P : X → Type 0) (xs : List X) → AllByRecursion P xs → AllByRecursion P (reverse xs)

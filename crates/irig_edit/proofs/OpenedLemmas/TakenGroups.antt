@@ -6,7 +6,7 @@ use Rattle.std.proofs.lemmas.List.{append-nil, length-append, length-map, length
 use Rattle.irig_journal.specs.Turns.{FitAll, backs, left_by, ways_back}
 use Rattle.irig_journal.specs.{History.History, History.Step, History.step, Joining.changes_of, Laws.Turns.FitAll-append, Laws.Turns.ways_back-cons}
 use Rattle.irig_saved.specs.declared.change.Change.TheVariants.{One, Group}
-use Rattle.irig_saved.specs.{declared.change.Change.Change, declared.single.Single.Single, declared.step.Step.Step as SavedStep}
+use Rattle.irig_saved.specs.{declared.change.Change.Change, declared.single.Single.Single, declared.step.SavedStep.SavedStep}
 use Rattle.irig_edit.specs.Changes.Delta.{Fits, gathered, singles_of, turned}
 use Rattle.irig_edit.specs.Opened.Walk.{changed, gone_on, walk}
 use Rattle.irig_edit.specs.Opened.Taken.{CanTake, FirstFits, step_of}

@@ -2,7 +2,7 @@
 use Rattle.std.proofs.Common.{◌≡◌, ◌<◌, ◌^◌, ℕ, ◌+◌, ◌++◌, List, [], ◌∷◌, length, take, reverse, refl, ap, sym, ◌∙◌, subst, arith, append_assoc}
 use Rattle.std.proofs.Math.Seq.{take-append-add, take-append_seam}
 use Rattle.std.proofs.lemmas.List.{length-append, map-append, reverse-append}
-use Rattle.irig_saved.specs.{SavedText.step_lines, SavedText.steps_lines, declared.step.Step.Step as SavedStep, declared.change.Change.Change}
+use Rattle.irig_saved.specs.{SavedText.step_lines, SavedText.steps_lines, declared.step.SavedStep.SavedStep, declared.change.Change.Change}
 use Rattle.irig_journal.specs.History.{History, Step}
 use Rattle.irig_saved.specs.declared.change.Change.TheVariants.{One, Group}
 use Rattle.irig_edit.specs.Opened.Taken.{CanBegin, CanTake, CanTakeAll, FirstFits, step_of, steps_of}

@@ -3,7 +3,7 @@ use Rattle.std.specs.Prelude.{◌≡◌, ◌⊎◌, ◌+◌, ◌-◌, ℕ, List,
 use Rattle.std.specs.Prelude.{nat_lt, not, if◌then◌else◌, reverse, take}
 use Rattle.irig_codes.specs.Format.{is_permitted}
 use Rattle.irig_saved.specs.SavedText.{mark_lines, steps_lines}
-use Rattle.irig_saved.specs.{declared.saved.Saved.Saved, declared.step.Step.Step as SavedStep}
+use Rattle.irig_saved.specs.{declared.saved.Saved.Saved, declared.step.SavedStep.SavedStep}
 use Rattle.irig_recording.specs.Recording.{RecordingView}
 use Rattle.irig_edit.specs.Session.Session.{SessionView, session_view}
 use Rattle.irig_edit.specs.Opened.Taken.{CanTakeAll, StopsAfter, steps_of}

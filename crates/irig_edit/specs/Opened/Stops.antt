@@ -1,6 +1,6 @@
 -- Where the steps of a saved journal are no longer taken. This project's own.
 use Rattle.std.specs.Prelude.{◌≡◌, ◌<◌, ◌^◌, ◌+◌, ℕ, List, length, reverse, take}
-use Rattle.irig_saved.specs.declared.step.Step.{Step as SavedStep}
+use Rattle.irig_saved.specs.declared.step.SavedStep.{SavedStep}
 use Rattle.irig_saved.specs.{SavedText.steps_lines, declared.change.Change.Change}
 use Rattle.irig_journal.specs.History.{History}
 use Rattle.irig_edit.specs.Opened.Taken.{CanBegin, CanTakeAll, StopsAfter, steps_of}

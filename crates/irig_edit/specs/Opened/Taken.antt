@@ -1,7 +1,7 @@
 -- The steps of a saved journal, taken one after another from a state. This project's own.
 use Rattle.std.specs.Prelude.{◌≤◌, ◌<◌, ◌+◌, ℕ, List, [], ◌∷◌, length, map, take}
 use Rattle.irig_journal.specs.History.{Step, step}
-use Rattle.irig_saved.specs.{declared.step.Step.Step as SavedStep, declared.change.Change.Change}
+use Rattle.irig_saved.specs.{declared.step.SavedStep.SavedStep, declared.change.Change.Change}
 use Rattle.irig_saved.specs.declared.single.Single.{Single}
 use Rattle.irig_edit.specs.Changes.Delta.{Fits, singles_of, turned}
 use Rattle.irig_edit.specs.{Changes.Single.FitsSingle, State.State.State}

@@ -68,6 +68,7 @@ impl Present {
                 *i > 0 && *j > 0 && self.can_move(*i as usize - 1, *j as usize - 1, *by, marks)
             }
             Single::SetFormat { kind, expression } => Format::new(*kind, *expression).is_ok(),
+            // A letter is one of 26: its place is read for that law of its type alone.
             Single::SetMark { letter, time } => letter.place() < 26 && self.may_mark(*time),
         }
     }

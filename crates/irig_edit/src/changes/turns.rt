@@ -94,7 +94,8 @@ impl Present {
         self.index.repair(&mut self.track.lens(), self.format, span);
     }
 
-    /// Turns a toggle, which leads back itself.
+    /// Turns a toggle, which leads back itself. On the way there can be one pulse more, so there is
+    /// room for one.
     fn toggle(&mut self, a: u64, b: u64)
         requires can { CanToggle self.old.state.micros a b self.old.state.pulses }
         requires before { HoldsState (places_in self.old) 1 self.old.state }

@@ -1,11 +1,9 @@
 //! Removes pulses.
 
-ghost use Rattle.std.specs.Prelude.{◌≡◌, ◌+◌, ◌-◌, ◌≤◌, [], None, Some, IfOk, IfErr, OnOk};
-ghost use Rattle.irig_track.specs.Splices.{spliced, CanSplice};
-ghost use Rattle.irig_edit.specs.Edits.Becoming.{Becomes, judgement_of};
-ghost use Rattle.irig_edit.specs.Session.Calls.Edit.{Delete};
+ghost use Rattle.std.specs.Prelude.{◌≡◌, ◌+◌, ◌-◌, ◌≤◌, [], Some, MatchResult, OnOk};
+ghost use Rattle.irig_edit.specs.Edits.Becoming.{Plans, judgement_of};
 ghost use Rattle.irig_edit.specs.Session.Session.{LooksAfter, Steps};
-ghost use Rattle.irig_edit.specs.{Session.Calls.Call.Make, State.State.with_pulses};
+ghost use Rattle.irig_edit.specs.{Session.Calls.Call.Make, Session.Calls.Edit.Delete};
 
 use crate::session::refusal::Refusal;
 use crate::session::session::Session;
@@ -14,14 +12,10 @@ use irig_saved::Pulses;
 
 /// The cursor after the pulses `i` to `j` are removed, if they are there.
 fn plan(present: &Present, i: usize, j: usize) -> Result<usize, Refusal>
-    ensures refused { IfErr result (λ e. judgement_of (Delete i j) present.now.state ≡ Some e) }
-    ensures allowed { OnOk result (judgement_of (Delete i j) present.now.state ≡ None) }
-    ensures there { OnOk result ((1 ≤ i) × (i ≤ j)) }
-    ensures can { OnOk result (CanSplice present.now.state.micros (i - 1) (j + 1 - i) []
-        present.now.state.pulses) }
-    ensures becomes { IfOk result (λ cursor. Becomes (Delete i j) present.now.state
-        (with_pulses (spliced (i - 1) (j + 1 - i) [] present.now.state.pulses)
-        present.now.state) cursor) }
+    ensures plan { MatchResult result
+        (λ cursor. Plans (Delete i j) present.now.state i (j + 1 - i) [] cursor)
+        (λ e. judgement_of (Delete i j) present.now.state ≡ Some e) }
+    ensures order { OnOk result (i ≤ j) }
 {
     let len = present.track().len();
     if i == 0 || i > j || j > len {

@@ -1,15 +1,10 @@
 //! A pulse gets the width of an element.
 
-ghost use Rattle.std.specs.Prelude.{◌≡◌, ◌+◌, ◌-◌, ◌≤◌, [], ◌∷◌, None, Some, IfOk, IfErr, OnOk};
-ghost use Rattle.std.specs.Prelude.{length};
-ghost use Rattle.irig_track.specs.Splices.{spliced, CanSplice};
-ghost use Rattle.irig_edit.specs.Edits.Becoming.{Becomes, judgement_of};
+ghost use Rattle.std.specs.Prelude.{◌≡◌, ◌≤◌, [], ◌∷◌, Some, MatchResult, length};
+ghost use Rattle.irig_edit.specs.Edits.Becoming.{Plans, judgement_of};
 ghost use Rattle.irig_edit.specs.Session.Session.{LooksAfter, Steps};
 ghost use Rattle.irig_edit.specs.Edits.Conditions.{meets_next};
 ghost use Rattle.irig_edit.specs.{Session.Calls.Call.Make, Session.Calls.Edit.Force};
-ghost use Rattle.irig_edit.specs.{Edits.Changes.change_by, State.State.with_pulses};
-ghost use Rattle.irig_saved.specs.declared.change.Change.TheVariants.{One};
-ghost use Rattle.irig_saved.specs.declared.single.Single.TheVariants.{Splice};
 
 use super::one;
 use crate::session::refusal::Refusal;
@@ -20,16 +15,9 @@ use irig_track::Pulse;
 
 /// Pulse `i` with the nominal width of an element, if there is room for it.
 fn plan(present: &Present, i: usize, element: Element) -> Result<Pulse, Refusal>
-    ensures refused { IfErr result (λ e.
-        judgement_of (Force i element) present.now.state ≡ Some e) }
-    ensures allowed { OnOk result (judgement_of (Force i element) present.now.state ≡ None) }
-    ensures there { OnOk result (1 ≤ i) }
-    ensures can { IfOk result (λ p.
-        CanSplice present.now.state.micros (i - 1) 1 (p ∷ []) present.now.state.pulses) }
-    ensures becomes { IfOk result (λ p. Becomes (Force i element) present.now.state
-        (with_pulses (spliced (i - 1) 1 (p ∷ []) present.now.state.pulses) present.now.state) i) }
-    ensures change { IfOk result (λ p. One (Splice i 1 (p ∷ []))
-        ≡ change_by (Force i element) present.now.state) }
+    ensures { MatchResult result
+        (λ p. Plans (Force i element) present.now.state i 1 (p ∷ []) i)
+        (λ e. judgement_of (Force i element) present.now.state ≡ Some e) }
 {
     let track = present.track();
     if i == 0 || i > track.len() {

@@ -1,13 +1,10 @@
 //! Inserts a pulse.
 
-ghost use Rattle.std.specs.Prelude.{◌≡◌, ◌≤◌, ◌-◌, [], ◌∷◌, None, Some, IfOk, IfErr, OnOk};
-ghost use Rattle.irig_track.specs.{Edges.pulse, Splices.spliced, Splices.CanSplice};
-ghost use Rattle.irig_edit.specs.Edits.Becoming.{Becomes, judgement_of};
+ghost use Rattle.std.specs.Prelude.{◌≡◌, [], ◌∷◌, Some, MatchResult};
+ghost use Rattle.irig_track.specs.Edges.{pulse};
+ghost use Rattle.irig_edit.specs.Edits.Becoming.{Plans, judgement_of};
 ghost use Rattle.irig_edit.specs.Session.Session.{LooksAfter, Steps};
 ghost use Rattle.irig_edit.specs.{Session.Calls.Call.Make, Session.Calls.Edit.Insert};
-ghost use Rattle.irig_edit.specs.{Edits.Changes.change_by, State.State.with_pulses};
-ghost use Rattle.irig_saved.specs.declared.change.Change.TheVariants.{One};
-ghost use Rattle.irig_saved.specs.declared.single.Single.TheVariants.{Splice};
 
 use super::one;
 use crate::session::refusal::Refusal;
@@ -17,16 +14,9 @@ use irig_track::Pulse;
 
 /// The number of a pulse from `a` to `b`, from 1, if it can be inserted.
 fn plan(present: &Present, a: u64, b: u64) -> Result<usize, Refusal>
-    ensures refused { IfErr result (λ e. judgement_of (Insert a b) present.now.state ≡ Some e) }
-    ensures allowed { OnOk result (judgement_of (Insert a b) present.now.state ≡ None) }
-    ensures there { IfOk result (λ i. 1 ≤ i) }
-    ensures can { IfOk result (λ i.
-        CanSplice present.now.state.micros (i - 1) 0 (pulse a b ∷ []) present.now.state.pulses) }
-    ensures becomes { IfOk result (λ i. Becomes (Insert a b) present.now.state
-        (with_pulses (spliced (i - 1) 0 (pulse a b ∷ []) present.now.state.pulses)
-        present.now.state) i) }
-    ensures change { IfOk result (λ i. One (Splice i 0 (pulse a b ∷ []))
-        ≡ change_by (Insert a b) present.now.state) }
+    ensures { MatchResult result
+        (λ i. Plans (Insert a b) present.now.state i 0 (pulse a b ∷ []) i)
+        (λ e. judgement_of (Insert a b) present.now.state ≡ Some e) }
 {
     let track = present.track();
     if a >= b || b > track.length() {

@@ -1,14 +1,9 @@
 //! Joins pulses into one.
 
-ghost use Rattle.std.specs.Prelude.{◌≡◌, ◌+◌, ◌-◌, ◌≤◌, ◌<◌, [], ◌∷◌, None, Some, IfOk, IfErr};
-ghost use Rattle.std.specs.Prelude.{OnOk};
-ghost use Rattle.irig_track.specs.Splices.{spliced, CanSplice};
-ghost use Rattle.irig_edit.specs.Edits.Becoming.{Becomes, judgement_of};
+ghost use Rattle.std.specs.Prelude.{◌≡◌, ◌+◌, ◌-◌, ◌<◌, [], ◌∷◌, Some, MatchResult, OnOk};
+ghost use Rattle.irig_edit.specs.Edits.Becoming.{Plans, judgement_of};
 ghost use Rattle.irig_edit.specs.Session.Session.{LooksAfter, Steps};
 ghost use Rattle.irig_edit.specs.{Session.Calls.Call.Make, Session.Calls.Edit.Join};
-ghost use Rattle.irig_edit.specs.{Edits.Changes.change_by, State.State.with_pulses};
-ghost use Rattle.irig_saved.specs.declared.change.Change.TheVariants.{One};
-ghost use Rattle.irig_saved.specs.declared.single.Single.TheVariants.{Splice};
 
 use super::one;
 use crate::session::refusal::Refusal;
@@ -18,16 +13,10 @@ use irig_track::Pulse;
 
 /// The pulse that pulses `i` to `j` are joined into, if they are there.
 fn plan(present: &Present, i: usize, j: usize) -> Result<Pulse, Refusal>
-    ensures refused { IfErr result (λ e. judgement_of (Join i j) present.now.state ≡ Some e) }
-    ensures allowed { OnOk result (judgement_of (Join i j) present.now.state ≡ None) }
-    ensures there { OnOk result ((1 ≤ i) × (i < j)) }
-    ensures can { IfOk result (λ p.
-        CanSplice present.now.state.micros (i - 1) (j + 1 - i) (p ∷ []) present.now.state.pulses) }
-    ensures becomes { IfOk result (λ p. Becomes (Join i j) present.now.state
-        (with_pulses (spliced (i - 1) (j + 1 - i) (p ∷ []) present.now.state.pulses)
-        present.now.state) i) }
-    ensures change { IfOk result (λ p. One (Splice i (j + 1 - i) (p ∷ []))
-        ≡ change_by (Join i j) present.now.state) }
+    ensures plan { MatchResult result
+        (λ p. Plans (Join i j) present.now.state i (j + 1 - i) (p ∷ []) i)
+        (λ e. judgement_of (Join i j) present.now.state ≡ Some e) }
+    ensures order { OnOk result (i < j) }
 {
     if i == 0 || i >= j || j > present.track().len() {
         return Err(Refusal::NoPulse);

@@ -1,19 +1,15 @@
 //! Fills a stretch of time with frames.
 
-ghost use Rattle.std.specs.Prelude.{◌≡◌, ◌+◌, ◌-◌, ◌*◌, ◌^◌, ◌<◌, ◌≤◌, None, Some, IfOk, IfErr};
-ghost use Rattle.std.specs.Prelude.{OnOk, IsTrue, length, if◌then◌else◌};
+ghost use Rattle.std.specs.Prelude.{◌≡◌, ◌+◌, ◌-◌, ◌*◌, ◌^◌, ◌<◌, ◌≤◌, None, Some, IfOk, OnOk};
+ghost use Rattle.std.specs.Prelude.{MatchResult, IsTrue, length, if◌then◌else◌};
 ghost use Rattle.irig_codes.specs.Format.{control_count_of};
 ghost use Rattle.irig_moment.specs.Generated.{starts_in};
-ghost use Rattle.irig_track.specs.Splices.{spliced, CanSplice};
-ghost use Rattle.irig_edit.specs.Edits.Becoming.{Becomes, judgement_of};
+ghost use Rattle.irig_edit.specs.Edits.Becoming.{Plans, judgement_of};
 ghost use Rattle.irig_edit.specs.Session.Calls.Edit.{Regen};
 ghost use Rattle.irig_edit.specs.Edits.Conditions.{are_frames, is_met};
 ghost use Rattle.irig_edit.specs.Session.Session.{LooksAfter, Steps};
 ghost use Rattle.irig_edit.specs.Edits.Regenerated.{frames_end, frames_pulses, rising_before};
-ghost use Rattle.irig_edit.specs.State.State.{IsState, with_pulses};
-ghost use Rattle.irig_edit.specs.{Session.Calls.Call.Make, Edits.Changes.change_by};
-ghost use Rattle.irig_saved.specs.declared.change.Change.TheVariants.{One};
-ghost use Rattle.irig_saved.specs.declared.single.Single.TheVariants.{Splice};
+ghost use Rattle.irig_edit.specs.{Session.Calls.Call.Make, State.State.IsState};
 
 use crate::edits::frames::{pulses_of, span};
 use crate::session::refusal::Refusal;
@@ -76,28 +72,16 @@ fn plan(
     moment: Moment,
     control: u64,
 ) -> Result<Stretch, Refusal>
-    ensures refused { IfErr result (λ e.
-        judgement_of (Regen start frames moment control) present.now.state ≡ Some e) }
-    ensures allowed { OnOk result
-        (judgement_of (Regen start frames moment control) present.now.state ≡ None) }
+    ensures plan { MatchResult result
+        (λ p. Plans (Regen start frames moment control) present.now.state p.first p.count
+        (frames_pulses present.now.state.format start frames moment control)
+        (p.first - 1 + 100 * frames))
+        (λ e. judgement_of (Regen start frames moment control) present.now.state ≡ Some e) }
     ensures frames { OnOk result ((frames ≤ 10000)
         × (frames_end present.now.state.format start frames ≤ 2 ^ 40)
         × IsTrue (starts_in present.now.state.format moment)
         × (control < 2 ^ control_count_of present.now.state.format)) }
-    ensures there { IfOk result (λ p. 1 ≤ p.first) }
-    ensures can { IfOk result (λ p. CanSplice present.now.state.micros (p.first - 1) p.count
-        (frames_pulses present.now.state.format start frames moment control)
-        present.now.state.pulses) }
-    ensures becomes { IfOk result (λ p.
-        Becomes (Regen start frames moment control) present.now.state
-        (with_pulses (spliced (p.first - 1) p.count
-        (frames_pulses present.now.state.format start frames moment control)
-        present.now.state.pulses) present.now.state)
-        (p.first - 1 + 100 * frames)) }
     ensures few { IfOk result (λ p. p.first ≤ 2 ^ 22 + 1) }
-    ensures change { IfOk result (λ p. One (Splice p.first p.count
-        (frames_pulses present.now.state.format start frames moment control))
-        ≡ change_by (Regen start frames moment control) present.now.state) }
 {
     let Some(end) = end_of(present, start, frames) else {
         return Err(Refusal::OutOfRange);

@@ -1,13 +1,10 @@
 //! Splits a pulse in two.
 
-ghost use Rattle.std.specs.Prelude.{◌≡◌, ◌+◌, ◌-◌, ◌≤◌, [], ◌∷◌, None, Some, IfOk, IfErr, OnOk};
-ghost use Rattle.irig_track.specs.{Edges.pulse, Splices.spliced, Splices.CanSplice};
-ghost use Rattle.irig_edit.specs.Edits.Becoming.{Becomes, judgement_of};
+ghost use Rattle.std.specs.Prelude.{◌≡◌, ◌+◌, [], ◌∷◌, Some, MatchResult};
+ghost use Rattle.irig_track.specs.Edges.{pulse};
+ghost use Rattle.irig_edit.specs.Edits.Becoming.{Plans, judgement_of};
 ghost use Rattle.irig_edit.specs.Session.Session.{LooksAfter, Steps};
 ghost use Rattle.irig_edit.specs.{Session.Calls.Call.Make, Session.Calls.Edit.Split};
-ghost use Rattle.irig_edit.specs.{Edits.Changes.change_by, State.State.with_pulses};
-ghost use Rattle.irig_saved.specs.declared.change.Change.TheVariants.{One};
-ghost use Rattle.irig_saved.specs.declared.single.Single.TheVariants.{Splice};
 
 use super::two;
 use crate::session::refusal::Refusal;
@@ -17,17 +14,10 @@ use irig_track::Pulse;
 
 /// Pulse `i`, if it can be split.
 fn plan(present: &Present, i: usize, a: u64, b: u64) -> Result<Pulse, Refusal>
-    ensures refused { IfErr result (λ e. judgement_of (Split i a b) present.now.state ≡ Some e) }
-    ensures allowed { OnOk result (judgement_of (Split i a b) present.now.state ≡ None) }
-    ensures there { OnOk result (1 ≤ i) }
-    ensures can { IfOk result (λ p. CanSplice present.now.state.micros (i - 1) 1
-        (pulse p.rise a ∷ pulse b p.fall ∷ []) present.now.state.pulses) }
-    ensures becomes { IfOk result (λ p. Becomes (Split i a b) present.now.state
-        (with_pulses (spliced (i - 1) 1
-        (pulse p.rise a ∷ pulse b p.fall ∷ []) present.now.state.pulses)
-        present.now.state) (i + 1)) }
-    ensures change { IfOk result (λ p. One (Splice i 1
-        (pulse p.rise a ∷ pulse b p.fall ∷ [])) ≡ change_by (Split i a b) present.now.state) }
+    ensures { MatchResult result
+        (λ p. Plans (Split i a b) present.now.state i 1
+        (pulse p.rise a ∷ pulse b p.fall ∷ []) (i + 1))
+        (λ e. judgement_of (Split i a b) present.now.state ≡ Some e) }
 {
     let track = present.track();
     if a >= b || b > track.length() {

@@ -20,7 +20,7 @@ ghost use Rattle.irig_edit.specs.Opened.Openings.{IsBad};
 
 use crate::opened::walk::Walk;
 use crate::session::session::Session;
-use irig_saved::{Change, Saved, Single, Steps};
+use irig_saved::{Change, Saved, SavedStep, Single, Steps};
 use irig_vcd::VcdFault;
 use std::alloc::{AllocError, Global};
 
@@ -146,7 +146,7 @@ impl Walk {
 
     /// Takes a step, and returns whether it can be taken. If not, nothing is said of what it
     /// leaves. Memory is taken only after its first change is found right.
-    fn take(&mut self, alloc: Global, step: irig_saved::Step) -> Result<bool, AllocError>
+    fn take(&mut self, alloc: Global, step: SavedStep) -> Result<bool, AllocError>
         requires ahead { self.old.future ≡ [] }
         ensures { MatchResult result
             (λ taken. MatchBool taken
@@ -154,7 +154,7 @@ impl Walk {
             (CanTake self.old.state (step_of step) → ⊥))
             (λ _. FirstFits self.old.state (singles_of step.change)) }
     {
-        let irig_saved::Step { cursor, change } = step;
+        let SavedStep { cursor, change } = step;
         if !self.make(alloc, change)? {
             return Ok(false);
         }

@@ -3,16 +3,15 @@
 ghost use Rattle.std.specs.Prelude.{◌≡◌, ◌≤◌, ◌<◌, ◌-◌, length, IfOk, OnOk, OnErr, IsErrOf, None};
 ghost use Rattle.std.specs.Prelude.{Ok};
 ghost use Rattle.irig_journal.specs.{Groups.recorded_over, Machine.kept};
-ghost use Rattle.irig_edit.specs.State.State.{recording_of, with_pulses};
+ghost use Rattle.irig_edit.specs.State.State.{recording_of};
 ghost use Rattle.irig_edit.specs.Session.Session.{LooksAfter, Steps, started, work_in};
 ghost use Rattle.irig_edit.specs.Session.Work.{grouped_in, made};
-ghost use Rattle.irig_edit.specs.Edits.Becoming.{Becomes, judgement_of};
+ghost use Rattle.irig_edit.specs.Edits.Becoming.{Becomes, Plans, judgement_of};
 ghost use Rattle.irig_edit.specs.Session.Calls.Call.{Make, Undo, Redo, Go};
 ghost use Rattle.irig_edit.specs.Session.Calls.Edit.{SetFormat, SetMark};
 ghost use Rattle.irig_edit.specs.{Session.Machine.NoMarks, Edits.Changes.change_by};
 ghost use Rattle.irig_edit.specs.{Session.Calls.Edit, Changes.Delta.Fits, Changes.Delta.turned};
 ghost use Rattle.irig_saved.specs.declared.change.Change.TheVariants.{One};
-ghost use Rattle.irig_saved.specs.declared.single.Single.TheVariants.{Splice as Spliced};
 ghost use Rattle.irig_track.specs.Splices.{spliced, CanSplice};
 
 use crate::changes::turn::Turn;
@@ -158,13 +157,10 @@ impl Session {
         requires can { CanSplice self.old.state.micros (first - 1) count put
             self.old.state.pulses }
         requires cursor { cursor ≤ length (spliced (first - 1) count put self.old.state.pulses) }
-        ensures step { (edit : Edit) → judgement_of edit self.old.state ≡ None
-            → Becomes edit self.old.state (with_pulses
-            (spliced (first - 1) count put self.old.state.pulses) self.old.state) cursor
-            → One (Spliced first count put) ≡ change_by edit self.old.state
+        ensures step { (edit : Edit) → Plans edit self.old.state first count put cursor
             → Steps (Make edit) self.old result self.new }
-        ensures looks { (edit : Edit) → One (Spliced first count put)
-            ≡ change_by edit self.old.state → LooksAfter (Make edit) self.old result self.new }
+        ensures looks { (edit : Edit) → Plans edit self.old.state first count put cursor
+            → LooksAfter (Make edit) self.old result self.new }
     {
         let (at, count) = (first as u64, count as u64);
         self.change(Single::Splice { at, count, put }, cursor)

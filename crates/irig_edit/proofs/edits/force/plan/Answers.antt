@@ -15,7 +15,6 @@ returns c =
     (omega (arith, c.if-fall-length.false, (c.length.ensures.length ∙ c.track-track.ensures.micros)))
     (next_free c.args.i fall s (sym c.meets_next.ensures ∙ c.if-meets_next.false)) in
     record {
-      refused = tt;
       allowed = search rules;
       there = search rules;
       can = both.0;

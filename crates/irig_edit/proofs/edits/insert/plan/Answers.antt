@@ -14,7 +14,6 @@ returns c =
     (sym c.is_touched.ensures ∙ c.if-is_touched.false) (omega (arith, c.room.ensures, ap length c.track-track.ensures.pulses, c.if-room-eq0.false))
     c.find.ensures.count c.find.ensures.within in
     record {
-      refused = tt;
       allowed = search rules;
       there = search rules;
       can = subst (λ (n : ℕ). CanSplice s.micros n 0 put s.pulses) place both.0;

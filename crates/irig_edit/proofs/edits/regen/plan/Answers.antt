@@ -46,10 +46,10 @@ overflow_sub-count c =
     let f = found (goal.at.overflow_sub-count c).After-rising_before in
     omega (arith, f.sum, f.is_at, f.is_by)
 
-pub returns-then-frames-room-clause-refused : goal.returns-then-frames-room-clause-refused
-returns-then-frames-room-clause-refused c =
+pub returns-then-frames-room-clause-plan : goal.returns-then-frames-room-clause-plan
+returns-then-frames-room-clause-plan c =
     let s = c.args.present.now.state in
-    let f = found (goal.at.returns-then-frames-room-clause-refused c).After-rising_before in
+    let f = found (goal.at.returns-then-frames-room-clause-plan c).After-rising_before in
     let many : are_too_many c.args.start c.args.frames s ≡ true =
     too_many_yes c.args.start c.args.frames c.rising_before-at.result c.rising_before.result s c.rising_before-at.ensures.count f.is_by
     (omega (
@@ -71,17 +71,17 @@ starting c = sym (ap (λ (f : FormatView). starts_in f c.args.moment) c.format-f
 counting : (c : After-control_count) → c.control_count.result ≡ control_count_of c.args.present.now.state.format
 counting c = c.control_count.ensures.value ∙ ap (λ (f : FormatView). control_count_of f) c.format-format.ensures
 
-pub returns-then-not-starts-clause-refused : goal.returns-then-not-starts-clause-refused
-returns-then-not-starts-clause-refused c =
-    let at = goal.at.returns-then-not-starts-clause-refused c in
+pub returns-then-not-starts-clause-plan : goal.returns-then-not-starts-clause-plan
+returns-then-not-starts-clause-plan c =
+    let at = goal.at.returns-then-not-starts-clause-plan c in
     let f = found at.After-rising_before in
     let fit = fitting f (few at.After-moment-1) in
     let bad = starting at.After-starts ∙ c.if-not-starts.true in
     rw f.there (rw f.free (rw fit (rw bad refl)))
 
-pub returns-then-control-control_count-gt0-clause-refused : goal.returns-then-control-control_count-gt0-clause-refused
-returns-then-control-control_count-gt0-clause-refused c =
-    let at = goal.at.returns-then-control-control_count-gt0-clause-refused c in
+pub returns-then-control-control_count-gt0-clause-plan : goal.returns-then-control-control_count-gt0-clause-plan
+returns-then-control-control_count-gt0-clause-plan c =
+    let at = goal.at.returns-then-control-control_count-gt0-clause-plan c in
     let f = found at.After-rising_before in
     let fit = fitting f (few at.After-moment-1) in
     let good = starting at.After-starts ∙ c.if-not-starts.false in
@@ -100,10 +100,10 @@ made {start} {frames} {at} {by} {s} moment control f is within fit =
     regenerated s start frames moment control at (by - at) is (frames_said start frames s f.there).2 f.free fit f.is_at (both ∙ f.is_by)
     (omega (arith, both, within))
 
-pub returns : goal.returns
-returns c =
+pub returns-clause-plan : goal.returns-clause-plan
+returns-clause-plan c =
     let s = c.args.present.now.state in
-    let at = goal.at.returns c in
+    let at = goal.at.returns-clause-plan c in
     let f = found at.After-rising_before in
     let room = few at.After-moment-1 in
     let good = starting at.After-starts ∙ c.if-not-starts.false in
@@ -115,13 +115,10 @@ returns c =
     let both = made c.args.moment c.args.control f c.rising_before.ensures.state c.rising_before.ensures.within room in
     let counted : gone ≡ length (rising_in c.args.start (frames_end s.format c.args.start c.args.frames) s.pulses) = omega (arith, f.sum, f.is_at, f.is_by) in
     record {
-      refused = tt;
       allowed = rw f.there (rw f.free (rw (fitting f room) (rw good (rw narrow refl))));
-      frames = search rules;
       there = search rules;
       can = subst (λ (n : ℕ). CanSplice s.micros n gone put s.pulses) place both.0;
       becomes = subst (λ (n : ℕ). Becomes (Regen c.args.start c.args.frames c.args.moment c.args.control) s (with_pulses (spliced n gone put s.pulses) s)
           (n + 100 * c.args.frames)) place both.1;
-      few = search rules;
       change = (λ k. One (Splice (f.is_at k + 1) (counted k) put));
     }

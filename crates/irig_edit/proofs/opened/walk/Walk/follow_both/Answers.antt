@@ -1,7 +1,7 @@
 use Rattle.std.proofs.Common.{◌≡◌, ◌∙◌, List, ap, arith, reverse, subst}
 use Rattle.std.proofs.lemmas.List.{reverse-reverse}
 use Rattle.irig_journal.specs.History.{History}
-use Rattle.irig_saved.specs.{declared.change.Change.Change, declared.step.Step.Step as SavedStep}
+use Rattle.irig_saved.specs.{declared.change.Change.Change, declared.step.SavedStep.SavedStep}
 use Rattle.irig_edit.specs.declared.opened.taking.NotTaken.{NotTaken}
 use Rattle.irig_edit.specs.{Opened.Stops.IsNotTaken, Opened.Taken.CanBegin, Opened.Taken.steps_of, State.State.State}
 use Rattle.irig_edit.proofs.OpenedLemmas.TakenSteps.{begin_after, lines-reverse}
