@@ -16,7 +16,7 @@ pub record StopsAt (s : State) (saves : List SavedStep) (before behind : ℕ) : 
   pub behind_are : behind ≡ length (steps_lines (take (count + 1) saves))
   pub few : before < 2 ^ 63
 
--- at a step that is not taken; or memory runs out, which it does not before the steps begin
+-- the step that is not taken; memory runs out only once the steps have begun
 abbrev pub IsNotTaken : State → List SavedStep → NotTaken → Type 0
 IsNotTaken s saves (At before behind) = StopsAt s saves before behind
 IsNotTaken s saves Memory = CanBegin s (steps_of saves)

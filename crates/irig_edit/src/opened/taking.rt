@@ -1,7 +1,7 @@
 //! The steps of a saved journal, taken one after another.
 
-ghost use Rattle.std.specs.Prelude.{◌≡◌, ◌+◌, ◌≤◌, ◌<◌, ◌^◌, ◌++◌, List, [], Err, IfErr, IfOk, None};
-ghost use Rattle.std.specs.Prelude.{MatchBool, MatchResult, OnOk, length, reverse};
+ghost use Rattle.std.specs.Prelude.{◌≡◌, ◌+◌, ◌≤◌, ◌<◌, ◌^◌, ◌++◌, List, [], Err, IfErr, IfOk};
+ghost use Rattle.std.specs.Prelude.{MatchBool, MatchResult, None, OnOk, length, reverse};
 ghost use Rattle.irig_journal.specs.{History.History, History.Step, Turns.FitAll};
 ghost use Rattle.irig_saved.specs.SavedText.{mark_lines, saved_lines, steps_lines};
 ghost use Rattle.irig_saved.specs.declared.change.Change.{Change};
