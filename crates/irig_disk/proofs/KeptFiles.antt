@@ -63,7 +63,7 @@ names (TakeMode file mode) older i make append take sync only = absurd (take fil
 names (SyncFile file) older i make append take sync only = absurd (sync file refl)
 names (Rename «from» to) older i make append take sync only = only
 names (Remove name) older i make append take sync only = only
-names SyncNames older i make append take sync only = only
+names (SyncNames front) older i make append take sync only = only
 
 pub passes_names : (calls older : List Call) (call : Call) (i : ℕ) → calls ≡ call ∷ older → ((name : Vec ℕ Global) (mode : ℕ) → call ≡ Make name mode → ⊥)
     → ((file : ℕ) (bytes : Vec ℕ Global) → call ≡ Append file bytes → ⊥) → ((file mode : ℕ) → call ≡ TakeMode file mode → ⊥)

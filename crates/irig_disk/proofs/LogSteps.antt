@@ -42,7 +42,7 @@ leads_below (Remove name ∷ calls) n i is = of_cond (bytes_eq name.items n) Non
 leads_below (Append file bytes ∷ calls) n i is = let below = leads_below calls n i is in omega arith
 leads_below (TakeMode file mode ∷ calls) n i is = let below = leads_below calls n i is in omega arith
 leads_below (SyncFile file ∷ calls) n i is = let below = leads_below calls n i is in omega arith
-leads_below (SyncNames ∷ calls) n i is = let below = leads_below calls n i is in omega arith
+leads_below (SyncNames front ∷ calls) n i is = let below = leads_below calls n i is in omega arith
 
 pub may_lead_below : (calls : List Call) (n : List ℕ) (i : ℕ) → may_lead_in calls n (Some i) → i < length calls
 may_lead_below [] n i is = absurd (cc is)
@@ -56,7 +56,7 @@ may_lead_below (Remove name ∷ calls) n i (inr gone) = absurd (cc gone.1)
 may_lead_below (Append file bytes ∷ calls) n i l = let below = may_lead_below calls n i l in omega arith
 may_lead_below (TakeMode file mode ∷ calls) n i l = let below = may_lead_below calls n i l in omega arith
 may_lead_below (SyncFile file ∷ calls) n i l = let below = may_lead_below calls n i l in omega arith
-may_lead_below (SyncNames ∷ calls) n i l = let below = leads_below calls n i (sym l) in omega arith
+may_lead_below (SyncNames front ∷ calls) n i l = let below = may_lead_below calls n i l.0 in omega arith
 
 -- what is seen may be left
 by_name : (b : Bool) (a n : List ℕ) → b ≡ bytes_eq a n → ((a ≡ n) × (b ≡ true)) ⊎ (b ≡ false)
@@ -85,7 +85,7 @@ leads_may (Remove name ∷ calls) n = ⊎_elim
 leads_may (Append file bytes ∷ calls) n = leads_may calls n
 leads_may (TakeMode file mode ∷ calls) n = leads_may calls n
 leads_may (SyncFile file ∷ calls) n = leads_may calls n
-leads_may (SyncNames ∷ calls) n = refl
+leads_may (SyncNames front ∷ calls) n = (leads_may calls n, λ rest is. refl)
 
 changed_may : (calls : List Call) (k i : ℕ) (h : Held) → may_hold_in calls i (holds_in calls i)
     → (i ≡ k) ⊎ may_hold_in calls i (cond (nat_eq k i) h (holds_in calls i))
@@ -103,7 +103,7 @@ holds_may (TakeMode file mode ∷ calls) i = changed_may calls file i (record { 
 holds_may (SyncFile file ∷ calls) i = (λ at. refl, λ ne. holds_may calls i)
 holds_may (Rename «from» to ∷ calls) i = holds_may calls i
 holds_may (Remove name ∷ calls) i = holds_may calls i
-holds_may (SyncNames ∷ calls) i = holds_may calls i
+holds_may (SyncNames front ∷ calls) i = holds_may calls i
 
 -- a new file
 log_made : (calls : List Call) (v : Vec ℕ Global) (mode : ℕ) → leads_in calls v.items ≡ None
@@ -144,11 +144,12 @@ log_synced calls k = record {
   };
 }
 
-pub log_synced_names : (calls : List Call) → SyncedNames (disk_of calls) (disk_of (SyncNames ∷ calls)) (λ n. n)
-log_synced_names calls = record {
-  kept = λ n is x l. l;
+pub log_synced_names : (calls : List Call) (front : Vec ℕ Global)
+    → SyncedNames (disk_of calls) (disk_of (SyncNames front ∷ calls)) (λ n. front.items ++ n)
+log_synced_names calls front = record {
+  kept = λ n is x l. l.1 n refl;
   seen = λ n. refl;
-  left = λ n x l. subst (may_lead_in calls n) (sym l) (leads_may calls n);
+  left = λ n x l. l.0;
   files = record { seen = λ i. refl; left = λ i h l. l };
   paths = refl;
   log = refl;
@@ -181,5 +182,6 @@ log_moves calls later u v «from» to is_from is_to grown = rw (grown, ← is_fr
 pub log_syncs : (calls later : List Call) (k : ℕ) → later ≡ SyncFile k ∷ calls → SyncedFile (disk_of calls) (disk_of later) k
 log_syncs calls later k grown = rw grown (log_synced calls k)
 
-pub log_syncs_names : (calls later : List Call) → later ≡ SyncNames ∷ calls → SyncedNames (disk_of calls) (disk_of later) (λ n. n)
-log_syncs_names calls later grown = rw grown (log_synced_names calls)
+pub log_syncs_names : (calls later : List Call) (v : Vec ℕ Global) (front : List ℕ) → v.items ≡ front → later ≡ SyncNames v ∷ calls
+    → SyncedNames (disk_of calls) (disk_of later) (λ n. front ++ n)
+log_syncs_names calls later v front is grown = rw (grown, ← is) (log_synced_names calls v)

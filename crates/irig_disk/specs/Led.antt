@@ -13,4 +13,4 @@ makes (TakeMode file mode) name = false
 makes (SyncFile file) name = false
 makes (Rename «from» to) name = false
 makes (Remove gone) name = false
-makes SyncNames name = false
+makes (SyncNames front) name = false

@@ -19,7 +19,7 @@ leads_in (Remove name ∷ calls) n = cond (bytes_eq name.items n) None (leads_in
 leads_in (Append file bytes ∷ calls) n = leads_in calls n
 leads_in (TakeMode file mode ∷ calls) n = leads_in calls n
 leads_in (SyncFile file ∷ calls) n = leads_in calls n
-leads_in (SyncNames ∷ calls) n = leads_in calls n
+leads_in (SyncNames front ∷ calls) n = leads_in calls n
 
 -- what a file holds
 abbrev pub holds_in : List Call → ℕ → Held
@@ -38,9 +38,9 @@ holds_in (TakeMode file mode ∷ calls) i =
 holds_in (Rename «from» to ∷ calls) i = holds_in calls i
 holds_in (Remove name ∷ calls) i = holds_in calls i
 holds_in (SyncFile file ∷ calls) i = holds_in calls i
-holds_in (SyncNames ∷ calls) i = holds_in calls i
+holds_in (SyncNames front ∷ calls) i = holds_in calls i
 
--- what a crash may leave a name to lead to: all that it led to since the last sync of the names
+-- what a crash may leave a name to lead to: all that it led to since the last sync of it
 abbrev pub may_lead_in : List Call → List ℕ → Option ℕ → Type 0
 may_lead_in [] n x = x ≡ None
 may_lead_in (Make name mode ∷ calls) n x =
@@ -49,7 +49,8 @@ may_lead_in (Rename «from» to ∷ calls) n x =
     may_lead_in calls n x ⊎ ((to.items ≡ n) × (x ≡ leads_in calls «from».items))
     ⊎ ((«from».items ≡ n) × (n ≢ to.items) × (x ≡ None))
 may_lead_in (Remove name ∷ calls) n x = may_lead_in calls n x ⊎ ((name.items ≡ n) × (x ≡ None))
-may_lead_in (SyncNames ∷ calls) n x = x ≡ leads_in calls n
+may_lead_in (SyncNames front ∷ calls) n x =
+    may_lead_in calls n x × ((rest : List ℕ) → n ≡ front.items ++ rest → x ≡ leads_in calls n)
 may_lead_in (Append file bytes ∷ calls) n x = may_lead_in calls n x
 may_lead_in (TakeMode file mode ∷ calls) n x = may_lead_in calls n x
 may_lead_in (SyncFile file ∷ calls) n x = may_lead_in calls n x
@@ -64,7 +65,7 @@ may_hold_in (SyncFile file ∷ calls) i h =
     (i ≡ file → h ≡ holds_in calls i) × (i ≢ file → may_hold_in calls i h)
 may_hold_in (Rename «from» to ∷ calls) i h = may_hold_in calls i h
 may_hold_in (Remove name ∷ calls) i h = may_hold_in calls i h
-may_hold_in (SyncNames ∷ calls) i h = may_hold_in calls i h
+may_hold_in (SyncNames front ∷ calls) i h = may_hold_in calls i h
 
 -- what a crash since the first t calls might have left
 abbrev pub left_in : List Call → ℕ → List ℕ → Option Held → Type 0
@@ -77,7 +78,8 @@ abbrev pub steps_in : List Call → List Step
 steps_in [] = []
 steps_in (Rename «from» to ∷ calls) = steps_in calls ++ Moved to.items
     (elim (leads_in calls «from».items) [ None ↦ None | Some file ↦ Some (holds_in calls file) ]) ∷ []
-steps_in (SyncNames ∷ calls) = steps_in calls ++ Synced (length (SyncNames ∷ calls)) ∷ []
+steps_in (SyncNames front ∷ calls) =
+    steps_in calls ++ Synced (length (SyncNames front ∷ calls)) ∷ []
 steps_in (Make name mode ∷ calls) = steps_in calls
 steps_in (Remove name ∷ calls) = steps_in calls
 steps_in (Append file bytes ∷ calls) = steps_in calls

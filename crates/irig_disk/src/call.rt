@@ -15,6 +15,6 @@ pub enum Call {
     Rename(Vec<u8>, Vec<u8>),
     /// No file has the name.
     Remove(Vec<u8>),
-    /// The names are kept.
-    SyncNames,
+    /// The names that begin with this are kept.
+    SyncNames(Vec<u8>),
 }

@@ -19,7 +19,7 @@ pub use fault::PutFault;
 pub use folder::Folder;
 pub use kept::Kept;
 pub use left::{bytes_of, is_kept, mode_of};
-pub use memory::{Memory, MemoryFile, file_at};
+pub use memory::{Memory, MemoryFile, USUAL, file_at};
 pub use memory_fault::MemoryFault;
 pub use name::is_name;
 pub use new_text::NewText;

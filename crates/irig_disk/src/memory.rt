@@ -1,12 +1,14 @@
 //! A folder in memory, for tests. It is the log of the calls that were done on it, the newest
 //! first.
 
-ghost use Rattle.std.specs.Prelude.{◌≡◌, ◌↔◌, ◌≤◌, ◌<◌, ◌∷◌, ◌+◌, ◌-◌, ◌^◌, [], List, false, true};
-ghost use Rattle.std.specs.Prelude.{None, OnOk, OnErr, IfOk, IfErr, IsTrue, MatchOption, min};
+ghost use Rattle.std.specs.Prelude.{◌≡◌, ◌↔◌, ◌≤◌, ◌<◌, ◌∷◌, ◌++◌, ◌+◌, ◌-◌, ◌^◌, [], List, false, true};
+ghost use Rattle.std.specs.Prelude.{None, OnOk, OnErr, IfOk, IfErr, IfSome, IsTrue, MatchOption, min};
+ghost use Rattle.std.specs.Prelude.{MatchResult};
 ghost use Rattle.std.specs.Prelude.{vec_len, vec_capacity};
 ghost use Rattle.irig_disk.specs.LogLaws.{log_counts_now, log_only_now};
 ghost use Rattle.irig_disk.specs.declared.memory_fault.MemoryFault.TheVariants.{NoMemory};
-ghost use Rattle.irig_disk.specs.{Calls.Made, Disk.Elapses, Led.makes, Log.leads_in, Log.disk_of};
+ghost use Rattle.irig_disk.specs.Calls.{IsTaken, Made, SyncedNames, mode_made};
+ghost use Rattle.irig_disk.specs.{Disk.Elapses, Led.makes, Log.leads_in, Log.disk_of, Stays.Stays};
 ghost use Rattle.irig_disk.specs.{declared.call.Call.Call, declared.memory.TheConstants.USUAL};
 
 use crate::call::Call;
@@ -17,8 +19,8 @@ use std::alloc::Global;
 /// The mode of a file that is its owner's alone.
 const OWNER_ONLY: u32 = 0o600;
 
-/// The mode of any other new file.
-const USUAL: u32 = 0o644;
+/// The mode of any other new file of a folder in memory.
+pub const USUAL: u32 = 0o644;
 
 /// A file of a folder in memory.
 #[derive(Drop)]
@@ -138,12 +140,51 @@ impl Memory {
             name.now file.number mode) }
         ensures err { OnErr result (self.new.calls.items ≡ self.old.calls.items) }
         ensures fault { IfErr result (λ fault. fault ≡ NoMemory) }
+        ensures number { IfOk result (λ file. file.number ≡ vec_len self.old.calls) }
         ensures time { Elapses (disk_of self.old.calls.items) (disk_of self.new.calls.items) }
     {
         let number = self.calls.len();
         let name = name.as_bytes().to_vec(self.alloc)?;
         add(&mut self.calls, Call::Make(name, mode))?;
         Ok(MemoryFile { number })
+    }
+}
+
+impl Memory {
+    /// Makes a new file under a name if it is free; a hidden one is its owner's alone.
+    pub fn make_new(&mut self, name: &str, hidden: bool) -> Result<Option<MemoryFile>, MemoryFault>
+        ensures done { MatchResult result (λ made. MatchOption made
+            (IsTaken (disk_of self.old.calls.items) (disk_of self.new.calls.items) name.now)
+            (λ file. Made (disk_of self.old.calls.items) (disk_of self.new.calls.items)
+            name.now file.number (mode_made USUAL hidden)))
+            (λ _. Stays (disk_of self.old.calls.items) (disk_of self.new.calls.items)) }
+        ensures number { IfOk result (λ made. IfSome made
+            (λ file. file.number ≡ vec_len self.old.calls)) }
+        ensures time { Elapses (disk_of self.old.calls.items) (disk_of self.new.calls.items) }
+    {
+        if self.is_planned() {
+            return Err(MemoryFault::Planned);
+        }
+        if file_at(&self.calls, name.as_bytes()).is_some() {
+            return Ok(None);
+        }
+        let file = self.add_file(name, if hidden { OWNER_ONLY } else { USUAL })?;
+        Ok(Some(file))
+    }
+
+    /// Keeps the names that begin with the front: after it, a crash leaves each as it is seen.
+    pub fn sync_front(&mut self, front: &str) -> Result<(), MemoryFault>
+        ensures ok { OnOk result (SyncedNames (disk_of self.old.calls.items)
+            (disk_of self.new.calls.items) (λ name. front.now ++ name)) }
+        ensures err { OnErr result
+            (Stays (disk_of self.old.calls.items) (disk_of self.new.calls.items)) }
+        ensures time { Elapses (disk_of self.old.calls.items) (disk_of self.new.calls.items) }
+    {
+        if self.is_planned() {
+            return Err(MemoryFault::Planned);
+        }
+        let kept = front.as_bytes().to_vec(self.alloc)?;
+        add(&mut self.calls, Call::SyncNames(kept))
     }
 }
 
@@ -188,14 +229,7 @@ impl Folder for Memory {
         name: &str,
         hidden: bool,
     ) -> Result<Option<MemoryFile>, MemoryFault> {
-        if self.is_planned() {
-            return Err(MemoryFault::Planned);
-        }
-        if file_at(&self.calls, name.as_bytes()).is_some() {
-            return Ok(None);
-        }
-        let file = self.add_file(name, if hidden { OWNER_ONLY } else { USUAL })?;
-        Ok(Some(file))
+        self.make_new(name, hidden)
     }
 
     fn append(&mut self, file: &mut MemoryFile, bytes: &[u8]) -> Result<(), MemoryFault> {
@@ -246,9 +280,6 @@ impl Folder for Memory {
     }
 
     fn sync_names(&mut self, _: &()) -> Result<(), MemoryFault> {
-        if self.is_planned() {
-            return Err(MemoryFault::Planned);
-        }
-        add(&mut self.calls, Call::SyncNames)
+        self.sync_front("")
     }
 }

@@ -28,5 +28,7 @@ pub use file_system::FileSystem;
 pub use files::Files;
 pub use intake::Parts;
 pub use opening::system_files;
+pub use plain_calls::PlainCalls;
+pub use put_file::folder_of;
 pub use room::Room;
 pub use written::Written;

@@ -224,7 +224,7 @@ fn put_stem(name: &str, stem: &mut String) -> Result<(), ShelfFault> {
 }
 
 /// The folder of a path.
-fn folder_of(target: &str) -> &str
+pub fn folder_of(target: &str) -> &str
     ensures { result.now ≡ folder_of target.now }
 {
     match Path::new(target).parent() {

@@ -40,7 +40,7 @@ fn left(alloc: Global, calls: &[Call]) -> Option<usize> {
 /// Whether the names were kept by one of the calls.
 fn is_named(calls: &[Call]) -> bool {
     for call in calls {
-        if matches!(call, Call::SyncNames) {
+        if matches!(call, Call::SyncNames(_)) {
             return true;
         }
     }
