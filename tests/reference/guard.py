@@ -6,6 +6,8 @@ from reference import language, machine, timecode
 from reference.bearing import Bearing, Near, Shown
 
 LONGEST_LINE, LONGEST_COMMENT = 1000, 900
+NOTHING_FINE, NOT_KEPT = b"# nothing to go by: no frame of the recording is fine", b"# not kept: "
+NO_REPAIR, REFUSED, UNSAFE = "not a repair", "refused: ", "the result would not be safe"
 EDITS = {
     "insert": machine.insert, "delete": machine.delete, "split": machine.split, "join": machine.join,
     "shift": machine.shift, "invert": machine.invert, "force": machine.force, "regen": machine.regen,
@@ -73,32 +75,36 @@ class Guard:
 
     def script(self, text: bytes) -> None:
         lines = text.split(b"\n")
+        self.printed = [] if self.safety.old else [NOTHING_FINE]
         for repair in repairs(lines if lines[-1] else lines[:-1]):
-            if self._keeps(repair):
+            reason = self._dropped(repair)
+            if reason is None:
                 self.printed += repair
             else:
                 self.refused = True
-                self.printed += map(commented, repair)
+                self.printed += [NOT_KEPT + reason.encode(), *map(commented, repair)]
 
-    def _keeps(self, repair: List[bytes]) -> bool:
-        """Tries a repair, and undoes it if it is not kept."""
+    def _dropped(self, repair: List[bytes]) -> Optional[str]:
+        """Tries a repair, and undoes it if it is not kept; then why."""
         if len(repair) == 1 and word_of(repair[0]) == REMARK:
-            return True
+            return None
         before = self.machine.present, list(self.machine.past), list(self.machine.made)
-        if self._is_obeyed(repair):
-            new = fine_frames(self.machine.present)
-            if self.safety.is_safe(self.last, new):
-                self.last = new
-                return True
-        self.machine.present, self.machine.past, self.machine.made = before
-        self.machine.floor = None
-        return False
+        reason = self._stopped(repair)
+        new = fine_frames(self.machine.present)
+        if reason is None and not self.safety.is_safe(self.last, new):
+            reason = UNSAFE
+        if reason is None:
+            self.last = new
+        else:
+            self.machine.present, self.machine.past, self.machine.made = before
+            self.machine.floor = None
+        return reason
 
-    def _is_obeyed(self, repair: List[bytes]) -> bool:
-        """Obeys the lines of a repair up to the first that cannot be."""
+    def _stopped(self, repair: List[bytes]) -> Optional[str]:
+        """Obeys the lines of a repair up to the first that cannot be; why it cannot."""
         is_group = word_of(repair[0]) == "begin"
         if is_group and (len(repair) == 1 or word_of(repair[-1]) != "end"):
-            return False
+            return NO_REPAIR
         if is_group:
             self.machine.begin()
         for line in repair[1:-1] if is_group else repair:
@@ -106,14 +112,14 @@ class Guard:
             if word == REMARK:
                 continue
             if word not in EDITS:
-                return False
+                return NO_REPAIR
             try:
                 self.machine.edit(EDITS[word], *language.parse(self.machine.present, line)[1])
-            except machine.Refused:
-                return False
+            except machine.Refused as refused:
+                return REFUSED + str(refused)
         if is_group:
             self.machine.end()
-        return True
+        return None
 
 
 def commented(line: bytes) -> bytes:

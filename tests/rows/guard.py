@@ -15,7 +15,7 @@ NOON = datetime.datetime(2024, 5, 17, 12, 34, 50)  # day 138
 
 
 class Row(NamedTuple):
-    """`wanted` are the lines that are printed. The status is 1 if some are not those of the script."""
+    """`wanted` are the lines that are printed. The status is 1 if some after the head are not those of the script."""
 
     name: str
     form: str
@@ -81,9 +81,14 @@ def joined(one: Pulses, other: Pulses, frame: int) -> Pulses:
     return one[:100 * frame] + other[100 * frame:]
 
 
-def remarks(*lines: str) -> Tuple[str, ...]:
-    """The lines as comments."""
-    return tuple("# " + line for line in lines)
+def dropped(reason: str, *lines: str) -> Tuple[str, ...]:
+    """The lines of a repair that is not kept: the reason, and they as comments."""
+    return ("# not kept: " + reason, *("# " + line for line in lines))
+
+
+def each_dropped(reason: str, *lines: str) -> Tuple[str, ...]:
+    """The same of repairs of one line."""
+    return tuple(printed for line in lines for printed in dropped(reason, line))
 
 
 def length_of(pulses: Pulses) -> int:
@@ -103,11 +108,14 @@ LONG_YEAR = datetime.datetime(2024, 12, 31, 23, 59, 57)
 LONG = "9" * 1001
 SLOW = moved(SOUND, lambda at: at * 51 // 50)
 TURNED = [[one[1], other[0]] for one, other in zip(SOUND, SOUND[1:])]
+NO_REPAIR, UNSAFE = "not a repair", "the result would not be safe"
+NOTHING_FINE = "# nothing to go by: no frame of the recording is fine"
 
 ROWS = (
     # what is kept
     Row("an empty script", "B4", SOUND, [], []),
     Row("comments and blank lines", "B4", SOUND, ["# one", "", " \t", "  # two"], ["# one", "", " \t", "  # two"]),
+    Row("a comment like one of the guard", "B4", SOUND, ["# not kept: refused: E2 NoPulse"], ["# not kept: refused: E2 NoPulse"]),
     Row("marks", "B4", SOUND, ["mark a 7", "unmark a"], ["mark a 7", "unmark a"]),
     Row("a lost pulse", "B4", WITHOUT_ZERO, [MEND], [MEND]),
     Row("a group", "B4", WITHOUT_ZERO, ["begin", "# why", MEND, "end"], ["begin", "# why", MEND, "end"]),
@@ -136,59 +144,61 @@ ROWS = (
     Row("a control function of a frame that was not fine", "B4", without(SOUND, 363),
         ["insert 3620000 3625000"], ["insert 3620000 3625000"]),
     Row("a recording that is upside down", "B4", TURNED,
-        ["invert 0 7000000"], ["invert 0 7000000"]),
+        ["invert 0 7000000"], [NOTHING_FINE, "invert 0 7000000"]),
+    Row("an empty script for it", "B4", TURNED, [], [NOTHING_FINE]),
     # frames that were fine
-    Row("a pulse of a frame that is fine", "B4", SOUND, ["343 delete"], ["# 343 delete"]),
+    Row("a pulse of a frame that is fine", "B4", SOUND, ["343 delete"], dropped(UNSAFE, "343 delete")),
     Row("a rest that is moved", "B4", SOUND, ["601,$ shift 600"],
-        ["# 601,$ shift 600"]),
+        dropped(UNSAFE, "601,$ shift 600")),
     Row("another time", "B6", steady("B6"), ["302 force zero", "312 force one"],
-        ["# 302 force zero", "# 312 force one"]),
+        [*dropped(UNSAFE, "302 force zero"), *dropped(UNSAFE, "312 force one")]),
     Row("another time at the end, where one neighbour is", "B6", changed(steady("B6"), 612, "one"), ["612 force zero"],
-        ["# 612 force zero"]),
+        dropped(UNSAFE, "612 force zero")),
     Row("a frame that an earlier repair mended", "B4", WITHOUT_ZERO, [MEND, "243 delete"],
-        [MEND, "# 243 delete"]),
-    Row("a control function of a frame that was fine", "B4", SOUND, ["363 force one"], ["# 363 force one"]),
+        [MEND, *dropped(UNSAFE, "243 delete")]),
+    Row("a control function of a frame that was fine", "B4", SOUND, ["363 force one"],
+        dropped(UNSAFE, "363 force one")),
     # times
     Row("a time that is a second off", "B4", hole(SOUND, 3), ["regen 3000000 1 " + FOURTH],
-        ["# regen 3000000 1 " + FOURTH]),
+        dropped(UNSAFE, "regen 3000000 1 " + FOURTH)),
     Row("a time that only a broken frame leads to", "B4",
         joined(joined(hole(SOUND, 3, 2), without(steady(begin=AGO), 343), 3), hole(SOUND, 3, 2), 4)[:-100],
         ["regen 4000000 1 2024-138T11:34:54"],
-        ["# regen 4000000 1 2024-138T11:34:54"]),
+        dropped(UNSAFE, "regen 4000000 1 2024-138T11:34:54")),
     Row("a time that the frame after it contradicts", "B4", hole(SET, 3), [REGEN],
-        ["# " + REGEN]),
+        dropped(UNSAFE, REGEN)),
     Row("a time that the frame before it contradicts", "B4", hole(SET, 3), ["regen 3000000 1 " + FOURTH],
-        ["# regen 3000000 1 " + FOURTH]),
+        dropped(UNSAFE, "regen 3000000 1 " + FOURTH)),
     Row("second 60 at the end", "B4", without(leap()[:500], 443), ["insert 4420000 4422000"],
-        ["# insert 4420000 4422000"]),
+        dropped(UNSAFE, "insert 4420000 4422000")),
     Row("half an interval and a thousandth beside its place", "B4", hole(SOUND, 3, 3),
         ["regen 3007008 2 " + THIRD, "regen 3007007 2 " + THIRD],
-        ["# regen 3007008 2 " + THIRD, "regen 3007007 2 " + THIRD]),
+        [*dropped(UNSAFE, "regen 3007008 2 " + THIRD), "regen 3007007 2 " + THIRD]),
     # no fine frame
-    Row("two frames alone", "B4", TURNED[:299], ["invert 0 3000000"], ["# invert 0 3000000"]),
+    Row("two frames alone", "B4", TURNED[:299], ["invert 0 3000000"],
+        [NOTHING_FINE, *dropped(UNSAFE, "invert 0 3000000")]),
     # lines that are no repair
     Row("junk", "B4", SOUND, ["hello", "\x00\x01", "+++", LONG, "#" * 1001],
-        ["# hello", "# \x00\x01", "# +++", "# " + LONG[:900],
-         "# " + "#" * 900]),
+        each_dropped(NO_REPAIR, "hello", "\x00\x01", "+++", LONG[:900], "#" * 900)),
     Row("lines that a repair may not have", "B4", SOUND, ["write", "save", "undo", "redo", ",list", "7", "frames"],
-        remarks("write", "save", "undo", "redo", ",list", "7", "frames")),
+        each_dropped(NO_REPAIR, "write", "save", "undo", "redo", ",list", "7", "frames")),
     Row("more of them", "B4", SOUND, ["marks", "info", "quit", "format B 2", "end", "abort"],
-        remarks("marks", "info", "quit", "format B 2", "end", "abort")),
-    Row("a line after `quit`", "B4", WITHOUT_ZERO, ["quit", MEND], ["# quit", MEND]),
-    Row("a refused line", "B4", SOUND, ["9999 delete"], ["# 9999 delete"]),
+        each_dropped(NO_REPAIR, "marks", "info", "quit", "format B 2", "end", "abort")),
+    Row("a line after `quit`", "B4", WITHOUT_ZERO, ["quit", MEND], [*dropped(NO_REPAIR, "quit"), MEND]),
+    Row("a refused line", "B4", SOUND, ["9999 delete"], dropped("refused: E2 NoPulse", "9999 delete")),
     Row("a group with a refused line", "B4", WITHOUT_ZERO, ["begin", MEND, "9999 delete", "end"],
-        [*remarks("begin", MEND, "9999 delete", "end")]),
+        dropped("refused: E2 NoPulse", "begin", MEND, "9999 delete", "end")),
     Row("a group that is not safe", "B4", WITHOUT_ZERO, ["begin", MEND, "443 delete", "end"],
-        [*remarks("begin", MEND, "443 delete", "end")]),
+        dropped(UNSAFE, "begin", MEND, "443 delete", "end")),
     Row("a group that is safe as a whole", "B4", SOUND, ["begin", "343 delete", "insert 3420000 3422000", "end"],
         ["begin", "343 delete", "insert 3420000 3422000", "end"]),
-    Row("a group without an end", "B4", WITHOUT_ZERO, ["begin", MEND], [*remarks("begin", MEND)]),
+    Row("a group without an end", "B4", WITHOUT_ZERO, ["begin", MEND], dropped(NO_REPAIR, "begin", MEND)),
     Row("a group that is aborted", "B4", WITHOUT_ZERO, ["begin", MEND, "abort"],
-        [*remarks("begin", MEND, "abort")]),
+        dropped(NO_REPAIR, "begin", MEND, "abort")),
     Row("a group in a group", "B4", WITHOUT_ZERO, ["begin", "begin", MEND, "end", "end"],
-        [*remarks("begin", "begin", MEND, "end"), "# end"]),
+        [*dropped(NO_REPAIR, "begin", "begin", MEND, "end"), *dropped(NO_REPAIR, "end")]),
     Row("a group with a `write`", "B4", WITHOUT_ZERO, ["begin", MEND, "write", "end"],
-        [*remarks("begin", MEND, "write", "end")]),
+        dropped(NO_REPAIR, "begin", MEND, "write", "end")),
     Row("what is dropped leaves nothing behind", "B4", WITHOUT_ZERO, ["343 delete", "mark a 2420000", "insert 'a 2422000"],
-        ["# 343 delete", "mark a 2420000", "insert 'a 2422000"]),
+        [*dropped(UNSAFE, "343 delete"), "mark a 2420000", "insert 'a 2422000"]),
 )

@@ -157,7 +157,9 @@ def guarded():
     def holds():
         os.symlink(os.path.abspath(os.environ["IRIG_ED"]), "irig_ed")
         with open("irig_guard", "w", encoding="ascii") as file:
-            file.write('#!/bin/sh\nwhile [ "$1" != --out ]; do shift; done; cp "$3" "$2"; sed "/^#/!s/^/# /"; exit 1\n')
+            file.write('#!/bin/sh\nwhile [ "$1" != --out ]; do shift; done; cp "$3" "$2"\n'
+                       'echo "# nothing to go by: no frame of the recording is fine"\n'
+                       'sed "/^#/!s/^/# not kept: not a repair\\n# /"; exit 1\n')
         os.chmod("irig_guard", 0o755)
         with mock.patch.dict(os.environ, IRIG_ED=os.path.abspath("irig_ed")):
             for words, status, text in (("", 1, "1 place found, 0 repaired, 0 undecided, 1 left, 0 steps that stay, 1 line refused"),

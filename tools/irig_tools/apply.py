@@ -22,6 +22,7 @@ from .script import Repair
 from .wire import Wish
 
 HEAD = b"$timescale 1 us $end\n"  # how a dump of the editor begins
+REASONS = "# not kept: ", "# nothing to go by: "  # how the comments of irig_guard begin
 
 
 @dataclass(frozen=True)
@@ -91,9 +92,10 @@ def _run(command: List[str], track: Opened, lines: Sequence[str], out: str) -> L
 
 
 def _refused_by_guard(lines: Sequence[str], kept: Sequence[str]) -> int:
-    """How many lines of the script it printed as comments."""
+    """How many lines of the script it printed as comments; its own comments, which say why, are passed over."""
+    printed = (line for line in kept if not line.startswith(REASONS))
     return sum(not line.startswith("#") and line not in ("begin", "end") and after == "# " + line
-               for line, after in zip(lines, kept))
+               for line, after in zip(lines, printed))
 
 
 def sound_frames(options: Sequence[str], path: str) -> int:

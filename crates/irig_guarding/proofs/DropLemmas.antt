@@ -1,6 +1,6 @@
 -- Why a repair is dropped.
-use Rattle.std.proofs.Common.{◌≡◌, ◌≢◌, ◌+◌, ◌-◌, ◌<◌, ◌≤◌, ◌++◌, ℕ, zero, suc, Bool, true, false, List, [], ◌∷◌, Option, Some, None, length, drop, take}
-use Rattle.std.proofs.Common.{get_or, map, refl, ap, sym, ◌∙◌, subst, inl, inr, arith, append_assoc}
+use Rattle.std.proofs.Common.{◌≡◌, ◌≢◌, ◌+◌, ◌<◌, ◌++◌, ℕ, Bool, false, List, [], ◌∷◌, Option, Some, None, length, drop, take}
+use Rattle.std.proofs.Common.{get_or, refl, ap, sym, ◌∙◌, subst, inl, inr, append_assoc}
 use Rattle.std.specs.Prelude.{◌↔◌, ◌⊎◌, IsTrue, MatchOption, OnErr, OnOk, Result, Ok, Err}
 use Rattle.std.proofs.lemmas.List.{drop_more, map-append, take-append-drop}
 use Rattle.std.specs.List.{AllByRecursion}
@@ -11,7 +11,7 @@ use Rattle.irig_lines.proofs.LineOrders.{means_one}
 use Rattle.irig_script.specs.{Obey.Machine.Machine, Obey.Obeying.Obeys, Obey.Replies.Calls, Obey.Replies.Makes, declared.print.reply.Reply.Reply}
 use Rattle.irig_script.specs.declared.print.reply.Reply.TheVariants as told
 use Rattle.irig_guarding.specs.Repair.{Asks, IsBeyond, IsRepair, Obeyed, ObeyedAll, texts}
-use Rattle.irig_guarding.specs.Trials.{AsksFor, Drops, IsClosing, Holds, IsEditGroup, IsIdle, IsInner, IsRefusedAt, IsUnsafe, MayBeKept, MayStay, Refuses}
+use Rattle.irig_guarding.specs.Trials.{AsksFor, Drops, IsClosing, Holds, IsInner, IsRefusedAt, MayBeKept}
 use Rattle.irig_guarding.specs.Trials.{StopsAt, StopsIn, Sways}
 use Rattle.irig_guarding.specs.declared.reason.Reason.TheVariants.{NoRepair, NotSafe, OutOfMemory, Refused}
 use Rattle.irig_guarding.specs.{declared.reason.Reason.Reason, declared.line.Line.Line}

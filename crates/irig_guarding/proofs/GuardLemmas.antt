@@ -13,9 +13,10 @@ use Rattle.irig_script.specs.{Obey.Machine.Machine, Obey.Run.IsObeyed, Obey.Run.
 use Rattle.irig_script.proofs.{ObeyLemmas.Lines.lines_and, ObeyLemmas.Quits.other_goes_on}
 use Rattle.irig_guarding.specs.{Guarded.IsGuarded, Guarded.IsRemark, Guarded.IsSafeAfter, Guarded.Stands, Guarded.silence, Reading.fine_frames, Repair.Agrees}
 use Rattle.irig_guarding.specs.{Repair.Asks, Repair.IsGroup, Repair.IsPrinted, Repair.ObeyedAll, Repair.texts, Trials.AreRemarksOf, Trials.IsIdle}
-use Rattle.irig_guarding.specs.{Trials.IsRemarkOf, Trials.Shows, Trials.Tries, declared.reason.Reason.Reason, declared.line.Line.Line}
+use Rattle.irig_guarding.specs.{Trials.IsRemarkOf, Trials.Prints, Trials.Shows, Trials.Tries, declared.reason.Reason.Reason, declared.line.Line.Line}
+use Rattle.irig_guarding.specs.Reasons.{head_lines, reason_line}
 use Rattle.irig_safety.specs.{Safety.IsSafe, Safety.IsSafeFrom, Safety.NoneIsSpoiled, declared.shown.Shown.Shown}
-use Rattle.irig_guarding.proofs.{AgainLemmas.obeyed_again, RepairLemmas.obeyed_then}
+use Rattle.irig_guarding.proofs.{AgainLemmas.obeyed_again, ReasonLemmas.head_remarks, ReasonLemmas.reason_remark, RepairLemmas.obeyed_then}
 
 pub on_ok : {V E : Type 0} {P Q : Type 0} (r : Result V E) → OnOk r P → (P → Q) → OnOk r Q
 on_ok (Ok v) p f = f p
@@ -37,10 +38,6 @@ plain_take (suc n) [] h = refl
 plain_take (suc n) (b ∷ text) h =
     let both = plain_both (not (b == 10)) (list_all (λ b. not (b == 10)) text) h in
     rw both.0 (plain_take n text both.1)
-
--- a front after a number sign is a remark
-pub front_remark : (text : List ℕ) → IsPlain text → length text ≤ 900 → IsRemark (35 ∷ 32 ∷ text)
-front_remark text h few = record { plain = h; asks = (omega arith, ([], 35 ∷ 32 ∷ text, refl, refl, inl (refl, refl))) }
 
 pub unlines-append : (xs ys : List (List ℕ)) → unlines (xs ++ ys) ≡ unlines xs ++ unlines ys
 unlines-append xs ys = flat_map-append (λ line. line ++ 10 ∷ []) xs ys
@@ -169,10 +166,18 @@ safe_then first now frames e same h = record {
   frames = subst (λ (f : FormatView). IsSafe f (fine_frames first) (fine_frames now)) same (subst (λ (l : List Shown). IsSafe now.format l (fine_frames now)) e h);
 }
 
--- nothing was printed yet
-pub stands_none : (m : Machine) (out : List ℕ) → out ≡ [] → Stands m out m
-stands_none m out e =
-    record { lines = []; plain = tt; cut = e; left = m; obeyed = refl; same = record { state = refl; cursor = refl; past = refl; floor = refl } }
+-- the head alone was printed
+pub stands_head : (m : Machine) (opened : List Shown) (out : List ℕ) → out ≡ unlines (head_lines opened) → Stands m out m
+stands_head m opened out e =
+    let remarks = head_remarks opened in
+    record {
+      lines = head_lines opened;
+      plain = remarks_plain (head_lines opened) remarks;
+      cut = e;
+      left = m;
+      obeyed = remarks_obeyed m (head_lines opened) remarks;
+      same = record { state = refl; cursor = refl; past = refl; floor = refl };
+    }
 
 few_taken : (n : ℕ) (xs : List ℕ) → length (take n xs) ≤ n
 few_taken n xs = omega (arith, length-take n xs)
@@ -194,9 +199,24 @@ pub shows_kept : (lines : List (List ℕ)) (dropped : Option Reason) (old new : 
     → new ≡ old ++ unlines lines → Shows lines dropped old new
 shows_kept lines dropped old new e plain text = subst (λ (d : Option Reason). Shows lines d old new) (sym e) (lines, refl, plain, text)
 
-pub shows_dropped : (lines : List (List ℕ)) (dropped : Option Reason) (reason : Reason) (old new : List ℕ) → dropped ≡ Some reason
-    → ((rs : List (List ℕ)) × AllByRecursion IsRemark rs × AreRemarksOf lines rs × (new ≡ old ++ unlines rs)) → Shows lines dropped old new
-shows_dropped lines dropped reason old new e r = subst (λ (d : Option Reason). Shows lines d old new) (sym e) (r.0, r.2, remarks_plain r.0 r.1, r.3)
+pub shows_dropped : (lines : List (List ℕ)) (reason : Reason) (old mid new : List ℕ) → mid ≡ old ++ (reason_line reason ++ 10 ∷ [])
+    → ((rs : List (List ℕ)) × AllByRecursion IsRemark rs × AreRemarksOf lines rs × (new ≡ mid ++ unlines rs)) → Shows lines (Some reason) old new
+shows_dropped lines reason old mid new e r = (
+  reason_line reason ∷ r.0,
+  (r.0, r.2, refl),
+  ((reason_remark reason).plain, remarks_plain r.0 r.1),
+  r.3 ∙ (ap (λ l. l ++ unlines r.0) e ∙ append_assoc old (reason_line reason ++ 10 ∷ []) (unlines r.0)),
+)
+
+pub shows_so : (lines : List (List ℕ)) (dropped : Option Reason) (reason : Reason) (old new : List ℕ) → dropped ≡ Some reason
+    → Shows lines (Some reason) old new → Shows lines dropped old new
+shows_so lines dropped reason old new e h = subst (λ (d : Option Reason). Shows lines d old new) (sym e) h
+
+shown_remarks : (lines : List (List ℕ)) (reason : Reason) (printed : List (List ℕ)) → Prints lines (Some reason) printed → AllByRecursion IsPlain printed
+    → AllByRecursion IsRemark printed
+shown_remarks lines reason printed h plain =
+    let mine : AllByRecursion IsPlain (reason_line reason ∷ h.0) = subst (AllByRecursion IsPlain) h.2 plain in
+    subst (AllByRecursion IsRemark) (sym h.2) (reason_remark reason, remarks_of lines h.0 h.1 mine.1)
 
 -- one more repair was tried and printed
 pub stands_tried : (first : Machine) (frames : List Shown) (a b : Machine) (lines : List (List ℕ)) (dropped : Option Reason) (old new : List ℕ)
@@ -205,7 +225,7 @@ stands_tried first frames a b lines None old new h shown s =
     stands_more first a b old new lines (subst (AllByRecursion IsPlain) shown.1 shown.2) h.obeyed
     (shown.3 ∙ ap (λ l. old ++ unlines l) shown.1) s
 stands_tried first frames a b lines (Some reason) old new h shown s =
-    stands_remarks first a b old new (shown.0, remarks_of lines shown.0 shown.1 shown.2, shown.3) h.0 s
+    stands_remarks first a b old new (shown.0, shown_remarks lines reason shown.0 shown.1 shown.2, shown.3) h.0 s
 
 -- all bytes of a script, if they are known
 pub read_whole : (known : Option (List ℕ)) (old new : List ℕ) → old ≡ [] → IfSome known (λ xs. new ≡ old ++ xs) → IfSome known (λ all. new ≡ all)

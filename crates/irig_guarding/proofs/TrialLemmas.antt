@@ -1,6 +1,6 @@
 -- Repairs that were tried, in their order, and one more.
-use Rattle.std.proofs.Common.{◌≡◌, ◌≢◌, ◌+◌, ◌-◌, ◌<◌, ◌≤◌, ◌++◌, ℕ, zero, suc, Bool, true, false, List, [], ◌∷◌, Option, Some, None, length, drop, take}
-use Rattle.std.proofs.Common.{get_or, map, refl, ap, sym, ◌∙◌, subst, inl, inr, arith, append_assoc, length-drop}
+use Rattle.std.proofs.Common.{◌≡◌, ◌≢◌, ◌+◌, ◌-◌, ◌<◌, ◌≤◌, ◌++◌, ℕ, zero, suc, Bool, true, false, List, [], ◌∷◌, Option, length, drop, take}
+use Rattle.std.proofs.Common.{get_or, refl, ap, sym, ◌∙◌, subst, inl, inr, arith, append_assoc, length-drop}
 use Rattle.std.specs.Prelude.{◌==◌, if◌then◌else◌, is_none}
 use Rattle.std.specs.List.{AllByRecursion}
 use Rattle.std.proofs.lemmas.List.{append-nil, drop-drop, drop_all, drop_more, get_or-drop, map-append, take-append-drop, take_all, take_more}
@@ -10,7 +10,7 @@ use Rattle.irig_script.specs.declared.obey.status.Status.TheVariants.{AllAccepte
 use Rattle.irig_script.specs.{Obey.Machine.Machine, Obey.Run.IsPlain, Obey.Run.unlines, declared.obey.status.Status.Status}
 use Rattle.irig_script.proofs.ObeyLemmas.Lines.{first_line, last_line}
 use Rattle.irig_guarding.specs.Trials.{IsClosing, IsCut, IsCutBefore, IsTried, IsTriedBefore, PrintsAll, Shows, Trial, Tries, TriesAll, proposed, status_of}
-use Rattle.irig_guarding.specs.{Reading.fine_frames, Repair.Asks, Repair.texts, declared.line.Line.Line, declared.reason.Reason.Reason}
+use Rattle.irig_guarding.specs.{Reading.fine_frames, Reasons.head_lines, Repair.Asks, Repair.texts, declared.line.Line.Line, declared.reason.Reason.Reason}
 use Rattle.irig_lines.specs.declared.command.Command.TheVariants as command
 use Rattle.irig_safety.specs.declared.shown.Shown.{Shown}
 use Rattle.irig_guarding.proofs.GuardLemmas.{all_plain, unlines-append}
@@ -50,10 +50,19 @@ status_then [] t = refl
 status_then (x ∷ xs) t = ap (λ s. if is_none x.dropped then s else SomeRefused) (status_then xs t)
     ∙ both_ways (is_none x.dropped) (is_none t.dropped) (status_of xs) SomeRefused
 
--- nothing was tried yet
-pub tried_none : (opened : Machine) (rest : List (List ℕ)) (script : List ℕ) → script ≡ [] → IsTriedBefore opened [] rest script AllAccepted opened
-tried_none opened rest script e =
-    record { trials = []; whole = refl; cut = tt; tried = refl; printed = []; shown = refl; text = e; status = refl }
+-- nothing was tried yet, and the head was printed
+pub tried_none : (opened : Machine) (frames : List Shown) (rest : List (List ℕ)) (script : List ℕ) → frames ≡ fine_frames opened.state
+    → script ≡ unlines (head_lines frames) → IsTriedBefore opened [] rest script AllAccepted opened
+tried_none opened frames rest script are e = record {
+  trials = [];
+  whole = refl;
+  cut = tt;
+  tried = refl;
+  printed = [];
+  shown = refl;
+  text = e ∙ (ap (λ l. unlines (head_lines l)) are ∙ ap unlines (sym (append-nil (head_lines (fine_frames opened.state)))));
+  status = refl;
+}
 
 -- one more repair
 pub tried_more : (opened : Machine) (lines front rest : List (List ℕ)) (old new : List ℕ) (status : Status) (a b : Machine) (dropped : Option Reason)
@@ -63,6 +72,7 @@ pub tried_more : (opened : Machine) (lines front rest : List (List ℕ)) (old ne
 tried_more opened lines front rest old new status a b dropped h cut tries shown =
     let one : Trial = record { lines = front; dropped = dropped } in
     let alone : proposed (one ∷ []) ≡ front = append-nil front in
+    let head = head_lines (fine_frames opened.state) in
     record {
       trials = h.trials ++ one ∷ [];
       whole = proposed-append h.trials (one ∷ []) ∙ (λ i. h.whole i ++ alone i);
@@ -70,7 +80,8 @@ tried_more opened lines front rest old new status a b dropped h cut tries shown 
       tried = tries_then (fine_frames opened.state) opened a b h.trials (one ∷ []) h.tried (b, tries, refl);
       printed = h.printed ++ shown.0;
       shown = prints_then h.trials (one ∷ []) h.printed shown.0 h.shown (shown.0, [], sym (append-nil shown.0), shown.1, refl);
-      text = shown.3 ∙ (ap (λ l. l ++ unlines shown.0) h.text ∙ sym (unlines-append h.printed shown.0));
+      text = shown.3 ∙ (ap (λ l. l ++ unlines shown.0) h.text ∙ (sym (unlines-append (head ++ h.printed) shown.0)
+          ∙ ap unlines (append_assoc head h.printed shown.0)));
       status = ap (λ s. if is_none dropped then s else SomeRefused) h.status ∙ sym (status_then h.trials one);
     }
 

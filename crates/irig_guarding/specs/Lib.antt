@@ -2,5 +2,6 @@ pub mod Guarded
 pub mod GuardedRun
 pub mod Meaning
 pub mod Reading
+pub mod Reasons
 pub mod Repair
 pub mod Trials

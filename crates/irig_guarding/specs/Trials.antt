@@ -15,7 +15,8 @@ use Rattle.irig_script.specs.declared.print.reply.Reply.TheVariants as told
 use Rattle.irig_guarding.specs.Repair.{Agrees, Asks, IsRepair, ObeyedAll}
 use Rattle.irig_guarding.specs.declared.reason.Reason.TheVariants.{NoRepair, NotSafe, OutOfMemory}
 use Rattle.irig_guarding.specs.declared.reason.Reason.TheVariants.{Refused}
-use Rattle.irig_guarding.specs.{Reading.fine_frames, declared.reason.Reason.Reason}
+use Rattle.irig_guarding.specs.{Reading.fine_frames, Reasons.head_lines, Reasons.reason_line}
+use Rattle.irig_guarding.specs.declared.reason.Reason.{Reason}
 use Rattle.irig_safety.specs.{Safety.IsSafe, Safety.NoneIsSpoiled, declared.shown.Shown.Shown}
 
 -- the line asks for a command of this kind
@@ -180,10 +181,12 @@ AreRemarksOf (line ∷ lines) (remark ∷ remarks) =
 AreRemarksOf [] (remark ∷ remarks) = ⊥
 AreRemarksOf (line ∷ lines) [] = ⊥
 
--- the lines that are printed of a repair: its own, or if it is dropped those as comments
+-- the lines that are printed of a repair: its own, or if it is dropped those as comments, after the
+-- reason
 abbrev pub Prints : List (List ℕ) → Option Reason → List (List ℕ) → Type 0
 Prints lines None printed = printed ≡ lines
-Prints lines (Some reason) printed = AreRemarksOf lines printed
+Prints lines (Some reason) printed = (remarks : List (List ℕ)) × AreRemarksOf lines remarks
+    × (printed ≡ reason_line reason ∷ remarks)
 
 -- they were printed, and none has a newline in it
 abbrev pub Shows : List (List ℕ) → Option Reason → List ℕ → List ℕ → Type 0
@@ -202,7 +205,7 @@ status_of [] = AllAccepted
 status_of (t ∷ trials) = if is_none t.dropped then status_of trials else SomeRefused
 
 -- lines of a script were cut into repairs before a rest of it, each was tried from the opened session
--- on, and this was printed
+-- on, and this was printed after the head
 pub record IsTriedBefore (opened : Machine) (lines rest : List (List ℕ)) (script : List ℕ)
     (reported : Status) (now : Machine) : Type 0 where
   pub trials : List Trial
@@ -211,7 +214,7 @@ pub record IsTriedBefore (opened : Machine) (lines rest : List (List ℕ)) (scri
   pub tried : TriesAll (fine_frames opened.state) opened trials now
   pub printed : List (List ℕ)
   pub shown : PrintsAll trials printed
-  pub text : script ≡ unlines printed
+  pub text : script ≡ unlines (head_lines (fine_frames opened.state) ++ printed)
   pub status : reported ≡ status_of trials
 
 -- a proposed script was cut into repairs, each was tried, and this was printed

@@ -1,20 +1,22 @@
 //! A proposed script, run repair by repair.
 
-ghost use Rattle.std.specs.Prelude.{◌≡◌, ◌<◌, ◌≤◌, ◌-◌, [], IfOk, None, OnOk, drop, is_none};
-ghost use Rattle.std.specs.Prelude.{length, take, if◌then◌else◌};
+ghost use Rattle.std.specs.Prelude.{◌≡◌, ◌<◌, ◌≤◌, ◌-◌, [], IfOk, None, OnOk, Some, drop};
+ghost use Rattle.std.specs.Prelude.{is_none, length, take, if◌then◌else◌};
 ghost use Rattle.irig_guarding.specs.Guarded.{IsGuarded, IsSafeAfter, Stands};
 ghost use Rattle.irig_guarding.specs.Trials.{IsCutBefore, IsTried, IsTriedBefore, Shows, Tries};
-ghost use Rattle.irig_guarding.specs.{Reading.fine_frames, Repair.texts};
+ghost use Rattle.irig_guarding.specs.{Reading.fine_frames, Reasons.head_lines, Repair.texts};
 ghost use Rattle.irig_safety.specs.Safety.{IsSafe};
+ghost use Rattle.irig_script.specs.Obey.Run.{unlines};
 ghost use Rattle.irig_script.specs.declared.obey.status.Status.TheVariants.{SomeRefused};
 
 use crate::commands::{are_remarks, begins, closes};
 use crate::line::Line;
 use crate::lines::lines_of;
 use crate::mending::take;
-use crate::printing::{put_lines, put_remarks};
+use crate::printing::{put_head, put_lines, put_remarks};
 use crate::reading::fine_frames;
 use crate::reason::Reason;
+use crate::reason_text::put_reason;
 use irig_edit::Session;
 use irig_safety::Shown;
 use irig_script::Status;
@@ -22,7 +24,8 @@ use std::alloc::{AllocError, Global};
 
 /// Runs a proposed script on a session repair by repair: an edit, or the lines from a `begin` to the
 /// next `end` or `abort`. A repair that is accepted and safe is kept and printed, as comments are;
-/// any other line is printed as a comment. Returns what is printed, and whether all was kept.
+/// any other line is printed as a comment, after the reason. Returns what is printed, and whether all
+/// was kept.
 pub fn guard(
     alloc: Global,
     session: &mut Session,
@@ -36,6 +39,7 @@ pub fn guard(
     let opened = fine_frames(alloc, session)?;
     let lines = lines_of(alloc, script)?;
     let mut out = Vec::new(alloc);
+    put_head(&mut out, opened.as_slice())?;
     let status = guard_lines(
         alloc,
         session,
@@ -56,7 +60,7 @@ fn guard_lines(
 ) -> Result<Status, AllocError>
     requires closed { session.old.floor ≡ None }
     requires opened { opened.now ≡ fine_frames session.old.state }
-    requires empty { out.old.items ≡ [] }
+    requires head { out.old.items ≡ unlines (head_lines opened.now) }
     ensures stands { OnOk result (Stands session.old out.new.items session.new) }
     ensures safe { OnOk result (IsSafeAfter session.old.state session.new.state) }
     ensures tried { IfOk result (λ status. IsTriedBefore session.old (texts lines.now) []
@@ -150,12 +154,20 @@ fn try_repair(
     }
 }
 
-/// Prints a repair: its lines, or if it was dropped those as comments.
+/// Prints a repair: its lines, or if it was dropped those as comments, after the reason.
 fn put_repair(out: &mut Vec<u8>, repair: &[Line], dropped: Option<Reason>) -> Result<(), AllocError>
     ensures { OnOk result (Shows (texts repair.now) dropped out.old.items out.new.items) }
 {
     match dropped {
         None => put_lines(out, repair),
-        Some(_) => put_remarks(out, repair),
+        Some(reason) => put_dropped(out, repair, reason),
     }
+}
+
+/// Prints why a repair was dropped, and its lines as comments.
+fn put_dropped(out: &mut Vec<u8>, repair: &[Line], reason: Reason) -> Result<(), AllocError>
+    ensures { OnOk result (Shows (texts repair.now) (Some reason) out.old.items out.new.items) }
+{
+    put_reason(out, reason)?;
+    put_remarks(out, repair)
 }

@@ -12,6 +12,7 @@ mod printing;
 mod product;
 mod reading;
 mod reason;
+mod reason_text;
 mod run;
 
 pub use law::{printed_scripts_are_obeyed, safe_states_are_kept_or_borne_out};

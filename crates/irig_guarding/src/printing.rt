@@ -3,12 +3,14 @@
 ghost use Rattle.std.specs.Prelude.{◌≡◌, ◌++◌, ◌∷◌, [], ℕ, List, OnOk};
 ghost use Rattle.std.specs.List.{AllByRecursion};
 ghost use Rattle.irig_guarding.specs.Trials.{AreRemarksOf, IsRemarkOf};
-ghost use Rattle.irig_guarding.specs.{Guarded.IsRemark, Repair.Asks, Repair.texts};
+ghost use Rattle.irig_guarding.specs.{Guarded.IsRemark, Reasons.head_lines, Repair.Asks};
+ghost use Rattle.irig_guarding.specs.Repair.{texts};
 ghost use Rattle.irig_lines.specs.declared.command.Command.TheVariants as command;
 ghost use Rattle.irig_script.specs.Obey.Run.{IsPlain, unlines};
 
 use crate::commands::is_comment;
 use crate::line::Line;
+use irig_safety::Shown;
 use std::alloc::AllocError;
 
 /// How many bytes of a line a comment keeps.
@@ -21,6 +23,20 @@ fn put_line(out: &mut Vec<u8>, line: &[u8]) -> Result<(), AllocError>
     out.extend_from_slice(line)?;
     out.push(b'\n')?;
     Ok(())
+}
+
+/// Prints first that there is nothing to go by, if no frame of the recording reads well.
+pub fn put_head(out: &mut Vec<u8>, opened: &[Shown]) -> Result<(), AllocError>
+    ensures { OnOk result (out.new.items ≡ out.old.items ++ unlines (head_lines opened.now)) }
+{
+    if opened.is_empty() {
+        put_line(
+            out,
+            b"# nothing to go by: no frame of the recording is fine",
+        )
+    } else {
+        Ok(())
+    }
 }
 
 /// Prints lines.

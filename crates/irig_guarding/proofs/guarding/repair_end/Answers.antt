@@ -1,6 +1,4 @@
-use Rattle.std.proofs.Common.{◌≡◌, ◌∙◌, ◌+◌, ◌-◌, ◌≤◌, ℕ, List, true, false, arith, drop, length, refl, subst, sym, take}
-use Rattle.std.specs.List.{AllByRecursion}
-use Rattle.irig_guarding.specs.{Repair.texts, Trials.IsClosing}
+use Rattle.std.proofs.Common.{◌≡◌, ◌∙◌, ◌+◌, ◌-◌, true, false, arith, length, refl, sym}
 use Rattle.irig_guarding.proofs.TrialLemmas.{cut_closed, cut_line, cut_open, unclosed_more, unclosed_none}
 use Rattle.irig_guarding.proofs.guarding.repair_end.Goals as goal
 

@@ -1,4 +1,3 @@
-use Rattle.std.proofs.Common.{take_all, ◌∙◌, sym}
 use Rattle.irig_guarding.proofs.TrialLemmas.{lines_read}
 use Rattle.irig_guarding.proofs.lines.lines_of.Goals as goal
 

@@ -2,7 +2,7 @@ use Rattle.std.proofs.Common.{◌≡◌, ◌++◌, ◌∷◌, [], ◌≤◌, ◌
 use Rattle.std.specs.Prelude.{min}
 use Rattle.std.proofs.lemmas.List.{take_min}
 use Rattle.irig_script.specs.Obey.Run.{IsPlain}
-use Rattle.irig_guarding.proofs.GuardLemmas.{front_remark, on_ok, plain_take}
+use Rattle.irig_guarding.proofs.{GuardLemmas.on_ok, GuardLemmas.plain_take, ReasonLemmas.front_remark}
 use Rattle.irig_guarding.proofs.printing.put_front.Goals as goal
 
 pub returns : goal.returns

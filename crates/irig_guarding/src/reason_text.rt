@@ -1,0 +1,60 @@
+//! Why a repair is not kept, as a comment.
+
+ghost use Rattle.std.specs.Prelude.{◌≡◌, ◌++◌, ◌∷◌, [], OnOk};
+ghost use Rattle.irig_guarding.specs.Reasons.{reason_line, reason_text, refusal_name};
+
+use crate::reason::Reason;
+use irig_edit::Refusal;
+use std::alloc::AllocError;
+
+/// Prints why a repair is not kept.
+pub fn put_reason(out: &mut Vec<u8>, reason: Reason) -> Result<(), AllocError>
+    ensures { OnOk result (out.new.items ≡ out.old.items ++ (reason_line reason ++ 10 ∷ [])) }
+{
+    out.extend_from_slice(b"# not kept: ")?;
+    put_text(out, reason)?;
+    out.push(b'\n')?;
+    Ok(())
+}
+
+/// Prints the reason itself.
+fn put_text(out: &mut Vec<u8>, reason: Reason) -> Result<(), AllocError>
+    ensures { OnOk result (out.new.items ≡ out.old.items ++ reason_text reason) }
+{
+    match reason {
+        Reason::NoRepair => out.extend_from_slice(b"not a repair"),
+        Reason::Refused(why) => put_refusal(out, why),
+        Reason::OutOfMemory => out.extend_from_slice(b"memory ran out"),
+        Reason::NotSafe => out.extend_from_slice(b"the result would not be safe"),
+    }
+}
+
+/// Prints what the editor refuses.
+fn put_refusal(out: &mut Vec<u8>, why: Refusal) -> Result<(), AllocError>
+    ensures { OnOk result (out.new.items ≡ out.old.items ++ reason_text (Reason.Refused why)) }
+{
+    out.extend_from_slice(b"refused: ")?;
+    out.extend_from_slice(refusal_name(why))
+}
+
+/// Number and name of a refusal, as the editor answers it.
+fn refusal_name(why: Refusal) -> &'static [u8]
+    ensures { result.now ≡ refusal_name why }
+{
+    match why {
+        Refusal::OutOfRange => b"E1 OutOfRange",
+        Refusal::NoPulse => b"E2 NoPulse",
+        Refusal::Touching => b"E3 Touching",
+        Refusal::NotInside => b"E4 NotInside",
+        Refusal::TooMany => b"E5 TooMany",
+        Refusal::BadExpression => b"E6 BadExpression",
+        Refusal::BadTime => b"E7 BadTime",
+        Refusal::BadControl => b"E8 BadControl",
+        Refusal::NothingToUndo => b"E9 NothingToUndo",
+        Refusal::NothingToRedo => b"E10 NothingToRedo",
+        Refusal::OutOfMemory => b"E11 OutOfMemory",
+        Refusal::GroupOpen => b"E12 GroupOpen",
+        Refusal::NoGroup => b"E13 NoGroup",
+        Refusal::GroupFloor => b"E14 GroupFloor",
+    }
+}
