@@ -2,7 +2,7 @@
 use Rattle.std.proofs.Common.{◌≡◌, ◌≢◌, ◌⊎◌, inl, inr, ⊎_elim, refl, sym, ◌∙◌, ap, subst, ℕ, List, [], ◌∷◌, ◌++◌, append_assoc, Option, Some, None, Result, Ok}
 use Rattle.std.proofs.Common.{Err, OnOk, OnErr, IfOk, IfErr, IsErrOf, MatchOption}
 use Rattle.irig_disk.specs.declared.fault.PutFault.TheVariants.{Memory, NamesTaken, Failed, LeftBehind, Remains, NotKept}
-use Rattle.irig_disk.specs.Put.{TriesNone, TriesOne, OldOrNew, OldOrNewIfThere, OldIfThere, SeenSame, SeenSameIfThere, AfterFault, SeenAfter, left_by, IsPut}
+use Rattle.irig_disk.specs.Put.{TriesOne, OldOrNew, OldOrNewIfThere, OldIfThere, SeenSame, SeenSameIfThere, AfterFault, SeenAfter, left_by, IsPut}
 use Rattle.irig_disk.specs.Put.{IsKept}
 use Rattle.irig_disk.specs.Writing.{IsUnchanged, NotBegun, NotFinished, SeenUnfinished, IsBeside, IsWriting, IsPlaced, IsStuck}
 use Rattle.irig_disk.specs.{declared.fault.PutFault.PutFault, Disk.Disk, Disk.IsPlace, Disk.seen_under, Disk.MayLeave, Disk.Elapses, Disk.LeavesOnly, Held.Held}
