@@ -19,7 +19,7 @@ def misread(faults: Faults) -> List[Item]:
         for marker in _markers(faults, zone):
             other = _other(faults, zone, marker)
             if other is not None:
-                found.append(_broken(faults, _place(zone, other), marker, other))
+                found.append(_broken(faults, _place_by_count(zone, other), marker, other))
     return found
 
 
@@ -32,7 +32,7 @@ def _markers(faults: Faults, zone: Zone) -> List[PulseIndex]:
     return [pulse for pulse in near if classes[pulse - 1] == "P" and READABLE.fullmatch(classes, pulse, pulse + 100)]
 
 
-def _place(zone: Zone, pulse: PulseIndex) -> PlaceNumber:
+def _place_by_count(zone: Zone, pulse: PulseIndex) -> PlaceNumber:
     """Its place if nothing were missing."""
     assert zone.left
     return PlaceNumber(zone.left.place + pulse - zone.left.first)
@@ -40,7 +40,7 @@ def _place(zone: Zone, pulse: PulseIndex) -> PlaceNumber:
 
 def _other(faults: Faults, zone: Zone, marker: PulseIndex) -> Optional[PulseIndex]:
     """The first pulse, in a frame that shows a time, that is not of the time that its neighbours lead to."""
-    text, number = faults.track.classes[marker:marker + 100], frame_of(_place(zone, marker))
+    text, number = faults.track.classes[marker:marker + 100], frame_of(_place_by_count(zone, marker))
     moment = faults.times.moment(number)
     if faults.layout.decode(text) is None or moment is None:
         return None

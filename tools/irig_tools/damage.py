@@ -7,7 +7,7 @@ from typing import List, Sequence, Tuple
 from . import limits
 from .analysis import START, Findings, Part, looks
 from .editor import Editor, Listing, Progress
-from .faults import Faults, numbered
+from .faults import Faults, pulses_text
 from .interval import Clock
 from .script import Repair
 from .units import Microseconds, PlaceNumber, PulseIndex, frame_of
@@ -28,7 +28,7 @@ class Damage:
     is_remark: bool = False  # it is named, and no damage
 
     def line(self) -> str:
-        pulses = [numbered(self.pulses[0], self.pulses[-1])] if self.pulses else []
+        pulses = [pulses_text(self.pulses[0], self.pulses[-1])] if self.pulses else []
         names = [self.name, *pulses] if self.name else ["remark"] if self.is_remark else pulses
         return "%d %s%s" % (self.at, ", ".join(names) + ": " if names else "", self.seen)
 
@@ -79,7 +79,7 @@ def _of_clock(clock: Clock) -> List[Damage]:
     if abs(off) >= limits.DRIFT:
         way = "slow" if off > 0 else "fast"
         said.append("the clock is %.2f %% %s: pulses come every %.1f microseconds, not every %d%s" % (
-            abs(100 * off), way, clock.interval, clock.nominal, _range(clock)))
+            abs(100 * off), way, clock.interval, clock.nominal, _extremes(clock)))
     if clock.noise >= limits.TREMBLE * clock.nominal:
         said.append("rises tremble: half of all distances are off by more than %d microseconds, %.1f %% of the interval, and "
                     "a step of less than %d does not show" % (
@@ -87,7 +87,7 @@ def _of_clock(clock: Clock) -> List[Damage]:
     return [Damage(START, clock.rises[-1], THE_WHOLE, seen) for seen in said]
 
 
-def _range(clock: Clock) -> str:
+def _extremes(clock: Clock) -> str:
     """The least and the largest interval, if they differ."""
     local = [each for run in clock.runs for each in (run.begin_interval, run.end_interval) if each]
     if not local or max(local) - min(local) < limits.DRIFT * clock.nominal:

@@ -11,7 +11,7 @@ from typing import IO, Callable, List, Optional, Sequence, Set
 from .units import Microseconds
 
 CLASSES = {b"zero": "0", b"one": "1", b"position": "P", b"bad": "b"}
-BLOCK = 1 << 22  # bytes that are read at once
+ANSWER_BLOCK = 1 << 22  # bytes that are read at once
 
 Progress = Callable[[str], None]
 
@@ -134,7 +134,7 @@ def _read_answers(answers: IO[bytes], listing: Listing, blocks: int) -> Optional
 def _read_pulses(answers: IO[bytes], listing: Listing) -> None:
     blocks = []
     while True:
-        words = (answers.read(BLOCK) + answers.readline()).split()
+        words = (answers.read(ANSWER_BLOCK) + answers.readline()).split()
         if not words or words[0] == b"?":
             break
         try:

@@ -26,7 +26,7 @@ class Remark:
         return "undecided: at %d: %s%s" % (self.at, self.seen, "; " + self.choice if self.choice else "")
 
 
-def numbered(first: PulseIndex, last: PulseIndex) -> str:
+def pulses_text(first: PulseIndex, last: PulseIndex) -> str:
     """Pulses as their users know them."""
     return "pulse %d" % number_of(first) if first == last else "pulses %d to %d" % (number_of(first), number_of(last))
 
@@ -173,7 +173,7 @@ class Faults:
         pulses = self.track.pulses_at(place)
         if not pulses:
             return "%s, at %d" % (self.name(place), self.track.rise_at(place))
-        return "%s, %s" % (self.name(place), numbered(pulses[0], pulses[-1]))
+        return "%s, %s" % (self.name(place), pulses_text(pulses[0], pulses[-1]))
 
     def reason(self, place: PlaceNumber) -> str:
         """Why this class has to be there."""

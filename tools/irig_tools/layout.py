@@ -10,7 +10,7 @@ PERIOD = {"A": 10, "B": 100, "E": 1000, "G": 1}  # hundredths of a second from f
 POSITIONS = (0, 9, 19, 29, 39, 49, 59, 69, 79, 89, 99)
 SHARE = {"0": 0.2, "1": 0.5, "P": 0.8}  # nominal widths, in intervals
 NAMES = {"0": "zero", "1": "one", "P": "position", "b": "bad"}
-MOST = {"hundredths": 99, "seconds": 60, "minutes": 59, "hours": 23, "days": 366, "year": 99, "binary": 86400}
+LARGEST_IN = {"hundredths": 99, "seconds": 60, "minutes": 59, "hours": 23, "days": 366, "year": 99, "binary": 86400}
 CONTROL = {"A": (50, 60, 70), "B": (50, 60, 70), "E": (50, 60, 70, 80, 90), "G": (60, 70, 80, 90)}
 READABLE = re.compile("P[01]{8}P(?:[01]{9}P){9}")
 DECIMAL = (1, 2, 4, 8, 10, 20, 40, 80, 100, 200)
@@ -78,7 +78,7 @@ class Layout:
         if not set(self._carried_of(text)) <= {"0", "1"}:
             return None
         told = {name: self.value(name, text) for name in self.fields}
-        if not told["days"] or not all(0 <= value <= MOST[name] for name, value in told.items()):
+        if not told["days"] or not all(0 <= value <= LARGEST_IN[name] for name, value in told.items()):
             return None
         if told["seconds"] == 60 and (told["minutes"], told["hours"]) != (59, 23):
             return None

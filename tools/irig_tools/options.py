@@ -59,6 +59,7 @@ EDITOR = (WIRE, FORMAT, EXPRESSION)  # those of irig_ed
 TIMESCALE = Option("--timescale", "UNIT", "the unit of time, as 1ns, instead of the one in the dump")
 JSON = Option("--json", about="prints an object in JSON for each, one a line")
 QUIET = Option("--quiet", about="prints nothing; the status says it")
+OUTPUT = Option("--out", "FILE", "the file to write, whole or not at all, instead of standard output", a_file)
 DUMP = Option("--dump", "N", "of several dumps in the file, the one with this number", whole(1))
 
 

@@ -19,14 +19,14 @@ def sheet_of(name: str, seen: Seen, script: Sequence[Repair] = (), after: Option
     """The data of a recording; `after` is the listing after the script."""
     layout = seen.findings.layout
     notes = [each for each in seen.damages if each.is_remark or each.name == "the whole recording"]
-    places = [_place(seen, each, script, after) for each in seen.damages if each not in notes]
+    places = [_place_of_damage(seen, each, script, after) for each in seen.damages if each not in notes]
     lines = tuple(line for repair in script for line in repair.lines())
     kind = "%s %d" % (layout.kind, layout.expression)
     said = tuple(each.seen for each in notes)
     return Sheet(name, seen.listing.length, layout.interval, kind, _stretches(seen), tuple(places), lines, said)
 
 
-def _place(seen: Seen, damage: Damage, script: Sequence[Repair], after: Optional[Listing]) -> Place:
+def _place_of_damage(seen: Seen, damage: Damage, script: Sequence[Repair], after: Optional[Listing]) -> Place:
     around, until = AROUND * seen.findings.layout.interval, max(damage.until, damage.at)
     start, end = max(0, damage.at - around), min(seen.listing.length, until + around)
     repairs = [each for each in script if each.touches(damage.at, damage.at)]
@@ -42,11 +42,11 @@ def _place(seen: Seen, damage: Damage, script: Sequence[Repair], after: Optional
 
 
 def _stretches(seen: Seen) -> Tuple[Stretch, ...]:
-    found = [stretch for part in reversed(seen.findings.parts) for stretch in _of_part(part)]
+    found = [stretch for part in reversed(seen.findings.parts) for stretch in _frame_stretches(part)]
     return merged(found) if found else (Stretch(0, seen.listing.length, DAMAGED),)
 
 
-def _of_part(part: Part) -> Iterator[Stretch]:
+def _frame_stretches(part: Part) -> Iterator[Stretch]:
     """A stretch for each frame."""
     track, done = part.track, part.track.rise_at(part.track.first)
     empty = Counter(frame_of(place) for place in part.faults.wanted if not track.pulses_at(place))

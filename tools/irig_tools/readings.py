@@ -10,7 +10,7 @@ from typing import IO, Dict, Iterator, List, Optional, Sequence, Set
 from .editor import Problem, find_editor, info_of
 
 EXPRESSIONS = {"A": range(8), "B": range(8), "E": (1, 2, 5, 6), "G": (1, 2, 5, 6)}
-SECONDS = (0, 3, 4, 7)  # expressions with straight binary seconds
+BINARY_SECONDS = (0, 3, 4, 7)  # expressions with straight binary seconds
 YEARS = (4, 5, 6, 7)  # with the year
 CONTROLS = (0, 1, 4, 5)  # with control functions
 
@@ -118,7 +118,7 @@ def best(rows: Sequence[Reading]) -> Reading:
     if not most:
         return next(row for row in rows if row.expression == 2)
     left = [row for row in rows if row.fine == most]
-    with_seconds = [row for row in left if row.expression in SECONDS]
+    with_seconds = [row for row in left if row.expression in BINARY_SECONDS]
     left = with_seconds or left
     dated = [row for row in left if 0 < len(row.years) < 3 and row.years != {"00"}]
     plain = [row for row in left if row.expression not in YEARS]

@@ -7,7 +7,7 @@ from typing import Iterator, List, Sequence
 
 from . import limits
 from .copies import copy_between, without_copy
-from .edit import lines_of, moved_from
+from .edit import moved_from, script_lines
 from .faults import Faults, Remark
 from .frames import Times
 from .interval import Run
@@ -17,7 +17,7 @@ from .units import FrameNumber, PlaceNumber, PulseIndex, frame_of, number_of
 from .zones import Zone
 
 RECORDER = "that is left: if the recorder slipped, all its wires did, and these times are right"
-ALONE = "; if the time code alone slipped, irig_mend --move moves it, or after this script "
+CODE_ALONE = "; if the time code alone slipped, irig_mend --move moves it, or after this script "
 
 
 class Step:
@@ -60,7 +60,7 @@ class Step:
 
     def _edits(self) -> List[str]:
         """The lines that move the rest back; none if it does not fit the recording."""
-        return lines_of(moved_from(self.at, -self.late)) if has_room(self.track, self.late) else []
+        return script_lines(moved_from(self.at, -self.late)) if has_room(self.track, self.late) else []
 
 
 def rest_comes(pulse: PulseIndex, at: int, late: int) -> str:
@@ -74,7 +74,7 @@ def has_room(track: Track, late: float) -> bool:
 
 def _choice(edits: List[str]) -> str:
     """Both ways to see it, and the lines of the second; none if there is no room."""
-    return RECORDER + (ALONE + "; ".join(edits) if edits else "")
+    return RECORDER + (CODE_ALONE + "; ".join(edits) if edits else "")
 
 
 def step_zones(track: Track) -> List[Zone]:

@@ -13,7 +13,7 @@ from .dump_source import Source
 from .dump_units import MICROSECOND, Unit, unit_of
 from .editor import Problem
 
-LONGEST = 1 << 40  # microseconds that the editor reads
+LONGEST_TIME = 1 << 40  # microseconds that the editor reads
 MOST_BYTES = 1 << 28
 MOST_EDGES = 1 << 23
 LINES = 1 << 14  # that are written at once
@@ -45,7 +45,7 @@ class Report:
 
 def first_of(body: Body, unit: Unit) -> int:
     """What is subtracted from all times if nobody says it: the first time, if it is too late for the editor."""
-    limit = LONGEST * MICROSECOND // (unit.femtoseconds * unit.factor)
+    limit = LONGEST_TIME * MICROSECOND // (unit.femtoseconds * unit.factor)
     return body.begun if body.begun > limit else 0
 
 
@@ -209,7 +209,7 @@ class Extract:
         report = self.report
         report.length = writer.at * writer.unit.femtoseconds // MICROSECOND
         report.edges, report.size = writer.edges, writer.size
-        most = ("microseconds", report.length, LONGEST), ("edges", report.edges, MOST_EDGES), (
+        most = ("microseconds", report.length, LONGEST_TIME), ("edges", report.edges, MOST_EDGES), (
             "bytes", report.size, MOST_BYTES)
         for what, has, limit in most:
             if has > limit:
