@@ -10,7 +10,7 @@ from .editor import Editor, Listing, Progress
 from .faults import Faults, pulses_text
 from .interval import Clock
 from .script import Repair
-from .units import Microseconds, PlaceNumber, PulseIndex, frame_of
+from .units import Microseconds, PlaceNumber, PulseIndex, frame_of, plus
 
 THE_WHOLE = "the whole recording"
 NO_FRAME = "pulses that belong to no frame"
@@ -128,9 +128,9 @@ def _of_places(faults: Faults, group: Sequence[PlaceNumber]) -> List[Damage]:
 
 def _of_stretch(faults: Faults, group: Sequence[PlaceNumber], name: str, seen: str) -> Damage:
     pulses = faults.track.pulses_of(group)
-    until = faults.track.rise_at(group[-1]) + round(faults.clock.interval)
+    until = plus(faults.track.rise_at(group[-1]), round(faults.clock.interval))
     ends = (pulses[0], pulses[-1]) if pulses else ()
-    return Damage(faults.track.rise_at(group[0]), Microseconds(until), name, seen, ends)
+    return Damage(faults.track.rise_at(group[0]), until, name, seen, ends)
 
 
 def _of_ends(listing: Listing, first: Part, last: Part) -> List[Damage]:
@@ -138,10 +138,10 @@ def _of_ends(listing: Listing, first: Part, last: Part) -> List[Damage]:
     rises, found, many = listing.rises, [], len(listing.rises)
     before = min(pulse for pulses in first.track.zones[0].pulses.values() for pulse in pulses)
     after = max(pulse for pulses in last.track.zones[-1].pulses.values() for pulse in pulses)
-    before = PulseIndex(before - (before == 1 and rises[0] == 0))  # cut by the beginning
-    beyond = PulseIndex(after + 1 + (after == many - 2 and listing.falls[-1] == listing.length))  # cut by the end
+    before = plus(before, -(before == 1 and rises[0] == 0))  # cut by the beginning
+    beyond = plus(after, 1 + (after == many - 2 and listing.falls[-1] == listing.length))  # cut by the end
     if before:
-        found.append(Damage(rises[0], rises[before], "", NO_FRAME, (PulseIndex(0), PulseIndex(before - 1))))
+        found.append(Damage(rises[0], rises[before], "", NO_FRAME, (PulseIndex(0), plus(before, -1))))
     if beyond < many:
         found.append(Damage(rises[beyond], listing.length, "", NO_FRAME, (beyond, PulseIndex(many - 1))))
     return found

@@ -9,7 +9,7 @@ from .editor import Listing
 from .frames import Times
 from .interval import Clock
 from .layout import NAMES
-from .units import FrameNumber, PlaceNumber, number_of
+from .units import FrameNumber, number_of, plus
 
 
 def explained(listing: Listing, findings: Findings) -> List[str]:
@@ -63,7 +63,7 @@ def _place_lines(part: Part) -> Iterator[str]:
     """What is wanted at each faulty place; those without a pulse one after the other are one line."""
     faults, track, lost = part.faults, part.track, ""
     for place, name in sorted(faults.wanted.items()):
-        after = PlaceNumber(place + 1)
+        after = plus(place, 1)
         lost += name
         if track.pulses_at(place):
             guess = ", a guess" if place in faults.guesses else ""
@@ -71,6 +71,6 @@ def _place_lines(part: Part) -> Iterator[str]:
                 place, track.rise_at(place), faults.seen(place), NAMES[name], guess)
             lost = ""
         elif after not in faults.wanted or track.pulses_at(after):
-            first = PlaceNumber(after - len(lost))
+            first = plus(after, -len(lost))
             yield "places %d to %d, from %d on: no pulse; wanted are %s" % (first, place, track.rise_at(first), lost)
             lost = ""

@@ -10,7 +10,7 @@ from .frames import Times
 from .layout import NAMES, POSITIONS, READABLE, SHARE
 from .texts import counted
 from .track import Track
-from .units import FrameNumber, Microseconds, PlaceNumber, PulseIndex, frame_of, number_of, place_in, places
+from .units import FrameNumber, Microseconds, PlaceNumber, PulseIndex, frame_of, number_of, place_in, plus, through
 
 
 @dataclass
@@ -151,7 +151,7 @@ class Faults:
         """For how many microseconds the level is not that of the target, within its interval."""
         begin = self.track.rise_at(place)
         end, fall = begin + round(limits.INTERVAL_SEEN * self.clock.interval), begin + self.width(target)
-        nearby = places(self.track.within(place - 3), self.track.within(place + 1))
+        nearby = through(self.track.within(plus(place, -3)), self.track.within(plus(place, 1)))
         high = both = 0
         for pulse in self.track.pulses_of(nearby):
             low, top = max(begin, self.rises[pulse]), min(end, self.falls[pulse])

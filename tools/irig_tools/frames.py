@@ -14,7 +14,7 @@ from .spans import Bases, Span, fit
 from .splices import spliced
 from .steadiness import Steadiness
 from .track import Track
-from .units import Base, FrameNumber, Hundredths, frame_of
+from .units import Base, FrameNumber, Hundredths, frame_of, plus
 from .votes import Votes
 
 
@@ -82,7 +82,7 @@ class Times(Votes):
 
     def turns_at(self, number: FrameNumber) -> bool:
         """Whether the frames on both sides of this one lead to different times."""
-        before, after = (self.bases.get(FrameNumber(each)) for each in (number - 1, number + 1))
+        before, after = (self.bases.get(plus(number, by)) for by in (-1, 1))
         return None not in (before, after) and before != after
 
     def _agreed(self, numbers: Sequence[FrameNumber]) -> Optional[Base]:

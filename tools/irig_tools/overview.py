@@ -5,12 +5,12 @@ from collections import Counter
 from typing import Iterator, Optional, Sequence, Tuple
 
 from .analysis import Part
-from .damage import Damage, Seen
+from .damage import THE_WHOLE, Damage, Seen
 from .editor import Listing
 from .script import Repair
 from .sheet import DAMAGED, LOST, SOUND, Place, Sheet, Stretch, Wave, cut, merged
 from .steps import cut_by_a_step
-from .units import frame_of
+from .units import frame_of, place_in
 
 AROUND = 4  # intervals that are shown on both sides of a place
 
@@ -18,7 +18,7 @@ AROUND = 4  # intervals that are shown on both sides of a place
 def sheet_of(name: str, seen: Seen, script: Sequence[Repair] = (), after: Optional[Listing] = None) -> Sheet:
     """The data of a recording; `after` is the listing after the script."""
     layout = seen.findings.layout
-    notes = [each for each in seen.damages if each.is_remark or each.name == "the whole recording"]
+    notes = [each for each in seen.damages if each.is_remark or each.name == THE_WHOLE]
     places = [_place_of_damage(seen, each, script, after) for each in seen.damages if each not in notes]
     lines = tuple(line for repair in script for line in repair.lines())
     kind = "%s %d" % (layout.kind, layout.expression)
@@ -53,7 +53,7 @@ def _frame_stretches(part: Part) -> Iterator[Stretch]:
     damaged = {*map(frame_of, part.faults.wanted), *cut_by_a_step(track)}
     undecided = [remark.at for remark in part.remarks + part.faults.remarks]
     for number in track.frames():
-        start, end = (track.rise_at(track.within(100 * each)) for each in (number, number + 1))
+        start, end = (track.rise_at(track.within(place_in(number, element))) for element in (0, 100))
         is_damaged = number in damaged or any(start <= at < end for at in undecided)
         start = max(start, done)
         if start < end:

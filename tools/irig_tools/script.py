@@ -26,7 +26,7 @@ class Repair:
         """Its edits, by which it is known."""
         return "\n".join(self.edits)
 
-    def touches(self, begin: int, end: int) -> bool:
+    def touches(self, begin: Microseconds, end: Microseconds) -> bool:
         return self.at <= end and begin <= max(self.at, self.until)
 
     def lines(self) -> List[str]:

@@ -9,7 +9,7 @@ from typing import Callable, Dict, Iterator, List, NamedTuple, Optional, Sequenc
 from . import limits
 from .interval import Clock, Run
 from .phases import Marks, Usual, tells_phase
-from .units import PlaceNumber
+from .units import PlaceNumber, plus
 
 # what a phase costs, the phase of the run before, the elements between, how late it comes
 Choice = Tuple[float, Optional[int], int, float]
@@ -229,7 +229,7 @@ def link(clock: Clock, runs: List[Run], unused: Sequence[int]) -> Linked:
     found = way.runs[:1]
     for run in way.runs[1:]:
         run = _glued(clock, run)
-        found.append(replace(run, place=PlaceNumber(found[-1].last_place + run.step)))
+        found.append(replace(run, place=plus(found[-1].last_place, run.step)))
     return Linked(way.cost, found)
 
 

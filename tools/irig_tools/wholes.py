@@ -10,7 +10,7 @@ from .edit import Edit, moved_from, moved_rest
 from .edits import Item
 from .faults import Faults, Remark
 from .steps import has_room, rest_comes
-from .units import Base, FrameNumber, Microseconds, PlaceNumber, frame_of, place_in, places
+from .units import Base, FrameNumber, Microseconds, PlaceNumber, frame_of, place_in, plus, through
 from .zones import Zone
 
 
@@ -36,7 +36,7 @@ def shift(faults: Faults, zone: Zone) -> Item:
     why = rest_comes(zone.border, at, late)
     if between:
         why += ", and %d elements before it are missing or damaged" % between
-    if late > 0 and any(place in faults.wanted for place in places(zone.first, zone.border_place - 1)):
+    if late > 0 and any(place in faults.wanted for place in through(zone.first, plus(zone.border_place, -1))):
         # what is before it is repaired first, and that may change the numbers of pulses
         return Item(zone.first - 0.5, zone.border_place - 0.5, moved_from(at, -late), why)
     return Item(zone.border_place - 0.5, zone.border_place - 0.5, [moved_rest(zone.border, -late)], why)
@@ -63,7 +63,7 @@ def _control_of(faults: Faults, number: FrameNumber) -> int:
 
 def _can_generate(faults: Faults, number: FrameNumber) -> bool:
     """Whether `regen` of a frame takes away nothing but its damage."""
-    track, own, moment = faults.track, places(place_in(number), place_in(number, 99)), faults.times.moment(number)
+    track, own, moment = faults.track, through(place_in(number), place_in(number, 99)), faults.times.moment(number)
     if own[0] < track.first or own[-1] > track.last or faults.clock.interval != faults.layout.interval:
         return False
     lost = sum(place in faults.wanted for place in own)
@@ -85,7 +85,7 @@ def _stands_alone(faults: Faults, own: List[PlaceNumber], begin: Microseconds) -
     before, after = bisect_left(faults.rises, begin) - 1, bisect_left(faults.rises, end)
     if before >= 0 and (faults.falls[before] >= begin or before in track.pulses_at(own[0])):
         return False
-    return own[-1] == track.last or after <= min(track.pulses_at(PlaceNumber(own[-1] + 1)), default=after)
+    return own[-1] == track.last or after <= min(track.pulses_at(plus(own[-1], 1)), default=after)
 
 
 def _as_generated(faults: Faults, place: PlaceNumber, begin: Microseconds) -> bool:
@@ -133,7 +133,7 @@ def lost_frames(faults: Faults) -> List[Item]:
 
 
 def _generate(faults: Faults, frames: _Frames) -> Item:
-    own = places(place_in(frames.number), place_in(frames.number) + 100 * frames.many - 1)
+    own = through(place_in(frames.number), place_in(frames.number, 100 * frames.many - 1))
     lost = {place: faults.wanted[place] for place in own if place in faults.wanted}
     moment = faults.times.moment(frames.number)
     assert moment is not None
