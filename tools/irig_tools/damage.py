@@ -8,6 +8,7 @@ from . import limits
 from .analysis import START, Findings, Part, looks
 from .editor import Editor, Listing, Progress
 from .faults import Faults, pulses_text
+from .grouping import grouped
 from .interval import Clock
 from .script import Repair
 from .units import Microseconds, PlaceNumber, PulseIndex, frame_of, plus
@@ -97,14 +98,8 @@ def _extremes(clock: Clock) -> str:
 
 def _of_part(part: Part) -> List[Damage]:
     """Its faulty places; those one after the other are a group."""
-    found: List[Damage] = []
-    group: List[PlaceNumber] = []
-    for place in sorted(part.faults.wanted):
-        if group and place != group[-1] + 1:
-            found += _of_places(part.faults, group)
-            group = []
-        group.append(place)
-    return found + (_of_places(part.faults, group) if group else [])
+    groups = grouped(sorted(part.faults.wanted), lambda before, place: place != before + 1)
+    return [each for group in groups for each in _of_places(part.faults, group)]
 
 
 def _of_places(faults: Faults, group: Sequence[PlaceNumber]) -> List[Damage]:

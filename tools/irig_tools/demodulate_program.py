@@ -9,7 +9,7 @@ from .carrier import CARRIERS, Carrier
 from .command import run
 from .ending import ALL_RIGHT, FOUND, Usage, complain
 from .layout import INTERVAL
-from .levels import Levels, Negative
+from .levels import Levels
 from .options import OUTPUT, Command, Given, Option, whole
 from .output import check_apart, output
 from .samples import RAW, Samples
@@ -63,11 +63,6 @@ ADVICE = {Carrier: "if the code is not on a carrier but a level, use --level",
           Steps: "the column has no 1; --column names another"}
 
 
-def samples_of(given: Given, swapped: bool) -> Samples:
-    kind = Negative if swapped else Samples
-    return kind(given.names[0], given.number(CHANNEL) or 1, given.text(KIND) or "", given.number(RATE) or 0)
-
-
 def check_options(given: Given) -> None:
     """Refuses options that exclude each other, and those that another one needs: none is left out in silence."""
     for one, other in ((SWAP, NO_SWAP), (LEVEL, CARRIER)):
@@ -93,7 +88,8 @@ def table_of(given: Given) -> Table:
 def reader_of(given: Given) -> Demodulator:
     check_options(given)
     if not given.has(TABLE):
-        return reader_of_samples(given, lambda swapped: samples_of(given, swapped))
+        values = given.names[0], given.number(CHANNEL) or 1, given.text(KIND) or "", given.number(RATE) or 0
+        return reader_of_samples(given, lambda swapped: Samples(*values, swapped))
     table = table_of(given)
     return Steps(table, given.has(SWAP)) if table.is_levels else reader_of_samples(given, lambda _: table)
 

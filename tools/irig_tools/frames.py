@@ -7,6 +7,7 @@ from operator import itemgetter
 from typing import Dict, List, Mapping, Optional, Sequence, Tuple
 
 from . import limits
+from .grouping import grouped
 from .interval import Run
 from .layout import READABLE
 from .moments import DAY
@@ -71,14 +72,9 @@ class Times(Votes):
         return bases
 
     def _find_spans(self, bases: Bases) -> List[Span]:
-        spans: List[Span] = []
-        for number in self.texts:
-            base = bases[number]
-            if base is not None and spans and spans[-1].base == base:
-                spans[-1] = spans[-1]._replace(last=number)
-            elif base is not None:
-                spans.append(Span(number, number, base))
-        return spans
+        spans = [Span(number, number, base) for number in self.texts for base in [bases[number]] if base is not None]
+        alike = grouped(spans, lambda before, span: before.base != span.base)
+        return [Span(group[0].first, group[-1].last, group[0].base) for group in alike]
 
     def turns_at(self, number: FrameNumber) -> bool:
         """Whether the frames on both sides of this one lead to different times."""

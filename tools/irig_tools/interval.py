@@ -101,7 +101,9 @@ class Clock:
         self.stray = self._within(limits.LEAST_STRAY, limits.STRAY_BY_NOISE, limits.MOST_STRAY)
         self.grid = _grid(listing, between, self.interval)
         self.least_step = self._find_least_step(between)
-        steady = [part for run in self._find_runs(apart) for part in self._stepped(run, apart)]
+        ends = breaks(apart, self.interval, self.margin)
+        found = [run_of(first, beyond) for first, beyond in zip([PulseIndex(0), *ends], ends)]
+        steady = [part for run in found for part in self._stepped(run, apart)]
         self.runs = [part for run in steady for part in self._parted(run)]
         self._measure([self.rises[run.last] - self.rises[run.first] for run in self.runs])
         self.runs = list(map(self.fit, self.runs))
@@ -141,10 +143,6 @@ class Clock:
             return limits.UNKNOWN_DOUBT * self.nominal
         low, _, high = statistics.quantiles(local, n=4)
         return max(limits.LEAST_STEP / limits.FAR, limits.EIGHT_OF_TEN * (high - low))
-
-    def _find_runs(self, apart: Sequence[int]) -> List[Run]:
-        ends = breaks(apart, self.interval, self.margin)
-        return [run_of(first, beyond) for first, beyond in zip([PulseIndex(0), *ends], ends)]
 
     def _find_least_step(self, between: Sequence[int]) -> float:
         """A step within a run shows from this many microseconds on, as the distances of the recording are spread."""

@@ -20,14 +20,6 @@ LEAST = 1 / 1000  # of the whole range of integers of 16 bits or more: levels th
 LowHigh = Tuple[float, float]  # a low and a high level
 
 
-class Negative(Samples):
-    """Samples with plus and minus swapped."""
-
-    def chunks(self, length: int) -> Iterator[Sequence[float]]:
-        for values in super().chunks(length):
-            yield [-value for value in values]
-
-
 class Levels:
     """Edges of a level: hysteresis about the middle, and a straight line between two samples. `gaps` are the stretches
     without a signal, in samples. Levels that are at most `threshold` apart are noise."""

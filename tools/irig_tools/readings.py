@@ -8,11 +8,9 @@ from dataclasses import dataclass, field
 from typing import IO, Dict, Iterator, List, Optional, Sequence, Set
 
 from .editor import Problem, find_editor, info_of
+from .layout import WITH_BINARY, WITH_CONTROL, WITH_YEAR
 
 EXPRESSIONS = {"A": range(8), "B": range(8), "E": (1, 2, 5, 6), "G": (1, 2, 5, 6)}
-BINARY_SECONDS = (0, 3, 4, 7)  # expressions with straight binary seconds
-YEARS = (4, 5, 6, 7)  # with the year
-CONTROLS = (0, 1, 4, 5)  # with control functions
 
 
 @dataclass
@@ -118,10 +116,10 @@ def best(rows: Sequence[Reading]) -> Reading:
     if not most:
         return next(row for row in rows if row.expression == 2)
     left = [row for row in rows if row.fine == most]
-    with_seconds = [row for row in left if row.expression in BINARY_SECONDS]
+    with_seconds = [row for row in left if row.expression in WITH_BINARY]
     left = with_seconds or left
     dated = [row for row in left if 0 < len(row.years) < 3 and row.years != {"00"}]
-    plain = [row for row in left if row.expression not in YEARS]
+    plain = [row for row in left if row.expression not in WITH_YEAR]
     left = dated or plain or left
-    quiet = [row for row in left if row.expression not in CONTROLS]
+    quiet = [row for row in left if row.expression not in WITH_CONTROL]
     return (quiet or left)[0]

@@ -8,6 +8,7 @@ from .chance import misread
 from .edit import Edit, inserted, of_pulses, repair_of
 from .edits import Item, items
 from .faults import Faults, Remark
+from .grouping import grouped
 from .layout import SHARE
 from .script import Repair
 from .units import PlaceNumber, plus, through
@@ -21,12 +22,7 @@ def repairs(seen: Faults) -> Tuple[List[Repair], List[Remark]]:
     whole = lost_frames(faults)
     single = faults.without({place for item in whole for place in item.targets})
     found = [shift(faults, zone) for zone in moved] + whole + misread(single) + items(single)
-    groups: List[List[Item]] = []
-    for item in sorted(found, key=lambda item: -item.low):
-        if groups and groups[-1][-1].low - item.high <= 1:
-            groups[-1].append(item)
-        else:
-            groups.append([item])
+    groups = grouped(sorted(found, key=lambda item: -item.low), lambda before, item: before.low - item.high > 1)
     return [_repair(single, group) for group in groups], [left_rest(seen, zone) for zone in left]
 
 

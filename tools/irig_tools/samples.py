@@ -41,10 +41,10 @@ def stream_of(path: str) -> IO[bytes]:
 
 
 class Samples:
-    """One channel, and its rate in hertz."""
+    """One channel, and its rate in hertz; plus and minus are swapped if it is `negative`."""
 
-    def __init__(self, path: str, channel: int, raw: str, rate: int) -> None:
-        self.path, self.channel, self.kind, self.rate = path, channel, raw, rate
+    def __init__(self, path: str, channel: int, raw: str, rate: int, negative: bool = False) -> None:
+        self.path, self.channel, self.kind, self.rate, self.negative = path, channel, raw, rate, negative
         self.channels = 1
         self.left: Optional[int] = None  # bytes of samples, if they are known
         self.notes: List[str] = []
@@ -65,6 +65,10 @@ class Samples:
 
     def chunks(self, length: int) -> Iterator[Sequence[float]]:
         """Stretches of this many samples; the last may be shorter."""
+        for values in self._stretches(length):
+            yield [-value for value in values] if self.negative else values
+
+    def _stretches(self, length: int) -> Iterator[Sequence[float]]:
         return self._in_lines(length) if self.kind == "text" else self._in_bytes(length)
 
     def _in_bytes(self, length: int) -> Iterator[Sequence[float]]:

@@ -92,12 +92,8 @@ class Table(Samples):
         rate = float("%.3g" % (1 / wide))
         return max(1, round(rate if abs(rate * wide - 1) < ROUND else 1 / wide))
 
-    def chunks(self, length: int) -> Iterator[Sequence[float]]:
-        while True:
-            values = [value for _, value in islice(self.rows, length)]
-            if not values:
-                return
-            yield [-value for value in values] if self.negative else values
+    def _stretches(self, length: int) -> Iterator[Sequence[float]]:
+        return iter(lambda: [value for _, value in islice(self.rows, length)], [])
 
 
 class Steps:

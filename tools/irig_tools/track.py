@@ -5,6 +5,7 @@ from bisect import bisect_right
 from typing import List, Optional, Sequence, Tuple
 
 from . import limits
+from .grouping import grouped
 from .interval import Clock, Run
 from .layout import Layout
 from .units import FrameNumber, Microseconds, PlaceNumber, PulseIndex, frame_of, plus, through
@@ -93,12 +94,8 @@ class Track:
 
     def parted_at(self, zones: Sequence[Zone]) -> List[List[Run]]:
         """The runs, parted at each of these zones."""
-        firsts, found = {zone.right.first for zone in zones if zone.right}, [self.runs[:1]]
-        for run in self.runs[1:]:
-            if run.first in firsts:
-                found.append([])
-            found[-1].append(run)
-        return found
+        firsts = {zone.right.first for zone in zones if zone.right}
+        return grouped(self.runs, lambda _, run: run.first in firsts)
 
     def stretches(self) -> List[List[Run]]:
         """The runs, parted at each that is glued to the one before it."""

@@ -2,13 +2,13 @@
 from __future__ import annotations
 
 from bisect import bisect_left
-from dataclasses import dataclass
-from typing import List, Optional, Tuple
+from typing import List, NamedTuple, Optional, Tuple
 
 from . import limits
 from .edit import Edit, moved_from, moved_rest
 from .edits import Item
 from .faults import Faults, Remark
+from .grouping import grouped
 from .steps import has_room, rest_comes
 from .units import Base, FrameNumber, Microseconds, PlaceNumber, frame_of, place_in, plus, through
 from .zones import Zone
@@ -101,47 +101,39 @@ def _as_generated(faults: Faults, place: PlaceNumber, begin: Microseconds) -> bo
     return faults.rises[pulses[0]] == due and faults.width_of(pulses[0]) == faults.width(told)
 
 
-@dataclass
-class _Frames:
-    """Frames that one `regen` writes."""
+class _Lost(NamedTuple):
+    """A frame that a `regen` writes."""
 
     number: FrameNumber
-    many: int
     rise: Microseconds
     shown: Tuple[int, Optional[Base], bool]  # the control functions, the base, and whether a leap second is over
 
 
 def lost_frames(faults: Faults) -> List[Item]:
     """Whole frames that are generated again; their places are then not repaired one by one."""
-    found: List[_Frames] = []
+    found: List[_Lost] = []
     for number in sorted({frame_of(place) for place in faults.wanted}):
         moment = faults.times.moment(number)
         if moment is None or not _can_generate(faults, number):
             continue
         rise, base = faults.track.rise_at(place_in(number)), faults.times.bases[number]
-        shown = _control_of(faults, number), base, faults.times.calendar.after_leap(moment)
-        last = found[-1] if found else None
-        if (
-            last
-            and (number, shown) == (last.number + last.many, last.shown)
-            and rise == last.rise + 100 * last.many * faults.clock.interval
-        ):
-            last.many += 1
-        else:
-            found.append(_Frames(number, 1, rise, shown))
-    return [_generate(faults, frames) for frames in found]
+        found.append(_Lost(number, rise, (_control_of(faults, number), base, faults.times.calendar.after_leap(moment))))
+    frame = 100 * faults.clock.interval
+    groups = grouped(found, lambda one, other: other != _Lost(plus(one.number, 1), plus(one.rise, round(frame)), one.shown))
+    return [_generate(faults, group) for group in groups]
 
 
-def _generate(faults: Faults, frames: _Frames) -> Item:
-    own = through(place_in(frames.number), place_in(frames.number, 100 * frames.many - 1))
+def _generate(faults: Faults, frames: List[_Lost]) -> Item:
+    """Frames one after the other, with the same control functions and the same base."""
+    first, many = frames[0], len(frames)
+    own = through(place_in(first.number), place_in(first.number, 100 * many - 1))
     lost = {place: faults.wanted[place] for place in own if place in faults.wanted}
-    moment = faults.times.moment(frames.number)
+    moment = faults.times.moment(first.number)
     assert moment is not None
-    values = frames.rise, frames.many, faults.times.calendar.text(moment)
-    name = faults.times.name(frames.number)
+    values = first.rise, many, faults.times.calendar.text(moment)
     why = "%d elements of %d frame(s) from %d on are lost or damaged; the frames around them lead to %s" % (
-        len(lost), frames.many, frames.rise, name)
-    control = ["%x" % frames.shown[0]] if frames.shown[0] else []
+        len(lost), many, first.rise, faults.times.name(first.number))
+    control = ["%x" % first.shown[0]] if first.shown[0] else []
     if control:
         why += " and to the control functions " + control[0]
     guessed = sorted({place % 100 for place in faults.guesses if own[0] <= place <= own[-1]})
