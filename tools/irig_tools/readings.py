@@ -7,7 +7,7 @@ from contextlib import contextmanager
 from dataclasses import dataclass, field
 from typing import IO, Dict, Iterator, List, Optional, Sequence, Set
 
-from .editor import Problem, find_editor, info_of
+from .editor import CUT_OFF, Problem, find_editor, info_of
 from .layout import WITH_BINARY, WITH_CONTROL, WITH_YEAR
 
 EXPRESSIONS = {"A": range(8), "B": range(8), "E": (1, 2, 5, 6), "G": (1, 2, 5, 6)}
@@ -77,6 +77,8 @@ def read(track: str, kind: str) -> Readings:
             elif len(words) > 4 and words[0].isdigit():
                 row.line(words)
         found.refused = run.stderr.read().decode(errors="replace").strip().rpartition(": ")[2]
+    if run.returncode < 0:  # by a signal
+        raise Problem(CUT_OFF)
     return found
 
 
