@@ -185,7 +185,7 @@ def judged(case, move=False, through=as_it_is):
                 file.write(damages.dump(pulses, length))
         opened = editor.Editor([*options, path])
         repairs = mend.propose(opened, lambda text: None, **({"move": True} if move else {}))
-        script = through(options, path, mend.text(repairs))
+        script = through(options, path, mend.script_text(repairs))
         _, true_frames, _ = mending.listed(options, true_path, "")
         _, before, _ = mending.listed(options, path, "")
         refused, after, edges = mending.listed(options, path, script)

@@ -1,12 +1,20 @@
 """Named cases: all, those whose name has a word (-k WORD), and with a line for each (-v)."""
 import argparse
+import contextlib
+import io
+import multiprocessing
 import os
 import sys
 import time
+from concurrent.futures import ProcessPoolExecutor
 from dataclasses import dataclass
+from functools import partial
 from typing import Callable
 
 from built import BUILT
+
+WORKERS = 2
+CHOSEN = []  # the cases that are run
 
 
 @dataclass(frozen=True)
@@ -18,7 +26,7 @@ class Case:
 
     def results(self):
         found = self.holds()
-        return [found] if isinstance(found, (bool, int)) else list(found)
+        return [found] if isinstance(found, (bool, int)) else found
 
 
 def case(name, holds, *values):
@@ -26,10 +34,12 @@ def case(name, holds, *values):
 
 
 def chosen(about, *flags):
-    """The command line: -k WORD, -v, these flags and the program."""
+    """The command line: -k WORD, -v, --first, these flags and the program."""
     parser = argparse.ArgumentParser(description=about)
-    parser.add_argument("-k", metavar="WORD", default="", dest="word", help="runs the cases whose name has the word")
+    parser.add_argument("-k", metavar="WORD", action="append", default=[], dest="words",
+                        help="runs the cases whose name has the word, or one of several")
     parser.add_argument("-v", action="store_true", dest="lists", help="has a line for each case")
+    parser.add_argument("--first", action="store_true", help="ends with the first answer that is no")
     for flag in flags:
         parser.add_argument(flag, action="store_true")
     parser.add_argument("program", nargs="?", default=BUILT)
@@ -38,17 +48,43 @@ def chosen(about, *flags):
     return found
 
 
+def is_asked(asked, *names):
+    """Whether one of these names has one of the words."""
+    return not asked.words or any(word in name for word in asked.words for name in names)
+
+
+def tried(first, number):
+    """What the case with a number answers, up to the first no if that is asked for; what it prints, and its seconds."""
+    begun, said, results = time.time(), io.StringIO(), []
+    with contextlib.redirect_stdout(said):
+        for each in CHOSEN[number].results():
+            results.append(bool(each))
+            if first and not each:
+                break
+    return results, said.getvalue(), time.time() - begun
+
+
+def all_tried(first):
+    """The same of all cases, in their order; two are tried at once."""
+    work = partial(tried, first)
+    if first or len(CHOSEN) < 2:
+        yield from map(work, range(len(CHOSEN)))
+        return
+    with ProcessPoolExecutor(WORKERS, multiprocessing.get_context("fork")) as pool:
+        yield from pool.map(work, range(len(CHOSEN)))
+
+
 def run(cases, asked):
     """Runs the cases that are asked for and prints the sum; the status."""
+    CHOSEN[:] = [each for each in cases if is_asked(asked, each.name)]
     passed = failed = 0
-    for each in cases:
-        if asked.word not in each.name:
-            continue
-        begun = time.time()
-        results = each.results()
-        passed, failed = passed + sum(map(bool, results)), failed + len(results) - sum(map(bool, results))
+    for each, (results, said, seconds) in zip(CHOSEN, all_tried(asked.first)):
+        print(said, end="", flush=True)
+        passed, failed = passed + sum(results), failed + len(results) - sum(results)
         if asked.lists:
             what = "holds" if all(results) else "FAILED"
-            print("%-6s %s (%d, %.1f s)" % (what, each.name, len(results), time.time() - begun), flush=True)
+            print("%-6s %s (%d, %.1f s)" % (what, each.name, len(results), seconds), flush=True)
+        if failed and asked.first:
+            break
     print("%d passed, %d failed" % (passed, failed))
     sys.exit(1 if failed or not passed else 0)

@@ -140,6 +140,6 @@ def mended(case, through=None):
             with open(path, "w") as file:
                 file.write(damages.dump(pulses, length))
         opened = editor.Editor([*options, damaged_path])
-        script = mend.text(mend.propose(opened, lambda text: None, case.steady, case.move))
+        script = mend.script_text(mend.propose(opened, lambda text: None, case.steady, case.move))
         script = through(options, damaged_path, script) if through else script
         return judge(case, options, true_path, damaged_path, script), script

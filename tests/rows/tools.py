@@ -203,7 +203,7 @@ def mended(pulses, length, steady=False, move=False):
         opened = editor.Editor(["--expression", "4", written(folder, pulses, length)])
         script = mend.propose(opened, lambda text: None, steady, move)
         after = opened.ask([repair.lines() for repair in script])
-    return mend.text(script), [list(each) for each in zip(after.rises, after.falls)]
+    return mend.script_text(script), [list(each) for each in zip(after.rises, after.falls)]
 
 
 def gives_back(name, change, length):

@@ -6,7 +6,7 @@ import tempfile
 
 from cases import case
 from rows import tools
-from rows.tools_outputs import filled, shell
+from rows.tools_outputs import contents, filled, shell
 from rows.tools_what import B, dump
 
 
@@ -25,6 +25,26 @@ def other_release(top):
                 good = good and "%s is of another release: it answers '%s'" % (path, answer) in said
                 good or print("FAILED %s and an editor that says %s: %d %s" % (tool, answer, status, said))
                 yield good
+
+
+def killed(top):
+    """An editor that is killed while it answers leads to no result."""
+    with tempfile.TemporaryDirectory() as folder:
+        filled(folder)
+        path = os.path.join(folder, "killed")
+        with open(path, "w", encoding="ascii") as file:
+            file.write('#!/bin/sh\nscript=$(cat)\ncase $script in *"$KILLED"*)\n'
+                       'printf "%s\\n" "$script" | bin/irig_ed "$@" | head -n 20; kill -9 $$;;\nesac\n'
+                       'printf "%s\\n" "$script" | bin/irig_ed "$@"\n')
+        os.chmod(path, 0o755)
+        for command, word in (("irig_damage --format B rec.vcd", "list"), ("irig_mend --format B rec.vcd", "list"),
+                              ("irig_mend --format B --apply new rec.vcd", "list"), ("irig_what rec.vcd", "list"),
+                              ("irig_what rec.vcd", "frames")):
+            before = contents(folder)
+            ended = shell(top, folder, command, IRIG_ED=path, KILLED=word)
+            good = ended == (2, "", "%s: irig_ed ended before its answer did\n" % command.split()[0]) and contents(folder) == before
+            good or print("FAILED %s and an editor that is killed: %s" % (command, ended))
+            yield good
 
 
 def which(top):
@@ -120,4 +140,4 @@ def silent(top):
 def cases(top):
     """Each part by its name."""
     return [case("editor: " + part.__name__, part, top)
-            for part in (other_release, which, complaints, names, steady, silent)]
+            for part in (other_release, killed, which, complaints, names, steady, silent)]

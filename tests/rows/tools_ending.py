@@ -12,11 +12,12 @@ from rows.tools_what import dump
 TOOLS = {"irig_damage": "rec.vcd", "irig_mend": "rec.vcd", "irig_what": "rec.vcd", "irig_wire": "rec.vcd",
          "irig_demodulate": "rec.wav"}
 # a redirection, and what is said; a tool that cannot say it just ends
-CLOSED = ((">&-", "stdout is closed"), ("<&-", "stdin is closed"), ("2>&-", ""), ("<&- >&- 2>&-", ""))
+CLOSED = ((">&-", "stdout is closed"), ("<&-", "stdin is closed"), ("2>&-", ""), ("<&- >&- 2>&-", ""),
+          ("< bin", "standard input: is a folder"))
 
 
 def closed(top):
-    """A closed stream: status 2, one line, and nothing else."""
+    """A closed stream, or a folder as standard input: status 2, one line, and nothing else."""
     with tempfile.TemporaryDirectory() as folder:
         filled(folder)
         before = contents(folder)
@@ -45,7 +46,7 @@ def unwritten(top):
 
 
 def without_memory(top):
-    """With ever less memory a tool does its work, or ends with 70 and one line; Python itself starts in all."""
+    """With ever less memory a tool does its work, or ends with 70 and one line, also if Python itself cannot start."""
     with tempfile.TemporaryDirectory() as folder:
         filled(folder)
         with open(os.path.join(folder, "long.vcd"), "w", encoding="ascii") as file:
@@ -58,6 +59,12 @@ def without_memory(top):
             good = good and not any("Traceback" in said for _, _, said in ends)
             good or print("FAILED %s with little memory: %s" % (tool, ends))
             yield good
+        for tool, name in TOOLS.items():
+            for kilobytes in (9000, 11600, 23000):
+                ended = shell(top, folder, "ulimit -v %d; %s %s" % (kilobytes, tool, name))
+                good = ended == (70, "", "%s: memory ran out\n" % tool)
+                good or print("FAILED %s in %d kB: %s" % (tool, kilobytes, ended))
+                yield good
 
 
 def raised(error, text, status, **more):

@@ -387,7 +387,7 @@ def of_checks():
     early = late(without(230, 415), 230, -600)
     early[-1][1] = 8099900  # so that there is no room to move the rest back
     findings = analysis.examine(listing_of(early, 8100000), move=True)
-    yield same("times of steps", mend.steps_of(findings), [0, 4149400])
+    yield same("times of steps", mend.step_times(findings), [0, 4149400])
 
 
 def script_of(pulses, **more):
@@ -402,7 +402,7 @@ def of_edits():
     yield same("some pulses", edit.of_pulses("delete", 4, 6).line(), "5,7 delete")
     yield same("no pulse", edit.Edit("insert", (10, 20)).line(), "insert 10 20")
     yield same("a rest", (edit.moved_rest(450, -3300).line(), edit.moved_rest(450, -3300).move), ("451,$ shift -3300", -3300))
-    yield same("from a time on", edit.lines_of(edit.moved_from(9, -3)), ["mark z 9", "'z,$ shift -3", "unmark z"])
+    yield same("from a time on", edit.script_lines(edit.moved_from(9, -3)), ["mark z 9", "'z,$ shift -3", "unmark z"])
     yield same("one pulse is no rest", edit.of_pulse("shift", 4, 7).move, 0)
     seven, eight = without(430, 437), without(430, 438)
     yield same("seven are lost", [line.split()[0] for line in script_of(seven)[0]], ["begin", *["insert"] * 7, "end"])

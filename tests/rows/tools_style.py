@@ -1,13 +1,15 @@
-"""flake8, mypy --strict and shellcheck find nothing in the tools and their tests.
+"""flake8, mypy --strict and shellcheck find nothing in the tools and their tests, and each name is defined in one module.
 
 A checker that is missing is left out by name. The versions whose findings count are in VERSIONS: another version can
 know more, so its findings are printed, and are no failure.
 """
+import ast
 import glob
 import os
 import re
 import shutil
 import subprocess
+from collections import defaultdict
 
 from cases import case
 
@@ -15,6 +17,35 @@ SHELL = ("install", "irig_ed", "package", "completions/irig_ed")  # what a user 
 TESTS = ("tests/tools", "tests/tools_wire", "tests/tools_planted", "tests/page")  # whose names do not end in .py
 TYPED_TESTS = ("tests/page", "tests/browser.py", "tests/page_look.py", "tests/page_rows.py")
 VERSIONS = {"flake8": "5.0.4", "mypy": "1.0.1", "shellcheck": "0.9.0"}  # those of Debian 12
+
+EVERYWHERE = {"COMMAND", "main", "work", "Track"}  # what each program has; and a track is read with its places, or as edges
+APART = ("apply", "diff", "page", "picture")  # modules whose names are for themselves
+
+
+def defined(tree):
+    """The functions, classes and constants of a module."""
+    for node in tree.body:
+        if isinstance(node, (ast.FunctionDef, ast.ClassDef)):
+            yield node.name
+        if isinstance(node, (ast.Assign, ast.AnnAssign)):
+            targets = node.targets if isinstance(node, ast.Assign) else [node.target]
+            yield from (each.id for target in targets for each in ast.walk(target) if isinstance(each, ast.Name))
+
+
+def one_name(top):
+    """Whether no name means two things in the tools; a name with _ at its beginning counts, too."""
+    found = defaultdict(set)
+    for path in glob.glob(os.path.join(top, "tools", "irig_tools", "*.py")):
+        module = os.path.basename(path)[:-3]
+        with open(path, encoding="utf-8") as file:
+            names = set(defined(ast.parse(file.read()))) - EVERYWHERE
+        if not module.startswith(APART):
+            for name in names:
+                found[name].add(module)
+    twice = sorted("%s (%s)" % (name, ", ".join(sorted(modules))) for name, modules in found.items() if len(modules) > 1)
+    if twice:
+        print("FAILED names of several modules: " + ", ".join(twice))
+    return not twice
 
 
 def commands(top):
@@ -50,6 +81,6 @@ def finds_nothing(top, name, command):
 
 
 def cases(top):
-    """Each checker by its name."""
-    return [case("style: " + " ".join(command[:4]), finds_nothing, top, name, command)
-            for name, command in commands(top)]
+    """The names, and each checker by its name."""
+    return [case("style: names", one_name, top), *(case("style: " + " ".join(command[:4]), finds_nothing, top, name, command)
+                                                   for name, command in commands(top))]

@@ -155,7 +155,7 @@ def written():
 
 def limits():
     """The limits are those of the editor's reader, and what reaches one is not above it."""
-    known = wire.LONGEST == dump.LONGEST, wire.MOST_BYTES == dump.MOST_BYTES, wire.MOST_EDGES == dump.MOST_EDGES
+    known = wire.LONGEST_TIME == dump.LONGEST, wire.MOST_BYTES == dump.MOST_BYTES, wire.MOST_EDGES == dump.MOST_EDGES
     results = list(known)
     for name, limit, good in (("MOST_EDGES", 2, True), ("MOST_EDGES", 1, False), ("MOST_BYTES", 137, True),
                               ("MOST_BYTES", 136, False)):

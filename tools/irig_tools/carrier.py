@@ -16,17 +16,17 @@ from typing import Iterator, List, Optional, Sequence, Tuple
 from .cycles import Cycles, Edge
 from .editor import Problem
 from .layout import INTERVAL
-from .quadrature import Table, Window
+from .quadrature import Sines, Window
 from .samples import Samples
-from .tracking import NEAR, Piece, Tracker
+from .tracking import NEAR_CYCLES, Piece, Tracker
 
 CARRIERS = {"A": (10000,), "B": (1000,), "E": (100, 1000)}
 CYCLES = 500  # in a stretch that is read at once
 HALF = 10  # cycles of a carrier of 1,000 Hz in half a window; of another one the root of that
 BACK = 4  # windows: what comes so long before a stretch is looked at again, with what is judged together
-FEWEST = 4  # samples in a cycle
-MOST = 1 << 20  # samples in a stretch: some hundreds of megabytes
-SOON, LATE = 50, 1000  # steps of the amplitude: the way can be chosen, and has to be
+FEWEST_SAMPLES = 4  # samples in a cycle
+MOST_SAMPLES = 1 << 20  # samples in a stretch: some hundreds of megabytes
+SOON_STEPS, LATE_STEPS = 50, 1000  # steps of the amplitude: the way can be chosen, and has to be
 FEW = 20  # steps; fewer in a whole recording do not show the way
 SHARP = 0.75  # of the steps, in the right way
 GAP = 10  # elements without a carrier that are named
@@ -43,15 +43,15 @@ class Carrier:
     def __init__(self, samples: Samples, hertz: int, kind: str = "B", swapped: Optional[bool] = None) -> None:
         self.samples, self.hertz = samples, hertz
         self.cycle = samples.rate / hertz  # in samples
-        if self.cycle < FEWEST:
-            raise Problem(FEW_SAMPLES % (samples.rate, hertz, FEWEST * hertz))
+        if self.cycle < FEWEST_SAMPLES:
+            raise Problem(FEW_SAMPLES % (samples.rate, hertz, FEWEST_SAMPLES * hertz))
         self.size = round(CYCLES * self.cycle)
-        if self.size > MOST:
+        if self.size > MOST_SAMPLES:
             raise Problem(MANY_SAMPLES % (samples.rate, hertz, USUAL * hertz))
         half = max(3, round(HALF * math.sqrt(hertz / 1000)))
         self.tracker = Tracker(samples.rate, hertz, half)
-        self.back = BACK * 2 * half + 2 * NEAR
-        self.table = Table(samples.rate, hertz, self.size + math.ceil((self.back + 2) * self.cycle))
+        self.back = BACK * 2 * half + 2 * NEAR_CYCLES
+        self.table = Sines(samples.rate, hertz, self.size + math.ceil((self.back + 2) * self.cycle))
         self.length = 0
         self.element = min((10, 100), key=lambda cycles: abs(math.log(hertz * INTERVAL[kind] / 1e6 / cycles)))
         self.ways = [Cycles(half, self.element, way) for way in (False, True) if swapped in (None, way)]
@@ -108,7 +108,7 @@ class Carrier:
             new = list(way.edges(piece, window, self.length))
             way.count(new, window, self.cycle)
             found += new
-        yield from self._choose(SOON, LATE)
+        yield from self._choose(SOON_STEPS, LATE_STEPS)
 
     def _choose(self, soon: int, late: int) -> Iterator[Edge]:
         """Chooses the way in which most steps are sharp, or after many steps the first."""

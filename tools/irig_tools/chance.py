@@ -7,7 +7,7 @@ from .edit import of_pulse
 from .edits import Item
 from .faults import Faults
 from .layout import READABLE
-from .units import PlaceNumber, PulseIndex, frame_of, place_in
+from .units import PlaceNumber, PulseIndex, frame_of, place_in, plus, through
 from .zones import Zone
 
 
@@ -19,7 +19,7 @@ def misread(faults: Faults) -> List[Item]:
         for marker in _markers(faults, zone):
             other = _other(faults, zone, marker)
             if other is not None:
-                found.append(_broken(faults, _place(zone, other), marker, other))
+                found.append(_broken(faults, _place_by_count(zone, other), marker, other))
     return found
 
 
@@ -28,19 +28,19 @@ def _markers(faults: Faults, zone: Zone) -> List[PulseIndex]:
     left, right, classes = zone.left, zone.right, faults.track.classes
     if not (left and right and right.glued and right.first - left.last == zone.straight()):
         return []
-    near = map(PulseIndex, range(max(left.first + 1, left.last - 98), left.last + 1))
+    near = through(max(plus(left.first, 1), plus(left.last, -98)), left.last)
     return [pulse for pulse in near if classes[pulse - 1] == "P" and READABLE.fullmatch(classes, pulse, pulse + 100)]
 
 
-def _place(zone: Zone, pulse: PulseIndex) -> PlaceNumber:
+def _place_by_count(zone: Zone, pulse: PulseIndex) -> PlaceNumber:
     """Its place if nothing were missing."""
     assert zone.left
-    return PlaceNumber(zone.left.place + pulse - zone.left.first)
+    return plus(zone.left.place, pulse - zone.left.first)
 
 
 def _other(faults: Faults, zone: Zone, marker: PulseIndex) -> Optional[PulseIndex]:
     """The first pulse, in a frame that shows a time, that is not of the time that its neighbours lead to."""
-    text, number = faults.track.classes[marker:marker + 100], frame_of(_place(zone, marker))
+    text, number = faults.track.classes[marker:marker + 100], frame_of(_place_by_count(zone, marker))
     moment = faults.times.moment(number)
     if faults.layout.decode(text) is None or moment is None:
         return None
@@ -48,7 +48,7 @@ def _other(faults: Faults, zone: Zone, marker: PulseIndex) -> Optional[PulseInde
     unlike = [each for each in faults.layout.carried if text[each] != due[each]]
     if not unlike or any(place_in(number, each) in faults.wanted for each in unlike):  # is repaired first
         return None
-    return PulseIndex(marker + unlike[0])
+    return plus(marker, unlike[0])
 
 
 def _broken(faults: Faults, place: PlaceNumber, marker: PulseIndex, other: PulseIndex) -> Item:

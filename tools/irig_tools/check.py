@@ -18,6 +18,7 @@ from .interval import breaks, distances
 from .layout import Layout
 from .moments import DAY, Calendar
 from .script import Repair
+from .units import Hundredths, Microseconds, plus
 
 MARKED = re.compile("P(?=P[01]{8}P(?:[01]{9}P){9})")
 
@@ -26,8 +27,8 @@ MARKED = re.compile("P(?=P[01]{8}P(?:[01]{9}P){9})")
 class Harm:
     """A frame that a script makes worse, or a rest that it moves to where it does not belong."""
 
-    at: int  # its first microsecond in the repaired track
-    until: int
+    at: Microseconds  # the first in the repaired track
+    until: Microseconds
     seen: str
 
 
@@ -35,24 +36,24 @@ class Moved:
     """Where a script moves what is at a time."""
 
     def __init__(self, script: Sequence[Repair] = ()) -> None:
-        self.steps: List[Tuple[int, int, int]] = []  # from when on, by how much, and how long a part goes
+        self.steps: List[Tuple[Microseconds, int, int]] = []  # from when on, by how much, and how long a part goes
         for repair in script:
             self.steps += [(repair.at, by, repair.removed) for by in repair.moves]
 
-    def time(self, at: int) -> Optional[int]:
+    def time(self, at: Microseconds) -> Optional[Microseconds]:
         """None if the script takes it out."""
         for begin, by, gone in self.steps:
             if begin <= at < begin + gone:
                 return None
-            at += by * (at >= begin)
+            at = plus(at, by * (at >= begin))
         return at
 
 
 class Frame(NamedTuple):
     """A frame that is fine."""
 
-    at: int  # the rise of its marker
-    moment: int  # that it shows
+    at: Microseconds  # the rise of its marker
+    moment: Hundredths  # that it shows
     text: str  # its classes
 
 
@@ -62,7 +63,7 @@ class Frames:
     def __init__(self, listing: Listing, layout: Layout, moved: Moved) -> None:
         calendar, interval = Calendar(layout), layout.interval
         broken_at = breaks(distances(listing.rises), interval, limits.IN_STEP * interval)
-        found: Dict[int, Frame] = {}
+        found: Dict[Microseconds, Frame] = {}
         for match in MARKED.finditer(listing.classes):
             marker = match.start() + 1
             text, broken = listing.classes[marker:marker + 100], bisect_left(broken_at, marker)
@@ -71,13 +72,13 @@ class Frames:
                 found[at] = Frame(at, calendar.moment_of(told), text)
         self.all = [found[at] for at in sorted(found)]
 
-    def near(self, at: int, within: float) -> Optional[Frame]:
+    def near(self, at: Microseconds, within: float) -> Optional[Frame]:
         """The frame whose marker is no farther from a time than that."""
         place = bisect_left(self.all, (at - within,))
         return self.all[place] if place < len(self.all) and self.all[place].at <= at + within else None
 
 
-def around(frames: Sequence[Frame], at: int, many: int) -> List[Frame]:
+def around(frames: Sequence[Frame], at: Microseconds, many: int) -> List[Frame]:
     """That many frames before a time, and after it."""
     low, high = bisect_left(frames, (at,)), bisect_left(frames, (at + 1,))
     return [*frames[max(0, low - many):low], *frames[high:high + many]]
@@ -86,7 +87,7 @@ def around(frames: Sequence[Frame], at: int, many: int) -> List[Frame]:
 class Check:
     """What a script does to the frames of a track; `steps` are the times at which those of the repaired track step."""
 
-    def __init__(self, layout: Layout, interval: float, steps: Sequence[int], listings: Tuple[Listing, Listing],
+    def __init__(self, layout: Layout, interval: float, steps: Sequence[Microseconds], listings: Tuple[Listing, Listing],
                  moved: Moved) -> None:
         self.layout, self.interval, self.steps, self.moved = layout, interval, sorted(steps), moved
         self.old, self.new = Frames(listings[0], layout, moved), Frames(listings[1], layout, Moved())
@@ -106,7 +107,7 @@ class Check:
                 yield Harm(begin, begin, "the frames before and after it would not follow each other")
 
     def _harm(self, frame: Frame, seen: str) -> Harm:
-        return Harm(frame.at - round(self.interval), frame.at + round(100 * self.interval), seen)
+        return Harm(plus(frame.at, -round(self.interval)), plus(frame.at, round(100 * self.interval)), seen)
 
     def _stays(self, frame: Frame) -> bool:
         """Whether it is there after the script, but for control functions that are said to be steady."""

@@ -13,7 +13,7 @@ from .interval import Run
 from .script import Repair
 from .spans import Span
 from .track import Track
-from .units import PlaceNumber, PulseIndex, frame_of, place_in
+from .units import PulseIndex, frame_of, place_in, plus
 from .zones import Zone
 
 
@@ -28,8 +28,8 @@ class Again(NamedTuple):
 def settled(track: Track, times: Times) -> List[Run]:
     """The runs, moved on by whole frames if a rest came more than a frame late: the times on both sides say how many
     frames were really lost."""
-    gone: Dict[int, int] = {}  # by the first pulse of a run
-    on: Dict[int, int] = {}  # how many places it is moved on, with all that follow
+    gone: Dict[PulseIndex, int] = {}  # by the first pulse of a run
+    on: Dict[PulseIndex, int] = {}  # how many places it is moved on, with all that follow
     stretches = track.stretches()
     for left, right in zip(stretches, stretches[1:]):
         frames, skipped = times.frames_between(left, right), track.zone_before(right[0]).skipped()
@@ -42,14 +42,14 @@ def settled(track: Track, times: Times) -> List[Run]:
     for run in track.runs:
         by = on.get(run.first, 0)
         moved += by
-        late, place = run.late - by * track.clock.interval, PlaceNumber(run.place + moved)
+        late, place = run.late - by * track.clock.interval, plus(run.place, moved)
         found.append(replace(run, gone=gone.get(run.first, run.gone), step=run.step + by, late=late, place=place))
     return found
 
 
-def _late_frames(track: Track, times: Times) -> Dict[int, int]:
+def _late_frames(track: Track, times: Times) -> Dict[PulseIndex, int]:
     """By how many places the runs are moved on, by their first pulse, if whole frames were taken for lost."""
-    found: Dict[int, int] = {}
+    found: Dict[PulseIndex, int] = {}
     for before, after in zip(times.spans, times.spans[1:]):
         frames = (before.base - after.base) // track.layout.period
         between = [
@@ -88,22 +88,22 @@ def _copied(track: Track, zone: Zone, many: int) -> Optional[PulseIndex]:
     faults, at = min((unlike[at + many] - unlike[at], at) for at in range(high - low + 1))
     fit, same = many // limits.UNLIKE_IN_COPY, many // limits.ALIKE_IN_COPY
     is_copy = faults <= fit and alike[at + many] - alike[at] >= same
-    return PulseIndex(first + low + at) if is_copy else None
+    return plus(first, low + at) if is_copy else None
 
 
 def again_within(track: Track, before: Span, after: Span) -> Optional[Again]:
     """Whether the times of two spans say that whole frames are there twice, and the elements do; None if they do not."""
     many = 100 * (before.base - after.base) // track.layout.period
-    low = max(place_in(before.last), track.first + many)
-    high = min(place_in(after.first, 99), track.last - many)
+    low = max(place_in(before.last), plus(track.first, many))
+    high = min(place_in(after.first, 99), plus(track.last, -many))
     if many <= 0 or low >= high or max(many, high - low) > limits.LONGEST_CUT:
         return None
     text, begin = track.told, low - track.first
     unlike, _ = _counted(zip(text[begin - many:], text[begin:high + many + 1 - track.first]))
     faults = [there - here for here, there in zip(unlike, unlike[many:])]
     least = min(faults)
-    place = low + faults.index(least)
-    first, rest = track.pulses_at(PlaceNumber(place)), track.pulses_at(PlaceNumber(place + many))
+    place = plus(low, faults.index(least))
+    first, rest = track.pulses_at(place), track.pulses_at(plus(place, many))
     if least > many // limits.UNLIKE_IN_COPY or len(first) != 1 or len(rest) != 1 or rest[0] - first[0] != many:
         return None
     return Again(first[0], many, min(faults[-low % 100:: 100], default=9) > least + 1)

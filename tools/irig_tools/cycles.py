@@ -13,9 +13,9 @@ from .tracking import Knot, Piece
 
 LEAST_RATIO = 1.6  # of the amplitudes; below there is no code
 CUT = 0.05  # of a cycle at the ends of a recording can be missing
-NEAR = 0.2  # of the way from low to high: the half cycles before and after a sharp step are that near
-LATER = 15  # cycles that are decided with those after them
-FEWEST = 10  # cycles that have a low and a high amplitude
+NEAR_LEVEL = 0.2  # of the way from low to high: the half cycles before and after a sharp step are that near
+WAITING = 15  # cycles that are decided with those after them
+FEWEST_CYCLES = 10  # cycles that have a low and a high amplitude
 ELEMENTS = 4  # elements that always have them; fewer are read by those of before
 FAST = 0.15  # cycles: the speed changes fast if that puts the phase so far off in half a window
 PART = 3  # there one in three of the cycles around says what the phase is ahead, since it is not the same over all of them
@@ -91,8 +91,8 @@ class Cycles:
     def _decide(self, closes: bool) -> Iterator[Edge]:
         """The edges of the cycles; the last cycles wait for the next."""
         heights = [value.real for value in self.values]
-        end = len(heights) - (0 if closes else LATER)
-        if end <= self.known or len(heights) < (FEWEST if closes else ELEMENTS * self.element):
+        end = len(heights) - (0 if closes else WAITING)
+        if end <= self.known or len(heights) < (FEWEST_CYCLES if closes else ELEMENTS * self.element):
             return
         few = len(heights) - self.known < ELEMENTS * self.element and self.high > 0
         low, high, noise = (self.low, self.high, self.noise) if few else levels_of(heights)
@@ -141,7 +141,7 @@ class Cycles:
                 share = [(height - self.low) / (self.high - self.low) for height in ends]
                 before, later = share if level else share[::-1]
                 self.steps += 1
-                self.sharp += before < NEAR and later > 1 - NEAR
+                self.sharp += before < NEAR_LEVEL and later > 1 - NEAR_LEVEL
 
 
 def between(one: Knot, other: Knot, phases: Sequence[float]) -> List[float]:

@@ -7,10 +7,11 @@ from typing import List, Sequence, Tuple
 from . import limits
 from .analysis import START, Findings, Part, looks
 from .editor import Editor, Listing, Progress
-from .faults import Faults, numbered
+from .faults import Faults, pulses_text
+from .grouping import grouped
 from .interval import Clock
 from .script import Repair
-from .units import Microseconds, PlaceNumber, PulseIndex, frame_of
+from .units import Microseconds, PlaceNumber, PulseIndex, frame_of, plus
 
 THE_WHOLE = "the whole recording"
 NO_FRAME = "pulses that belong to no frame"
@@ -28,7 +29,7 @@ class Damage:
     is_remark: bool = False  # it is named, and no damage
 
     def line(self) -> str:
-        pulses = [numbered(self.pulses[0], self.pulses[-1])] if self.pulses else []
+        pulses = [pulses_text(self.pulses[0], self.pulses[-1])] if self.pulses else []
         names = [self.name, *pulses] if self.name else ["remark"] if self.is_remark else pulses
         return "%d %s%s" % (self.at, ", ".join(names) + ": " if names else "", self.seen)
 
@@ -79,7 +80,7 @@ def _of_clock(clock: Clock) -> List[Damage]:
     if abs(off) >= limits.DRIFT:
         way = "slow" if off > 0 else "fast"
         said.append("the clock is %.2f %% %s: pulses come every %.1f microseconds, not every %d%s" % (
-            abs(100 * off), way, clock.interval, clock.nominal, _range(clock)))
+            abs(100 * off), way, clock.interval, clock.nominal, _extremes(clock)))
     if clock.noise >= limits.TREMBLE * clock.nominal:
         said.append("rises tremble: half of all distances are off by more than %d microseconds, %.1f %% of the interval, and "
                     "a step of less than %d does not show" % (
@@ -87,7 +88,7 @@ def _of_clock(clock: Clock) -> List[Damage]:
     return [Damage(START, clock.rises[-1], THE_WHOLE, seen) for seen in said]
 
 
-def _range(clock: Clock) -> str:
+def _extremes(clock: Clock) -> str:
     """The least and the largest interval, if they differ."""
     local = [each for run in clock.runs for each in (run.begin_interval, run.end_interval) if each]
     if not local or max(local) - min(local) < limits.DRIFT * clock.nominal:
@@ -97,14 +98,8 @@ def _range(clock: Clock) -> str:
 
 def _of_part(part: Part) -> List[Damage]:
     """Its faulty places; those one after the other are a group."""
-    found: List[Damage] = []
-    group: List[PlaceNumber] = []
-    for place in sorted(part.faults.wanted):
-        if group and place != group[-1] + 1:
-            found += _of_places(part.faults, group)
-            group = []
-        group.append(place)
-    return found + (_of_places(part.faults, group) if group else [])
+    groups = grouped(sorted(part.faults.wanted), lambda before, place: place != before + 1)
+    return [each for group in groups for each in _of_places(part.faults, group)]
 
 
 def _of_places(faults: Faults, group: Sequence[PlaceNumber]) -> List[Damage]:
@@ -128,9 +123,9 @@ def _of_places(faults: Faults, group: Sequence[PlaceNumber]) -> List[Damage]:
 
 def _of_stretch(faults: Faults, group: Sequence[PlaceNumber], name: str, seen: str) -> Damage:
     pulses = faults.track.pulses_of(group)
-    until = faults.track.rise_at(group[-1]) + round(faults.clock.interval)
+    until = plus(faults.track.rise_at(group[-1]), round(faults.clock.interval))
     ends = (pulses[0], pulses[-1]) if pulses else ()
-    return Damage(faults.track.rise_at(group[0]), Microseconds(until), name, seen, ends)
+    return Damage(faults.track.rise_at(group[0]), until, name, seen, ends)
 
 
 def _of_ends(listing: Listing, first: Part, last: Part) -> List[Damage]:
@@ -138,10 +133,10 @@ def _of_ends(listing: Listing, first: Part, last: Part) -> List[Damage]:
     rises, found, many = listing.rises, [], len(listing.rises)
     before = min(pulse for pulses in first.track.zones[0].pulses.values() for pulse in pulses)
     after = max(pulse for pulses in last.track.zones[-1].pulses.values() for pulse in pulses)
-    before = PulseIndex(before - (before == 1 and rises[0] == 0))  # cut by the beginning
-    beyond = PulseIndex(after + 1 + (after == many - 2 and listing.falls[-1] == listing.length))  # cut by the end
+    before = plus(before, -(before == 1 and rises[0] == 0))  # cut by the beginning
+    beyond = plus(after, 1 + (after == many - 2 and listing.falls[-1] == listing.length))  # cut by the end
     if before:
-        found.append(Damage(rises[0], rises[before], "", NO_FRAME, (PulseIndex(0), PulseIndex(before - 1))))
+        found.append(Damage(rises[0], rises[before], "", NO_FRAME, (PulseIndex(0), plus(before, -1))))
     if beyond < many:
         found.append(Damage(rises[beyond], listing.length, "", NO_FRAME, (beyond, PulseIndex(many - 1))))
     return found

@@ -9,8 +9,8 @@ from typing import Sequence
 from .command import kept, run
 from .damage import Damage, look
 from .editor import Editor, progress_to
-from .ending import FOUND, SOUND, complain
-from .facts import damages
+from .ending import ALL_RIGHT, FOUND, complain
+from .facts import damages_as_json
 from .opening import Opened, opened
 from .options import DUMP, EDITOR, JSON, QUIET, TIMESCALE, WIRE, Command, Given, Option, a_file
 from .output import check_apart, write
@@ -44,7 +44,7 @@ def work(given: Given) -> int:
     check_apart(name, [(option.name, given.text(option)) for option in (PAGE, PICTURE)])
     with kept(name) as path, opened(path, name, given, given.text(WIRE)) as track:
         if not given.has(QUIET):
-            say(track, COMMAND.name)
+            say_notes(track, COMMAND.name)
         seen = look(Editor(track.words), progress_to(sys.stderr))
         found = sum(not damage.is_remark for damage in seen.damages)
         text = "%d\n" % found if given.has(COUNT) else text_of(seen.damages, track, given.has(JSON))
@@ -52,10 +52,10 @@ def work(given: Given) -> int:
         draw(given, sheet_of(os.path.basename(name), seen))
     if not given.has(QUIET):
         sys.stdout.write(text)
-    return FOUND if found else SOUND
+    return FOUND if found else ALL_RIGHT
 
 
-def say(track: Opened, program: str) -> None:
+def say_notes(track: Opened, program: str) -> None:
     """Says on standard error what was chosen, and what was subtracted from the times."""
     for note in track.notes:
         complain(note, program)
@@ -64,7 +64,7 @@ def say(track: Opened, program: str) -> None:
 
 
 def text_of(found: Sequence[Damage], track: Opened, as_json: bool) -> str:
-    return damages(found, track.offset) if as_json else "".join(damage.line() + "\n" for damage in found)
+    return damages_as_json(found, track.offset) if as_json else "".join(damage.line() + "\n" for damage in found)
 
 
 def draw(given: Given, sheet: Sheet) -> None:

@@ -7,10 +7,10 @@ from typing import IO, Callable, Union
 
 from .carrier import CARRIERS, Carrier
 from .command import run
-from .ending import FOUND, SOUND, Usage, complain
+from .ending import ALL_RIGHT, FOUND, Usage, complain
 from .layout import INTERVAL
-from .levels import Levels, Negative
-from .options import Command, Given, Option, a_file, whole
+from .levels import Levels
+from .options import OUTPUT, Command, Given, Option, whole
 from .output import check_apart, output
 from .samples import RAW, Samples
 from .table import Steps, Table
@@ -27,8 +27,8 @@ def a_distance(word: str) -> float:
     return value
 
 
-FORMAT = Option("--format", "A|B|E", "the format of code on a carrier (10 kHz, 1 kHz, 100 Hz); B if it is not given",
-                choices=("A", "B", "E", "G"))
+CARRIER_FORMAT = Option("--format", "A|B|E", "the format of code on a carrier (10 kHz, 1 kHz, 100 Hz); B if it is not given",
+                        choices=("A", "B", "E", "G"))
 CARRIER = Option("--carrier", "HERTZ", "another carrier: 1000 for format E", whole(1))
 LEVEL = Option("--level", about="the code is not on a carrier: the samples are its level")
 THRESHOLD = Option("--threshold", "N", "with --level: low and high that are no further apart are noise; if it is not "
@@ -43,20 +43,19 @@ RATE = Option("--rate", "HERTZ", "the samples in a second, with --raw or --table
 TABLE = Option("--table", about="SAMPLES is a table of an oscilloscope or a logic analyser, as CSV")
 TIME_COLUMN = Option("--time-column", "NAME", "the column of the times, by its head or its number, from 1")
 COLUMN = Option("--column", "NAME", "the column of the levels or volts")
-OUT = Option("--out", "FILE", "the file to write, whole or not at all, instead of standard output", a_file)
 COMMAND = Command("irig_demodulate", ("SAMPLES",), """\
 Makes a dump of recorded samples of IRIG 200-04 time code. SAMPLES is a WAV file
 (also WAVE_FORMAT_EXTENSIBLE, RF64 and W64) of integers or floats, or with --raw
 numbers without a head, or one a line, or with --table rows of numbers; - is
 standard input.
-""", (FORMAT, CARRIER, LEVEL, THRESHOLD, CHANNEL, SWAP, NO_SWAP, KIND, RATE, TABLE, TIME_COLUMN,
-      COLUMN, OUT), """\
+""", (CARRIER_FORMAT, CARRIER, LEVEL, THRESHOLD, CHANNEL, SWAP, NO_SWAP, KIND, RATE, TABLE, TIME_COLUMN,
+      COLUMN, OUTPUT), """\
 The status is 0 if pulses were found, 1 if there are none, 2 if the samples were
 not read, and 70 if memory ran out or the tool has a defect.
 """)
-HEAD = "$timescale 1 us $end\n$scope module irig $end\n$var wire 1 ! irig $end\n$upscope $end\n"
+DUMP_HEAD = "$timescale 1 us $end\n$scope module irig $end\n$var wire 1 ! irig $end\n$upscope $end\n"
 MOST_GAPS = 20  # that are named
-Reader = Union[Levels, Carrier, Steps]
+Demodulator = Union[Levels, Carrier, Steps]
 ENOUGH = 0.9  # of the pulses that a format has in that time
 # what to do if no pulse is found
 ADVICE = {Carrier: "if the code is not on a carrier but a level, use --level",
@@ -64,12 +63,7 @@ ADVICE = {Carrier: "if the code is not on a carrier but a level, use --level",
           Steps: "the column has no 1; --column names another"}
 
 
-def samples_of(given: Given, swapped: bool) -> Samples:
-    kind = Negative if swapped else Samples
-    return kind(given.names[0], given.number(CHANNEL) or 1, given.text(KIND) or "", given.number(RATE) or 0)
-
-
-def check(given: Given) -> None:
+def check_options(given: Given) -> None:
     """Refuses options that exclude each other, and those that another one needs: none is left out in silence."""
     for one, other in ((SWAP, NO_SWAP), (LEVEL, CARRIER)):
         if given.has(one) and given.has(other):
@@ -91,16 +85,17 @@ def table_of(given: Given) -> Table:
     return Table(given.names[0], given.text(TIME_COLUMN), given.text(COLUMN), given.number(RATE) or 0, swapped)
 
 
-def reader_of(given: Given) -> Reader:
-    check(given)
+def reader_of(given: Given) -> Demodulator:
+    check_options(given)
     if not given.has(TABLE):
-        return reader_of_samples(given, lambda swapped: samples_of(given, swapped))
+        values = given.names[0], given.number(CHANNEL) or 1, given.text(KIND) or "", given.number(RATE) or 0
+        return reader_of_samples(given, lambda swapped: Samples(*values, swapped))
     table = table_of(given)
     return Steps(table, given.has(SWAP)) if table.is_levels else reader_of_samples(given, lambda _: table)
 
 
-def reader_of_samples(given: Given, samples: Callable[[bool], Samples]) -> Reader:
-    name = given.text(FORMAT) or "B"
+def reader_of_samples(given: Given, samples: Callable[[bool], Samples]) -> Demodulator:
+    name = given.text(CARRIER_FORMAT) or "B"
     if given.has(LEVEL):
         threshold = given.values.get(THRESHOLD.name)
         return Levels(samples(given.has(SWAP)), threshold)
@@ -111,7 +106,7 @@ def reader_of_samples(given: Given, samples: Callable[[bool], Samples]) -> Reade
     return Carrier(samples(False), hertz, name, given.has(SWAP) if known else None)
 
 
-def say_gaps(reader: Reader) -> None:
+def say_gaps(reader: Demodulator) -> None:
     """Names the stretches without a signal."""
     what, rate = "carrier" if isinstance(reader, Carrier) else "signal", reader.samples.rate
     for start, end in reader.gaps[:MOST_GAPS]:
@@ -120,7 +115,7 @@ def say_gaps(reader: Reader) -> None:
         say("and %d such stretches more" % (len(reader.gaps) - MOST_GAPS))
 
 
-def remark(reader: Reader) -> None:
+def remark(reader: Demodulator) -> None:
     """Says what was found out about plus and minus."""
     if isinstance(reader, Carrier) and reader.asked:
         way = reader.ways[0]
@@ -143,9 +138,9 @@ def say(text: str) -> None:
     complain(text, COMMAND.name)
 
 
-def write_dump(reader: Reader, out: IO[bytes]) -> int:
+def write_dump(reader: Demodulator, out: IO[bytes]) -> int:
     """Writes the edges as a dump: the number of pulses."""
-    out.write((HEAD + "$enddefinitions $end\n#0\n$dumpvars\n0!\n$end\n").encode())
+    out.write((DUMP_HEAD + "$enddefinitions $end\n#0\n$dumpvars\n0!\n$end\n").encode())
     pulses = 0
     for place, level in reader.edges():
         pulses += level
@@ -155,9 +150,9 @@ def write_dump(reader: Reader, out: IO[bytes]) -> int:
 
 
 def work(given: Given) -> int:
-    check_apart(given.names[0], [(OUT.name, given.text(OUT))])
+    check_apart(given.names[0], [(OUTPUT.name, given.text(OUTPUT))])
     reader = reader_of(given)
-    with output(given.text(OUT)) as out:
+    with output(given.text(OUTPUT)) as out:
         pulses = write_dump(reader, out)
     if pulses:
         remark(reader)
@@ -167,10 +162,10 @@ def work(given: Given) -> int:
     seconds = reader.length / reader.samples.rate
     say("%d pulses in %.3f seconds" % (pulses, seconds))
     if isinstance(reader, Carrier):
-        say_few(given.text(FORMAT) or "B", pulses, seconds)
+        say_few(given.text(CARRIER_FORMAT) or "B", pulses, seconds)
     if not pulses:
         say(ADVICE[type(reader)])
-    return SOUND if pulses else FOUND
+    return ALL_RIGHT if pulses else FOUND
 
 
 def main() -> int:

@@ -13,8 +13,8 @@ PLAIN = {"0": "0", "1": "1", "x": "x", "X": "x", "z": "z", "Z": "z"}
 STRONG = {"h": "1", "H": "1", "l": "0", "L": "0", "u": "x", "U": "x", "w": "x", "W": "x", "-": "x"}
 PORTS = {"D": "0", "d": "0", "L": "0", "l": "0", "0": "0", "U": "1", "u": "1", "H": "1", "h": "1", "1": "1",
          "T": "z", "F": "z", "Z": "z"}
-LETTERS = {**PLAIN, **STRONG}
-SCALAR = frozenset(map(ord, LETTERS))
+SCALAR_LETTERS = {**PLAIN, **STRONG}
+SCALAR = frozenset(map(ord, SCALAR_LETTERS))
 MOST_KEPT = 1 << 13  # words whose meaning is kept
 PAIRS = frozenset(b"bBrRsS")
 SKIPPED = BODY | {b"$end"}
@@ -35,12 +35,12 @@ class Wanted:
         self.signals[code] = [pair for pair in self.signals[code] if pair[0] != signal]
         if not self.signals[code]:
             del self.signals[code]
-        for letter in LETTERS:
+        for letter in SCALAR_LETTERS:
             self.scalars.pop(letter.encode() + code, None)
 
     def meaning(self, word: bytes) -> List[Tuple[int, str]]:
         """The changes that a word for wires of one bit means."""
-        value = LETTERS[chr(word[0])]
+        value = SCALAR_LETTERS[chr(word[0])]
         found = [(signal, value) for signal, place in self.signals.get(word[1:], ()) if place == 0]
         if len(self.scalars) < MOST_KEPT:
             self.scalars[word] = found

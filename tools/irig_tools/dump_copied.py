@@ -5,11 +5,11 @@ import re
 from itertools import chain
 from typing import IO, Iterator, List
 
-from .dump_source import LONGEST, Source
+from .dump_source import LONGEST_WORD, Source
 from .editor import Problem
 
 TOKEN = re.compile(rb"\S+\s*")
-MANY = 1 << 12  # words that are copied at once
+MOST_TAKEN = 1 << 12  # words that are copied at once
 
 
 class Copied(Source):
@@ -44,8 +44,8 @@ class Copied(Source):
             if not rest:
                 self.out.write(data[:len(data) - len(data.lstrip())])
             rest = found.pop() if found else b""
-            if len(rest) > LONGEST:
-                raise Problem("%s: is no dump: a word has more than %d bytes" % (self.path, LONGEST))
+            if len(rest) > LONGEST_WORD:
+                raise Problem("%s: is no dump: a word has more than %d bytes" % (self.path, LONGEST_WORD))
             yield found
         yield [rest] if rest else []
 
@@ -55,5 +55,5 @@ class Copied(Source):
             for raw in found:
                 taken.append(raw)
                 yield raw.rstrip()
-                if self.free and len(taken) > MANY:
+                if self.free and len(taken) > MOST_TAKEN:
                     self.copy(len(taken) - 1)

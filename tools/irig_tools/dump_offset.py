@@ -4,7 +4,7 @@ from __future__ import annotations
 from dataclasses import dataclass
 from typing import Optional, Sequence
 
-from .dump_units import FEMTOSECONDS, NAMES, Unit
+from .dump_units import FEMTOSECONDS, UNIT_NAMES, Unit
 
 MARK = (b"irig_wire:", b"offset")  # the first words of the comment
 MOST_DIGITS = 60
@@ -32,7 +32,7 @@ class Offset:
         """The sum, in the finer of both units."""
         if other is None:
             return self
-        name = max(self.name, other.name, key=NAMES.index)
+        name = max(self.name, other.name, key=UNIT_NAMES.index)
         return Offset((self.femtoseconds + other.femtoseconds) // FEMTOSECONDS[name], name)
 
     def in_units(self, unit: Unit) -> Optional[int]:

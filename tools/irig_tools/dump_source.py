@@ -15,13 +15,13 @@ from typing import IO, Callable, Iterator, List, Tuple, cast
 
 from . import sigrok
 from .editor import Problem
-from .progress import counted
+from .progress import metered
 
-BLOCK = 1 << 17  # bytes that are read at once
+DUMP_BLOCK = 1 << 17  # bytes that are read at once
 ZIP = b"PK\x03\x04"  # how a file of sigrok begins
-LONGEST = 1 << 24  # bytes of a word
-HEAD = 9  # bytes that say what a file is
-OTHERS = (
+LONGEST_WORD = 1 << 24  # bytes of a word
+HEAD_BYTES = 9  # bytes that say what a file is
+NO_DUMPS = (
     (b"\x00\x00\x00\x00\x00\x00\x00\x01\x49", "an FST file; 'fst2vcd FILE' makes a dump of it"),
     (b"\x13\x80", "an LXT2 file; 'lxt2vcd FILE' makes a dump of it"),
     (b"VZ", "a VZT file; 'vzt2vcd FILE' makes a dump of it"),
@@ -83,8 +83,8 @@ class Source:
         for block in self.unpacked():
             words = (rest + block).split()
             rest = b"" if block[-1:].isspace() or not words else words.pop()
-            if len(rest) > LONGEST:
-                raise Problem("%s: is no dump: a word has more than %d bytes" % (self.path, LONGEST))
+            if len(rest) > LONGEST_WORD:
+                raise Problem("%s: is no dump: a word has more than %d bytes" % (self.path, LONGEST_WORD))
             yield from words
         if rest:
             yield rest
@@ -99,10 +99,10 @@ class Source:
     def _blocks(self) -> Iterator[bytes]:
         opened = cast(IO[bytes], sys.stdin.buffer) if self.path == "-" else open(self.path, "rb")
         with opened as plain:
-            stream = counted(plain, self.path)
-            head = stream.read(HEAD)
-            joined = cast(IO[bytes], io.BufferedReader(_Joined(head, stream), BLOCK))
-            for magic, what in OTHERS:
+            stream = metered(plain, self.path)
+            head = stream.read(HEAD_BYTES)
+            joined = cast(IO[bytes], io.BufferedReader(_Joined(head, stream), DUMP_BLOCK))
+            for magic, what in NO_DUMPS:
                 if head.startswith(magic):
                     raise Problem("%s: is no dump but %s" % (self.path, what))
             for magic, name, unpack in PACKED:
@@ -116,10 +116,10 @@ class Source:
         self.notes.append("the channels of a file of sigrok were made wires")
         with tempfile.TemporaryFile() as copy:
             shutil.copyfileobj(stream, copy)
-            yield from sigrok.blocks(copy, self.path)
+            yield from sigrok.dump_of(copy, self.path)
 
     def _plain(self, stream: IO[bytes]) -> Iterator[bytes]:
-        block = stream.read(BLOCK)
+        block = stream.read(DUMP_BLOCK)
         marks = (codecs.BOM_UTF16_LE, "utf-16-le"), (codecs.BOM_UTF16_BE, "utf-16-be"), (codecs.BOM_UTF8, "")
         decode = None
         for mark, code in marks:
@@ -130,4 +130,4 @@ class Source:
                 break
         while block:
             yield decode.decode(block).encode() or b" " if decode else block
-            block = stream.read(BLOCK)
+            block = stream.read(DUMP_BLOCK)

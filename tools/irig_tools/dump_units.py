@@ -7,10 +7,10 @@ from fractions import Fraction
 
 from .editor import Problem
 
-NAMES = ("s", "ms", "us", "ns", "ps", "fs")
-FEMTOSECONDS = {name: int(10 ** (15 - 3 * place)) for place, name in enumerate(NAMES)}
+UNIT_NAMES = ("s", "ms", "us", "ns", "ps", "fs")
+FEMTOSECONDS = {name: int(10 ** (15 - 3 * place)) for place, name in enumerate(UNIT_NAMES)}
 MICROSECOND = FEMTOSECONDS["us"]
-FORM = re.compile(r"(\d{1,30}(?:\.\d{1,30})?)?\s*([munpf\u00b5\u03bc]?)s(?:ec)?")
+UNIT_FORM = re.compile(r"(\d{1,30}(?:\.\d{1,30})?)?\s*([munpf\u00b5\u03bc]?)s(?:ec)?")
 
 
 @dataclass
@@ -24,7 +24,7 @@ class Unit:
 
 def permitted(femtoseconds: int) -> Unit:
     """The largest permitted unit that divides this without a remainder."""
-    for name in NAMES:
+    for name in UNIT_NAMES:
         for number in (100, 10, 1):
             size = number * FEMTOSECONDS[name]
             if femtoseconds % size == 0:
@@ -34,7 +34,7 @@ def permitted(femtoseconds: int) -> Unit:
 
 def unit_of(text: str) -> Unit:
     """The unit that a text names: `1 ns`, `10000000ps`, `2.5us`."""
-    found = FORM.fullmatch(text.strip().lower())
+    found = UNIT_FORM.fullmatch(text.strip().lower())
     if not found:
         raise Problem("'%s' is no unit of time; give one, as --timescale 1ns" % text[:60])
     name = (found[2].replace("\u00b5", "u").replace("\u03bc", "u") or "") + "s"

@@ -59,7 +59,7 @@ def moved_from(at: Microseconds, by: int) -> List[Edit]:
     return [Edit("mark", ("z", at)), Edit("shift", (by,), "'z", THE_LAST), Edit("unmark", ("z",))]
 
 
-def lines_of(edits: Sequence[Edit]) -> List[str]:
+def script_lines(edits: Sequence[Edit]) -> List[str]:
     return [edit.line() for edit in edits]
 
 
@@ -67,4 +67,4 @@ def repair_of(at: Microseconds, comments: Sequence[str], edits: Sequence[Edit], 
               removed: int = 0, instead: Sequence[Edit] = ()) -> Repair:
     """The edits that belong together, with what they move."""
     moves = [edit.move for edit in edits if edit.move]
-    return Repair(at, list(comments), lines_of(edits), removed, lines_of(instead), until, moves)
+    return Repair(at, list(comments), script_lines(edits), removed, script_lines(instead), until, moves)

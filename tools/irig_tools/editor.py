@@ -11,7 +11,8 @@ from typing import IO, Callable, List, Optional, Sequence, Set
 from .units import Microseconds
 
 CLASSES = {b"zero": "0", b"one": "1", b"position": "P", b"bad": "b"}
-BLOCK = 1 << 22  # bytes that are read at once
+CUT_OFF = "irig_ed ended before its answer did"
+ANSWER_BLOCK = 1 << 22  # bytes that are read at once
 
 Progress = Callable[[str], None]
 
@@ -25,6 +26,7 @@ class Listing:
     """What the editor prints of a track after some repairs."""
 
     length: Microseconds = Microseconds(0)
+    pulses: int = 0  # as the editor counts them
     kind: str = "B"
     expression: int = 2
     rises: List[Microseconds] = field(default_factory=list)
@@ -119,7 +121,7 @@ class Editor:
                 assert program.stdout is not None
                 said = _read_answers(program.stdout, listing, blocks)
                 if said is None:
-                    _read_pulses(program.stdout, listing)
+                    said = _read_pulses(program.stdout, listing)
                 status = program.wait()
             complaints.seek(0)
             told = " ".join(complaints.read().decode(errors="replace").split())
@@ -141,15 +143,17 @@ def _read_answers(answers: IO[bytes], listing: Listing, blocks: int) -> Optional
             last = line.decode(errors="replace").strip()
         elif words[0] == b"length":
             info = info_of(words)
-            listing.length, listing.kind, listing.expression = info.length, info.kind, info.expression
+            listing.length, listing.pulses = info.length, info.pulses
+            listing.kind, listing.expression = info.kind, info.expression
             done += 1
     return None
 
 
-def _read_pulses(answers: IO[bytes], listing: Listing) -> None:
+def _read_pulses(answers: IO[bytes], listing: Listing) -> Optional[str]:
+    """Reads the list; returns what is said if the editor ended before that."""
     blocks = []
     while True:
-        words = (answers.read(BLOCK) + answers.readline()).split()
+        words = (answers.read(ANSWER_BLOCK) + answers.readline()).split()
         if not words or words[0] == b"?":
             break
         try:
@@ -159,6 +163,7 @@ def _read_pulses(answers: IO[bytes], listing: Listing) -> None:
         except (KeyError, ValueError) as error:
             raise _other_release(words[:4]) from error
     listing.classes = "".join(blocks)
+    return None if len(listing.classes) == listing.pulses else CUT_OFF
 
 
 def progress_to(stream: IO[str]) -> Progress:

@@ -8,7 +8,7 @@ from . import limits
 from .edit import Edit, inserted, of_pulse, of_pulses
 from .faults import Faults
 from .layout import NAMES
-from .units import Microseconds, PlaceNumber, PulseIndex, places
+from .units import Microseconds, PlaceNumber, PulseIndex, plus, through
 
 
 @dataclass
@@ -47,7 +47,7 @@ def _item(faults: Faults, place: PlaceNumber) -> Optional[Item]:
 
 def _divide(faults: Faults, place: PlaceNumber, many: int, pulses: Sequence[PulseIndex]) -> Optional[Item]:
     """Parts one pulse that reaches over several places."""
-    over = places(place, place + many)
+    over = through(place, plus(place, many))
     if any(each not in faults.wanted for each in over):
         return None
     track, last = faults.track, over[-1]
@@ -57,7 +57,7 @@ def _divide(faults: Faults, place: PlaceNumber, many: int, pulses: Sequence[Puls
         edits.append(of_pulses("delete", extra[0], extra[-1]))
     if len(pulses) > 1:
         edits.append(of_pulses("join", pulses[0], pulses[-1]))
-    parts = [PulseIndex(pulses[0] + k) for k in range(many + 1)]
+    parts = through(pulses[0], plus(pulses[0], many))
     for pulse, each, after in zip(parts, over, over[1:]):
         fall = track.rise_at(each) + faults.width(faults.wanted[each])
         edits.append(of_pulse("split", pulse, fall, track.rise_at(after)))

@@ -10,7 +10,7 @@ from typing import Callable
 from . import progress
 from .editor import Problem
 
-SOUND, FOUND, NOT_READ = 0, 1, 2  # statuses
+ALL_RIGHT, FOUND, NOT_READ = 0, 1, 2  # statuses
 DEFECT = 70  # a defect, or memory ran out: EX_SOFTWARE of sysexits.h
 INTERRUPTED, UNREAD = 130, 141  # as a shell shows the signals INT and PIPE
 

@@ -6,7 +6,7 @@ from typing import Any, Dict, List, Tuple
 from .dump_choice import Signal, bit_of
 from .dump_header import Header, Wire
 
-WIDEST = 64  # bits of a vector that is looked at
+WIDEST_VECTOR = 64  # bits of a vector that is looked at
 WIRES = 1 << 40  # more than a dump has
 
 Numbered = Tuple[int, Signal]
@@ -15,14 +15,14 @@ Numbered = Tuple[int, Signal]
 def numbered(wire: Wire, place: int) -> List[Numbered]:
     """The signals of a wire with this place in the header. Those of one bit come first, then those of vectors."""
     if wire.single:
-        return [(place * WIDEST, Signal(wire.code, 0, wire.path))]
+        return [(place * WIDEST_VECTOR, Signal(wire.code, 0, wire.path))]
     first = min(wire.first, wire.last)
     bits = [(number, bit_of(wire, first + number)) for number in range(abs(wire.first - wire.last) + 1)]
-    return [((WIRES + place) * WIDEST + number, signal) for number, signal in bits if signal]
+    return [((WIRES + place) * WIDEST_VECTOR + number, signal) for number, signal in bits if signal]
 
 
 def is_looked_at(wire: Wire) -> bool:
-    return wire.single or wire.bits and 1 < wire.size <= WIDEST and abs(wire.first - wire.last) < WIDEST
+    return wire.single or wire.bits and 1 < wire.size <= WIDEST_VECTOR and abs(wire.first - wire.last) < WIDEST_VECTOR
 
 
 class Every(Dict[bytes, List[Tuple[int, int]]]):
@@ -60,7 +60,7 @@ class Every(Dict[bytes, List[Tuple[int, int]]]):
         del self.wires[code]
 
     def signal(self, number: int) -> Signal:
-        place = number // WIDEST % WIRES
+        place = number // WIDEST_VECTOR % WIRES
         return dict(numbered(self.all[place], place))[number]
 
     def count(self) -> int:

@@ -9,28 +9,28 @@ from .editor import Listing
 from .frames import Times
 from .interval import Clock
 from .layout import NAMES
-from .units import FrameNumber, PlaceNumber, number_of
+from .units import FrameNumber, number_of, plus
 
 
 def explained(listing: Listing, findings: Findings) -> List[str]:
     lines = ["%d pulses in %d microseconds" % (len(listing.rises), listing.length)]
     lines += ["the whole recording: " + repair.comments[0] for repair in findings.whole]
     if findings.clock:
-        lines.append(_of_clock(findings.clock))
+        lines.append(_clock_line(findings.clock))
     lines += ["remark: at %d: %s" % (remark.at, remark.seen) for remark in findings.remarks]
     for number, part in enumerate(reversed(findings.parts), 1):
         lines.append("part %d of %d" % (number, len(findings.parts)))
-        lines += [*_of_runs(part), *_of_times(part.times), *_of_places(part)]
+        lines += [*_run_lines(part), *_frame_lines(part.times), *_place_lines(part)]
     return lines
 
 
-def _of_clock(clock: Clock) -> str:
+def _clock_line(clock: Clock) -> str:
     return ("clock: interval %.2f of %d, noise %.1f%s; in step within %.0f, a step from %.0f on, doubt %.3f an interval"
             % (clock.interval, clock.nominal, clock.noise, ", exact" if clock.exact else "", clock.margin,
                clock.least_step, clock.doubt))
 
 
-def _of_runs(part: Part) -> Iterator[str]:
+def _run_lines(part: Part) -> Iterator[str]:
     before = 0.0
     for run in part.track.runs:
         glued = ", glued" if run.glued else ""
@@ -41,7 +41,7 @@ def _of_runs(part: Part) -> Iterator[str]:
         before = run.cost
 
 
-def _of_times(times: Times) -> Iterator[str]:
+def _frame_lines(times: Times) -> Iterator[str]:
     for span in times.spans:
         yield "frames %d to %d: base %d, frame 0 at %s" % (
             span.first, span.last, span.base, times.calendar.name(span.base))
@@ -59,11 +59,11 @@ def _votes(times: Times, number: FrameNumber) -> str:
     return ", ".join(said) or "no base"
 
 
-def _of_places(part: Part) -> Iterator[str]:
+def _place_lines(part: Part) -> Iterator[str]:
     """What is wanted at each faulty place; those without a pulse one after the other are one line."""
     faults, track, lost = part.faults, part.track, ""
     for place, name in sorted(faults.wanted.items()):
-        after = PlaceNumber(place + 1)
+        after = plus(place, 1)
         lost += name
         if track.pulses_at(place):
             guess = ", a guess" if place in faults.guesses else ""
@@ -71,6 +71,6 @@ def _of_places(part: Part) -> Iterator[str]:
                 place, track.rise_at(place), faults.seen(place), NAMES[name], guess)
             lost = ""
         elif after not in faults.wanted or track.pulses_at(after):
-            first = PlaceNumber(after - len(lost))
+            first = plus(after, -len(lost))
             yield "places %d to %d, from %d on: no pulse; wanted are %s" % (first, place, track.rise_at(first), lost)
             lost = ""

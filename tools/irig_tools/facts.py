@@ -12,7 +12,7 @@ from .units import number_of
 
 Object = Dict[str, object]
 # what is seen, and what kind of damage it is
-KINDS: Tuple[Tuple[str, str], ...] = (
+DAMAGE_KINDS: Tuple[Tuple[str, str], ...] = (
     ("pulses where one has to be", "split"),
     ("pulses have run together", "joined"),
     ("on all comes [0-9]+ (late|early)", "step"),
@@ -36,46 +36,46 @@ KINDS: Tuple[Tuple[str, str], ...] = (
 STEPS = frozenset(("step", "cut", "twice", "times"))  # of the recorder's clock
 UNDECIDED = "undecided"  # the word in a comment, if nothing decides
 FRAME = re.compile(r"frame ([0-9:T-]+), element ([0-9]+)(?: to (?:frame ([0-9:T-]+), element )?([0-9]+))?")
-PULSES = re.compile(r"pulses? ([0-9]+)(?: to ([0-9]+))?")
-MOVED = re.compile(r"on all comes ([0-9]+) (late|early)")
+PULSE_NUMBERS = re.compile(r"pulses? ([0-9]+)(?: to ([0-9]+))?")
+REST_COMES = re.compile(r"on all comes ([0-9]+) (late|early)")
 
 
 def kind_of(seen: str) -> str:
     """The kind of damage that a text names."""
-    return next((kind for pattern, kind in KINDS if re.search(pattern, seen)), "other")
+    return next((kind for pattern, kind in DAMAGE_KINDS if re.search(pattern, seen)), "other")
 
 
-def place_of(text: str) -> Object:
+def place_named(text: str) -> Object:
     """The frames, elements and pulses that a text names."""
-    frame, pulses = FRAME.search(text), PULSES.search(text)
+    frame, pulses = FRAME.search(text), PULSE_NUMBERS.search(text)
     ends = [frame[1], frame[3] or frame[1]] if frame else None
     elements = [int(frame[2]), int(frame[4] or frame[2])] if frame else None
     numbers = [int(pulses[1]), int(pulses[2] or pulses[1])] if pulses else None
     return {"frames": ends, "elements": elements, "pulses": numbers}
 
 
-def step_of(text: str) -> Optional[int]:
+def step_named(text: str) -> Optional[int]:
     """By how many microseconds a rest comes late, negative if it comes early."""
-    found = MOVED.search(text)
+    found = REST_COMES.search(text)
     return None if not found else int(found[1]) * (1 if found[2] == "late" else -1)
 
 
 def of_damage(damage: Damage, offset: Optional[Offset]) -> Object:
     """A place of damage, or a remark."""
-    place = place_of(damage.name)
+    place = place_named(damage.name)
     if damage.pulses:
         place["pulses"] = list(map(number_of, damage.pulses))
     kind = kind_of(damage.seen)
     return {"time": damage.at, "until": max(damage.at, damage.until), **_original(damage.at, offset), "kind": kind,
-            "damage": not damage.is_remark, **place, "seen": damage.seen, "step": step_of(damage.seen)}
+            "damage": not damage.is_remark, **place, "seen": damage.seen, "step": step_named(damage.seen)}
 
 
 def of_repair(repair: Repair, offset: Optional[Offset]) -> Object:
     """A repair that is proposed, or what is left to the user."""
     why = repair.comments[0] if repair.comments else ""
     return {"time": repair.at, "until": max(repair.at, repair.until), **_original(repair.at, offset),
-            "kind": kind_of(why), "repair": bool(repair.edits), "undecided": is_undecided(repair), **place_of(why),
-            "why": list(repair.comments), "script": list(repair.edits), "step": step_of(why)}
+            "kind": kind_of(why), "repair": bool(repair.edits), "undecided": is_undecided(repair), **place_named(why),
+            "why": list(repair.comments), "script": list(repair.edits), "step": step_named(why)}
 
 
 def is_undecided(repair: Repair) -> bool:
@@ -91,14 +91,14 @@ def _original(at: int, offset: Optional[Offset]) -> Object:
     return {"original": "%d%s" % (at + whole, "." + digits if digits else "")}
 
 
-def lines(objects: Sequence[Object]) -> str:
+def json_lines(objects: Sequence[Object]) -> str:
     """An object a line."""
     return "".join(json.dumps(each, ensure_ascii=True) + "\n" for each in objects)
 
 
-def damages(found: Sequence[Damage], offset: Optional[Offset]) -> str:
-    return lines([of_damage(each, offset) for each in found])
+def damages_as_json(found: Sequence[Damage], offset: Optional[Offset]) -> str:
+    return json_lines([of_damage(each, offset) for each in found])
 
 
-def repairs(script: Sequence[Repair], offset: Optional[Offset]) -> str:
-    return lines([of_repair(each, offset) for each in script])
+def repairs_as_json(script: Sequence[Repair], offset: Optional[Offset]) -> str:
+    return json_lines([of_repair(each, offset) for each in script])

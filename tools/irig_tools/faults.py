@@ -10,7 +10,7 @@ from .frames import Times
 from .layout import NAMES, POSITIONS, READABLE, SHARE
 from .texts import counted
 from .track import Track
-from .units import FrameNumber, Microseconds, PlaceNumber, PulseIndex, frame_of, number_of, place_in, places
+from .units import FrameNumber, Microseconds, PlaceNumber, PulseIndex, frame_of, number_of, place_in, plus, through
 
 
 @dataclass
@@ -26,7 +26,7 @@ class Remark:
         return "undecided: at %d: %s%s" % (self.at, self.seen, "; " + self.choice if self.choice else "")
 
 
-def numbered(first: PulseIndex, last: PulseIndex) -> str:
+def pulses_text(first: PulseIndex, last: PulseIndex) -> str:
     """Pulses as their users know them."""
     return "pulse %d" % number_of(first) if first == last else "pulses %d to %d" % (number_of(first), number_of(last))
 
@@ -151,7 +151,7 @@ class Faults:
         """For how many microseconds the level is not that of the target, within its interval."""
         begin = self.track.rise_at(place)
         end, fall = begin + round(limits.INTERVAL_SEEN * self.clock.interval), begin + self.width(target)
-        nearby = places(self.track.within(place - 3), self.track.within(place + 1))
+        nearby = through(self.track.within(plus(place, -3)), self.track.within(plus(place, 1)))
         high = both = 0
         for pulse in self.track.pulses_of(nearby):
             low, top = max(begin, self.rises[pulse]), min(end, self.falls[pulse])
@@ -173,7 +173,7 @@ class Faults:
         pulses = self.track.pulses_at(place)
         if not pulses:
             return "%s, at %d" % (self.name(place), self.track.rise_at(place))
-        return "%s, %s" % (self.name(place), numbered(pulses[0], pulses[-1]))
+        return "%s, %s" % (self.name(place), pulses_text(pulses[0], pulses[-1]))
 
     def reason(self, place: PlaceNumber) -> str:
         """Why this class has to be there."""

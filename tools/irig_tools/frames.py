@@ -7,6 +7,7 @@ from operator import itemgetter
 from typing import Dict, List, Mapping, Optional, Sequence, Tuple
 
 from . import limits
+from .grouping import grouped
 from .interval import Run
 from .layout import READABLE
 from .moments import DAY
@@ -14,7 +15,7 @@ from .spans import Bases, Span, fit
 from .splices import spliced
 from .steadiness import Steadiness
 from .track import Track
-from .units import Base, FrameNumber, Hundredths, frame_of
+from .units import Base, FrameNumber, Hundredths, frame_of, plus
 from .votes import Votes
 
 
@@ -71,18 +72,13 @@ class Times(Votes):
         return bases
 
     def _find_spans(self, bases: Bases) -> List[Span]:
-        spans: List[Span] = []
-        for number in self.texts:
-            base = bases[number]
-            if base is not None and spans and spans[-1].base == base:
-                spans[-1] = spans[-1]._replace(last=number)
-            elif base is not None:
-                spans.append(Span(number, number, base))
-        return spans
+        spans = [Span(number, number, base) for number in self.texts for base in [bases[number]] if base is not None]
+        alike = grouped(spans, lambda before, span: before.base != span.base)
+        return [Span(group[0].first, group[-1].last, group[0].base) for group in alike]
 
     def turns_at(self, number: FrameNumber) -> bool:
         """Whether the frames on both sides of this one lead to different times."""
-        before, after = (self.bases.get(FrameNumber(each)) for each in (number - 1, number + 1))
+        before, after = (self.bases.get(plus(number, by)) for by in (-1, 1))
         return None not in (before, after) and before != after
 
     def _agreed(self, numbers: Sequence[FrameNumber]) -> Optional[Base]:

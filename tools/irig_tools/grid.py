@@ -11,9 +11,9 @@ from typing import List, Optional, Sequence
 
 RISE = 0.5  # what a rise costs at least that is not where code has one; a sure cycle is worth 1
 BY_NOISE, MOST_RISE = 20, 1.5  # what it costs more with noise: so often its square; and at most
-FALL, UNKNOWN, MISSING = 0.5, 0.5, 0.5  # of that: a fall; an edge before the place is known; a rise that is not there
-MOST = 1.5  # that a cycle is worth
-SEEN, SHARE, KEPT = 4, 0.6, 0.75  # rises that say where they are; that are at one place; and how they count later
+FALL, UNPLACED, MISSING = 0.5, 0.5, 0.5  # of that: a fall; an edge before the place is known; a rise that is not there
+MOST_WORTH = 1.5  # that a cycle is worth
+SEEN, SAME_PLACE, KEPT = 4, 0.6, 0.75  # rises that say where they are; that are at one place; and how they count later
 
 
 class Grid:
@@ -28,7 +28,7 @@ class Grid:
     def costs(self, noise: float) -> None:
         """Sets what each edge costs; the noise is a share of the way from low to high."""
         rise, place = min(MOST_RISE, max(RISE, BY_NOISE * noise * noise)), self.place
-        self.rises = self.falls = [UNKNOWN * rise] * self.element
+        self.rises = self.falls = [UNPLACED * rise] * self.element
         self.stays = [0.0] * self.element
         if place >= 0:
             self.rises = [rise * (at != place) for at in range(self.element)]
@@ -43,7 +43,7 @@ class Grid:
             if now > before:
                 self.votes[place % self.element] += 1
         total, most = sum(self.votes), max(self.votes)
-        place = self.votes.index(most) if most >= SHARE * total and total >= SEEN else -1
+        place = self.votes.index(most) if most >= SAME_PLACE * total and total >= SEEN else -1
         changed, self.place = place != self.place, place
         return changed
 
@@ -60,7 +60,7 @@ class Grid:
             rose.append(rises_now)
             fell.append(falls_now)
             low = down if falls_now else low
-            high = (up if rises_now else high) + (value if -MOST < value < MOST else math.copysign(MOST, value))
+            high = (up if rises_now else high) + (value if -MOST_WORTH < value < MOST_WORTH else math.copysign(MOST_WORTH, value))
         return self._back(rose, fell, int(high > low))
 
     @staticmethod

@@ -6,16 +6,16 @@ from typing import List, NamedTuple, Optional, Sequence
 
 from .editor import Problem
 
-SECONDS = {"s": 1.0, "sec": 1.0, "second": 1.0, "seconds": 1.0, "ms": 1e-3, "us": 1e-6, "\u00b5s": 1e-6, "\u03bcs": 1e-6,
-           "ns": 1e-9, "ps": 1e-12}
-OTHERS = ("v", "mv", "volt", "volts", "sequence")
+SECONDS_IN = {"s": 1.0, "sec": 1.0, "second": 1.0, "seconds": 1.0, "ms": 1e-3, "us": 1e-6, "\u00b5s": 1e-6, "\u03bcs": 1e-6,
+              "ns": 1e-9, "ps": 1e-12}
+NO_TIMES = ("v", "mv", "volt", "volts", "sequence")
 TIME = re.compile(r"(?i)\W*(time|t|timestamp|zeit|temps|x|x-axis|seconds?|sec)(\W.*)?")
-RATE = re.compile(r"(?i)\W*(?:meta )?samplerate\W*([0-9.]+) *([kmg]?)(?:hz)?")
-MANY = {"": 1, "k": 1000, "m": 1000000, "g": 1000000000}
+RATE_LINE = re.compile(r"(?i)\W*(?:meta )?samplerate\W*([0-9.]+) *([kmg]?)(?:hz)?")
+PREFIXES = {"": 1, "k": 1000, "m": 1000000, "g": 1000000000}
 NUMBER = re.compile(r"[+-]?(\d+\.?\d*|\.\d+)([eE][+-]?\d+)?")
 
 
-class Form(NamedTuple):
+class Columns(NamedTuple):
     """What parts the fields, which of them have the time and the value, from 0, and how many seconds a unit of time is."""
 
     parted: str
@@ -47,9 +47,9 @@ def is_row(line: str, places: Sequence[int]) -> bool:
 def rate_of(heads: Sequence[str]) -> int:
     """The samples in a second that the heads of sigrok name; 0 if they do not."""
     for head in heads:
-        found = RATE.match(head)
+        found = RATE_LINE.match(head)
         if found:
-            return round(float(found[1]) * MANY[found[2].lower()])
+            return round(float(found[1]) * PREFIXES[found[2].lower()])
     return 0
 
 
@@ -63,15 +63,15 @@ class Heads:
         lines = [fields for fields in lines if len(fields) >= self.count - 1]
         last = lines[-1] if lines else []
         units = [field.strip("()[] ").lower() for field in last]
-        has_units = len(lines) > 1 and all(not unit or unit in SECONDS or unit in OTHERS or NUMBER.fullmatch(unit) for unit in units)
+        has_units = len(lines) > 1 and all(not unit or unit in SECONDS_IN or unit in NO_TIMES or NUMBER.fullmatch(unit) for unit in units)
         self.names = lines[-2] if has_units else last
         self.units = units if has_units else [_in_name(name) for name in self.names]
 
-    def form(self, time: Optional[str], value: Optional[str], counted: bool) -> Form:
+    def form(self, time: Optional[str], value: Optional[str], counted: bool) -> Columns:
         """The columns that are meant; without times if the rows are counted."""
         place = self._place(time) if time else None if counted else self._time()
         unit = self.units[place] if place is not None and place < len(self.units) else ""
-        return Form(self.parted, place, self._place(value) if value else self._value(place), SECONDS.get(unit, 1.0))
+        return Columns(self.parted, place, self._place(value) if value else self._value(place), SECONDS_IN.get(unit, 1.0))
 
     def _time(self) -> Optional[int]:
         for place, name in enumerate(self.names):

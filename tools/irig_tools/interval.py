@@ -11,7 +11,7 @@ from typing import List, Optional, Sequence, Tuple
 from . import limits
 from .editor import Listing
 from .phases import turns
-from .units import PlaceNumber, PulseIndex
+from .units import Microseconds, PlaceNumber, PulseIndex, plus
 
 
 @dataclass(frozen=True)
@@ -40,26 +40,26 @@ class Run:
 
     @property
     def last_place(self) -> PlaceNumber:
-        return PlaceNumber(self.place + self.last - self.first)
+        return plus(self.place, self.last - self.first)
 
 
-def run_of(first: int, beyond: int, glued: bool = False) -> Run:
+def run_of(first: PulseIndex, beyond: PulseIndex, glued: bool = False) -> Run:
     """The pulses from one up to another."""
-    return Run(PulseIndex(first), PulseIndex(beyond - 1), glued=glued)
+    return Run(first, plus(beyond, -1), glued=glued)
 
 
-def distances(times: Sequence[int]) -> List[int]:
+def distances(times: Sequence[Microseconds]) -> List[int]:
     return list(map(sub, islice(times, 1, None), times))
 
 
-def breaks(apart: Sequence[int], interval: float, margin: float) -> List[int]:
+def breaks(apart: Sequence[int], interval: float, margin: float) -> List[PulseIndex]:
     """The pulses that do not follow the one before by an interval, and in the end the one after the last."""
     low, high = interval - margin, interval + margin
     odd = {each for each in set(apart) if not low <= each <= high}
-    return [*compress(count(1), map(odd.__contains__, apart)), len(apart) + 1]
+    return [PulseIndex(each) for each in (*compress(count(1), map(odd.__contains__, apart)), len(apart) + 1)]
 
 
-def share_in_step(times: Sequence[int], interval: int) -> float:
+def share_in_step(times: Sequence[Microseconds], interval: int) -> float:
     """How many of the neighbours are one interval apart: 0 to 1."""
     apart = distances(times)
     return len(_in_step(apart, interval)) / max(1, len(_sampled(apart)))
@@ -101,7 +101,9 @@ class Clock:
         self.stray = self._within(limits.LEAST_STRAY, limits.STRAY_BY_NOISE, limits.MOST_STRAY)
         self.grid = _grid(listing, between, self.interval)
         self.least_step = self._find_least_step(between)
-        steady = [part for run in self._find_runs(apart) for part in self._stepped(run, apart)]
+        ends = breaks(apart, self.interval, self.margin)
+        found = [run_of(first, beyond) for first, beyond in zip([PulseIndex(0), *ends], ends)]
+        steady = [part for run in found for part in self._stepped(run, apart)]
         self.runs = [part for run in steady for part in self._parted(run)]
         self._measure([self.rises[run.last] - self.rises[run.first] for run in self.runs])
         self.runs = list(map(self.fit, self.runs))
@@ -142,10 +144,6 @@ class Clock:
         low, _, high = statistics.quantiles(local, n=4)
         return max(limits.LEAST_STEP / limits.FAR, limits.EIGHT_OF_TEN * (high - low))
 
-    def _find_runs(self, apart: Sequence[int]) -> List[Run]:
-        ends = breaks(apart, self.interval, self.margin)
-        return [run_of(first, beyond) for first, beyond in zip([0, *ends], ends)]
-
     def _find_least_step(self, between: Sequence[int]) -> float:
         """A step within a run shows from this many microseconds on, as the distances of the recording are spread."""
         off = sorted(abs(each - self.interval) for each in between)
@@ -155,33 +153,33 @@ class Clock:
     def _stepped(self, run: Run, apart: Sequence[int]) -> List[Run]:
         """The run, or its parts if all that follow a pulse come late or early by a step too small to end a run."""
         found: List[Run] = []
-        first: int = run.first
+        first = run.first
         low, high = self.interval - self.least_step, self.interval + self.least_step
-        odd = [at for at, each in enumerate(apart[run.first:run.last], run.first + 1) if not low < each < high]
+        odd = [PulseIndex(at) for at, each in enumerate(apart[run.first:run.last], run.first + 1) if not low < each < high]
         for after in odd:
             if min(after - first, run.last - after + 1) >= limits.SIDE:
                 if abs(self._step_at(first, after, run.last)) >= self.least_step:
                     found.append(run_of(first, after))
                     first = after
-        return found + [run_of(first, run.last + 1)]
+        return found + [run_of(first, plus(run.last, 1))]
 
     def _parted(self, run: Run) -> List[Run]:
         """The run, or the parts of it that have one phase each."""
         if run.count < limits.LONG_RUN:
             return [run]
         parts: List[Run] = []
-        first: int = run.first
+        first = run.first
         for low, high in turns(self.text(run)):
             if run.first + low > first and high < run.count:
-                parts.append(run_of(first, run.first + low, glued=bool(parts)))
-                first = run.first + high
-        return parts + [run_of(first, run.last + 1, glued=bool(parts))]
+                parts.append(run_of(first, plus(run.first, low), glued=bool(parts)))
+                first = plus(run.first, high)
+        return parts + [run_of(first, plus(run.last, 1), glued=bool(parts))]
 
     def text(self, run: Run) -> str:
         """The classes of its pulses."""
         return self.classes[run.first:run.last + 1]
 
-    def _step_at(self, first: int, after: int, last: int) -> float:
+    def _step_at(self, first: PulseIndex, after: PulseIndex, last: PulseIndex) -> float:
         """By how much the pulses from `after` on come late, by those near it on both sides."""
         rises, many = self.rises, min(after - first, last - after + 1, limits.NEAR)
         low, high = max(first, after - limits.FAR), min(last, after + limits.FAR - 1)

@@ -10,9 +10,10 @@ PERIOD = {"A": 10, "B": 100, "E": 1000, "G": 1}  # hundredths of a second from f
 POSITIONS = (0, 9, 19, 29, 39, 49, 59, 69, 79, 89, 99)
 SHARE = {"0": 0.2, "1": 0.5, "P": 0.8}  # nominal widths, in intervals
 NAMES = {"0": "zero", "1": "one", "P": "position", "b": "bad"}
-MOST = {"hundredths": 99, "seconds": 60, "minutes": 59, "hours": 23, "days": 366, "year": 99, "binary": 86400}
+LARGEST_IN = {"hundredths": 99, "seconds": 60, "minutes": 59, "hours": 23, "days": 366, "year": 99, "binary": 86400}
 CONTROL = {"A": (50, 60, 70), "B": (50, 60, 70), "E": (50, 60, 70, 80, 90), "G": (60, 70, 80, 90)}
 READABLE = re.compile("P[01]{8}P(?:[01]{9}P){9}")
+WITH_CONTROL, WITH_BINARY, WITH_YEAR = (0, 1, 4, 5), (0, 3, 4, 7), (4, 5, 6, 7)  # coded expressions
 DECIMAL = (1, 2, 4, 8, 10, 20, 40, 80, 100, 200)
 
 Fields = Dict[str, int]
@@ -28,8 +29,7 @@ class Layout:
         self.fields: Dict[str, List[Tuple[int, int]]] = {}
         self._known: Dict[Tuple[str, str], int] = {}
         self._add_fields()
-        with_control = expression in (0, 1, 4, 5)
-        tens = CONTROL[kind][expression >= 4:] if with_control else ()
+        tens = CONTROL[kind][expression in WITH_YEAR:] if expression in WITH_CONTROL else ()
         self.control = [ten + unit for ten in tens for unit in range(9)]
         self.carried = sorted(element for rows in self.fields.values() for element, _ in rows)
         used = {*self.carried, *self.control, *POSITIONS}
@@ -48,10 +48,10 @@ class Layout:
             self._add("hundredths", range(45, 49), DECIMAL[4:])
         if self.kind == "G":
             self._add("hundredths", range(50, 54), DECIMAL)
-        if self.expression >= 4:
+        if self.expression in WITH_YEAR:
             first = 60 if self.kind == "G" else 50
             self._add("year", (*range(first, first + 4), *range(first + 5, first + 9)), DECIMAL)
-        if self.expression in (0, 3, 4, 7) and self.kind in "AB":
+        if self.expression in WITH_BINARY and self.kind in "AB":
             self._add("binary", (*range(80, 89), *range(90, 98)), [1 << bit for bit in range(17)])
 
     def _add(self, name: str, elements: Iterable[int], weights: Iterable[int]) -> None:
@@ -78,7 +78,7 @@ class Layout:
         if not set(self._carried_of(text)) <= {"0", "1"}:
             return None
         told = {name: self.value(name, text) for name in self.fields}
-        if not told["days"] or not all(0 <= value <= MOST[name] for name, value in told.items()):
+        if not told["days"] or not all(0 <= value <= LARGEST_IN[name] for name, value in told.items()):
             return None
         if told["seconds"] == 60 and (told["minutes"], told["hours"]) != (59, 23):
             return None

@@ -7,7 +7,7 @@ from typing import Sequence, Set, Tuple
 
 from .layout import Fields
 from .moments import DAY, SECOND, Calendar
-from .units import FrameNumber, Hundredths
+from .units import FrameNumber, Hundredths, plus
 
 LEAP_DAYS = {181, 182, 365, 366}  # 30 June and 31 December
 
@@ -16,7 +16,7 @@ Read = Sequence[Tuple[FrameNumber, Fields]]
 
 def _shown(calendar: Calendar, read: Read) -> Set[Hundredths]:
     """The moments at which a frame shows that second 60 begins."""
-    return {Hundredths(calendar.moment_of(told) - told.get("hundredths", 0)) for _, told in read if told["seconds"] == 60}
+    return {plus(calendar.moment_of(told), -told.get("hundredths", 0)) for _, told in read if told["seconds"] == 60}
 
 
 def _possible(calendar: Calendar, read: Read) -> Set[Hundredths]:

@@ -14,18 +14,10 @@ from .samples import LITTLE, RAW, Samples, ranks
 UP, DOWN = 0.6, 0.4  # of the way from low to high: what is above is high, what is below is low
 MIDDLE = 0.1  # of the values of a stretch: more between these two are noise
 STRETCH = 0.5  # seconds: five intervals of format E
-FEWEST, MOST = 1 << 12, 1 << 20  # samples in a stretch
+LEAST_STRETCH, MOST_STRETCH = 1 << 12, 1 << 20  # samples in a stretch
 LEAST = 1 / 1000  # of the whole range of integers of 16 bits or more: levels that are nearer are noise
 
-Span = Tuple[float, float]  # a low and a high level
-
-
-class Negative(Samples):
-    """Samples with plus and minus swapped."""
-
-    def chunks(self, length: int) -> Iterator[Sequence[float]]:
-        for values in super().chunks(length):
-            yield [-value for value in values]
+LowHigh = Tuple[float, float]  # a low and a high level
 
 
 class Levels:
@@ -35,13 +27,13 @@ class Levels:
     def __init__(self, samples: Samples, threshold: Optional[float] = None) -> None:
         self.samples, self.length, self.level = samples, 0, 0
         self.threshold = least_of(samples.kind) if threshold is None else threshold
-        self.size = max(FEWEST, min(MOST, round(samples.rate * STRETCH)))
+        self.size = max(LEAST_STRETCH, min(MOST_STRETCH, round(samples.rate * STRETCH)))
         self.gaps: List[Tuple[int, int]] = []
-        self.span: Optional[Span] = None  # of the last stretch that had one of its own
+        self.span: Optional[LowHigh] = None  # of the last stretch that had one of its own
         self.last = self.crossed = 0.0  # a value, and where the middle was crossed
 
     def edges(self) -> Iterator[Edge]:
-        waiting: Optional[Tuple[Sequence[float], Optional[Span]]] = None
+        waiting: Optional[Tuple[Sequence[float], Optional[LowHigh]]] = None
         for values in self.samples.chunks(self.size):
             own = self._own(values)
             if waiting:
@@ -50,7 +42,7 @@ class Levels:
         if waiting:
             yield from self._read(*waiting, None)
 
-    def _own(self, values: Sequence[float]) -> Optional[Span]:
+    def _own(self, values: Sequence[float]) -> Optional[LowHigh]:
         """The levels that a stretch shows."""
         low, high = ranks(values)
         wide = high - low
@@ -60,13 +52,13 @@ class Levels:
         between = sum(1 for value in values if down < value < up)
         return (low, high) if between <= MIDDLE * len(values) else None
 
-    def _lent(self, values: Sequence[float], after: Optional[Span]) -> Optional[Span]:
+    def _lent(self, values: Sequence[float], after: Optional[LowHigh]) -> Optional[LowHigh]:
         """The levels of a neighbour, if the noise of a stretch does not reach their middle."""
         span = self.span or after
         low, high = ranks(values)
         return span if span and high - low < DOWN * (span[1] - span[0]) else None
 
-    def _read(self, values: Sequence[float], own: Optional[Span], after: Optional[Span]) -> Iterator[Edge]:
+    def _read(self, values: Sequence[float], own: Optional[LowHigh], after: Optional[LowHigh]) -> Iterator[Edge]:
         """The edges in a stretch; the pulse that a gap cuts off ends there."""
         span = own or self._lent(values, after)
         self.span = own or self.span
@@ -80,7 +72,7 @@ class Levels:
         self.length += len(values)
         yield from found
 
-    def _crossings(self, values: Sequence[float], span: Span) -> Iterator[Edge]:
+    def _crossings(self, values: Sequence[float], span: LowHigh) -> Iterator[Edge]:
         low, high = span
         up, down, middle = low + UP * (high - low), low + DOWN * (high - low), (low + high) / 2
         last = self.last

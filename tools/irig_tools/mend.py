@@ -78,10 +78,10 @@ class _Mending:
         if first.clock is None or last.clock is None or not self.script[done:]:
             return []
         moved = Moved(self.script[done:])
-        return list(Check(first.layout, first.clock.interval, steps_of(last), (before, self.after), moved).harms())
+        return list(Check(first.layout, first.clock.interval, step_times(last), (before, self.after), moved).harms())
 
 
-def steps_of(findings: Findings) -> List[Microseconds]:
+def step_times(findings: Findings) -> List[Microseconds]:
     """When the parts of a track begin, and each rest that is late or early and is left."""
     tracks = [part.track for part in findings.parts]
     late = [(track, zone.right) for track in tracks for zone in track.zones if zone.late and zone.right]
@@ -123,5 +123,5 @@ def _left_out(repair: Repair, harm: Harm) -> Repair:
     return Repair(repair.at, [said])
 
 
-def text(script: Sequence[Repair]) -> str:
+def script_text(script: Sequence[Repair]) -> str:
     return "".join(line + "\n" for repair in script for line in repair.lines())

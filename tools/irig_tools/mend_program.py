@@ -13,25 +13,24 @@ from .changes import changes_of, find_differ
 from .command import kept, run
 from .apply import Summary, Target, as_object, find_guard, run_script, sound_frames, summary, temporary
 from .damage import Seen, look
-from .damage_program import say
+from .damage_program import say_notes
 from .editor import Editor, Progress, progress_to
-from .ending import FOUND, SOUND, Usage, complain
+from .ending import ALL_RIGHT, FOUND, Usage, complain
 from .explain import explained
-from .facts import UNDECIDED, lines, repairs
-from .mend import called_for, propose, text
+from .facts import UNDECIDED, json_lines, repairs_as_json
+from .mend import called_for, propose, script_text
 from .opening import Opened, is_of_one_wire, opened
-from .options import DUMP, EDITOR, JSON, TIMESCALE, WIRE, Command, Given, Option, a_file
+from .options import DUMP, EDITOR, JSON, OUTPUT, TIMESCALE, WIRE, Command, Given, Option, a_file
 from .output import check_apart, new_file, output, write
 from .overview import sheet_of
 from .page import page
 from .script import Repair
 
-PAGE = Option("--page", "FILE", "also writes a page (HTML) to look at: the whole recording, each place before and "
-              "after its repair, and the script; with --apply what was changed, as irig_diff prints it", a_file)
+PAGE_OF_REPAIRS = Option("--page", "FILE", "also writes a page (HTML) to look at: the whole recording, each place before and "
+                         "after its repair, and the script; with --apply what was changed, as irig_diff prints it", a_file)
 STEADY = Option("--steady", about="the control functions never change: what one frame alone has is damage")
 MOVE = Option("--move", about="moves the rest if it comes late, and takes out what is there twice: only if the time "
               "code has a clock of its own, and no other wire slipped with it")
-OUT = Option("--out", "FILE", "the file to write, whole or not at all, instead of standard output", a_file)
 EXPLAIN = Option("--explain", about="prints instead how the script follows: the clock, the runs and their costs, the "
                  "frames and their votes, and the places")
 APPLY = Option("--apply", "FILE", "runs the script, writes the repaired recording as this file, whole or not at all, and "
@@ -50,7 +49,7 @@ are not given:
   irig_mend --apply new.vcd --into all.vcd all.vcd    with all other wires
   irig_mend --expression 4 track.vcd > repair.ed      read it, change it
   (cat repair.ed; echo write) | irig_ed --expression 4 --out new.vcd track.vcd
-""", (*EDITOR, TIMESCALE, DUMP, PAGE, STEADY, MOVE, EXPLAIN, OUT, APPLY, SAVE, INTO, JSON), """\
+""", (*EDITOR, TIMESCALE, DUMP, PAGE_OF_REPAIRS, STEADY, MOVE, EXPLAIN, OUTPUT, APPLY, SAVE, INTO, JSON), """\
 The editor is the program that IRIG_ED names, or irig_ed on the path.
 The status is 0 if there is nothing to repair, 1 if there is something, 2 if the
 track was not read, and 70 if memory ran out or the tool has a defect. With
@@ -62,7 +61,7 @@ def find_programs(given: Given) -> None:
     """Without the programs that --apply needs nothing is read or written."""
     if given.has(APPLY) and not given.has(MOVE):
         find_guard()
-    if given.has(APPLY) and given.has(PAGE):
+    if given.has(APPLY) and given.has(PAGE_OF_REPAIRS):
         find_differ()
 
 
@@ -72,7 +71,7 @@ def work(given: Given) -> int:
     find_programs(given)
     progress = progress_to(sys.stderr)
     with kept(name) as path, opened(path, name, given, wire_of(given)) as track:
-        say(track, COMMAND.name)
+        say_notes(track, COMMAND.name)
         editor = Editor(track.words)
         if given.has(EXPLAIN):
             return explain(editor, given)
@@ -81,22 +80,22 @@ def work(given: Given) -> int:
             done = apply(given, track, script, progress)
         else:
             draw(given, editor, script, progress)
-    if given.has(OUT) or not given.has(APPLY):
-        with output(given.text(OUT)) as out:
-            out.write((repairs(script, track.offset) if given.has(JSON) else text(script)).encode("utf-8"))
+    if given.has(OUTPUT) or not given.has(APPLY):
+        with output(given.text(OUTPUT)) as out:
+            out.write((repairs_as_json(script, track.offset) if given.has(JSON) else script_text(script)).encode("utf-8"))
     if given.has(APPLY):
         report(given, script, done)
-        return SOUND if done.is_whole else FOUND
-    return FOUND if script else SOUND
+        return ALL_RIGHT if done.is_whole else FOUND
+    return FOUND if script else ALL_RIGHT
 
 
 def explain(editor: Editor, given: Given) -> int:
     """Prints what the first look finds."""
     listing = editor.ask([])
     findings = examine(listing, given.has(STEADY), given.has(MOVE))
-    with output(given.text(OUT)) as out:
+    with output(given.text(OUTPUT)) as out:
         out.write("".join(line + "\n" for line in explained(listing, findings)).encode("utf-8"))
-    return FOUND if called_for(findings) else SOUND
+    return FOUND if called_for(findings) else ALL_RIGHT
 
 
 def check(given: Given) -> None:
@@ -108,11 +107,11 @@ def check(given: Given) -> None:
         raise Usage("--explain and --apply exclude each other")
     if given.has(SAVE) and given.has(INTO):
         raise Usage("--save and --into exclude each other: the steps are those of a track alone")
-    if given.text(APPLY) == "-" and given.text(OUT) == "-":
+    if given.text(APPLY) == "-" and given.text(OUTPUT) == "-":
         raise Usage("--apply and --out cannot both be standard output")
     if given.text(INTO) == "-":
         raise Usage("--into needs a file, and not standard input")
-    outputs = [(option.name, given.text(option)) for option in (PAGE, OUT, APPLY)]
+    outputs = [(option.name, given.text(option)) for option in (PAGE_OF_REPAIRS, OUTPUT, APPLY)]
     for source in filter(None, (given.names[0], given.text(INTO))):
         check_apart(source, outputs)
 
@@ -126,7 +125,7 @@ def wire_of(given: Given) -> Optional[str]:
 
 def draw(given: Given, editor: Editor, script: List[Repair], progress: Progress) -> None:
     """Writes the page of what is proposed, if it is asked for."""
-    path = given.text(PAGE)
+    path = given.text(PAGE_OF_REPAIRS)
     if path is not None:
         after = editor.ask([repair.lines() for repair in script])
         seen = look(editor, progress, given.has(STEADY))
@@ -144,9 +143,9 @@ def apply(given: Given, track: Opened, script: List[Repair], progress: Progress)
         after = look(Editor([*track.code, repaired]), progress, given.has(STEADY))
         frames = sound_frames(track.options, track.path), sound_frames(track.code, repaired)
         with ExitStack() as stack:
-            if given.has(PAGE):
+            if given.has(PAGE_OF_REPAIRS):
                 drawn = drawing(given, track, script, before, after, repaired)
-                stack.enter_context(new_file(given.text(PAGE) or "")).write(drawn.encode("utf-8"))
+                stack.enter_context(new_file(given.text(PAGE_OF_REPAIRS) or "")).write(drawn.encode("utf-8"))
             for note in target.write(repaired, track):
                 complain(note, COMMAND.name)
     return summary(before.damages, after.damages, script, frames, refused)
@@ -165,7 +164,7 @@ def report(given: Given, script: List[Repair], done: Summary) -> None:
     """Prints what became of the recording, and what nothing decides."""
     stream = sys.stderr if given.text(APPLY) == "-" else sys.stdout
     if given.has(JSON):
-        stream.write(lines([as_object(done)]))
+        stream.write(json_lines([as_object(done)]))
         return
     stream.write("%s: %s\n" % (given.names[0], done.text()))
     for comment in (comment for repair in script for comment in repair.comments):

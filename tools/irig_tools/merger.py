@@ -3,15 +3,15 @@ from __future__ import annotations
 
 from typing import Callable, List, NamedTuple, Optional, Sequence, Tuple
 
-from .dump_copied import MANY, Copied
+from .dump_copied import MOST_TAKEN, Copied
 from .dump_units import MICROSECOND, Unit
 from .editor import Problem
 from .wire_words import Own, Scalars
 
 
 NEVER = 1 << 300  # later than all times
-UNLIKE = ("the track is %d microseconds long, and the dump is %s: if it was cut out by --from or --to, give the same "
-          "again; else it was made of another dump")
+OTHER_LENGTH = ("the track is %d microseconds long, and the dump is %s: if it was cut out by --from or --to, give the same "
+                "again; else it was made of another dump")
 COARSE = ("the unit %s of the dump is too coarse for an edge at %d microseconds: move the edge in irig_ed, or keep the track as a "
           "file of its own")
 
@@ -23,7 +23,7 @@ class Level(NamedTuple):
     length: int
 
 
-class Place(NamedTuple):
+class Origin(NamedTuple):
     """Where the track is in a dump: its 0, in the dump's unit, and whether the dump has more before or after it."""
 
     start: int
@@ -37,7 +37,7 @@ class Merger:
         self.source, self.words, self.level, self.unit = source, words, level, unit
         self.scale = unit.femtoseconds * unit.factor
         self.high, self.low = ("0", "1") if turned else ("1", "0")
-        self.place: Optional[Place] = None  # known when the first time that is not 0 is read
+        self.place: Optional[Origin] = None  # known when the first time that is not 0 is read
         self.begin, self.first, self.many = 0, 0, 0  # of what is gathered: its first time, its first word and its end
         self.times: List[Tuple[int, int]] = []  # its words of times, and these times
         self.changes: List[Own] = []  # its changes of the wire
@@ -61,7 +61,7 @@ class Merger:
         at = len(self.source.taken) - 1
         if now < self.calm and not self.changes:
             self.begin, self.first, self.times = now, at, [(at, now)]
-            if at > MANY:
+            if at > MOST_TAKEN:
                 self._copy(at)
         elif self.micro_of(now) == self.micro_of(self.begin):
             self.times.append((at, now))
@@ -82,7 +82,7 @@ class Merger:
 
     def flush(self, many: int, is_last: bool) -> None:
         """Copies what is gathered, that many words, and before it the edges of the track up to it."""
-        self.place = self.place or Place(0, False)
+        self.place = self.place or Origin(0, False)
         micro, self.many = self.micro_of(self.begin), many
         self._check(micro, is_last)
         if 0 <= micro < self.level.length:
@@ -99,9 +99,9 @@ class Merger:
 
     def _check(self, micro: int, is_last: bool) -> None:
         if micro > self.level.length and not (self.place and self.place.is_part):
-            raise Problem(UNLIKE % (self.level.length, "longer"))
+            raise Problem(OTHER_LENGTH % (self.level.length, "longer"))
         if is_last and micro < self.level.length:
-            raise Problem(UNLIKE % (self.level.length, "shorter"))
+            raise Problem(OTHER_LENGTH % (self.level.length, "shorter"))
 
     def _calm(self) -> int:
         """Before that time the track has no edge, no beginning and no end."""

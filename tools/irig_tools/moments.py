@@ -6,7 +6,7 @@ from dataclasses import dataclass
 from typing import Optional
 
 from .layout import Fields, Layout
-from .units import Base, FrameNumber, Hundredths
+from .units import Base, FrameNumber, Hundredths, plus
 
 DAY = 8640000  # hundredths of a second
 SECOND = 100
@@ -34,20 +34,20 @@ class Calendar:
 
     def moment(self, number: FrameNumber, base: Base) -> Hundredths:
         """That of a frame, by a base."""
-        return Hundredths(base + number * self.layout.period)
+        return plus(base, number * self.layout.period)
 
     def moment_of(self, told: Fields) -> Hundredths:
         within = 100 * (3600 * told["hours"] + 60 * told["minutes"] + told["seconds"]) + told.get("hundredths", 0)
         first = FIRST_DAYS[told.get("year", 0)] if self.with_year else 1
-        plain = self._near_leap((first + told["days"] - 1) * DAY + within)
-        return Hundredths(plain if self.leap is None else plain + SECOND * (plain >= self.leap and told["seconds"] != 60))
+        plain = self._near_leap(Hundredths((first + told["days"] - 1) * DAY + within))
+        return plus(plain, SECOND * (self.leap is not None and plain >= self.leap and told["seconds"] != 60))
 
-    def _near_leap(self, moment: int) -> int:
+    def _near_leap(self, moment: Hundredths) -> Hundredths:
         """Without a year the first day follows the last one."""
         if self.with_year or self.leap is None:
             return moment
         year = self.days * DAY
-        return (moment - self.leap + year // 2) % year - year // 2 + self.leap
+        return plus(self.leap, (moment - self.leap + year // 2) % year - year // 2)
 
     def within_leap(self, moment: Hundredths) -> bool:
         """Whether this moment is in a second 60."""
@@ -58,10 +58,10 @@ class Calendar:
 
     def fields(self, moment: Hundredths) -> Fields:
         if self.within_leap(moment):
-            return {**self._plain_fields(moment - SECOND), "seconds": 60, "binary": 86400}
-        return self._plain_fields(moment - SECOND * self.after_leap(moment))
+            return {**self._plain_fields(plus(moment, -SECOND)), "seconds": 60, "binary": 86400}
+        return self._plain_fields(plus(moment, -SECOND * self.after_leap(moment)))
 
-    def _plain_fields(self, moment: int) -> Fields:
+    def _plain_fields(self, moment: Hundredths) -> Fields:
         day, within = divmod(moment, DAY)
         seconds = within // 100
         told = {"hundredths": within % 100, "seconds": seconds % 60, "minutes": seconds // 60 % 60,

@@ -16,7 +16,7 @@ from .readings import best, is_opened, is_read, read
 from .search import Found, Probe, search
 from .wire import Extract, Wish
 
-OFTEN = 8  # wires that are read
+MOST_READ = 8  # wires that are read; the others are at most named
 
 
 @dataclass
@@ -40,7 +40,7 @@ class Opened:
     @property
     def named(self) -> List[str]:
         """The option that names the wire for the editor."""
-        return _wire(self.wire) if self.is_as_it_is else []
+        return _wire_words(self.wire) if self.is_as_it_is else []
 
     @property
     def words(self) -> List[str]:
@@ -79,12 +79,12 @@ def opened(path: str, name: str, given: Given, wire: Optional[str]) -> Iterator[
     find_editor()
     named = given.has(FORMAT) or given.has(EXPRESSION)
     as_is = not given.has(TIMESCALE) and not given.has(DUMP)
-    if named and as_is and is_opened(path, _wire(wire)):
-        yield Opened(path, _code(given), wire, _offset(path), [], True)
+    if named and as_is and is_opened(path, _wire_words(wire)):
+        yield Opened(path, _code_words(given), wire, _offset(path), [], True)
         return
     taken = None if named and (wire is not None or is_of_one_wire(path)) else _take(path, name, given, wire)
     wire = taken.wire if taken and wire is None else wire
-    code = _code(given) if named or not taken else taken.code
+    code = _code_words(given) if named or not taken else taken.code
     notes = [taken.text()] if taken else []
     if taken and as_is and not taken.probe.kind[1] and is_read(path, wire, taken.pulses):
         yield Opened(path, code, wire, _offset(path), notes, True)
@@ -98,11 +98,11 @@ def opened(path: str, name: str, given: Given, wire: Optional[str]) -> Iterator[
         yield Opened(track.name, code, wire, _offset(track.name), notes, unit=unit or found)
 
 
-def _wire(name: Optional[str]) -> List[str]:
+def _wire_words(name: Optional[str]) -> List[str]:
     return [] if name is None else ["%s=%s" % (WIRE.name, name)]
 
 
-def _code(given: Given) -> List[str]:
+def _code_words(given: Given) -> List[str]:
     return ["%s=%s" % (option.name, given.text(option)) for option in (FORMAT, EXPRESSION) if given.has(option)]
 
 
@@ -134,7 +134,7 @@ def _take(path: str, name: str, given: Given, wire: Optional[str]) -> Taken:
         probes = [probe for probe in probes if (probe.signal.code, probe.signal.place) == (signal.code, signal.place)]
     if given.has(FORMAT):
         probes = [probe for probe in probes if probe.kind[0] == given.text(FORMAT)]
-    read_ones = [_read(path, found, probe, dump) for probe in probes[:OFTEN]]
+    read_ones = [_read(path, found, probe, dump) for probe in probes[:MOST_READ]]
     fine = [taken for taken in read_ones if taken.fine]
     if len(fine) == 1:
         return fine[0]

@@ -3,6 +3,7 @@ from __future__ import annotations
 
 import argparse
 from dataclasses import dataclass, field
+from functools import partial
 from typing import Any, Callable, Dict, List, Optional, Sequence, Tuple
 
 from .ending import Usage
@@ -59,6 +60,7 @@ EDITOR = (WIRE, FORMAT, EXPRESSION)  # those of irig_ed
 TIMESCALE = Option("--timescale", "UNIT", "the unit of time, as 1ns, instead of the one in the dump")
 JSON = Option("--json", about="prints an object in JSON for each, one a line")
 QUIET = Option("--quiet", about="prints nothing; the status says it")
+OUTPUT = Option("--out", "FILE", "the file to write, whole or not at all, instead of standard output", a_file)
 DUMP = Option("--dump", "N", "of several dumps in the file, the one with this number", whole(1))
 
 
@@ -103,7 +105,8 @@ class Command:
         """The parser of the options. It has no operands, so that options can be anywhere between them."""
         parser = argparse.ArgumentParser(
             self.name, "%s [options] %s" % (self.name, " ".join(self.operands)), self.about, self.ends,
-            formatter_class=_formatter, add_help=False, allow_abbrev=False, exit_on_error=False)
+            formatter_class=partial(argparse.RawDescriptionHelpFormatter, max_help_position=22, width=82),
+            add_help=False, allow_abbrev=False, exit_on_error=False)
         group = parser.add_argument_group("options")
         for option in self.all_options():
             names = ("-h", option.name) if option is HELP else (option.name,)
@@ -150,7 +153,3 @@ class Command:
         if error.message.startswith("expected"):
             return "%s needs a %s" % (name, "file" if option.value == "FILE" else "value")
         return "%s %s" % (name, error.message)
-
-
-def _formatter(prog: str) -> argparse.HelpFormatter:
-    return argparse.RawDescriptionHelpFormatter(prog, max_help_position=22, width=82)

@@ -10,7 +10,7 @@ from typing import IO, Iterator, Optional, Sequence, Tuple, Union
 
 from .editor import Problem
 
-Place = Union[str, int]  # a path, or the number of an open file
+PathOrNumber = Union[str, int]  # a path, or the number of an open file
 STANDARD_INPUT, STANDARD_OUTPUT = 0, 1
 
 
@@ -35,7 +35,7 @@ def check_apart(source: str, outputs: Sequence[Tuple[str, Optional[str]]] = ()) 
         raise Problem(text % ("the standard output", name))
 
 
-def _identity(place: Place) -> Optional[Tuple[int, int]]:
+def _identity(place: PathOrNumber) -> Optional[Tuple[int, int]]:
     """The device and the inode of a regular file; nothing is lost in a device or a pipe."""
     try:
         found = os.stat(place)

@@ -6,12 +6,12 @@ from dataclasses import replace
 from typing import Iterator, Optional, Sequence, Tuple
 
 from .analysis import Part
-from .damage import Damage, Seen
+from .damage import THE_WHOLE, Damage, Seen
 from .editor import Listing
 from .script import Repair
 from .sheet import DAMAGED, LOST, SOUND, Changes, Place, Sheet, Stretch, Wave, cut, merged
 from .steps import cut_by_a_step
-from .units import frame_of
+from .units import frame_of, place_in
 
 AROUND = 4  # intervals that are shown on both sides of a place
 
@@ -20,8 +20,8 @@ def sheet_of(name: str, seen: Seen, script: Sequence[Repair] = (), after: Option
              changes: Optional[Changes] = None) -> Sheet:
     """The data of a recording; `after` is the listing after the script, or after what was made of it, with its changes."""
     layout = seen.findings.layout
-    notes = [each for each in seen.damages if each.is_remark or each.name == "the whole recording"]
-    places = [_place(seen, each, script, after) for each in seen.damages if each not in notes]
+    notes = [each for each in seen.damages if each.is_remark or each.name == THE_WHOLE]
+    places = [_place_of_damage(seen, each, script, after) for each in seen.damages if each not in notes]
     lines = tuple(line for repair in script for line in repair.lines())
     kind = "%s %d" % (layout.kind, layout.expression)
     said = tuple(each.seen for each in notes)
@@ -35,7 +35,7 @@ def _made(place: Place) -> Place:
     return place if place.after != place.before else replace(place, after=None)
 
 
-def _place(seen: Seen, damage: Damage, script: Sequence[Repair], after: Optional[Listing]) -> Place:
+def _place_of_damage(seen: Seen, damage: Damage, script: Sequence[Repair], after: Optional[Listing]) -> Place:
     around, until = AROUND * seen.findings.layout.interval, max(damage.until, damage.at)
     start, end = max(0, damage.at - around), min(seen.listing.length, until + around)
     repairs = [each for each in script if each.touches(damage.at, damage.at)]
@@ -51,18 +51,18 @@ def _place(seen: Seen, damage: Damage, script: Sequence[Repair], after: Optional
 
 
 def _stretches(seen: Seen) -> Tuple[Stretch, ...]:
-    found = [stretch for part in reversed(seen.findings.parts) for stretch in _of_part(part)]
+    found = [stretch for part in reversed(seen.findings.parts) for stretch in _frame_stretches(part)]
     return merged(found) if found else (Stretch(0, seen.listing.length, DAMAGED),)
 
 
-def _of_part(part: Part) -> Iterator[Stretch]:
+def _frame_stretches(part: Part) -> Iterator[Stretch]:
     """A stretch for each frame."""
     track, done = part.track, part.track.rise_at(part.track.first)
     empty = Counter(frame_of(place) for place in part.faults.wanted if not track.pulses_at(place))
     damaged = {*map(frame_of, part.faults.wanted), *cut_by_a_step(track)}
     undecided = [remark.at for remark in part.remarks + part.faults.remarks]
     for number in track.frames():
-        start, end = (track.rise_at(track.within(100 * each)) for each in (number, number + 1))
+        start, end = (track.rise_at(track.within(place_in(number, element))) for element in (0, 100))
         is_damaged = number in damaged or any(start <= at < end for at in undecided)
         start = max(start, done)
         if start < end:

@@ -19,7 +19,7 @@ class _Pieces:
     def __init__(self, votes: Votes, numbers: Sequence[FrameNumber]) -> None:
         self.votes, self.layout, self.numbers = votes, votes.layout, numbers
 
-    def _vote(self, name: str, means: Callable[[int, int], int]) -> Optional[int]:
+    def _vote(self, name: str, means: Callable[[FrameNumber, int], int]) -> Optional[int]:
         """What most frames mean by a field; None if too few say it, or as many say another thing."""
         rows = self.layout.fields[name]
         texts = [(number, self.votes.texts[number]) for number in self.numbers]
@@ -41,7 +41,7 @@ class _Pieces:
     def _level(self, name: str, unit: int, most: int, known: int) -> Optional[int]:
         """The time of frame 0 within `most`, from that within `unit`."""
 
-        def means(number: int, value: int) -> int:
+        def means(number: FrameNumber, value: int) -> int:
             later = number * self.layout.period
             return ((known + later) % unit + value * unit - later) % most
 
@@ -54,7 +54,7 @@ class _Pieces:
             return None
         start, midnight = within, {"hours": 0, "minutes": 0, "seconds": 0, "year": year}
 
-        def means(number: int, value: int) -> int:
+        def means(number: FrameNumber, value: int) -> int:
             """The base by the day of the year that a frame has."""
             later = number * self.layout.period
             return self.votes.calendar.moment_of({**midnight, "days": value}) + (start + later) % DAY - later

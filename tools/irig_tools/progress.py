@@ -12,7 +12,7 @@ MEGABYTE = 1000000
 SHOWN: List[bool] = []  # one item, while a line is shown
 
 
-class Reading:
+class ReadSoFar:
     """How much of a file or of standard input is read."""
 
     def __init__(self, path: Union[str, int]) -> None:
@@ -42,7 +42,7 @@ class Counted:
     """A stream that says how far it is."""
 
     def __init__(self, stream: IO[bytes], path: str) -> None:
-        self.stream, self.reading = stream, Reading(path)
+        self.stream, self.reading = stream, ReadSoFar(path)
 
     def read(self, size: int = -1) -> bytes:
         data = self.stream.read(size)
@@ -55,7 +55,7 @@ class Counted:
         return data
 
 
-def counted(stream: IO[bytes], path: str) -> IO[bytes]:
+def metered(stream: IO[bytes], path: str) -> IO[bytes]:
     """The stream itself if there is no terminal to show anything on."""
     found = Counted(stream, path)
     return cast(IO[bytes], found) if found.reading.asked else stream

@@ -17,7 +17,7 @@ from .dump_parts import each_dump
 from .dump_source import Source
 from .dump_units import MICROSECOND
 from .editor import Problem
-from .merger import UNLIKE, Level, Merger, Place
+from .merger import OTHER_LENGTH, Level, Merger, Origin
 from .wire import Report, Wish, first_of, unit_in
 from .wire_words import words_of
 
@@ -97,7 +97,7 @@ class PutBack:
         self.merger = Merger(self.source, words, self.track.level, self.unit, self.wish.invert)
         start = self._start()
         if start is not None:
-            self.merger.place = Place(start, True)
+            self.merger.place = Origin(start, True)
         body = _Body(self.source, wanted, self)
         self.source.copy(len(self.source.taken))
         self.source.free = False
@@ -113,7 +113,7 @@ class PutBack:
     def time(self, body: Body) -> None:
         """A time was read; with the first that is not 0 it is known where the track begins."""
         if self.merger.place is None:
-            self.merger.place = Place(first_of(body, self.unit), self.wish.end is not None)
+            self.merger.place = Origin(first_of(body, self.unit), self.wish.end is not None)
         self.merger.time(body.now)
 
     def _start(self) -> Optional[int]:
@@ -135,7 +135,7 @@ class PutBack:
         if self.wish.end is not None:
             has = (min(self.wish.end, body.now) - start) * self.merger.scale // MICROSECOND
             if has != self.track.level.length:
-                raise Problem(UNLIKE % (self.track.level.length, "%d in that part" % has))
+                raise Problem(OTHER_LENGTH % (self.track.level.length, "%d in that part" % has))
 
     def _say(self) -> None:
         merger, length = self.merger, self.track.level.length

@@ -8,7 +8,7 @@ from operator import mul
 from typing import List, Sequence
 
 
-class Table:
+class Sines:
     """Sine and cosine of the nominal carrier at each sample, from phase 0 on, as the parts of a complex number."""
 
     def __init__(self, rate: int, hertz: int, size: int) -> None:
@@ -21,7 +21,7 @@ class Table:
 class Window:
     """A stretch of samples, its first one by its number in the recording. Its mean does not count."""
 
-    def __init__(self, begin: int, values: Sequence[float], table: Table) -> None:
+    def __init__(self, begin: int, values: Sequence[float], table: Sines) -> None:
         self.begin, self.size, self.table = begin, len(values), table
         self.turn = 2 * math.pi * table.hertz / table.rate
         self.mean = sum(values) / len(values)

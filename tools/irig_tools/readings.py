@@ -7,12 +7,10 @@ from contextlib import contextmanager
 from dataclasses import dataclass, field
 from typing import IO, Dict, Iterator, List, Optional, Sequence, Set
 
-from .editor import Problem, find_editor, info_of
+from .editor import CUT_OFF, Problem, find_editor, info_of
+from .layout import WITH_BINARY, WITH_CONTROL, WITH_YEAR
 
 EXPRESSIONS = {"A": range(8), "B": range(8), "E": (1, 2, 5, 6), "G": (1, 2, 5, 6)}
-SECONDS = (0, 3, 4, 7)  # expressions with straight binary seconds
-YEARS = (4, 5, 6, 7)  # with the year
-CONTROLS = (0, 1, 4, 5)  # with control functions
 
 
 @dataclass
@@ -79,6 +77,8 @@ def read(track: str, kind: str) -> Readings:
             elif len(words) > 4 and words[0].isdigit():
                 row.line(words)
         found.refused = run.stderr.read().decode(errors="replace").strip().rpartition(": ")[2]
+    if run.returncode < 0:  # by a signal
+        raise Problem(CUT_OFF)
     return found
 
 
@@ -118,10 +118,10 @@ def best(rows: Sequence[Reading]) -> Reading:
     if not most:
         return next(row for row in rows if row.expression == 2)
     left = [row for row in rows if row.fine == most]
-    with_seconds = [row for row in left if row.expression in SECONDS]
+    with_seconds = [row for row in left if row.expression in WITH_BINARY]
     left = with_seconds or left
     dated = [row for row in left if 0 < len(row.years) < 3 and row.years != {"00"}]
-    plain = [row for row in left if row.expression not in YEARS]
+    plain = [row for row in left if row.expression not in WITH_YEAR]
     left = dated or plain or left
-    quiet = [row for row in left if row.expression not in CONTROLS]
+    quiet = [row for row in left if row.expression not in WITH_CONTROL]
     return (quiet or left)[0]

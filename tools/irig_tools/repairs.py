@@ -8,25 +8,21 @@ from .chance import misread
 from .edit import Edit, inserted, of_pulses, repair_of
 from .edits import Item, items
 from .faults import Faults, Remark
+from .grouping import grouped
 from .layout import SHARE
 from .script import Repair
-from .units import PlaceNumber, places
+from .units import PlaceNumber, plus, through
 from .wholes import late_zones, left_rest, lost_frames, shift
 
 
 def repairs(seen: Faults) -> Tuple[List[Repair], List[Remark]]:
     """What the faults call for, and what is said of a rest that is left. What is close together is one repair."""
     moved, left = late_zones(seen)
-    faults = seen.without({place for zone in left for place in places(zone.first + 1, zone.last - 1)})
+    faults = seen.without({place for zone in left for place in through(plus(zone.first, 1), plus(zone.last, -1))})
     whole = lost_frames(faults)
     single = faults.without({place for item in whole for place in item.targets})
     found = [shift(faults, zone) for zone in moved] + whole + misread(single) + items(single)
-    groups: List[List[Item]] = []
-    for item in sorted(found, key=lambda item: -item.low):
-        if groups and groups[-1][-1].low - item.high <= 1:
-            groups[-1].append(item)
-        else:
-            groups.append([item])
+    groups = grouped(sorted(found, key=lambda item: -item.low), lambda before, item: before.low - item.high > 1)
     return [_repair(single, group) for group in groups], [left_rest(seen, zone) for zone in left]
 
 
@@ -41,7 +37,7 @@ def _repair(faults: Faults, group: List[Item]) -> Repair:
         lost = []
     comments += _of_lost(faults, lost)
     track = faults.track
-    at, until = (track.rise_at(track.within(int(place + 0.5))) for place in (group[-1].low, group[0].high))
+    at, until = (track.rise_at(track.within(PlaceNumber(int(place + 0.5)))) for place in (group[-1].low, group[0].high))
     edits, instead = [edit for item in group for edit in item.edits], _written_again(faults, group)
     if all(item.single for item in group) and 0 < len(instead) < len(edits):
         return repair_of(at, comments, instead, until)
@@ -55,9 +51,9 @@ def _written_again(faults: Faults, group: List[Item]) -> List[Edit]:
         return []
     targets: Dict[PlaceNumber, str] = {}
     for item in group:
-        own = places(int(item.low), int(item.high))
+        own = through(PlaceNumber(int(item.low)), PlaceNumber(int(item.high)))
         targets.update(item.targets or {place: faults.wanted[place] for place in own if place in faults.wanted})
-    written = places(min(targets), max(targets))
+    written = through(min(targets), max(targets))
     if len(written) > limits.MOST_AGAIN:
         return []
     for place in written:

@@ -9,10 +9,10 @@ from typing import IO, Iterator, List, Optional, Sequence, Tuple, cast
 from . import texts
 from .editor import Problem
 from .ending import Usage
-from .progress import counted
-from .sound import Reader
+from .progress import metered
+from .sound import SoundReader
 
-LONGEST = 1000  # bytes of a line with a number
+LONGEST_NUMBER = 1000  # bytes of a line with a number
 LARGEST = 1e30  # of a number
 LITTLE = {"u8": ("B", 1), "s8": ("b", 1), "s16": ("h", 2), "s24": ("i", 3), "s32": ("i", 4), "f32": ("f", 4),
           "f64": ("d", 8)}
@@ -36,26 +36,26 @@ def numbers_of(data: bytes, kind: str) -> Sequence[float]:
     return values
 
 
-def opened(path: str) -> IO[bytes]:
-    return counted(cast(IO[bytes], sys.stdin.buffer) if path == "-" else open(path, "rb"), path)
+def stream_of(path: str) -> IO[bytes]:
+    return metered(cast(IO[bytes], sys.stdin.buffer) if path == "-" else open(path, "rb"), path)
 
 
 class Samples:
-    """One channel, and its rate in hertz."""
+    """One channel, and its rate in hertz; plus and minus are swapped if it is `negative`."""
 
-    def __init__(self, path: str, channel: int, raw: str, rate: int) -> None:
-        self.path, self.channel, self.kind, self.rate = path, channel, raw, rate
+    def __init__(self, path: str, channel: int, raw: str, rate: int, negative: bool = False) -> None:
+        self.path, self.channel, self.kind, self.rate, self.negative = path, channel, raw, rate, negative
         self.channels = 1
         self.left: Optional[int] = None  # bytes of samples, if they are known
         self.notes: List[str] = []
-        self.stream = opened(path)
+        self.stream = stream_of(path)
         if not raw:
             self._sound()
         if self.rate < 1:
             raise Usage("--raw needs --rate, in samples a second")
 
     def _sound(self) -> None:
-        form = Reader(self.stream, self.path).form()
+        form = SoundReader(self.stream, self.path).form()
         self.kind, self.channels, self.rate, self.left = form.kind, form.channels, form.rate, form.size
         if self.channel > self.channels:
             text = "%s: has %d channel%s, and no channel %d"
@@ -65,6 +65,10 @@ class Samples:
 
     def chunks(self, length: int) -> Iterator[Sequence[float]]:
         """Stretches of this many samples; the last may be shorter."""
+        for values in self._stretches(length):
+            yield [-value for value in values] if self.negative else values
+
+    def _stretches(self, length: int) -> Iterator[Sequence[float]]:
         return self._in_lines(length) if self.kind == "text" else self._in_bytes(length)
 
     def _in_bytes(self, length: int) -> Iterator[Sequence[float]]:
@@ -99,7 +103,7 @@ class Samples:
 
     def _in_lines(self, length: int) -> Iterator[Sequence[float]]:
         values: List[float] = []
-        for number, line in enumerate(iter(lambda: self.stream.readline(LONGEST), b""), 1):
+        for number, line in enumerate(iter(lambda: self.stream.readline(LONGEST_NUMBER), b""), 1):
             values.append(self._number(line, number))
             if len(values) == length:
                 yield values
@@ -109,7 +113,7 @@ class Samples:
 
     def _number(self, line: bytes, number: int) -> float:
         try:
-            value = float(line) if len(line) < LONGEST else math.nan
+            value = float(line) if len(line) < LONGEST_NUMBER else math.nan
         except ValueError as error:
             raise Problem("%s: line %d is no number" % (self.path, number)) from error
         if not -LARGEST <= value <= LARGEST:  # nor is it nan

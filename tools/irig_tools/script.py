@@ -6,7 +6,7 @@ from typing import List
 
 from .units import Microseconds
 
-LONGEST = 395  # letters of a comment; the editor refuses lines that are far longer
+LONGEST_COMMENT = 395  # letters of a comment; the editor refuses lines that are far longer
 BY_LINE = 200
 
 
@@ -26,12 +26,12 @@ class Repair:
         """Its edits, by which it is known."""
         return "\n".join(self.edits)
 
-    def touches(self, begin: int, end: int) -> bool:
+    def touches(self, begin: Microseconds, end: Microseconds) -> bool:
         return self.at <= end and begin <= max(self.at, self.until)
 
     def lines(self) -> List[str]:
         edits = ["begin", *self.edits, "end"] if len(self.edits) > 1 else self.edits
-        return ["# " + shortened(comment) for comment in self.comments] + edits
+        return ["# " + _bounded(comment) for comment in self.comments] + edits
 
     def refused(self) -> Repair:
         """The editor refuses one of the edits: the other way, or if there is none a remark."""
@@ -41,5 +41,5 @@ class Repair:
         return Repair(self.at, self.comments + [said])
 
 
-def shortened(comment: str) -> str:
-    return comment if len(comment) <= LONGEST else comment[:LONGEST] + " .."
+def _bounded(comment: str) -> str:
+    return comment if len(comment) <= LONGEST_COMMENT else comment[:LONGEST_COMMENT] + " .."

@@ -16,7 +16,7 @@ from .every import Every
 from .layout import INTERVAL
 
 WINDOW = 1024  # edges that are judged together
-FEWEST = 16  # edges that are judged
+FEWEST_EDGES = 16  # edges that are judged
 HOPELESS = 16  # windows without time code, after which a wire is no longer looked at
 TRIED = ("1 us", "1 ns", "1 ps", "1 ms", "1 fs", "1 s")  # if the dump names no unit
 
@@ -68,7 +68,7 @@ class Probe:
         return self.windows >= HOPELESS and not self.in_units
 
     def judge(self) -> None:
-        if len(self.edges) >= FEWEST:
+        if len(self.edges) >= FEWEST_EDGES:
             for unit, steps in self.units.items():
                 found = kinds_of(self.edges, self.rise_first, steps)
                 if found:

@@ -8,13 +8,13 @@ import zlib
 from typing import IO, Dict, Iterator, List, NamedTuple
 
 from .editor import Problem
+from .heads import PREFIXES
 
-BLOCK = 1 << 20  # bytes that are read at once
-LONGEST = 1 << 16  # bytes of what describes the samples
-RATE = re.compile(r"([0-9.]+)\s*([kMG]?)(?:Hz)?")
-MANY = {"": 1, "k": 1000, "M": 1000000, "G": 1000000000}
-UNITS = (("1 us", 10 ** 6), ("1 ns", 10 ** 9), ("1 ps", 10 ** 12))
-WIDEST = 8  # bytes of a sample
+SAMPLE_BLOCK = 1 << 20  # bytes that are read at once
+LONGEST_METADATA = 1 << 16  # bytes of what describes the samples
+SAMPLERATE = re.compile(r"([0-9.]+)\s*([kMG]?)(?:Hz)?")
+TIME_UNITS = (("1 us", 10 ** 6), ("1 ns", 10 ** 9), ("1 ps", 10 ** 12))
+WIDEST_SAMPLE = 8  # bytes of a sample
 
 
 class Capture(NamedTuple):
@@ -26,12 +26,12 @@ class Capture(NamedTuple):
     names: Dict[int, str]
 
 
-def blocks(stream: IO[bytes], path: str) -> Iterator[bytes]:
+def dump_of(stream: IO[bytes], path: str) -> Iterator[bytes]:
     """The text of a dump of a file that can be read at any place."""
     try:
         with zipfile.ZipFile(stream) as folder:
             capture = _capture(folder, path)
-            unit, many = next((unit for unit in UNITS if unit[1] % capture.rate == 0), UNITS[-1])
+            unit, many = next((unit for unit in TIME_UNITS if unit[1] % capture.rate == 0), TIME_UNITS[-1])
             yield _head(capture, unit)
             yield from _changes(folder, capture, many)
     except (zipfile.BadZipFile, zlib.error, EOFError, NotImplementedError, RuntimeError, UnicodeError, configparser.Error) as error:
@@ -44,29 +44,29 @@ def _capture(folder: zipfile.ZipFile, path: str) -> Capture:
         raise Problem("%s: is a ZIP archive that sigrok did not write; unpack it" % path)
     with folder.open("metadata") as file:
         told = configparser.ConfigParser(interpolation=None)
-        told.read_string(file.read(LONGEST).decode())
+        told.read_string(file.read(LONGEST_METADATA).decode())
     devices = [told[name] for name in told.sections() if name.startswith("device") and "capturefile" in told[name]]
     if not devices:
         raise Problem("%s: has no logic channels; sigrok-cli writes analog ones as CSV, for irig_demodulate --table" % path)
     device = devices[0]
-    rate, size = RATE.fullmatch(device.get("samplerate", "").strip()), device.get("unitsize", "1")
+    rate, size = SAMPLERATE.fullmatch(device.get("samplerate", "").strip()), device.get("unitsize", "1")
     bits = {int(key[5:]) - 1: value for key, value in device.items() if re.fullmatch("probe[1-9][0-9]?", key)}
     files = [name for name in names if re.fullmatch(re.escape(device["capturefile"]) + r"(-\d+)?", name)]
-    if not rate or not float(rate[1]) or not size.isdigit() or not 1 <= int(size) <= WIDEST or not bits or not files:
+    if not rate or not float(rate[1]) or not size.isdigit() or not 1 <= int(size) <= WIDEST_SAMPLE or not bits or not files:
         raise Problem("%s: sigrok's description of the samples lacks a rate, a size or channels" % path)
     files.sort(key=lambda name: int("0" + name[len(device["capturefile"]) + 1:]))
     bits = {bit: name for bit, name in bits.items() if bit < 8 * int(size)}
-    return Capture(files, int(size), round(float(rate[1]) * MANY[rate[2]]), bits)
+    return Capture(files, int(size), round(float(rate[1]) * PREFIXES[rate[2].lower()]), bits)
 
 
 def _head(capture: Capture, unit: str) -> bytes:
     lines = ["$timescale %s $end" % unit, "$scope module sigrok $end"]
-    lines += ["$var wire 1 %s %s $end" % (_code(bit), re.sub(r"[\s$]", "_", name) or "D%d" % bit)
+    lines += ["$var wire 1 %s %s $end" % (_code_of(bit), re.sub(r"[\s$]", "_", name) or "D%d" % bit)
               for bit, name in sorted(capture.names.items())]
     return "\n".join([*lines, "$upscope $end", "$enddefinitions $end", ""]).encode()
 
 
-def _code(bit: int) -> str:
+def _code_of(bit: int) -> str:
     return chr(ord("!") + bit)
 
 
@@ -81,7 +81,7 @@ def _changes(folder: zipfile.ZipFile, capture: Capture, many: int) -> Iterator[b
             if value != last:
                 changed = ~0 if last < 0 else value ^ last
                 lines.append("#%d " % ((number + run.start() // capture.size) * many // capture.rate) + " ".join(
-                    "%d%s" % (value >> bit & 1, _code(bit)) for bit in bits if changed >> bit & 1))
+                    "%d%s" % (value >> bit & 1, _code_of(bit)) for bit in bits if changed >> bit & 1))
                 last = value
         number += len(data) // capture.size
         yield "\n".join([*lines, ""]).encode() or b"\n"
@@ -93,7 +93,7 @@ def _samples(folder: zipfile.ZipFile, capture: Capture) -> Iterator[bytes]:
     rest = b""
     for name in capture.files:
         with folder.open(name) as file:
-            for data in iter(lambda: file.read(BLOCK), b""):
+            for data in iter(lambda: file.read(SAMPLE_BLOCK), b""):
                 data = rest + data
                 over = len(data) % capture.size
                 rest = data[len(data) - over:]

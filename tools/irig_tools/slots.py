@@ -7,9 +7,10 @@ from math import inf
 from typing import Callable, Dict, Iterator, List, NamedTuple, Optional, Sequence, Tuple
 
 from . import limits
+from .grouping import grouped
 from .interval import Clock, Run
 from .phases import Marks, Usual, tells_phase
-from .units import PlaceNumber
+from .units import PlaceNumber, plus
 
 # what a phase costs, the phase of the run before, the elements between, how late it comes
 Choice = Tuple[float, Optional[int], int, float]
@@ -27,11 +28,7 @@ def parts(clock: Clock) -> List[List[Run]]:
     for run in reversed(clock.runs[: sure[0]]):
         if run.count > 1 and clock.on_one_clock(run, runs[0]):
             runs.insert(0, run)
-    found = [runs[:1]]
-    for before, run in zip(runs, runs[1:]):
-        if run.begin - before.end > limits.LONGEST_HOLE * clock.interval:
-            found.append([])
-        found[-1].append(run)
+    found = grouped(runs, lambda before, run: run.begin - before.end > limits.LONGEST_HOLE * clock.interval)
     return [_trim(clock, each) for each in found]
 
 
@@ -229,7 +226,7 @@ def link(clock: Clock, runs: List[Run], unused: Sequence[int]) -> Linked:
     found = way.runs[:1]
     for run in way.runs[1:]:
         run = _glued(clock, run)
-        found.append(replace(run, place=PlaceNumber(found[-1].last_place + run.step)))
+        found.append(replace(run, place=plus(found[-1].last_place, run.step)))
     return Linked(way.cost, found)
 
 

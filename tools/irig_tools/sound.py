@@ -13,13 +13,13 @@ from .editor import Problem
 from .texts import counted
 
 PCM, FLOAT, EXTENSIBLE = 1, 3, 0xfffe  # forms of samples
-KINDS = {(PCM, 1): "u8", (PCM, 2): "s16", (PCM, 3): "s24", (PCM, 4): "s32", (FLOAT, 4): "f32", (FLOAT, 8): "f64"}
+SAMPLE_KINDS = {(PCM, 1): "u8", (PCM, 2): "s16", (PCM, 3): "s24", (PCM, 4): "s32", (FLOAT, 4): "f32", (FLOAT, 8): "f64"}
 W64_RIFF = b"riff\x2e\x91\xcf\x11\xa5\xd6\x28\xdb\x04\xc1\x00\x00"
-LONGEST = 1 << 20  # bytes of the chunk that describes the samples
+LONGEST_CHUNK = 1 << 20  # bytes of the chunk that describes the samples
 EMPTY = "says that it has %s and %s in a second; --raw reads the samples without the head"
 UNKNOWN = 0xffffffff, 0xffffffffffffffff  # sizes that say nothing
 SOX = "'sox FILE -t wav - | irig_demodulate -' reads it"
-OTHERS = (
+NO_SOUNDS = (
     (b"fLaC", "a FLAC file; 'flac -dc FILE | irig_demodulate -' reads it"),
     (b"OggS", "an Ogg file; " + SOX), (b"FORM", "an AIFF file; " + SOX), (b"caff", "a CAF file; " + SOX),
     (b".snd", "an AU file; " + SOX), (b"ID3", "an MP3 file; " + SOX),
@@ -39,7 +39,7 @@ class Form:
     size: Optional[int] = None
 
 
-class Reader:
+class SoundReader:
     """Reads the head of a sound file, up to its first sample."""
 
     def __init__(self, stream: IO[bytes], path: str) -> None:
@@ -73,7 +73,7 @@ class Reader:
         if head == W64_RIFF[:12] and (head + self.stream.read(28))[:16] == W64_RIFF:
             self.wide = True
             return
-        for magic, what in OTHERS:
+        for magic, what in NO_SOUNDS:
             if head.startswith(magic):
                 raise self._problem("is no WAV file but %s" % what)
         raise self._problem("is no WAV file; --raw reads samples without a head, --table a table")
@@ -90,10 +90,10 @@ class Reader:
     def _body(self, size: int) -> bytes:
         """The body of a chunk that is no sample, up to a length, with what fills it up."""
         fill = -size % (8 if self.wide else 2)
-        body = self.stream.read(min(size, LONGEST))
+        body = self.stream.read(min(size, LONGEST_CHUNK))
         left = size + fill - len(body)
         while left > 0:
-            passed = len(self.stream.read(min(left, LONGEST)))
+            passed = len(self.stream.read(min(left, LONGEST_CHUNK)))
             left = left - passed if passed else 0
         return body
 
@@ -104,7 +104,7 @@ class Reader:
         if tag == EXTENSIBLE and len(body) >= 26:
             tag = struct.unpack_from(self.order + "H", body, 24)[0]
         size = step // channels if channels and step % channels == 0 and step else (bits + 7) // 8
-        kind = KINDS.get((tag, size))
+        kind = SAMPLE_KINDS.get((tag, size))
         if not channels or not rate:
             raise self._problem(EMPTY % (counted(channels, "channel"), counted(rate, "sample")))
         if kind is None:

@@ -5,7 +5,7 @@ from typing import Dict, Sequence
 
 from .layout import READABLE
 from .spans import Span
-from .units import Base, FrameNumber
+from .units import Base, FrameNumber, plus, through
 from .votes import Votes
 
 
@@ -15,8 +15,7 @@ def spliced(votes: Votes, spans: Sequence[Span]) -> Dict[FrameNumber, Base]:
     for before, after in zip(spans, spans[1:]):
         if not votes.track.is_glued(before.last, after.first):
             # the frames that have one of `before` before them, and one of `after` after them
-            between = range(max(before.last, before.first + 1), min(after.first, after.last - 1) + 1)
-            numbers = map(FrameNumber, between)
+            numbers = through(max(before.last, plus(before.first, 1)), min(after.first, plus(after.last, -1)))
             found.update({each: before.base for each in numbers if _is_spliced(votes, each, before.base, after.base)})
     return found
 

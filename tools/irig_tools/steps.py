@@ -7,17 +7,17 @@ from typing import Iterator, List, Sequence
 
 from . import limits
 from .copies import copy_between, without_copy
-from .edit import lines_of, moved_from
+from .edit import moved_from, script_lines
 from .faults import Faults, Remark
 from .frames import Times
 from .interval import Run
 from .remarks import missing
 from .track import Track
-from .units import FrameNumber, PlaceNumber, PulseIndex, frame_of, number_of
+from .units import FrameNumber, Microseconds, PulseIndex, frame_of, number_of, plus, through
 from .zones import Zone
 
 RECORDER = "that is left: if the recorder slipped, all its wires did, and these times are right"
-ALONE = "; if the time code alone slipped, irig_mend --move moves it, or after this script "
+CODE_ALONE = "; if the time code alone slipped, irig_mend --move moves it, or after this script "
 
 
 class Step:
@@ -43,7 +43,7 @@ class Step:
             many = self.elements - self.zone.straight() if self.known else None
             return Remark(self.at, missing(self.zone, many), _choice(self._edits()))
         first = right.track.first
-        place = PlaceNumber(first - round((right.track.rise_at(first) - self.at) / self.zone.interval))
+        place = plus(first, -round((right.track.rise_at(first) - self.at) / self.zone.interval))
         return Remark(self.at, self._moved(), _choice(self._edits()), right.name(place))
 
     def _moved(self) -> str:
@@ -60,10 +60,10 @@ class Step:
 
     def _edits(self) -> List[str]:
         """The lines that move the rest back; none if it does not fit the recording."""
-        return lines_of(moved_from(self.at, -self.late)) if has_room(self.track, self.late) else []
+        return script_lines(moved_from(self.at, -self.late)) if has_room(self.track, self.late) else []
 
 
-def rest_comes(pulse: PulseIndex, at: int, late: int) -> str:
+def rest_comes(pulse: PulseIndex, at: Microseconds, late: int) -> str:
     return "from pulse %d at %d on all comes %d %s" % (number_of(pulse), at, abs(late), "late" if late > 0 else "early")
 
 
@@ -74,7 +74,7 @@ def has_room(track: Track, late: float) -> bool:
 
 def _choice(edits: List[str]) -> str:
     """Both ways to see it, and the lines of the second; none if there is no room."""
-    return RECORDER + (ALONE + "; ".join(edits) if edits else "")
+    return RECORDER + (CODE_ALONE + "; ".join(edits) if edits else "")
 
 
 def step_zones(track: Track) -> List[Zone]:
@@ -98,8 +98,8 @@ def _trimmed(track: Track, run: Run, head: int, tail: int) -> Run:
     head, tail = min(head, run.count - 1), min(tail, run.count - 1)
     if not head and not tail:
         return run
-    first, last = PulseIndex(run.first + head), PulseIndex(run.last - tail)
-    return track.clock.fit(replace(run, first=first, last=last, place=PlaceNumber(run.place + head)))
+    first, last = plus(run.first, head), plus(run.last, -tail)
+    return track.clock.fit(replace(run, first=first, last=last, place=plus(run.place, head)))
 
 
 def cut_by_a_step(track: Track) -> Iterator[FrameNumber]:
@@ -113,4 +113,4 @@ def cut_by_a_step(track: Track) -> Iterator[FrameNumber]:
 def turned(times: Times) -> Iterator[FrameNumber]:
     """The frames from which, or to which, the times of a stretch go on elsewhere."""
     for before, after in zip(times.spans, times.spans[1:]):
-        yield from map(FrameNumber, range(before.last, after.first + 1))
+        yield from through(before.last, after.first)

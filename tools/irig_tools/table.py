@@ -8,9 +8,9 @@ from typing import IO, Iterator, List, Optional, Sequence, Tuple
 from .cycles import Edge
 from .editor import Problem
 from .heads import NUMBER, Heads, fields_of, is_row, rate_of
-from .samples import LARGEST, Samples, opened
+from .samples import LARGEST, Samples, stream_of
 
-LONGEST = 10000  # bytes of a line
+LONGEST_LINE = 10000  # bytes of a line
 MOST_HEADS = 1000  # lines before the first row
 LOOKED_AT = 10000  # rows that show the rate, and whether the values are levels
 EVEN = 0.5  # of the distance of two samples: it is off by less
@@ -25,7 +25,7 @@ class Table(Samples):
 
     def __init__(self, path: str, time: Optional[str], value: Optional[str], rate: int, negative: bool = False) -> None:
         self.path, self.kind, self.notes, self.number, self.negative = path, "text", [], 0, negative
-        self.lines = self._lines(opened(path))
+        self.lines = self._lines(stream_of(path))
         heads, first = self._heads([int(name) - 1 for name in (time, value) if name and name.isdigit() and int(name)])
         self.rate = rate or rate_of(heads)
         self.form = Heads(heads, first, path).form(time, value, bool(rate))
@@ -39,9 +39,9 @@ class Table(Samples):
             self.rate = MICROSECONDS if self.is_levels else self._rate(looked)
 
     def _lines(self, stream: IO[bytes]) -> Iterator[str]:
-        for line in iter(lambda: stream.readline(LONGEST), b""):
+        for line in iter(lambda: stream.readline(LONGEST_LINE), b""):
             self.number += 1
-            if len(line) == LONGEST:
+            if len(line) == LONGEST_LINE:
                 raise Problem("%s: line %d is too long for a table" % (self.path, self.number))
             yield line.decode("utf-8-sig" if self.number == 1 else "utf-8", "replace").strip("\r\n\0 ")
 
@@ -92,12 +92,8 @@ class Table(Samples):
         rate = float("%.3g" % (1 / wide))
         return max(1, round(rate if abs(rate * wide - 1) < ROUND else 1 / wide))
 
-    def chunks(self, length: int) -> Iterator[Sequence[float]]:
-        while True:
-            values = [value for _, value in islice(self.rows, length)]
-            if not values:
-                return
-            yield [-value for value in values] if self.negative else values
+    def _stretches(self, length: int) -> Iterator[Sequence[float]]:
+        return iter(lambda: [value for _, value in islice(self.rows, length)], [])
 
 
 class Steps:

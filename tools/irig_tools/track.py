@@ -5,9 +5,10 @@ from bisect import bisect_right
 from typing import List, Optional, Sequence, Tuple
 
 from . import limits
+from .grouping import grouped
 from .interval import Clock, Run
 from .layout import Layout
-from .units import FrameNumber, Microseconds, PlaceNumber, PulseIndex, frame_of
+from .units import FrameNumber, Microseconds, PlaceNumber, PulseIndex, frame_of, plus, through
 from .zones import Zone
 
 
@@ -56,7 +57,7 @@ class Track:
         if place in self.zone_of:
             return self.zone_of[place].pulses[place]
         run = self.runs[bisect_right(self.starts, place) - 1]
-        return [PulseIndex(run.first + place - run.place)]
+        return [plus(run.first, place - run.place)]
 
     def pulses_of(self, places: Sequence[PlaceNumber]) -> List[PulseIndex]:
         """The pulses of some places, in their order."""
@@ -67,14 +68,14 @@ class Track:
         zone = self.zone_of.get(place)
         return zone.rise_at(place) if zone else self.rises[self.pulses_at(place)[0]]
 
-    def within(self, place: int) -> PlaceNumber:
+    def within(self, place: PlaceNumber) -> PlaceNumber:
         """The place, or the end of the track that is nearest to it."""
-        return PlaceNumber(min(self.last, max(self.first, place)))
+        return min(self.last, max(self.first, place))
 
     def spans(self, place: PlaceNumber, pulse: PulseIndex) -> int:
         """Over how many more places this pulse reaches."""
         many, overlap = 0, limits.OVERLAP * self.clock.interval
-        while place + many < self.last and self.falls[pulse] > self.rise_at(PlaceNumber(place + many + 1)) + overlap:
+        while place + many < self.last and self.falls[pulse] > self.rise_at(plus(place, many + 1)) + overlap:
             many += 1
         return many
 
@@ -85,7 +86,7 @@ class Track:
         return (before + self.sure[max(0, begin):max(0, begin + 100)]).ljust(100, "~")
 
     def frames(self) -> List[FrameNumber]:
-        return list(map(FrameNumber, range(frame_of(self.first), frame_of(self.last) + 1)))
+        return through(frame_of(self.first), frame_of(self.last))
 
     def is_glued(self, last: FrameNumber, first: FrameNumber) -> bool:
         """Whether a glued run begins between frame `last` and frame `first`."""
@@ -93,12 +94,8 @@ class Track:
 
     def parted_at(self, zones: Sequence[Zone]) -> List[List[Run]]:
         """The runs, parted at each of these zones."""
-        firsts, found = {zone.right.first for zone in zones if zone.right}, [self.runs[:1]]
-        for run in self.runs[1:]:
-            if run.first in firsts:
-                found.append([])
-            found[-1].append(run)
-        return found
+        firsts = {zone.right.first for zone in zones if zone.right}
+        return grouped(self.runs, lambda _, run: run.first in firsts)
 
     def stretches(self) -> List[List[Run]]:
         """The runs, parted at each that is glued to the one before it."""

@@ -12,11 +12,12 @@ from operator import mul
 from typing import Dict, Iterator, List, NamedTuple, Optional, Sequence, Tuple
 
 APART = 4  # nominal cycles between two sums that are compared: a frequency that is off by an eighth is not taken for another
-FAR = 0.08  # of the frequency: a carrier that is off by more is not followed
+MOST_OFF = 0.08  # of the frequency: a carrier that is off by more is not followed
 ALIKE = 0.3  # of the sums of nominal cycles: what adds up in one phase is at least this; of noise it is a tenth
-WIDE, NEAR = 10, 20  # cycles before and after the middle of a window with which that is judged, and those of others
-JUMP = 0.25  # cycles: a phase that is as far from the expected one is no longer that of one carrier
-FEWEST, ALONE = 3, 5  # windows of a carrier; of one with no other just before or after it, since by chance it can seem to be there
+OWN_CYCLES, NEAR_CYCLES = 10, 20  # cycles before and after the middle of a window with which that is judged, and those of others
+PHASE_JUMP = 0.25  # cycles: a phase that is as far from the expected one is no longer that of one carrier
+# windows of a carrier; of one with no other just before or after it, since by chance it can seem to be there
+FEWEST_WINDOWS, FEWEST_ALONE = 3, 5
 FINE = 1000  # steps of a frequency in the tables
 
 
@@ -53,7 +54,7 @@ class Tracker:
 
     def __init__(self, rate: int, hertz: int, half: int) -> None:
         self.rate, self.hertz, self.half = rate, hertz, half
-        self.wide, self.near = max(WIDE, half), max(2, math.ceil(NEAR / half))
+        self.wide, self.near = max(OWN_CYCLES, half), max(2, math.ceil(NEAR_CYCLES / half))
         self.cycle = rate / hertz
         self.blocks: List[complex] = []
         self.dropped = self.next = 0  # blocks that are not kept; windows that were measured
@@ -61,7 +62,7 @@ class Tracker:
         self.judged = 0  # of these
         self.was = False  # whether the last one that was judged has a carrier
         self.rotors: Dict[Tuple[int, int], List[complex]] = {}
-        self.run: Run = Run(self.cycle, half)
+        self.run: Followed = Followed(self.cycle, half)
 
     def feed(self, blocks: Sequence[complex], final: bool) -> Iterator[Piece]:
         """The pieces that these blocks complete."""
@@ -137,11 +138,11 @@ class Tracker:
     def _is_carrier(self, place: int) -> bool:
         near = self.measured[max(0, place - self.near):place + self.near + 1]
         own = self.measured[place]
-        fine = own.all > 0 and own.sum >= ALIKE / 2 * own.all and abs(own.faster) <= FAR
+        fine = own.all > 0 and own.sum >= ALIKE / 2 * own.all and abs(own.faster) <= MOST_OFF
         return fine and sum(one.sum for one in near) >= ALIKE * sum(one.all for one in near)
 
 
-class Run:
+class Followed:
     """The windows of one carrier, without a jump."""
 
     def __init__(self, cycle: float, half: int) -> None:
@@ -159,7 +160,7 @@ class Run:
 
     def continues(self, one: Measured) -> bool:
         off = one.time / self.cycle + one.ahead - self._expected(one)
-        return abs(off - round(off)) < JUMP
+        return abs(off - round(off)) < PHASE_JUMP
 
     def add(self, one: Measured, begin: float) -> None:
         phase = one.time / self.cycle + one.ahead
@@ -199,7 +200,7 @@ class Run:
 
     def more(self) -> Iterator[Piece]:
         end = len(self.times) - 2
-        if end < FEWEST or end <= self.done:
+        if end < FEWEST_WINDOWS or end <= self.done:
             return
         knots, opens = self._knots(end), self.done == 0
         over = end - 2
@@ -210,7 +211,7 @@ class Run:
     def close(self, jumps: bool) -> Iterator[Piece]:
         opens = self.done == 0
         alone = opens and self.begin == 1 and not jumps
-        if len(self.times) >= (ALONE if alone else FEWEST):
+        if len(self.times) >= (FEWEST_ALONE if alone else FEWEST_WINDOWS):
             knots = self._knots(len(self.times))
             after = self._beyond(knots[:-3:-1], 0.5 if jumps else 1.0)
             yield Piece([self._beyond(knots[:2], self.begin), *knots, after] if opens else [*knots, after], opens, True, jumps)
@@ -220,6 +221,6 @@ class Run:
         """A knot that many halves of a window beyond the first of two, away from the other, with the same change of the
         speed; a whole half is a little more, as it is in nominal cycles."""
         one, other = knots
-        cycles = math.copysign(halves * self.half * (1 + 2 * FAR if halves >= 1 else 1), one.phase - other.phase)
+        cycles = math.copysign(halves * self.half * (1 + 2 * MOST_OFF if halves >= 1 else 1), one.phase - other.phase)
         cycle = one.cycle + (one.cycle - other.cycle) * cycles / (one.phase - other.phase)
         return Knot(one.phase + cycles, one.time + cycles * (one.cycle + cycle) / 2, cycle)

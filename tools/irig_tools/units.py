@@ -1,7 +1,7 @@
 """Numbers that must not be taken for each other: each is an int, and a type of its own for mypy."""
 from __future__ import annotations
 
-from typing import List, NewType
+from typing import List, NewType, TypeVar, cast
 
 Microseconds = NewType("Microseconds", int)  # a time, since the recording began
 PulseIndex = NewType("PulseIndex", int)  # of a listing: from 0
@@ -10,6 +10,7 @@ FrameNumber = NewType("FrameNumber", int)  # of a part of a recording: from 0, a
 PlaceNumber = NewType("PlaceNumber", int)  # 100 times the number of the frame, and the element
 Hundredths = NewType("Hundredths", int)  # of a second: a moment, since year 1 or since the year began
 Base = NewType("Base", Hundredths)  # the moment of frame 0 that a frame leads to
+Number = TypeVar("Number", PulseIndex, PlaceNumber, FrameNumber, Microseconds, Hundredths)  # what is added to it is a plain int
 
 
 def number_of(pulse: PulseIndex) -> PulseNumber:
@@ -24,6 +25,11 @@ def place_in(frame: FrameNumber, element: int = 0) -> PlaceNumber:
     return PlaceNumber(100 * frame + element)
 
 
-def places(first: int, last: int) -> List[PlaceNumber]:
+def plus(one: Number, many: int) -> Number:
+    """The number that is that many further on the same axis."""
+    return cast(Number, one + many)
+
+
+def through(first: Number, last: Number) -> List[Number]:
     """From the first to the last."""
-    return list(map(PlaceNumber, range(first, last + 1)))
+    return cast(List[Number], list(range(first, last + 1)))

@@ -5,7 +5,7 @@ import os
 import subprocess
 
 TOP = os.path.dirname(os.path.dirname(os.path.dirname(os.path.realpath(__file__))))
-FORM = "--date=format-local:%Y.%m.%d", "--abbrev=7", "--format=%cd-%h"  # as `package` and `install` have it
+COMMIT_FORM = "--date=format-local:%Y.%m.%d", "--abbrev=7", "--format=%cd-%h"  # as `package` and `install` have it
 
 
 def version() -> str:
@@ -20,7 +20,7 @@ def version() -> str:
 def _commit() -> str:
     if not os.path.exists(os.path.join(TOP, ".git")):
         return ""
-    command = ["git", "-C", TOP, "show", "-s", *FORM]
+    command = ["git", "-C", TOP, "show", "-s", *COMMIT_FORM]
     try:
         done = subprocess.run(command, stdin=subprocess.DEVNULL, capture_output=True, text=True, check=False,
                               env=dict(os.environ, TZ="UTC0"))

@@ -10,18 +10,16 @@ from .dump_choice import Signal
 from .dump_header import shown
 from .editor import Editor
 from .mend import propose
-from .opening import needed_name, wire_name
+from .opening import MOST_READ, needed_name, wire_name
 from .proposal import Proposal, no_option
 from .readings import Reading, Readings, best, is_read, read
 from .script import Repair
 from .search import TRIED, Found, Probe, search
 from .wire import Extract, Wish, extract_all
 
-OFTEN = 8  # wires that are read; the others are only named
-
 
 @dataclass
-class Carrier:
+class CodeWire:
     """A wire with time code, as it was read."""
 
     signal: Signal
@@ -88,10 +86,10 @@ class What:
     def __init__(self, path: str, shown_path: str, unit: str, dump: int) -> None:
         self.path, self.shown_path, self.unit, self.dump = path, shown_path, unit, dump
         self.found: Found = search(path, unit, dump)
-        self.carriers = self._read_all(self.found.probes[:OFTEN])
+        self.carriers = self._read_all(self.found.probes[:MOST_READ])
         self.carriers = sorted(self.carriers, key=lambda carrier: -carrier.fine)
 
-    def _read_all(self, probes: List[Probe]) -> List[Carrier]:
+    def _read_all(self, probes: List[Probe]) -> List[CodeWire]:
         """What is on these wires, after one more pass through the dump."""
         with ExitStack() as stack:
             tracks = [stack.enter_context(tempfile.NamedTemporaryFile(suffix=".vcd")) for _ in probes]
@@ -107,9 +105,9 @@ class What:
         return Wish(wire_name(self.found.header, probe.signal), self.found.unit, self.dump, invert=probe.kind[1])
 
     @staticmethod
-    def _read(probe: Probe, track: str, extract: Extract) -> Carrier:
+    def _read(probe: Probe, track: str, extract: Extract) -> CodeWire:
         kind, inverted = probe.kind
-        carrier = Carrier(probe.signal, inverted, kind, read(track, kind), extract.report.doubtful)
+        carrier = CodeWire(probe.signal, inverted, kind, read(track, kind), extract.report.doubtful)
         if carrier.fine:
             carrier.script = _script(track, kind, carrier.expression)
         return carrier
@@ -117,8 +115,8 @@ class What:
     def lines(self) -> List[str]:
         found = self.found
         lines = [line for carrier in self.carriers for line in carrier.lines()]
-        lines += ["wire %s may carry time code, too; only %d wires are read" % (probe.signal.text(), OFTEN)
-                  for probe in found.probes[OFTEN:]]
+        lines += ["wire %s may carry time code, too; only %d wires are read" % (probe.signal.text(), MOST_READ)
+                  for probe in found.probes[MOST_READ:]]
         if not found.header.unit and not self.unit and found.probes:
             lines.append("the dump names no unit of time; %s makes time code of it" % found.unit)
         if found.dumps > 1:
@@ -143,7 +141,7 @@ class What:
         return Proposal(self.shown_path, name, carrier.kind, carrier.expression,
                         None if is_read else self._extraction(carrier, name), edits, len(carrier.script) - edits, self._choice())
 
-    def _is_read(self, carrier: Carrier, name: Optional[str]) -> bool:
+    def _is_read(self, carrier: CodeWire, name: Optional[str]) -> bool:
         """Whether the editor reads the wire of the dump as it is; irig_mend does, if it is upright."""
         whole = not carrier.inverted and self.found.dumps == 1 and not self.unit
         return whole and self.shown_path != "-" and is_read(self.path, name, carrier.readings.pulses)
@@ -157,7 +155,7 @@ class What:
             words.append("--dump=%d" % self.dump)
         return words
 
-    def _extraction(self, carrier: Carrier, name: Optional[str]) -> List[str]:
+    def _extraction(self, carrier: CodeWire, name: Optional[str]) -> List[str]:
         words = ["--invert"] * carrier.inverted + self._choice()
         if (name or "").startswith("--"):
             words.append("--")

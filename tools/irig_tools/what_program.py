@@ -4,8 +4,8 @@ from __future__ import annotations
 import sys
 
 from .command import kept, run
-from .ending import FOUND, SOUND
-from .facts import lines as objects
+from .ending import ALL_RIGHT, FOUND
+from .facts import json_lines as objects
 from .options import DUMP, JSON, TIMESCALE, Command, Given
 from .output import check_apart
 from .what import What
@@ -30,7 +30,7 @@ def work(given: Given) -> int:
     with kept(name) as path:
         what = What(path, name, given.text(TIMESCALE) or "", given.number(DUMP) or 1)
         sys.stdout.write(as_json(what) if given.has(JSON) else as_text(what))
-    return SOUND if what.carriers and what.sure() else FOUND
+    return ALL_RIGHT if what.carriers and what.sure() else FOUND
 
 
 def as_text(what: What) -> str:

@@ -2,15 +2,15 @@
 from __future__ import annotations
 
 from bisect import bisect_left
-from dataclasses import dataclass
-from typing import List, Optional, Tuple
+from typing import List, NamedTuple, Optional, Tuple
 
 from . import limits
 from .edit import Edit, moved_from, moved_rest
 from .edits import Item
 from .faults import Faults, Remark
+from .grouping import grouped
 from .steps import has_room, rest_comes
-from .units import Base, FrameNumber, Microseconds, PlaceNumber, frame_of, place_in, places
+from .units import Base, FrameNumber, Microseconds, PlaceNumber, frame_of, place_in, plus, through
 from .zones import Zone
 
 
@@ -36,7 +36,7 @@ def shift(faults: Faults, zone: Zone) -> Item:
     why = rest_comes(zone.border, at, late)
     if between:
         why += ", and %d elements before it are missing or damaged" % between
-    if late > 0 and any(place in faults.wanted for place in places(zone.first, zone.border_place - 1)):
+    if late > 0 and any(place in faults.wanted for place in through(zone.first, plus(zone.border_place, -1))):
         # what is before it is repaired first, and that may change the numbers of pulses
         return Item(zone.first - 0.5, zone.border_place - 0.5, moved_from(at, -late), why)
     return Item(zone.border_place - 0.5, zone.border_place - 0.5, [moved_rest(zone.border, -late)], why)
@@ -63,7 +63,7 @@ def _control_of(faults: Faults, number: FrameNumber) -> int:
 
 def _can_generate(faults: Faults, number: FrameNumber) -> bool:
     """Whether `regen` of a frame takes away nothing but its damage."""
-    track, own, moment = faults.track, places(place_in(number), place_in(number, 99)), faults.times.moment(number)
+    track, own, moment = faults.track, through(place_in(number), place_in(number, 99)), faults.times.moment(number)
     if own[0] < track.first or own[-1] > track.last or faults.clock.interval != faults.layout.interval:
         return False
     lost = sum(place in faults.wanted for place in own)
@@ -85,7 +85,7 @@ def _stands_alone(faults: Faults, own: List[PlaceNumber], begin: Microseconds) -
     before, after = bisect_left(faults.rises, begin) - 1, bisect_left(faults.rises, end)
     if before >= 0 and (faults.falls[before] >= begin or before in track.pulses_at(own[0])):
         return False
-    return own[-1] == track.last or after <= min(track.pulses_at(PlaceNumber(own[-1] + 1)), default=after)
+    return own[-1] == track.last or after <= min(track.pulses_at(plus(own[-1], 1)), default=after)
 
 
 def _as_generated(faults: Faults, place: PlaceNumber, begin: Microseconds) -> bool:
@@ -101,47 +101,39 @@ def _as_generated(faults: Faults, place: PlaceNumber, begin: Microseconds) -> bo
     return faults.rises[pulses[0]] == due and faults.width_of(pulses[0]) == faults.width(told)
 
 
-@dataclass
-class _Frames:
-    """Frames that one `regen` writes."""
+class _Lost(NamedTuple):
+    """A frame that a `regen` writes."""
 
     number: FrameNumber
-    many: int
     rise: Microseconds
     shown: Tuple[int, Optional[Base], bool]  # the control functions, the base, and whether a leap second is over
 
 
 def lost_frames(faults: Faults) -> List[Item]:
     """Whole frames that are generated again; their places are then not repaired one by one."""
-    found: List[_Frames] = []
+    found: List[_Lost] = []
     for number in sorted({frame_of(place) for place in faults.wanted}):
         moment = faults.times.moment(number)
         if moment is None or not _can_generate(faults, number):
             continue
         rise, base = faults.track.rise_at(place_in(number)), faults.times.bases[number]
-        shown = _control_of(faults, number), base, faults.times.calendar.after_leap(moment)
-        last = found[-1] if found else None
-        if (
-            last
-            and (number, shown) == (last.number + last.many, last.shown)
-            and rise == last.rise + 100 * last.many * faults.clock.interval
-        ):
-            last.many += 1
-        else:
-            found.append(_Frames(number, 1, rise, shown))
-    return [_generate(faults, frames) for frames in found]
+        found.append(_Lost(number, rise, (_control_of(faults, number), base, faults.times.calendar.after_leap(moment))))
+    frame = 100 * faults.clock.interval
+    groups = grouped(found, lambda one, other: other != _Lost(plus(one.number, 1), plus(one.rise, round(frame)), one.shown))
+    return [_generate(faults, group) for group in groups]
 
 
-def _generate(faults: Faults, frames: _Frames) -> Item:
-    own = places(place_in(frames.number), place_in(frames.number) + 100 * frames.many - 1)
+def _generate(faults: Faults, frames: List[_Lost]) -> Item:
+    """Frames one after the other, with the same control functions and the same base."""
+    first, many = frames[0], len(frames)
+    own = through(place_in(first.number), place_in(first.number, 100 * many - 1))
     lost = {place: faults.wanted[place] for place in own if place in faults.wanted}
-    moment = faults.times.moment(frames.number)
+    moment = faults.times.moment(first.number)
     assert moment is not None
-    values = frames.rise, frames.many, faults.times.calendar.text(moment)
-    name = faults.times.name(frames.number)
+    values = first.rise, many, faults.times.calendar.text(moment)
     why = "%d elements of %d frame(s) from %d on are lost or damaged; the frames around them lead to %s" % (
-        len(lost), frames.many, frames.rise, name)
-    control = ["%x" % frames.shown[0]] if frames.shown[0] else []
+        len(lost), many, first.rise, faults.times.name(first.number))
+    control = ["%x" % first.shown[0]] if first.shown[0] else []
     if control:
         why += " and to the control functions " + control[0]
     guessed = sorted({place % 100 for place in faults.guesses if own[0] <= place <= own[-1]})

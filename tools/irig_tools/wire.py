@@ -2,9 +2,9 @@
 from __future__ import annotations
 
 from dataclasses import dataclass, field
-from typing import IO, Iterator, List, Optional, Sequence
+from typing import IO, List, Optional, Sequence
 
-from .dump_body import Body, Change, Wanted
+from .dump_body import Body, Wanted
 from .dump_choice import Signal, choose
 from .dump_header import Header
 from .dump_parts import each_dump
@@ -13,7 +13,7 @@ from .dump_source import Source
 from .dump_units import MICROSECOND, Unit, unit_of
 from .editor import Problem
 
-LONGEST = 1 << 40  # microseconds that the editor reads
+LONGEST_TIME = 1 << 40  # microseconds that the editor reads
 MOST_BYTES = 1 << 28
 MOST_EDGES = 1 << 23
 LINES = 1 << 14  # that are written at once
@@ -45,7 +45,7 @@ class Report:
 
 def first_of(body: Body, unit: Unit) -> int:
     """What is subtracted from all times if nobody says it: the first time, if it is too late for the editor."""
-    limit = LONGEST * MICROSECOND // (unit.femtoseconds * unit.factor)
+    limit = LONGEST_TIME * MICROSECOND // (unit.femtoseconds * unit.factor)
     return body.begun if body.begun > limit else 0
 
 
@@ -87,11 +87,6 @@ class Writer:
                 return 0
             self.offset = first_of(body, self.unit)
         return max(0, time - self.offset) * self.unit.factor
-
-    def all(self, changes: Iterator[Change], body: Body) -> None:
-        for time, _, letter in changes:
-            self.take(time, letter, body)
-        self.finish(body)
 
     def take(self, time: int, letter: str, body: Body) -> None:
         """One change, if it is one up to the end."""
@@ -148,19 +143,12 @@ class Extract:
     def run(self) -> Report:
         """Reads the whole file, and writes the dump that is asked for."""
         number = self.wish.dump or 1
-        dumps = each_dump(self.source, number, self._write)
+        dumps = each_dump(self.source, number, lambda header: _written(self.source, header, [self]))
         if dumps > 1:
             text = "the file has %d dumps, one after the other; this is number %d (--dump N reads another)"
             named = self.report.done if self.wish.dump else self.report.doubtful
             named.append(text % (dumps, number))
         return self.report
-
-    def _write(self, header: Header) -> Body:
-        wanted = Wanted()
-        writer, body = self.begin(header, wanted, 0), Body(self.source, wanted)
-        writer.all(body.changes(), body)
-        self.end(header, body, writer)
-        return body
 
     def begin(self, header: Header, wanted: Wanted, number: int) -> Writer:
         """The writer of the wire, whose changes have a number."""
@@ -209,7 +197,7 @@ class Extract:
         report = self.report
         report.length = writer.at * writer.unit.femtoseconds // MICROSECOND
         report.edges, report.size = writer.edges, writer.size
-        most = ("microseconds", report.length, LONGEST), ("edges", report.edges, MOST_EDGES), (
+        most = ("microseconds", report.length, LONGEST_TIME), ("edges", report.edges, MOST_EDGES), (
             "bytes", report.size, MOST_BYTES)
         for what, has, limit in most:
             if has > limit:
@@ -220,16 +208,16 @@ class Extract:
 def extract_all(path: str, number: int, extracts: Sequence[Extract]) -> None:
     """Writes several wires of one dump in one pass."""
     source = Source(path)
+    each_dump(source, number, lambda header: _written(source, header, extracts))
 
-    def use(header: Header) -> Body:
-        wanted = Wanted()
-        writers = [extract.begin(header, wanted, place) for place, extract in enumerate(extracts)]
-        body = Body(source, wanted)
-        for time, place, letter in body.changes():
-            writers[place].take(time, letter, body)
-        for extract, writer in zip(extracts, writers):
-            writer.finish(body)
-            extract.end(header, body, writer)
-        return body
 
-    each_dump(source, number, use)
+def _written(source: Source, header: Header, extracts: Sequence[Extract]) -> Body:
+    wanted = Wanted()
+    writers = [extract.begin(header, wanted, place) for place, extract in enumerate(extracts)]
+    body = Body(source, wanted)
+    for time, place, letter in body.changes():
+        writers[place].take(time, letter, body)
+    for extract, writer in zip(extracts, writers):
+        writer.finish(body)
+        extract.end(header, body, writer)
+    return body

@@ -2,8 +2,8 @@
 from __future__ import annotations
 
 from .command import run
-from .ending import FOUND, SOUND, Usage, complain
-from .options import DUMP, TIMESCALE, Command, Given, Option, a_file, whole
+from .ending import ALL_RIGHT, FOUND, Usage, complain
+from .options import DUMP, OUTPUT, TIMESCALE, Command, Given, Option, a_file, whole
 from .output import check_apart, output
 from .put_back import PutBack, Track
 from .wire import Extract, Wish
@@ -11,10 +11,9 @@ from .wire import Extract, Wish
 FROM = Option("--from", "TIME", "this time, in the dump's unit, is the new 0", whole(0))
 TO = Option("--to", "TIME", "the end, in the dump's unit", whole(0))
 INVERT = Option("--invert", about="high and low are swapped")
-INTO = Option("--into", "ORIGINAL", "DUMP is a track that was made of this file and repaired: writes this file with the "
-              "track instead of the wire, all else byte for byte", a_file)
-WIRE = Option("--wire", "NAME", "with --into: the wire of ORIGINAL, named as WIRE is")
-OUT = Option("--out", "FILE", "the file to write, whole or not at all, instead of standard output", a_file)
+PUT_INTO = Option("--into", "ORIGINAL", "DUMP is a track that was made of this file and repaired: writes this file with the "
+                  "track instead of the wire, all else byte for byte", a_file)
+INTO_WIRE = Option("--wire", "NAME", "with --into: the wire of ORIGINAL, named as WIRE is")
 COMMAND = Command("irig_wire", ("DUMP", "[WIRE]"), """\
 Makes of any value change dump the dump of one wire, which irig_ed reads. It says
 on standard error what it changed. DUMP is a file of any size, plain or packed by
@@ -23,7 +22,7 @@ gzip, bzip2 or xz; - is standard input. WIRE is a name, a path of scopes
 only one wire of one bit. A repaired track is put back by --into:
 
   irig_wire --into recording.vcd --wire tb.g.irig mended.vcd > merged.vcd
-""", (TIMESCALE, DUMP, FROM, TO, INVERT, INTO, WIRE, OUT), """\
+""", (TIMESCALE, DUMP, FROM, TO, INVERT, PUT_INTO, INTO_WIRE, OUTPUT), """\
 The status is 0 if all is right, 1 if there is something to look at (several
 dumps and no --dump, words that mean nothing, more than irig_ed reads), 2 if the
 dump was not read, and 70 if memory ran out or the tool has a defect.
@@ -31,24 +30,24 @@ dump was not read, and 70 if memory ran out or the tool has a defect.
 
 
 def work(given: Given) -> int:
-    name, into = given.names[1] if len(given.names) > 1 else None, given.text(INTO)
+    name, into = given.names[1] if len(given.names) > 1 else None, given.text(PUT_INTO)
     start, end = given.number(FROM), given.number(TO)
     if start is not None and end is not None and end < start:
         raise Usage("--to %d is before --from %d" % (end, start))
-    if into is None and given.has(WIRE):
+    if into is None and given.has(INTO_WIRE):
         raise Usage("--wire is only for --into; without it WIRE comes after DUMP")
     if into == given.names[0] == "-":
         raise Usage("DUMP and ORIGINAL are both standard input; only one can be")
     for source in filter(None, (given.names[0], into)):
-        check_apart(source, [(OUT.name, given.text(OUT))])
-    chosen = name if into is None else given.text(WIRE)
+        check_apart(source, [(OUTPUT.name, given.text(OUTPUT))])
+    chosen = name if into is None else given.text(INTO_WIRE)
     wish = Wish(chosen, given.text(TIMESCALE), given.number(DUMP), start, end, given.has(INVERT))
     track = None if into is None else Track(given.names[0], name)
-    with output(given.text(OUT)) as out:
+    with output(given.text(OUTPUT)) as out:
         report = PutBack(into, wish, track, out).run() if into and track else Extract(given.names[0], wish, out).run()
     for text in report.done + report.doubtful:
         complain(text, COMMAND.name)
-    return FOUND if report.doubtful else SOUND
+    return FOUND if report.doubtful else ALL_RIGHT
 
 
 def main() -> int:

@@ -7,7 +7,7 @@ from typing import Dict, List, Optional, Tuple
 from . import limits
 from .interval import Clock, Run
 from .phases import ONLY_P, faults_along
-from .units import Microseconds, PlaceNumber, PulseIndex, places
+from .units import Microseconds, PlaceNumber, PulseIndex, plus, through
 
 
 def whole_steps(distance: float, interval: float) -> int:
@@ -33,7 +33,7 @@ class Zone:
         pulses = self._find_pulses()
         self.first, self.last = self._ends(pulses)
         self.head, self.tail = self._unsure() if left and right and right.glued else (0, 0)
-        self.pulses: Dict[PlaceNumber, List[PulseIndex]] = {place: [] for place in places(self.first, self.last)}
+        self.pulses: Dict[PlaceNumber, List[PulseIndex]] = {place: [] for place in through(self.first, self.last)}
         for pulse in pulses:
             self.pulses[min(self.last, max(self.first, self.place_of(pulse)))].append(pulse)
 
@@ -44,12 +44,12 @@ class Zone:
     def _find_pulses(self) -> List[PulseIndex]:
         """The last of the left run, the first of the right one, and what is between; at an end all that belong to a frame."""
         left, right = self.left, self.right
-        first, last = left.last if left else -1, right.first if right else -1
+        first, last = left.last if left else PulseIndex(-1), right.first if right else PulseIndex(-1)
         if right and not left:
             first = right.first if {"<", "["} & set(right.ends) else self._reach(right.first, -1)
         if left and not right:
             last = left.last if {">", "]"} & set(left.ends) else self._reach(left.last, 1)
-        return list(map(PulseIndex, range(first, last + 1)))
+        return through(first, last)
 
     def _ends(self, pulses: List[PulseIndex]) -> Tuple[PlaceNumber, PlaceNumber]:
         """The first and the last place."""
@@ -81,16 +81,16 @@ class Zone:
         assert self.right
         return self.right.step - self.straight()
 
-    def _reach(self, pulse: int, way: int) -> int:
+    def _reach(self, pulse: PulseIndex, way: int) -> PulseIndex:
         """The last pulse this way that is not far from the one before it, nor cut by the end of the recording."""
-        rises, beyond = self.rises, pulse + way
+        rises, beyond = self.rises, plus(pulse, way)
         while (
             0 <= beyond < len(rises)
             and abs(rises[beyond] - rises[pulse]) < limits.REACH * self.interval
             and rises[beyond] > 0
             and self.clock.listing.falls[beyond] < self.clock.listing.length
         ):
-            pulse, beyond = beyond, beyond + way
+            pulse, beyond = beyond, plus(beyond, way)
         return pulse
 
     def _find_border(self, left: Run, right: Run) -> PulseIndex:
@@ -108,15 +108,15 @@ class Zone:
 
     def _place_by_right(self, pulse: PulseIndex) -> PlaceNumber:
         assert self.right
-        return PlaceNumber(self.right.place + whole_steps(self.rises[pulse] - self.right.begin, self.interval))
+        return plus(self.right.place, whole_steps(self.rises[pulse] - self.right.begin, self.interval))
 
     def place_of(self, pulse: PulseIndex) -> PlaceNumber:
         if not self.left or (self.border is not None and pulse >= self.border):
             return self._place_by_right(pulse)
-        place = self.left.last_place + whole_steps(self.rises[pulse] - self.left.end, self._local_interval())
+        place = plus(self.left.last_place, whole_steps(self.rises[pulse] - self.left.end, self._local_interval()))
         if self.late and self.right and self.right.step > 0:
-            place = min(place, self.right.place - 1)
-        return PlaceNumber(place)
+            place = min(place, plus(self.right.place, -1))
+        return place
 
     def _local_interval(self) -> float:
         """Between two runs on one clock the distance is shared out."""
