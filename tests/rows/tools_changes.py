@@ -258,7 +258,7 @@ def counted():
     for start in range(0, 10 * changes.LISTED, 10):
         lines += [b"# frame 1 at 0: a, then b\n", b"invert %d %d\n" % (start, start + 3)]
     lines += [b"invert 1000000 1000001\n", b"invert 1010001 1010002\n", b"invert 1020003 1020004\n"]
-    found = changes.read(lines, listing, "irig_diff")
+    found = changes.read_changes(lines, listing, "irig_diff")
     yield same("what is listed", (len(found.lines), len(found.levels)), (2 * changes.LISTED + 1, changes.LISTED))
     yield same("what is not", found.rest, [(1000000, 1010002, 2), (1020003, 1020004, 1)])
     yield same("all", (found.stretches, found.time), (changes.LISTED + 3, 3 * changes.LISTED + 3))

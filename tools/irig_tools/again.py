@@ -43,7 +43,7 @@ def _before(names: Names, track: Opened) -> str:
     """The track before, for irig_diff."""
     if not is_kept(names.track):
         return "BEFORE"
-    return quote(no_option(names.track)) if track.is_as_it_is else _made(names.track, names, track)
+    return quote(no_option(names.track)) if track.is_as_it_is else _dump_of(names.track, names, track)
 
 
 def _after(names: Names, track: Opened, code: Sequence[str]) -> str:
@@ -52,22 +52,22 @@ def _after(names: Names, track: Opened, code: Sequence[str]) -> str:
         return "AFTER"
     if names.into is not None and not names.is_put_back:
         wire = [] if track.wire is None else ["--wire=" + track.wire]
-        words = ["irig_mend", *wire, *_choice(names, track), *code, *names.rules, "--apply", "-"]
+        words = ["irig_mend", *wire, *_unit_and_dump(names, track), *code, *names.rules, "--apply", "-"]
         return "<(%s %s)" % (" ".join(map(quote, words)), quote(no_option(names.track)) if is_kept(names.track) else "BEFORE")
     if names.into is not None and not track.is_as_it_is:
-        return _made(names.out, names, track)
+        return _dump_of(names.out, names, track)
     return quote(no_option(names.out))
 
 
-def _made(path: str, names: Names, track: Opened) -> str:
+def _dump_of(path: str, names: Names, track: Opened) -> str:
     """The dump of the wire of a file."""
     wire = [] if track.wire is None else [track.wire]
     operands = [no_option(path), *wire]
-    words = ["irig_wire", *_choice(names, track), *["--"] * any(each.startswith("-") for each in wire), *operands]
+    words = ["irig_wire", *_unit_and_dump(names, track), *["--"] * any(each.startswith("-") for each in wire), *operands]
     return "<(%s)" % " ".join(map(quote, words))
 
 
-def _choice(names: Names, track: Opened) -> List[str]:
+def _unit_and_dump(names: Names, track: Opened) -> List[str]:
     """The options for the unit and the dump."""
     unit = [] if track.unit is None else ["--timescale=" + track.unit.replace(" ", "")]
     return unit + ([] if names.dump is None else ["--dump=%d" % names.dump])

@@ -11,7 +11,7 @@ from .editor import Listing, Problem, find_beside, other_release
 from .opening import Opened
 from .sheet import Changes
 
-STRETCH = re.compile(rb"invert ([0-9]+) ([0-9]+)\n")
+INVERTED = re.compile(rb"invert ([0-9]+) ([0-9]+)\n")
 DIFFER = (0, 1)  # the statuses of irig_diff that are no trouble
 LISTED = 5000  # stretches whose lines are kept
 PARTS = 2000  # of the recording: stretches after those are joined if they are not farther apart than one
@@ -33,7 +33,7 @@ def changes_of(track: Opened, listing: Listing, repaired: str) -> Changes:
             raise Problem("%s cannot be run: %s" % (command[0], error.strerror)) from error
         with program:
             assert program.stdout is not None
-            found = read(program.stdout, listing, command[0])
+            found = read_changes(program.stdout, listing, command[0])
         complaints.seek(0)
         said = " ".join(complaints.read().decode(errors="replace").split())
     if program.returncode not in DIFFER:
@@ -41,21 +41,21 @@ def changes_of(track: Opened, listing: Listing, repaired: str) -> Changes:
     return found
 
 
-def read(printed: Iterable[bytes], listing: Listing, program: str) -> Changes:
+def read_changes(printed: Iterable[bytes], listing: Listing, program: str) -> Changes:
     """Reads the lines of the program."""
     found = Changes()
     for line in printed:
-        stretch = STRETCH.fullmatch(line)
+        stretch = INVERTED.fullmatch(line)
         if not stretch and not line.startswith(b"# "):
             raise other_release(program, line)
         if found.stretches < LISTED:
             found.lines.append(line.decode("ascii", "replace").rstrip("\n"))
         if stretch:
-            _take(found, int(stretch[1]), int(stretch[2]), listing)
+            _take_stretch(found, int(stretch[1]), int(stretch[2]), listing)
     return found
 
 
-def _take(found: Changes, start: int, end: int, listing: Listing) -> None:
+def _take_stretch(found: Changes, start: int, end: int, listing: Listing) -> None:
     """Counts a stretch, and keeps its level or where it is."""
     found.stretches += 1
     found.time += end - start

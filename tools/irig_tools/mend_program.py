@@ -79,7 +79,7 @@ def work(given: Given) -> int:
         if given.has(APPLY):
             done = apply(given, track, script, progress)
         else:
-            draw(given, editor, script, progress)
+            draw_proposal(given, editor, script, progress)
     if given.has(OUTPUT) or not given.has(APPLY):
         with output(given.text(OUTPUT)) as out:
             out.write((repairs_as_json(script, track.offset) if given.has(JSON) else script_text(script)).encode("utf-8"))
@@ -123,7 +123,7 @@ def wire_of(given: Given) -> Optional[str]:
     return None if alone else given.text(WIRE)
 
 
-def draw(given: Given, editor: Editor, script: List[Repair], progress: Progress) -> None:
+def draw_proposal(given: Given, editor: Editor, script: List[Repair], progress: Progress) -> None:
     """Writes the page of what is proposed, if it is asked for."""
     path = given.text(PAGE_OF_REPAIRS)
     if path is not None:
