@@ -12,7 +12,7 @@ from .damage import Damage
 from .dump_header import Reader
 from .dump_choice import choose, singles
 from .dump_source import Source
-from .editor import Problem, find_beside, find_editor
+from .editor import CUT_OFF, Problem, find_beside, find_editor
 from .facts import STEPS, is_undecided, kind_of
 from .opening import Opened
 from .output import output
@@ -103,6 +103,8 @@ def sound_frames(options: Sequence[str], path: str) -> int:
     with given("frames\n") as script:
         done = subprocess.run([find_editor(), *options, path], stdin=script, stdout=subprocess.PIPE,
                               stderr=subprocess.DEVNULL, check=False)
+    if done.returncode < 0:
+        raise Problem(CUT_OFF)
     return sum(line.endswith(b" fine") for line in done.stdout.splitlines())
 
 
