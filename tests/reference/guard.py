@@ -7,7 +7,9 @@ from reference.bearing import Bearing, Near, Shown
 
 LONGEST_LINE, LONGEST_COMMENT = 1000, 900
 NOTHING_FINE, NOT_KEPT = b"# nothing to go by: no frame of the recording is fine", b"# not kept: "
-NO_REPAIR, REFUSED, UNSAFE = "not a repair", "refused: ", "the result would not be safe"
+NO_REPAIR, REFUSED = "not a repair", "refused: "
+LOST, CHANGED, UNSUPPORTED = "would be lost", "would change", "would have a time that is not supported"
+ALONE = "fine frames would not support each other"
 EDITS = {
     "insert": machine.insert, "delete": machine.delete, "split": machine.split, "join": machine.join,
     "shift": machine.shift, "invert": machine.invert, "force": machine.force, "regen": machine.regen,
@@ -42,21 +44,28 @@ class Safety:
 
         return Near(at(place - 2), at(place - 1), at(after), at(after + 1))
 
-    def is_safe(self, last: Sequence[Shown], new: Sequence[Shown]) -> bool:
-        """Whether what is fine now is safe; `last` was fine after the last repair that was kept."""
-        rises = {frame.rise for frame in new}
-        if any(frame.rise not in rises for frame in [*self.old, *last]):
-            return False
-        return all(map(self._may_be, new)) if self.old else self._support_each_other(new)
+    def fault(self, last: Sequence[Shown], new: Sequence[Shown]) -> Optional[str]:
+        """Why what is fine now is not safe; `last` was fine after the last repair that was kept."""
+        now = {frame.rise: frame for frame in new}
+        if self.old:
+            found = [self._fault_at(rise, now.get(rise)) for rise in sorted({*self.rises, *now})]
+        else:
+            found = [None if self._support_each_other(new) else ALONE]
+        found += [None if frame.rise in now else named(frame, LOST) for frame in last]
+        return next((why for why in found if why), None)
 
-    def _may_be(self, frame: Shown) -> bool:
-        """Whether a frame was fine as it is, or was wrong and is mended, or was not fine and is borne out."""
-        place = bisect_left(self.rises, frame.rise)
-        if place == len(self.old) or self.old[place].rise != frame.rise:
-            return self.bearing.is_borne(self.near(place, place), frame)
-        near = self.near(place, place + 1)
-        was_wrong = self.bearing.is_contradicted(near, self.old[place])
-        return frame == self.old[place] or (was_wrong and self.bearing.is_borne(near, frame))
+    def _fault_at(self, rise: int, frame: Optional[Shown]) -> Optional[str]:
+        """What is wrong with the frame that begins here, if it is not as it was, nor was wrong and is mended, nor was not
+        fine and is borne out."""
+        place = bisect_left(self.rises, rise)
+        if place == len(self.old) or self.rises[place] != rise:
+            assert frame is not None
+            return None if self.bearing.is_borne(self.near(place, place), frame) else named(frame, UNSUPPORTED)
+        was, near = self.old[place], self.near(place, place + 1)
+        if frame is None:
+            return named(was, LOST)
+        mended = self.bearing.is_contradicted(near, was) and self.bearing.is_borne(near, frame)
+        return None if frame == was or mended else named(was, CHANGED)
 
     def _support_each_other(self, new: Sequence[Shown]) -> bool:
         """If nothing was fine: whether there are none, or at least three, each of which leads to the next."""
@@ -91,8 +100,7 @@ class Guard:
         before = self.machine.present, list(self.machine.past), list(self.machine.made)
         reason = self._stopped(repair)
         new = fine_frames(self.machine.present)
-        if reason is None and not self.safety.is_safe(self.last, new):
-            reason = UNSAFE
+        reason = reason or self.safety.fault(self.last, new)
         if reason is None:
             self.last = new
         else:
@@ -120,6 +128,14 @@ class Guard:
         if is_group:
             self.machine.end()
         return None
+
+
+def named(frame: Shown, what: str) -> str:
+    """A frame by its time and its rise, and what becomes of it."""
+    values = frame.values
+    part = ".%02d" % values["hundredths"] if "hundredths" in values else ""
+    time = "%03d %02d:%02d:%02d%s" % (values["days"], values["hours"], values["minutes"], values["seconds"], part)
+    return "frame %s at %d %s" % (time, frame.rise, what)
 
 
 def commented(line: bytes) -> bytes:

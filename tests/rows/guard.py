@@ -86,6 +86,11 @@ def dropped(reason: str, *lines: str) -> Tuple[str, ...]:
     return ("# not kept: " + reason, *("# " + line for line in lines))
 
 
+def unsafe(time: str, rise: int, what: str, *lines: str) -> Tuple[str, ...]:
+    """The same of a repair that is not safe, by the frame that shows it."""
+    return dropped("frame %s at %d %s" % (time, rise, what), *lines)
+
+
 def each_dropped(reason: str, *lines: str) -> Tuple[str, ...]:
     """The same of repairs of one line."""
     return tuple(printed for line in lines for printed in dropped(reason, line))
@@ -107,8 +112,11 @@ NEW_YEAR = datetime.datetime(2023, 12, 31, 23, 59, 57)
 LONG_YEAR = datetime.datetime(2024, 12, 31, 23, 59, 57)
 LONG = "9" * 1001
 SLOW = moved(SOUND, lambda at: at * 51 // 50)
+HUNDREDTHS = [[rise // 10, fall // 10] for rise, fall in frames("A0", [
+    dict(values_of("A0", NOON), hundredths=10 * k) for k in range(7)])]
 TURNED = [[one[1], other[0]] for one, other in zip(SOUND, SOUND[1:])]
-NO_REPAIR, UNSAFE = "not a repair", "the result would not be safe"
+NO_REPAIR = "not a repair"
+LOST, CHANGED, UNSUPPORTED = "would be lost", "would change", "would have a time that is not supported"
 NOTHING_FINE = "# nothing to go by: no frame of the recording is fine"
 
 ROWS = (
@@ -147,36 +155,44 @@ ROWS = (
         ["invert 0 7000000"], [NOTHING_FINE, "invert 0 7000000"]),
     Row("an empty script for it", "B4", TURNED, [], [NOTHING_FINE]),
     # frames that were fine
-    Row("a pulse of a frame that is fine", "B4", SOUND, ["343 delete"], dropped(UNSAFE, "343 delete")),
+    Row("a pulse of a frame that is fine", "B4", SOUND, ["343 delete"],
+        unsafe("138 12:34:53", 3000000, LOST, "343 delete")),
     Row("a rest that is moved", "B4", SOUND, ["601,$ shift 600"],
-        dropped(UNSAFE, "601,$ shift 600")),
+        unsafe("138 12:34:56", 6000000, LOST, "601,$ shift 600")),
     Row("another time", "B6", steady("B6"), ["302 force zero", "312 force one"],
-        [*dropped(UNSAFE, "302 force zero"), *dropped(UNSAFE, "312 force one")]),
+        [*unsafe("138 12:34:53", 3000000, CHANGED, "302 force zero"), *unsafe("138 12:34:53", 3000000, CHANGED, "312 force one")]),
     Row("another time at the end, where one neighbour is", "B6", changed(steady("B6"), 612, "one"), ["612 force zero"],
-        dropped(UNSAFE, "612 force zero")),
+        unsafe("138 12:36:56", 6000000, CHANGED, "612 force zero")),
     Row("a frame that an earlier repair mended", "B4", WITHOUT_ZERO, [MEND, "243 delete"],
-        [MEND, *dropped(UNSAFE, "243 delete")]),
+        [MEND, *unsafe("138 12:34:52", 2000000, LOST, "243 delete")]),
     Row("a control function of a frame that was fine", "B4", SOUND, ["363 force one"],
-        dropped(UNSAFE, "363 force one")),
+        unsafe("138 12:34:53", 3000000, CHANGED, "363 force one")),
     # times
     Row("a time that is a second off", "B4", hole(SOUND, 3), ["regen 3000000 1 " + FOURTH],
-        dropped(UNSAFE, "regen 3000000 1 " + FOURTH)),
+        unsafe("138 12:34:54", 3000000, UNSUPPORTED, "regen 3000000 1 " + FOURTH)),
     Row("a time that only a broken frame leads to", "B4",
         joined(joined(hole(SOUND, 3, 2), without(steady(begin=AGO), 343), 3), hole(SOUND, 3, 2), 4)[:-100],
         ["regen 4000000 1 2024-138T11:34:54"],
-        dropped(UNSAFE, "regen 4000000 1 2024-138T11:34:54")),
+        unsafe("138 11:34:54", 4000000, UNSUPPORTED, "regen 4000000 1 2024-138T11:34:54")),
     Row("a time that the frame after it contradicts", "B4", hole(SET, 3), [REGEN],
-        dropped(UNSAFE, REGEN)),
+        unsafe("138 12:34:53", 3000000, UNSUPPORTED, REGEN)),
     Row("a time that the frame before it contradicts", "B4", hole(SET, 3), ["regen 3000000 1 " + FOURTH],
-        dropped(UNSAFE, "regen 3000000 1 " + FOURTH)),
+        unsafe("138 12:34:54", 3000000, UNSUPPORTED, "regen 3000000 1 " + FOURTH)),
     Row("second 60 at the end", "B4", without(leap()[:500], 443), ["insert 4420000 4422000"],
-        dropped(UNSAFE, "insert 4420000 4422000")),
+        unsafe("366 23:59:60", 4000000, UNSUPPORTED, "insert 4420000 4422000")),
     Row("half an interval and a thousandth beside its place", "B4", hole(SOUND, 3, 3),
         ["regen 3007008 2 " + THIRD, "regen 3007007 2 " + THIRD],
-        [*dropped(UNSAFE, "regen 3007008 2 " + THIRD), "regen 3007007 2 " + THIRD]),
+        [*unsafe("138 12:34:54", 4007008, UNSUPPORTED, "regen 3007008 2 " + THIRD), "regen 3007007 2 " + THIRD]),
     # no fine frame
     Row("two frames alone", "B4", TURNED[:299], ["invert 0 3000000"],
-        [NOTHING_FINE, *dropped(UNSAFE, "invert 0 3000000")]),
+        [NOTHING_FINE, *dropped("fine frames would not support each other", "invert 0 3000000")]),
+    # the first fault in the order of the rises
+    Row("two frames are lost", "B4", SOUND, ["begin", "543 delete", "343 delete", "end"],
+        unsafe("138 12:34:53", 3000000, LOST, "begin", "543 delete", "343 delete", "end")),
+    Row("a frame that is not supported, before one that is lost", "B4", hole(SOUND, 2),
+        ["begin", "443 delete", "regen 2000000 1 " + FOURTH, "end"],
+        unsafe("138 12:34:54", 2000000, UNSUPPORTED, "begin", "443 delete", "regen 2000000 1 " + FOURTH, "end")),
+    Row("hundredths of a second", "A0", HUNDREDTHS, ["343 delete"], unsafe("138 12:34:50.30", 300000, LOST, "343 delete")),
     # lines that are no repair
     Row("junk", "B4", SOUND, ["hello", "\x00\x01", "+++", LONG, "#" * 1001],
         each_dropped(NO_REPAIR, "hello", "\x00\x01", "+++", LONG[:900], "#" * 900)),
@@ -189,7 +205,7 @@ ROWS = (
     Row("a group with a refused line", "B4", WITHOUT_ZERO, ["begin", MEND, "9999 delete", "end"],
         dropped("refused: E2 NoPulse", "begin", MEND, "9999 delete", "end")),
     Row("a group that is not safe", "B4", WITHOUT_ZERO, ["begin", MEND, "443 delete", "end"],
-        dropped(UNSAFE, "begin", MEND, "443 delete", "end")),
+        unsafe("138 12:34:54", 4000000, LOST, "begin", MEND, "443 delete", "end")),
     Row("a group that is safe as a whole", "B4", SOUND, ["begin", "343 delete", "insert 3420000 3422000", "end"],
         ["begin", "343 delete", "insert 3420000 3422000", "end"]),
     Row("a group without an end", "B4", WITHOUT_ZERO, ["begin", MEND], dropped(NO_REPAIR, "begin", MEND)),
@@ -200,5 +216,5 @@ ROWS = (
     Row("a group with a `write`", "B4", WITHOUT_ZERO, ["begin", MEND, "write", "end"],
         dropped(NO_REPAIR, "begin", MEND, "write", "end")),
     Row("what is dropped leaves nothing behind", "B4", WITHOUT_ZERO, ["343 delete", "mark a 2420000", "insert 'a 2422000"],
-        [*dropped(UNSAFE, "343 delete"), "mark a 2420000", "insert 'a 2422000"]),
+        [*unsafe("138 12:34:53", 3000000, LOST, "343 delete"), "mark a 2420000", "insert 'a 2422000"]),
 )

@@ -130,7 +130,7 @@ line_stopped opened before a line NoRepair h =
     line_no_repair line (λ none. h (command.Nothing, none, tt)) (λ edit. h (edit.0, edit.1, repair_inner edit.0 edit.2))
 line_stopped opened before a line (Refused why) h = record { front = []; line = line; rest = []; whole = refl; mid = a; obeyed = refl; refused = h }
 line_stopped opened before a line OutOfMemory h = absurd h
-line_stopped opened before a line NotSafe h = absurd h
+line_stopped opened before a line (NotSafe why) h = absurd h
 
 -- one line that stops a group
 pub stops_more : (a b : Machine) (front : List (List ℕ)) (line : List ℕ) (rest : List (List ℕ)) (reason : Reason) → ObeyedAll a front b → StopsAt b line reason
@@ -143,7 +143,7 @@ stops_more a b front line rest NoRepair h k = λ all. k (there front all)
 stops_more a b front line rest (Refused why) h k =
     record { front = front; line = line; rest = rest; whole = refl; mid = b; obeyed = h; refused = k }
 stops_more a b front line rest OutOfMemory h k = absurd k
-stops_more a b front line rest NotSafe h k = absurd k
+stops_more a b front line rest (NotSafe why) h k = absurd k
 
 pub stops_here : (xs : List Line) (i : ℕ) (x : Line) (a b : Machine) (reason : Reason) → i < length xs → x ≡ get_or xs i x
     → ObeyedAll a (texts (take i xs)) b → StopsAt b x.bytes.items reason → StopsIn a (texts xs) reason
@@ -173,7 +173,7 @@ group_stopped opened before a b first last inner (Refused why) begins ends begun
   refused = h.refused;
 }
 group_stopped opened before a b first last inner OutOfMemory begins ends begun h = absurd h
-group_stopped opened before a b first last inner NotSafe begins ends begun h = absurd h
+group_stopped opened before a b first last inner (NotSafe why) begins ends begun h = absurd h
 
 pub group_held : (opened before : List Shown) (a b c : Machine) (first last : List ℕ) (inner : List (List ℕ)) (reason : Reason)
     → Asks command.Begin first → Asks command.End last → Calls Call.Begin a told.Silent b → ObeyedAll b inner c → Holds opened before c reason
@@ -189,14 +189,15 @@ group_held opened before a b c first last inner (Refused why) begins ends begun 
   refused = (command.End, ends, h);
 }
 group_held opened before a b c first last inner OutOfMemory begins ends begun all h = tt
-group_held opened before a b c first last inner NotSafe begins ends begun all h = record {
+group_held opened before a b c first last inner (NotSafe why) begins ends begun all h = record {
   front = first ∷ inner;
   rest = last ∷ [];
   whole = refl;
   ends = (ends, tt);
   mid = c;
   obeyed = (b, (command.Begin, begins, tt, begun), all);
-  unsafe = h;
+  unsafe = h.0;
+  fault = h.1;
 }
 
 -- a line that was obeyed and is dropped
@@ -205,8 +206,8 @@ pub line_swayed : (opened before : List Shown) (a b : Machine) (line : List ℕ)
 line_swayed opened before a b line NoRepair h k = absurd k
 line_swayed opened before a b line (Refused why) h k = absurd k
 line_swayed opened before a b line OutOfMemory h k = tt
-line_swayed opened before a b line NotSafe h k =
-    record { front = line ∷ []; rest = []; whole = refl; ends = tt; mid = b; obeyed = h; unsafe = k }
+line_swayed opened before a b line (NotSafe why) h k =
+    record { front = line ∷ []; rest = []; whole = refl; ends = tt; mid = b; obeyed = h; unsafe = k.0; fault = k.1 }
 
 -- an edit is made or refused
 pub edit_replies : (c : Command) (old new : Machine) (r : Reply) → IsRepair c → Obeys c old r new → (r ≡ told.Silent → ⊥)

@@ -1,6 +1,7 @@
 pub mod AgainLemmas
 pub mod DropLemmas
 pub mod GuardLemmas
+pub mod PaddedLemmas
 pub mod PrintedLemmas
 pub mod ReasonLemmas
 pub mod RepairLemmas

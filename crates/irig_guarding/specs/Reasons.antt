@@ -1,10 +1,12 @@
 -- The comments that a run under guard prints of its own. This project's own.
-use Rattle.std.specs.Prelude.{ℕ, ◌-◌, ◌++◌, List, [], ◌∷◌, codes, drop, length, take}
+use Rattle.std.specs.Prelude.{ℕ, ◌-◌, ◌++◌, List, [], ◌∷◌, codes, decimal, drop, length, take}
 use Rattle.irig_edit.specs.declared.session.refusal.Refusal.{Refusal}
-use Rattle.irig_script.specs.Print.Printed.{refusal_text}
+use Rattle.irig_script.specs.{Print.FrameLine.time_text, Print.Printed.refusal_text}
 use Rattle.irig_guarding.specs.declared.reason.Reason.{Reason}
 use Rattle.irig_guarding.specs.declared.reason.Reason.TheVariants.{NoRepair, NotSafe, OutOfMemory}
 use Rattle.irig_guarding.specs.declared.reason.Reason.TheVariants.{Refused}
+use Rattle.irig_safety.specs.declared.fault.Fault.{Fault}
+use Rattle.irig_safety.specs.declared.fault.Fault.TheVariants.{Alone, Changed, Lost, Unsupported}
 use Rattle.irig_safety.specs.declared.shown.Shown.{Shown}
 
 -- number and name of a refusal: what the editor answers, without the mark before them and the
@@ -12,12 +14,23 @@ use Rattle.irig_safety.specs.declared.shown.Shown.{Shown}
 abbrev pub refusal_name : Refusal → List ℕ
 refusal_name why = drop 2 (take (length (refusal_text why) - 1) (refusal_text why))
 
+-- a frame: its time as the editor prints it, and the rise of its marker in microseconds
+abbrev pub frame_text : Shown → List ℕ
+frame_text x = codes "frame " ++ time_text x.fields ++ codes " at " ++ decimal x.rise
+
+-- why frames would not be safe
+abbrev pub fault_text : Fault → List ℕ
+fault_text (Lost x) = frame_text x ++ codes " would be lost"
+fault_text (Changed x) = frame_text x ++ codes " would change"
+fault_text (Unsupported x) = frame_text x ++ codes " would have a time that is not supported"
+fault_text Alone = codes "fine frames would not support each other"
+
 -- why a repair is not kept
 abbrev pub reason_text : Reason → List ℕ
 reason_text NoRepair = codes "not a repair"
 reason_text (Refused why) = codes "refused: " ++ refusal_name why
 reason_text OutOfMemory = codes "memory ran out"
-reason_text NotSafe = codes "the result would not be safe"
+reason_text (NotSafe fault) = fault_text fault
 
 -- the comment before the lines of a repair that is not kept
 abbrev pub reason_line : Reason → List ℕ

@@ -3,6 +3,7 @@
 use Rattle.std.specs.Prelude.{◌≡◌, ◌⊎◌, ◌++◌, ℕ, List, [], ◌∷◌, Option, Some, None, is_none, take}
 use Rattle.std.specs.Prelude.{if◌then◌else◌}
 use Rattle.std.specs.List.{AllByRecursion, flat_map}
+use Rattle.irig_codes.specs.Format.{FormatView}
 use Rattle.irig_edit.specs.declared.session.refusal.Refusal.{Refusal}
 use Rattle.irig_edit.specs.{Session.Calls.Call, State.State.State}
 use Rattle.irig_lines.specs.{Lines.lines_of, declared.command.Command.Command}
@@ -17,6 +18,7 @@ use Rattle.irig_guarding.specs.declared.reason.Reason.TheVariants.{NoRepair, Not
 use Rattle.irig_guarding.specs.declared.reason.Reason.TheVariants.{Refused}
 use Rattle.irig_guarding.specs.{Reading.fine_frames, Reasons.head_lines, Reasons.reason_line}
 use Rattle.irig_guarding.specs.declared.reason.Reason.{Reason}
+use Rattle.irig_safety.specs.{Faults.IsFault, Faults.IsSpoiledBy, declared.fault.Fault.Fault}
 use Rattle.irig_safety.specs.{Safety.IsSafe, Safety.NoneIsSpoiled, declared.shown.Shown.Shown}
 
 -- the line asks for a command of this kind
@@ -71,8 +73,15 @@ abbrev pub MayStay : List Shown → List Shown → State → Type 0
 MayStay opened last s =
     IsSafe s.format opened (fine_frames s) × NoneIsSpoiled last (fine_frames s)
 
+-- the first fault of frames that are not safe by those of the recording; or that are, but of those
+-- that read well before the repair some are spoiled
+abbrev pub HasFault : FormatView → List Shown → List Shown → List Shown → Fault → Type 0
+HasFault f opened last now why =
+    IsFault f opened now why ⊎ (IsSafe f opened now × IsSpoiledBy last now why)
+
 -- the lines are obeyed, but for the end of a group, and what they lead to may not stay
-pub record IsUnsafe (opened last : List Shown) (old : Machine) (lines : List (List ℕ)) : Type 0
+pub record IsUnsafe (opened last : List Shown) (old : Machine) (lines : List (List ℕ))
+    (why : Fault) : Type 0
   where
     pub front : List (List ℕ)
     pub rest : List (List ℕ)
@@ -81,6 +90,7 @@ pub record IsUnsafe (opened last : List Shown) (old : Machine) (lines : List (Li
     pub mid : Machine
     pub obeyed : ObeyedAll old front mid
     pub unsafe : MayStay opened last mid.state → ⊥
+    pub fault : HasFault mid.state.format opened last (fine_frames mid.state) why
 
 -- why a line in a group stops it
 abbrev pub StopsAt : Machine → List ℕ → Reason → Type 0
@@ -97,7 +107,8 @@ StopsIn old lines _ = ⊥
 -- why what a repair leads to does not stay
 abbrev pub Sways : List Shown → List Shown → State → Reason → Type 0
 Sways opened last s OutOfMemory = Unit {0}
-Sways opened last s NotSafe = MayStay opened last s → ⊥
+Sways opened last s (NotSafe why) = (MayStay opened last s → ⊥)
+    × HasFault s.format opened last (fine_frames s) why
 Sways opened last s _ = ⊥
 
 -- why a group does not end
@@ -112,7 +123,7 @@ abbrev pub Drops : List Shown → List Shown → Machine → List (List ℕ) →
 Drops opened last old lines NoRepair = MayBeKept lines → ⊥
 Drops opened last old lines (Refused why) = IsRefusedAt old lines why
 Drops opened last old lines OutOfMemory = Unit {0}
-Drops opened last old lines NotSafe = IsUnsafe opened last old lines
+Drops opened last old lines (NotSafe why) = IsUnsafe opened last old lines why
 
 -- a repair that is kept: its lines are obeyed, and what they lead to may stay
 pub record Keeps (opened : List Shown) (old : Machine) (lines : List (List ℕ)) (new : Machine) : Type

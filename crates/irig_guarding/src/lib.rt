@@ -2,7 +2,9 @@
 #![tactic(auto)]
 
 mod commands;
+mod frame_text;
 mod guarding;
+mod judging;
 mod law;
 mod line;
 mod lines;

@@ -5,18 +5,17 @@ ghost use Rattle.irig_edit.specs.{Session.Calls.Call, Session.Session.work_in};
 ghost use Rattle.irig_guarding.specs.Repair.{Agrees, Asks, IsBeyond, IsGroup, IsRepair, Obeyed};
 ghost use Rattle.irig_guarding.specs.Repair.{ObeyedAll, texts};
 ghost use Rattle.irig_guarding.specs.Trials.{Drops, Holds, IsIdle, MayStay, StopsAt, StopsIn};
-ghost use Rattle.irig_guarding.specs.Trials.{Sways};
 ghost use Rattle.irig_lines.specs.declared.command.Command.TheVariants as command;
 ghost use Rattle.irig_script.specs.declared.print.reply.Reply.TheVariants.{Silent};
 ghost use Rattle.irig_script.specs.{Obey.Obeying.Obeys, Obey.Replies.Calls};
 
 use crate::commands::{begins, command_of, ends, is_repair};
+use crate::judging::check;
 use crate::line::Line;
-use crate::reading::fine_frames;
 use crate::reason::Reason;
 use irig_edit::Session;
 use irig_lines::Command;
-use irig_safety::{Shown, is_safe, none_is_spoiled};
+use irig_safety::Shown;
 use irig_script::{Reply, obey_command};
 use std::alloc::Global;
 
@@ -76,24 +75,6 @@ fn mend_all(session: &mut Session, lines: &[Line]) -> Result<(), Reason>
         }
     }
     Ok(())
-}
-
-/// Whether what the frames show may stay: it is safe by what they showed at first, and none is
-/// spoiled of those that read well before.
-fn check(alloc: Global, session: &Session, opened: &[Shown], before: &[Shown]) -> Result<(), Reason>
-    ensures stays { OnOk result (MayStay opened.now before.now session.now.state) }
-    ensures sways { IfErr result (Sways opened.now before.now session.now.state) }
-{
-    let Ok(frames) = fine_frames(alloc, session) else {
-        return Err(Reason::OutOfMemory);
-    };
-    if is_safe(session.current_format(), opened, frames.as_slice())
-        && none_is_spoiled(before, frames.as_slice())
-    {
-        Ok(())
-    } else {
-        Err(Reason::NotSafe)
-    }
 }
 
 /// Ends the open group if what the frames show may stay.

@@ -1,6 +1,7 @@
 //! Why a repair is not kept.
 
 use irig_edit::Refusal;
+use irig_safety::Fault;
 
 /// Why a repair is not kept.
 #[derive(Clone, Copy, PartialEq, Eq)]
@@ -11,6 +12,6 @@ pub enum Reason {
     Refused(Refusal),
     /// Memory ran out for the frames that it leads to.
     OutOfMemory,
-    /// The frames that it leads to would not be safe.
-    NotSafe,
+    /// The frames that it leads to would not be safe: this is their first fault.
+    NotSafe(Fault),
 }

@@ -1,10 +1,13 @@
 //! Why a repair is not kept, as a comment.
 
 ghost use Rattle.std.specs.Prelude.{◌≡◌, ◌++◌, ◌∷◌, [], OnOk};
-ghost use Rattle.irig_guarding.specs.Reasons.{reason_line, reason_text, refusal_name};
+ghost use Rattle.irig_guarding.specs.Reasons.{fault_text, frame_text, reason_line};
+ghost use Rattle.irig_guarding.specs.Reasons.{reason_text, refusal_name};
 
+use crate::frame_text::put_frame;
 use crate::reason::Reason;
 use irig_edit::Refusal;
+use irig_safety::{Fault, Shown};
 use std::alloc::AllocError;
 
 /// Prints why a repair is not kept.
@@ -25,8 +28,30 @@ fn put_text(out: &mut Vec<u8>, reason: Reason) -> Result<(), AllocError>
         Reason::NoRepair => out.extend_from_slice(b"not a repair"),
         Reason::Refused(why) => put_refusal(out, why),
         Reason::OutOfMemory => out.extend_from_slice(b"memory ran out"),
-        Reason::NotSafe => out.extend_from_slice(b"the result would not be safe"),
+        Reason::NotSafe(fault) => put_fault(out, fault),
     }
+}
+
+/// Prints why the frames would not be safe.
+fn put_fault(out: &mut Vec<u8>, fault: Fault) -> Result<(), AllocError>
+    ensures { OnOk result (out.new.items ≡ out.old.items ++ fault_text fault) }
+{
+    match fault {
+        Fault::Lost(frame) => put_what(out, &frame, b" would be lost"),
+        Fault::Changed(frame) => put_what(out, &frame, b" would change"),
+        Fault::Unsupported(frame) => {
+            put_what(out, &frame, b" would have a time that is not supported")
+        }
+        Fault::Alone => out.extend_from_slice(b"fine frames would not support each other"),
+    }
+}
+
+/// Prints a frame, and what would become of it.
+fn put_what(out: &mut Vec<u8>, frame: &Shown, what: &[u8]) -> Result<(), AllocError>
+    ensures { OnOk result (out.new.items ≡ out.old.items ++ (frame_text frame.now ++ what.now)) }
+{
+    put_frame(out, frame)?;
+    out.extend_from_slice(what)
 }
 
 /// Prints what the editor refuses.

@@ -1,3 +1,4 @@
+pub mod FaultLemmas
 pub mod SafetyLemmas
 pub mod MeaningLemmas
 pub mod WorkedValues

@@ -1,12 +1,14 @@
--- What is left to be found safe, at a place of the frames from before and of those from after.
+-- What is left to be judged, at a place of the frames from before and of those from after.
 use Rattle.std.proofs.Common.{◌≡◌, ◌↔◌, ◌+◌, ◌-◌, ◌<◌, ◌≤◌, ℕ, zero, suc, Bool, true, false, List, [], ◌∷◌, Option, Some, None, length, drop, slice_get}
 use Rattle.std.proofs.Common.{drop-cons, inl, inr, refl, ap, sym, ◌∙◌, subst, add-one, arith, if◌then◌else◌}
 use Rattle.std.proofs.Math.Seq.{drop-nil}
-use Rattle.std.specs.Prelude.{IfSome, IsTrue, MatchOption, eqb}
-use Rattle.std.proofs.lemmas.{Bool.Decides.eqb_tells, List.drop_all, Option.get_or_from_slice_get, Option.slice_get_within}
+use Rattle.std.specs.Prelude.{IfErr, IfOk, IsTrue, Result, Ok, Err}
+use Rattle.std.proofs.lemmas.{List.drop_all, Option.get_or_from_slice_get, Option.slice_get_within}
 use Rattle.irig_codes.specs.Format.{FormatView}
-use Rattle.irig_safety.specs.Safety.{Comes, IsSafeAt, IsSafeFrom, LeadOn, NoneIsSpoiled, Stays, behind, is_mended}
-use Rattle.irig_safety.specs.{Bearing.leads, Witnesses.is_borne, declared.shown.Shown.Shown}
+use Rattle.irig_safety.specs.Faults.{FaultFrom, Finds, IsSpoiledBy, JudgedAt, JudgedFrom}
+use Rattle.irig_safety.specs.Safety.{Comes, IsSafeFrom, LeadOn, NoneIsSpoiled, Stays, behind, is_mended}
+use Rattle.irig_safety.specs.declared.fault.Fault.TheVariants.{Changed, Lost, Unsupported}
+use Rattle.irig_safety.specs.{Bearing.leads, Witnesses.is_borne, declared.fault.Fault.Fault, declared.shown.Shown.Shown}
 
 -- from a place on: what is there, and what follows
 drop-item : (xs : List Shown) (i : ℕ) (x : Shown) → slice_get xs i ≡ Some x → drop i xs ≡ x ∷ drop (i + 1) xs
@@ -17,11 +19,6 @@ drop_past : (k : ℕ) (xs : List Shown) → slice_get xs k ≡ None → drop k x
 drop_past k [] e = drop-nil k
 drop_past zero (x ∷ xs) e = absurd (cc)
 drop_past (suc k) (x ∷ xs) e = drop_past k xs e
-
-past_end : (k : ℕ) (xs : List Shown) → slice_get xs k ≡ None → length xs ≤ k
-past_end k [] e = omega arith
-past_end zero (x ∷ xs) e = absurd (cc)
-past_end (suc k) (x ∷ xs) e = let h = past_end k xs e in omega arith
 
 next_behind : (k : ℕ) (xs : List Shown) → behind (k + 1) xs ≡ slice_get xs k
 next_behind k xs = ap (λ m. behind m xs) (add-one k)
@@ -35,105 +32,95 @@ get-drop (suc k) j (x ∷ xs) = let e : suc (k + j) ≡ suc k + j = omega arith 
 first_from : (k : ℕ) (xs : List Shown) → slice_get (drop k xs) 0 ≡ slice_get xs k
 first_from k xs = let e : k + 0 ≡ k = omega arith in get-drop k 0 xs ∙ ap (slice_get xs) e
 
--- a frame that was there
-stay_on : (f : FormatView) (a2 a : Option Shown) (o n : Shown) (old new : List Shown) → o.rise ≡ n.rise
-    → IsSafeFrom f a2 a (o ∷ old) (n ∷ new) ↔ (Stays f a2 a o old n × IsSafeFrom f a (Some o) old new)
-stay_on f a2 a o n old new same = (
-  λ h. elim h [
-    | inl k ↦ (k.1, k.2)
-    | inr k ↦ absurd (omega (arith, k.0, same))
-  ],
-  λ s. inl (same, s.0, s.1),
-)
-
--- one that was not
-come_on : (f : FormatView) (a2 a : Option Shown) (o n : Shown) (old new : List Shown) → n.rise < o.rise
-    → IsSafeFrom f a2 a (o ∷ old) (n ∷ new) ↔ (Comes f a2 a (o ∷ old) n × IsSafeFrom f a2 a (o ∷ old) new)
-come_on f a2 a o n old new less = (
-  λ h. elim h [
-    | inl k ↦ absurd (omega (arith, k.0, less))
-    | inr k ↦ (k.1, k.2)
-  ],
-  λ s. inr (less, s.0, s.1),
-)
-
--- one that is passed
-lost_here : (f : FormatView) (a2 a : Option Shown) (o n : Shown) (old new : List Shown) → o.rise < n.rise → IsSafeFrom f a2 a (o ∷ old) (n ∷ new) → ⊥
-lost_here f a2 a o n old new less h = elim h [
-  | inl k ↦ absurd (omega (arith, k.0, less))
-  | inr k ↦ absurd (omega (arith, k.0, less))
-]
-
 -- what is before the next place
-next_two : (f : FormatView) (old rest : List Shown) (k : ℕ) (o : Shown) → slice_get old k ≡ Some o
-    → IsSafeAt f old (k + 1) rest ≡ IsSafeFrom f (behind k old) (Some o) (drop (k + 1) old) rest
-next_two f old rest k o e =
+next_two : (f : FormatView) (old rest : List Shown) (k : ℕ) (o : Shown) (found : Option Fault) → slice_get old k ≡ Some o
+    → JudgedAt f old (k + 1) rest found ≡ JudgedFrom f (behind k old) (Some o) (drop (k + 1) old) rest found
+next_two f old rest k o found e =
     let one : k + 1 - 1 ≡ k = omega arith in
-    λ i. IsSafeFrom f (behind (one i) old) ((next_behind k old ∙ e) i) (drop (k + 1) old) rest
+    λ i. JudgedFrom f (behind (one i) old) ((next_behind k old ∙ e) i) (drop (k + 1) old) rest found
 
-pub at_stay : (f : FormatView) (old : List Shown) (k : ℕ) (o n : Shown) (rest : List Shown) → slice_get old k ≡ Some o → o.rise ≡ n.rise
-    → Stays f (behind (k - 1) old) (behind k old) o (drop (k + 1) old) n → IsSafeAt f old k (n ∷ rest) ↔ IsSafeAt f old (k + 1) rest
-at_stay f old k o n rest e same stays =
-    let on = stay_on f (behind (k - 1) old) (behind k old) o n (drop (k + 1) old) rest same in
-    let next = next_two f old rest k o e in
-    let cut = drop-item old k o e in (
-      λ h. subst (λ (T : Type 0). T) (sym next) (on.0 (subst (λ (l : List Shown). IsSafeFrom f (behind (k - 1) old) (behind k old) l (n ∷ rest)) cut h)).1,
-      λ s. subst (λ (l : List Shown). IsSafeFrom f (behind (k - 1) old) (behind k old) l (n ∷ rest)) (sym cut) (on.1 (stays, subst (λ (T : Type 0). T) next s)),
-    )
+-- a frame that was there
+stay_on : (f : FormatView) (a2 a : Option Shown) (o n : Shown) (old new : List Shown) (found : Option Fault) → o.rise ≡ n.rise
+    → Stays f a2 a o old n → JudgedFrom f a (Some o) old new found → JudgedFrom f a2 a (o ∷ old) (n ∷ new) found
+stay_on f a2 a o n old new None same stays h = inl (same, stays, h)
+stay_on f a2 a o n old new (Some why) same stays h = inl (same, inr (stays, h))
 
+pub at_stay : (f : FormatView) (old : List Shown) (k : ℕ) (o n : Shown) (rest : List Shown) (found : Option Fault) → slice_get old k ≡ Some o
+    → o.rise ≡ n.rise → Stays f (behind (k - 1) old) (behind k old) o (drop (k + 1) old) n → JudgedAt f old (k + 1) rest found
+    → JudgedAt f old k (n ∷ rest) found
+at_stay f old k o n rest found e same stays h =
+    subst (λ (l : List Shown). JudgedFrom f (behind (k - 1) old) (behind k old) l (n ∷ rest) found) (sym (drop-item old k o e))
+    (stay_on f (behind (k - 1) old) (behind k old) o n (drop (k + 1) old) rest found same stays (subst (λ (T : Type 0). T) (next_two f old rest k o found e) h))
+
+-- one that is another now, and one that is passed
 pub not_stay : (f : FormatView) (old : List Shown) (k : ℕ) (o n : Shown) (rest : List Shown) → slice_get old k ≡ Some o → o.rise ≡ n.rise
-    → (Stays f (behind (k - 1) old) (behind k old) o (drop (k + 1) old) n → ⊥) → IsSafeAt f old k (n ∷ rest) → ⊥
-not_stay f old k o n rest e same other h =
-    let on = stay_on f (behind (k - 1) old) (behind k old) o n (drop (k + 1) old) rest same in
-    other (on.0 (subst (λ (l : List Shown). IsSafeFrom f (behind (k - 1) old) (behind k old) l (n ∷ rest)) (drop-item old k o e) h)).0
+    → (Stays f (behind (k - 1) old) (behind k old) o (drop (k + 1) old) n → ⊥) → JudgedAt f old k (n ∷ rest) (Some (Changed o))
+not_stay f old k o n rest e same other =
+    subst (λ (l : List Shown). FaultFrom f (behind (k - 1) old) (behind k old) l (n ∷ rest) (Changed o)) (sym (drop-item old k o e))
+    (inl (same, inl (other, refl)))
 
 pub at_lost : (f : FormatView) (old : List Shown) (k : ℕ) (o n : Shown) (rest : List Shown) → slice_get old k ≡ Some o → o.rise < n.rise
-    → IsSafeAt f old k (n ∷ rest) → ⊥
-at_lost f old k o n rest e less h =
-    lost_here f (behind (k - 1) old) (behind k old) o n (drop (k + 1) old) rest less
-    (subst (λ (l : List Shown). IsSafeFrom f (behind (k - 1) old) (behind k old) l (n ∷ rest)) (drop-item old k o e) h)
+    → JudgedAt f old k (n ∷ rest) (Some (Lost o))
+at_lost f old k o n rest e less =
+    subst (λ (l : List Shown). FaultFrom f (behind (k - 1) old) (behind k old) l (n ∷ rest) (Lost o)) (sym (drop-item old k o e))
+    (inr (inr (less, refl)))
 
 -- a frame before the next one of the former
 abbrev pub IsBefore : List Shown → ℕ → Shown → Type 0
 IsBefore old k n = (o : Shown) → slice_get old k ≡ Some o → n.rise < o.rise
-
-abbrev BorneAt : FormatView → List Shown → ℕ → Shown → Type 0
-BorneAt f old k n = is_borne f (behind (k - 1) old) (behind k old) (slice_get old k) (slice_get old (k + 1)) n ≡ true
 
 none_later : (k : ℕ) (xs : List Shown) → slice_get xs k ≡ None → slice_get xs (k + 1) ≡ None
 none_later k [] e = refl
 none_later zero (x ∷ xs) e = absurd (cc)
 none_later (suc k) (x ∷ xs) e = let same : suc k + 1 ≡ suc (k + 1) = omega arith in ap (slice_get (x ∷ xs)) same ∙ none_later k xs e
 
-at_come : (f : FormatView) (old : List Shown) (k : ℕ) (n : Shown) (rest : List Shown) → IsBefore old k n
-    → IsSafeAt f old k (n ∷ rest) ↔ (BorneAt f old k n × IsSafeAt f old k rest)
-at_come f old k n rest before = go (slice_get old k) refl
-  where
-    go : (g : Option Shown) → slice_get old k ≡ g → IsSafeAt f old k (n ∷ rest) ↔ (BorneAt f old k n × IsSafeAt f old k rest)
-    go None e =
-        let second : slice_get old (k + 1) ≡ None = none_later k old e in
-        rw (drop_past k old e, e, second) (λ s. s, λ s. s)
-    go (Some o) e = rw (drop-item old k o e, e, sym (first_from (k + 1) old)) (come_on f (behind (k - 1) old) (behind k old) o n (drop (k + 1) old) rest (before o e))
+-- one that was not there, before the former that are left
+come_on : (f : FormatView) (a2 a : Option Shown) (old new : List Shown) (n : Shown) (found : Option Fault) → IsBefore old 0 n → Comes f a2 a old n
+    → JudgedFrom f a2 a old new found → JudgedFrom f a2 a old (n ∷ new) found
+come_on f a2 a [] new n None before comes h = (comes, h)
+come_on f a2 a [] new n (Some why) before comes h = inr (comes, h)
+come_on f a2 a (o ∷ old) new n None before comes h = inr (before o refl, comes, h)
+come_on f a2 a (o ∷ old) new n (Some why) before comes h = inr (inl (before o refl, inr (comes, h)))
+
+not_come : (f : FormatView) (a2 a : Option Shown) (old new : List Shown) (n : Shown) → IsBefore old 0 n → (Comes f a2 a old n → ⊥)
+    → FaultFrom f a2 a old (n ∷ new) (Unsupported n)
+not_come f a2 a [] new n before other = inl (other, refl)
+not_come f a2 a (o ∷ old) new n before other = inr (inl (before o refl, inl (other, refl)))
+
+first_before : (old : List Shown) (k : ℕ) (n : Shown) → IsBefore old k n → IsBefore (drop k old) 0 n
+first_before old k n before o e = before o (sym (first_from k old) ∙ e)
+
+-- what is borne out at a place
+comes_at : (f : FormatView) (old : List Shown) (k : ℕ) (n : Shown)
+    → is_borne f (behind (k - 1) old) (behind k old) (slice_get (drop k old) 0) (slice_get (drop k old) 1) n
+    ≡ is_borne f (behind (k - 1) old) (behind k old) (slice_get old k) (slice_get old (k + 1)) n
+comes_at f old k n = λ i. is_borne f (behind (k - 1) old) (behind k old) (first_from k old i) (get-drop k 1 old i) n
 
 -- what becomes of a place
-abbrev pub Passes : FormatView → List Shown → ℕ → Shown → Option ℕ → List Shown → Type 0
-Passes f old k n None rest = IsSafeAt f old k (n ∷ rest) → ⊥
-Passes f old k n (Some p) rest = IsSafeAt f old k (n ∷ rest) ↔ IsSafeAt f old p rest
+abbrev pub Passes : FormatView → List Shown → ℕ → Shown → Result ℕ Fault → List Shown → Type 0
+Passes f old k n (Ok p) rest = (found : Option Fault) → JudgedAt f old p rest found → JudgedAt f old k (n ∷ rest) found
+Passes f old k n (Err why) rest = JudgedAt f old k (n ∷ rest) (Some why)
 
-pub comes_on : (f : FormatView) (old : List Shown) (k : ℕ) (n : Shown) (r : Option ℕ) (rest : List Shown) → IsBefore old k n
+pub comes_on : (f : FormatView) (old : List Shown) (k : ℕ) (n : Shown) (r : Result ℕ Fault) (rest : List Shown) → IsBefore old k n
     → (borne : Bool) → is_borne f (behind (k - 1) old) (behind k old) (slice_get old k) (slice_get old (k + 1)) n ≡ borne
-    → r ≡ (if borne then Some k else None) → Passes f old k n r rest
+    → r ≡ (if borne then Ok k else Err (Unsupported n)) → Passes f old k n r rest
 comes_on f old k n r rest before true so e =
-    let on = at_come f old k n rest before in
-    subst (λ (r : Option ℕ). Passes f old k n r rest) (sym e) (λ h. (on.0 h).1, λ s. on.1 (so, s))
+    subst (λ (r : Result ℕ Fault). Passes f old k n r rest) (sym e)
+    (λ found h. come_on f (behind (k - 1) old) (behind k old) (drop k old) rest n found (first_before old k n before) (comes_at f old k n ∙ so) h)
 comes_on f old k n r rest before false not_so e =
-    let on = at_come f old k n rest before in
-    subst (λ (r : Option ℕ). Passes f old k n r rest) (sym e) (λ h. let bad : true ≡ false = sym (on.0 h).0 ∙ not_so in absurd (cc))
+    subst (λ (r : Result ℕ Fault). Passes f old k n r rest) (sym e)
+    (not_come f (behind (k - 1) old) (behind k old) (drop k old) rest n (first_before old k n before)
+    (λ s. let bad : true ≡ false = sym s ∙ (comes_at f old k n ∙ not_so) in absurd (cc)))
 
-pub passes : (f : FormatView) (old : List Shown) (k : ℕ) (n : Shown) (r : Option ℕ) (rest : List Shown) → Passes f old k n r rest
-    → MatchOption r (IsSafeAt f old k (n ∷ rest) → ⊥) (λ p. IsSafeAt f old k (n ∷ rest) ↔ IsSafeAt f old p rest)
-passes f old k n None rest h = h
-passes f old k n (Some p) rest h = h
+pub passes_ok : (f : FormatView) (old : List Shown) (k : ℕ) (n : Shown) (r : Result ℕ Fault) (rest : List Shown) (found : Option Fault)
+    → Passes f old k n r rest → IfOk r (λ p. JudgedAt f old p rest found → JudgedAt f old k (n ∷ rest) found)
+passes_ok f old k n (Ok p) rest found h = h found
+passes_ok f old k n (Err why) rest found h = tt
+
+pub passes_err : (f : FormatView) (old : List Shown) (k : ℕ) (n : Shown) (r : Result ℕ Fault) (rest : List Shown)
+    → Passes f old k n r rest → IfErr r (λ why. JudgedAt f old k (n ∷ rest) (Some why))
+passes_err f old k n (Ok p) rest h = tt
+passes_err f old k n (Err why) rest h = h
 
 pub none_before : (old : List Shown) (k : ℕ) (n : Shown) → slice_get old k ≡ None → IsBefore old k n
 none_before old k n e o h = let bad : None ≡ Some o = sym e ∙ h in absurd (cc)
@@ -144,122 +131,104 @@ some_before old k n x e less o h =
     let same : x ≡ o = cc in
     subst (λ (y : Shown). n.rise < y.rise) same less
 
-pub come_within : (old : List Shown) (k : ℕ) (borne : Bool) (r : Option ℕ) → k ≤ length old → r ≡ (if borne then Some k else None)
-    → IfSome r (λ p. p ≤ length old)
-come_within old k true r most e = subst (λ (r : Option ℕ). IfSome r (λ p. p ≤ length old)) (sym e) most
-come_within old k false r most e = subst (λ (r : Option ℕ). IfSome r (λ p. p ≤ length old)) (sym e) tt
-
--- at the end of the new frames
-pub at_end : (f : FormatView) (a2 a : Option Shown) (old : List Shown) (k : ℕ) → k ≤ length old → IsSafeFrom f a2 a (drop k old) [] ↔ (k ≡ length old)
-at_end f a2 a old k most = go (slice_get old k) refl
-  where
-    go : (g : Option Shown) → slice_get old k ≡ g → IsSafeFrom f a2 a (drop k old) [] ↔ (k ≡ length old)
-    go None e = let least = past_end k old e in rw (drop_past k old e) (λ s. omega arith, λ s. tt)
-    go (Some o) e = let less = slice_get_within old k o e in rw (drop-item old k o e) (λ s. absurd s, λ s. absurd (omega arith))
+pub come_within : (old : List Shown) (k : ℕ) (borne : Bool) (n : Shown) (r : Result ℕ Fault) → k ≤ length old
+    → r ≡ (if borne then Ok k else Err (Unsupported n)) → IfOk r (λ p. p ≤ length old)
+come_within old k true n r most e = subst (λ (r : Result ℕ Fault). IfOk r (λ p. p ≤ length old)) (sym e) most
+come_within old k false n r most e = subst (λ (r : Result ℕ Fault). IfOk r (λ p. p ≤ length old)) (sym e) tt
 
 -- what is left, as all was
 abbrev pub Judges : FormatView → List Shown → List Shown → ℕ → ℕ → Type 0
-Judges f old new k i = (k ≤ length old) × (IsSafeFrom f None None old new ↔ IsSafeAt f old k (drop i new))
+Judges f old new k i =
+    (k ≤ length old) × ((found : Option Fault) → JudgedAt f old k (drop i new) found → JudgedFrom f None None old new found)
 
 pub judge_on : (f : FormatView) (old new : List Shown) (k i p : ℕ) (n : Shown) → slice_get new i ≡ Some n → p ≤ length old
-    → ((rest : List Shown) → IsSafeAt f old k (n ∷ rest) ↔ IsSafeAt f old p rest) → Judges f old new k i → Judges f old new p (i + 1)
-judge_on f old new k i p n h most on s =
-    let step = on (drop (i + 1) new) in
-    let cut = drop-item new i n h in (
-      most,
-      (
-        λ w. step.0 (subst (λ (l : List Shown). IsSafeAt f old k l) cut (s.1.0 w)),
-        λ l. s.1.1 (subst (λ (r : List Shown). IsSafeAt f old k r) (sym cut) (step.1 l)),
-      ),
-    )
-
-pub judge_none : (f : FormatView) (old new : List Shown) (k i : ℕ) (n : Shown) → slice_get new i ≡ Some n
-    → ((rest : List Shown) → IsSafeAt f old k (n ∷ rest) → ⊥) → Judges f old new k i → IsSafeFrom f None None old new → ⊥
-judge_none f old new k i n h never s w =
-    never (drop (i + 1) new) (subst (λ (l : List Shown). IsSafeAt f old k l) (drop-item new i n h) (s.1.0 w))
-
-pub judge_end : (f : FormatView) (old new : List Shown) (k i : ℕ) → length new ≤ i → Judges f old new k i
-    → IsSafeFrom f None None old new ↔ (k ≡ length old)
-judge_end f old new k i past s =
-    let last = at_end f (behind (k - 1) old) (behind k old) old k s.0 in
-    let none : drop i new ≡ [] = drop_all i new past in
-    let left : IsSafeFrom f None None old new ↔ IsSafeAt f old k [] = rw none at s.1 in
-    (λ p. last.0 (left.0 p), λ e. left.1 (last.1 e))
-
-pub ends_safe : (a b : ℕ) {P : Type 0} → P ↔ (a ≡ b) → IsTrue (eqb a b) ↔ P
-ends_safe a b p = elim (eqb_tells a b) [
-  | inl same ↦ (λ t. p.1 same.1, λ q. same.0)
-  | inr other ↦ (λ t. let bad : false ≡ true = sym other.0 ∙ t in absurd (cc), λ q. absurd (other.1 (p.0 q)))
-]
-
--- the same of frames that are found again
-pub found_here : (last : List Shown) (k : ℕ) (x n : Shown) (rest : List Shown) → slice_get last k ≡ Some x → x.rise ≡ n.rise
-    → NoneIsSpoiled (drop k last) (n ∷ rest) ↔ NoneIsSpoiled (drop (k + 1) last) rest
-found_here last k x n rest e same = rw (drop-item last k x e) (
-  λ h. elim h [
-    | inl s ↦ s.1
-    | inr s ↦ absurd (omega (arith, s.0, same))
-  ],
-  λ s. inl (same, s),
+    → ((rest : List Shown) (found : Option Fault) → JudgedAt f old p rest found → JudgedAt f old k (n ∷ rest) found) → Judges f old new k i
+    → Judges f old new p (i + 1)
+judge_on f old new k i p n h most on s = (
+  most,
+  λ found l. s.1 found (subst (λ (r : List Shown). JudgedAt f old k r found) (sym (drop-item new i n h)) (on (drop (i + 1) new) found l)),
 )
 
-pub found_later : (last : List Shown) (k : ℕ) (n : Shown) (rest : List Shown) → IsBefore last k n
-    → NoneIsSpoiled (drop k last) (n ∷ rest) ↔ NoneIsSpoiled (drop k last) rest
-found_later last k n rest before = go (slice_get last k) refl
-  where
-    go : (g : Option Shown) → slice_get last k ≡ g → NoneIsSpoiled (drop k last) (n ∷ rest) ↔ NoneIsSpoiled (drop k last) rest
-    go None e = rw (drop_past k last e) (λ s. tt, λ s. tt)
-    go (Some x) e =
-        let less = before x e in
-        rw (drop-item last k x e) (
-          λ h. elim h [
-            | inl s ↦ absurd (omega (arith, s.0, less))
-            | inr s ↦ s.1
-          ],
-          λ s. inr (less, s),
-        )
+pub judge_none : (f : FormatView) (old new : List Shown) (k i : ℕ) (n : Shown) (why : Fault) → slice_get new i ≡ Some n
+    → ((rest : List Shown) → JudgedAt f old k (n ∷ rest) (Some why)) → Judges f old new k i → FaultFrom f None None old new why
+judge_none f old new k i n why h fault s =
+    s.1 (Some why) (subst (λ (l : List Shown). JudgedAt f old k l (Some why)) (sym (drop-item new i n h)) (fault (drop (i + 1) new)))
+
+-- at the end of the new frames
+left_none : (f : FormatView) (a2 a : Option Shown) (old : List Shown) → old ≡ [] → IsSafeFrom f a2 a old []
+left_none f a2 a old e = subst (λ (l : List Shown). IsSafeFrom f a2 a l []) (sym e) tt
+
+left_some : (f : FormatView) (a2 a : Option Shown) (o : Shown) (old rest : List Shown) → old ≡ o ∷ rest → FaultFrom f a2 a old [] (Lost o)
+left_some f a2 a o old rest e = subst (λ (l : List Shown). FaultFrom f a2 a l [] (Lost o)) (sym e) refl
+
+pub judge_end : (f : FormatView) (old new : List Shown) (k i : ℕ) → length new ≤ i → slice_get old k ≡ None → Judges f old new k i
+    → IsSafeFrom f None None old new
+judge_end f old new k i past none s =
+    s.1 None (subst (λ (l : List Shown). JudgedAt f old k l None) (sym (drop_all i new past))
+    (left_none f (behind (k - 1) old) (behind k old) (drop k old) (drop_past k old none)))
+
+pub judge_left : (f : FormatView) (old new : List Shown) (k i : ℕ) (o : Shown) → length new ≤ i → slice_get old k ≡ Some o → Judges f old new k i
+    → FaultFrom f None None old new (Lost o)
+judge_left f old new k i o past some s =
+    s.1 (Some (Lost o)) (subst (λ (l : List Shown). JudgedAt f old k l (Some (Lost o))) (sym (drop_all i new past))
+    (left_some f (behind (k - 1) old) (behind k old) o (drop k old) (drop (k + 1) old) (drop-item old k o some)))
+
+-- the same of frames that are found again
+find_here : (x n : Shown) (last rest : List Shown) (why : Option Fault) → x.rise ≡ n.rise → Finds last rest why → Finds (x ∷ last) (n ∷ rest) why
+find_here x n last rest None same h = inl (same, h)
+find_here x n last rest (Some why) same h = inl (same, h)
+
+pub found_here : (last : List Shown) (k : ℕ) (x n : Shown) (rest : List Shown) (why : Option Fault) → slice_get last k ≡ Some x → x.rise ≡ n.rise
+    → Finds (drop (k + 1) last) rest why → Finds (drop k last) (n ∷ rest) why
+found_here last k x n rest why e same h =
+    subst (λ (l : List Shown). Finds l (n ∷ rest) why) (sym (drop-item last k x e)) (find_here x n (drop (k + 1) last) rest why same h)
+
+find_later : (n : Shown) (last rest : List Shown) (why : Option Fault) → IsBefore last 0 n → Finds last rest why → Finds last (n ∷ rest) why
+find_later n [] rest None before h = tt
+find_later n [] rest (Some why) before h = absurd h
+find_later n (x ∷ last) rest None before h = inr (before x refl, h)
+find_later n (x ∷ last) rest (Some why) before h = inr (inl (before x refl, h))
+
+pub found_later : (last : List Shown) (k : ℕ) (n : Shown) (rest : List Shown) (why : Option Fault) → IsBefore last k n
+    → Finds (drop k last) rest why → Finds (drop k last) (n ∷ rest) why
+found_later last k n rest why before h = find_later n (drop k last) rest why (first_before last k n before) h
 
 pub not_found : (last : List Shown) (k : ℕ) (x n : Shown) (rest : List Shown) → slice_get last k ≡ Some x → x.rise < n.rise
-    → NoneIsSpoiled (drop k last) (n ∷ rest) → ⊥
-not_found last k x n rest e less h =
-    elim (subst (λ (l : List Shown). NoneIsSpoiled l (n ∷ rest)) (drop-item last k x e) h) [
-      | inl s ↦ absurd (omega (arith, s.0, less))
-      | inr s ↦ absurd (omega (arith, s.0, less))
-    ]
+    → IsSpoiledBy (drop k last) (n ∷ rest) (Lost x)
+not_found last k x n rest e less =
+    subst (λ (l : List Shown). IsSpoiledBy l (n ∷ rest) (Lost x)) (sym (drop-item last k x e)) (inr (inr (less, refl)))
 
-pub found_end : (last : List Shown) (k : ℕ) → k ≤ length last → NoneIsSpoiled (drop k last) [] ↔ (k ≡ length last)
-found_end last k most = go (slice_get last k) refl
-  where
-    go : (g : Option Shown) → slice_get last k ≡ g → NoneIsSpoiled (drop k last) [] ↔ (k ≡ length last)
-    go None e = let least = past_end k last e in rw (drop_past k last e) (λ s. omega arith, λ s. tt)
-    go (Some x) e = let less = slice_get_within last k x e in rw (drop-item last k x e) (λ s. absurd s, λ s. absurd (omega arith))
-
-abbrev pub Finds : List Shown → List Shown → ℕ → ℕ → Type 0
-Finds last new k i = (k ≤ length last) × (NoneIsSpoiled last new ↔ NoneIsSpoiled (drop k last) (drop i new))
+abbrev pub FindsAll : List Shown → List Shown → ℕ → ℕ → Type 0
+FindsAll last new k i = (k ≤ length last) × ((why : Option Fault) → Finds (drop k last) (drop i new) why → Finds last new why)
 
 pub find_on : (last new : List Shown) (k i p : ℕ) (n : Shown) → slice_get new i ≡ Some n → p ≤ length last
-    → ((rest : List Shown) → NoneIsSpoiled (drop k last) (n ∷ rest) ↔ NoneIsSpoiled (drop p last) rest) → Finds last new k i → Finds last new p (i + 1)
-find_on last new k i p n h most on s =
-    let step = on (drop (i + 1) new) in
-    let cut = drop-item new i n h in (
-      most,
-      (
-        λ w. step.0 (subst (λ (l : List Shown). NoneIsSpoiled (drop k last) l) cut (s.1.0 w)),
-        λ l. s.1.1 (subst (λ (r : List Shown). NoneIsSpoiled (drop k last) r) (sym cut) (step.1 l)),
-      ),
-    )
+    → ((rest : List Shown) (why : Option Fault) → Finds (drop p last) rest why → Finds (drop k last) (n ∷ rest) why) → FindsAll last new k i
+    → FindsAll last new p (i + 1)
+find_on last new k i p n h most on s = (
+  most,
+  λ why l. s.1 why (subst (λ (r : List Shown). Finds (drop k last) r why) (sym (drop-item new i n h)) (on (drop (i + 1) new) why l)),
+)
 
-pub find_none : (last new : List Shown) (k i : ℕ) (n : Shown) → slice_get new i ≡ Some n
-    → ((rest : List Shown) → NoneIsSpoiled (drop k last) (n ∷ rest) → ⊥) → Finds last new k i → NoneIsSpoiled last new → ⊥
-find_none last new k i n h never s w =
-    never (drop (i + 1) new) (subst (λ (l : List Shown). NoneIsSpoiled (drop k last) l) (drop-item new i n h) (s.1.0 w))
+pub find_none : (last new : List Shown) (k i : ℕ) (n : Shown) (why : Fault) → slice_get new i ≡ Some n
+    → ((rest : List Shown) → Finds (drop k last) (n ∷ rest) (Some why)) → FindsAll last new k i → IsSpoiledBy last new why
+find_none last new k i n why h fault s =
+    s.1 (Some why) (subst (λ (l : List Shown). Finds (drop k last) l (Some why)) (sym (drop-item new i n h)) (fault (drop (i + 1) new)))
 
-pub find_end : (last new : List Shown) (k i : ℕ) → length new ≤ i → Finds last new k i → NoneIsSpoiled last new ↔ (k ≡ length last)
-find_end last new k i past s =
-    let end = found_end last k s.0 in
-    let none : drop i new ≡ [] = drop_all i new past in
-    let left : NoneIsSpoiled last new ↔ NoneIsSpoiled (drop k last) [] = rw none at s.1 in
-    (λ p. end.0 (left.0 p), λ e. left.1 (end.1 e))
+unspoiled_none : (last : List Shown) → last ≡ [] → NoneIsSpoiled last []
+unspoiled_none last e = subst (λ (l : List Shown). NoneIsSpoiled l []) (sym e) tt
+
+spoiled_some : (x : Shown) (last rest : List Shown) → last ≡ x ∷ rest → IsSpoiledBy last [] (Lost x)
+spoiled_some x last rest e = subst (λ (l : List Shown). IsSpoiledBy l [] (Lost x)) (sym e) refl
+
+pub find_end : (last new : List Shown) (k i : ℕ) → length new ≤ i → slice_get last k ≡ None → FindsAll last new k i → NoneIsSpoiled last new
+find_end last new k i past none s =
+    s.1 None (subst (λ (l : List Shown). Finds (drop k last) l None) (sym (drop_all i new past)) (unspoiled_none (drop k last) (drop_past k last none)))
+
+pub find_left : (last new : List Shown) (k i : ℕ) (x : Shown) → length new ≤ i → slice_get last k ≡ Some x → FindsAll last new k i
+    → IsSpoiledBy last new (Lost x)
+find_left last new k i x past some s =
+    s.1 (Some (Lost x)) (subst (λ (l : List Shown). Finds (drop k last) l (Some (Lost x))) (sym (drop_all i new past))
+    (spoiled_some x (drop k last) (drop (k + 1) last) (drop-item last k x some)))
 
 -- frames that lead on from one of them
 pub lead_step : (f : FormatView) (xs : List Shown) (k : ℕ) (x y : Shown) → slice_get xs k ≡ Some x → slice_get xs (k + 1) ≡ Some y → leads f x y ≡ true

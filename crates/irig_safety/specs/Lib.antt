@@ -1,4 +1,5 @@
 pub mod Bearing
+pub mod Faults
 pub mod Meaning
 pub mod Safety
 pub mod Witnesses

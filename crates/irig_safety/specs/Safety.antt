@@ -1,7 +1,7 @@
 -- When what frames show after an edit is safe, by what they showed when the recording was opened.
 -- This project's own.
-use Rattle.std.specs.Prelude.{◌≡◌, ◌≤◌, ◌<◌, ◌⊎◌, ◌&&◌, ◌-◌, ℕ, zero, suc, Bool, true, false, not}
-use Rattle.std.specs.Prelude.{List, [], ◌∷◌, Option, Some, None, drop, length, slice_get}
+use Rattle.std.specs.Prelude.{◌≡◌, ◌≤◌, ◌<◌, ◌⊎◌, ◌&&◌, ℕ, zero, suc, Bool, true, false, not}
+use Rattle.std.specs.Prelude.{List, [], ◌∷◌, Option, Some, None, length, slice_get}
 use Rattle.irig_codes.specs.Format.{FormatView}
 use Rattle.irig_safety.specs.Bearing.{allows, leads}
 use Rattle.irig_safety.specs.{Witnesses.is_borne, declared.shown.Shown.Shown}
@@ -36,10 +36,6 @@ IsSafeFrom f a2 a [] (n ∷ new) = Comes f a2 a [] n × IsSafeFrom f a2 a [] new
 IsSafeFrom f a2 a (o ∷ old) (n ∷ new) =
     ((o.rise ≡ n.rise) × Stays f a2 a o old n × IsSafeFrom f a (Some o) old new)
     ⊎ ((n.rise < o.rise) × Comes f a2 a (o ∷ old) n × IsSafeFrom f a2 a (o ∷ old) new)
-
--- so from a place of the former on
-abbrev pub IsSafeAt : FormatView → List Shown → ℕ → List Shown → Type 0
-IsSafeAt f old k new = IsSafeFrom f (behind (k - 1) old) (behind k old) (drop k old) new
 
 -- each frame leads to the next
 abbrev pub LeadOn : FormatView → List Shown → Type 0

@@ -2,12 +2,14 @@
 #![tactic(auto)]
 
 mod bearing;
+mod fault;
 mod law;
 mod safety;
 mod shown;
 mod witnesses;
 
+pub use fault::Fault;
 pub use law::safe_frames_are_kept_or_borne_out;
-pub use safety::{is_safe, none_is_spoiled};
+pub use safety::{check_safe, check_unspoiled};
 pub use shown::Shown;
 pub use witnesses::{Witnesses, is_borne};

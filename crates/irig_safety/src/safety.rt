@@ -1,24 +1,34 @@
-//! Whether frames are safe.
+//! Whether frames are safe, and why they are not.
 
-ghost use Rattle.std.specs.Prelude.{◌≡◌, ◌↔◌, ◌-◌, ◌≤◌, ◌+◌, ◌∷◌, List, IsTrue, None, Some, length};
-ghost use Rattle.std.specs.Prelude.{IfSome, MatchOption, drop, if◌then◌else◌, slice_get};
-ghost use Rattle.irig_safety.specs.Safety.{AreOfThemselves, IsSafe, IsSafeAt, IsSafeFrom, LeadOn};
+ghost use Rattle.std.specs.Prelude.{◌≡◌, ◌↔◌, ◌-◌, ◌≤◌, ◌+◌, ◌∷◌, List, IsTrue, None, Option, Some};
+ghost use Rattle.std.specs.Prelude.{Err, IfErr, IfOk, Ok, OnErr, OnOk, drop, if◌then◌else◌, length};
+ghost use Rattle.std.specs.Prelude.{slice_get};
+ghost use Rattle.irig_safety.specs.Faults.{FaultFrom, Finds, IsFault, IsSpoiledBy, JudgedAt};
+ghost use Rattle.irig_safety.specs.Safety.{AreOfThemselves, IsSafe, IsSafeFrom, LeadOn};
 ghost use Rattle.irig_safety.specs.Safety.{NoneIsSpoiled, Stays, behind, is_mended};
+ghost use Rattle.irig_safety.specs.declared.fault.Fault.{Fault as SomeFault};
 ghost use Rattle.irig_safety.specs.{Witnesses.is_borne, declared.shown.Shown.Shown as ShownFrame};
 
 use crate::bearing::{allows, leads};
+use crate::fault::Fault;
 use crate::shown::{Shown, is_same};
 use crate::witnesses::{Witnesses, is_borne};
 use irig_codes::Format;
 
-/// Whether the frames that read well now are safe, by those that did at first.
-pub fn is_safe(format: Format, old: &[Shown], new: &[Shown]) -> bool
-    ensures { IsTrue result ↔ IsSafe format old.now new.now }
+/// Whether the frames that read well now are safe, by those that did at first. If not, the first
+/// fault in the order of their rises.
+pub fn check_safe(format: Format, old: &[Shown], new: &[Shown]) -> Result<(), Fault>
+    ensures safe { OnOk result (IsSafe format old.now new.now) }
+    ensures unsafe_so { OnErr result (IsSafe format old.now new.now → ⊥) }
+    ensures fault { IfErr result (IsFault format old.now new.now) }
 {
-    if old.is_empty() {
-        are_of_themselves(format, new)
+    if !old.is_empty() {
+        return check_from(format, old, new);
+    }
+    if are_of_themselves(format, new) {
+        Ok(())
     } else {
-        is_safe_from(format, old, new)
+        Err(Fault::Alone)
     }
 }
 
@@ -41,28 +51,34 @@ fn lead_on(format: Format, frames: &[Shown]) -> bool
     true
 }
 
-/// Whether each frame is one of the former, or was wrong and is mended, or is borne out by them.
-fn is_safe_from(format: Format, old: &[Shown], new: &[Shown]) -> bool
-    ensures { IsTrue result ↔ IsSafeFrom format None None old.now new.now }
+/// Whether each frame is one of the former, or was wrong and is mended, or is borne out by them. If
+/// not, the first fault.
+fn check_from(format: Format, old: &[Shown], new: &[Shown]) -> Result<(), Fault>
+    ensures safe { OnOk result (IsSafeFrom format None None old.now new.now) }
+    ensures fault { IfErr result (FaultFrom format None None old.now new.now) }
 {
     let mut kept = 0;
     for frame in new {
         match passed(format, old, kept, frame) {
-            Some(place) => kept = place,
-            None => return false,
+            Ok(place) => kept = place,
+            Err(why) => return Err(why),
         }
     }
-    kept == old.len()
+    match frame_at(old, kept) {
+        Some(former) => Err(Fault::Lost(former)),
+        None => Ok(()),
+    }
 }
 
-/// How many of the former frames are passed after one more frame; `None` if it is not safe.
-fn passed(format: Format, old: &[Shown], kept: usize, frame: &Shown) -> Option<usize>
+/// How many of the former frames are passed after one more frame, or why it is not safe.
+fn passed(format: Format, old: &[Shown], kept: usize, frame: &Shown) -> Result<usize, Fault>
     requires { kept ≤ length old.now }
-    ensures within { IfSome result (λ place. place ≤ length old.now) }
-    ensures safe { (rest : List ShownFrame) → MatchOption result
-        (IsSafeAt format old.now kept (frame.now ∷ rest) → ⊥)
-        (λ place. IsSafeAt format old.now kept (frame.now ∷ rest)
-        ↔ IsSafeAt format old.now place rest) }
+    ensures within { IfOk result (λ place. place ≤ length old.now) }
+    ensures safe { (rest : List ShownFrame) (found : Option SomeFault) → IfOk result (λ place.
+        JudgedAt format old.now place rest found
+        → JudgedAt format old.now kept (frame.now ∷ rest) found) }
+    ensures fault { (rest : List ShownFrame) → IfErr result (λ why.
+        JudgedAt format old.now kept (frame.now ∷ rest) (Some why)) }
 {
     let Some(former) = frame_at(old, kept) else {
         return come(format, old, kept, frame);
@@ -70,23 +86,27 @@ fn passed(format: Format, old: &[Shown], kept: usize, frame: &Shown) -> Option<u
     if frame.rise < former.rise {
         return come(format, old, kept, frame);
     }
-    if former.rise == frame.rise && stays(format, old, kept, &former, frame) {
-        Some(kept + 1)
+    if former.rise < frame.rise {
+        return Err(Fault::Lost(former));
+    }
+    if stays(format, old, kept, &former, frame) {
+        Ok(kept + 1)
     } else {
-        None
+        Err(Fault::Changed(former))
     }
 }
 
 /// The same of a frame between former ones.
-fn come(format: Format, old: &[Shown], kept: usize, frame: &Shown) -> Option<usize>
+fn come(format: Format, old: &[Shown], kept: usize, frame: &Shown) -> Result<usize, Fault>
     requires { kept ≤ length old.now }
     ensures { result ≡ if is_borne format (behind (kept - 1) old.now) (behind kept old.now)
-        (slice_get old.now kept) (slice_get old.now (kept + 1)) frame.now then Some kept else None }
+        (slice_get old.now kept) (slice_get old.now (kept + 1)) frame.now
+        then Ok kept else Err (Fault.Unsupported frame.now) }
 {
     if is_borne(format, &near(old, kept), frame) {
-        Some(kept)
+        Ok(kept)
     } else {
-        None
+        Err(Fault::Unsupported(*frame))
     }
 }
 
@@ -158,38 +178,43 @@ fn frame_behind(frames: &[Shown], place: usize) -> Option<Shown>
     }
 }
 
-/// Whether each frame that read well still does, at its time.
-pub fn none_is_spoiled(last: &[Shown], new: &[Shown]) -> bool
-    ensures { IsTrue result ↔ NoneIsSpoiled last.now new.now }
+/// Whether each frame that read well still does, at its time. If not, the first that does not.
+pub fn check_unspoiled(last: &[Shown], new: &[Shown]) -> Result<(), Fault>
+    ensures kept { OnOk result (NoneIsSpoiled last.now new.now) }
+    ensures spoiled { OnErr result (NoneIsSpoiled last.now new.now → ⊥) }
+    ensures fault { IfErr result (IsSpoiledBy last.now new.now) }
 {
     let mut found = 0;
     for frame in new {
         match found_after(last, found, frame) {
-            Some(place) => found = place,
-            None => return false,
+            Ok(place) => found = place,
+            Err(why) => return Err(why),
         }
     }
-    found == last.len()
+    match frame_at(last, found) {
+        Some(former) => Err(Fault::Lost(former)),
+        None => Ok(()),
+    }
 }
 
-/// How many frames are found again after one more frame; `None` if one is not.
-fn found_after(last: &[Shown], found: usize, frame: &Shown) -> Option<usize>
+/// How many frames are found again after one more frame, or which is not.
+fn found_after(last: &[Shown], found: usize, frame: &Shown) -> Result<usize, Fault>
     requires { found ≤ length last.now }
-    ensures within { IfSome result (λ place. place ≤ length last.now) }
-    ensures spoiled { (rest : List ShownFrame) → MatchOption result
-        (NoneIsSpoiled (drop found last.now) (frame.now ∷ rest) → ⊥)
-        (λ place. NoneIsSpoiled (drop found last.now) (frame.now ∷ rest)
-        ↔ NoneIsSpoiled (drop place last.now) rest) }
+    ensures within { IfOk result (λ place. place ≤ length last.now) }
+    ensures kept { (rest : List ShownFrame) (why : Option SomeFault) → IfOk result (λ place.
+        Finds (drop place last.now) rest why → Finds (drop found last.now) (frame.now ∷ rest) why) }
+    ensures fault { (rest : List ShownFrame) → IfErr result (λ why.
+        Finds (drop found last.now) (frame.now ∷ rest) (Some why)) }
 {
     let Some(former) = frame_at(last, found) else {
-        return Some(found);
+        return Ok(found);
     };
     if frame.rise < former.rise {
-        return Some(found);
+        return Ok(found);
     }
-    if former.rise == frame.rise {
-        Some(found + 1)
+    if former.rise < frame.rise {
+        Err(Fault::Lost(former))
     } else {
-        None
+        Ok(found + 1)
     }
 }

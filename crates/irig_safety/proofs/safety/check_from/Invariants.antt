@@ -1,5 +1,5 @@
 use Rattle.irig_safety.proofs.SafetyLemmas.{Judges}
-use Rattle.irig_safety.proofs.safety.is_safe_from.Given as goal
+use Rattle.irig_safety.proofs.safety.check_from.Given as goal
 
 abbrev pub invariant-loop-frame : goal.invariant-loop-frame
 invariant-loop-frame l = Judges l.format l.old l.new l.kept l.frame-index

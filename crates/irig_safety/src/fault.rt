@@ -1,0 +1,16 @@
+//! Why frames are not safe.
+
+use crate::shown::Shown;
+
+/// Why the frames that read well now are not safe by those that did before.
+#[derive(Clone, Copy, PartialEq, Eq)]
+pub enum Fault {
+    /// This one read well, and none begins where it did.
+    Lost(Shown),
+    /// This one read well, and is another one now that does not mend it.
+    Changed(Shown),
+    /// This one did not read well, and nothing bears it out.
+    Unsupported(Shown),
+    /// None read well, and they do not bear each other out.
+    Alone,
+}
