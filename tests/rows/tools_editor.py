@@ -34,7 +34,7 @@ def killed(top):
         path = os.path.join(folder, "killed")
         with open(path, "w", encoding="ascii") as file:
             file.write('#!/bin/sh\nscript=$(cat)\ncase $script in *"$KILLED"*)\n'
-                       'printf "%s\\n" "$script" | bin/irig_ed "$@" | head -n 20; kill -9 $$;;\nesac\n'
+                       'printf "%s\\n" "$script" | bin/irig_ed "$@" | sed -n 1,20p; kill -9 $$;;\nesac\n'
                        'printf "%s\\n" "$script" | bin/irig_ed "$@"\n')
         os.chmod(path, 0o755)
         for command, word in (("irig_damage --format B rec.vcd", "list"), ("irig_mend --format B rec.vcd", "list"),
