@@ -18,8 +18,7 @@ TESTS = ("tests/tools", "tests/tools_wire", "tests/tools_planted", "tests/page")
 TYPED_TESTS = ("tests/page", "tests/browser.py", "tests/page_look.py", "tests/page_rows.py")
 VERSIONS = {"flake8": "5.0.4", "mypy": "1.0.1", "shellcheck": "0.9.0"}  # those of Debian 12
 
-EVERYWHERE = {"COMMAND", "main", "work", "Track"}  # what each program has; and a track is read with its places, or as edges
-APART = ("apply", "diff", "page", "picture")  # modules whose names are for themselves
+EVERYWHERE = {"COMMAND", "main", "work"}  # what each program has
 
 
 def defined(tree):
@@ -39,9 +38,8 @@ def one_name(top):
         module = os.path.basename(path)[:-3]
         with open(path, encoding="utf-8") as file:
             names = set(defined(ast.parse(file.read()))) - EVERYWHERE
-        if not module.startswith(APART):
-            for name in names:
-                found[name].add(module)
+        for name in names:
+            found[name].add(module)
     twice = sorted("%s (%s)" % (name, ", ".join(sorted(modules))) for name, modules in found.items() if len(modules) > 1)
     if twice:
         print("FAILED names of several modules: " + ", ".join(twice))

@@ -16,7 +16,7 @@ from .editor import CUT_OFF, Problem, find_beside, find_editor
 from .facts import STEPS, is_undecided, kind_of
 from .opening import Opened
 from .output import output
-from .put_back import PutBack, Track
+from .put_back import PutBack, TrackEdges
 from .readings import given
 from .script import Repair
 from .wire import Wish
@@ -126,7 +126,7 @@ class Target:
                     out.write(_with_offset(source.read(len(HEAD)), track))
                     shutil.copyfileobj(source, out)
                 return []
-            level = Track(repaired, None)
+            level = TrackEdges(repaired, None)
             level.offset = track.offset
             wish = Wish(self._wire(track), self.unit, self.dump)
             report = PutBack(self.into, wish, level, out).run()

@@ -9,30 +9,28 @@ import re
 from collections.abc import Iterator, Mapping, Sequence
 from pathlib import Path
 
-from .sheet import STATES, Changes, Place, Sheet, Wave, frames_in, merged, window
-from .texts import counted, escaped, plain, seconds
+from .sheet import STATES, Changes, Place, Sheet, Wave, facts_of, frames_in, merged, window
+from .texts import counted, escaped, plain
 
 FILES = Path(__file__).resolve().parent
 CODE = ("page_time.js", "page_strip.js", "page_wave.js", "page_place.js", "page_changes.js", "page.js")
-MOST = 2000                             # places that a page holds
+MOST_LISTED = 2000                      # places that a page holds
 PULSES = 30000                          # pulses that a page holds, about
 CAPS = (400, 200, 100, 60, 40)          # and how many of one waveform: the first that keeps to that
 DIGITS = "0123456789abcdefghijklmnopqrstuvwxyz"
 
 
-def page(sheet: Sheet, most: int = MOST) -> str:
+def page(sheet: Sheet, most: int = MOST_LISTED) -> str:
     """The page of a recording, with its first places of damage."""
     code = "".join(file_text(name) for name in CODE)
     style = file_text("page.css")
     policy = "default-src 'none'; script-src 'sha256-%s'; style-src 'sha256-%s'"
-    facts = "format %s, %s, interval %s µs, %s of damage" % (
-        sheet.format, seconds(sheet.length), format(sheet.interval, ","), counted(len(sheet.places), "place"))
     parts = {
         "POLICY": policy % (digest(code), digest(style)),
         "TITLE": escaped(sheet.name),
-        "FACTS": escaped(facts),
+        "FACTS": escaped(facts_of(sheet)),
         "NOTES": "".join("<p>%s</p>" % escaped(note) for note in sheet.notes),
-        "LEGEND": "".join(legend(sheet)),
+        "LEGEND": "".join(legend_items(sheet)),
         "CHANGES": changed(sheet.changes) if sheet.changes else "",
         "STYLE": style,
         "CODE": code,
@@ -56,7 +54,7 @@ def digest(code: str) -> str:
     return base64.b64encode(hashlib.sha256(code.encode()).digest()).decode()
 
 
-def legend(sheet: Sheet) -> Iterator[str]:
+def legend_items(sheet: Sheet) -> Iterator[str]:
     """What the bars of the strip mean, with the number of frames of each kind."""
     for state in STATES:
         yield '<li><span class="key %s"></span>%s: %s</li>' % (

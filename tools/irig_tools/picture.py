@@ -2,12 +2,12 @@
 import textwrap
 from collections.abc import Iterator
 
-from .sheet import STATES, Place, Sheet, frames_in, window
+from .sheet import STATES, Place, Sheet, facts_of, frames_in, window
 from .svg import (BAND, FAINT, GRID, GROUND, INK, LEFT, OUT, RIGHT, TINT, WIDE, Scale, axis, bar, differences,
                   rect, strip, text, wave_labels, wave_path)
 from .texts import counted, escaped, plain, seconds
 
-MOST = 12                               # places that are drawn
+MOST_DRAWN = 12                         # places that are drawn
 LINE = 17                               # height of a line of text
 HIGH, ROW = 30, 84                      # height of a pulse, and of a waveform with its labels
 AXIS = 46                               # height of the numbers of an axis
@@ -16,7 +16,7 @@ COLUMNS = 150                           # letters on a line of text
 Block = tuple[int, list[str]]           # a height, and what is drawn there from 0 on
 
 
-def picture(sheet: Sheet, most: int = MOST) -> str:
+def picture(sheet: Sheet, most: int = MOST_DRAWN) -> str:
     """The picture of a recording, with its first places of damage."""
     parts: list[str] = []
     y = 0
@@ -39,12 +39,10 @@ def title(sheet: Sheet) -> str:
 
 def blocks(sheet: Sheet, most: int) -> Iterator[Block]:
     """The parts of the picture from above to below."""
-    facts = "format %s, %s, interval %s µs, %s of damage" % (
-        sheet.format, seconds(sheet.length), format(sheet.interval, ","), counted(len(sheet.places), "place"))
     yield 26, [text(LEFT, 20, 16, shortened(sheet.name), "start", ' font-weight="bold"')]
-    yield from lines_of([facts, *sheet.notes])
+    yield from lines_of([facts_of(sheet), *sheet.notes])
     yield overview(sheet, min(most, len(sheet.places)))
-    yield legend(sheet)
+    yield legend_block(sheet)
     for number, place in enumerate(sheet.places[:most], 1):
         yield from place_blocks(sheet, number, place)
     if len(sheet.places) > most:
@@ -80,7 +78,7 @@ def overview(sheet: Sheet, count: int) -> Block:
     return top + BAND + OUT + AXIS, drawn
 
 
-def legend(sheet: Sheet) -> Block:
+def legend_block(sheet: Sheet) -> Block:
     """What the bars of the strip mean, with the number of frames of each kind."""
     drawn = []
     for column, state in enumerate(STATES):

@@ -22,7 +22,7 @@ from .wire import Report, Wish, first_of, unit_in
 from .wire_words import words_of
 
 
-class Track:
+class TrackEdges:
     """One wire of a dump by the microsecond, as the editor reads it, and what was subtracted from its times."""
 
     def __init__(self, path: str, name: Optional[str]) -> None:
@@ -75,7 +75,7 @@ class _Body(Body):
 class PutBack:
     """One wire of a file of dumps, as it is in a track."""
 
-    def __init__(self, path: str, wish: Wish, track: Track, out: IO[bytes]) -> None:
+    def __init__(self, path: str, wish: Wish, track: TrackEdges, out: IO[bytes]) -> None:
         self.source, self.wish, self.track = Copied(path, out), wish, track
         self.report = Report()
 

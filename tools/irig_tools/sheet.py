@@ -7,6 +7,8 @@ from collections.abc import Iterable, Sequence
 from dataclasses import dataclass, field
 from typing import Optional
 
+from .texts import counted, seconds
+
 SOUND, DAMAGED, LOST = "sound", "damaged", "lost"
 STATES = (SOUND, DAMAGED, LOST)         # from the least to the worst
 LETTERS = {"zero": "0", "one": "1", "position": "P", "bad": "?"}    # a class as a picture shows it
@@ -84,6 +86,12 @@ def cut(rises: Sequence[int], falls: Sequence[int], letters: Sequence[str], star
     names = {letter: name for name, letter in LETTERS.items()}
     pulses = range(bisect_left(falls, start), bisect_right(rises, end))
     return tuple((rises[pulse], falls[pulse], names.get(letters[pulse], "bad")) for pulse in pulses)
+
+
+def facts_of(sheet: Sheet) -> str:
+    """The format, length, interval and number of places of a recording, in one line."""
+    return "format %s, %s, interval %s µs, %s of damage" % (
+        sheet.format, seconds(sheet.length), format(sheet.interval, ","), counted(len(sheet.places), "place"))
 
 
 def frames_in(sheet: Sheet, state: str) -> int:

@@ -5,7 +5,7 @@ from .command import run
 from .ending import ALL_RIGHT, FOUND, Usage, complain
 from .options import DUMP, OUTPUT, TIMESCALE, Command, Given, Option, a_file, whole
 from .output import check_apart, output
-from .put_back import PutBack, Track
+from .put_back import PutBack, TrackEdges
 from .wire import Extract, Wish
 
 FROM = Option("--from", "TIME", "this time, in the dump's unit, is the new 0", whole(0))
@@ -42,7 +42,7 @@ def work(given: Given) -> int:
         check_apart(source, [(OUTPUT.name, given.text(OUTPUT))])
     chosen = name if into is None else given.text(INTO_WIRE)
     wish = Wish(chosen, given.text(TIMESCALE), given.number(DUMP), start, end, given.has(INVERT))
-    track = None if into is None else Track(given.names[0], name)
+    track = None if into is None else TrackEdges(given.names[0], name)
     with output(given.text(OUTPUT)) as out:
         report = PutBack(into, wish, track, out).run() if into and track else Extract(given.names[0], wish, out).run()
     for text in report.done + report.doubtful:
