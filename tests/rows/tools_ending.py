@@ -45,6 +45,39 @@ def unwritten(top):
             yield good
 
 
+def stopped(top):
+    """A hang-up or a signal TERM ends a tool with a status of its own, and its files are removed; `nohup` still works."""
+    wait = ("mkfifo pipe; %sirig_mend --format B --out new pipe & exec 3>pipe; "
+            "until [ -n \"$(ls files)\" ] || ! kill -0 $!; do sleep 0.02; done; kill -%s $!; cat rec.vcd >&3 2>&-; exec 3>&-; wait $!")
+    with tempfile.TemporaryDirectory() as folder:
+        filled(folder)
+        os.mkdir(os.path.join(folder, "files"))
+        before = contents(folder)
+        for before_it, name, status, files in (("", "HUP", 129, []), ("", "TERM", 143, []), ("trap '' HUP; ", "HUP", 1, ["new"])):
+            done = shell(top, folder, wait % (before_it, name), TMPDIR=os.path.join(folder, "files"))
+            left = os.listdir(os.path.join(folder, "files")), sorted(set(contents(folder)) - set(before))
+            good = done == (status, "", "") and left == ([], files)
+            good or print("FAILED irig_mend and a signal %s: %s %s" % (name, done, left))
+            yield good
+            os.unlink(os.path.join(folder, "pipe"))
+
+
+def without_room(top):
+    """If there is no room for a file, it is named: that of the user, or the folder for temporary files."""
+    with tempfile.TemporaryDirectory() as folder:
+        filled(folder)
+        os.mkdir(os.path.join(folder, "files"))
+        before = contents(folder)
+        for line, name in (("irig_wire rec.vcd --out new", "new"), ("irig_what rec.vcd", "files"), ("irig_damage rec.vcd", "files"),
+                           ("irig_mend --format B - < rec.vcd", "files"), ("irig_damage --dump 1 --format B rec.vcd", "files")):
+            done = shell(top, folder, "ulimit -f 1; %s | cat; exit ${PIPESTATUS[0]}" % line, TMPDIR=os.path.join(folder, "files"))
+            path = os.path.join(folder, name) if name == "files" else name
+            good = done == (2, "", "%s: %s: File too large\n" % (line.split()[0], path))
+            good = good and contents(folder) == before and not os.listdir(os.path.join(folder, "files"))
+            good or print("FAILED %s without room: %s" % (line, done))
+            yield good
+
+
 def without_memory(top):
     """With ever less memory a tool does its work, or ends with 70 and one line, also if Python itself cannot start."""
     with tempfile.TemporaryDirectory() as folder:
@@ -101,4 +134,5 @@ def raising():
 def cases(top):
     """Each part by its name."""
     return [case("ending: closed streams", closed, top), case("ending: full devices and readers", unwritten, top),
+            case("ending: signals", stopped, top), case("ending: no room", without_room, top),
             case("ending: too little memory", without_memory, top), case("ending: errors", raising)]

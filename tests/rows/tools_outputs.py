@@ -3,8 +3,10 @@ import os
 import shutil
 import subprocess
 import tempfile
+from unittest import mock
 
 from cases import case
+from irig_tools import output
 from rows.tools_carrier import wav
 from rows.tools_what import B, SCOPES, bus, dump
 
@@ -140,25 +142,57 @@ def whole(top):
         before = contents(folder)
         for command, text in (("irig_damage --page dir rec.vcd", "irig_damage: %s/dir: Is a directory\n" % folder),
                               ("irig_damage --page none/a rec.vcd", "irig_damage: none/a: No such file or directory\n"),
-                              ("irig_damage --page /dev/full rec.vcd", "irig_damage: No space left on device\n")):
+                              ("irig_damage --page /dev/full rec.vcd", "irig_damage: /dev/full: No space left on device\n")):
             status, printed, said = shell(top, folder, command)
             good = (status, printed) == (2, "") and said.endswith(text) and contents(folder) == before
             good or print("FAILED %s: %d %s" % (command, status, said))
             yield good
         shutil.copy(os.path.join(folder, "rec.vcd"), os.path.join(folder, "page"))
         os.symlink("page", os.path.join(folder, "to_page"))
-        status = shell(top, folder, "umask 027; irig_damage --page to_page rec.vcd")[0]
-        with open(os.path.join(folder, "page"), "rb") as file:
-            head = file.read(15)
-        mode = os.stat(os.path.join(folder, "page")).st_mode & 0o777
-        good = (status, head.lower(), mode) == (1, b"<!doctype html>", 0o640)
+        status = shell(top, folder, "umask 027; irig_damage --page fresh --picture to_page rec.vcd")[0]
+        heads = [contents(folder)[name][:5] for name in ("fresh", "page")]
+        good = (status, heads, mode_of(folder, "fresh")) == (1, [b"<!DOC", b"<svg "], 0o640)
         good = good and os.path.islink(os.path.join(folder, "to_page"))
-        good or print("FAILED a page through a link: %d %r %o" % (status, head, mode))
+        good or print("FAILED a page, and a picture through a link: %d %s" % (status, heads))
         yield good
+
+
+def mode_of(folder, name):
+    return os.stat(os.path.join(folder, name)).st_mode & 0o777
+
+
+def called(name, begin):
+    """Until it is whole, a new file is called as the editor calls its own, so that what a killed run leaves can be found."""
+    with tempfile.TemporaryDirectory() as folder:
+        with output.new_file(os.path.join(folder, name)) as new:
+            new.write(b"text")
+            seen = os.listdir(folder)
+        good = len(seen) == 1 and seen[0].startswith(begin) and contents(folder) == {name: b"text"}
+        good or print("FAILED the new file of %s: %s" % (name, seen))
+        return good
+
+
+def replaced():
+    """A file that is replaced keeps its mode, and one that may not be written stays."""
+    with tempfile.TemporaryDirectory() as folder:
+        path, said = os.path.join(folder, "page"), ""
+        output.write(path, "first")
+        os.chmod(path, 0o604)
+        output.write(path, "second")
+        yield (mode_of(folder, "page"), contents(folder)) == (0o604, {"page": b"second"})
+        with mock.patch("os.access", lambda *_: False):  # root may write all
+            try:
+                output.write(path, "third")
+            except OSError as error:
+                said = "%s: %s" % (error.filename, error.strerror)
+        yield (said, contents(folder)) == (path + ": Permission denied", {"page": b"second"})
 
 
 def cases(top):
     """Each part by its name."""
     return [case("outputs: refused", refused, top), case("outputs: proposed commands", proposed, top),
             case("outputs: proposed repairs", mended, top),
-            case("outputs: whole files", whole, top)]
+            case("outputs: whole files", whole, top), case("outputs: a file that is replaced", replaced),
+            *(case("outputs: a new file of %d letters" % len(name), called, name, begin) for name, begin in (
+                ("page", ".page.irig_ed-new-"), ("p" * 200, "." + "p" * 200 + ".irig_ed-new-"), ("p" * 201, ".irig_ed-new-"),
+                ("\u00e4" * 120, ".irig_ed-new-")))]

@@ -4,7 +4,6 @@ from __future__ import annotations
 import os
 import shutil
 import subprocess
-import tempfile
 from dataclasses import dataclass
 from typing import Dict, List, Optional, Sequence
 
@@ -147,11 +146,6 @@ def _with_offset(head: bytes, track: Opened) -> bytes:
     if track.offset is None or head != HEAD:
         return head
     return head + track.offset.comment().encode("ascii") + b"\n"
-
-
-def temporary() -> "tempfile.TemporaryDirectory[str]":
-    """A folder for the repaired track until it is written."""
-    return tempfile.TemporaryDirectory(prefix="irig_mend")
 
 
 def as_object(found: Summary) -> Dict[str, object]:

@@ -7,13 +7,13 @@ import os
 import shutil
 import stat
 import sys
-import tempfile
 from contextlib import contextmanager
 from typing import Callable, Iterator, Tuple, Union
 
 from .editor import Problem
-from .ending import DEFECT, NOT_READ, complain, ended
+from .ending import DEFECT, NOT_READ, complain, ended, heed_signals
 from .options import HELP, VERSION, Command, Given
+from .temporary import named_if_no_room, temporary_track
 from .version import version
 
 OPENED = ("/dev/fd/", "/dev/stdin", "/proc/")  # a path of a file that is open here, and not in the editor
@@ -32,10 +32,10 @@ def kept(path: str) -> Iterator[str]:
         return
     if stat.S_ISDIR(mode):
         raise Problem("%s: is a folder" % path)
-    with tempfile.NamedTemporaryFile(suffix=".vcd") as copy:
-        with sys.stdin.buffer if path == "-" else open(path, "rb") as source:
+    with temporary_track() as copy:
+        with sys.stdin.buffer if path == "-" else open(path, "rb") as source, named_if_no_room():
             shutil.copyfileobj(source, copy)
-        copy.flush()
+            copy.flush()
         try:
             yield copy.name
         except Problem as error:  # nobody knows the name of the copy
@@ -61,6 +61,7 @@ def run(command: Command, work: Callable[[Given], int]) -> int:
     if closed:
         complain("%s is closed" % closed[0], command.name)
         return NOT_READ
+    heed_signals()
     if isinstance(sys.stdout, io.TextIOWrapper):
         sys.stdout.reconfigure(errors="irig_tools")
     try:

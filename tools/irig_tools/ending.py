@@ -3,9 +3,11 @@ from __future__ import annotations
 
 import errno
 import os
+import signal
 import sys
 import traceback
-from typing import Callable
+from types import FrameType
+from typing import Callable, Optional
 
 from . import progress
 from .editor import Problem
@@ -13,10 +15,30 @@ from .editor import Problem
 ALL_RIGHT, FOUND, NOT_READ = 0, 1, 2  # statuses
 DEFECT = 70  # a defect, or memory ran out: EX_SOFTWARE of sysexits.h
 INTERRUPTED, UNREAD = 130, 141  # as a shell shows the signals INT and PIPE
+SIGNALLED = 128  # and any other: with its number more
 
 
 class Usage(Exception):
     """Arguments that are not valid."""
+
+
+class Stopped(BaseException):
+    """A signal asks the program to end."""
+
+    def __init__(self, number: int) -> None:
+        super().__init__(number)
+        self.number = number
+
+
+def heed_signals() -> None:
+    """After a hang-up or a signal TERM the files of this run are removed, as after Ctrl-C."""
+    for number in (signal.SIGHUP, signal.SIGTERM):
+        if signal.getsignal(number) is signal.SIG_DFL:
+            signal.signal(number, _stop)
+
+
+def _stop(number: int, _: Optional[FrameType]) -> None:
+    raise Stopped(number)
 
 
 def complain(text: str, program: str) -> None:
@@ -34,6 +56,8 @@ def ended(program: str, work: Callable[[], int]) -> int:
         return status
     except KeyboardInterrupt:
         return INTERRUPTED
+    except Stopped as stopped:
+        return SIGNALLED + stopped.number
     except BrokenPipeError:
         _drop_output()
         return UNREAD

@@ -11,7 +11,7 @@ from .again import Names, again
 from .analysis import examine
 from .changes import changes_of, find_differ
 from .command import kept, run
-from .apply import Summary, Target, as_object, find_guard, run_script, sound_frames, summary, temporary
+from .apply import Summary, Target, as_object, find_guard, run_script, sound_frames, summary
 from .damage import Seen, look
 from .damage_program import say_notes
 from .editor import Editor, Progress, progress_to
@@ -25,6 +25,7 @@ from .output import check_apart, new_file, output, write
 from .overview import sheet_of
 from .page import page
 from .script import Repair
+from .temporary import temporary_folder
 
 PAGE_OF_REPAIRS = Option("--page", "FILE", "also writes a page (HTML) to look at: the whole recording, each place before and "
                          "after its repair, and the script; with --apply what was changed, as irig_diff prints it", a_file)
@@ -136,7 +137,7 @@ def apply(given: Given, track: Opened, script: List[Repair], progress: Progress)
     """Runs the script, writes what it gives, and counts what it did."""
     target = Target(given.text(APPLY) or "", given.text(INTO), given.text(WIRE) or track.wire, given.text(TIMESCALE),
                     given.number(DUMP))
-    with temporary() as folder:
+    with temporary_folder() as folder:
         repaired, proposed = os.path.join(folder, "repaired.vcd"), [line for each in script for line in each.lines()]
         refused = run_script(track, proposed, given.has(SAVE), repaired, not given.has(MOVE))
         before = look(Editor(track.words), progress, given.has(STEADY))

@@ -1,7 +1,6 @@
 """The track that irig_damage and irig_mend look at: a wire of any dump, with its format and its expression."""
 from __future__ import annotations
 
-import tempfile
 from contextlib import contextmanager
 from dataclasses import dataclass, field
 from typing import Iterator, List, Optional
@@ -14,6 +13,7 @@ from .editor import Problem, find_editor
 from .options import DUMP, EXPRESSION, FORMAT, TIMESCALE, WIRE, Given
 from .readings import best, is_opened, is_read, read
 from .search import Found, Probe, search
+from .temporary import named_if_no_room, temporary_track
 from .wire import Extract, Wish
 
 MOST_READ = 8  # wires that are read; the others are at most named
@@ -89,11 +89,12 @@ def opened(path: str, name: str, given: Given, wire: Optional[str]) -> Iterator[
     if taken and as_is and not taken.probe.kind[1] and is_read(path, wire, taken.pulses):
         yield Opened(path, code, wire, _offset(path), notes, True)
         return
-    with tempfile.NamedTemporaryFile(suffix=".vcd") as track:
+    with temporary_track() as track:
         unit = given.text(TIMESCALE)
         wish = Wish(wire, taken.found.unit if taken else unit, given.number(DUMP))
-        notes += Extract(path, wish, track).run().doubtful
-        track.flush()
+        with named_if_no_room():
+            notes += Extract(path, wish, track).run().doubtful
+            track.flush()
         found = taken.found.unit if taken and not taken.found.header.unit else None
         yield Opened(track.name, code, wire, _offset(track.name), notes, unit=unit or found)
 
@@ -155,9 +156,10 @@ def _of_none(refused: List[str], fine: List[Taken], name: str) -> Problem:
 def _read(path: str, found: Found, probe: Probe, dump: int) -> Taken:
     kind, inverted = probe.kind
     wish = Wish(wire_name(found.header, probe.signal), found.unit, dump, invert=inverted)
-    with tempfile.NamedTemporaryFile(suffix=".vcd") as track:
-        Extract(path, wish, track).run()
-        track.flush()
+    with temporary_track() as track:
+        with named_if_no_room():
+            Extract(path, wish, track).run()
+            track.flush()
         readings = read(track.name, kind)
     if not readings.rows:
         return Taken(found, probe, refused=readings.refused)

@@ -1,6 +1,7 @@
 """Files that are written: each as a whole, and never the file that is read."""
 from __future__ import annotations
 
+import errno
 import os
 import stat
 import sys
@@ -9,9 +10,12 @@ from contextlib import contextmanager
 from typing import IO, Iterator, Optional, Sequence, Tuple, Union
 
 from .editor import Problem
+from .temporary import named_if_full
 
 PathOrNumber = Union[str, int]  # a path, or the number of an open file
 STANDARD_INPUT, STANDARD_OUTPUT = 0, 1
+NEW = ".irig_ed-new-"  # in the name of a file until it is whole, as irig_ed calls its own; letters follow
+LONG_NAME = 200  # bytes; a longer name is left out there
 
 
 def check_apart(source: str, outputs: Sequence[Tuple[str, Optional[str]]] = ()) -> None:
@@ -46,24 +50,27 @@ def _identity(place: PathOrNumber) -> Optional[Tuple[int, int]]:
 
 @contextmanager
 def new_file(path: str) -> Iterator[IO[bytes]]:
-    """A file that is written as a whole: it has its name only at the end, and after an error not at all."""
+    """A file that is written as a whole: it has its name only at the end, and after an error not at all. A file that had the
+    name keeps its mode, and has to be one that may be written."""
     named = path
     path = os.path.realpath(path)
     if os.path.exists(path) and not os.path.isfile(path):
-        with open(path, "wb") as straight:
+        with named_if_full(named), open(path, "wb") as straight:
             yield straight
         return
+    mode = _mode(path, named)
     folder, name = os.path.split(path)
     try:
-        number, beside = tempfile.mkstemp(prefix="." + name[:100], dir=folder)
+        prefix = NEW if len(os.fsencode(name)) > LONG_NAME else "." + name + NEW
+        number, beside = tempfile.mkstemp(prefix=prefix, dir=folder)
     except OSError as error:  # nobody knows the name of the new file
         raise OSError(error.errno, error.strerror, named) from error
     try:
-        with os.fdopen(number, "wb") as new:
+        with named_if_full(named), os.fdopen(number, "wb") as new:
             yield new
             new.flush()
             os.fsync(number)
-        os.chmod(beside, 0o666 & ~_umask())
+        os.chmod(beside, mode)
         os.replace(beside, path)
     except BaseException:
         os.unlink(beside)
@@ -85,6 +92,15 @@ def write(path: str, text: str) -> None:
     """Writes a text as a file."""
     with new_file(path) as new:
         new.write(text.encode("utf-8"))
+
+
+def _mode(path: str, named: str) -> int:
+    """The mode that a new file gets: that of the file that has its name, if there is one."""
+    if not os.path.exists(path):
+        return 0o666 & ~_umask()
+    if not os.access(path, os.W_OK):
+        raise PermissionError(errno.EACCES, os.strerror(errno.EACCES), named)
+    return os.stat(path).st_mode & 0o777
 
 
 def _umask() -> int:

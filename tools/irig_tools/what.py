@@ -1,7 +1,6 @@
 """Says which wires of a dump carry time code, and how to continue."""
 from __future__ import annotations
 
-import tempfile
 from contextlib import ExitStack
 from dataclasses import dataclass, field
 from typing import IO, Dict, List, Optional, cast
@@ -15,6 +14,7 @@ from .proposal import Proposal, no_option
 from .readings import Reading, Readings, best, is_read, read
 from .script import Repair
 from .search import TRIED, Found, Probe, search
+from .temporary import named_if_no_room, temporary_track
 from .wire import Extract, Wish, extract_all
 
 
@@ -92,12 +92,13 @@ class What:
     def _read_all(self, probes: List[Probe]) -> List[CodeWire]:
         """What is on these wires, after one more pass through the dump."""
         with ExitStack() as stack:
-            tracks = [stack.enter_context(tempfile.NamedTemporaryFile(suffix=".vcd")) for _ in probes]
+            tracks = [stack.enter_context(temporary_track()) for _ in probes]
             extracts = [Extract(self.path, self._wish(probe), cast(IO[bytes], track)) for probe, track in zip(probes, tracks)]
-            if probes:
-                extract_all(self.path, self.dump, extracts)
-            for track in tracks:
-                track.flush()
+            with named_if_no_room():
+                if probes:
+                    extract_all(self.path, self.dump, extracts)
+                for track in tracks:
+                    track.flush()
             found = [self._read(probe, track.name, extract) for probe, track, extract in zip(probes, tracks, extracts)]
         return found
 
