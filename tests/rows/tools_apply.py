@@ -152,6 +152,25 @@ def saved():
     return in_folder(holds, rec=damages.dump(recorded(glitch), END))
 
 
+def upside_down():
+    """A wire that is upside down is turned over before irig_guard goes by its frames, also if its clock is off."""
+    def turned(pulses):
+        tools.slow_with_a_glitch(pulses)
+        tools.turned(pulses)
+
+    def holds():
+        wanted = [edge for pulse in recorded(tools.slow) for edge in pulse][2:-2]  # the ends were no pulses upside down
+        for words, kept in (("", False), ("--save", True)):
+            got, printed, _ = run("irig_mend", ["--expression=4", *words.split(), "--apply", "new.vcd", "rec.vcd"])
+            yield same("upside down " + words, (got, printed.decode().partition("; ")[2]), (1, "0 frames sound before, 6 after\n"))
+            track, _, journal = text_of("new.vcd").partition("$dumpvars")[2].partition("$comment")
+            edges = [int(word[1:]) for word in track.split() if word[0] == "#"]
+            yield same("the edges " + words, [edge for edge in edges if wanted[0] <= edge <= wanted[-1]], wanted)
+            yield same("the steps " + words, "past 2" in journal, kept)
+
+    return in_folder(lambda: list(holds()), rec=damages.dump(recorded(turned), END + 40000))
+
+
 def guarded():
     """A guard next to the editor runs the script; what it refuses is counted. With --move the editor runs it."""
     def holds():
@@ -238,4 +257,4 @@ def kinds():
 def cases(top):
     """Each part by its name."""
     return [*(case("apply: " + row[0], applied, *row) for row in APPLIED),
-            *(case("apply: " + part.__name__, part) for part in (into, late_times, saved, guarded, refused, objects, kinds))]
+            *(case("apply: " + part.__name__, part) for part in (into, late_times, saved, upside_down, guarded, refused, objects, kinds))]

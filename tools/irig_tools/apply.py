@@ -12,7 +12,7 @@ from .dump_header import Reader
 from .dump_choice import choose, singles
 from .dump_source import Source
 from .editor import CUT_OFF, Problem, find_beside, find_editor
-from .facts import STEPS, is_undecided, kind_of
+from .facts import STEPS, TURNED, is_undecided, kind_of
 from .opening import Opened
 from .output import output
 from .put_back import PutBack, TrackEdges
@@ -68,25 +68,43 @@ def find_guard() -> str:
     return find_beside("irig_guard", "--apply tries each repair in it")
 
 
-def run_script(track: Opened, lines: Sequence[str], save: bool, out: str, is_guarded: bool) -> int:
+def run_script(track: Opened, script: Sequence[Repair], save: bool, out: str, is_guarded: bool) -> int:
     """Runs a script on the track and writes a file, with its history if `save`; how many lines were refused. Which
-    program runs it is decided here alone: irig_guard, or if the script moves frames the editor."""
-    if is_guarded:
-        return _refused_by_guard(lines, _run([find_guard(), *track.options, *["--save"] * save], track, lines, out))
-    said = _run([find_editor(), *track.options], track, [*lines, "save" if save else "write"], out)
-    return sum(line.startswith("? ") for line in said)
+    program runs it is decided here alone: irig_guard, or if the script moves frames the editor. A wire that is upside down
+    is first turned over by the editor, since irig_guard goes by the frames that are fine."""
+    ending = "save" if save else "write"
+    if not is_guarded:
+        said = _run([find_editor(), *track.options], track.path, [*lines_of_all(script), ending], out)
+        return sum(line.startswith("? ") for line in said)
+    guard, many = [find_guard()], _turning(script)
+    if not many:
+        guard, path = [*guard, *track.options], track.path
+    else:
+        guard, path = [*guard, *track.code], out + ".turned"
+        _run([find_editor(), *track.options], track.path, [*lines_of_all(script[:many]), ending], path)
+    lines = lines_of_all(script[many:])
+    return _refused_by_guard(lines, _run([*guard, *["--save"] * save], path, lines, out))
 
 
-def _run(command: List[str], track: Opened, lines: Sequence[str], out: str) -> List[str]:
-    """The lines that a program prints that runs a script on the track and writes a file."""
+def _turning(script: Sequence[Repair]) -> int:
+    """How many repairs and remarks come up to the one that turns the wire over; 0 if none does."""
+    return next((number for number, each in enumerate(script, 1) if each.edits and kind_of(each.comments[0]) == TURNED), 0)
+
+
+def lines_of_all(script: Sequence[Repair]) -> List[str]:
+    return [line for each in script for line in each.lines()]
+
+
+def _run(command: List[str], path: str, lines: Sequence[str], out: str) -> List[str]:
+    """The lines that a program prints that runs a script on a track and writes a file."""
     try:
         with given("".join(line + "\n" for line in lines)) as script:
-            done = subprocess.run([*command, "--out", out, track.path], stdin=script, capture_output=True, check=False)
+            done = subprocess.run([*command, "--out", out, path], stdin=script, capture_output=True, check=False)
     except OSError as error:
         raise Problem("%s cannot be run: %s" % (command[0], error.strerror)) from error
     said = done.stderr.decode(errors="replace").strip()
     if done.returncode > 1 or not os.path.exists(out):
-        raise Problem(said or "%s ended with status %d" % (command[0], done.returncode))
+        raise Problem("%s (it writes %s)" % (said or "%s ended with status %d" % (command[0], done.returncode), out))
     return done.stdout.decode(errors="replace").splitlines()
 
 

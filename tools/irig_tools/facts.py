@@ -11,6 +11,7 @@ from .script import Repair
 from .units import number_of
 
 Object = Dict[str, object]
+TURNED = "inverted"  # the kind of a wire that is upside down
 # what is seen, and what kind of damage it is
 DAMAGE_KINDS: Tuple[Tuple[str, str], ...] = (
     ("pulses where one has to be", "split"),
@@ -25,7 +26,7 @@ DAMAGE_KINDS: Tuple[Tuple[str, str], ...] = (
     ("wide, which is no class", "width"),
     ("wide, an? .*, and [0-9]+ (late|early)", "late"),
     ("wide, an? ", "class"),
-    ("upside down", "inverted"),
+    ("upside down", TURNED),
     ("every pulse is|pulses that are (longer|shorter)", "threshold"),
     ("the clock is", "clock"),
     ("rises tremble", "jitter"),

@@ -138,8 +138,8 @@ def apply(given: Given, track: Opened, script: List[Repair], progress: Progress)
     target = Target(given.text(APPLY) or "", given.text(INTO), given.text(WIRE) or track.wire, given.text(TIMESCALE),
                     given.number(DUMP))
     with temporary_folder() as folder:
-        repaired, proposed = os.path.join(folder, "repaired.vcd"), [line for each in script for line in each.lines()]
-        refused = run_script(track, proposed, given.has(SAVE), repaired, not given.has(MOVE))
+        repaired = os.path.join(folder, "repaired.vcd")
+        refused = run_script(track, script, given.has(SAVE), repaired, not given.has(MOVE))
         before = look(Editor(track.words), progress, given.has(STEADY))
         after = look(Editor([*track.code, repaired]), progress, given.has(STEADY))
         frames = sound_frames(track.options, track.path), sound_frames(track.code, repaired)
