@@ -62,6 +62,8 @@ TABLES = (
         "%.6f,%d\n" % (time / 1e6 - 0.5, level) for time, level in EDGES) + "%.6f,0\n" % (LENGTH / 1e6 - 0.5)),
     ("the second channel of Saleae", ["--column", "Channel 1"], lambda: "Time [s],Channel 0,Channel 1\n" + changes("%.9f,1,%d\n")),
     ("samples of sigrok", [], lambda: SIGROK + "logic\n" + samples("%d\n")),
+    ("a channel of sigrok", ["--column=D3"],
+     lambda: SIGROK.replace("(1/1): D0", "(2/8): D0, D3") + "logic,logic\n" + samples("1,%d\n")),
     ("the head of sigrok-cli", [], lambda: "; CSV\nMETA samplerate: 20000\nlogic\n" + samples("%d\n")),
     ("samples of PulseView", ["--rate=20000", "--column=D1"], lambda: "D0,D1\n" + samples("1,%d\n")),
     ("by the number", ["--rate=20000", "--column=2"], lambda: "logic,logic\n" + samples("1,%d\n")),
@@ -110,6 +112,8 @@ def refused():
     for words, text, said in (
             ([], "", "no row of numbers"), ([], "hello\nworld\n", "no row of numbers"),
             ([], "Time [s],A,B\n0,0,1\n", "as --column 'A': A, B"),
+            ([], "Time [s],A,A\n0,0,1\n", "as --column '2': number 2, number 3"),
+            (["--column=A"], "Time [s],A,A\n0,0,1\n", "has several columns 'A'; give the number of one, from 1"),
             (["--column=C"], "Time [s],A,B\n0,0,1\n", "has no column 'C'; there are"),
             (["--column=4"], "Time [s],A,B\n0,0,1\n", "no row of numbers"), ([], "A\n0\n1\n", "has no column of times"),
             ([], head + "0,0\n1,x\n", "line 3 has no number in column 2"), ([], head + "0,0\n1\n", "line 3 has no number in column 2"),

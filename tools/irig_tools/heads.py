@@ -11,6 +11,7 @@ SECONDS_IN = {"s": 1.0, "sec": 1.0, "second": 1.0, "seconds": 1.0, "ms": 1e-3, "
 NO_TIMES = ("v", "mv", "volt", "volts", "sequence")
 TIME = re.compile(r"(?i)\W*(time|t|timestamp|zeit|temps|x|x-axis|seconds?|sec)(\W.*)?")
 RATE_LINE = re.compile(r"(?i)\W*(?:meta )?samplerate\W*([0-9.]+) *([kmg]?)(?:hz)?")
+CHANNELS = re.compile(r"; *Channels \([0-9/]+\): *(.*)")  # of sigrok, which can call each column `logic`
 PREFIXES = {"": 1, "k": 1000, "m": 1000000, "g": 1000000000}
 NUMBER = re.compile(r"[+-]?(\d+\.?\d*|\.\d+)([eE][+-]?\d+)?")
 
@@ -64,7 +65,7 @@ class Heads:
         last = lines[-1] if lines else []
         units = [field.strip("()[] ").lower() for field in last]
         has_units = len(lines) > 1 and all(not unit or unit in SECONDS_IN or unit in NO_TIMES or NUMBER.fullmatch(unit) for unit in units)
-        self.names = lines[-2] if has_units else last
+        self.names = _distinct(lines[-2] if has_units else last, heads)
         self.units = units if has_units else [_in_name(name) for name in self.names]
 
     def form(self, time: Optional[str], value: Optional[str], counted: bool) -> Columns:
@@ -85,21 +86,30 @@ class Heads:
         places = [place for place in places if self._name(place) or not named] or places
         if len(places) == 1:
             return places[0]
-        listed = ", ".join(self._name(place) or "number %d" % (place + 1) for place in places)
+        own = [self._name(place) if self.names.count(self._name(place)) == 1 else "" for place in places]
+        listed = ", ".join(name or "number %d" % (place + 1) for place, name in zip(places, own))
         raise Problem("%s: has several columns; name one or its number, as --column '%s': %s" % (
-            self.path, self._name(places[0]) or places[0] + 1, listed) if places else "%s: has no column of values" % self.path)
+            self.path, own[0] or places[0] + 1, listed) if places else "%s: has no column of values" % self.path)
 
     def _name(self, place: int) -> str:
         return self.names[place] if place < len(self.names) else ""
 
     def _place(self, name: str) -> int:
         """The column with a name, or else with a number, from 1."""
+        if self.names.count(name) > 1:
+            raise Problem("%s: has several columns '%s'; give the number of one, from 1" % (self.path, name))
         if name in self.names:
             return self.names.index(name)
         if name.isdigit() and 1 <= int(name) <= self.count:
             return int(name) - 1
         listed = ", ".join(filter(None, self.names)) or "the numbers 1 to %d" % self.count
         raise Problem("%s: has no column '%s'; there are: %s" % (self.path, name, listed))
+
+
+def _distinct(names: List[str], heads: Sequence[str]) -> List[str]:
+    """The names of the columns, or those of sigrok's channels if two columns have one name."""
+    channels: List[str] = next((found[1].split(", ") for found in map(CHANNELS.fullmatch, heads) if found), [])
+    return channels if len(set(names)) < len(names) == len(channels) else names
 
 
 def _in_name(name: str) -> str:
