@@ -13,7 +13,7 @@ from typing import Callable
 
 from built import BUILT
 
-WORKERS = 2
+WORKERS = len(os.sched_getaffinity(0))  # rows that run at once
 CHOSEN = []  # the cases that are run
 
 
@@ -45,6 +45,7 @@ def chosen(about, *flags):
     parser.add_argument("program", nargs="?", default=BUILT)
     found = parser.parse_args()
     os.environ["IRIG_ED"] = os.path.abspath(found.program)
+    os.environ["PATH"] = os.path.dirname(sys.executable) + os.pathsep + os.environ["PATH"]  # the tools run in this Python, too
     return found
 
 
@@ -65,7 +66,7 @@ def tried(first, number):
 
 
 def all_tried(first):
-    """The same of all cases, in their order; two are tried at once."""
+    """The same of all cases, in their order; as many are tried at once as there are processors."""
     work = partial(tried, first)
     if first or len(CHOSEN) < 2:
         yield from map(work, range(len(CHOSEN)))

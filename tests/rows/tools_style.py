@@ -51,8 +51,7 @@ def commands(top):
     programs = sorted(path for path in glob.glob(os.path.join(top, "tools", "irig_*")) if os.path.isfile(path))
     return (
         ("flake8", ["flake8", "build", "tools", "tests", *TESTS, *programs]),
-        ("mypy", ["mypy", "--strict", "--cache-dir=/dev/null", "build", "tools/irig_tools"]),
-        ("mypy", ["mypy", "--strict", "--cache-dir=/dev/null", *TYPED_TESTS]),
+        ("mypy", ["mypy", "--strict", "--cache-dir=/dev/null", "--scripts-are-modules", "build", "tools/irig_tools", *TYPED_TESTS]),
         ("shellcheck", ["shellcheck", "-s", "bash", *SHELL]),
     )
 
