@@ -1,8 +1,10 @@
 //! A text in parts is printed.
 
-ghost use Rattle.std.specs.Prelude.{◌≡◌, ◌↔◌, ◌++◌, ℕ, List, [], true, IfOk, OnOk, OnErr};
+ghost use Rattle.std.specs.Prelude.{◌≡◌, ◌≤◌, ◌↔◌, ◌+◌, ◌++◌, ℕ, List, [], false, true, length};
+ghost use Rattle.std.specs.Prelude.{IfOk, OnOk, OnErr};
 ghost use Rattle.std.specs.Io.KnownBytes.{Appends};
 ghost use Rattle.irig_diff.specs.Printing.{AppendsFront};
+ghost use Rattle.irig_text.specs.declared.block.TheConstants.{ENOUGH};
 
 use irig_text::{ENOUGH, Text};
 use std::io::Write;
@@ -25,13 +27,14 @@ pub fn print<W: Write, T: Text>(
         (AppendsFront (W.contents out.old) (W.contents out.new) (T.rest text.old)) }
 {
     let mut empty = true;
-    for _ in 0..u64::MAX {
-        if print_next(out, text, block, &mut empty)? {
-            return Ok(empty);
+    // each part but the last makes the rest of the text shorter
+    'parts: loop {
+        match print_next(out, text, block, &mut empty) {
+            Ok(false) => {}
+            Ok(true) => return Ok(empty),
+            Err(fault) => return Err(fault),
         }
     }
-    // no text has that many parts
-    Err(PrintFault)
 }
 
 /// Prints the next block of a text, and notes whether it has a byte. Returns whether it was the
@@ -47,6 +50,9 @@ fn print_next<W: Write, T: Text>(
         × (empty.new ≡ true ↔ (empty.old ≡ true) × (part ≡ []))
         × Appends (W.contents out.old) (W.contents out.new) part) }
     ensures end { IfOk result (λ ended. ended ≡ true → T.rest text.new ≡ []) }
+    // at least 64 KiB are printed, or the text has ended
+    ensures more { IfOk result (λ ended. ended ≡ false
+        → ENOUGH + length (T.rest text.new) ≤ length (T.rest text.old)) }
     ensures err { OnErr result
         (AppendsFront (W.contents out.old) (W.contents out.new) (T.rest text.old)) }
 {

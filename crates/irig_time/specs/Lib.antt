@@ -1,5 +1,4 @@
 pub mod Options
-pub mod Errors
 pub mod Values
 pub mod Chosen
 pub mod Settings

@@ -1,42 +1,35 @@
 -- The command line: eleven options and the track. This project's own.
-use Rattle.std.specs.Prelude.{◌≡◌, true, List, codes, Some}
+use Rattle.std.specs.Prelude.{◌≡◌, List, codes, None, Some}
 use Rattle.clap.specs.Words.{App, Rule, Text, new_app, new_rule, with_rule, HasMatchesOf}
-use Rattle.clap.specs.declared.builder.ArgAction.TheVariants.{Set, SetTrue}
+use Rattle.clap.specs.declared.builder.ArgAction.TheVariants.{SetTrue}
 use Rattle.clap.specs.declared.parser.matches.ArgMatches.{ArgMatches}
-
--- an option with a value
-abbrev pub option : Text → Rule
-option name = record (new_rule name) { long = Some name; action = Some Set; value_names = 1 }
+use Rattle.irig_words.specs.Arguments.{needed, option}
 
 -- the option that asks for the table, which has no value
 abbrev pub table : Rule
 table = record (new_rule (codes "table")) { long = Some (codes "table"); action = Some SetTrue }
 
--- the track, which has to be there
-abbrev pub track : Rule
-track = record (new_rule (codes "TRACK")) { action = Some Set; required = true }
-
 -- how the track is read
 abbrev pub reading : App
 reading =
-    with_rule (with_rule (with_rule (new_app (codes "irig_time")) (option (codes "wire")))
-    (option (codes "format"))) (option (codes "expression"))
+    with_rule (with_rule (with_rule (new_app (codes "irig_time")) (option (codes "wire") None))
+    (option (codes "format") None)) (option (codes "expression") None)
 
 -- and where the recorder's time is in a line
 abbrev pub placing : App
 placing =
-    with_rule (with_rule (with_rule (with_rule reading (option (codes "unit")))
-    (option (codes "offset"))) (option (codes "column"))) (option (codes "comma"))
+    with_rule (with_rule (with_rule (with_rule reading (option (codes "unit") None))
+    (option (codes "offset") None)) (option (codes "column") None)) (option (codes "comma") None)
 
 -- and how a time is written
 abbrev pub writing : App
 writing =
-    with_rule (with_rule (with_rule (with_rule placing (option (codes "header")))
-    (option (codes "year"))) (option (codes "form"))) table
+    with_rule (with_rule (with_rule (with_rule placing (option (codes "header") None))
+    (option (codes "year") None)) (option (codes "form") None)) table
 
 -- the command
 abbrev pub the_command : App
-the_command = with_rule writing track
+the_command = with_rule writing (needed (codes "TRACK"))
 
 abbrev pub IsReading : App → Type 0
 IsReading app = app ≡ reading

@@ -3,9 +3,10 @@ use Rattle.std.specs.Prelude.{◌≡◌, List, codes, Some, Result, Ok, Err, opt
 use Rattle.clap.specs.Words.{Text, first_value, found_of}
 use Rattle.clap.specs.declared.parser.matches.Found.{Found}
 use Rattle.clap.specs.declared.parser.matches.ArgMatches.{ArgMatches}
+use Rattle.irig_words.specs.Errors.{MayRefuse}
 use Rattle.irig_time.specs.declared.command_line.UsageFault.{UsageFault}
 use Rattle.irig_time.specs.declared.command_line.UsageFault.TheVariants.{Words, Value}
-use Rattle.irig_time.specs.{Chosen.HasFault, Chosen.IsChosen, Errors.MayRefuse, Options.IsParsed}
+use Rattle.irig_time.specs.{Chosen.HasFault, Chosen.IsChosen, Options.IsParsed, Options.the_command}
 use Rattle.irig_time.specs.{declared.asked.Asked.Asked, declared.chosen.Chosen.Chosen}
 
 -- the values are those of the matches
@@ -33,5 +34,5 @@ pub record Values (words : List Text) (asked : Asked) : Type 0 where
 -- that it cannot have
 abbrev pub Reads : List Text → Result Chosen UsageFault → Type 0
 Reads words (Ok chosen) = (asked : Asked) × Values words asked × IsChosen asked chosen
-Reads words (Err (Words error)) = MayRefuse words error
+Reads words (Err (Words error)) = MayRefuse the_command words error
 Reads words (Err (Value fault)) = (asked : Asked) × Values words asked × HasFault asked fault

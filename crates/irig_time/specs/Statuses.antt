@@ -4,7 +4,7 @@ use Rattle.clap.specs.Words.{Text}
 use Rattle.irig_files.specs.declared.dump_file.DumpFileFault.{DumpFileFault}
 use Rattle.irig_files.specs.declared.dump_file.DumpFileFault.TheVariants.{CannotBeRead, TooLong}
 use Rattle.irig_files.specs.declared.dump_file.DumpFileFault.TheVariants.{OutOfMemory}
-use Rattle.irig_time.specs.Errors.{IsHelp, IsMistake}
+use Rattle.irig_words.specs.Errors.{IsHelp, IsMistake}
 use Rattle.irig_time.specs.declared.ending.Ending.TheVariants.{Usage, Value, Unread, Aligned}
 use Rattle.irig_time.specs.declared.ending.Ending.TheVariants.{Listed, Broken}
 use Rattle.irig_time.specs.{Ending.EndsBy, Ending.Held, declared.ending.Ending.Ending}

@@ -1,18 +1,18 @@
 //! The command line, read by `clap`.
 
-ghost use Rattle.std.specs.Prelude.{◌≡◌, ◌≤◌, IfErr, IfOk, None, false, map, string_bytes};
+ghost use Rattle.std.specs.Prelude.{◌≡◌, IfErr, IfOk, false, map, string_bytes};
 ghost use Rattle.clap.specs.Words.{app_of, found_of, rule_of};
 ghost use Rattle.irig_time.specs.Chosen.{IsSound};
-ghost use Rattle.irig_time.specs.Errors.{IsMistake, MayRefuse, WantsMemory};
 ghost use Rattle.irig_time.specs.Options.{IsCommand, IsParsed, IsPlacing, IsReading, IsWriting};
-ghost use Rattle.irig_time.specs.Options.{option, table, track};
+ghost use Rattle.irig_time.specs.Options.{table, the_command};
 ghost use Rattle.irig_time.specs.Settings.{AreValues, Reads, Values};
+ghost use Rattle.irig_words.specs.Errors.{IsMistake, MayRefuse, WantsMemory};
 
 use crate::asked::Asked;
 use crate::chosen::{Chosen, OptionFault};
 use crate::options::chosen_of;
-use clap::error::ErrorKind;
 use clap::{Arg, ArgAction, ArgMatches, Command, Error};
+use irig_words::{matches_of, needed_arg, option_arg};
 use std::alloc::{AllocError, Global};
 
 /// Why a command line asks for nothing.
@@ -42,7 +42,7 @@ pub fn chosen<'a>(alloc: Global, words: &'a [String]) -> Result<Chosen<'a>, Usag
 /// The values of a command line.
 fn asked<'a>(alloc: Global, words: &'a [String]) -> Result<Asked<'a>, Error>
     ensures values { IfOk result (Values (map string_bytes words.entry.now)) }
-    ensures refused { IfErr result (MayRefuse (map string_bytes words.entry.now)) }
+    ensures refused { IfErr result (MayRefuse the_command (map string_bytes words.entry.now)) }
 {
     match parse_words(alloc, words) {
         Ok(matches) => values_of(&matches),
@@ -54,30 +54,7 @@ fn asked<'a>(alloc: Global, words: &'a [String]) -> Result<Asked<'a>, Error>
 pub fn not_text(alloc: Global) -> Error
     ensures { IsMistake result }
 {
-    match said_of_bytes(alloc) {
-        Ok(error) => error,
-        Err(error) => error.into(),
-    }
-}
-
-/// The same, if memory suffices.
-fn said_of_bytes(alloc: Global) -> Result<Error, AllocError>
-    ensures { IfOk result IsMistake }
-{
-    match command(alloc) {
-        Ok(mut command) => error_of_bytes(&mut command),
-        Err(error) => Err(error),
-    }
-}
-
-/// The error of a command for an argument that is not UTF-8.
-fn error_of_bytes(command: &mut Command<'_>) -> Result<Error, AllocError>
-    ensures { IfOk result IsMistake }
-{
-    command.error(
-        ErrorKind::InvalidValue,
-        "invalid UTF-8 was detected in one or more arguments",
-    )
+    irig_words::not_text(command(alloc))
 }
 
 /// The values of the matches.
@@ -107,9 +84,9 @@ fn values_of<'a>(matches: &ArgMatches<'a>) -> Result<Asked<'a>, Error>
 /// The matches of a command line that is accepted.
 fn parse_words<'a>(alloc: Global, words: &'a [String]) -> Result<ArgMatches<'a>, Error>
     ensures parsed { IfOk result (IsParsed (map string_bytes words.entry.now)) }
-    ensures refused { IfErr result (MayRefuse (map string_bytes words.entry.now)) }
+    ensures refused { IfErr result (MayRefuse the_command (map string_bytes words.entry.now)) }
 {
-    command(alloc)?.try_get_matches_from(words)
+    matches_of(command(alloc)?, words)
 }
 
 /// The command line of the program.
@@ -119,7 +96,7 @@ fn command<'a>(alloc: Global) -> Result<Command<'a>, AllocError>
     let Ok(writing) = writing(alloc) else {
         return Err(AllocError);
     };
-    writing.arg(track_arg(alloc))
+    writing.arg(needed_arg(alloc, "TRACK", "the dump; lines come on standard input"))
 }
 
 /// Its options: also how a time is written.
@@ -179,18 +156,6 @@ fn reading<'a>(alloc: Global) -> Result<Command<'a>, AllocError>
         .arg(expression)
 }
 
-/// An option `--name` with a value.
-fn option_arg<'a>(alloc: Global, name: &'a str, value: &'a str, help: &'a str) -> Arg<'a>
-    ensures rule { rule_of result ≡ option name.entry.now }
-    ensures local { result.global ≡ false }
-{
-    Arg::new(alloc, name)
-        .long(name)
-        .value_name(value)
-        .help(help)
-        .action(ArgAction::Set)
-}
-
 /// The option that asks for the table.
 fn table_arg<'a>(alloc: Global) -> Arg<'a>
     ensures rule { rule_of result ≡ table }
@@ -200,15 +165,4 @@ fn table_arg<'a>(alloc: Global) -> Arg<'a>
         .long("table")
         .help("print a table of the frames; no lines are read")
         .action(ArgAction::SetTrue)
-}
-
-/// The track, which has to be there.
-fn track_arg<'a>(alloc: Global) -> Arg<'a>
-    ensures rule { rule_of result ≡ track }
-    ensures local { result.global ≡ false }
-{
-    Arg::new(alloc, "TRACK")
-        .required(true)
-        .help("the dump; lines come on standard input")
-        .action(ArgAction::Set)
 }

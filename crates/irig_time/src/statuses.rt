@@ -2,7 +2,7 @@
 
 ghost use Rattle.std.specs.Prelude.{◌≡◌, ◌⊎◌};
 ghost use Rattle.std.specs.Process.{exit_status};
-ghost use Rattle.irig_time.specs.Errors.{IsHelp, IsMistake};
+ghost use Rattle.irig_words.specs.Errors.{IsHelp, IsMistake};
 ghost use Rattle.irig_time.specs.Statuses.{HasStatus, unread_text};
 
 use crate::ending::{Ending, TrackFault};

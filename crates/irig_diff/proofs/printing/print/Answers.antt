@@ -16,27 +16,27 @@ none_in_both was empty (x ∷ so_far) part h k = (
 more : (so_far part whole left rest : List ℕ) → so_far ++ whole ≡ rest → whole ≡ part ++ left → (so_far ++ part) ++ left ≡ rest
 more so_far part whole left rest h e = append_assoc so_far part left ∙ ap (λ (l : List ℕ). so_far ++ l) (sym e) ∙ h
 
-pub loop-init : goal.loop-init
-loop-init g c = ([], refl, (λ _. refl, λ _. refl), Appends-nil _)
+pub parts-init : goal.parts-init
+parts-init g c = ([], refl, (λ _. refl, λ _. refl), Appends-nil _)
 
-pub loop-preserved : goal.loop-preserved
-loop-preserved g c =
-    let inv = c.loop.invariant in
-    let done = c.in_ok-print_next.ensures.ok in
+pub parts-preserved : goal.parts-preserved
+parts-preserved g c =
+    let inv = c.parts.invariant in
+    let done = c.in-Ok-false.ensures.ok in
     (inv.0 ++ done.0, more inv.0 done.0 _ _ _ inv.1 done.1, none_in_both _ _ inv.0 done.0 inv.2 done.2, Appends-trans _ _ _ inv.0 done.0 inv.3 done.3)
 
-pub returns-then-branch-clause-printed : goal.returns-then-branch-clause-printed
-returns-then-branch-clause-printed g c =
-    let inv = c.loop.invariant in
-    let done = c.in_ok-print_next.ensures.ok in
+pub returns-in-Ok-true-clause-printed : goal.returns-in-Ok-true-clause-printed
+returns-in-Ok-true-clause-printed g c =
+    let inv = c.parts.invariant in
+    let done = c.in-Ok-true.ensures.ok in
     let whole = more inv.0 done.0 _ _ _ inv.1 done.1 in
-    let end = sym (append-nil (inv.0 ++ done.0)) ∙ ap (λ (l : List ℕ). (inv.0 ++ done.0) ++ l) (sym (c.in_ok-print_next.ensures.end c.if-branch.true)) ∙ whole in
+    let end = sym (append-nil (inv.0 ++ done.0)) ∙ ap (λ (l : List ℕ). (inv.0 ++ done.0) ++ l) (sym (c.in-Ok-true.ensures.end c.in-Ok-true.field-0-test)) ∙ whole in
     rw end at (Appends-trans _ _ _ inv.0 done.0 inv.3 done.3)
 
-pub returns-then-branch-clause-empty : goal.returns-then-branch-clause-empty
-returns-then-branch-clause-empty g c =
-    let inv = c.loop.invariant in
-    let done = c.in_ok-print_next.ensures.ok in
+pub returns-in-Ok-true-clause-empty : goal.returns-in-Ok-true-clause-empty
+returns-in-Ok-true-clause-empty g c =
+    let inv = c.parts.invariant in
+    let done = c.in-Ok-true.ensures.ok in
     let whole = more inv.0 done.0 _ _ _ inv.1 done.1 in
-    let end = sym (append-nil (inv.0 ++ done.0)) ∙ ap (λ (l : List ℕ). (inv.0 ++ done.0) ++ l) (sym (c.in_ok-print_next.ensures.end c.if-branch.true)) ∙ whole in
+    let end = sym (append-nil (inv.0 ++ done.0)) ∙ ap (λ (l : List ℕ). (inv.0 ++ done.0) ++ l) (sym (c.in-Ok-true.ensures.end c.in-Ok-true.field-0-test)) ∙ whole in
     rw end at (none_in_both _ _ inv.0 done.0 inv.2 done.2)
