@@ -69,13 +69,22 @@ def find_guard() -> str:
     return find_beside("irig_guard", "--apply tries each repair in it")
 
 
-def run_script(track: Opened, lines: Sequence[str], save: bool, out: str, is_guarded: bool) -> int:
-    """Runs a script on the track and writes a file, with its history if `save`; how many lines were refused. Which
-    program runs it is decided here alone: irig_guard, or if the script moves frames the editor."""
+@dataclass(frozen=True)
+class Refused:
+    """How many lines of a script were refused, and the comments of irig_guard that say why."""
+
+    lines: int
+    reasons: Sequence[str] = ()
+
+
+def run_script(track: Opened, lines: Sequence[str], save: bool, out: str, is_guarded: bool) -> Refused:
+    """Runs a script on the track and writes a file, with its history if `save`; what was refused. Which program runs it
+    is decided here alone: irig_guard, or if the script moves frames the editor."""
     if is_guarded:
-        return _refused_by_guard(lines, _run([find_guard(), *track.options, *["--save"] * save], track, lines, out))
+        printed = _run([find_guard(), *track.options, *["--save"] * save], track, lines, out)
+        return Refused(_refused_by_guard(lines, printed), [line for line in printed if line.startswith(REASONS)])
     said = _run([find_editor(), *track.options], track, [*lines, "save" if save else "write"], out)
-    return sum(line.startswith("? ") for line in said)
+    return Refused(sum(line.startswith("? ") for line in said))
 
 
 def _run(command: List[str], track: Opened, lines: Sequence[str], out: str) -> List[str]:
