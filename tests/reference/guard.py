@@ -1,6 +1,6 @@
 """A guard for proposed repairs, as docs/MENDING.md has it: each is tried, and kept only if the result is safe."""
-from bisect import bisect_left
-from typing import Iterator, List, Optional, Sequence
+from bisect import bisect_left, bisect_right
+from typing import Iterator, List, NamedTuple, Optional, Sequence, Tuple
 
 from reference import language, machine, timecode
 from reference.bearing import Bearing, Near, Shown
@@ -9,6 +9,7 @@ LONGEST_LINE, LONGEST_COMMENT = 1000, 900
 NOTHING_FINE, NOT_KEPT = b"# nothing to go by: no frame of the recording is fine", b"# not kept: "
 NO_REPAIR, REFUSED = "not a repair", "refused: "
 LOST, CHANGED, UNSUPPORTED = "would be lost", "would change", "would have a time that is not supported"
+UNRECORDED = "would have control functions that are not supported"
 ALONE = "fine frames would not support each other"
 EDITS = {
     "insert": machine.insert, "delete": machine.delete, "split": machine.split, "join": machine.join,
@@ -17,7 +18,14 @@ EDITS = {
 }
 
 
-def fine_frames(state: machine.State) -> List[Shown]:
+class Fine(NamedTuple):
+    """A frame that is fine: what it shows, and its hundred pulses."""
+
+    shown: Shown
+    pulses: Sequence[Tuple[int, int]]
+
+
+def fine(state: machine.State) -> List[Fine]:
     """The frames of a state that are fine."""
     interval, pulses = state.interval(), state.pulses()
     found = []
@@ -25,7 +33,7 @@ def fine_frames(state: machine.State) -> List[Shown]:
         if timecode.fault_of(interval, pulses, marker) is None:
             values, note = timecode.decode(state.kind, state.expression, timecode.ones_of(interval, pulses, marker))
             if note == "fine":
-                found.append(Shown(pulses[marker][0], values))
+                found.append(Fine(Shown(pulses[marker][0], values), pulses[marker:marker + 100]))
     return found
 
 
@@ -34,8 +42,9 @@ class Safety:
 
     def __init__(self, opened: machine.State) -> None:
         self.bearing = Bearing(opened.kind)
-        self.old = fine_frames(opened)
+        self.old = [frame.shown for frame in fine(opened)]
         self.rises = [frame.rise for frame in self.old]
+        self.controls = Controls(opened)
 
     def near(self, place: int, after: int) -> Near:
         """The frames next to a place: those before `place`, and those from `after` on."""
@@ -44,15 +53,24 @@ class Safety:
 
         return Near(at(place - 2), at(place - 1), at(after), at(after + 1))
 
-    def fault(self, last: Sequence[Shown], new: Sequence[Shown]) -> Optional[str]:
+    def fault(self, last: Sequence[Shown], new: Sequence[Fine]) -> Optional[str]:
         """Why what is fine now is not safe; `last` was fine after the last repair that was kept."""
-        now = {frame.rise: frame for frame in new}
+        now = {frame.shown.rise: frame.shown for frame in new}
         if self.old:
             found = [self._fault_at(rise, now.get(rise)) for rise in sorted({*self.rises, *now})]
+            found += [self._unrecorded(frame) for frame in new]
         else:
-            found = [None if self._support_each_other(new) else ALONE]
+            found = [None if self._support_each_other([frame.shown for frame in new]) else ALONE]
         found += [None if frame.rise in now else named(frame, LOST) for frame in last]
         return next((why for why in found if why), None)
+
+    def _unrecorded(self, frame: Fine) -> Optional[str]:
+        """What is wrong with the control functions of a frame that is not as it was."""
+        shown = frame.shown
+        place = bisect_left(self.rises, shown.rise)
+        was = self.old[place] if self.rises[place:place + 1] == [shown.rise] else None
+        near = self.near(place, place + 1 if was else place)
+        return None if was == shown or self.controls.are_supported(near, frame) else named(shown, UNRECORDED)
 
     def _fault_at(self, rise: int, frame: Optional[Shown]) -> Optional[str]:
         """What is wrong with the frame that begins here, if it is not as it was, nor was wrong and is mended, nor was not
@@ -70,6 +88,40 @@ class Safety:
     def _support_each_other(self, new: Sequence[Shown]) -> bool:
         """If nothing was fine: whether there are none, or at least three, each of which leads to the next."""
         return not new or (len(new) >= 3 and all(self.bearing.leads(*pair) for pair in zip(new, new[1:])))
+
+
+class Controls:
+    """Which control functions a recording supports."""
+
+    def __init__(self, opened: machine.State) -> None:
+        self.interval, self.pulses = opened.interval(), opened.pulses()
+        self.rises = [rise for rise, _ in self.pulses]
+        fields = timecode.layout(opened.kind, opened.expression)
+        self.elements = [element for element, _ in fields["control"][0]] if "control" in fields else []
+
+    def are_supported(self, near: Near, frame: Fine) -> bool:
+        """Whether each is recorded, or as in the nearest frames on both sides."""
+        return all(
+            self._is_recorded(frame.pulses[element]) or self._is_shared(near, frame.shown, bit)
+            for bit, element in enumerate(self.elements)
+        )
+
+    def _is_recorded(self, pulse: Tuple[int, int]) -> bool:
+        """Whether a pulse of the recording is of its class, and rises within a tenth of an interval of it."""
+        rise, fall = pulse
+        first = bisect_left(self.rises, rise - self.interval // 10)
+        return any(
+            timecode.class_of(self.interval, end - begin) == timecode.class_of(self.interval, fall - rise)
+            for begin, end in self.pulses[first:bisect_right(self.rises, rise + self.interval // 10)]
+        )
+
+    def _is_shared(self, near: Near, frame: Shown, bit: int) -> bool:
+        """Whether the two nearest frames have a control function as it has it."""
+        def function(one: Shown) -> int:
+            return one.values["control"] >> bit & 1
+
+        two = near.two()
+        return two is not None and all(function(one) == function(frame) for one in two)
 
 
 class Guard:
@@ -99,10 +151,10 @@ class Guard:
             return None
         before = self.machine.present, list(self.machine.past), list(self.machine.made)
         reason = self._stopped(repair)
-        new = fine_frames(self.machine.present)
+        new = fine(self.machine.present)
         reason = reason or self.safety.fault(self.last, new)
         if reason is None:
-            self.last = new
+            self.last = [frame.shown for frame in new]
         else:
             self.machine.present, self.machine.past, self.machine.made = before
             self.machine.floor = None

@@ -105,6 +105,9 @@ SOUND = steady()
 SET = joined(SOUND, steady(begin=NOON + datetime.timedelta(seconds=1)), 4)  # from frame 4 on a second later
 AGO = NOON - datetime.timedelta(hours=1)
 WITHOUT_ZERO = without(SOUND, 243)  # element 42 of frame 2
+SET_FUNCTION = steady(control=4)  # element 62 is a one
+ONE_FUNCTION = joined(joined(SOUND, SET_FUNCTION, 3), SOUND, 4)  # that of frame 3
+LATER = ["begin", "insert 3420000 3422000", "350,390 shift 600"]  # elements 49 to 89 of frame 3
 MEND = "insert 2420000 2422000"
 REGEN = "regen 3000000 1 2024-138T12:34:53"
 THIRD, FOURTH = "2024-138T12:34:53", "2024-138T12:34:54"
@@ -117,6 +120,7 @@ HUNDREDTHS = [[rise // 10, fall // 10] for rise, fall in frames("A0", [
 TURNED = [[one[1], other[0]] for one, other in zip(SOUND, SOUND[1:])]
 NO_REPAIR = "not a repair"
 LOST, CHANGED, UNSUPPORTED = "would be lost", "would change", "would have a time that is not supported"
+UNRECORDED = "would have control functions that are not supported"
 NOTHING_FINE = "# nothing to go by: no frame of the recording is fine"
 
 ROWS = (
@@ -149,8 +153,14 @@ ROWS = (
     Row("the first second after second 60", "B4", without(leap(), 543),
         ["insert 5420000 5422000"], ["insert 5420000 5422000"]),
     Row("a frame that reads another time", "B6", changed(steady("B6"), 312, "one"), ["312 force zero"], ["312 force zero"]),
-    Row("a control function of a frame that was not fine", "B4", without(SOUND, 363),
+    Row("a control function that both nearest frames have", "B4", without(SET_FUNCTION, 363),
         ["insert 3620000 3625000"], ["insert 3620000 3625000"]),
+    Row("a control function that the two frames before the last have", "B4", without(SET_FUNCTION, 663),
+        ["insert 6620000 6625000"], ["insert 6620000 6625000"]),
+    Row("control functions that are recorded, and that the nearest frames do not have", "B4", without(ONE_FUNCTION, 343),
+        ["insert 3420000 3422000"], ["insert 3420000 3422000"]),
+    Row("a recorded control function, a tenth of an interval later", "B4", without(ONE_FUNCTION, 343),
+        [*LATER, "363,375 shift 400", "end"], [*LATER, "363,375 shift 400", "end"]),
     Row("a recording that is upside down", "B4", TURNED,
         ["invert 0 7000000"], [NOTHING_FINE, "invert 0 7000000"]),
     Row("an empty script for it", "B4", TURNED, [], [NOTHING_FINE]),
@@ -183,6 +193,27 @@ ROWS = (
     Row("half an interval and a thousandth beside its place", "B4", hole(SOUND, 3, 3),
         ["regen 3007008 2 " + THIRD, "regen 3007007 2 " + THIRD],
         [*unsafe("138 12:34:54", 4007008, UNSUPPORTED, "regen 3007008 2 " + THIRD), "regen 3007007 2 " + THIRD]),
+    # control functions
+    Row("a control function that is not recorded, and that the nearest frames do not have", "B4", without(SOUND, 363),
+        ["insert 3620000 3625000"], unsafe("138 12:34:53", 3000000, UNRECORDED, "insert 3620000 3625000")),
+    Row("one that only the frame before it has", "B4", without(joined(SET_FUNCTION, SOUND, 4), 363),
+        ["insert 3620000 3625000"], unsafe("138 12:34:53", 3000000, UNRECORDED, "insert 3620000 3625000")),
+    Row("one that only one of the two frames before the last has", "B4", without(joined(SOUND, SET_FUNCTION, 5), 663),
+        ["insert 6620000 6625000"], unsafe("138 12:34:56", 6000000, UNRECORDED, "insert 6620000 6625000")),
+    Row("a recorded control function, more than a tenth of an interval later", "B4", without(ONE_FUNCTION, 343),
+        [*LATER, "363,375 shift 401", "end"], unsafe("138 12:34:53", 3000000, UNRECORDED, *LATER, "363,375 shift 401", "end")),
+    Row("a recorded control function, as another class", "B4", without(ONE_FUNCTION, 343),
+        ["begin", "insert 3420000 3422000", "363 force zero", "end"], ["begin", "insert 3420000 3422000", "363 force zero", "end"]),
+    Row("the last of 18 control functions", "B4", without(SOUND, 343),
+        ["begin", "insert 3420000 3422000", "379 force one", "end"],
+        unsafe("138 12:34:53", 3000000, UNRECORDED, "begin", "insert 3420000 3422000", "379 force one", "end")),
+    Row("a control function of a frame that reads another time", "B5", changed(steady("B5"), 312, "one"),
+        ["begin", "312 force zero", "363 force one", "end", "312 force zero"],
+        [*unsafe("138 12:34:53", 3000000, UNRECORDED, "begin", "312 force zero", "363 force one", "end"), "312 force zero"]),
+    Row("a time that is not supported, before control functions that are not", "B4", without(hole(SOUND, 5), 343),
+        ["begin", "insert 3420000 3422000", "363 force one", "regen 5000000 1 " + FOURTH, "end"],
+        unsafe("138 12:34:54", 5000000, UNSUPPORTED, "begin", "insert 3420000 3422000", "363 force one",
+               "regen 5000000 1 " + FOURTH, "end")),
     # no fine frame
     Row("two frames alone", "B4", TURNED[:299], ["invert 0 3000000"],
         [NOTHING_FINE, *dropped("fine frames would not support each other", "invert 0 3000000")]),

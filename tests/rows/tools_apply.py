@@ -172,7 +172,8 @@ def upside_down():
 
 
 def guarded():
-    """A guard next to the editor runs the script; what it refuses is counted. With --move the editor runs it."""
+    """A guard next to the editor runs the script; what it refuses is counted, and why is printed. With --move the editor
+    runs it."""
     def holds():
         os.symlink(os.path.abspath(os.environ["IRIG_ED"]), "irig_ed")
         with open("irig_guard", "w", encoding="ascii") as file:
@@ -184,7 +185,9 @@ def guarded():
             for words, status, text in (("", 1, "1 place found, 0 repaired, 0 undecided, 1 left, 0 steps that stay, 1 line refused"),
                                         ("--move", 0, "1 place found, 1 repaired, 0 undecided, 0 left, 0 steps that stay;")):
                 got, said, _ = run("irig_mend", ["--expression=4", *words.split(), "--apply", "new.vcd", "rec.vcd"])
-                yield same("a guard " + words, (got, text in said.decode()), (status, True))
+                why = [line for line in said.decode().splitlines() if line.startswith("# not kept: ")]
+                yield same("a guard " + words, (got, text in said.decode(), why),
+                           (status, True, [] if words else ["# not kept: not a repair"]))
 
     return in_folder(lambda: list(holds()), rec=damages.dump(recorded(glitch), END))
 

@@ -68,14 +68,22 @@ def find_guard() -> str:
     return find_beside("irig_guard", "--apply tries each repair in it")
 
 
-def run_script(track: Opened, script: Sequence[Repair], save: bool, out: str, is_guarded: bool) -> int:
-    """Runs a script on the track and writes a file, with its history if `save`; how many lines were refused. Which
-    program runs it is decided here alone: irig_guard, or if the script moves frames the editor. A wire that is upside down
-    is first turned over by the editor, since irig_guard goes by the frames that are fine."""
+@dataclass(frozen=True)
+class Refused:
+    """How many lines of a script were refused, and the comments of irig_guard that say why."""
+
+    lines: int
+    reasons: Sequence[str] = ()
+
+
+def run_script(track: Opened, script: Sequence[Repair], save: bool, out: str, is_guarded: bool) -> Refused:
+    """Runs a script on the track and writes a file, with its history if `save`; what was refused. Which program runs it
+    is decided here alone: irig_guard, or if the script moves frames the editor. A wire that is upside down is first turned
+    over by the editor, since irig_guard goes by the frames that are fine."""
     ending = "save" if save else "write"
     if not is_guarded:
         said = _run([find_editor(), *track.options], track.path, [*lines_of_all(script), ending], out)
-        return sum(line.startswith("? ") for line in said)
+        return Refused(sum(line.startswith("? ") for line in said))
     guard, many = [find_guard()], _turning(script)
     if not many:
         guard, path = [*guard, *track.options], track.path
@@ -83,7 +91,8 @@ def run_script(track: Opened, script: Sequence[Repair], save: bool, out: str, is
         guard, path = [*guard, *track.code], out + ".turned"
         _run([find_editor(), *track.options], track.path, [*lines_of_all(script[:many]), ending], path)
     lines = lines_of_all(script[many:])
-    return _refused_by_guard(lines, _run([*guard, *["--save"] * save], path, lines, out))
+    printed = _run([*guard, *["--save"] * save], path, lines, out)
+    return Refused(_refused_by_guard(lines, printed), [line for line in printed if line.startswith(REASONS)])
 
 
 def _turning(script: Sequence[Repair]) -> int:

@@ -5,7 +5,7 @@ import gc
 import os
 import sys
 from contextlib import ExitStack
-from typing import List, Optional
+from typing import List, Optional, Sequence, Tuple
 
 from .again import Names, again
 from .analysis import examine
@@ -78,14 +78,14 @@ def work(given: Given) -> int:
             return explain(editor, given)
         script = propose(editor, progress, given.has(STEADY), given.has(MOVE))
         if given.has(APPLY):
-            done = apply(given, track, script, progress)
+            done, reasons = apply(given, track, script, progress)
         else:
             draw_proposal(given, editor, script, progress)
     if given.has(OUTPUT) or not given.has(APPLY):
         with output(given.text(OUTPUT)) as out:
             out.write((repairs_as_json(script, track.offset) if given.has(JSON) else script_text(script)).encode("utf-8"))
     if given.has(APPLY):
-        report(given, script, done)
+        report(given, script, done, reasons)
         return ALL_RIGHT if done.is_whole else FOUND
     return FOUND if script else ALL_RIGHT
 
@@ -133,8 +133,8 @@ def draw_proposal(given: Given, editor: Editor, script: List[Repair], progress: 
         write(path, page(sheet_of(os.path.basename(given.names[0]), seen, script, after)))
 
 
-def apply(given: Given, track: Opened, script: List[Repair], progress: Progress) -> Summary:
-    """Runs the script, writes what it gives, and counts what it did."""
+def apply(given: Given, track: Opened, script: List[Repair], progress: Progress) -> Tuple[Summary, Sequence[str]]:
+    """Runs the script, writes what it gives, and counts what it did; why repairs are not kept."""
     target = Target(given.text(APPLY) or "", given.text(INTO), given.text(WIRE) or track.wire, given.text(TIMESCALE),
                     given.number(DUMP))
     with temporary_folder() as folder:
@@ -149,7 +149,7 @@ def apply(given: Given, track: Opened, script: List[Repair], progress: Progress)
                 stack.enter_context(new_file(given.text(PAGE_OF_REPAIRS) or "")).write(drawn.encode("utf-8"))
             for note in target.write(repaired, track):
                 complain(note, COMMAND.name)
-    return summary(before.damages, after.damages, script, frames, refused)
+    return summary(before.damages, after.damages, script, frames, refused.lines), refused.reasons
 
 
 def drawing(given: Given, track: Opened, script: List[Repair], before: Seen, after: Seen, repaired: str) -> str:
@@ -161,13 +161,14 @@ def drawing(given: Given, track: Opened, script: List[Repair], before: Seen, aft
     return page(sheet_of(os.path.basename(given.names[0]), before, script, after.listing, changes))
 
 
-def report(given: Given, script: List[Repair], done: Summary) -> None:
-    """Prints what became of the recording, and what nothing decides."""
+def report(given: Given, script: List[Repair], done: Summary, reasons: Sequence[str]) -> None:
+    """Prints what became of the recording, why repairs are not kept, and what nothing decides."""
     stream = sys.stderr if given.text(APPLY) == "-" else sys.stdout
     if given.has(JSON):
         stream.write(json_lines([as_object(done)]))
         return
     stream.write("%s: %s\n" % (given.names[0], done.text()))
+    stream.writelines(reason + "\n" for reason in reasons)
     for comment in (comment for repair in script for comment in repair.comments):
         if UNDECIDED in comment:
             stream.write("# %s\n" % comment)

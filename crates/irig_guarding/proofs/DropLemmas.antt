@@ -15,7 +15,7 @@ use Rattle.irig_guarding.specs.Trials.{AsksFor, Drops, IsClosing, Holds, IsInner
 use Rattle.irig_guarding.specs.Trials.{StopsAt, StopsIn, Sways}
 use Rattle.irig_guarding.specs.declared.reason.Reason.TheVariants.{NoRepair, NotSafe, OutOfMemory, Refused}
 use Rattle.irig_guarding.specs.{declared.reason.Reason.Reason, declared.line.Line.Line}
-use Rattle.irig_safety.specs.declared.shown.Shown.{Shown}
+use Rattle.irig_safety.specs.{Original.OriginalView, declared.shown.Shown.Shown}
 use Rattle.irig_guarding.proofs.RepairLemmas.{beyond_edit, beyond_work, edit_of, makes, not_made, printed_repair}
 
 -- a line asks for one command
@@ -125,7 +125,7 @@ repair_inner : (c : Command) → IsRepair c → IsInner c
 repair_inner command.Nothing is = absurd is
 repair_inner c is = is
 
-pub line_stopped : (opened before : List Shown) (a : Machine) (line : List ℕ) (reason : Reason) → StopsAt a line reason → Drops opened before a (line ∷ []) reason
+pub line_stopped : (opened : OriginalView) (before : List Shown) (a : Machine) (line : List ℕ) (reason : Reason) → StopsAt a line reason → Drops opened before a (line ∷ []) reason
 line_stopped opened before a line NoRepair h =
     line_no_repair line (λ none. h (command.Nothing, none, tt)) (λ edit. h (edit.0, edit.1, repair_inner edit.0 edit.2))
 line_stopped opened before a line (Refused why) h = record { front = []; line = line; rest = []; whole = refl; mid = a; obeyed = refl; refused = h }
@@ -159,7 +159,7 @@ pub begin_refused : (a b : Machine) (first : List ℕ) (rest : List (List ℕ)) 
 begin_refused a b first rest why begins h =
     record { front = []; line = first; rest = rest; whole = refl; mid = a; obeyed = refl; refused = (command.Begin, begins, (b, h)) }
 
-pub group_stopped : (opened before : List Shown) (a b : Machine) (first last : List ℕ) (inner : List (List ℕ)) (reason : Reason)
+pub group_stopped : (opened : OriginalView) (before : List Shown) (a b : Machine) (first last : List ℕ) (inner : List (List ℕ)) (reason : Reason)
     → Asks command.Begin first → Asks command.End last → Calls Call.Begin a told.Silent b → StopsIn b inner reason
     → Drops opened before a (first ∷ (inner ++ last ∷ [])) reason
 group_stopped opened before a b first last inner NoRepair begins ends begun h = group_no_repair first last inner (λ _ _ all. h all)
@@ -175,7 +175,7 @@ group_stopped opened before a b first last inner (Refused why) begins ends begun
 group_stopped opened before a b first last inner OutOfMemory begins ends begun h = absurd h
 group_stopped opened before a b first last inner (NotSafe why) begins ends begun h = absurd h
 
-pub group_held : (opened before : List Shown) (a b c : Machine) (first last : List ℕ) (inner : List (List ℕ)) (reason : Reason)
+pub group_held : (opened : OriginalView) (before : List Shown) (a b c : Machine) (first last : List ℕ) (inner : List (List ℕ)) (reason : Reason)
     → Asks command.Begin first → Asks command.End last → Calls Call.Begin a told.Silent b → ObeyedAll b inner c → Holds opened before c reason
     → Drops opened before a (first ∷ (inner ++ last ∷ [])) reason
 group_held opened before a b c first last inner NoRepair begins ends begun all h = absurd h
@@ -201,7 +201,7 @@ group_held opened before a b c first last inner (NotSafe why) begins ends begun 
 }
 
 -- a line that was obeyed and is dropped
-pub line_swayed : (opened before : List Shown) (a b : Machine) (line : List ℕ) (reason : Reason) → ObeyedAll a (line ∷ []) b → Sways opened before b.state reason
+pub line_swayed : (opened : OriginalView) (before : List Shown) (a b : Machine) (line : List ℕ) (reason : Reason) → ObeyedAll a (line ∷ []) b → Sways opened before b.state reason
     → Drops opened before a (line ∷ []) reason
 line_swayed opened before a b line NoRepair h k = absurd k
 line_swayed opened before a b line (Refused why) h k = absurd k

@@ -11,12 +11,13 @@ use Rattle.irig_lines.specs.{Lines.script_lines, declared.command.Command.Comman
 use Rattle.irig_lines.specs.declared.command.Command.TheVariants as command
 use Rattle.irig_script.specs.{Obey.Machine.Machine, Obey.Run.IsObeyed, Obey.Run.IsPlain, Obey.Run.Runs, Obey.Run.unlines}
 use Rattle.irig_script.proofs.{ObeyLemmas.Lines.lines_and, ObeyLemmas.Quits.other_goes_on}
-use Rattle.irig_guarding.specs.{Guarded.IsGuarded, Guarded.IsRemark, Guarded.IsSafeAfter, Guarded.Stands, Guarded.silence, Reading.fine_frames, Repair.Agrees}
+use Rattle.irig_guarding.specs.{Controls.IsSafeBy, Guarded.IsGuarded, Guarded.IsRemark, Guarded.IsSafeAfter, Guarded.Stands, Guarded.silence, Reading.fine_frames}
+use Rattle.irig_guarding.specs.{Reading.original_of, Repair.Agrees}
 use Rattle.irig_guarding.specs.{Repair.Asks, Repair.IsGroup, Repair.IsPrinted, Repair.ObeyedAll, Repair.texts, Trials.AreRemarksOf, Trials.IsIdle}
 use Rattle.irig_guarding.specs.{Trials.IsRemarkOf, Trials.Prints, Trials.Shows, Trials.Tries, declared.reason.Reason.Reason, declared.line.Line.Line}
 use Rattle.irig_guarding.specs.Reasons.{head_lines, reason_line}
-use Rattle.irig_safety.specs.{Safety.IsSafe, Safety.IsSafeFrom, Safety.NoneIsSpoiled, declared.shown.Shown.Shown}
-use Rattle.irig_guarding.proofs.{AgainLemmas.obeyed_again, ReasonLemmas.head_remarks, ReasonLemmas.reason_remark, RepairLemmas.obeyed_then}
+use Rattle.irig_safety.specs.{Original.OriginalView, Safety.IsSafe, Safety.IsSafeFrom, Safety.NoneIsSpoiled, declared.shown.Shown.Shown}
+use Rattle.irig_guarding.proofs.{AgainLemmas.obeyed_again, ControlLemmas.borne_self, ReasonLemmas.head_remarks, ReasonLemmas.reason_remark, RepairLemmas.obeyed_then}
 
 pub on_ok : {V E : Type 0} {P Q : Type 0} (r : Result V E) → OnOk r P → (P → Q) → OnOk r Q
 on_ok (Ok v) p f = f p
@@ -118,8 +119,8 @@ safe_whole : (f : FormatView) (xs : List Shown) → IsSafe f xs xs
 safe_whole f [] = inl refl
 safe_whole f (x ∷ xs) = safe_self f None None (x ∷ xs)
 
-pub safe_first : (s : State) → IsSafeAfter s s
-safe_first s = record { format = refl; frames = safe_whole s.format (fine_frames s) }
+safe_by_self : (s : State) → IsSafeBy (original_of s) s
+safe_by_self s = (safe_whole s.format (fine_frames s), borne_self s)
 
 -- the run of the script that is printed
 not_quit : (c : Command) → IsPrinted c → c ≢ command.Quit
@@ -156,15 +157,14 @@ pub unspoiled_self : (xs : List Shown) → NoneIsSpoiled xs xs
 unspoiled_self [] = tt
 unspoiled_self (x ∷ xs) = inl (refl, unspoiled_self xs)
 
-pub safe_list : (s : State) (frames : List Shown) → frames ≡ fine_frames s → IsSafe s.format frames (fine_frames s)
-safe_list s frames e = subst (λ (l : List Shown). IsSafe s.format l (fine_frames s)) (sym e) (safe_whole s.format (fine_frames s))
+pub safe_at_first : (s : State) (known : OriginalView) → known ≡ original_of s → IsSafeBy known s
+safe_at_first s known e = subst (λ (o : OriginalView). IsSafeBy o s) (sym e) (safe_by_self s)
 
-pub safe_then : (first now : State) (frames : List Shown) → frames ≡ fine_frames first → now.format ≡ first.format → IsSafe now.format frames (fine_frames now)
+pub safe_then : (first now : State) (known : OriginalView) → known ≡ original_of first → now.format ≡ first.format → IsSafeBy known now
     → IsSafeAfter first now
-safe_then first now frames e same h = record {
-  format = same;
-  frames = subst (λ (f : FormatView). IsSafe f (fine_frames first) (fine_frames now)) same (subst (λ (l : List Shown). IsSafe now.format l (fine_frames now)) e h);
-}
+safe_then first now known e same h =
+    let by : IsSafeBy (original_of first) now = subst (λ (o : OriginalView). IsSafeBy o now) e h in
+    record { format = same; frames = subst (λ (f : FormatView). IsSafe f (fine_frames first) (fine_frames now)) same by.0; controls = by.1 }
 
 -- the head alone was printed
 pub stands_head : (m : Machine) (opened : List Shown) (out : List ℕ) → out ≡ unlines (head_lines opened) → Stands m out m
@@ -219,12 +219,12 @@ shown_remarks lines reason printed h plain =
     subst (AllByRecursion IsRemark) (sym h.2) (reason_remark reason, remarks_of lines h.0 h.1 mine.1)
 
 -- one more repair was tried and printed
-pub stands_tried : (first : Machine) (frames : List Shown) (a b : Machine) (lines : List (List ℕ)) (dropped : Option Reason) (old new : List ℕ)
-    → Tries frames a lines dropped b → Shows lines dropped old new → Stands first old a → Stands first new b
-stands_tried first frames a b lines None old new h shown s =
+pub stands_tried : (first : Machine) (known : OriginalView) (a b : Machine) (lines : List (List ℕ)) (dropped : Option Reason) (old new : List ℕ)
+    → Tries known a lines dropped b → Shows lines dropped old new → Stands first old a → Stands first new b
+stands_tried first known a b lines None old new h shown s =
     stands_more first a b old new lines (subst (AllByRecursion IsPlain) shown.1 shown.2) h.obeyed
     (shown.3 ∙ ap (λ l. old ++ unlines l) shown.1) s
-stands_tried first frames a b lines (Some reason) old new h shown s =
+stands_tried first known a b lines (Some reason) old new h shown s =
     stands_remarks first a b old new (shown.0, shown_remarks lines reason shown.0 shown.1 shown.2, shown.3) h.0 s
 
 -- all bytes of a script, if they are known

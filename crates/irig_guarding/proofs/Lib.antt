@@ -1,4 +1,5 @@
 pub mod AgainLemmas
+pub mod ControlLemmas
 pub mod DropLemmas
 pub mod GuardLemmas
 pub mod PaddedLemmas

@@ -10,15 +10,15 @@ use Rattle.irig_script.specs.declared.obey.status.Status.TheVariants.{AllAccepte
 use Rattle.irig_script.specs.{Obey.Machine.Machine, Obey.Run.IsPlain, Obey.Run.unlines, declared.obey.status.Status.Status}
 use Rattle.irig_script.proofs.ObeyLemmas.Lines.{first_line, last_line}
 use Rattle.irig_guarding.specs.Trials.{IsClosing, IsCut, IsCutBefore, IsTried, IsTriedBefore, PrintsAll, Shows, Trial, Tries, TriesAll, proposed, status_of}
-use Rattle.irig_guarding.specs.{Reading.fine_frames, Reasons.head_lines, Repair.Asks, Repair.texts, declared.line.Line.Line, declared.reason.Reason.Reason}
+use Rattle.irig_guarding.specs.{Reading.fine_frames, Reading.original_of, Reasons.head_lines, Repair.Asks, Repair.texts, declared.line.Line.Line, declared.reason.Reason.Reason}
 use Rattle.irig_lines.specs.declared.command.Command.TheVariants as command
-use Rattle.irig_safety.specs.declared.shown.Shown.{Shown}
+use Rattle.irig_safety.specs.Original.{OriginalView}
 use Rattle.irig_guarding.proofs.GuardLemmas.{all_plain, unlines-append}
 
 proposed-append : (xs ys : List Trial) → proposed (xs ++ ys) ≡ proposed xs ++ proposed ys
 proposed-append xs ys = flat_map-append (λ t. t.lines) xs ys
 
-tries_then : (opened : List Shown) (a b c : Machine) (xs ys : List Trial) → TriesAll opened a xs b → TriesAll opened b ys c → TriesAll opened a (xs ++ ys) c
+tries_then : (opened : OriginalView) (a b c : Machine) (xs ys : List Trial) → TriesAll opened a xs b → TriesAll opened b ys c → TriesAll opened a (xs ++ ys) c
 tries_then opened a b c [] ys h k = subst (λ (m : Machine). TriesAll opened m ys c) h k
 tries_then opened a b c (x ∷ xs) ys h k = (h.0, h.1, tries_then opened h.0 b c xs ys h.2 k)
 
@@ -51,22 +51,22 @@ status_then (x ∷ xs) t = ap (λ s. if is_none x.dropped then s else SomeRefuse
     ∙ both_ways (is_none x.dropped) (is_none t.dropped) (status_of xs) SomeRefused
 
 -- nothing was tried yet, and the head was printed
-pub tried_none : (opened : Machine) (frames : List Shown) (rest : List (List ℕ)) (script : List ℕ) → frames ≡ fine_frames opened.state
-    → script ≡ unlines (head_lines frames) → IsTriedBefore opened [] rest script AllAccepted opened
-tried_none opened frames rest script are e = record {
+pub tried_none : (opened : Machine) (known : OriginalView) (rest : List (List ℕ)) (script : List ℕ) → known ≡ original_of opened.state
+    → script ≡ unlines (head_lines known.frames) → IsTriedBefore opened [] rest script AllAccepted opened
+tried_none opened known rest script are e = record {
   trials = [];
   whole = refl;
   cut = tt;
   tried = refl;
   printed = [];
   shown = refl;
-  text = e ∙ (ap (λ l. unlines (head_lines l)) are ∙ ap unlines (sym (append-nil (head_lines (fine_frames opened.state)))));
+  text = e ∙ (ap (λ (o : OriginalView). unlines (head_lines o.frames)) are ∙ ap unlines (sym (append-nil (head_lines (fine_frames opened.state)))));
   status = refl;
 }
 
 -- one more repair
 pub tried_more : (opened : Machine) (lines front rest : List (List ℕ)) (old new : List ℕ) (status : Status) (a b : Machine) (dropped : Option Reason)
-    → IsTriedBefore opened lines (front ++ rest) old status a → IsCutBefore front rest → Tries (fine_frames opened.state) a front dropped b
+    → IsTriedBefore opened lines (front ++ rest) old status a → IsCutBefore front rest → Tries (original_of opened.state) a front dropped b
     → Shows front dropped old new
     → IsTriedBefore opened (lines ++ front) rest new (if is_none dropped then status else SomeRefused) b
 tried_more opened lines front rest old new status a b dropped h cut tries shown =
@@ -77,7 +77,7 @@ tried_more opened lines front rest old new status a b dropped h cut tries shown 
       trials = h.trials ++ one ∷ [];
       whole = proposed-append h.trials (one ∷ []) ∙ (λ i. h.whole i ++ alone i);
       cut = cut_then h.trials (one ∷ []) rest (subst (λ (l : List (List ℕ)). IsCut h.trials (l ++ rest)) (sym alone) h.cut) (cut, tt);
-      tried = tries_then (fine_frames opened.state) opened a b h.trials (one ∷ []) h.tried (b, tries, refl);
+      tried = tries_then (original_of opened.state) opened a b h.trials (one ∷ []) h.tried (b, tries, refl);
       printed = h.printed ++ shown.0;
       shown = prints_then h.trials (one ∷ []) h.printed shown.0 h.shown (shown.0, [], sym (append-nil shown.0), shown.1, refl);
       text = shown.3 ∙ (ap (λ l. l ++ unlines shown.0) h.text ∙ (sym (unlines-append (head ++ h.printed) shown.0)
@@ -213,17 +213,17 @@ cut_open xs at place x within e is begins h =
     }
 
 -- a repair more of the lines from a place on
-pub tried_step : (first : Machine) (frames : List Shown) (xs : List Line) (at end : ℕ) (old new : List ℕ) (status next : Status) (a b : Machine)
-    (dropped : Option Reason) → frames ≡ fine_frames first.state → at < end → IsTriedBefore first (texts (take at xs)) (texts (drop at xs)) old status a
-    → IsCutBefore (texts (take (end - at) (drop at xs))) (texts (drop end xs)) → Tries frames a (texts (take (end - at) (drop at xs))) dropped b
+pub tried_step : (first : Machine) (known : OriginalView) (xs : List Line) (at end : ℕ) (old new : List ℕ) (status next : Status) (a b : Machine)
+    (dropped : Option Reason) → known ≡ original_of first.state → at < end → IsTriedBefore first (texts (take at xs)) (texts (drop at xs)) old status a
+    → IsCutBefore (texts (take (end - at) (drop at xs))) (texts (drop end xs)) → Tries known a (texts (take (end - at) (drop at xs))) dropped b
     → Shows (texts (take (end - at) (drop at xs))) dropped old new → next ≡ (if is_none dropped then status else SomeRefused)
     → IsTriedBefore first (texts (take end xs)) (texts (drop end xs)) new next b
-tried_step first frames xs at end old new status next a b dropped e less h cut tries shown is =
+tried_step first known xs at end old new status next a b dropped e less h cut tries shown is =
     let front = texts (take (end - at) (drop at xs)) in
     let rest = texts (drop end xs) in
     let here : IsTriedBefore first (texts (take at xs)) (front ++ rest) old status a =
     subst (λ (l : List (List ℕ)). IsTriedBefore first (texts (take at xs)) l old status a) (texts_from xs at end less) h in
-    let more = tried_more first (texts (take at xs)) front rest old new status a b dropped here cut (subst (λ (l : List Shown). Tries l a front dropped b) e tries) shown in
+    let more = tried_more first (texts (take at xs)) front rest old new status a b dropped here cut (subst (λ (o : OriginalView). Tries o a front dropped b) e tries) shown in
     subst (λ (s : Status). IsTriedBefore first (texts (take end xs)) rest new s b) (sym is)
     (subst (λ (l : List (List ℕ)). IsTriedBefore first l rest new (if is_none dropped then status else SomeRefused) b) (texts_to xs at end less) more)
 

@@ -8,17 +8,20 @@ use Rattle.irig_script.specs.{Obey.Machine.Machine, Print.Printed.Answer}
 use Rattle.irig_lines.specs.Lines.{script_lines}
 use Rattle.irig_lines.specs.declared.command.Command.TheVariants as command
 use Rattle.irig_edit.specs.{Session.Session.work_in, State.State.State}
-use Rattle.irig_guarding.specs.{Reading.fine_frames, Repair.Agrees, Repair.Asks, Repair.ObeyedAll}
+use Rattle.irig_guarding.specs.{Controls.AreBorneBy, Reading.fine_frames, Reading.original_of}
+use Rattle.irig_guarding.specs.Repair.{Agrees, Asks, ObeyedAll}
 use Rattle.irig_safety.specs.Safety.{IsSafe}
 
 -- the line is accepted, and prints nothing
 abbrev pub silence : List ℕ → Answer
 silence line = record { reply = Silent; text = [] }
 
--- the second state is safe by the first: the same format, and in it the frames that read well
+-- the second state is safe by the first: the same format, and in it the frames that read well, with
+-- their control functions
 pub record IsSafeAfter (old new : State) : Type 0 where
   pub format : new.format ≡ old.format
   pub frames : IsSafe old.format (fine_frames old) (fine_frames new)
+  pub controls : AreBorneBy (fine_frames old) (original_of old) new
 
 -- a script was printed. From the session as it was opened each of its lines is accepted in silence,
 -- and what they lead to is what the session is now; and that is safe by what it was

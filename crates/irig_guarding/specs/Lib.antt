@@ -1,3 +1,4 @@
+pub mod Controls
 pub mod Guarded
 pub mod GuardedRun
 pub mod Meaning

@@ -1,4 +1,4 @@
--- The frames that read well. This project's own.
+-- The frames that read well, and what is known of a recording by them. This project's own.
 use Rattle.std.specs.Prelude.{ℕ, List, [], ◌∷◌, get_or}
 use Rattle.std.specs.List.{flat_map}
 use Rattle.irig_codes.specs.declared.note.Note.TheVariants.{Fine}
@@ -7,7 +7,8 @@ use Rattle.irig_track.specs.Edges.{pulse}
 use Rattle.irig_index.specs.declared.record.Verdict.TheVariants.{Read}
 use Rattle.irig_index.specs.{declared.record.Record.Record, declared.record.Verdict.Verdict}
 use Rattle.irig_edit.specs.State.State.{State, frames_of}
-use Rattle.irig_safety.specs.declared.shown.Shown.{Shown}
+use Rattle.irig_safety.specs.{Original.OriginalView, declared.shown.Shown.Shown}
+use Rattle.irig_guarding.specs.declared.seen.Seen.{Seen}
 
 -- what a frame shows that begins at a time: its fields, if nothing is wrong with it
 abbrev pub shown_at : ℕ → Verdict → List Shown
@@ -21,3 +22,21 @@ shown_by pulses r = shown_at (get_or pulses r.marker (pulse 0 0)).rise r.verdict
 -- what the frames of a state show that read well
 abbrev pub fine_frames : State → List Shown
 fine_frames s = flat_map (shown_by s.pulses) (frames_of s)
+
+-- the same with the place of its marker among the pulses, from 0
+abbrev pub seen_at : ℕ → ℕ → Verdict → List Seen
+seen_at rise marker (Read fields Fine) =
+    record { shown = record { rise = rise; fields = fields }; marker = marker } ∷ []
+seen_at rise marker _ = []
+
+-- so of a record, by the rise of its marker
+abbrev pub seen_by : List Pulse → Record → List Seen
+seen_by pulses r = seen_at (get_or pulses r.marker (pulse 0 0)).rise r.marker r.verdict
+
+-- so of all frames of a state
+abbrev pub seen_frames : State → List Seen
+seen_frames s = flat_map (seen_by s.pulses) (frames_of s)
+
+-- what is known of a recording that was opened as a state
+abbrev pub original_of : State → OriginalView
+original_of s = record { frames = fine_frames s; pulses = s.pulses }

@@ -3,7 +3,6 @@
 use Rattle.std.specs.Prelude.{◌≡◌, ◌⊎◌, ◌++◌, ℕ, List, [], ◌∷◌, Option, Some, None, is_none, take}
 use Rattle.std.specs.Prelude.{if◌then◌else◌}
 use Rattle.std.specs.List.{AllByRecursion, flat_map}
-use Rattle.irig_codes.specs.Format.{FormatView}
 use Rattle.irig_edit.specs.declared.session.refusal.Refusal.{Refusal}
 use Rattle.irig_edit.specs.{Session.Calls.Call, State.State.State}
 use Rattle.irig_lines.specs.{Lines.lines_of, declared.command.Command.Command}
@@ -16,10 +15,13 @@ use Rattle.irig_script.specs.declared.print.reply.Reply.TheVariants as told
 use Rattle.irig_guarding.specs.Repair.{Agrees, Asks, IsRepair, ObeyedAll}
 use Rattle.irig_guarding.specs.declared.reason.Reason.TheVariants.{NoRepair, NotSafe, OutOfMemory}
 use Rattle.irig_guarding.specs.declared.reason.Reason.TheVariants.{Refused}
-use Rattle.irig_guarding.specs.{Reading.fine_frames, Reasons.head_lines, Reasons.reason_line}
+use Rattle.irig_guarding.specs.Controls.{AreBorneBy, IsSafeBy, IsUnborneBy}
+use Rattle.irig_guarding.specs.Reading.{fine_frames, original_of}
+use Rattle.irig_guarding.specs.Reasons.{head_lines, reason_line}
 use Rattle.irig_guarding.specs.declared.reason.Reason.{Reason}
 use Rattle.irig_safety.specs.{Faults.IsFault, Faults.IsSpoiledBy, declared.fault.Fault.Fault}
-use Rattle.irig_safety.specs.{Safety.IsSafe, Safety.NoneIsSpoiled, declared.shown.Shown.Shown}
+use Rattle.irig_safety.specs.{Original.OriginalView, Safety.IsSafe, Safety.NoneIsSpoiled}
+use Rattle.irig_safety.specs.declared.shown.Shown.{Shown}
 
 -- the line asks for a command of this kind
 abbrev pub AsksFor : (Command → Type 0) → List ℕ → Type 0
@@ -69,18 +71,20 @@ pub record IsRefusedAt (old : Machine) (lines : List (List ℕ)) (why : Refusal)
 
 -- the frames of a state are safe by those of the recording, and none is spoiled of those that read
 -- well before the repair
-abbrev pub MayStay : List Shown → List Shown → State → Type 0
-MayStay opened last s =
-    IsSafe s.format opened (fine_frames s) × NoneIsSpoiled last (fine_frames s)
+abbrev pub MayStay : OriginalView → List Shown → State → Type 0
+MayStay opened last s = IsSafeBy opened s × NoneIsSpoiled last (fine_frames s)
 
--- the first fault of frames that are not safe by those of the recording; or that are, but of those
--- that read well before the repair some are spoiled
-abbrev pub HasFault : FormatView → List Shown → List Shown → List Shown → Fault → Type 0
-HasFault f opened last now why =
-    IsFault f opened now why ⊎ (IsSafe f opened now × IsSpoiledBy last now why)
+-- the first fault of frames whose times are not safe by those of the recording; or that are, but
+-- whose control functions are not; or both are, but of those that read well before the repair some
+-- are spoiled
+abbrev pub HasFault : OriginalView → List Shown → State → Fault → Type 0
+HasFault opened last s why =
+    IsFault s.format opened.frames (fine_frames s) why
+    ⊎ (IsSafe s.format opened.frames (fine_frames s) × (IsUnborneBy opened.frames opened s why
+    ⊎ (AreBorneBy opened.frames opened s × IsSpoiledBy last (fine_frames s) why)))
 
 -- the lines are obeyed, but for the end of a group, and what they lead to may not stay
-pub record IsUnsafe (opened last : List Shown) (old : Machine) (lines : List (List ℕ))
+pub record IsUnsafe (opened : OriginalView) (last : List Shown) (old : Machine) (lines : List (List ℕ))
     (why : Fault) : Type 0
   where
     pub front : List (List ℕ)
@@ -90,7 +94,7 @@ pub record IsUnsafe (opened last : List Shown) (old : Machine) (lines : List (Li
     pub mid : Machine
     pub obeyed : ObeyedAll old front mid
     pub unsafe : MayStay opened last mid.state → ⊥
-    pub fault : HasFault mid.state.format opened last (fine_frames mid.state) why
+    pub fault : HasFault opened last mid.state why
 
 -- why a line in a group stops it
 abbrev pub StopsAt : Machine → List ℕ → Reason → Type 0
@@ -105,35 +109,35 @@ StopsIn old lines (Refused why) = IsRefusedAt old lines why
 StopsIn old lines _ = ⊥
 
 -- why what a repair leads to does not stay
-abbrev pub Sways : List Shown → List Shown → State → Reason → Type 0
+abbrev pub Sways : OriginalView → List Shown → State → Reason → Type 0
 Sways opened last s OutOfMemory = Unit {0}
 Sways opened last s (NotSafe why) = (MayStay opened last s → ⊥)
-    × HasFault s.format opened last (fine_frames s) why
+    × HasFault opened last s why
 Sways opened last s _ = ⊥
 
 -- why a group does not end
-abbrev pub Holds : List Shown → List Shown → Machine → Reason → Type 0
+abbrev pub Holds : OriginalView → List Shown → Machine → Reason → Type 0
 Holds opened last old (Refused why) =
     (after : Machine) × Calls Call.End old (told.Refused why) after
 Holds opened last old reason = Sways opened last old.state reason
 
 -- why a repair is dropped: it is none; or the editor refuses a line of it; or memory runs out; or
 -- what it leads to may not stay
-abbrev pub Drops : List Shown → List Shown → Machine → List (List ℕ) → Reason → Type 0
+abbrev pub Drops : OriginalView → List Shown → Machine → List (List ℕ) → Reason → Type 0
 Drops opened last old lines NoRepair = MayBeKept lines → ⊥
 Drops opened last old lines (Refused why) = IsRefusedAt old lines why
 Drops opened last old lines OutOfMemory = Unit {0}
 Drops opened last old lines (NotSafe why) = IsUnsafe opened last old lines why
 
 -- a repair that is kept: its lines are obeyed, and what they lead to may stay
-pub record Keeps (opened : List Shown) (old : Machine) (lines : List (List ℕ)) (new : Machine) : Type
+pub record Keeps (opened : OriginalView) (old : Machine) (lines : List (List ℕ)) (new : Machine) : Type
     0
   where
     pub obeyed : ObeyedAll old lines new
     pub stays : MayStay opened (fine_frames old.state) new.state
 
 -- a repair is tried: it is kept, or it is dropped and all is as it was
-abbrev pub Tries : List Shown → Machine → List (List ℕ) → Option Reason → Machine → Type 0
+abbrev pub Tries : OriginalView → Machine → List (List ℕ) → Option Reason → Machine → Type 0
 Tries opened old lines None new = Keeps opened old lines new
 Tries opened old lines (Some reason) new =
     Agrees new old × Drops opened (fine_frames old.state) old lines reason
@@ -144,7 +148,7 @@ pub record Trial : Type 0 where
   pub dropped : Option Reason
 
 -- repairs are tried in their order
-abbrev pub TriesAll : List Shown → Machine → List Trial → Machine → Type 0
+abbrev pub TriesAll : OriginalView → Machine → List Trial → Machine → Type 0
 TriesAll opened old [] new = new ≡ old
 TriesAll opened old (t ∷ trials) new =
     (mid : Machine) × Tries opened old t.lines t.dropped mid × TriesAll opened mid trials new
@@ -222,7 +226,7 @@ pub record IsTriedBefore (opened : Machine) (lines rest : List (List ℕ)) (scri
   pub trials : List Trial
   pub whole : proposed trials ≡ lines
   pub cut : IsCut trials rest
-  pub tried : TriesAll (fine_frames opened.state) opened trials now
+  pub tried : TriesAll (original_of opened.state) opened trials now
   pub printed : List (List ℕ)
   pub shown : PrintsAll trials printed
   pub text : script ≡ unlines (head_lines (fine_frames opened.state) ++ printed)

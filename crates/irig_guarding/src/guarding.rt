@@ -4,8 +4,8 @@ ghost use Rattle.std.specs.Prelude.{◌≡◌, ◌<◌, ◌≤◌, ◌-◌, [], 
 ghost use Rattle.std.specs.Prelude.{is_none, length, take, if◌then◌else◌};
 ghost use Rattle.irig_guarding.specs.Guarded.{IsGuarded, IsSafeAfter, Stands};
 ghost use Rattle.irig_guarding.specs.Trials.{IsCutBefore, IsTried, IsTriedBefore, Shows, Tries};
-ghost use Rattle.irig_guarding.specs.{Reading.fine_frames, Reasons.head_lines, Repair.texts};
-ghost use Rattle.irig_safety.specs.Safety.{IsSafe};
+ghost use Rattle.irig_guarding.specs.{Controls.IsSafeBy, Reading.original_of};
+ghost use Rattle.irig_guarding.specs.{Reasons.head_lines, Repair.texts};
 ghost use Rattle.irig_script.specs.Obey.Run.{unlines};
 ghost use Rattle.irig_script.specs.declared.obey.status.Status.TheVariants.{SomeRefused};
 
@@ -13,12 +13,13 @@ use crate::commands::{are_remarks, begins, closes};
 use crate::line::Line;
 use crate::lines::lines_of;
 use crate::mending::take;
+use crate::opening::original_of;
 use crate::printing::{put_head, put_lines, put_remarks};
 use crate::reading::fine_frames;
 use crate::reason::Reason;
 use crate::reason_text::put_reason;
 use irig_edit::Session;
-use irig_safety::Shown;
+use irig_safety::Original;
 use irig_script::Status;
 use std::alloc::{AllocError, Global};
 
@@ -36,17 +37,11 @@ pub fn guard(
     ensures tried { IfOk result (λ done. IsTried session.old script.now done.0.items done.1
         session.new) }
 {
-    let opened = fine_frames(alloc, session)?;
+    let opened = original_of(alloc, session)?;
     let lines = lines_of(alloc, script)?;
     let mut out = Vec::new(alloc);
-    put_head(&mut out, opened.as_slice())?;
-    let status = guard_lines(
-        alloc,
-        session,
-        opened.as_slice(),
-        lines.as_slice(),
-        &mut out,
-    )?;
+    put_head(&mut out, opened.frames())?;
+    let status = guard_lines(alloc, session, &opened, lines.as_slice(), &mut out)?;
     Ok((out, status))
 }
 
@@ -54,13 +49,13 @@ pub fn guard(
 fn guard_lines(
     alloc: Global,
     session: &mut Session,
-    opened: &[Shown],
+    opened: &Original,
     lines: &[Line],
     out: &mut Vec<u8>,
 ) -> Result<Status, AllocError>
     requires closed { session.old.floor ≡ None }
-    requires opened { opened.now ≡ fine_frames session.old.state }
-    requires head { out.old.items ≡ unlines (head_lines opened.now) }
+    requires opened { opened.now ≡ original_of session.old.state }
+    requires head { out.old.items ≡ unlines (head_lines opened.now.frames) }
     ensures stands { OnOk result (Stands session.old out.new.items session.new) }
     ensures safe { OnOk result (IsSafeAfter session.old.state session.new.state) }
     ensures tried { IfOk result (λ status. IsTriedBefore session.old (texts lines.now) []
@@ -110,13 +105,13 @@ fn repair_end(lines: &[Line], at: usize) -> usize
 fn guard_repair(
     alloc: Global,
     session: &mut Session,
-    opened: &[Shown],
+    opened: &Original,
     repair: &[Line],
     out: &mut Vec<u8>,
 ) -> Result<Option<Reason>, AllocError>
     requires closed { session.old.floor ≡ None }
-    requires safe { IsSafe session.old.state.format opened.now (fine_frames session.old.state) }
-    ensures safe { IsSafe session.new.state.format opened.now (fine_frames session.new.state) }
+    requires safe { IsSafeBy opened.now session.old.state }
+    ensures safe { IsSafeBy opened.now session.new.state }
     ensures closed { session.new.floor ≡ None }
     ensures format { session.new.state.format ≡ session.old.state.format }
     ensures tried { IfOk result (λ dropped. Tries opened.now session.old (texts repair.now) dropped
@@ -133,12 +128,12 @@ fn guard_repair(
 fn try_repair(
     alloc: Global,
     session: &mut Session,
-    opened: &[Shown],
+    opened: &Original,
     repair: &[Line],
 ) -> Result<Option<Reason>, AllocError>
     requires closed { session.old.floor ≡ None }
-    requires safe { IsSafe session.old.state.format opened.now (fine_frames session.old.state) }
-    ensures safe { IsSafe session.new.state.format opened.now (fine_frames session.new.state) }
+    requires safe { IsSafeBy opened.now session.old.state }
+    ensures safe { IsSafeBy opened.now session.new.state }
     ensures closed { session.new.floor ≡ None }
     ensures format { session.new.state.format ≡ session.old.state.format }
     ensures tried { IfOk result (λ dropped. Tries opened.now session.old (texts repair.now) dropped

@@ -2,6 +2,7 @@
 #![tactic(auto)]
 
 mod commands;
+mod controls;
 mod frame_text;
 mod guarding;
 mod judging;
@@ -9,6 +10,7 @@ mod law;
 mod line;
 mod lines;
 mod mending;
+mod opening;
 mod output;
 mod printing;
 mod product;
@@ -16,6 +18,7 @@ mod reading;
 mod reason;
 mod reason_text;
 mod run;
+mod seen;
 
 pub use law::{printed_scripts_are_obeyed, safe_states_are_kept_or_borne_out};
 pub use product::{GuardFault, Product};

@@ -15,7 +15,7 @@ use crate::line::Line;
 use crate::reason::Reason;
 use irig_edit::Session;
 use irig_lines::Command;
-use irig_safety::Shown;
+use irig_safety::{Original, Shown};
 use irig_script::{Reply, obey_command};
 use std::alloc::Global;
 
@@ -81,7 +81,7 @@ fn mend_all(session: &mut Session, lines: &[Line]) -> Result<(), Reason>
 fn end_safely(
     alloc: Global,
     session: &mut Session,
-    opened: &[Shown],
+    opened: &Original,
     before: &[Shown],
 ) -> Result<(), Reason>
     ensures ended { OnOk result (Calls Call.End session.old Silent session.new) }
@@ -101,7 +101,7 @@ fn end_safely(
 fn mend_group(
     alloc: Global,
     session: &mut Session,
-    opened: &[Shown],
+    opened: &Original,
     before: &[Shown],
     lines: &[Line],
 ) -> Result<(), Reason>
@@ -134,7 +134,7 @@ fn mend_group(
 fn mend_one(
     alloc: Global,
     session: &mut Session,
-    opened: &[Shown],
+    opened: &Original,
     before: &[Shown],
     command: Command,
 ) -> Result<(), Reason>
@@ -162,7 +162,7 @@ fn mend_one(
 fn take_line(
     alloc: Global,
     session: &mut Session,
-    opened: &[Shown],
+    opened: &Original,
     before: &[Shown],
     line: &Line,
 ) -> Result<(), Reason>
@@ -192,7 +192,7 @@ fn take_line(
 pub fn take(
     alloc: Global,
     session: &mut Session,
-    opened: &[Shown],
+    opened: &Original,
     before: &[Shown],
     repair: &[Line],
 ) -> Result<(), Reason>

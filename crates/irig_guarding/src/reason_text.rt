@@ -42,6 +42,11 @@ fn put_fault(out: &mut Vec<u8>, fault: Fault) -> Result<(), AllocError>
         Fault::Unsupported(frame) => {
             put_what(out, &frame, b" would have a time that is not supported")
         }
+        Fault::Unrecorded(frame) => put_what(
+            out,
+            &frame,
+            b" would have control functions that are not supported",
+        ),
         Fault::Alone => out.extend_from_slice(b"fine frames would not support each other"),
     }
 }

@@ -1,4 +1,6 @@
+pub mod ControlLemmas
 pub mod FaultLemmas
 pub mod SafetyLemmas
 pub mod MeaningLemmas
+pub mod RecordedLemmas
 pub mod WorkedValues

@@ -11,16 +11,16 @@ use Rattle.irig_safety.specs.declared.fault.Fault.TheVariants.{Changed, Lost, Un
 use Rattle.irig_safety.specs.{Bearing.leads, Witnesses.is_borne, declared.fault.Fault.Fault, declared.shown.Shown.Shown}
 
 -- from a place on: what is there, and what follows
-drop-item : (xs : List Shown) (i : ℕ) (x : Shown) → slice_get xs i ≡ Some x → drop i xs ≡ x ∷ drop (i + 1) xs
+pub drop-item : (xs : List Shown) (i : ℕ) (x : Shown) → slice_get xs i ≡ Some x → drop i xs ≡ x ∷ drop (i + 1) xs
 drop-item xs i x e = rw add-one
     (drop-cons xs i x (slice_get_within xs i x e) ∙ ap (λ y. y ∷ drop (suc i) xs) (get_or_from_slice_get xs i x x e))
 
-drop_past : (k : ℕ) (xs : List Shown) → slice_get xs k ≡ None → drop k xs ≡ []
+pub drop_past : (k : ℕ) (xs : List Shown) → slice_get xs k ≡ None → drop k xs ≡ []
 drop_past k [] e = drop-nil k
 drop_past zero (x ∷ xs) e = absurd (cc)
 drop_past (suc k) (x ∷ xs) e = drop_past k xs e
 
-next_behind : (k : ℕ) (xs : List Shown) → behind (k + 1) xs ≡ slice_get xs k
+pub next_behind : (k : ℕ) (xs : List Shown) → behind (k + 1) xs ≡ slice_get xs k
 next_behind k xs = ap (λ m. behind m xs) (add-one k)
 
 -- what is after a place
@@ -29,7 +29,7 @@ get-drop zero j xs = let e : j ≡ 0 + j = omega arith in ap (slice_get xs) e
 get-drop (suc k) j [] = refl
 get-drop (suc k) j (x ∷ xs) = let e : suc (k + j) ≡ suc k + j = omega arith in get-drop k j xs ∙ ap (slice_get (x ∷ xs)) e
 
-first_from : (k : ℕ) (xs : List Shown) → slice_get (drop k xs) 0 ≡ slice_get xs k
+pub first_from : (k : ℕ) (xs : List Shown) → slice_get (drop k xs) 0 ≡ slice_get xs k
 first_from k xs = let e : k + 0 ≡ k = omega arith in get-drop k 0 xs ∙ ap (slice_get xs) e
 
 -- what is before the next place

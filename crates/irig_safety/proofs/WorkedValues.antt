@@ -1,8 +1,11 @@
 -- Worked values of what bears out a frame, in format B with expression 4 (a period of 1 s, an interval of 10 ms).
-use Rattle.std.proofs.Common.{◌≡◌, ℕ, true, false, None, Some, refl}
-use Rattle.irig_codes.specs.{Format.FormatView, declared.fields.Fields.Fields, declared.format.Kind.TheVariants.B}
+use Rattle.std.proofs.Common.{◌≡◌, ◌^◌, ℕ, true, false, List, None, Some, map, refl}
+use Rattle.std.specs.List.{range_with_len}
+use Rattle.irig_codes.specs.{Format.FormatView, Format.control_count_of, declared.fields.Fields.Fields, declared.format.Kind.Kind}
+use Rattle.irig_codes.specs.{Layout.control, Layout.rows_of, declared.format.Kind.TheVariants.A, declared.format.Kind.TheVariants.B}
+use Rattle.irig_codes.specs.declared.format.Kind.TheVariants.{E, G}
 use Rattle.irig_safety.specs.Bearing.{clock_of, is_far, is_later, leads, periods, shows_clock, slack, stray}
-use Rattle.irig_safety.specs.{Witnesses.is_borne, declared.shown.Shown.Shown}
+use Rattle.irig_safety.specs.{Controls.function_element, Witnesses.is_borne, declared.shown.Shown.Shown}
 
 abbrev b4 : FormatView
 b4 = record { kind = B; expression = 4 }
@@ -121,3 +124,40 @@ century = refl
 
 no_last_day : is_later b4 (at 5000000 (time 23 365 23 59 59)) (at 6000000 (time 25 1 0 0 0)) ≡ false
 no_last_day = refl
+
+-- the elements of the control functions, and that their weights double, by the layout of a frame
+abbrev elements_of : FormatView → List ℕ
+elements_of f = map (λ r. r.element) (rows_of f control)
+
+abbrev functions_of : FormatView → List ℕ
+functions_of f = map (function_element f) (range_with_len 0 (control_count_of f))
+
+abbrev format : Kind → ℕ → FormatView
+format kind expression = record { kind = kind; expression = expression }
+
+a_functions : functions_of (format A 0) ≡ elements_of (format A 0)
+a_functions = refl
+
+a_functions_with_year : functions_of (format A 4) ≡ elements_of (format A 4)
+a_functions_with_year = refl
+
+b_functions : functions_of (format B 0) ≡ elements_of (format B 0)
+b_functions = refl
+
+b_functions_with_year : functions_of (format B 4) ≡ elements_of (format B 4)
+b_functions_with_year = refl
+
+e_functions : functions_of (format E 1) ≡ elements_of (format E 1)
+e_functions = refl
+
+e_functions_with_year : functions_of (format E 5) ≡ elements_of (format E 5)
+e_functions_with_year = refl
+
+g_functions : functions_of (format G 1) ≡ elements_of (format G 1)
+g_functions = refl
+
+g_functions_with_year : functions_of (format G 5) ≡ elements_of (format G 5)
+g_functions_with_year = refl
+
+weights_double : map (λ r. r.weight) (rows_of (format E 1) control) ≡ map (λ k. 2 ^ k) (range_with_len 0 45)
+weights_double = refl

@@ -1,5 +1,7 @@
 pub mod Bearing
+pub mod Controls
 pub mod Faults
 pub mod Meaning
+pub mod Original
 pub mod Safety
 pub mod Witnesses

@@ -11,6 +11,8 @@ pub enum Fault {
     Changed(Shown),
     /// This one did not read well, and nothing bears it out.
     Unsupported(Shown),
+    /// This one did not read well, or is another one now, and nothing bears out its control functions.
+    Unrecorded(Shown),
     /// None read well, and they do not bear each other out.
     Alone,
 }

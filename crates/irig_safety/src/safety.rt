@@ -160,14 +160,14 @@ fn near(old: &[Shown], place: usize) -> Witnesses
 }
 
 /// The frame at a place, if there is one.
-fn frame_at(frames: &[Shown], place: usize) -> Option<Shown>
+pub fn frame_at(frames: &[Shown], place: usize) -> Option<Shown>
     ensures { result ≡ slice_get frames.now place }
 {
     frames.get(place).copied()
 }
 
 /// The frame before a place, if there is one.
-fn frame_behind(frames: &[Shown], place: usize) -> Option<Shown>
+pub fn frame_behind(frames: &[Shown], place: usize) -> Option<Shown>
     requires { place ≤ length frames.now }
     ensures { result ≡ behind place frames.now }
 {

@@ -5,4 +5,4 @@ pub returns-clause-guarded : goal.returns-clause-guarded
 returns-clause-guarded c = stands_guarded _ _ _ c.in_ok-status.ensures.stands c.in_ok-status.ensures.safe
 
 pub returns-clause-tried : goal.returns-clause-tried
-returns-clause-tried c = tried_whole c.args.session.now c.in_ok-lines.lines.items _ c.args.script.now _ _ _ c.as_slice-3.ensures.value c.in_ok-lines.ensures c.in_ok-status.ensures.tried
+returns-clause-tried c = tried_whole c.args.session.now c.in_ok-lines.lines.items _ c.args.script.now _ _ _ c.as_slice.ensures.value c.in_ok-lines.ensures c.in_ok-status.ensures.tried

@@ -1,12 +1,12 @@
 use Rattle.std.proofs.Common.{◌∙◌, arith, refl}
-use Rattle.irig_guarding.proofs.GuardLemmas.{safe_list, safe_then, stands_head, stands_tried}
+use Rattle.irig_guarding.proofs.GuardLemmas.{safe_at_first, safe_then, stands_head, stands_tried}
 use Rattle.irig_guarding.proofs.TrialLemmas.{tried_all, tried_none, tried_step}
 use Rattle.irig_guarding.proofs.guarding.guard_lines.Goals as goal
 
 pub loop-at-init : goal.loop-at-init
 loop-at-init c = (
-  stands_head c.args.session.now c.args.opened.now _ c.requires.head,
-  safe_list c.args.session.now.state _ c.requires.opened,
+  stands_head c.args.session.now c.args.opened.now.frames _ c.requires.head,
+  safe_at_first c.args.session.now.state _ c.requires.opened,
   refl,
   c.requires.closed,
   omega arith,

@@ -1,6 +1,5 @@
 use Rattle.std.proofs.Common.{◌≡◌, ◌-◌, ◌≤◌, None, drop, length, take}
-use Rattle.irig_guarding.specs.{Guarded.Stands, Reading.fine_frames, Repair.texts, Trials.IsTriedBefore}
-use Rattle.irig_safety.specs.Safety.{IsSafe}
+use Rattle.irig_guarding.specs.{Controls.IsSafeBy, Guarded.Stands, Repair.texts, Trials.IsTriedBefore}
 use Rattle.irig_guarding.proofs.guarding.guard_lines.Given as goal
 
 abbrev pub decreases-loop-at : goal.decreases-loop-at
@@ -8,7 +7,7 @@ decreases-loop-at l = length l.lines - l.at
 
 abbrev pub invariant-loop-at : goal.invariant-loop-at
 invariant-loop-at l = Stands l.fn.session l.out.items l.session
-    × IsSafe l.session.state.format l.opened (fine_frames l.session.state)
+    × IsSafeBy l.opened l.session.state
     × (l.session.state.format ≡ l.fn.session.state.format)
     × (l.session.floor ≡ None)
     × (l.at ≤ length l.lines)

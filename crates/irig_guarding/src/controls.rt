@@ -1,0 +1,134 @@
+//! Whether the control functions of the frames are borne out.
+
+ghost use Rattle.std.specs.Prelude.{◌≡◌, ◌↔◌, ◌+◌, ◌<◌, ◌≤◌, ◌∷◌, List, IsTrue, None, Option, Some};
+ghost use Rattle.std.specs.Prelude.{IfErr, IfOk, MatchOption, OnErr, OnOk, length, slice_get};
+ghost use Rattle.irig_safety.specs.Controls.{IsFunctionBorne, function_element};
+ghost use Rattle.irig_safety.specs.Original.{IsRecorded};
+ghost use Rattle.irig_safety.specs.declared.fault.Fault.{Fault as SomeFault};
+ghost use Rattle.irig_guarding.specs.Controls.{AreBorneFrom, ControlsAt, IsBorne, IsUnborneFrom};
+ghost use Rattle.irig_guarding.specs.Controls.{Judges};
+ghost use Rattle.irig_guarding.specs.declared.seen.Seen.{Seen as SeenFrame};
+
+use crate::seen::Seen;
+use irig_edit::{Pulse, Session};
+use irig_safety::{
+    Fault, Original, Witnesses, frame_at, function_element, functions, is_same, is_shared,
+};
+
+/// Whether each frame that reads well did so before, or its control functions are borne out. If not,
+/// the first that is at fault.
+pub fn check_controls(session: &Session, opened: &Original, frames: &[Seen]) -> Result<(), Fault>
+    ensures borne { OnOk result (AreBorneFrom opened.now session.now.state None None
+        opened.now.frames frames.now) }
+    ensures unborne { OnErr result (AreBorneFrom opened.now session.now.state None None
+        opened.now.frames frames.now → ⊥) }
+    ensures fault { IfErr result (IsUnborneFrom opened.now session.now.state None None
+        opened.now.frames frames.now) }
+{
+    let mut passed = 0;
+    for frame in frames {
+        match pass(session, opened, passed, frame) {
+            Ok(place) => passed = place,
+            Err(why) => return Err(why),
+        }
+    }
+    Ok(())
+}
+
+/// How many of the former frames are passed after one more frame, or why it is at fault.
+fn pass(session: &Session, opened: &Original, passed: usize, frame: &Seen) -> Result<usize, Fault>
+    requires { passed ≤ length opened.now.frames }
+    ensures within { IfOk result (λ place. place ≤ length opened.now.frames) }
+    ensures borne { (rest : List SeenFrame) (found : Option SomeFault) → IfOk result (λ place.
+        ControlsAt opened.now session.now.state place rest found
+        → ControlsAt opened.now session.now.state passed (frame.now ∷ rest) found) }
+    ensures fault { (rest : List SeenFrame) → IfErr result (λ why.
+        ControlsAt opened.now session.now.state passed (frame.now ∷ rest) (Some why)) }
+{
+    let frames = opened.frames();
+    let next = opened.near(passed, passed);
+    let Some(former) = frame_at(frames, passed) else {
+        return judge(session, opened, &next, frame, passed);
+    };
+    if frame.shown.rise < former.rise {
+        return judge(session, opened, &next, frame, passed);
+    }
+    if former.rise < frame.shown.rise {
+        return Err(Fault::Lost(former));
+    }
+    if is_same(&former, &frame.shown) {
+        return Ok(passed + 1);
+    }
+    let near = opened.near(passed, passed + 1);
+    judge(session, opened, &near, frame, passed + 1)
+}
+
+/// How many frames are passed after a frame next to some of the former, or why it is at fault.
+fn judge(
+    session: &Session,
+    opened: &Original,
+    near: &Witnesses,
+    frame: &Seen,
+    next: usize,
+) -> Result<usize, Fault>
+    ensures { Judges opened.now session.now.state near.now frame.now next result }
+{
+    if is_borne(session, opened, near, frame) {
+        Ok(next)
+    } else {
+        Err(Fault::Unrecorded(frame.shown))
+    }
+}
+
+/// Whether the control functions of a frame are borne out.
+fn is_borne(session: &Session, opened: &Original, near: &Witnesses, frame: &Seen) -> bool
+    ensures { IsTrue result ↔ IsBorne opened.now session.now.state near.now frame.now }
+{
+    let format = session.current_format();
+    for function in 0..functions(format) {
+        if !is_function_borne(session, opened, near, frame, function) {
+            return false;
+        }
+    }
+    true
+}
+
+/// Whether a control function of a frame is borne out.
+fn is_function_borne(
+    session: &Session,
+    opened: &Original,
+    near: &Witnesses,
+    frame: &Seen,
+    function: u32,
+) -> bool
+    requires { function < 64 }
+    ensures { IsTrue result ↔ IsFunctionBorne session.now.state.format opened.now.pulses near.now
+        frame.now.shown function (slice_get session.now.state.pulses
+        (frame.now.marker + function_element session.now.state.format function)) }
+{
+    let element = function_element(session.current_format(), function);
+    is_shared(near, &frame.shown, function)
+        || is_recorded(session, opened, pulse_at(session, frame.marker, element))
+}
+
+/// Whether a pulse is there, and as recorded.
+fn is_recorded(session: &Session, opened: &Original, pulse: Option<Pulse>) -> bool
+    ensures { IsTrue result
+        ↔ MatchOption pulse ⊥ (IsRecorded session.now.state.format opened.now.pulses) }
+{
+    match pulse {
+        Some(pulse) => opened.has(session.current_format(), pulse),
+        None => false,
+    }
+}
+
+/// The pulse of an element of a frame, if there is one.
+fn pulse_at(session: &Session, marker: usize, element: usize) -> Option<Pulse>
+    ensures { result ≡ slice_get session.now.state.pulses (marker + element) }
+{
+    if marker < session.len() && element < session.len() - marker {
+        Some(session.pulse(marker + element + 1))
+    } else {
+        None
+    }
+}

@@ -1,0 +1,40 @@
+//! What is known of a recording as it was opened.
+
+ghost use Rattle.std.specs.Prelude.{◌≡◌, IfOk};
+ghost use Rattle.std.specs.List.Sorted.{IsNonDecreasingBy};
+ghost use Rattle.irig_recording.specs.declared.pulse.Pulse.{Pulse as SomePulse};
+ghost use Rattle.irig_guarding.specs.Reading.{original_of};
+
+use crate::reading::fine_frames;
+use irig_edit::{Pulse, Session};
+use irig_safety::Original;
+use std::alloc::{AllocError, Global};
+
+/// What is known of a recording by the session that was opened on it.
+pub fn original_of(alloc: Global, session: &Session) -> Result<Original, AllocError>
+    ensures { IfOk result (λ opened. opened ≡ original_of session.now.state) }
+{
+    let frames = fine_frames(alloc, session)?;
+    let pulses = pulses_of(alloc, session)?;
+    Ok(Original::new(frames, pulses))
+}
+
+/// The pulses of a session.
+fn pulses_of(alloc: Global, session: &Session) -> Result<Vec<Pulse>, AllocError>
+    ensures all { IfOk result (λ pulses. pulses.items ≡ session.now.state.pulses) }
+    ensures rising { IfOk result (λ pulses.
+        IsNonDecreasingBy (λ (p : SomePulse). p.rise) pulses.items) }
+{
+    let mut pulses = Vec::new(alloc);
+    let mut last = 0;
+    for index in 0..session.len() {
+        let pulse = session.pulse(index + 1);
+        if pulse.rise < last {
+            // Never: the pulses of a session rise, but no clause of it says so.
+            return Err(AllocError);
+        }
+        last = pulse.rise;
+        pulses.push(pulse)?;
+    }
+    Ok(pulses)
+}

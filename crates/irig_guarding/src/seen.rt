@@ -1,0 +1,62 @@
+//! The frames of a session that read well, with their markers.
+
+ghost use Rattle.std.specs.Prelude.{◌≡◌, ◌≤◌, ◌-◌, ◌++◌, length, slice_get, Some, IfOk, OnOk};
+ghost use Rattle.irig_index.specs.declared.record.Record.{Record};
+ghost use Rattle.irig_edit.specs.State.State.{frames_of};
+ghost use Rattle.irig_guarding.specs.Reading.{seen_at, seen_by, seen_frames};
+
+use irig_codes::Note;
+use irig_edit::{Session, Verdict};
+use irig_safety::Shown;
+use std::alloc::{AllocError, Global};
+
+/// A frame that reads well, and the place of its marker among the pulses, from 0.
+#[derive(Clone, Copy)]
+pub struct Seen {
+    pub shown: Shown,
+    pub marker: usize,
+}
+
+/// The frames of a session that read well, in rising order.
+pub fn seen_frames(alloc: Global, session: &Session) -> Result<Vec<Seen>, AllocError>
+    ensures { IfOk result (λ seen. seen.items ≡ seen_frames session.now.state) }
+{
+    let mut seen = Vec::new(alloc);
+    for index in 0..session.frames() {
+        put_frame(&mut seen, session, index + 1)?;
+    }
+    Ok(seen)
+}
+
+/// Puts a frame, from 1, after others if it reads well.
+fn put_frame(seen: &mut Vec<Seen>, session: &Session, number: usize) -> Result<(), AllocError>
+    requires { (1 ≤ number) × (number ≤ length (frames_of session.now.state)) }
+    ensures { (r : Record) → slice_get (frames_of session.now.state) (number - 1) ≡ Some r
+        → OnOk result (seen.new.items
+        ≡ seen.old.items ++ seen_by session.now.state.pulses r) }
+{
+    let frame = session.frame(number);
+    let rise = session.pulse(frame.marker).rise;
+    put_verdict(seen, rise, frame.marker - 1, frame.verdict)
+}
+
+/// Puts a frame that begins at a time, with a marker, after others if it reads well.
+fn put_verdict(
+    seen: &mut Vec<Seen>,
+    rise: u64,
+    marker: usize,
+    verdict: Verdict,
+) -> Result<(), AllocError>
+    ensures { OnOk result (seen.new.items ≡ seen.old.items ++ seen_at rise marker verdict) }
+{
+    match verdict {
+        Verdict::Read(fields, Note::Fine) => {
+            seen.push(Seen {
+                shown: Shown { rise, fields },
+                marker,
+            })?;
+            Ok(())
+        }
+        _ => Ok(()),
+    }
+}
