@@ -3,7 +3,7 @@ use Rattle.std.proofs.Common.{◌≡◌, [], ℕ, List, Option, Result, Err, inl
 use Rattle.std.specs.Prelude.{option_map}
 use Rattle.irig_vcd.specs.{Parts.dump_parts, declared.fault.VcdFault.VcdFault}
 use Rattle.irig_vcd.proofs.WholeDump.{fails_now}
-use Rattle.irig_script.specs.{Obey.Desk.Desk, Obey.Desk.desk, Obey.DumpRun.RunsOnDump, declared.obey.status.Status.Status}
+use Rattle.irig_script.specs.{Obey.Desk.Desk, Obey.Desk.desk_at, Obey.DumpRun.RunsOnDump, Print.Screen.Shown, declared.obey.status.Status.Status}
 use Rattle.irig_script.specs.{declared.obey.dump_run.DumpRunFault.DumpRunFault, declared.obey.dump_run.DumpRunFault.TheVariants.Dump}
 use Rattle.irig_text.specs.Shelved.{shelved}
 use Rattle.irig_files.proofs.Intakes.{tells_heading}
@@ -17,22 +17,22 @@ abbrev wire_in : Settings → Option (List ℕ)
 wire_in chosen = option_map (λ w. w.now) chosen.wire
 
 -- the shelf was at the path of the settings, from the start to the end
-pub runs_by : (given : Files) (chosen : Settings) (source : List ℕ) (out out_new script left : Option (List ℕ)) (texts texts_new : Option (List (List ℕ)))
+pub runs_by : (given : Files) (chosen : Settings) (source : List ℕ) (screen screen_new : Shown) (script left : Option (List ℕ)) (texts texts_new : Option (List (List ℕ)))
     (label label_new : List ℕ) (writes new : Option (List Write)) (failures failures_new : ℕ) (result : Result Status DumpRunFault)
     → label_new ≡ label → texts ≡ texts_at (given.paths chosen.out.now) writes → texts_new ≡ texts_at (given.paths chosen.out.now) new → failures ≡ 0
     → given.kept chosen.out.now
     → IsShortOnly chosen source result
-    → RunsOnDump (wire_in chosen) chosen.format source script left (desk out (shelved texts failures label))
-    (desk out_new (shelved texts_new failures_new label_new)) result
-    → RunsBy given chosen source (ends out writes script) (ends out_new new left) result
-runs_by given chosen source out out_new script left texts texts_new label label_new writes new failures failures_new result e p q z kept short h = record {
+    → RunsOnDump (wire_in chosen) chosen.format source script left (desk_at screen (shelved texts failures label))
+    (desk_at screen_new (shelved texts_new failures_new label_new)) result
+    → RunsBy given chosen source (ends screen writes script) (ends screen_new new left) result
+runs_by given chosen source screen screen_new script left texts texts_new label label_new writes new failures failures_new result e p q z kept short h = record {
   label = label;
   failures = failures_new;
   ran = subst (λ (d : Desk). RunsOnDump (wire_in chosen) chosen.format source script left d
-      (desk out_new (shelved (texts_at (given.paths chosen.out.now) new) failures_new label)) result)
-      (λ j. desk out (shelved (p j) (z j) label))
-      (subst (λ (d : Desk). RunsOnDump (wire_in chosen) chosen.format source script left (desk out (shelved texts failures label)) d result)
-      (λ j. desk out_new (shelved (q j) failures_new (e j))) h);
+      (desk_at screen_new (shelved (texts_at (given.paths chosen.out.now) new) failures_new label)) result)
+      (λ j. desk_at screen (shelved (p j) (z j) label))
+      (subst (λ (d : Desk). RunsOnDump (wire_in chosen) chosen.format source script left (desk_at screen (shelved texts failures label)) d result)
+      (λ j. desk_at screen_new (shelved (q j) failures_new (e j))) h);
   short = short;
   kept = kept;
 }

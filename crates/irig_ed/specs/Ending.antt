@@ -5,7 +5,7 @@ use Rattle.std.specs.Prelude.{option_map}
 use Rattle.clap.specs.Words.{Text}
 use Rattle.irig_script.specs.declared.obey.status.Status.{Status}
 use Rattle.irig_script.specs.declared.obey.dump_run.DumpRunFault.{DumpRunFault}
-use Rattle.irig_script.specs.{Obey.Desk.desk, Obey.DumpRun.RunsOnDump}
+use Rattle.irig_script.specs.{Obey.Desk.desk_at, Obey.DumpRun.RunsOnDump, Print.Screen.Shown}
 use Rattle.irig_text.specs.Shelved.{shelved}
 use Rattle.irig_settings.specs.{Settings.Reads, declared.chosen.Settings.Settings}
 use Rattle.irig_files.specs.declared.dump_file.DumpFileFault.TheVariants.{TooLong}
@@ -13,16 +13,16 @@ use Rattle.irig_files.specs.{Puts.texts_at, Writes.Write}
 use Rattle.irig_ed.specs.declared.ending.Ending.TheVariants.{Usage, Unread, Ran}
 use Rattle.irig_ed.specs.{Shortage.IsShortOnly, Statuses.HasStatus, declared.ending.Ending.Ending}
 
--- what is known of the ends of the program: what was printed, what was written, and what is left of
--- the script
+-- what is known of the ends of the program: what was printed and what a witness saw, what was
+-- written, and what is left of the script
 pub record Ends : Type 0 where
-  pub out : Option (List ℕ)
+  pub screen : Shown
   pub writes : Option (List Write)
   pub script : Option (List ℕ)
 
 -- the ends with these
-abbrev pub ends : Option (List ℕ) → Option (List Write) → Option (List ℕ) → Ends
-ends out writes script = record { out = out; writes = writes; script = script }
+abbrev pub ends : Shown → Option (List Write) → Option (List ℕ) → Ends
+ends screen writes script = record { screen = screen; writes = writes; script = script }
 
 -- what else was given: what files hold, where paths lead, what a crash leaves of what is written
 pub record Files : Type 1 where
@@ -43,8 +43,8 @@ pub record RunsBy (given : Files) (chosen : Settings) (source : List ℕ) (old n
   pub failures : ℕ
   pub ran : RunsOnDump (option_map (λ w. w.now) chosen.wire) chosen.format source
       old.script new.script
-      (desk old.out (shelved (texts_at (given.paths chosen.out.now) old.writes) 0 label))
-      (desk new.out (shelved (texts_at (given.paths chosen.out.now) new.writes) failures label))
+      (desk_at old.screen (shelved (texts_at (given.paths chosen.out.now) old.writes) 0 label))
+      (desk_at new.screen (shelved (texts_at (given.paths chosen.out.now) new.writes) failures label))
       result
   pub short : IsShortOnly chosen source result
   pub kept : given.kept chosen.out.now

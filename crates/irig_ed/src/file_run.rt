@@ -8,7 +8,7 @@ ghost use Rattle.irig_files.specs.{Puts.writes_on, Writes.GoesTo};
 
 use crate::ending::Ending;
 use irig_files::{Disk, DumpFileFault, FileShelf, Parts, Room};
-use irig_script::{DumpRunFault, Status, run_on_parts};
+use irig_script::{DumpRunFault, Screen, Status, Witness, run_on_parts};
 use irig_settings::{Settings, settings};
 use irig_vcd::VcdFault;
 use std::alloc::Global;
@@ -16,64 +16,64 @@ use std::io::{Read, Write};
 
 /// Runs a script on the dump that the words of a command line name, the program's name being the
 /// first.
-pub fn obey_words<'a, D: Disk, R: Read, W: Write>(
+pub fn obey_words<'a, D: Disk, R: Read, W: Write, N: Witness>(
     alloc: Global,
     words: &'a [String],
     disk: &mut D,
     script: &mut R,
-    out: &mut W,
+    screen: &mut Screen<W, N>,
 ) -> Ending<'a>
     ensures { EndsBy (map string_bytes words.entry.now)
         (files (D.held disk.old) (D.disk disk.old).paths
         (GoesTo D.is_told (D.disk disk.old) (D.disk disk.new)))
-        (ends (W.contents out.old) (writes_on D.is_told (D.disk disk.old)) (R.remaining script.old))
-        (ends (W.contents out.new) (writes_on D.is_told (D.disk disk.new)) (R.remaining script.new)) result }
+        (ends screen.old (writes_on D.is_told (D.disk disk.old)) (R.remaining script.old))
+        (ends screen.new (writes_on D.is_told (D.disk disk.new)) (R.remaining script.new)) result }
 {
     match settings(alloc, words) {
-        Ok(chosen) => run_on_track(alloc, &chosen, disk, script, out),
+        Ok(chosen) => run_on_track(alloc, &chosen, disk, script, screen),
         Err(fault) => Ending::Usage(fault),
     }
 }
 
 /// Runs a script on the dump of the settings. The memory of its writes is taken before the dump is
 /// read.
-fn run_on_track<'a, D: Disk, R: Read, W: Write>(
+fn run_on_track<'a, D: Disk, R: Read, W: Write, N: Witness>(
     alloc: Global,
     chosen: &Settings<'a>,
     disk: &mut D,
     script: &mut R,
-    out: &mut W,
+    screen: &mut Screen<W, N>,
 ) -> Ending<'a>
     ensures { Obeys (files (D.held disk.old) (D.disk disk.old).paths
         (GoesTo D.is_told (D.disk disk.old) (D.disk disk.new)))
-        (ends (W.contents out.old) (writes_on D.is_told (D.disk disk.old)) (R.remaining script.old))
-        (ends (W.contents out.new) (writes_on D.is_told (D.disk disk.new)) (R.remaining script.new))
+        (ends screen.old (writes_on D.is_told (D.disk disk.old)) (R.remaining script.old))
+        (ends screen.new (writes_on D.is_told (D.disk disk.new)) (R.remaining script.new))
         chosen.now result }
 {
     let Ok(mut room) = Room::new(alloc) else {
         return Ending::Unread(chosen.track, DumpFileFault::OutOfMemory);
     };
-    run_with_room(alloc, chosen, &mut room, disk, script, out)
+    run_with_room(alloc, chosen, &mut room, disk, script, screen)
 }
 
 /// Runs a script on the dump of the settings. Each write uses the room.
-fn run_with_room<'a, D: Disk, R: Read, W: Write>(
+fn run_with_room<'a, D: Disk, R: Read, W: Write, N: Witness>(
     alloc: Global,
     chosen: &Settings<'a>,
     room: &mut Room,
     disk: &mut D,
     script: &mut R,
-    out: &mut W,
+    screen: &mut Screen<W, N>,
 ) -> Ending<'a>
     ensures { Obeys (files (D.held disk.old) (D.disk disk.old).paths
         (GoesTo D.is_told (D.disk disk.old) (D.disk disk.new)))
-        (ends (W.contents out.old) (writes_on D.is_told (D.disk disk.old)) (R.remaining script.old))
-        (ends (W.contents out.new) (writes_on D.is_told (D.disk disk.new)) (R.remaining script.new))
+        (ends screen.old (writes_on D.is_told (D.disk disk.old)) (R.remaining script.old))
+        (ends screen.new (writes_on D.is_told (D.disk disk.new)) (R.remaining script.new))
         chosen.now result }
 {
     match disk.read(alloc, chosen.track, wire_of(chosen)) {
         Ok(read) => {
-            let result = run_on_read(alloc, chosen, read, room, disk, script, out);
+            let result = run_on_read(alloc, chosen, read, room, disk, script, screen);
             Ending::Ran(chosen.track, result)
         }
         Err(fault) => Ending::Unread(chosen.track, fault),
@@ -82,14 +82,14 @@ fn run_with_room<'a, D: Disk, R: Read, W: Write>(
 
 /// Runs a script on what was read of a dump, by the format and the path of the settings. Each write
 /// uses the room.
-fn run_on_read<D: Disk, R: Read, W: Write>(
+fn run_on_read<D: Disk, R: Read, W: Write, N: Witness>(
     alloc: Global,
     chosen: &Settings<'_>,
     read: Result<Parts, VcdFault>,
     room: &mut Room,
     disk: &mut D,
     script: &mut R,
-    out: &mut W,
+    screen: &mut Screen<W, N>,
 ) -> Result<Status, DumpRunFault>
     requires { HasFewBytes read }
     ensures { (source : List ℕ)
@@ -97,8 +97,8 @@ fn run_on_read<D: Disk, R: Read, W: Write>(
         → RunsBy (files (D.held disk.old) (D.disk disk.old).paths
         (GoesTo D.is_told (D.disk disk.old) (D.disk disk.new)))
         chosen.now source
-        (ends (W.contents out.old) (writes_on D.is_told (D.disk disk.old)) (R.remaining script.old))
-        (ends (W.contents out.new) (writes_on D.is_told (D.disk disk.new)) (R.remaining script.new)) result }
+        (ends screen.old (writes_on D.is_told (D.disk disk.old)) (R.remaining script.old))
+        (ends screen.new (writes_on D.is_told (D.disk disk.new)) (R.remaining script.new)) result }
 {
     let (recording, journal) = match read {
         Ok(parts) => parts,
@@ -111,7 +111,7 @@ fn run_on_read<D: Disk, R: Read, W: Write>(
         journal,
         chosen.format,
         script,
-        out,
+        screen,
         &mut shelf,
     )
 }

@@ -13,6 +13,7 @@ ghost use Rattle.irig_files.specs.{Puts.writes_on, Writes.GoesTo};
 use file_run::obey_words;
 use irig_disk::{SystemDir, SystemFolder};
 use irig_files::{FileSystem, Files};
+use irig_script::{NoWitness, Screen, Witness};
 use irig_settings::not_text;
 use statuses::{explain, report, tell};
 use std::alloc::AllocError;
@@ -31,7 +32,7 @@ fn main(rt: HostRuntime) -> ExitCode {
             words.as_slice(),
             &mut files,
             &mut rt.reader(),
-            &mut io::writer(&rt),
+            &mut Screen::new(io::writer(&rt), NoWitness),
         ),
         Err(error) => tell_no_words(&rt, &error),
     }
@@ -63,26 +64,27 @@ fn arguments<R: Runtime + AllocGlobal>(rt: &R) -> io::Result<Vec<String>> {
     Ok(words)
 }
 
-/// Edits the track that the words name, by the files of this system, this script and this output,
+/// Edits the track that the words name, by the files of this system, this script and this screen,
 /// and reports how that ended.
-fn start<P: Print + Eprint + AllocGlobal, C: FileSystem, R: Read, W: Write>(
+fn start<P: Print + Eprint + AllocGlobal, C: FileSystem, R: Read, W: Write, N: Witness>(
     rt: &P,
     words: &[String],
     disk: &mut Files<C>,
     script: &mut R,
-    out: &mut W,
+    screen: &mut Screen<W, N>,
 ) -> ExitCode
     // The words were obeyed. What was written is kept through a crash at any moment, for each
-    // system whose single calls do what their contracts say.
+    // system whose single calls do what their contracts say. Each number was printed after its text
+    // was written, as each witness of the screen saw.
     ensures { Serves (map string_bytes words.now)
         (files (C.held disk.old.system) (C.disk disk.old.system).paths
         (GoesTo C.is_told (C.disk disk.old.system) (C.disk disk.new.system)))
-        (ends (W.contents out.old) (writes_on C.is_told (C.disk disk.old.system))
+        (ends screen.old (writes_on C.is_told (C.disk disk.old.system))
         (R.remaining script.old))
-        (ends (W.contents out.new) (writes_on C.is_told (C.disk disk.new.system))
+        (ends screen.new (writes_on C.is_told (C.disk disk.new.system))
         (R.remaining script.new))
         (exit_status result) }
 {
-    let ending = obey_words(rt.alloc(), words, disk, script, out);
+    let ending = obey_words(rt.alloc(), words, disk, script, screen);
     report(rt, &ending)
 }

@@ -1,11 +1,12 @@
 -- The script that was printed has one run.
-use Rattle.std.proofs.Common.{◌≡◌, ℕ, Bool, false, List, [], ◌∷◌, map, refl, ap, sym, ◌∙◌, arith}
+use Rattle.std.proofs.Common.{◌≡◌, ℕ, Bool, false, Option, List, [], ◌∷◌, map, refl, ap, sym, ◌∙◌, arith}
 use Rattle.std.specs.List.{AllByRecursion}
 use Rattle.irig_edit.specs.{Session.Runs.OneOutcome, Session.Work.Work}
 use Rattle.irig_lines.specs.Lines.{script_lines}
-use Rattle.irig_script.specs.{Obey.Desk.Desk, Obey.Desk.Tells, Obey.Desk.failures_in, Obey.Desk.status_after, Obey.Machine.Machine, Obey.OneRun.RunOf}
+use Rattle.irig_script.specs.{Obey.Desk.Tells, Obey.Desk.desk, Obey.Desk.failures_in, Obey.Desk.status_after, Obey.Seen.numbers_in, Obey.Machine.Machine, Obey.OneRun.RunOf}
 use Rattle.irig_script.specs.{Obey.OneRun.tells_failed_put, Obey.OneRun.wants_memory, Obey.Run.Runs, Print.Printed.Answer, Print.Printed.printed}
 use Rattle.irig_script.proofs.{LawLemmas.SameRun.one_run, ObeyLemmas.Desks.tells_none}
+use Rattle.irig_text.specs.Shelved.{Shelved}
 use Rattle.irig_guarding.specs.Guarded.{PrintedIsObeyed, silence}
 
 none_printed : (lines : List (List ℕ)) → printed (map silence lines) ≡ []
@@ -16,13 +17,22 @@ none_failed : (lines : List (List ℕ)) → failures_in (map silence lines) ≡ 
 none_failed [] = refl
 none_failed (line ∷ lines) = let rest = none_failed lines in omega (arith, rest)
 
--- a desk at which silence is kept
-told_nothing : (d : Desk) (lines : List (List ℕ)) → Tells d d (printed (map silence lines)) (map silence lines) []
-told_nothing d lines =
-    let t = tells_none d in
+none_numbered : (lines : List (List ℕ)) → 0 ≡ numbers_in (map silence lines)
+none_numbered [] = refl
+none_numbered (line ∷ lines) = let rest = none_numbered lines in omega (arith, rest)
+
+-- a desk with no witness, at which silence is kept
+told_nothing : (out : Option (List ℕ)) (shelf : Shelved) (lines : List (List ℕ))
+    → Tells (desk out shelf) (desk out shelf) (printed (map silence lines)) (map silence lines) []
+told_nothing out shelf lines =
+    let t = tells_none (desk out shelf) in
     record {
       printed = rw (none_printed lines) t.printed;
       put = rw (none_failed lines) t.put;
+      many = none_numbered lines;
+      sights = [];
+      seen = tt;
+      each = λ known. absurd (cc);
     }
 
 -- as many answers as lines
@@ -45,8 +55,8 @@ printed_is_obeyed outcome opened script now g run start nothing =
     let lines = script_lines script in
     let tests = firsts (λ a. wants_memory a.reply ≡ false) (λ a. tells_failed_put a.reply ≡ false) run.ran.answers nothing in
     let mine : RunOf script = record {
-      from = run.from;
-      to = run.from;
+      from = desk run.from.out run.from.shelf;
+      to = desk run.from.out run.from.shelf;
       before = run.before;
       after = status_after run.before (map silence lines);
       old = opened;
@@ -55,7 +65,7 @@ printed_is_obeyed outcome opened script now g run start nothing =
         answers = map silence lines;
         texts = [];
         status = refl;
-        told = told_nothing run.from lines;
+        told = told_nothing run.from.out run.from.shelf lines;
         runs = g.runs;
       };
     } in

@@ -1,5 +1,6 @@
 -- Lines, what is left of a script, and the runs of scripts.
 pub mod Known
+pub mod Sights
 pub mod Desks
 pub mod Lines
 pub mod Reading

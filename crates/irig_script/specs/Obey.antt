@@ -5,8 +5,8 @@ pub mod Replies
 pub mod Asked
 pub mod Obeying
 pub mod Answer
+pub mod Seen
 pub mod Desk
-pub mod Numbers
 pub mod Run
 pub mod Reading
 pub mod OneRun

@@ -6,3 +6,4 @@ pub mod Numbered
 pub mod Listings
 pub mod Printed
 pub mod Front
+pub mod Screen

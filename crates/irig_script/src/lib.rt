@@ -15,4 +15,6 @@ pub use obey::engine::run;
 pub use obey::obeying::obey as obey_command;
 pub use obey::status::{RunFault, Status};
 pub use print::reply::Reply;
+pub use print::screen::Screen;
 pub use print::verdict_text::put_verdict_text;
+pub use print::witness::{NoWitness, Witness};

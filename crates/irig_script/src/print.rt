@@ -11,4 +11,6 @@ pub mod pulse_line;
 pub mod pulse_lines;
 pub mod reply;
 pub mod row;
+pub mod screen;
 pub mod verdict_text;
+pub mod witness;

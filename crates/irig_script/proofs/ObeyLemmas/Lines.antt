@@ -1,11 +1,11 @@
 -- A script by its lines, and what they make of a desk and a machine.
-use Rattle.std.proofs.Common.{◌≡◌, ◌≢◌, ◌==◌, ◌+◌, ◌<◌, ◌++◌, ◌∷◌, [], ℕ, Option, Bool, true, false, List, length, take, drop, get_or, refl, ap, sym, ◌∙◌}
+use Rattle.std.proofs.Common.{◌≡◌, ◌≢◌, ◌==◌, ◌+◌, ◌<◌, ◌++◌, ◌∷◌, [], ℕ, Bool, true, false, List, length, take, drop, get_or, refl, ap, sym, ◌∙◌}
 use Rattle.std.proofs.Common.{subst, append_assoc}
 use Rattle.std.specs.List.{AllByRecursion}
 use Rattle.std.proofs.lemmas.{List.append-nil, List.take-append-drop, List.take_more, Grind.flat_map-append}
 use Rattle.irig_script.specs.Obey.Run.{Runs, Goes, IsPlain, IsObeyed, unlines}
 use Rattle.irig_script.specs.Obey.Progress.{Holds, Ends, Obeyed, BrokeIn}
-use Rattle.irig_script.specs.{Obey.Machine.Machine, Obey.Answer.Answered, Print.Printed.Answer, Print.Printed.printed, Obey.Desk.Desk, Obey.Desk.desk}
+use Rattle.irig_script.specs.{Obey.Machine.Machine, Obey.Answer.Answered, Print.Printed.Answer, Print.Printed.printed, Obey.Desk.Desk, Obey.Desk.desk_at, Print.Screen.Shown}
 use Rattle.irig_script.specs.{Obey.Desk.Tells, Obey.Desk.status_after, declared.obey.status.Status.Status, declared.obey.line.Line.Line}
 use Rattle.irig_lines.specs.Lines.{lines_of, until_quit, script_lines, is_quit}
 use Rattle.irig_text.specs.Shelved.{Shelved}
@@ -208,11 +208,11 @@ obeyed_quit a st text s line plain q = record {
 }
 
 -- a line that ends the script leaves all as it was
-pub obeyed_end : (out : Option (List ℕ)) (t u : Shelved) (st : Status) (text : List ℕ) (s m : Machine) (line : Line) → IsPlain text → is_quit text ≡ true
-    → m ≡ s → u ≡ t → Obeyed true (desk out t) (desk out u) st st s m (text ++ 10 ∷ []) line
-obeyed_end out t u st text s m line plain q e p =
-    subst (λ (k : Shelved). Obeyed true (desk out t) (desk out k) st st s m (text ++ 10 ∷ []) line) (sym p)
-    (subst (λ (k : Machine). Obeyed true (desk out t) (desk out t) st st s k (text ++ 10 ∷ []) line) (sym e) (obeyed_quit (desk out t) st text s line plain q))
+pub obeyed_end : (screen : Shown) (t u : Shelved) (st : Status) (text : List ℕ) (s m : Machine) (line : Line) → IsPlain text → is_quit text ≡ true
+    → m ≡ s → u ≡ t → Obeyed true (desk_at screen t) (desk_at screen u) st st s m (text ++ 10 ∷ []) line
+obeyed_end screen t u st text s m line plain q e p =
+    subst (λ (k : Shelved). Obeyed true (desk_at screen t) (desk_at screen k) st st s m (text ++ 10 ∷ []) line) (sym p)
+    (subst (λ (k : Machine). Obeyed true (desk_at screen t) (desk_at screen t) st st s k (text ++ 10 ∷ []) line) (sym e) (obeyed_quit (desk_at screen t) st text s line plain q))
 
 pub broke_line : (a b : Desk) (text : List ℕ) (s t : Machine) (front back : List ℕ) (answer : Answer) (texts : List (List ℕ)) → IsPlain text
     → is_quit text ≡ false → Answered s text answer texts t

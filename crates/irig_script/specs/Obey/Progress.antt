@@ -5,6 +5,7 @@ use Rattle.std.specs.Prelude.{min, nat_lt, Option, Some, None}
 use Rattle.irig_script.specs.Print.Printed.{Answer, printed}
 use Rattle.irig_script.specs.Obey.Desk.{Desk, Tells, failures_of, status_after}
 use Rattle.irig_script.specs.{Obey.Machine.Machine, Obey.Answer.Step, Obey.Run.Goes}
+use Rattle.irig_script.specs.Obey.Seen.{numbers_of}
 use Rattle.irig_script.specs.{Obey.Run.IsPlain, declared.print.reply.Reply.Reply}
 use Rattle.irig_script.specs.{declared.obey.status.Status.Status, declared.obey.line.Line.Line}
 use Rattle.irig_lines.specs.Lines.{is_quit}
@@ -54,4 +55,4 @@ Answers None from to old new line =
     ((text : List ℕ) → Holds text line → is_quit text ≡ true) × (new ≡ old) × (to ≡ from)
 Answers (Some reply) from to old new line = (texts : List (List ℕ))
     × ((text : List ℕ) → Holds text line → (is_quit text ≡ false) × Step old text reply texts new)
-    × Puts from to texts (failures_of reply)
+    × Puts from to texts (failures_of reply) × (length texts ≡ numbers_of reply)

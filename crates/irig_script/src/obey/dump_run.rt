@@ -8,10 +8,12 @@ ghost use Rattle.irig_vcd.specs.declared.fault.VcdFault.TheVariants.{OutOfMemory
 ghost use Rattle.irig_vcd.specs.{Answer.bytes_of, Answer.name_of, Dump.changes_before};
 ghost use Rattle.irig_vcd.specs.{Level.HasEdge, Parts.dump_parts, declared.fault.VcdFault.VcdFault};
 ghost use Rattle.irig_script.specs.declared.obey.dump_run.DumpRunFault.TheVariants.{Dump, Run};
-ghost use Rattle.irig_script.specs.{Obey.Desk.desk, Obey.DumpRun.RunsOnDump, Obey.Reading.ReadsTo};
+ghost use Rattle.irig_script.specs.{Obey.Desk.desk_at, Obey.DumpRun.RunsOnDump, Obey.Reading.ReadsTo};
 
 use crate::obey::engine;
 use crate::obey::status::{RunFault, Status};
+use crate::print::screen::Screen;
+use crate::print::witness::Witness;
 use irig_codes::Format;
 use irig_edit::Session;
 use irig_recording::Recording;
@@ -33,20 +35,20 @@ pub enum DumpRunFault {
 /// out. The wire is chosen by its name, if one is given, and frames are read in the format, unless
 /// the dump has a journal with another. The bytes of the dump are dropped before the script is
 /// read.
-pub fn run_on_dump<R: Read, W: Write, S: Shelf>(
+pub fn run_on_dump<R: Read, W: Write, N: Witness, S: Shelf>(
     alloc: Global,
     source: Vec<u8>,
     wire: Option<&[u8]>,
     format: Format,
     script: &mut R,
-    out: &mut W,
+    screen: &mut Screen<W, N>,
     shelf: &mut S,
 ) -> Result<Status, DumpRunFault>
     requires { length source.items ≤ 2 ^ 28 }
     ensures ends { RunsOnDump (name_of wire.entry) format source.items
         (R.remaining script.old) (R.remaining script.new)
-        (desk (W.contents out.old) (S.known shelf.old))
-        (desk (W.contents out.new) (S.known shelf.new)) result }
+        (desk_at screen.old (S.known shelf.old))
+        (desk_at screen.new (S.known shelf.new)) result }
     ensures memory { result ≡ Err (Dump OutOfMemory)
         → HasEdge (changes_before (name_of wire.entry) source.items)
         ⊎ MayBeShort (dump_parts (name_of wire.entry) source.items) }
@@ -55,7 +57,7 @@ pub fn run_on_dump<R: Read, W: Write, S: Shelf>(
     ensures since { S.since shelf.old shelf.new }
 {
     match Session::open_dump(alloc, source, wire, format) {
-        Ok(session) => run_opened(session, script, out, shelf),
+        Ok(session) => run_opened(session, script, screen, shelf),
         Err(why) => Err(DumpRunFault::Dump(why)),
     }
 }
@@ -63,21 +65,21 @@ pub fn run_on_dump<R: Read, W: Write, S: Shelf>(
 /// Obeys a script on the session of a recording and the text of the journal, as `irig_vcd` reads
 /// them from a dump: `run_on_dump` without its bytes. The text is dropped before the script is
 /// read.
-pub fn run_on_parts<R: Read, W: Write, S: Shelf>(
+pub fn run_on_parts<R: Read, W: Write, N: Witness, S: Shelf>(
     alloc: Global,
     recording: Recording,
     journal: Option<Vec<u8>>,
     format: Format,
     script: &mut R,
-    out: &mut W,
+    screen: &mut Screen<W, N>,
     shelf: &mut S,
 ) -> Result<Status, DumpRunFault>
     requires { IfSome journal (λ text. length text.items ≤ 2 ^ 28) }
     ensures ends { (wire : Option (List ℕ)) (bytes : List ℕ)
         → dump_parts wire bytes ≡ Ok (recording, bytes_of journal)
         → RunsOnDump wire format bytes (R.remaining script.old) (R.remaining script.new)
-        (desk (W.contents out.old) (S.known shelf.old))
-        (desk (W.contents out.new) (S.known shelf.new)) result }
+        (desk_at screen.old (S.known shelf.old))
+        (desk_at screen.new (S.known shelf.new)) result }
     ensures memory { result ≡ Err (Dump OutOfMemory)
         → MayBeShort (Ok (recording, bytes_of journal)) }
     ensures reads { ReadsTo (R.remaining script.old) (R.remaining script.new) }
@@ -85,29 +87,29 @@ pub fn run_on_parts<R: Read, W: Write, S: Shelf>(
     ensures since { S.since shelf.old shelf.new }
 {
     match Session::open_parts(alloc, recording, journal, format) {
-        Ok(session) => run_opened(session, script, out, shelf),
+        Ok(session) => run_opened(session, script, screen, shelf),
         Err(fault) => Err(DumpRunFault::Dump(fault)),
     }
 }
 
 /// Obeys a script on the session of a dump.
-fn run_opened<R: Read, W: Write, S: Shelf>(
+fn run_opened<R: Read, W: Write, N: Witness, S: Shelf>(
     mut session: Session,
     script: &mut R,
-    out: &mut W,
+    screen: &mut Screen<W, N>,
     shelf: &mut S,
 ) -> Result<Status, DumpRunFault>
     ensures ends { (wire : Option (List ℕ)) (bytes : List ℕ) (format : FormatView)
         → IsOpened wire bytes format session
         → RunsOnDump wire format bytes (R.remaining script.old) (R.remaining script.new)
-        (desk (W.contents out.old) (S.known shelf.old))
-        (desk (W.contents out.new) (S.known shelf.new)) result }
+        (desk_at screen.old (S.known shelf.old))
+        (desk_at screen.new (S.known shelf.new)) result }
     ensures opened { (fault : VcdFault) → result ≢ Err (Dump fault) }
     ensures reads { ReadsTo (R.remaining script.old) (R.remaining script.new) }
     ensures label { (S.known shelf.new).label ≡ (S.known shelf.old).label }
     ensures since { S.since shelf.old shelf.new }
 {
-    as_run(engine::run(&mut session, script, out, shelf))
+    as_run(engine::run(&mut session, script, screen, shelf))
 }
 
 /// How a run on a dump ended, by how the run of the script ended.

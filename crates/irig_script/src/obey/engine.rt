@@ -5,17 +5,20 @@ ghost use Rattle.std.specs.Prelude.{IfErr, OnErr, length, take};
 ghost use Rattle.std.specs.{Io.ReadsAtMost, Io.KnownBytes.ReadConsumes};
 ghost use Rattle.irig_script.specs.declared.obey.status.RunFault.TheVariants.{ReadFailed};
 ghost use Rattle.irig_script.specs.Print.Printed.{answer_with, reply_text};
-ghost use Rattle.irig_script.specs.Obey.Desk.{Desk, desk, status_after};
+ghost use Rattle.irig_script.specs.Obey.Desk.{Desk, desk_at, status_after};
 ghost use Rattle.irig_script.specs.Obey.Progress.{BrokeIn, Holds, Obeyed};
 ghost use Rattle.irig_script.specs.Obey.Reads.{GoesOn, IsUnderway, with_end};
 ghost use Rattle.irig_script.specs.{Obey.Ending.EndsAs, Obey.Reading.ReadsTo, Obey.Machine.Machine};
-ghost use Rattle.irig_script.specs.{Obey.Numbers.IsNumberOf, Print.Front.Prints};
+ghost use Rattle.irig_script.specs.{Print.Front.Prints, Print.Screen.sight};
+ghost use Rattle.irig_text.specs.Shelved.{GrowsBy};
 
 use crate::obey::line::Line;
 use crate::obey::obeying::obey_line;
 use crate::obey::status::{RunFault, Status};
 use crate::print::output::PrintFault;
-use crate::print::reply::{Reply, print};
+use crate::print::reply::Reply;
+use crate::print::screen::Screen;
+use crate::print::witness::Witness;
 use irig_edit::Session;
 use irig_text::Shelf;
 use std::io::{Read, Write};
@@ -28,15 +31,15 @@ const READS_LIMIT: u64 = 4_294_967_296;
 
 /// Obeys a script to its end, or to its line `quit`. Each line is answered before the next is
 /// read.
-pub fn run<R: Read, W: Write, S: Shelf>(
+pub fn run<R: Read, W: Write, N: Witness, S: Shelf>(
     session: &mut Session,
     script: &mut R,
-    out: &mut W,
+    screen: &mut Screen<W, N>,
     shelf: &mut S,
 ) -> Result<Status, RunFault>
     ensures ends { EndsAs (R.remaining script.old) (R.remaining script.new)
-        (desk (W.contents out.old) (S.known shelf.old))
-        (desk (W.contents out.new) (S.known shelf.new)) session.old session.new result }
+        (desk_at screen.old (S.known shelf.old))
+        (desk_at screen.new (S.known shelf.new)) session.old session.new result }
     ensures reads { ReadsTo (R.remaining script.old) (R.remaining script.new) }
     ensures label { (S.known shelf.new).label ≡ (S.known shelf.old).label }
     ensures since { S.since shelf.old shelf.new }
@@ -50,7 +53,7 @@ pub fn run<R: Read, W: Write, S: Shelf>(
             &mut buffer,
             &mut line,
             session,
-            out,
+            screen,
             shelf,
             &mut status,
         ) {
@@ -63,20 +66,20 @@ pub fn run<R: Read, W: Write, S: Shelf>(
 }
 
 /// Reads a part of a script and obeys it, and returns whether the script has ended.
-fn obey_read<R: Read, W: Write, S: Shelf>(
+fn obey_read<R: Read, W: Write, N: Witness, S: Shelf>(
     script: &mut R,
     buffer: &mut [u8; READ_LIMIT],
     line: &mut Line,
     session: &mut Session,
-    out: &mut W,
+    screen: &mut Screen<W, N>,
     shelf: &mut S,
     status: &mut Status,
 ) -> Result<bool, RunFault>
     ensures goes_on { (reads : ℕ) (start : Option (List ℕ)) (from : Desk) (first : Machine)
         → reads < 2 ^ 32 → IsUnderway reads start (R.remaining script.old) from
-        (desk (W.contents out.old) (S.known shelf.old)) status.old first session.old line.old
+        (desk_at screen.old (S.known shelf.old)) status.old first session.old line.old
         → GoesOn reads start (R.remaining script.new) from
-        (desk (W.contents out.new) (S.known shelf.new)) status.new first session.new line.new
+        (desk_at screen.new (S.known shelf.new)) status.new first session.new line.new
         result }
     ensures since { S.since shelf.old shelf.new }
 {
@@ -84,7 +87,7 @@ fn obey_read<R: Read, W: Write, S: Shelf>(
         return Err(RunFault::ReadFailed);
     };
     let bytes = with_end(buffer, count, line);
-    let Ok(ended) = obey_part(line, bytes, session, out, shelf, status) else {
+    let Ok(ended) = obey_part(line, bytes, session, screen, shelf, status) else {
         return Err(RunFault::PrintFailed);
     };
     if count == 0 {
@@ -122,26 +125,26 @@ fn with_end<'a>(buffer: &'a [u8; READ_LIMIT], count: usize, line: &Line) -> &'a 
 }
 
 /// Obeys the bytes that come after a line's front, and returns whether the script ends in them.
-fn obey_part<W: Write, S: Shelf>(
+fn obey_part<W: Write, N: Witness, S: Shelf>(
     line: &mut Line,
     bytes: &[u8],
     session: &mut Session,
-    out: &mut W,
+    screen: &mut Screen<W, N>,
     shelf: &mut S,
     status: &mut Status,
 ) -> Result<bool, PrintFault>
     ensures ok { IfOk result (λ ended. (text : List ℕ) → Holds text line.old → Obeyed ended
-        (desk (W.contents out.old) (S.known shelf.old))
-        (desk (W.contents out.new) (S.known shelf.new))
+        (desk_at screen.old (S.known shelf.old))
+        (desk_at screen.new (S.known shelf.new))
         status.old status.new session.old session.new (text ++ bytes.now) line.new) }
     ensures err { OnErr result ((text : List ℕ) → Holds text line.old → BrokeIn
-        (desk (W.contents out.old) (S.known shelf.old))
-        (desk (W.contents out.new) (S.known shelf.new))
+        (desk_at screen.old (S.known shelf.old))
+        (desk_at screen.new (S.known shelf.new))
         session.old session.new (text ++ bytes.now)) }
     ensures since { S.since shelf.old shelf.new }
 {
     for byte in bytes {
-        match obey_byte(line, *byte, session, out, shelf, status) {
+        match obey_byte(line, *byte, session, screen, shelf, status) {
             Ok(true) => return Ok(true),
             Ok(false) => {}
             Err(fault) => return Err(fault),
@@ -151,21 +154,21 @@ fn obey_part<W: Write, S: Shelf>(
 }
 
 /// Obeys a byte that comes after the front of a line, and returns whether the script ends with it.
-fn obey_byte<W: Write, S: Shelf>(
+fn obey_byte<W: Write, N: Witness, S: Shelf>(
     line: &mut Line,
     byte: u8,
     session: &mut Session,
-    out: &mut W,
+    screen: &mut Screen<W, N>,
     shelf: &mut S,
     status: &mut Status,
 ) -> Result<bool, PrintFault>
     ensures ok { IfOk result (λ ended. (text : List ℕ) → Holds text line.old → Obeyed ended
-        (desk (W.contents out.old) (S.known shelf.old))
-        (desk (W.contents out.new) (S.known shelf.new))
+        (desk_at screen.old (S.known shelf.old))
+        (desk_at screen.new (S.known shelf.new))
         status.old status.new session.old session.new (text ++ byte ∷ []) line.new) }
     ensures err { OnErr result ((text : List ℕ) → Holds text line.old → BrokeIn
-        (desk (W.contents out.old) (S.known shelf.old))
-        (desk (W.contents out.new) (S.known shelf.new))
+        (desk_at screen.old (S.known shelf.old))
+        (desk_at screen.new (S.known shelf.new))
         session.old session.new (text ++ byte ∷ [])) }
     ensures since { S.since shelf.old shelf.new }
 {
@@ -176,30 +179,29 @@ fn obey_byte<W: Write, S: Shelf>(
     let Some(reply) = obey_line(line, session, shelf) else {
         return Ok(true);
     };
-    let Ok(()) = answer(reply, session, shelf, out, status) else {
+    let Ok(()) = answer(reply, session, shelf, screen, status) else {
         return Err(PrintFault);
     };
     line.clear();
     Ok(false)
 }
 
-/// Prints a reply, and notes a refusal in the status. The shelf, as it is now, has the text of which
-/// a number is printed.
-fn answer<W: Write, S: Shelf>(
+/// Prints a reply after the witness saw the shelf, and notes a refusal in the status.
+fn answer<W: Write, N: Witness, S: Shelf>(
     reply: Reply,
     session: &Session,
     shelf: &S,
-    out: &mut W,
+    screen: &mut Screen<W, N>,
     status: &mut Status,
 ) -> Result<(), PrintFault>
-    requires number { (before : S) × S.since before shelf.now
-        × IsNumberOf (S.known before) (S.known shelf.now) reply }
-    ensures text { Prints (W.contents out.old) (W.contents out.new)
-        (reply_text session.now reply) result }
+    ensures text { Prints screen.old.out screen.new.out (reply_text session.now reply) result }
+    ensures seen { GrowsBy screen.old.seen screen.new.seen
+        (sight screen.old.out (S.known shelf.now).texts ∷ []) }
     ensures status { status.new ≡ status_after status.old (answer_with session.now reply ∷ []) }
 {
     if reply.is_refusal() {
         *status = Status::SomeRefused;
     }
-    print(reply, session, out)
+    screen.show(shelf);
+    screen.print(reply, session)
 }

@@ -1,9 +1,9 @@
 //! What is replied to a line of a script, and done for it.
 
-ghost use Rattle.std.specs.Prelude.{◌≢◌, IfSome};
+ghost use Rattle.std.specs.Prelude.{◌≡◌, ◌≢◌, length};
 ghost use Rattle.irig_script.specs.Obey.Obeying.{IsEdit, Obeys};
 ghost use Rattle.irig_script.specs.Obey.Desk.{IsQuiet, failures_of};
-ghost use Rattle.irig_script.specs.{Obey.Answer.texts_of, Obey.Numbers.IsNumberOf};
+ghost use Rattle.irig_script.specs.{Obey.Answer.texts_of, Obey.Seen.numbers_of};
 ghost use Rattle.irig_script.specs.{Obey.Progress.Answers, Obey.Replies.texts_put};
 ghost use Rattle.irig_text.specs.Shelved.{Puts};
 ghost use Rattle.irig_lines.specs.declared.command.Command.{Command};
@@ -23,7 +23,6 @@ use irig_text::Shelf;
 pub fn obey_line<S: Shelf>(line: &Line, session: &mut Session, shelf: &mut S) -> Option<Reply>
     ensures answers { Answers result (S.known shelf.old) (S.known shelf.new)
         session.old session.new line.now }
-    ensures number { IfSome result (IsNumberOf (S.known shelf.old) (S.known shelf.new)) }
     ensures since { S.since shelf.old shelf.new }
 {
     let Some(text) = line.text() else {
@@ -42,7 +41,8 @@ fn write_or_obey<S: Shelf>(command: Command, session: &mut Session, shelf: &mut 
     ensures answer { Obeys command session.old result session.new }
     ensures put { Puts (S.known shelf.old) (S.known shelf.new)
         (texts_put (texts_of command session.old) result) (failures_of result) }
-    ensures number { IsNumberOf (S.known shelf.old) (S.known shelf.new) result }
+    ensures count { length (texts_put (texts_of command session.old) result)
+        ≡ numbers_of result }
     ensures since { S.since shelf.old shelf.new }
 {
     match command {

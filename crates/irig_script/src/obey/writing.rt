@@ -3,7 +3,7 @@
 ghost use Rattle.std.specs.Prelude.{◌∷◌, []};
 ghost use Rattle.irig_edit.specs.{Saved.SavedSession.saved_text, Session.Session.work_in};
 ghost use Rattle.irig_script.specs.Obey.Replies.{Writes, dump_text, texts_put};
-ghost use Rattle.irig_script.specs.{Obey.Desk.failures_of, Obey.Numbers.IsNumberOf};
+ghost use Rattle.irig_script.specs.Obey.Desk.{failures_of};
 ghost use Rattle.irig_text.specs.Shelved.{Puts};
 
 use crate::print::reply::Reply;
@@ -18,7 +18,6 @@ pub fn write_dump<S: Shelf>(session: &Session, shelf: &mut S) -> Reply
     ensures answer { Writes (dump_text session.now) result }
     ensures put { Puts (S.known shelf.old) (S.known shelf.new)
         (texts_put (dump_text session.now ∷ []) result) (failures_of result) }
-    ensures number { IsNumberOf (S.known shelf.old) (S.known shelf.new) result }
     ensures since { S.since shelf.old shelf.new }
 {
     write(&mut session.text_parts(), shelf)
@@ -30,7 +29,6 @@ pub fn write_saved<S: Shelf>(session: &Session, shelf: &mut S) -> Reply
     ensures answer { Writes (saved_text (work_in session.now)) result }
     ensures put { Puts (S.known shelf.old) (S.known shelf.new)
         (texts_put (saved_text (work_in session.now) ∷ []) result) (failures_of result) }
-    ensures number { IsNumberOf (S.known shelf.old) (S.known shelf.new) result }
     ensures since { S.since shelf.old shelf.new }
 {
     write(&mut session.saved_parts(), shelf)
@@ -41,7 +39,6 @@ fn write<T: Text, S: Shelf>(text: &mut T, shelf: &mut S) -> Reply
     ensures answer { Writes (T.rest text.old) result }
     ensures put { Puts (S.known shelf.old) (S.known shelf.new)
         (texts_put (T.rest text.old ∷ []) result) (failures_of result) }
-    ensures number { IsNumberOf (S.known shelf.old) (S.known shelf.new) result }
     ensures since { S.since shelf.old shelf.new }
 {
     match shelf.put(text) {

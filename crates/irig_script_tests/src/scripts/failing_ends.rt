@@ -6,7 +6,7 @@ use crate::scripts::stops::{
     DELETED, INVERTED, Stop, Worked, first_printing, front, last_read, stands,
 };
 use irig_edit::Session;
-use irig_script::{MemoryShelf, RunFault, Status, run};
+use irig_script::{MemoryShelf, NoWitness, RunFault, Screen, Status, run};
 use std::alloc::Global;
 use std::io::{self, ErrorKind, Read, Write};
 use std::process::Abort;
@@ -76,7 +76,8 @@ fn is_read(
     };
     let mut out = Vec::new(alloc);
     let mut shelf = MemoryShelf::new(alloc, None);
-    run(session, &mut script, &mut out, &mut shelf) == Err(RunFault::ReadFailed)
+    let mut screen = Screen::new(&mut out, NoWitness);
+    run(session, &mut script, &mut screen, &mut shelf) == Err(RunFault::ReadFailed)
         && out.as_slice() == front(worked.printed, stop.printed)
         && stands(stop, session, &shelf)
 }
@@ -118,7 +119,8 @@ fn is_printed(
     let taken = Vec::new(alloc);
     let mut out = Full { taken, room, fails };
     let mut shelf = MemoryShelf::new(alloc, None);
-    run(session, &mut script, &mut out, &mut shelf) == Err(RunFault::PrintFailed)
+    let mut screen = Screen::new(&mut out, NoWitness);
+    run(session, &mut script, &mut screen, &mut shelf) == Err(RunFault::PrintFailed)
         && out.taken.as_slice() == front(worked.printed, room)
         && stands(stop, session, &shelf)
 }
@@ -173,7 +175,8 @@ fn is_put(alloc: Global, session: &mut Session, fails: u64, printed: &[u8]) -> b
     let mut script = INVERTED.script;
     let mut out = Vec::new(alloc);
     let mut shelf = MemoryShelf::new(alloc, Some(fails));
-    run(session, &mut script, &mut out, &mut shelf) == Ok(Status::SomeRefused)
+    let mut screen = Screen::new(&mut out, NoWitness);
+    run(session, &mut script, &mut screen, &mut shelf) == Ok(Status::SomeRefused)
         && out.as_slice() == printed
         && stands(REFUSED_STOP, session, &shelf)
 }

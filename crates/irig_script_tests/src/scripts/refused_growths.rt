@@ -3,7 +3,7 @@
 use crate::scripts::helpers::{TWO_PULSES, two_pulses};
 use irig_codes::{Format, Kind};
 use irig_edit::{Refusal, Session};
-use irig_script::{DumpRunFault, MemoryShelf, Status, run_on_dump};
+use irig_script::{DumpRunFault, MemoryShelf, NoWitness, Screen, Status, run_on_dump};
 use irig_vcd::VcdFault;
 use std::alloc::Global;
 
@@ -64,7 +64,16 @@ fn ran(alloc: Global, out: &mut Vec<u8>) -> Option<Result<Status, DumpRunFault>>
     let dump = Vec::from_slice(alloc, TWO_PULSES).ok()?;
     let mut script = b"invert 100 120\nwrite\nundo\nwrite\n".as_slice();
     let mut shelf = MemoryShelf::new(alloc, None);
-    Some(run_on_dump(alloc, dump, None, format, &mut script, out, &mut shelf))
+    let mut screen = Screen::new(out, NoWitness);
+    Some(run_on_dump(
+        alloc,
+        dump,
+        None,
+        format,
+        &mut script,
+        &mut screen,
+        &mut shelf,
+    ))
 }
 
 /// Whether only the line that runs out of memory is refused.

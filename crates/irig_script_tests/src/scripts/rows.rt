@@ -4,7 +4,7 @@
 use crate::scripts::helpers::TWO_PULSES;
 use crate::scripts::row::Row;
 use irig_codes::{Format, Kind};
-use irig_script::{MemoryShelf, Status, run_on_dump};
+use irig_script::{MemoryShelf, NoWitness, Screen, Status, run_on_dump};
 use std::alloc::{AllocError, Global};
 use std::process::Abort;
 
@@ -18,7 +18,8 @@ fn is_right(alloc: Global, row: &Row<'_>, shelf: &mut MemoryShelf) -> bool {
     };
     let mut script = row.script;
     let mut out = Vec::new(alloc);
-    let outcome = run_on_dump(alloc, dump, None, format, &mut script, &mut out, shelf);
+    let mut screen = Screen::new(&mut out, NoWitness);
+    let outcome = run_on_dump(alloc, dump, None, format, &mut script, &mut screen, shelf);
     outcome == Ok(row.status) && out.as_slice() == row.printed
 }
 

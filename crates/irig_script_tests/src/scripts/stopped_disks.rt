@@ -6,7 +6,7 @@ use crate::scripts::stops::INVERTED;
 use irig_disk::{Call, Memory, bytes_of, file_at, is_kept};
 use irig_edit::Session;
 use irig_files::{FileShelf, Files, Room};
-use irig_script::{RunFault, Status, run};
+use irig_script::{NoWitness, RunFault, Screen, Status, run};
 use std::alloc::Global;
 
 /// How many calls the first write makes: make, append, sync the file, rename, sync the folder.
@@ -27,7 +27,12 @@ fn run_on_files(
 ) -> Result<Status, RunFault> {
     let mut script = INVERTED.script;
     let mut shelf = FileShelf::new(files, "t", room);
-    run(session, &mut script, out, &mut shelf)
+    run(
+        session,
+        &mut script,
+        &mut Screen::new(out, NoWitness),
+        &mut shelf,
+    )
 }
 
 /// How many bytes a crash leaves at the name, if it leaves the file there as it is seen.

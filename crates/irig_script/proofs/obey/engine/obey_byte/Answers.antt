@@ -10,7 +10,7 @@ returns-then-byte-ne10-clause-ok g c = λ text h. obeyed_none _ _ (text ++ c.arg
 pub returns-in_default-clause-ok : goal.returns-in_default-clause-ok
 returns-in_default-clause-ok g c = λ text h.
     let a = c.in_default.ensures.answers in
-    rw c.if-byte-ne10.false (obeyed_end _ _ _ _ text _ _ _ h.plain (a.0 text h) a.1 a.2)
+    rw c.if-byte-ne10.false (obeyed_end c.args.screen.now (g.S.Shelf.known c.args.shelf.now) (g.S.Shelf.known c.obey_line.new.shelf) c.args.status.now text _ _ _ h.plain (a.0 text h) a.1 a.2)
 
 pub returns-in_default-answer-clause-err : goal.returns-in_default-answer-clause-err
 returns-in_default-answer-clause-err g c = λ text h.
@@ -19,12 +19,13 @@ returns-in_default-answer-clause-err g c = λ text h.
     let front = c.in_default-answer.ensures.text in
     rw c.if-byte-ne10.false (broke_line _ _ text _ _ front.front front.back (answer_with c.obey_line.new.session c.in-Some.reply) texts h.plain a.0 (a.1, refl)
     front.part front.missing (tells_front _ _ texts (answer_with c.obey_line.new.session c.in-Some.reply) front.front front.appends
-    c.in-Some.ensures.answers.2))
+    c.in-Some.ensures.answers.2 c.in-Some.ensures.answers.3 c.in_default-answer.ensures.seen))
 
 pub returns-clause-ok : goal.returns-clause-ok
 returns-clause-ok g c = λ text h.
     let texts = c.in-Some.ensures.answers.0 in
     let a = c.in-Some.ensures.answers.1 text h in
     rw c.if-byte-ne10.false (obeyed_line _ _ _ _ text _ _ (answer_with c.obey_line.new.session c.in-Some.reply) texts _ h.plain a.0 (a.1, refl)
-    (tells_one _ _ texts (answer_with c.obey_line.new.session c.in-Some.reply) c.in-Ok.ensures.text c.in-Some.ensures.answers.2)
+    (tells_one _ _ texts (answer_with c.obey_line.new.session c.in-Some.reply) c.in-Ok.ensures.text c.in-Some.ensures.answers.2
+    c.in-Some.ensures.answers.3 c.answer.ensures.seen)
     c.answer.ensures.status c.clear.ensures)

@@ -13,6 +13,7 @@ returns-in_default-clause-answers g c = (
       (let long = c.in_default.ensures.long text h in
       (long_goes_on text long, inl (long, refl, refl, refl))),
   puts_none _,
+  refl,
 )
 
 pub returns-in-Ok-Quit-clause-answers : goal.returns-in-Ok-Quit-clause-answers
@@ -34,6 +35,7 @@ returns-in-Ok-clause-answers g c =
           let meant : Means c.in-Ok.command text = subst (λ (l : List ℕ). Means c.in-Ok.command l) whole.0 c.in-Ok.ensures.meant in
           (other_goes_on c.in-Ok.command text meant more, inr (inr (whole.1, (c.in-Ok.command, meant, c.write_or_obey.ensures.answer, refl))))),
       c.write_or_obey.ensures.put,
+      c.write_or_obey.ensures.count,
     )
 
 pub returns-in-Err-clause-answers : goal.returns-in-Err-clause-answers
@@ -44,4 +46,5 @@ returns-in-Err-clause-answers g c = (
       let bad : (asked : Command) → Means asked text → ⊥ = subst (λ (l : List ℕ). (asked : Command) → Means asked l → ⊥) whole.0 c.in-Err.ensures.bad in
       (bad_goes_on text bad, inr (inl (whole.1, bad, refl, refl, refl)))),
   puts_none _,
+  refl,
 )

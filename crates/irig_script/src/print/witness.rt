@@ -1,0 +1,29 @@
+//! Who sees what is printed and what is written.
+
+ghost use Rattle.std.specs.Prelude.{◌∷◌, [], List, None, Option};
+ghost use Rattle.irig_script.specs.Print.Screen.{Sight, sight};
+ghost use Rattle.irig_text.specs.Shelved.{GrowsBy};
+
+use irig_text::Shelf;
+use std::io::Write;
+
+/// It sees an output and a shelf at one moment.
+pub trait Witness {
+    /// What it saw, in order, if it shows it.
+    ghost seen: { Self → Option (List Sight) };
+
+    /// Sees an output and a shelf as they are now.
+    fn see<W: Write, S: Shelf>(&mut self, out: &W, shelf: &S)
+        ensures { GrowsBy (seen self.old) (seen self.new)
+            (sight (W.contents out.now) (S.known shelf.now).texts ∷ []) };
+}
+
+/// A witness that shows nothing.
+#[derive(Drop)]
+pub struct NoWitness;
+
+impl Witness for NoWitness {
+    ghost seen = { λ _. None };
+
+    fn see<W: Write, S: Shelf>(&mut self, _: &W, _: &S) {}
+}
